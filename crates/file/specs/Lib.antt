@@ -7,3 +7,4 @@ pub mod Encode
 pub mod Decode
 pub mod Legal
 pub mod Grounds
+pub mod Places

@@ -1,0 +1,93 @@
+-- Laws of tests that are joined, and of the first ground that holds. A test's facts are read and made through these, so that no
+-- proof opens `both`, `either` or `firstOf`.
+-- Assumes nothing.
+use Prim.Native.Nat.{ℕ}
+use mathlib.Core.Path.{_≡_, refl, sym, _∙_}
+use mathlib.Core.List.{List, [], _∷_}
+use mathlib.Core.Bool.{Bool, true, false, cond, not}
+use mathlib.Core.Logic.{_⊎_}
+use Rattle.file.specs.Order.{Ground, firstOf, both, either}
+
+-- by cases on a test, with its equation
+pub byCase : {P : Type 0} (b : Bool) → (b ≡ true → P) → (b ≡ false → P) → P
+byCase true t f = t refl
+byCase false t f = f refl
+
+-- true is not false
+pub clash : {P : Type 0} {b : Bool} → b ≡ true → b ≡ false → P
+clash {b = b} p q = let z : _≡_ {A = Bool} true false = sym p ∙ q in absurd (mathlib.Core.Bool.true≢false z)
+
+pub both-left : (a b : Bool) → both a b ≡ true → a ≡ true
+unfolding both
+both-left a b p = go a p
+  where
+    go : (x : Bool) → cond x b false ≡ true → x ≡ true
+    go true q = refl
+    go false q = q
+
+pub both-right : (a b : Bool) → both a b ≡ true → b ≡ true
+unfolding both
+both-right a b p = go a p
+  where
+    go : (x : Bool) → cond x b false ≡ true → b ≡ true
+    go true q = q
+    go false q = clash q refl
+
+pub both-true : {a b : Bool} → a ≡ true → b ≡ true → both a b ≡ true
+unfolding both
+both-true p q = rw p q
+
+pub both-false-left : {a : Bool} (b : Bool) → a ≡ false → both a b ≡ false
+unfolding both
+both-false-left b p = rw p
+
+pub both-false-right : (a : Bool) {b : Bool} → b ≡ false → both a b ≡ false
+unfolding both
+both-false-right true q = q
+both-false-right false q = refl
+
+pub both-next : {a : Bool} (b : Bool) → a ≡ true → both a b ≡ b
+unfolding both
+both-next b p = rw p
+
+pub either-left : {a : Bool} (b : Bool) → a ≡ true → either a b ≡ true
+unfolding either
+either-left b p = rw p
+
+pub either-right : (a : Bool) {b : Bool} → b ≡ true → either a b ≡ true
+unfolding either
+either-right true q = refl
+either-right false q = q
+
+pub either-next : {a : Bool} (b : Bool) → a ≡ false → either a b ≡ b
+unfolding either
+either-next b p = rw p
+
+pub either-false : {a b : Bool} → a ≡ false → b ≡ false → either a b ≡ false
+unfolding either
+either-false p q = rw p q
+
+pub either-false-left : (a b : Bool) → either a b ≡ false → a ≡ false
+unfolding either
+either-false-left a b p = go a p
+  where
+    go : (x : Bool) → cond x true b ≡ false → x ≡ false
+    go true q = q
+    go false q = refl
+
+pub either-false-right : (a b : Bool) → either a b ≡ false → b ≡ false
+unfolding either
+either-false-right a b p = go a p
+  where
+    go : (x : Bool) → cond x true b ≡ false → b ≡ false
+    go true q = clash refl q
+    go false q = q
+
+-- the first ground that holds: it holds, or it does not and the rest decides
+pub first-here : (g : Ground) (gs : List Ground) → g .holds ≡ true → firstOf (g ∷ gs) ≡ g .number
+unfolding firstOf
+first-here g gs p = rw p
+
+pub first-next : (g : Ground) (gs : List Ground) → g .holds ≡ false → firstOf (g ∷ gs) ≡ firstOf gs
+unfolding firstOf
+first-next g gs p = rw p

@@ -1,0 +1,59 @@
+-- Where a cluster's encoding keeps a file's bytes, and the cluster with one byte of a file put.
+use Prim.Native.Nat.{ℕ, zero, suc, _+_, _*_}
+use mathlib.Core.List.{List, [], _∷_}
+use mathlib.Core.Bool.{Bool, cond}
+use lib.ListN.{length, getD, set}
+use lib.Dec.{eqb}
+use Rattle.file.specs.Layout.{offsetWidth, entrySize}
+use Rattle.file.specs.Cluster.{File, Slave, Cluster}
+use Rattle.file.specs.Encode.{slaveSize, slavesPlace}
+
+-- a slave with no files
+abbrev pub noSlave : Slave
+noSlave = record { files = [] }
+
+-- the slave at an index of the slave table
+unfoldable pub slaveOf : Cluster → ℕ → Slave
+slaveOf c s = getD (c .slaves) s noSlave
+
+-- where the file of number n lies, of files that lie from a place on; 0 where there is none
+unfoldable pub placeAmong : ℕ → List File → ℕ → ℕ
+placeAmong place [] n = 0
+placeAmong place (x ∷ xs) n = cond (eqb (x .number) n) place (placeAmong (place + length (x .bytes)) xs n)
+
+-- the same of the slave at index s, of slaves that lie from a place on
+unfoldable pub filePlaceFrom : ℕ → ℕ → List Slave → ℕ → ℕ → ℕ
+filePlaceFrom w place [] s n = 0
+filePlaceFrom w place (x ∷ xs) zero n = placeAmong (place + entrySize w * length (x .files)) (x .files) n
+filePlaceFrom w place (x ∷ xs) (suc s) n = filePlaceFrom w (place + slaveSize w x) xs s n
+
+unfoldable pub filePlaceAt : ℕ → Cluster → ℕ → ℕ → ℕ
+filePlaceAt w c s n = filePlaceFrom w (slavesPlace w (c .slaves)) (c .slaves) s n
+
+-- edition 1: where the cluster's encoding keeps file n of slave s
+unfoldable pub filePlace : Cluster → ℕ → ℕ → ℕ
+filePlace c s n = filePlaceAt offsetWidth c s n
+
+-- byte k of file n replaced
+unfoldable pub putAmong : List File → ℕ → ℕ → ℕ → List File
+putAmong [] n k b = []
+putAmong (x ∷ xs) n k b =
+    cond (eqb (x .number) n) (record { number = x .number; bytes = set (x .bytes) k b } ∷ xs) (x ∷ putAmong xs n k b)
+
+unfoldable pub putInSlave : Slave → ℕ → ℕ → ℕ → Slave
+putInSlave s n k b = record { files = putAmong (s .files) n k b }
+
+unfoldable pub withSlaves : Cluster → List Slave → Cluster
+withSlaves c ss =
+    record {
+      epoch = c .epoch;
+      flag = c .flag;
+      pendingName = c .pendingName;
+      pendingPB2 = c .pendingPB2;
+      pendingPB3 = c .pendingPB3;
+      slaves = ss;
+    }
+
+-- byte k of file n of slave s replaced
+unfoldable pub putByte : Cluster → ℕ → ℕ → ℕ → ℕ → Cluster
+putByte c s n k b = withSlaves c (set (c .slaves) s (putInSlave (slaveOf c s) n k b))
