@@ -8,3 +8,4 @@ pub mod Decode
 pub mod Legal
 pub mod Grounds
 pub mod Places
+pub mod Checked
