@@ -1,9 +1,15 @@
 -- What the checker's inner functions promise to one another.
-use Prim.Native.Nat.{ℕ}
+use Prim.Native.Nat.{ℕ, zero, suc, _+_, _*_}
 use mathlib.Core.Path.{_≡_}
-use mathlib.Core.List.{List}
-use mathlib.Core.Bool.{false}
-use Rattle.file.specs.Grounds.{wrongSize, wrongMark, wrongEdition, wrongLength, wrongHeader, fileGround}
+use mathlib.Core.List.{List, [], _∷_}
+use mathlib.Core.Bool.{Bool, true, false, cond}
+use lib.ListN.{getD}
+use lib.Dec.{eqb, leb}
+use Rattle.file.specs.Order.{both}
+use Rattle.file.specs.Layout.{entrySize}
+use Rattle.file.specs.Cluster.{configuration, documentation}
+use Rattle.file.specs.Decode.{offsetAt}
+use Rattle.file.specs.Grounds.{wrongSize, wrongMark, wrongEdition, wrongLength, wrongHeader, fileGround, Walk, broken, to, walkDirectory, walkSlave}
 
 -- none of grounds 1 to 5 holds
 pub record GoodHeader (w : ℕ) (f : List ℕ) : Type 0 where
@@ -17,3 +23,26 @@ pub record GoodHeader (w : ℕ) (f : List ℕ) : Type 0 where
 pub record HeaderChecked (f : List ℕ) (n : ℕ) : Type 0 where
   pub refused : (n ≡ 0 → ⊥) → n ≡ fileGround f
   pub passed : n ≡ 0 → GoodHeader 2 f
+
+-- ---- where the directories state 0x08 and 0x3D to lie
+
+-- the place kept for file n with at least so many records, behind an entry of a directory
+unfoldable pub keptPlace : ℕ → ℕ → ℕ → ℕ → ℕ → ℕ → ℕ
+keptPlace number last n least place kept = cond (both (eqb number n) (leb least last)) place kept
+
+-- the place that k directory entries from d on state for it
+unfoldable pub statedPlace : ℕ → List ℕ → ℕ → ℕ → ℕ → ℕ → ℕ → ℕ
+statedPlace w f n least kept d zero = kept
+statedPlace w f n least kept d (suc k) =
+    statedPlace w f n least (keptPlace (getD f d 0) (getD f (d + 1) 0) n least (offsetAt w f (d + w)) kept) (d + entrySize w) k
+
+-- a walk as the code returns it
+unfoldable pub walkOf : Bool → ℕ → Walk
+walkOf true place = to place
+walkOf false place = broken
+
+-- the walk of the k entries of the directory at d, and the places of 0x08 and 0x3D in the needed size, 0 where they are not there
+pub record DirectoryWalked (f : List ℕ) (d k : ℕ) (good : Bool) (end conf doc : ℕ) : Type 0 where
+  pub walk : walkOf good end ≡ walkDirectory 2 f d 0 (d + 4 * k) k
+  pub config : good ≡ true → conf ≡ statedPlace 2 f configuration 3 0 d k
+  pub document : good ≡ true → doc ≡ statedPlace 2 f documentation 2 0 d k

@@ -2,3 +2,4 @@
 mod header;
 pub mod numbers;
 pub mod types;
+mod walk;
