@@ -68,6 +68,7 @@ module _ {f : List ℕ} {d k entry left low place conf doc : ℕ} (h : Walking f
         walk = sym (walk-stop 2 f entry low place left more (sym is ∙ e)) ∙ h .walk;
         config = λ t. clash t refl;
         document = λ t. clash t refl;
+        within = λ t. clash t refl;
       }
 
   pub walking-done : left ≤ 0 → DirectoryWalked f d k true place conf doc
@@ -78,6 +79,7 @@ module _ {f : List ℕ} {d k entry left low place conf doc : ℕ} (h : Walking f
         walk = rw z at (h .walk);
         config = λ _. rw z at (h .config);
         document = λ _. rw z at (h .document);
+        within = λ _. h .within;
       }
 
   pub walking-next : {t : Bool} {number last conf′ doc′ : ℕ} → 0 < left → t ≡ goodEntry 2 f entry low place → t ≡ true →

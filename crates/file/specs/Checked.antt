@@ -1,15 +1,15 @@
 -- What the checker's inner functions promise to one another.
-use Prim.Native.Nat.{ℕ, zero, suc, _+_, _*_}
+use Prim.Native.Nat.{ℕ, zero, suc, _+_, _*_, _≤_}
 use mathlib.Core.Path.{_≡_}
 use mathlib.Core.List.{List, [], _∷_}
 use mathlib.Core.Bool.{Bool, true, false, cond}
-use lib.ListN.{getD}
+use lib.ListN.{length, getD, take}
 use lib.Dec.{eqb, leb}
 use Rattle.file.specs.Order.{both}
 use Rattle.file.specs.Layout.{entrySize}
 use Rattle.file.specs.Cluster.{configuration, documentation}
 use Rattle.file.specs.Decode.{offsetAt}
-use Rattle.file.specs.Grounds.{wrongSize, wrongMark, wrongEdition, wrongLength, wrongHeader, fileGround, Walk, broken, to, walkDirectory, walkSlave}
+use Rattle.file.specs.Grounds.{wrongSize, wrongMark, wrongEdition, wrongLength, wrongHeader, fileGround, Walk, broken, to, walkDirectory, walkSlave, walkSlaves}
 
 -- none of grounds 1 to 5 holds
 pub record GoodHeader (w : ℕ) (f : List ℕ) : Type 0 where
@@ -46,3 +46,25 @@ pub record DirectoryWalked (f : List ℕ) (d k : ℕ) (good : Bool) (end conf do
   pub walk : walkOf good end ≡ walkDirectory 2 f d 0 (d + 4 * k) k
   pub config : good ≡ true → conf ≡ statedPlace 2 f configuration 3 0 d k
   pub document : good ≡ true → doc ≡ statedPlace 2 f documentation 2 0 d k
+  pub within : good ≡ true → end ≤ length f
+
+-- the place that the slave of the table entry at t states for file n, and the places that n table entries state
+unfoldable pub statedIn : ℕ → List ℕ → ℕ → ℕ → ℕ → ℕ
+statedIn w f n least t = statedPlace w f n least 0 (offsetAt w f t) (getD f (t + w) 0)
+
+unfoldable pub statedPlaces : ℕ → List ℕ → ℕ → ℕ → ℕ → ℕ → List ℕ
+statedPlaces w f n least t zero = []
+statedPlaces w f n least t (suc k) = statedIn w f n least t ∷ statedPlaces w f n least (t + entrySize w) k
+
+-- the same of the slave of the table entry at t, its directory at the place
+pub record SlaveWalked (f : List ℕ) (t place : ℕ) (good : Bool) (end conf doc : ℕ) : Type 0 where
+  pub walk : walkOf good end ≡ walkSlave 2 f t place
+  pub config : good ≡ true → conf ≡ statedIn 2 f configuration 3 t
+  pub document : good ≡ true → doc ≡ statedIn 2 f documentation 2 t
+  pub within : good ≡ true → end ≤ length f
+
+-- the same of all the slaves
+pub record SlavesWalked (f : List ℕ) (count : ℕ) (good : Bool) (end : ℕ) (confs docs : List ℕ) : Type 0 where
+  pub walk : walkOf good end ≡ walkSlaves 2 f 16 (16 + 4 * count) count
+  pub config : good ≡ true → take count confs ≡ statedPlaces 2 f configuration 3 16 count
+  pub document : good ≡ true → take count docs ≡ statedPlaces 2 f documentation 2 16 count

@@ -3,7 +3,7 @@ ghost use mathlib.Core.Path.{_≡_};
 ghost use Prim.Native.Nat.{_+_, _*_, _≤_, _<_};
 ghost use lib.ListN.{length};
 ghost use Rattle.file.specs.Grounds.{goodEntry};
-ghost use Rattle.file.specs.Checked.{keptPlace, DirectoryWalked};
+ghost use Rattle.file.specs.Checked.{keptPlace, DirectoryWalked, SlaveWalked, SlavesWalked};
 use crate::numbers::byte_at;
 use crate::numbers::offset_at;
 
@@ -89,6 +89,65 @@ fn walk_directory(file: &[u8], directory: usize, count: usize) -> DirectoryWalk
         left = left - 1;
     }
     DirectoryWalk {
+        good: true,
+        end: place,
+        configuration,
+        documentation,
+    }
+}
+
+// The slave of a table entry, its directory at the running place.
+fn walk_slave(file: &[u8], entry: usize, place: usize) -> DirectoryWalk
+    requires { ⌜ (entry + 4 ≤ length (now file)) × (length (now file) ≤ 32768) × (place ≤ 32768) ⌝ }
+    ensures { λ r. ⌜ SlaveWalked (now (file .entry)) entry place (r .good) (r .end) (r .configuration) (r .documentation) ⌝ }
+{
+    let count = byte_at(file, entry + 2);
+    if offset_at(file, entry) != place {
+        return BROKEN;
+    }
+    if byte_at(file, entry + 3) != 0 {
+        return BROKEN;
+    }
+    if file.len() < place + 4 * count {
+        return BROKEN;
+    }
+    walk_directory(file, place, count)
+}
+
+// What the walk of all slaves found.
+pub struct SlavesWalk {
+    pub good: bool,
+    pub end: usize,
+    pub configuration: [usize; 32],
+    pub documentation: [usize; 32],
+}
+
+pub fn walk_slaves(file: &[u8], count: usize) -> SlavesWalk
+    requires { ⌜ (16 + 4 * count ≤ length (now file)) × (length (now file) ≤ 32768) × (count ≤ 32) ⌝ }
+    ensures { λ r. ⌜ SlavesWalked (now (file .entry)) count (r .good) (r .end) (r .configuration) (r .documentation) ⌝ }
+{
+    let mut configuration = [0usize; 32];
+    let mut documentation = [0usize; 32];
+    let mut entry = 16;
+    let mut place = 16 + 4 * count;
+    let mut slave = 0;
+    while slave < count {
+        let walk = walk_slave(file, entry, place);
+        if !walk.good {
+            return SlavesWalk {
+                good: false,
+                end: 0,
+                configuration,
+                documentation,
+            };
+        }
+        configuration[slave] = walk.configuration;
+        documentation[slave] = walk.documentation;
+        place = walk.end;
+        entry = entry + 4;
+        slave = slave + 1;
+    }
+    SlavesWalk {
         good: true,
         end: place,
         configuration,
