@@ -51,7 +51,8 @@ before q r =
       starts = r .starts;
     }
 
-set-append-add : (xs ys : List ℕ) (i b : ℕ) → set (xs ++ ys) (length xs + i) b ≡ xs ++ set ys i b
+-- an element behind the first list is stored in the second
+pub set-append-add : (xs ys : List ℕ) (i b : ℕ) → set (xs ++ ys) (length xs + i) b ≡ xs ++ set ys i b
 set-append-add [] ys i b = rw zero-add
 set-append-add (x ∷ xs) ys i b = rw (suc-add, set-append-add xs ys i b)
 
