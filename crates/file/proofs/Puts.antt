@@ -1,7 +1,7 @@
 -- What a cluster holds after bytes of a file were put: those bytes in that file, and all else as it was. With these laws the rules
 -- of a round are followed over clusters, without bytes of the encoding. Last, files that a slave lacks.
 -- Assumes nothing.
-use Prim.Native.Nat.{ℕ, zero, suc, _+_, _*_, _≤_, _<_}
+use Prim.Native.Nat.{ℕ, zero, suc, _+_, _*_, _-_, _≤_, _<_}
 use native.Mathlib.Omega.{arith}
 use native.Mathlib.Numerals.{add-one}
 use mathlib.Core.Path.{_≡_, refl, sym, ap, _∙_}
@@ -9,7 +9,7 @@ use mathlib.Core.Logic.{_≢_}
 use mathlib.Core.List.{List, [], _∷_, _++_, map, append-assoc}
 use mathlib.Core.Bool.{Bool, true, false, cond}
 use lib.ListN.{length, getD, set, take, drop, length-set, List·getD-eq-default}
-use lib.Seq.{getD-set-same, getD-set-other, set-out, map-set-same, sets, sets-eq, length-take-le, drop-at, take-append-seam}
+use lib.Seq.{getD-set-same, getD-set-other, set-out, drop-set-lt, drop-set-add, take-set-le, map-set-same, sets, sets-eq, length-take-le, drop-at, take-append-seam}
 use lib.Dec.{eqb, ltb}
 use borrow.Author.Tests.{eqb-true, eqb-false, eq-eqb, ne-eqb, ltb-true, ltb-false}
 use Rattle.file.specs.Bytes.{All, none, both, part}
@@ -17,6 +17,37 @@ use Rattle.file.specs.Cluster.{File, Slave, Cluster, bytesAmong, bytesIn
 use Rattle.file.specs.Places.{noSlave, slaveOf, placeAmong, filePlaceFrom, filePlaceAt, putAmong, putInSlave, withSlaves, putByte, putBytes}
 use Rattle.file.proofs.Order.{byCase, clash}
 use Rattle.file.proofs.Shape.{shape-count, shape-filePlaceAt, shape-bytes-length, shape-putByte, shape-putBytes}
+
+-- ---- parts of a list after a store, and after a run of stores, elsewhere
+
+pub part-set : (l : List ℕ) (k b a m : ℕ) → (a ≤ k → a + m ≤ k) → part (set l k b) a m ≡ part l a m
+unfolding part
+part-set l k b a m outside =
+    byCase (ltb k a)
+    (λ e. rw (drop-set-lt a l k b (ltb-true k a e)))
+    (λ e.
+    let below : a ≤ k = ltb-false k a e in
+    let i : ℕ = k - a in
+    let past : m ≤ i = omega (arith, outside below) in
+    let q : k ≡ a + i = omega arith in
+    rw (q, drop-set-add a l i b, take-set-le m (drop a l) i b past))
+
+-- what no store of the run changes
+sets-keep : {A : Type 0} (f : List ℕ → A) (l : List ℕ) (k : ℕ) (bs : List ℕ)
+    → ((x : List ℕ) (j b : ℕ) → k ≤ j → j < k + length bs → f (set x j b) ≡ f x) → f (sets l k bs) ≡ f l
+sets-keep f l k [] keeps = refl
+sets-keep f l k (b ∷ bs) keeps =
+    sets-keep f (set l k b) (suc k) bs (λ x j b′ low high. keeps x j b′ (omega arith) (omega arith))
+    ∙ keeps l k b (omega arith) (omega arith)
+
+pub part-sets : (l : List ℕ) (k : ℕ) (bs : List ℕ) (a m : ℕ) → (a < k + length bs → a + m ≤ k) → part (sets l k bs) a m ≡ part l a m
+part-sets l k bs a m outside =
+    sets-keep (λ (x : List ℕ). part x a m) l k bs (λ x j b low high. part-set x j b a m (λ h. omega (arith, outside (omega arith))))
+
+pub getD-sets : (l : List ℕ) (k : ℕ) (bs : List ℕ) (i : ℕ) → (i < k + length bs → i < k) → getD (sets l k bs) i 0 ≡ getD l i 0
+getD-sets l k bs i outside =
+    sets-keep (λ (x : List ℕ). getD x i 0) l k bs
+    (λ x j b low high. getD-set-other x j i b 0 (λ q. let h : i < k = outside (omega arith) in omega arith))
 
 -- ---- one byte, among a slave's files
 
@@ -102,6 +133,16 @@ module _ (c : Cluster) (s n k b : ℕ) where
           (λ e. rw (q, putByte-slave-same (ltb-true s (length (c .slaves)) e), inSlave-other n k b (slaveOf c s) n′ (differ q)))
           (λ e. rw (putByte-out (ltb-false s (length (c .slaves)) e)))
 
+  -- so the byte itself is read again, and other bytes and parts of the file stay
+  pub putByte-byte : k < length (bytesIn (slaveOf c s) n) → getD (bytesIn (slaveOf (putByte c s n k b) s) n) k 0 ≡ b
+  putByte-byte h = rw putByte-bytes-same (getD-set-same (bytesIn (slaveOf c s) n) k b 0 h)
+
+  pub putByte-byte-other : (i : ℕ) → i ≢ k → getD (bytesIn (slaveOf (putByte c s n k b) s) n) i 0 ≡ getD (bytesIn (slaveOf c s) n) i 0
+  putByte-byte-other i differ = rw putByte-bytes-same (getD-set-other (bytesIn (slaveOf c s) n) k i b 0 differ)
+
+  pub putByte-part-other : (a m : ℕ) → (a ≤ k → a + m ≤ k) → part (bytesIn (slaveOf (putByte c s n k b) s) n) a m ≡ part (bytesIn (slaveOf c s) n) a m
+  putByte-part-other a m outside = rw putByte-bytes-same (part-set (bytesIn (slaveOf c s) n) k b a m outside)
+
   -- bytes put outside the documentation leave every physical name
   pub putByte-physicalName : n ≢ documentation → (s′ : ℕ) → physicalName (slaveOf (putByte c s n k b) s′) ≡ physicalName (slaveOf c s′)
   unfolding physicalName
@@ -144,6 +185,15 @@ module _ (s n : ℕ) where
       let l : List ℕ = bytesIn (slaveOf c s) n in
       let e : length (take k l) ≡ k = length-take-le k l (omega arith) in
       rw (putBytes-bytes-same c k bs fits, append-assoc, drop-at (take k l) (bs ++ drop (k + length bs) l) k e, take-append-seam)
+
+  -- other bytes and parts of the file stay
+  pub putBytes-byte-other : (c : Cluster) (k : ℕ) (bs : List ℕ) (i : ℕ) → (i < k + length bs → i < k)
+      → getD (bytesIn (slaveOf (putBytes c s n k bs) s) n) i 0 ≡ getD (bytesIn (slaveOf c s) n) i 0
+  putBytes-byte-other c k bs i outside = rw (putBytes-sets c k bs) (getD-sets (bytesIn (slaveOf c s) n) k bs i outside)
+
+  pub putBytes-part-other : (c : Cluster) (k : ℕ) (bs : List ℕ) (a m : ℕ) → (a < k + length bs → a + m ≤ k)
+      → part (bytesIn (slaveOf (putBytes c s n k bs) s) n) a m ≡ part (bytesIn (slaveOf c s) n) a m
+  putBytes-part-other c k bs a m outside = rw (putBytes-sets c k bs) (part-sets (bytesIn (slaveOf c s) n) k bs a m outside)
 
   pub putBytes-bytes-other : (c : Cluster) (k : ℕ) (bs : List ℕ) (s′ n′ : ℕ) → (s′ ≡ s → n′ ≢ n)
       → bytesIn (slaveOf (putBytes c s n k bs) s′) n′ ≡ bytesIn (slaveOf c s′) n′
