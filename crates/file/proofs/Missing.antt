@@ -3,20 +3,19 @@
 -- Assumes nothing.
 use Prim.Native.Nat.{ℕ, zero, suc, _+_, _*_, _≤_, _<_}
 use native.Mathlib.Omega.{arith}
-use mathlib.Core.Path.{_≡_, refl, sym, ap, _∙_}
+use mathlib.Core.Path.{_≡_, refl, ap}
 use mathlib.Core.Logic.{_≢_, _↔_}
 use mathlib.Core.List.{List, [], _∷_}
-use mathlib.Core.Bool.{Bool, true, false, cond}
 use lib.ListN.{length, getD}
 use lib.Dec.{eqb}
-use borrow.Author.Tests.{eqb-true, eqb-false, eq-eqb, ne-eqb}
+use borrow.Author.Tests.{eqb-false, ne-eqb}
 use Rattle.file.specs.Bytes.{All, none, both}
-use Rattle.file.specs.Layout.{headerSize, entrySize}
+use Rattle.file.specs.Layout.{entrySize}
 use Rattle.file.specs.Cluster.{File, Slave, Cluster, bytesAmong, bytesIn}
 use Rattle.file.specs.Legal.{LegalFile}
 use Rattle.file.specs.Encode.{slaveSize, slavesPlace}
 use Rattle.file.specs.Places.{noSlave, slaveOf, placeAmong, filePlaceFrom, filePlaceAt}
-use Rattle.file.proofs.Order.{byCase, clash}
+use Rattle.file.proofs.Order.{byCase}
 
 -- no file of the list has the number; every file of the list has bytes
 abbrev pub Lacks : List File → ℕ → Type 0

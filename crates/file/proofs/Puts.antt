@@ -1,21 +1,21 @@
 -- What a cluster holds after bytes of a file were put: those bytes in that file, and all else as it was. With these laws the rules
 -- of a round are followed over clusters, without bytes of the encoding. Last, files that a slave lacks.
 -- Assumes nothing.
-use Prim.Native.Nat.{ℕ, zero, suc, _+_, _*_, _-_, _≤_, _<_}
+use Prim.Native.Nat.{ℕ, suc, _+_, _*_, _-_, _≤_, _<_}
 use native.Mathlib.Omega.{arith}
-use native.Mathlib.Numerals.{add-one}
-use mathlib.Core.Path.{_≡_, refl, sym, ap, _∙_}
+use mathlib.Core.Path.{_≡_, refl, sym, _∙_}
 use mathlib.Core.Logic.{_≢_}
 use mathlib.Core.List.{List, [], _∷_, _++_, map, append-assoc}
-use mathlib.Core.Bool.{Bool, true, false, cond}
-use lib.ListN.{length, getD, set, take, drop, length-set, List·getD-eq-default}
+use mathlib.Core.Bool.{true, false}
+use lib.ListN.{length, getD, set, take, drop, List·getD-eq-default}
 use lib.Seq.{getD-set-same, getD-set-other, set-out, drop-set-lt, drop-set-add, take-set-le, map-set-same, sets, sets-eq, length-take-le, drop-at, take-append-seam}
 use lib.Dec.{eqb, ltb}
-use borrow.Author.Tests.{eqb-true, eqb-false, eq-eqb, ne-eqb, ltb-true, ltb-false}
-use Rattle.file.specs.Bytes.{All, none, both, part}
-use Rattle.file.specs.Cluster.{File, Slave, Cluster, bytesAmong, bytesIn, documentation, physicalName}
-use Rattle.file.specs.Places.{noSlave, slaveOf, placeAmong, filePlaceFrom, filePlaceAt, putAmong, putInSlave, withSlaves, putByte, putBytes}
-use Rattle.file.proofs.Order.{byCase, clash}
+use borrow.Author.Tests.{eqb-true, eqb-false, ne-eqb, ltb-true, ltb-false, leb-true}
+use Rattle.file.specs.Bytes.{part}
+use Rattle.file.specs.Layout.{recordSize}
+use Rattle.file.specs.Cluster.{File, Slave, Cluster, bytesAmong, bytesIn, documentation, physicalName, hasRecord, recordOf}
+use Rattle.file.specs.Places.{noSlave, slaveOf, filePlaceAt, putAmong, putInSlave, withSlaves, putByte, putBytes}
+use Rattle.file.proofs.Order.{byCase}
 use Rattle.file.proofs.Shape.{shape-count, shape-filePlaceAt, shape-bytes-length, shape-putByte, shape-putBytes}
 
 -- ---- parts of a list after a store, and after a run of stores, elsewhere
@@ -166,6 +166,11 @@ unfolding putBytes putByte withSlaves
 putBytes-header c s n k [] = refl
 putBytes-header c s n k (b ∷ bs) = putBytes-header (putByte c s n k b) s n (suc k) bs
 
+-- a record that is there lies within the file
+pub hasRecord-fits : (x : Slave) (n r : ℕ) → hasRecord x n r ≡ true → recordSize * r + recordSize ≤ length (bytesIn x n)
+unfolding hasRecord
+hasRecord-fits x n r has = leb-true (recordSize * r + recordSize) (length (bytesIn x n)) has
+
 module _ (s n : ℕ) where
   -- one byte after the other, as a run of stores
   pub putBytes-sets : (c : Cluster) (k : ℕ) (bs : List ℕ) → bytesIn (slaveOf (putBytes c s n k bs) s) n ≡ sets (bytesIn (slaveOf c s) n) k bs
@@ -194,6 +199,18 @@ module _ (s n : ℕ) where
   pub putBytes-part-other : (c : Cluster) (k : ℕ) (bs : List ℕ) (a m : ℕ) → (a < k + length bs → a + m ≤ k)
       → part (bytesIn (slaveOf (putBytes c s n k bs) s) n) a m ≡ part (bytesIn (slaveOf c s) n) a m
   putBytes-part-other c k bs a m outside = rw (putBytes-sets c k bs) (part-sets (bytesIn (slaveOf c s) n) k bs a m outside)
+
+  -- the same for a record replaced, "all four bytes"
+  pub putBytes-record : (c : Cluster) (r : ℕ) (bs : List ℕ) → length bs ≡ recordSize → hasRecord (slaveOf c s) n r ≡ true
+      → recordOf (slaveOf (putBytes c s n (recordSize * r) bs) s) n r ≡ bs
+  unfolding recordOf
+  putBytes-record c r bs four has =
+      rw four at (putBytes-part c (recordSize * r) bs (omega (arith, hasRecord-fits (slaveOf c s) n r has)))
+
+  pub putBytes-record-other : (c : Cluster) (r : ℕ) (bs : List ℕ) → length bs ≡ recordSize → (r′ : ℕ) → r′ ≢ r
+      → recordOf (slaveOf (putBytes c s n (recordSize * r) bs) s) n r′ ≡ recordOf (slaveOf c s) n r′
+  unfolding recordOf
+  putBytes-record-other c r bs four r′ differ = putBytes-part-other c (recordSize * r) bs (recordSize * r′) recordSize (omega arith)
 
   pub putBytes-bytes-other : (c : Cluster) (k : ℕ) (bs : List ℕ) (s′ n′ : ℕ) → (s′ ≡ s → n′ ≢ n)
       → bytesIn (slaveOf (putBytes c s n k bs) s′) n′ ≡ bytesIn (slaveOf c s′) n′

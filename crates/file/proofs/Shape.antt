@@ -1,10 +1,9 @@
 -- Clusters of the same shape: the relation is an equivalence, putting bytes keeps it, and everything that the encoding says of
 -- places and sizes is equal under it. A layer above that changes only bytes of files cites these laws and opens no walk.
 -- Assumes nothing.
-use Prim.Native.Nat.{ℕ, zero, suc, _+_, _*_, _-_, _/_, _≤_, _<_}
+use Prim.Native.Nat.{ℕ, zero, suc, _+_, _*_}
 use mathlib.Core.Path.{_≡_, refl, sym, ap, _∙_}
-use mathlib.Core.List.{List, [], _∷_, _++_}
-use mathlib.Core.Bool.{Bool, true, false, cond}
+use mathlib.Core.List.{List, [], _∷_}
 use lib.ListN.{length, getD, set, length-append, length-set}
 use lib.Dec.{eqb}
 use Rattle.file.specs.Layout.{entrySize}
