@@ -1,5 +1,5 @@
 -- What a cluster holds after bytes of a file were put: those bytes in that file, and all else as it was. With these laws the rules
--- of a round are followed over clusters, without bytes of the encoding. Last, files that a slave lacks.
+-- of a round are followed over clusters, without bytes of the encoding.
 -- Assumes nothing.
 use Prim.Native.Nat.{ℕ, suc, _+_, _*_, _-_, _≤_, _<_}
 use native.Mathlib.Omega.{arith}
@@ -154,13 +154,14 @@ module _ (c : Cluster) (s n k b : ℕ) where
       map-set-same physicalName (c .slaves) s (putInSlave (getD (c .slaves) s noSlave) n k b) noSlave
       (inSlave-physicalName n k b (getD (c .slaves) s noSlave) differ)
 
--- ---- several bytes
-
 -- the header's five fields stay
 pub putByte-header : (c : Cluster) (s n k b : ℕ) → putByte c s n k b ≡ withSlaves c (putByte c s n k b .slaves)
 unfolding putByte withSlaves
 putByte-header c s n k b = refl
 
+-- ---- several bytes
+
+-- the laws above, for a list of bytes
 pub putBytes-header : (c : Cluster) (s n k : ℕ) (bs : List ℕ) → putBytes c s n k bs ≡ withSlaves c (putBytes c s n k bs .slaves)
 unfolding putBytes putByte withSlaves
 putBytes-header c s n k [] = refl

@@ -57,9 +57,6 @@ set-append-add [] ys i b = rw zero-add
 set-append-add (x ∷ xs) ys i b = rw (suc-add, set-append-add xs ys i b)
 
 module _ {l l′ : List ℕ} {place : ℕ} {bs bs′ : List ℕ} (r : Stands l l′ 0 place bs bs′) where
-  stands-place : place ≡ length (r .front)
-  stands-place = omega (arith, r .starts)
-
   stands-fits : place + length bs ≤ length l
   stands-fits = rw (r .old) (simp length-append (omega (arith, r .starts)))
 
