@@ -37,6 +37,12 @@ module _ {A : Type 0} {P : A → Type 0} where
   all-replicate zero a p = All.none
   all-replicate (suc n) a p = All.both p (all-replicate n a p)
 
+  pub all-first : {a : A} {x : List A} → All P (a ∷ x) → P a
+  all-first (All.both p q) = p
+
+  pub all-others : {a : A} {x : List A} → All P (a ∷ x) → All P x
+  all-others (All.both p q) = q
+
   -- an element at any index, past the end too, where the default has the property
   pub all-getD : {x : List A} {d : A} → All P x → P d → (i : ℕ) → P (getD x i d)
   all-getD All.none z i = z
