@@ -117,8 +117,7 @@ module _ {w : ℕ} (two : 2 ≤ w) {f : List ℕ} {d place : ℕ} {x : File} whe
   unfolding directoryEntry
   bytes-entry e =
       let ends = stands-append (e .fill) (stands-at (sym (fill-end two d)) (e .offset)) in
-      let next : d + 2 ≡ d + 1 + 1 = omega arith in
-      stands-next (e .number) (stands-next (e .last) (stands-at next ends))
+      stands-next (e .number) refl (stands-next (e .last) (omega arith) ends)
 
 -- ---- a file that stands: its directory entry at d, with a number from low on, and its bytes at the place
 

@@ -76,7 +76,7 @@ module _ {w : ℕ} {f : List ℕ} {t place : ℕ} {s : Slave} where
 
   pub bytes-table : TableBytes w f t place s → Stands f t (tableEntry w place s)
   unfolding tableEntry
-  bytes-table b = stands-append (b .offset) (rw (bytesOf-length w place) (stands-next (b .count) (b .fill)))
+  bytes-table b = stands-append (b .offset) (rw (bytesOf-length w place) (stands-next (b .count) refl (b .fill)))
 
 -- ---- a slave that stands: its table entry at t, its directory at the place and its files behind it
 

@@ -88,8 +88,9 @@ module _ {f : List ℕ} where
       only zero k = rw add-zero e
       only (suc i) k = absurd (omega arith)
 
-  pub stands-next : {p : ℕ} {b : ℕ} {x : List ℕ} → getD f p 0 ≡ b → Stands f (p + 1) x → Stands f p (b ∷ x)
-  stands-next {p} {b} {x} e s = stands-append {x = b ∷ []} {y = x} (stands-one (omega (arith, s .fits)) e) s
+  pub stands-next : {p q b : ℕ} {x : List ℕ} → getD f p 0 ≡ b → q ≡ p + 1 → Stands f q x → Stands f p (b ∷ x)
+  stands-next {p} {q} {b} {x} e n s =
+      stands-append {x = b ∷ []} {y = x} (stands-one (omega (arith, s .fits)) e) (stands-at n s)
 
   -- zeros
   pub stands-zeros : {p : ℕ} (n : ℕ) → p + n ≤ length f → allZero (part f p n) ≡ true → Stands f p (replicate n 0)
