@@ -12,3 +12,7 @@ pub record Width (w : ℕ) : Type 0 where
 
 pub edition1 : Width offsetWidth
 edition1 = record { two = omega arith; counts = omega arith; places = omega arith }
+
+-- a place in a file of legal length fits an offset
+pub place-fits : {w n : ℕ} → Width w → n ≤ maxLength w → n < 256 ^ w
+place-fits wide h = omega (arith, wide .places)
