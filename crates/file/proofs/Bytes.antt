@@ -7,7 +7,7 @@ use native.Mathlib.Omega.{arith}
 use mathlib.Core.Path.{_≡_, refl, sym, ap, ap₂, _∙_, subst}
 use mathlib.Core.List.{List, [], _∷_, _++_, map}
 use mathlib.Core.Bool.{Bool, true, false, cond}
-use lib.ListN.{length, take, drop, getD, replicate, length-take, length-drop, length-append, length-replicate}
+use lib.ListN.{length, take, drop, getD, set, replicate, length-take, length-drop, length-append, length-replicate}
 use lib.Seq.{getD-take, getD-drop}
 use lib.Arith.{digits-lt, digits-div, digits-mod}
 use lib.Dec.{eqb}
@@ -48,6 +48,17 @@ module _ {A : Type 0} {P : A → Type 0} where
   all-getD All.none z i = z
   all-getD (All.both p q) z zero = p
   all-getD (All.both p q) z (suc i) = all-getD q z i
+
+  -- an element within the list, whatever the default
+  pub all-at : {x : List A} (d : A) → All P x → (i : ℕ) → i < length x → P (getD x i d)
+  all-at d All.none i h = absurd (omega arith)
+  all-at d (All.both p q) zero h = p
+  all-at d (All.both p q) (suc i) h = all-at d q i (omega arith)
+
+  pub all-set : {x : List A} {a : A} → All P x → (i : ℕ) → P a → All P (set x i a)
+  all-set All.none i v = All.none
+  all-set (All.both p q) zero v = All.both v q
+  all-set (All.both p q) (suc i) v = All.both p (all-set q i v)
 
   -- a property that follows from another
   pub all-map : {Q : A → Type 0} {x : List A} → ((a : A) → P a → Q a) → All P x → All Q x

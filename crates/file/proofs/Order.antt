@@ -111,3 +111,16 @@ pub first-none : (n : ℕ) (b : Bool) (gs : List Ground) → firstOf (record { n
 unfolding firstOf
 first-none n true gs p = absurd (suc-ne-zero n p)
 first-none n false gs p = (refl, p)
+
+-- two lists of grounds that start with the same ground, and that agree behind it where it does not hold, agree
+pub first-alike :
+    (n : ℕ) {a b : Bool} (gs hs : List Ground)
+    → a ≡ b
+    → (a ≡ false → firstOf gs ≡ firstOf hs)
+    → firstOf (record { number = n; holds = a } ∷ gs) ≡ firstOf (record { number = n; holds = b } ∷ hs)
+unfolding firstOf
+first-alike n {a} {b} gs hs e r = rw (sym e) (go a r)
+  where
+    go : (x : Bool) → (x ≡ false → firstOf gs ≡ firstOf hs) → cond x n (firstOf gs) ≡ cond x n (firstOf hs)
+    go true q = refl
+    go false q = q refl
