@@ -2,18 +2,17 @@
 -- each other between legal clusters and accepted files.
 -- Assumes nothing.
 use Prim.Native.Nat.{ℕ}
-use mathlib.Core.Path.{_≡_, sym, subst}
+use mathlib.Core.Path.{_≡_, refl, sym, subst}
 use mathlib.Core.Logic.{_↔_}
 use mathlib.Core.List.{List}
-use lib.ListN.{length}
 use Rattle.file.specs.Bytes.{Bytes}
-use Rattle.file.specs.Layout.{offsetWidth}
 use Rattle.file.specs.Cluster.{Cluster}
-use Rattle.file.specs.Encode.{encode, encodeAt}
-use Rattle.file.specs.Decode.{decode, decodeAt}
-use Rattle.file.specs.Legal.{LegalAt, Legal}
-use Rattle.file.specs.Grounds.{fileGround, fileGroundAt}
-use Rattle.file.proofs.Width.{Width, edition1}
+use Rattle.file.specs.Encode.{encode}
+use Rattle.file.specs.Decode.{decode}
+use Rattle.file.specs.Legal.{Legal}
+use Rattle.file.specs.Grounds.{fileGround}
+use Rattle.file.specs.Accepted.{Becomes}
+use Rattle.file.proofs.Width.{edition1}
 use Rattle.file.proofs.RoundTrip
 
 -- a legal cluster comes back from its encoding
@@ -47,3 +46,11 @@ accepted-exactly f b = (
   λ g. (decode f, accepted-legal f b g, sym (encode-decode f b g)),
   λ (c, l, e). subst (λ (h : List ℕ). fileGround h ≡ 0) (sym e) (encode-accepted c l),
 )
+
+-- the same as the layers above hand it on
+pub legal-becomes : (c : Cluster) → Legal c → Becomes (encode c) c
+legal-becomes c l = record { accepted = encode-accepted c l; decoded = decode-encode c l; encoded = refl; legal = l }
+
+pub accepted-becomes : (f : List ℕ) → Bytes f → fileGround f ≡ 0 → Becomes f (decode f)
+accepted-becomes f b g =
+    record { accepted = g; decoded = refl; encoded = sym (encode-decode f b g); legal = accepted-legal f b g }

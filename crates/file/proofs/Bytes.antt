@@ -1,17 +1,17 @@
 -- Laws of lists of bytes: of a property that every element has, of the numbers that bytes spell and the bytes that spell a number, of
 -- a part of a list, and of zeros. No proof above this file opens `numberOf`, `bytesOf`, `part` or `allZero`.
 -- Assumes nothing.
-use Prim.Native.Nat.{ℕ, zero, suc, _+_, _*_, _-_, _/_, _%_, _^_, _≤_, _<_, min}
-use native.Mathlib.Nat.{mod-lt, one-le-pow, pow-succ', pow-zero, div-add-mod', div-lt-iff-lt-mul, suc-inj}
+use Prim.Native.Nat.{ℕ, zero, suc, _+_, _*_, _%_, _^_, _<_}
+use native.Mathlib.Nat.{mod-lt, one-le-pow, pow-succ', pow-zero, div-add-mod', div-lt-iff-lt-mul}
 use native.Mathlib.Omega.{arith}
-use mathlib.Core.Path.{_≡_, refl, sym, ap, ap₂, _∙_, subst}
-use mathlib.Core.List.{List, [], _∷_, _++_, map}
-use mathlib.Core.Bool.{Bool, true, false, cond}
-use lib.ListN.{length, take, drop, getD, set, replicate, length-take, length-drop, length-append, length-replicate}
+use mathlib.Core.Path.{_≡_, refl, ap₂}
+use mathlib.Core.List.{List, [], _∷_, _++_}
+use mathlib.Core.Bool.{true, false}
+use lib.ListN.{length, take, drop, getD, replicate}
 use lib.Seq.{getD-take, getD-drop}
 use lib.Arith.{digits-lt, digits-div, digits-mod}
 use lib.Dec.{eqb}
-use borrow.Author.Tests.{eqb-true, eq-eqb}
+use borrow.Author.Tests.{eqb-true}
 use Rattle.file.specs.Bytes.{All, Byte, Bytes, numberOf, bytesOf, part, allZero}
 use Rattle.file.proofs.Order.{byCase, clash}
 use Rattle.file.proofs.Sizes.{bytesOf-length}
@@ -48,17 +48,6 @@ module _ {A : Type 0} {P : A → Type 0} where
   all-getD All.none z i = z
   all-getD (All.both p q) z zero = p
   all-getD (All.both p q) z (suc i) = all-getD q z i
-
-  -- an element within the list, whatever the default
-  pub all-at : {x : List A} (d : A) → All P x → (i : ℕ) → i < length x → P (getD x i d)
-  all-at d All.none i h = absurd (omega arith)
-  all-at d (All.both p q) zero h = p
-  all-at d (All.both p q) (suc i) h = all-at d q i (omega arith)
-
-  pub all-set : {x : List A} {a : A} → All P x → (i : ℕ) → P a → All P (set x i a)
-  all-set All.none i v = All.none
-  all-set (All.both p q) zero v = All.both v q
-  all-set (All.both p q) (suc i) v = All.both p (all-set q i v)
 
   -- a property that follows from another
   pub all-map : {Q : A → Type 0} {x : List A} → ((a : A) → P a → Q a) → All P x → All Q x
@@ -106,10 +95,6 @@ bytes-bytesOf (suc w) {n} h =
     All.both (div-lt-iff-lt-mul (pow-positive w) .1 k) (bytes-bytesOf w (mod-lt n (pow-positive w)))
 
 -- ---- a part of a list
-
-pub length-part : (f : List ℕ) (p n : ℕ) → p + n ≤ length f → length (part f p n) ≡ n
-unfolding part
-length-part f p n h = simp (length-take, length-drop) (omega arith)
 
 pub getD-part : (f : List ℕ) (p n i : ℕ) → i < n → getD (part f p n) i 0 ≡ getD f (p + i) 0
 unfolding part

@@ -2,30 +2,29 @@
 -- are the encoding of what they decode to, which is legal; the encoding of a legal cluster is accepted and decodes to it. Over the
 -- offset width w.
 -- Assumes nothing.
-use Prim.Native.Nat.{ℕ, zero, suc, _+_, _*_, _-_, _^_, _≤_, _<_}
+use Prim.Native.Nat.{ℕ, _+_, _*_, _^_, _≤_, _<_}
 use native.Mathlib.Nat.{zero-add}
 use native.Mathlib.Omega.{arith}
 use mathlib.Core.Path.{_≡_, refl, sym, ap, _∙_, subst}
-use mathlib.Core.List.{List, [], _∷_, _++_, map}
-use mathlib.Core.Bool.{Bool, true, false, cond}
+use mathlib.Core.List.{List, _++_}
 use lib.ListN.{length, getD}
 use lib.Dec.{leb}
 use borrow.Author.Tests.{leb-true, le-leb}
 use Rattle.file.specs.Bytes.{All, Bytes}
 use Rattle.file.specs.Layout.{countPlace, epochPlace, flagPlace, pendingNamePlace, pendingPB2Place, pendingPB3Place, zerosLength, headerSize, entrySize, maxSlaves, maxLength}
-use Rattle.file.specs.Cluster.{Slave, Cluster, physicalName}
-use Rattle.file.specs.Encode.{slavesBytes, slavesSize, table, slavesPlace, fileLength, header, encodeAt}
+use Rattle.file.specs.Cluster.{Slave, Cluster}
+use Rattle.file.specs.Encode.{slavesBytes, table, slavesPlace, fileLength, header, encodeAt}
 use Rattle.file.specs.Decode.{offsetAt, slavesAt, decodeAt}
-use Rattle.file.specs.Legal.{LegalSlave, LegalPending, LegalAt, Distinct}
-use Rattle.file.specs.Grounds.{Walk, walkSlaves, tableEnd, walkFile}
+use Rattle.file.specs.Legal.{LegalSlave, LegalAt}
+use Rattle.file.specs.Grounds.{Walk, tableEnd, walkFile}
 use Rattle.file.proofs.Width.{Width, place-fits}
 use Rattle.file.proofs.Sizes.{header-length, table-length, encodeAt-length}
 use Rattle.file.proofs.Bytes.{all-map, byte-at}
 use Rattle.file.proofs.Stands.{Stands, stands-at, stands-left, stands-right, stands-append, stands-zeros, zeros-stand, stands-number, number-stands, stands-whole, whole-stands}
 use Rattle.file.proofs.Files.{tested-arrives}
 use Rattle.file.proofs.Slaves.{LaidOut, SlavesStand, length-slavesAt, slaves-found, slaves-walk, slaves-read}
-use Rattle.file.proofs.Facts.{PendingFits, Needed, Accepted}
-use Rattle.file.proofs.Header.{HeaderBytes, header-bytes, bytes-header}
+use Rattle.file.proofs.AcceptedFacts.{PendingFits, pending-fits, Needed, Accepted}
+use Rattle.file.proofs.HeaderFields.{HeaderBytes, header-bytes, bytes-header}
 
 -- f is the encoding of c, whose slaves have legal files
 pub record Encoded (w : ℕ) (f : List ℕ) (c : Cluster) : Type 0 where
@@ -95,10 +94,10 @@ module _ {w : ℕ} (wide : Width w) where
         let fits : tableEnd w f ≤ length f = leb-true _ _ (came .0) in
         let count : length (slavesAt w f (headerSize w) n) ≡ n = length-slavesAt w f (headerSize w) n in
         let found =
-        slaves-found (wide .two) (place-fits wide (a .size .most)) (headerSize w) (tableEnd w f) n b fits fits (came .1)
+        slaves-found (wide .two) (place-fits wide (a .size .high)) (headerSize w) (tableEnd w f) n b fits fits (came .1)
         in
         let whole : fileLength w (slavesAt w f (headerSize w) n) ≡ length f = rw count (sym (found .1)) in
-        let long : headerSize w ≤ length f = a .size .least in
+        let long : headerSize w ≤ length f = a .size .low in
         record {
           header =
               record {
@@ -123,21 +122,24 @@ module _ {w : ℕ} (wide : Width w) where
     unfolding decodeAt
     accepted-legal b a =
         let e : Encoded w f (decodeAt w f) = accepted-encoded b a in
+        let pending : PendingFits (getD f (flagPlace w) 0) (getD f (pendingNamePlace w) 0) (getD f (pendingPB2Place w) 0) =
+        pending-fits _ _ _ .0 (a .header .pending)
+        in
         record {
           count = subst (λ (n : ℕ). n ≤ maxSlaves w) (e .header .count) (a .header .count);
           pending =
               record {
                 epoch = byte-at b (epochPlace w);
-                flag = a .header .pending .most;
+                flag = pending .most;
                 name = byte-at b (pendingNamePlace w);
                 pb2 = byte-at b (pendingPB2Place w);
                 pb3 = byte-at b (pendingPB3Place w);
-                operation = a .header .pending .operation;
-                broadcastRead = a .header .pending .broadcastRead;
+                operation = pending .operation;
+                broadcastRead = pending .broadcastRead;
               };
           slaves = laid-legal (e .slaves .legal) (a .needed);
           names = a .names;
-          size = subst (λ (n : ℕ). n ≤ maxLength w) (sym (e .whole)) (a .size .most);
+          size = subst (λ (n : ℕ). n ≤ maxLength w) (sym (e .whole)) (a .size .high);
         }
 
     -- ---- encoded clusters
@@ -160,7 +162,7 @@ module _ {w : ℕ} (wide : Width w) where
         let long : headerSize w + entrySize w * length (c .slaves) ≤ length f = omega (arith, e .whole) in
         let slaves : decodeAt w f .slaves ≡ c .slaves = ap (λ (d : Cluster). d .slaves) (encoded-decode short e) in
         record {
-          size = record { least = omega arith; most = most };
+          size = record { low = omega arith; high = most };
           mark = record { first = h .first; second = h .second };
           edition = h .edition;
           stated = number-stands w (omega (arith, e .whole)) (h .stated) ∙ e .whole;
@@ -171,7 +173,8 @@ module _ {w : ℕ} (wide : Width w) where
                 zeros = zeros-stand (zerosLength w) (h .zeros);
                 pending =
                     rw (h .flag, h .name, h .pb2)
-                    (record { most = l .pending .flag; operation = l .pending .operation; broadcastRead = l .pending .broadcastRead });
+                    (pending-fits (c .flag) (c .pendingName) (c .pendingPB2) .1
+                    (record { most = l .pending .flag; operation = l .pending .operation; broadcastRead = l .pending .broadcastRead }));
               };
           layout =
               rw (h .count, le-leb _ _ long) (slaves-walk (wide .two) short (c .slaves) (e .slaves) ∙ ap Walk.to (e .whole));

@@ -1,12 +1,12 @@
 -- The encoding of a legal cluster is bytes: every number in it is below 256. Over the offset width w.
 -- Assumes nothing.
-use Prim.Native.Nat.{ℕ, zero, suc, _+_, _*_, _-_, _/_, _^_, _≤_, _<_}
+use Prim.Native.Nat.{ℕ, suc, _+_, _*_, _^_, _≤_, _<_}
 use native.Mathlib.Omega.{arith}
 use mathlib.Core.Path.{_≡_}
-use mathlib.Core.List.{List, [], _∷_, _++_}
+use mathlib.Core.List.{List, _++_}
 use lib.ListN.{length, replicate, length-append}
-use Rattle.file.specs.Bytes.{All, Byte, Bytes, bytesOf}
-use Rattle.file.specs.Layout.{fillLength, zerosLength, headerSize, entrySize, maxFileNumber}
+use Rattle.file.specs.Bytes.{All, Byte, Bytes}
+use Rattle.file.specs.Layout.{fillLength, zerosLength, entrySize, maxFileNumber}
 use Rattle.file.specs.Cluster.{File, Slave, Cluster, lastRecord}
 use Rattle.file.specs.Encode.{directoryEntry, directory, contents, slaveSize, slaveBytes, slavesBytes, slavesSize, tableEntry, table, slavesPlace, fileLength, header, encodeAt}
 use Rattle.file.specs.Legal.{LegalFile, Rising, LegalAt}

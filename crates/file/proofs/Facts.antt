@@ -1,225 +1,176 @@
--- The grounds by their facts: a ground does not hold exactly where these facts of the bytes do, and a file is accepted exactly where all
--- of them hold. Above this file no proof opens a ground.
+-- What each test of the grounds says of the bytes, both ways: a test that passes gives its facts, and its facts make it pass.
 -- Assumes nothing.
-use Prim.Native.Nat.{ℕ, zero, suc, _+_, _*_, _-_, _≤_, _<_}
-use native.Mathlib.Omega.{arith}
-use mathlib.Core.Path.{_≡_, refl, sym, ap, _∙_}
-use mathlib.Core.Logic.{_↔_}
-use mathlib.Core.List.{List, [], _∷_, map}
+use Prim.Native.Nat.{ℕ, zero, suc, _+_, _*_, _≤_, _<_}
+use mathlib.Core.Path.{_≡_, refl, sym, _∙_}
+use mathlib.Core.List.{List, [], _∷_}
 use mathlib.Core.Bool.{Bool, true, false, cond, not}
+use borrow.Author.Tests.{ltb-false, le-ltb, eqb-true, eq-eqb, ne-eqb, not-false, not-true, leb-true, le-leb}
+use native.Mathlib.Nat.{add-zero}
+use native.Mathlib.Omega.{arith}
 use lib.ListN.{length, getD}
+use lib.Seq.{drop-cons}
 use lib.Dec.{eqb, leb, ltb}
-use borrow.Author.Tests.{leb-true, le-leb, ltb-false, le-ltb, eqb-true, eqb-false, eq-eqb, ne-eqb, not-false}
-use Rattle.file.specs.Bytes.{All, part, allZero}
-use Rattle.file.specs.Order.{firstOf, both, either}
-use Rattle.file.specs.Layout.{mark₀, mark₁, editionOf, editionPlace, countPlace, tablePlace, lengthPlace, flagPlace, pendingNamePlace, pendingPB2Place, zerosPlace, zerosLength, headerSize, maxSlaves, maxLength}
-use Rattle.file.specs.Cluster.{Slave, Cluster, bytesIn, lastRecord, configuration, documentation, physicalName, operationOf, readOperation, broadcast}
-use Rattle.file.specs.Decode.{offsetAt, decodeAt}
-use Rattle.file.specs.Legal.{Distinct}
-use Rattle.file.specs.Grounds.{wrongSize, wrongMark, wrongEdition, wrongLength, wrongPending, wrongHeader, Walk, walkFile, endsAt, brokenLayout, hasNeeded, allHaveNeeded, lacksNeeded, isAmong, hasRepeat, equalPhysicalNames, fileGrounds, fileGroundAt}
-use Rattle.file.proofs.Order.{byCase, clash, both-left, both-right, both-true, both-unless, both-false-next, either-false, either-false-left, either-false-right, first-none, first-next, first-end}
+use Rattle.file.specs.Order.{both, either}
+use Rattle.file.specs.Bytes.{part, allZero}
+use Rattle.file.specs.Layout.{mark₀, mark₁, editionOf, editionPlace, countPlace, tablePlace, lengthPlace, flagPlace, pendingNamePlace, pendingPB2Place, zerosPlace, zerosLength, headerSize, entrySize, fillLength, maxSlaves, maxLength, maxFileNumber}
+use Rattle.file.specs.Decode.{offsetAt, fileSize}
+use Rattle.file.specs.Grounds.{wrongSize, wrongMark, wrongEdition, wrongLength, wrongHeader, wrongPending, goodEntry, goodTableEntry}
+use Rattle.file.proofs.Order.{byCase, clash, both-left, both-right, both-true, either-false, either-false-left, either-false-right}
 
--- a test that must not fail
-not-not : {b : Bool} → b ≡ true → not b ≡ false
-not-not p = rw p
+-- a test that cannot be false is true, and the other way round
+pub true-unless : {b : Bool} → (b ≡ false → ⊥) → b ≡ true
+true-unless {b} h = byCase b (λ e. e) (λ e. absurd (h e))
 
--- ---- 1 to 4
+pub false-unless : {b : Bool} → (b ≡ true → ⊥) → b ≡ false
+false-unless {b} h = byCase b (λ e. absurd (h e)) (λ e. e)
 
-pub record SizeFits (w : ℕ) (f : List ℕ) : Type 0 where
-  pub least : headerSize w ≤ length f
-  pub most : length f ≤ maxLength w
+not-yes : {b : Bool} → b ≡ true → not b ≡ false
+not-yes e = rw e
 
-pub size-fits : (w : ℕ) (f : List ℕ) → (wrongSize w f ≡ false) ↔ SizeFits w f
+pub record SizeFacts (w : ℕ) (f : List ℕ) : Type 0 where
+  pub low : headerSize w ≤ length f
+  pub high : length f ≤ maxLength w
+
+pub size-facts : (w : ℕ) (f : List ℕ) → wrongSize w f ≡ false → SizeFacts w f
 unfolding wrongSize
-size-fits w f = (
-  λ p. record { least = ltb-false _ _ (either-false-left _ _ p); most = ltb-false _ _ (either-false-right _ _ p) },
-  λ s. either-false (le-ltb _ _ (s .least)) (le-ltb _ _ (s .most)),
-)
+size-facts w f e = record { low = ltb-false _ _ (either-false-left _ _ e); high = ltb-false _ _ (either-false-right _ _ e) }
 
-pub record Marked (f : List ℕ) : Type 0 where
+pub size-yes : (w : ℕ) (f : List ℕ) → SizeFacts w f → wrongSize w f ≡ false
+unfolding wrongSize
+size-yes w f h = either-false (le-ltb _ _ (h .low)) (le-ltb _ _ (h .high))
+
+pub record MarkFacts (f : List ℕ) : Type 0 where
   pub first : getD f 0 0 ≡ mark₀
   pub second : getD f 1 0 ≡ mark₁
 
-pub marked : (f : List ℕ) → (wrongMark f ≡ false) ↔ Marked f
+pub mark-facts : (f : List ℕ) → wrongMark f ≡ false → MarkFacts f
 unfolding wrongMark
-marked f = (
-  λ p.
-      let m = not-false _ p in
-      record { first = eqb-true _ _ (both-left _ _ m); second = eqb-true _ _ (both-right _ _ m) },
-  λ m. not-not (both-true (eq-eqb _ _ (m .first)) (eq-eqb _ _ (m .second))),
-)
+mark-facts f e =
+    let b : both (eqb (getD f 0 0) mark₀) (eqb (getD f 1 0) mark₁) ≡ true = not-false _ e in
+    record { first = eqb-true _ _ (both-left _ _ b); second = eqb-true _ _ (both-right _ _ b) }
 
-pub edition-right : (w : ℕ) (f : List ℕ) → (wrongEdition w f ≡ false) ↔ (getD f editionPlace 0 ≡ editionOf w)
+pub mark-yes : (f : List ℕ) → MarkFacts f → wrongMark f ≡ false
+unfolding wrongMark
+mark-yes f h = not-yes (both-true (eq-eqb _ _ (h .first)) (eq-eqb _ _ (h .second)))
+
+pub edition-facts : (w : ℕ) (f : List ℕ) → wrongEdition w f ≡ false → getD f editionPlace 0 ≡ editionOf w
 unfolding wrongEdition
-edition-right w f = (λ p. eqb-true _ _ (not-false _ p), λ e. not-not (eq-eqb _ _ e))
+edition-facts w f e = eqb-true _ _ (not-false _ e)
 
-pub length-right : (w : ℕ) (f : List ℕ) → (wrongLength w f ≡ false) ↔ (offsetAt w f (lengthPlace w) ≡ length f)
+pub edition-yes : (w : ℕ) (f : List ℕ) → getD f editionPlace 0 ≡ editionOf w → wrongEdition w f ≡ false
+unfolding wrongEdition
+edition-yes w f h = not-yes (eq-eqb _ _ h)
+
+pub length-facts : (w : ℕ) (f : List ℕ) → wrongLength w f ≡ false → offsetAt w f (lengthPlace w) ≡ length f
 unfolding wrongLength
-length-right w f = (λ p. eqb-true _ _ (not-false _ p), λ e. not-not (eq-eqb _ _ e))
+length-facts w f e = eqb-true _ _ (not-false _ e)
 
--- ---- 5
+pub length-yes : (w : ℕ) (f : List ℕ) → offsetAt w f (lengthPlace w) ≡ length f → wrongLength w f ≡ false
+unfolding wrongLength
+length-yes w f h = not-yes (eq-eqb _ _ h)
 
-pub record PendingFits (flag name pb2 : ℕ) : Type 0 where
-  pub most : flag ≤ 1
-  pub operation : flag ≡ 1 → operationOf pb2 ≡ 3 → ⊥
-  pub broadcastRead : flag ≡ 1 → operationOf pb2 ≡ readOperation → name ≡ broadcast → ⊥
-
-pub pending-fits : (flag name pb2 : ℕ) → (wrongPending flag name pb2 ≡ false) ↔ PendingFits flag name pb2
-unfolding wrongPending
-pending-fits flag name pb2 = (
-  λ p.
-      let pending : flag ≡ 1 → either (eqb (operationOf pb2) 3) (both (eqb (operationOf pb2) readOperation) (eqb name broadcast)) ≡ false =
-      λ e. both-false-next _ (eq-eqb flag 1 e) (either-false-right _ _ p)
-      in
-      record {
-        most = ltb-false _ _ (either-false-left _ _ p);
-        operation = λ e. eqb-false _ _ (either-false-left _ _ (pending e));
-        broadcastRead =
-            λ e o. eqb-false _ _ (both-false-next _ (eq-eqb (operationOf pb2) readOperation o) (either-false-right _ _ (pending e)));
-      },
-  λ s.
-      either-false (le-ltb _ _ (s .most))
-      (both-unless (eqb flag 1)
-      (λ e.
-      let one : flag ≡ 1 = eqb-true flag 1 e in
-      either-false (ne-eqb _ _ (s .operation one))
-      (both-unless (eqb (operationOf pb2) readOperation)
-      (λ o. ne-eqb _ _ (s .broadcastRead one (eqb-true (operationOf pb2) readOperation o)))))),
-)
-
-pub record HeaderFits (w : ℕ) (f : List ℕ) : Type 0 where
+pub record HeaderFacts (w : ℕ) (f : List ℕ) : Type 0 where
   pub count : getD f countPlace 0 ≤ maxSlaves w
   pub table : offsetAt w f tablePlace ≡ headerSize w
   pub zeros : allZero (part f (zerosPlace w) (zerosLength w)) ≡ true
-  pub pending : PendingFits (getD f (flagPlace w) 0) (getD f (pendingNamePlace w) 0) (getD f (pendingPB2Place w) 0)
+  pub pending : wrongPending (getD f (flagPlace w) 0) (getD f (pendingNamePlace w) 0) (getD f (pendingPB2Place w) 0) ≡ false
 
-pub header-fits : (w : ℕ) (f : List ℕ) → (wrongHeader w f ≡ false) ↔ HeaderFits w f
+pub header-facts : (w : ℕ) (f : List ℕ) → wrongHeader w f ≡ false → HeaderFacts w f
 unfolding wrongHeader
-header-fits w f = (
-  λ p.
-      let p₁ = either-false-right _ _ p in
-      let p₂ = either-false-right _ _ p₁ in
-      record {
-        count = ltb-false _ _ (either-false-left _ _ p);
-        table = eqb-true _ _ (not-false _ (either-false-left _ _ p₁));
-        zeros = not-false _ (either-false-left _ _ p₂);
-        pending = pending-fits _ _ _ .0 (either-false-right _ _ p₂);
-      },
-  λ h.
-      either-false (le-ltb _ _ (h .count))
-      (either-false (not-not (eq-eqb _ _ (h .table))) (either-false (not-not (h .zeros)) (pending-fits _ _ _ .1 (h .pending)))),
-)
+header-facts w f e =
+    record {
+      count = ltb-false _ _ (either-false-left _ _ e);
+      table = eqb-true _ _ (not-false _ (either-false-left _ _ (either-false-right _ _ e)));
+      zeros = not-false _ (either-false-left _ _ (either-false-right _ _ (either-false-right _ _ e)));
+      pending = either-false-right _ _ (either-false-right _ _ (either-false-right _ _ e));
+    }
 
--- ---- 6
+pub header-yes : (w : ℕ) (f : List ℕ) → HeaderFacts w f → wrongHeader w f ≡ false
+unfolding wrongHeader
+header-yes w f h =
+    either-false (le-ltb _ _ (h .count))
+    (either-false (not-yes (eq-eqb _ _ (h .table))) (either-false (not-yes (h .zeros)) (h .pending)))
 
-ends-at : (r : Walk) (n : ℕ) → endsAt r n ≡ true → r ≡ Walk.to n
-unfolding endsAt
-ends-at Walk.broken n p = clash p refl
-ends-at (Walk.to place) n p = ap Walk.to (eqb-true place n p)
+-- zeros, byte by byte
+pub zeros-first : (f : List ℕ) (at n : ℕ) → at < length f → allZero (part f at (suc n)) ≡ true → getD f at 0 ≡ 0
+unfolding part allZero
+zeros-first f at n h e =
+    let g : allZero (getD f at 0 ∷ part f (suc at) n) ≡ true = rw (drop-cons f at 0 h) at e in
+    byCase (eqb (getD f at 0) 0) (λ t. eqb-true _ _ t) (λ t. clash (rw t at g) refl)
 
-at-end : {r : Walk} (n : ℕ) → r ≡ Walk.to n → endsAt r n ≡ true
-unfolding endsAt
-at-end n p = rw p (eq-eqb n n refl)
+pub zeros-rest : (f : List ℕ) (at n : ℕ) → at < length f → allZero (part f at (suc n)) ≡ true → allZero (part f (suc at) n) ≡ true
+unfolding part allZero
+zeros-rest f at n h e =
+    let g : allZero (getD f at 0 ∷ part f (suc at) n) ≡ true = rw (drop-cons f at 0 h) at e in
+    byCase (eqb (getD f at 0) 0) (λ t. rw t at g) (λ t. clash (rw t at g) refl)
 
-pub layout-whole : (w : ℕ) (f : List ℕ) → (brokenLayout w f ≡ false) ↔ (walkFile w f ≡ Walk.to (length f))
-unfolding brokenLayout
-layout-whole w f = (λ p. ends-at (walkFile w f) (length f) (not-false _ p), λ e. not-not (at-end (length f) e))
+pub zeros-more : (f : List ℕ) (at n : ℕ) → at < length f → getD f at 0 ≡ 0 → allZero (part f (suc at) n) ≡ true → allZero (part f at (suc n)) ≡ true
+unfolding part allZero
+zeros-more f at n h z e = rw (drop-cons f at 0 h, z) e
 
--- ---- 7
+pub zeros-none : (f : List ℕ) (at : ℕ) → allZero (part f at 0) ≡ true
+unfolding part allZero
+zeros-none f at = refl
 
-pub record Needed (s : Slave) : Type 0 where
-  pub configured : 3 ≤ lastRecord (bytesIn s configuration)
-  pub documented : 2 ≤ lastRecord (bytesIn s documentation)
+-- the facts of a good directory entry
+pub record EntryFacts (w : ℕ) (f : List ℕ) (d low place : ℕ) : Type 0 where
+  pub rising : low ≤ getD f d 0
+  pub number : getD f d 0 ≤ maxFileNumber
+  pub records : 1 ≤ getD f (d + 1) 0
+  pub zeros : allZero (part f (d + 2) (fillLength w)) ≡ true
+  pub offset : offsetAt w f (d + w) ≡ place
+  pub within : place + fileSize (getD f (d + 1) 0) ≤ length f
 
-pub needed : (s : Slave) → (hasNeeded s ≡ true) ↔ Needed s
-unfolding hasNeeded
-needed s = (
-  λ p. record { configured = leb-true _ _ (both-left _ _ p); documented = leb-true _ _ (both-right _ _ p) },
-  λ n. both-true (le-leb _ _ (n .configured)) (le-leb _ _ (n .documented)),
-)
+pub entry-facts : (w : ℕ) (f : List ℕ) (d low place : ℕ) → goodEntry w f d low place ≡ true → EntryFacts w f d low place
+unfolding goodEntry
+entry-facts w f d low place e =
+    let e₁ = both-right _ _ e in
+    let e₂ = both-right _ _ e₁ in
+    let e₃ = both-right _ _ e₂ in
+    let e₄ = both-right _ _ e₃ in
+    record {
+      rising = leb-true _ _ (both-left _ _ e);
+      number = leb-true _ _ (both-left _ _ e₁);
+      records = leb-true _ _ (both-left _ _ e₂);
+      zeros = both-left _ _ e₃;
+      offset = eqb-true _ _ (both-left _ _ e₄);
+      within = leb-true _ _ (both-right _ _ e₄);
+    }
 
-all-needed : (ss : List Slave) → allHaveNeeded ss ≡ true → All Needed ss
-unfolding allHaveNeeded
-all-needed [] p = All.none
-all-needed (s ∷ ss) p = All.both (needed s .0 (both-left _ _ p)) (all-needed ss (both-right _ _ p))
+pub entry-yes : (w : ℕ) (f : List ℕ) (d low place : ℕ) → EntryFacts w f d low place → goodEntry w f d low place ≡ true
+unfolding goodEntry
+entry-yes w f d low place h =
+    both-true (le-leb _ _ (h .rising))
+    (both-true (le-leb _ _ (h .number))
+    (both-true (le-leb _ _ (h .records))
+    (both-true (h .zeros) (both-true (eq-eqb _ _ (h .offset)) (le-leb _ _ (h .within))))))
 
-needed-all : {ss : List Slave} → All Needed ss → allHaveNeeded ss ≡ true
-unfolding allHaveNeeded
-needed-all All.none = refl
-needed-all (All.both n ns) = both-true (needed _ .1 n) (needed-all ns)
+-- the facts of a good table entry
+pub record TableEntryFacts (w : ℕ) (f : List ℕ) (t place : ℕ) : Type 0 where
+  pub offset : offsetAt w f t ≡ place
+  pub zeros : allZero (part f (t + w + 1) (suc (fillLength w))) ≡ true
+  pub within : place + entrySize w * getD f (t + w) 0 ≤ length f
 
-pub all-have-needed : (w : ℕ) (f : List ℕ) → (lacksNeeded w f ≡ false) ↔ All Needed (decodeAt w f .slaves)
-unfolding lacksNeeded
-all-have-needed w f = (λ p. all-needed _ (not-false _ p), λ n. not-not (needed-all n))
+pub table-entry-facts : (w : ℕ) (f : List ℕ) (t place : ℕ) → goodTableEntry w f t place ≡ true → TableEntryFacts w f t place
+unfolding goodTableEntry
+table-entry-facts w f t place e =
+    let e₁ = both-right _ _ e in
+    record { offset = eqb-true _ _ (both-left _ _ e); zeros = both-left _ _ e₁; within = leb-true _ _ (both-right _ _ e₁) }
 
--- ---- 8
+pub table-entry-yes : (w : ℕ) (f : List ℕ) (t place : ℕ) → TableEntryFacts w f t place → goodTableEntry w f t place ≡ true
+unfolding goodTableEntry
+table-entry-yes w f t place h = both-true (eq-eqb _ _ (h .offset)) (both-true (h .zeros) (le-leb _ _ (h .within)))
 
-not-among : (n : ℕ) (ms : List ℕ) → isAmong n ms ≡ false → All (λ m. n ≡ m → ⊥) ms
-unfolding isAmong
-not-among n [] p = All.none
-not-among n (m ∷ ms) p = All.both (eqb-false n m (either-false-left _ _ p)) (not-among n ms (either-false-right _ _ p))
+-- zeros at every index, both ways
+pub zeros-at : (f : List ℕ) (at n k : ℕ) → at + n ≤ length f → k < n → allZero (part f at n) ≡ true → getD f (at + k) 0 ≡ 0
+zeros-at f at (suc n) zero h l e = rw (add-zero at) (zeros-first f at n (omega arith) e)
+zeros-at f at (suc n) (suc k) h l e =
+    let next : getD f (suc at + k) 0 ≡ 0 = zeros-at f (suc at) n k (omega arith) (omega arith) (zeros-rest f at n (omega arith) e) in
+    let same : at + suc k ≡ suc at + k = omega arith in
+    rw same next
 
-among-not : (n : ℕ) {ms : List ℕ} → All (λ m. n ≡ m → ⊥) ms → isAmong n ms ≡ false
-unfolding isAmong
-among-not n All.none = refl
-among-not n (All.both p q) = either-false (ne-eqb n _ p) (among-not n q)
-
-pub no-repeat : (ns : List ℕ) → hasRepeat ns ≡ false → Distinct ns
-unfolding hasRepeat
-no-repeat [] p = Distinct.end
-no-repeat (n ∷ ns) p = Distinct.next (not-among n ns (either-false-left _ _ p)) (no-repeat ns (either-false-right _ _ p))
-
-pub distinct-no-repeat : {ns : List ℕ} → Distinct ns → hasRepeat ns ≡ false
-unfolding hasRepeat
-distinct-no-repeat Distinct.end = refl
-distinct-no-repeat (Distinct.next {n = n} p d) = either-false (among-not n p) (distinct-no-repeat d)
-
-pub names-distinct : (w : ℕ) (f : List ℕ) → (equalPhysicalNames w f ≡ false) ↔ Distinct (map physicalName (decodeAt w f .slaves))
-unfolding equalPhysicalNames
-names-distinct w f = (no-repeat _, distinct-no-repeat)
-
--- ---- all of them
-
-pub record Accepted (w : ℕ) (f : List ℕ) : Type 0 where
-  pub size : SizeFits w f
-  pub mark : Marked f
-  pub edition : getD f editionPlace 0 ≡ editionOf w
-  pub stated : offsetAt w f (lengthPlace w) ≡ length f
-  pub header : HeaderFits w f
-  pub layout : walkFile w f ≡ Walk.to (length f)
-  pub needed : All Needed (decodeAt w f .slaves)
-  pub names : Distinct (map physicalName (decodeAt w f .slaves))
-
-pub accepted : (w : ℕ) (f : List ℕ) → (fileGroundAt w f ≡ 0) ↔ Accepted w f
-unfolding fileGroundAt fileGrounds
-accepted w f = (
-  λ p.
-      let (size, p₁) = first-none 0 _ _ p in
-      let (mark, p₂) = first-none 1 _ _ p₁ in
-      let (edition, p₃) = first-none 2 _ _ p₂ in
-      let (stated, p₄) = first-none 3 _ _ p₃ in
-      let (header, p₅) = first-none 4 _ _ p₄ in
-      let (layout, p₆) = first-none 5 _ _ p₅ in
-      let (need, p₇) = first-none 6 _ _ p₆ in
-      let (names, p₈) = first-none 7 _ _ p₇ in
-      record {
-        size = size-fits w f .0 size;
-        mark = marked f .0 mark;
-        edition = edition-right w f .0 edition;
-        stated = length-right w f .0 stated;
-        header = header-fits w f .0 header;
-        layout = layout-whole w f .0 layout;
-        needed = all-have-needed w f .0 need;
-        names = names-distinct w f .0 names;
-      },
-  λ a.
-      first-next _ _ (size-fits w f .1 (a .size))
-      ∙ first-next _ _ (marked f .1 (a .mark))
-      ∙ first-next _ _ (edition-right w f .1 (a .edition))
-      ∙ first-next _ _ (length-right w f .1 (a .stated))
-      ∙ first-next _ _ (header-fits w f .1 (a .header))
-      ∙ first-next _ _ (layout-whole w f .1 (a .layout))
-      ∙ first-next _ _ (all-have-needed w f .1 (a .needed))
-      ∙ first-next _ _ (names-distinct w f .1 (a .names))
-      ∙ first-end,
-)
+pub zeros-from : (f : List ℕ) (at n : ℕ) → at + n ≤ length f → ((k : ℕ) → k < n → getD f (at + k) 0 ≡ 0) → allZero (part f at n) ≡ true
+zeros-from f at zero h z = zeros-none f at
+zeros-from f at (suc n) h z =
+    zeros-more f at n (omega arith) (rw add-zero at (z 0 (omega arith)))
+    (zeros-from f (suc at) n (omega arith) (λ k l. let same : at + suc k ≡ suc at + k = omega arith in rw same at (z (suc k) (omega arith))))

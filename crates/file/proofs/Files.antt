@@ -1,27 +1,26 @@
 -- A directory and its files in a list of bytes: the walk over the directory arrives exactly where legal files stand as their encoding,
 -- and reading the directory gives them back. First one entry with its file, then k of them.
 -- Assumes nothing.
-use Prim.Native.Nat.{ℕ, zero, suc, _+_, _*_, _-_, _/_, _^_, _≤_, _<_}
+use Prim.Native.Nat.{ℕ, zero, suc, _+_, _*_, _^_, _≤_, _<_}
 use native.Mathlib.Nat.{add-zero, mul-div-cancel-left}
 use native.Mathlib.Omega.{arith}
 use mathlib.Core.Path.{_≡_, refl, sym, ap, ap₂, _∙_, subst}
 use mathlib.Core.List.{List, [], _∷_, _++_}
 use mathlib.Core.Bool.{Bool, true, false, cond}
 use lib.ListN.{length, getD, replicate, length-append, length-replicate}
-use lib.Dec.{eqb, leb}
-use borrow.Author.Tests.{leb-true, le-leb, eqb-true, eq-eqb}
-use Rattle.file.specs.Bytes.{All, Byte, Bytes, bytesOf, part, allZero}
+use Rattle.file.specs.Bytes.{All, Bytes, bytesOf, part}
 use Rattle.file.specs.Order.{both}
-use Rattle.file.specs.Layout.{entrySize, fillLength, maxFileNumber, maxRecord, recordSize}
+use Rattle.file.specs.Layout.{entrySize, fillLength, recordSize}
 use Rattle.file.specs.Cluster.{File, lastRecord}
 use Rattle.file.specs.Encode.{directoryEntry, directory, contents}
 use Rattle.file.specs.Decode.{offsetAt, fileSize, fileAt, filesAt}
 use Rattle.file.specs.Legal.{LegalFile, Rising}
 use Rattle.file.specs.Grounds.{Walk, goodEntry, walkDirectory}
-use Rattle.file.proofs.Order.{both-left, both-right, both-true}
-use Rattle.file.proofs.Sizes.{bytesOf-length, directoryEntry-length}
-use Rattle.file.proofs.Bytes.{all-first, all-others, byte-at, bytes-part, length-part}
-use Rattle.file.proofs.Stands.{Stands, stands-part, part-stands, stands-at, stands-byte, stands-left, stands-right, stands-append, stands-none, stands-one, stands-next, stands-zeros, zeros-stand, stands-number, number-stands}
+use Rattle.file.proofs.Facts.{EntryFacts, entry-facts, entry-yes}
+use Rattle.file.proofs.NumberLaws.{part-length}
+use Rattle.file.proofs.Sizes.{directoryEntry-length}
+use Rattle.file.proofs.Bytes.{all-first, all-others, byte-at, bytes-part}
+use Rattle.file.proofs.Stands.{Stands, stands-part, part-stands, stands-at, stands-byte, stands-left, stands-right, stands-append, stands-none, stands-next, stands-zeros, zeros-stand, stands-number, number-stands}
 
 -- ---- a walk that arrives
 
@@ -35,42 +34,6 @@ tested-arrives false r p = broken-arrives p
 
 pub arrives-same : {a b : ℕ} → Walk.to a ≡ Walk.to b → a ≡ b
 arrives-same p = cc
-
--- ---- the test of a directory entry, by its facts
-
-pub record GoodEntry (w : ℕ) (f : List ℕ) (d low place : ℕ) : Type 0 where
-  pub rising : low ≤ getD f d 0
-  pub number : getD f d 0 ≤ maxFileNumber
-  pub some : 1 ≤ getD f (d + 1) 0
-  pub fill : allZero (part f (d + 2) (fillLength w)) ≡ true
-  pub offset : offsetAt w f (d + w) ≡ place
-  pub within : place + fileSize (getD f (d + 1) 0) ≤ length f
-
-module _ {w : ℕ} {f : List ℕ} {d low place : ℕ} where
-  pub goodEntry-facts : goodEntry w f d low place ≡ true → GoodEntry w f d low place
-  unfolding goodEntry
-  goodEntry-facts p =
-      let p₁ = both-right _ _ p in
-      let p₂ = both-right _ _ p₁ in
-      let p₃ = both-right _ _ p₂ in
-      let p₄ = both-right _ _ p₃ in
-      record {
-        rising = leb-true _ _ (both-left _ _ p);
-        number = leb-true _ _ (both-left _ _ p₁);
-        some = leb-true _ _ (both-left _ _ p₂);
-        fill = both-left _ _ p₃;
-        offset = eqb-true _ _ (both-left _ _ p₄);
-        within = leb-true _ _ (both-right _ _ p₄);
-      }
-
-  pub goodEntry-yes : GoodEntry w f d low place → goodEntry w f d low place ≡ true
-  unfolding goodEntry
-  goodEntry-yes g =
-      both-true (le-leb _ _ (g .rising))
-      (both-true (le-leb _ _ (g .number))
-      (both-true (le-leb _ _ (g .some))
-      (both-true (g .fill)
-      (both-true (eq-eqb _ _ (g .offset)) (le-leb _ _ (g .within))))))
 
 -- ---- a file's size
 
@@ -207,11 +170,11 @@ module _ {w : ℕ} (two : 2 ≤ w) {f : List ℕ} (short : length f < 256 ^ w) w
       {d low place : ℕ} → Bytes f → d + entrySize w ≤ length f → goodEntry w f d low place ≡ true → FileStands w f d low place (fileAt w f d)
   unfolding fileOf offsetAt
   file-found {d} {low} {place} b h p =
-      let g : GoodEntry w f d low place = goodEntry-facts p in
+      let g : EntryFacts w f d low place = entry-facts w f d low place p in
       let r : ℕ = getD f (d + 1) 0 in
       let x : File = fileOf f (getD f d 0) r place in
       let byte : r < 256 = byte-at b (d + 1) in
-      let size : length (x .bytes) ≡ fileSize r = length-part f place (fileSize r) (g .within) in
+      let size : length (x .bytes) ≡ fileSize r = part-length f place (fileSize r) (g .within) in
       let last : lastRecord (x .bytes) ≡ r = lastRecord-fileSize (x .bytes) r size in
       let stands : FileStands w f d low place x =
       record {
@@ -219,7 +182,7 @@ module _ {w : ℕ} (two : 2 ≤ w) {f : List ℕ} (short : length f < 256 ^ w) w
         legal =
             record {
               number = g .number;
-              some = subst (λ (k : ℕ). 1 ≤ k) (sym last) (g .some);
+              some = subst (λ (k : ℕ). 1 ≤ k) (sym last) (g .records);
               most = omega arith;
               whole = whole-fileSize (x .bytes) r size;
               bytes = bytes-part b place (fileSize r);
@@ -229,7 +192,7 @@ module _ {w : ℕ} (two : 2 ≤ w) {f : List ℕ} (short : length f < 256 ^ w) w
             (record {
               number = refl;
               last = sym last;
-              fill = stands-zeros (fillLength w) (omega arith) (g .fill);
+              fill = stands-zeros (fillLength w) (omega arith) (g .zeros);
               offset = stands-number w b (omega arith) (g .offset);
             });
         bytes = part-stands (fileSize r) (g .within);
@@ -261,7 +224,7 @@ module _ {w : ℕ} (two : 2 ≤ w) {f : List ℕ} (short : length f < 256 ^ w) w
       )
 
   -- a file that stands has a good entry, and is read from it
-  pub file-good : {d low place : ℕ} {x : File} → FileStands w f d low place x → GoodEntry w f d low place
+  pub file-good : {d low place : ℕ} {x : File} → FileStands w f d low place x → EntryFacts w f d low place
   unfolding offsetAt
   file-good {d} {low} {place} {x} s =
       let e : EntryBytes w f d place x = entry-bytes two (s .entry) in
@@ -269,8 +232,8 @@ module _ {w : ℕ} (two : 2 ≤ w) {f : List ℕ} (short : length f < 256 ^ w) w
       record {
         rising = rw (e .number) (s .rising);
         number = rw (e .number) (s .legal .number);
-        some = rw (e .last) (s .legal .some);
-        fill = zeros-stand (fillLength w) (e .fill);
+        records = rw (e .last) (s .legal .some);
+        zeros = zeros-stand (fillLength w) (e .fill);
         offset = number-stands w (omega (arith, s .bytes .fits)) (e .offset);
         within = omega (arith, s .bytes .fits);
       }
@@ -295,7 +258,7 @@ module _ {w : ℕ} (two : 2 ≤ w) {f : List ℕ} (short : length f < 256 ^ w) w
       let here : FileStands w f d low place x = first-file two s in
       let e : EntryBytes w f d place x = entry-bytes two (here .entry) in
       let size : fileSize (getD f (d + 1) 0) ≡ length (x .bytes) = ap fileSize (e .last) ∙ legal-size (here .legal) in
-      rw (goodEntry-yes (file-good here), size, e .number) (files-walk xs (other-files two s) ∙ ap Walk.to (omega (arith, length-append (x .bytes) (contents xs))))
+      rw (entry-yes w f d low place (file-good here), size, e .number) (files-walk xs (other-files two s) ∙ ap Walk.to (omega (arith, length-append (x .bytes) (contents xs))))
 
   pub files-read : {d low place : ℕ} (xs : List File) → FilesStand w f d low place xs → filesAt w f d (length xs) ≡ xs
   unfolding filesAt

@@ -1,12 +1,10 @@
 -- Encoding and decoding, and what is accepted, over the offset width w: `Accepted` states these laws of edition 1.
 -- Assumes nothing.
-use Prim.Native.Nat.{ℕ, _^_, _≤_, _<_}
-use native.Mathlib.Omega.{arith}
-use mathlib.Core.Path.{_≡_, sym, subst}
+use Prim.Native.Nat.{ℕ, _^_, _<_}
+use mathlib.Core.Path.{_≡_}
 use mathlib.Core.List.{List}
 use lib.ListN.{length}
-use Rattle.file.specs.Bytes.{All, Bytes}
-use Rattle.file.specs.Layout.{maxLength}
+use Rattle.file.specs.Bytes.{Bytes}
 use Rattle.file.specs.Cluster.{Cluster}
 use Rattle.file.specs.Encode.{encodeAt}
 use Rattle.file.specs.Decode.{decodeAt}
@@ -15,7 +13,7 @@ use Rattle.file.specs.Grounds.{fileGroundAt}
 use Rattle.file.proofs.Width.{Width, place-fits}
 use Rattle.file.proofs.Bytes.{all-map}
 use Rattle.file.proofs.Sizes.{encodeAt-length}
-use Rattle.file.proofs.Facts.{accepted}
+use Rattle.file.proofs.AcceptedFacts.{accepted}
 use Rattle.file.proofs.Encoded as E
 use Rattle.file.proofs.EncodedBytes.{encode-is-bytes}
 

@@ -1,173 +1,156 @@
--- Slaves of the same shape: the same files by number, each as long as it was, of bytes. What the layout and a legal slave ask stays with
--- the shape, and so does the length of the encoding. An update of a slave, a file or a byte keeps the shape.
+-- Clusters of the same shape: the relation is an equivalence, putting bytes keeps it, and everything that the encoding says of
+-- places and sizes is equal under it. A layer above that changes only bytes of files cites these laws and opens no walk.
 -- Assumes nothing.
-use Prim.Native.Nat.{ℕ, zero, suc, _+_, _*_, _/_, _≤_, _<_}
-use native.Mathlib.Omega.{arith}
-use mathlib.Core.Path.{_≡_, refl, sym, ap, ap₂, _∙_, subst}
-use mathlib.Core.List.{List, [], _∷_, _++_}
-use mathlib.Core.Bool.{Bool, true, false, cond}
+use Prim.Native.Nat.{ℕ, zero, suc, _+_, _*_}
+use mathlib.Core.Path.{_≡_, refl, sym, ap, _∙_}
+use mathlib.Core.List.{List, [], _∷_}
 use lib.ListN.{length, getD, set, length-append, length-set}
 use lib.Dec.{eqb}
-use Rattle.file.specs.Bytes.{All, Byte, Bytes}
-use Rattle.file.specs.Layout.{entrySize, recordSize}
-use Rattle.file.specs.Cluster.{File, Slave, Cluster, lastRecord, bytesAmong, bytesIn, configuration, documentation}
-use Rattle.file.specs.Encode.{contents, slaveSize, slavesSize, slavesPlace, fileLength}
-use Rattle.file.specs.Legal.{LegalFile, Rising, LegalSlave}
-use Rattle.file.specs.Places.{noSlave, slaveOf, putAmong, putInSlave, withSlaves, putByte}
-use Rattle.file.proofs.Bytes.{all-map, all-set, all-at}
+use Rattle.file.specs.Layout.{entrySize}
+use Rattle.file.specs.Cluster.{File, Slave, Cluster, lastRecord, bytesAmong, bytesIn, hasRecord}
+use Rattle.file.specs.Encode.{directoryEntry, directory, contents, slaveSize, slavesSize, tableEntry, table, slavesPlace, fileLength}
+use Rattle.file.specs.Places.{noSlave, slaveOf, placeAmong, filePlaceFrom, filePlaceAt, putAmong, putInSlave, withSlaves, putByte, putBytes, SameFiles, noFiles, sameFile, SameShape, noSlaves, sameSlave}
+use Rattle.file.proofs.Order.{byCase}
 
--- two lists as long as each other, whose elements are in a relation, each to each
-pub data Alike {A : Type 0} (R : A → A → Type 0) : List A → List A → Type 0 where
-  none : Alike R [] []
-  both : {a b : A} {l m : List A} → R a b → Alike R l m → Alike R (a ∷ l) (b ∷ m)
+-- ---- an equivalence
 
--- a file of the same number and length, of bytes
-pub record SameFile (x y : File) : Type 0 where
-  pub number : y .number ≡ x .number
-  pub size : length (y .bytes) ≡ length (x .bytes)
-  pub bytes : Bytes (y .bytes)
+pub files-refl : (xs : List File) → SameFiles xs xs
+files-refl [] = noFiles
+files-refl (x ∷ xs) = sameFile refl refl (files-refl xs)
 
--- a slave with the same files, each of the same number and length
-pub record SameSlave (s t : Slave) : Type 0 where
-  pub files : Alike SameFile (s .files) (t .files)
+pub files-sym : {xs ys : List File} → SameFiles xs ys → SameFiles ys xs
+files-sym noFiles = noFiles
+files-sym (sameFile p q r) = sameFile (sym p) (sym q) (files-sym r)
 
-abbrev pub SameShape : List Slave → List Slave → Type 0
-SameShape ss ts = Alike SameSlave ss ts
+pub files-trans : {xs ys zs : List File} → SameFiles xs ys → SameFiles ys zs → SameFiles xs zs
+files-trans noFiles noFiles = noFiles
+files-trans (sameFile p q r) (sameFile p′ q′ r′) = sameFile (p ∙ p′) (q ∙ q′) (files-trans r r′)
 
--- ---- laws of lists that are alike
+pub shape-refl : (ss : List Slave) → SameShape ss ss
+shape-refl [] = noSlaves
+shape-refl (s ∷ ss) = sameSlave (files-refl (s .files)) (shape-refl ss)
 
-module _ {A : Type 0} {R : A → A → Type 0} where
-  pub alike-length : {l m : List A} → Alike R l m → length m ≡ length l
-  alike-length Alike.none = refl
-  alike-length (Alike.both r a) = ap suc (alike-length a)
-
-  -- a property that the relation carries over
-  pub alike-all : {P : A → Type 0} {l m : List A} → ((a b : A) → R a b → P a → P b) → Alike R l m → All P l → All P m
-  alike-all f Alike.none All.none = All.none
-  alike-all f (Alike.both {a = a} {b = b} r q) (All.both p ps) = All.both (f a b r p) (alike-all f q ps)
-
-  -- where each element is in the relation to itself
-  pub alike-self : {l : List A} → All (λ a. R a a) l → Alike R l l
-  alike-self All.none = Alike.none
-  alike-self (All.both p ps) = Alike.both p (alike-self ps)
-
-  pub alike-trans : {l m n : List A} → ((a b c : A) → R a b → R b c → R a c) → Alike R l m → Alike R m n → Alike R l n
-  alike-trans f Alike.none Alike.none = Alike.none
-  alike-trans f (Alike.both {a = a} {b = b} r q) (Alike.both {b = c} r′ q′) = Alike.both (f a b c r r′) (alike-trans f q q′)
-
--- ---- files
-
-same-last : {x y : File} → SameFile x y → lastRecord (y .bytes) ≡ lastRecord (x .bytes)
-unfolding lastRecord
-same-last s = rw (s .size)
-
-pub same-legal-file : (x y : File) → SameFile x y → LegalFile x → LegalFile y
-same-legal-file x y s l =
-    let last : lastRecord (y .bytes) ≡ lastRecord (x .bytes) = same-last s in
-    record {
-      number = omega (arith, s .number, l .number);
-      some = omega (arith, l .some);
-      most = omega (arith, l .most);
-      whole = omega (arith, l .whole, s .size);
-      bytes = s .bytes;
-    }
-
-pub same-rising : {low : ℕ} {xs ys : List File} → Alike SameFile xs ys → Rising low xs → Rising low ys
-same-rising Alike.none Rising.end = Rising.end
-same-rising {low} (Alike.both {b = y} {m = ys} s a) (Rising.next h r) =
-    Rising.next (subst (λ (n : ℕ). low ≤ n) (sym (s .number)) h)
-    (subst (λ (n : ℕ). Rising (suc n) ys) (sym (s .number)) (same-rising a r))
-
-pub same-contents : {xs ys : List File} → Alike SameFile xs ys → length (contents ys) ≡ length (contents xs)
-unfolding contents
-same-contents Alike.none = refl
-same-contents (Alike.both {a = x} {b = y} {l = xs} {m = ys} s a) =
-    omega (arith, length-append (y .bytes) (contents ys), length-append (x .bytes) (contents xs), s .size, same-contents a)
-
--- the file of a number has the same length
-pub same-among : {xs ys : List File} (n : ℕ) → Alike SameFile xs ys → length (bytesAmong ys n) ≡ length (bytesAmong xs n)
-unfolding bytesAmong
-same-among n Alike.none = refl
-same-among n (Alike.both {a = x} {b = y} {l = xs} {m = ys} s a) = rw (s .number) (go (eqb (x .number) n) (same-among n a))
-  where
-    go :
-        (t : Bool)
-        → length (bytesAmong ys n) ≡ length (bytesAmong xs n)
-        → length (cond t (y .bytes) (bytesAmong ys n)) ≡ length (cond t (x .bytes) (bytesAmong xs n))
-    go true e = s .size
-    go false e = e
-
--- ---- slaves
-
-pub same-record : {s t : Slave} (n : ℕ) → SameSlave s t → lastRecord (bytesIn t n) ≡ lastRecord (bytesIn s n)
-unfolding lastRecord bytesIn
-same-record n a = rw (same-among n (a .files))
-
-pub same-legal-slave : (s t : Slave) → SameSlave s t → LegalSlave s → LegalSlave t
-same-legal-slave s t a l =
-    record {
-      rising = same-rising (a .files) (l .rising);
-      files = alike-all same-legal-file (a .files) (l .files);
-      configured = subst (λ (n : ℕ). 3 ≤ n) (sym (same-record configuration a)) (l .configured);
-      documented = subst (λ (n : ℕ). 2 ≤ n) (sym (same-record documentation a)) (l .documented);
-    }
-
-pub same-slaveSize : (w : ℕ) {s t : Slave} → SameSlave s t → slaveSize w t ≡ slaveSize w s
-unfolding slaveSize
-same-slaveSize w a = rw (alike-length (a .files), same-contents (a .files))
-
-pub same-slavesSize : (w : ℕ) {ss ts : List Slave} → SameShape ss ts → slavesSize w ts ≡ slavesSize w ss
-unfolding slavesSize
-same-slavesSize w Alike.none = refl
-same-slavesSize w (Alike.both s a) = ap₂ (λ (m n : ℕ). m + n) (same-slaveSize w s) (same-slavesSize w a)
-
--- the encodings are as long as each other
-pub same-fileLength : (w : ℕ) {ss ts : List Slave} → SameShape ss ts → fileLength w ts ≡ fileLength w ss
-unfolding fileLength slavesPlace
-same-fileLength w a = rw (alike-length a, same-slavesSize w a)
-
--- ---- the relation: slaves with legal files have their own shape, and the shape goes through updates
-
-pub file-self : (x : File) → LegalFile x → SameFile x x
-file-self x l = record { number = refl; size = refl; bytes = l .bytes }
-
-pub slave-self : (s : Slave) → All LegalFile (s .files) → SameSlave s s
-slave-self s l = record { files = alike-self (all-map file-self l) }
-
-pub shape-self : {ss : List Slave} → All LegalSlave ss → SameShape ss ss
-shape-self l = alike-self (all-map (λ s p. slave-self s (p .files)) l)
-
-pub file-trans : (x y z : File) → SameFile x y → SameFile y z → SameFile x z
-file-trans x y z a b = record { number = b .number ∙ a .number; size = b .size ∙ a .size; bytes = b .bytes }
-
-pub slave-trans : (s t u : Slave) → SameSlave s t → SameSlave t u → SameSlave s u
-slave-trans s t u a b = record { files = alike-trans file-trans (a .files) (b .files) }
+pub shape-sym : {ss ts : List Slave} → SameShape ss ts → SameShape ts ss
+shape-sym noSlaves = noSlaves
+shape-sym (sameSlave p r) = sameSlave (files-sym p) (shape-sym r)
 
 pub shape-trans : {ss ts us : List Slave} → SameShape ss ts → SameShape ts us → SameShape ss us
-shape-trans a b = alike-trans slave-trans a b
+shape-trans noSlaves noSlaves = noSlaves
+shape-trans (sameSlave p r) (sameSlave p′ r′) = sameSlave (files-trans p p′) (shape-trans r r′)
 
--- one slave replaced by one of its shape; at an index past the end nothing is replaced
-pub shape-set :
-    {ss : List Slave} (i : ℕ) (t : Slave) → All LegalSlave ss → (i < length ss → SameSlave (getD ss i noSlave) t) → SameShape ss (set ss i t)
-shape-set i t All.none a = Alike.none
-shape-set zero t (All.both l ls) a = Alike.both (a (omega arith)) (shape-self ls)
-shape-set (suc i) t (All.both {a = s} l ls) a = Alike.both (slave-self s (l .files)) (shape-set i t ls (λ h. a (omega arith)))
+-- ---- what is equal of files of the same shape
 
--- one byte of a file replaced
-pub files-put : {xs : List File} (n k b : ℕ) → All LegalFile xs → Byte b → Alike SameFile xs (putAmong xs n k b)
+pub files-count : {xs ys : List File} → SameFiles xs ys → length xs ≡ length ys
+files-count noFiles = refl
+files-count (sameFile p q r) = ap suc (files-count r)
+
+pub files-contents-length : {xs ys : List File} → SameFiles xs ys → length (contents xs) ≡ length (contents ys)
+unfolding contents
+files-contents-length noFiles = refl
+files-contents-length (sameFile p q r) = simp (length-append, q, files-contents-length r)
+
+pub files-bytes-length : {xs ys : List File} (n : ℕ) → SameFiles xs ys → length (bytesAmong xs n) ≡ length (bytesAmong ys n)
+unfolding bytesAmong
+files-bytes-length n noFiles = refl
+files-bytes-length n (sameFile {x} {y} p q r) =
+    rw p (byCase (eqb (y .number) n) (λ e. rw e q) (λ e. rw e (files-bytes-length n r)))
+
+-- the directory states numbers, sizes and places, and no byte of a file
+pub files-directory : {xs ys : List File} (w place : ℕ) → SameFiles xs ys → directory w place xs ≡ directory w place ys
+unfolding directory directoryEntry lastRecord
+files-directory w place noFiles = refl
+files-directory w place (sameFile {y = y} p q r) = rw (p, q, files-directory w (place + length (y .bytes)) r)
+
+pub files-place : {xs ys : List File} (place n : ℕ) → SameFiles xs ys → placeAmong place xs n ≡ placeAmong place ys n
+unfolding placeAmong
+files-place place n noFiles = refl
+files-place place n (sameFile {y = y} p q r) = rw (p, q, files-place (place + length (y .bytes)) n r)
+
+-- ---- what is equal of slaves of the same shape
+
+pub slave-size : {s t : Slave} (w : ℕ) → SameFiles (s .files) (t .files) → slaveSize w s ≡ slaveSize w t
+unfolding slaveSize
+slave-size w p = rw (files-count p, files-contents-length p)
+
+pub shape-count : {ss ts : List Slave} → SameShape ss ts → length ss ≡ length ts
+shape-count noSlaves = refl
+shape-count (sameSlave p r) = ap suc (shape-count r)
+
+pub shape-size : {ss ts : List Slave} (w : ℕ) → SameShape ss ts → slavesSize w ss ≡ slavesSize w ts
+unfolding slavesSize
+shape-size w noSlaves = refl
+shape-size w (sameSlave p r) = rw (slave-size w p, shape-size w r)
+
+pub shape-table : {ss ts : List Slave} (w place : ℕ) → SameShape ss ts → table w place ss ≡ table w place ts
+unfolding table tableEntry
+shape-table w place noSlaves = refl
+shape-table w place (sameSlave {t = t} p r) = rw (slave-size w p, files-count p, shape-table w (place + slaveSize w t) r)
+
+pub shape-slavesPlace : {ss ts : List Slave} (w : ℕ) → SameShape ss ts → slavesPlace w ss ≡ slavesPlace w ts
+unfolding slavesPlace
+shape-slavesPlace w r = rw (shape-count r)
+
+pub shape-fileLength : {ss ts : List Slave} (w : ℕ) → SameShape ss ts → fileLength w ss ≡ fileLength w ts
+unfolding fileLength
+shape-fileLength w r = rw (shape-slavesPlace w r, shape-size w r)
+
+pub shape-filePlaceFrom : {ss ts : List Slave} (w place s n : ℕ) → SameShape ss ts → filePlaceFrom w place ss s n ≡ filePlaceFrom w place ts s n
+unfolding filePlaceFrom
+shape-filePlaceFrom w place s n noSlaves = refl
+shape-filePlaceFrom w place zero n (sameSlave {t = t} p r) =
+    rw (files-count p, files-place (place + entrySize w * length (t .files)) n p)
+shape-filePlaceFrom w place (suc s) n (sameSlave {t = t} p r) =
+    rw (slave-size w p, shape-filePlaceFrom w (place + slaveSize w t) s n r)
+
+-- the slave at an index has such files in both
+pub shape-at : {ss ts : List Slave} (s : ℕ) → SameShape ss ts → SameFiles (getD ss s noSlave .files) (getD ts s noSlave .files)
+shape-at s noSlaves = noFiles
+shape-at zero (sameSlave p r) = p
+shape-at (suc s) (sameSlave p r) = shape-at s r
+
+-- ---- what is equal of clusters of the same shape
+
+module _ (c d : Cluster) (same : SameShape (c .slaves) (d .slaves)) where
+  pub shape-filePlaceAt : (w s n : ℕ) → filePlaceAt w c s n ≡ filePlaceAt w d s n
+  unfolding filePlaceAt
+  shape-filePlaceAt w s n =
+      rw (shape-slavesPlace w same, shape-filePlaceFrom w (slavesPlace w (d .slaves)) s n same)
+
+  pub shape-bytes-length : (s n : ℕ) → length (bytesIn (slaveOf c s) n) ≡ length (bytesIn (slaveOf d s) n)
+  unfolding bytesIn slaveOf
+  shape-bytes-length s n = files-bytes-length n (shape-at s same)
+
+  pub shape-hasRecord : (s n r : ℕ) → hasRecord (slaveOf c s) n r ≡ hasRecord (slaveOf d s) n r
+  unfolding hasRecord
+  shape-hasRecord s n r = rw (shape-bytes-length s n)
+
+-- ---- putting bytes keeps the shape
+
+pub files-put : (xs : List File) (n k b : ℕ) → SameFiles xs (putAmong xs n k b)
 unfolding putAmong
-files-put n k b All.none h = Alike.none
-files-put n k b (All.both {a = x} {l = xs} l ls) h = go (eqb (x .number) n) (files-put n k b ls h)
-  where
-    put : File
-    put = record { number = x .number; bytes = set (x .bytes) k b }
+files-put [] n k b = noFiles
+files-put (x ∷ xs) n k b =
+    byCase (eqb (x .number) n)
+    (λ e. rw e (sameFile refl (sym (length-set (x .bytes) k b)) (files-refl xs)))
+    (λ e. rw e (sameFile refl refl (files-put xs n k b)))
 
-    go : (t : Bool) → Alike SameFile xs (putAmong xs n k b) → Alike SameFile (x ∷ xs) (cond t (put ∷ xs) (x ∷ putAmong xs n k b))
-    go true r =
-        Alike.both (record { number = refl; size = length-set (x .bytes) k b; bytes = all-set (l .bytes) k h }) (alike-self (all-map file-self ls))
-    go false r = Alike.both (file-self x l) r
+pub slave-put : (x : Slave) (n k b : ℕ) → SameFiles (x .files) (putInSlave x n k b .files)
+unfolding putInSlave
+slave-put x n k b = files-put (x .files) n k b
 
-pub shape-put : (c : Cluster) (s n k b : ℕ) → All LegalSlave (c .slaves) → Byte b → SameShape (c .slaves) (putByte c s n k b .slaves)
-unfolding putByte withSlaves slaveOf putInSlave
-shape-put c s n k b l h =
-    shape-set s _ l (λ i. record { files = files-put n k b (all-at noSlave l s i .files) h })
+-- a slave of the table replaced by one with such files
+pub shape-set : (ss : List Slave) (s : ℕ) (y : Slave) → SameFiles (getD ss s noSlave .files) (y .files) → SameShape ss (set ss s y)
+shape-set [] s y p = noSlaves
+shape-set (x ∷ xs) zero y p = sameSlave p (shape-refl xs)
+shape-set (x ∷ xs) (suc s) y p = sameSlave (files-refl (x .files)) (shape-set xs s y p)
+
+pub shape-putByte : (c : Cluster) (s n k b : ℕ) → SameShape (c .slaves) (putByte c s n k b .slaves)
+unfolding putByte withSlaves slaveOf
+shape-putByte c s n k b =
+    shape-set (c .slaves) s (putInSlave (getD (c .slaves) s noSlave) n k b) (slave-put (getD (c .slaves) s noSlave) n k b)
+
+pub shape-putBytes : (c : Cluster) (s n k : ℕ) (bs : List ℕ) → SameShape (c .slaves) (putBytes c s n k bs .slaves)
+unfolding putBytes
+shape-putBytes c s n k [] = shape-refl (c .slaves)
+shape-putBytes c s n k (b ∷ bs) =
+    shape-trans (shape-putByte c s n k b) (shape-putBytes (putByte c s n k b) s n (suc k) bs)

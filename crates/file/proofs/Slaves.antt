@@ -1,24 +1,21 @@
 -- The slave table and the slaves in a list of bytes: the walk over the table arrives exactly where slaves with legal files stand as
 -- their encoding, and reading the table gives them back. First one slave, then n of them.
 -- Assumes nothing.
-use Prim.Native.Nat.{ℕ, zero, suc, _+_, _*_, _-_, _^_, _≤_, _<_}
+use Prim.Native.Nat.{ℕ, zero, suc, _+_, _*_, _^_, _≤_, _<_}
 use native.Mathlib.Nat.{add-zero}
 use native.Mathlib.Omega.{arith}
 use mathlib.Core.Path.{_≡_, refl, sym, ap, ap₂, _∙_, subst}
-use mathlib.Core.List.{List, [], _∷_, _++_}
-use mathlib.Core.Bool.{Bool, true, false, cond}
-use lib.ListN.{length, getD, replicate, length-append, length-replicate}
-use lib.Dec.{eqb, leb}
-use borrow.Author.Tests.{leb-true, le-leb, eqb-true, eq-eqb}
-use Rattle.file.specs.Bytes.{All, Bytes, bytesOf, part, allZero}
+use mathlib.Core.List.{List, [], _∷_}
+use lib.ListN.{length, getD, replicate}
+use Rattle.file.specs.Bytes.{All, Bytes, bytesOf}
 use Rattle.file.specs.Order.{both}
 use Rattle.file.specs.Layout.{entrySize, fillLength}
 use Rattle.file.specs.Cluster.{File, Slave}
 use Rattle.file.specs.Encode.{directory, contents, slaveSize, slaveBytes, slavesBytes, slavesSize, tableEntry, table}
 use Rattle.file.specs.Decode.{offsetAt, filesAt, slaveAt, slavesAt}
 use Rattle.file.specs.Legal.{LegalFile, Rising}
-use Rattle.file.specs.Grounds.{Walk, andThen, goodTableEntry, walkDirectory, walkSlave, walkSlaves}
-use Rattle.file.proofs.Order.{both-left, both-right, both-true}
+use Rattle.file.specs.Grounds.{Walk, andThen, goodTableEntry, walkSlave, walkSlaves}
+use Rattle.file.proofs.Facts.{TableEntryFacts, table-entry-facts, table-entry-yes}
 use Rattle.file.proofs.Sizes.{bytesOf-length, directory-length, tableEntry-length, slaveBytes-length}
 use Rattle.file.proofs.Bytes.{all-first, all-others}
 use Rattle.file.proofs.Stands.{Stands, stands-at, stands-byte, stands-left, stands-right, stands-append, stands-none, stands-next, stands-zeros, zeros-stand, stands-number, number-stands}
@@ -30,28 +27,6 @@ pub then-arrives :
 unfolding andThen
 then-arrives Walk.broken k p = broken-arrives p
 then-arrives (Walk.to next) k p = (next, refl, p)
-
--- ---- the test of a table entry, by its facts
-
-pub record GoodTableEntry (w : ℕ) (f : List ℕ) (t place : ℕ) : Type 0 where
-  pub offset : offsetAt w f t ≡ place
-  pub fill : allZero (part f (t + w + 1) (suc (fillLength w))) ≡ true
-  pub within : place + entrySize w * getD f (t + w) 0 ≤ length f
-
-module _ {w : ℕ} {f : List ℕ} {t place : ℕ} where
-  pub goodTableEntry-facts : goodTableEntry w f t place ≡ true → GoodTableEntry w f t place
-  unfolding goodTableEntry
-  goodTableEntry-facts p =
-      let p₁ = both-right _ _ p in
-      record {
-        offset = eqb-true _ _ (both-left _ _ p);
-        fill = both-left _ _ p₁;
-        within = leb-true _ _ (both-right _ _ p₁);
-      }
-
-  pub goodTableEntry-yes : GoodTableEntry w f t place → goodTableEntry w f t place ≡ true
-  unfolding goodTableEntry
-  goodTableEntry-yes g = both-true (eq-eqb _ _ (g .offset)) (both-true (g .fill) (le-leb _ _ (g .within)))
 
 -- ---- the bytes of a table entry
 
@@ -194,7 +169,7 @@ module _ {w : ℕ} (two : 2 ≤ w) {f : List ℕ} (short : length f < 256 ^ w) w
   unfolding walkSlave slaveFrom offsetAt slaveSize
   slave-found {t} {place} {e} b h p =
       let came = tested-arrives (goodTableEntry w f t place) _ p in
-      let g : GoodTableEntry w f t place = goodTableEntry-facts (came .0) in
+      let g : TableEntryFacts w f t place = table-entry-facts w f t place (came .0) in
       let k : ℕ = getD f (t + w) 0 in
       let s : Slave = slaveFrom w f place k in
       let count : length (s .files) ≡ k = length-filesAt w f place k in
@@ -206,7 +181,7 @@ module _ {w : ℕ} (two : 2 ≤ w) {f : List ℕ} (short : length f < 256 ^ w) w
               (record {
                 offset = stands-number w b (omega arith) (g .offset);
                 count = sym count;
-                fill = stands-zeros (suc (fillLength w)) (omega arith) (g .fill);
+                fill = stands-zeros (suc (fillLength w)) (omega arith) (g .zeros);
               });
           files = rw count (found .0);
         },
@@ -234,20 +209,20 @@ module _ {w : ℕ} (two : 2 ≤ w) {f : List ℕ} (short : length f < 256 ^ w) w
       (slaves-next two (here .0) (rw (here .1) at (others .0)), omega (arith, here .1, others .1))
 
   -- a slave that stands has a good table entry, is walked to its end, and is read
-  pub slave-good : {t place : ℕ} {s : Slave} → SlaveStands w f t place s → GoodTableEntry w f t place
+  pub slave-good : {t place : ℕ} {s : Slave} → SlaveStands w f t place s → TableEntryFacts w f t place
   unfolding offsetAt
   slave-good {t} {place} {s} a =
       let e : TableBytes w f t place s = table-bytes (a .entry) in
       record {
         offset = number-stands w (omega (arith, a .files .bytes .fits)) (e .offset);
-        fill = zeros-stand (suc (fillLength w)) (e .fill);
+        zeros = zeros-stand (suc (fillLength w)) (e .fill);
         within = rw (e .count) (omega (arith, a .files .bytes .fits));
       }
 
   pub slave-walk : {t place : ℕ} {s : Slave} → SlaveStands w f t place s → walkSlave w f t place ≡ Walk.to (place + slaveSize w s)
   unfolding walkSlave slaveSize
   slave-walk {t} {place} {s} a =
-      rw (goodTableEntry-yes (slave-good a), table-bytes (a .entry) .count)
+      rw (table-entry-yes w f t place (slave-good a), table-bytes (a .entry) .count)
       (files-walk two short (s .files) (a .files) ∙ ap Walk.to (omega arith))
 
   pub slave-read : {t place : ℕ} {s : Slave} → SlaveStands w f t place s → slaveAt w f t ≡ s

@@ -1,20 +1,21 @@
 -- A list of bytes that stands in another at a place, with laws for joined lists, single bytes, zeros and numbers. The laws of encoding
 -- and decoding are inductions along the running place through these.
 -- Assumes nothing.
-use Prim.Native.Nat.{ℕ, zero, suc, _+_, _*_, _-_, _^_, _≤_, _<_}
-use native.Mathlib.Nat.{add-zero, zero-add, add-suc}
+use Prim.Native.Nat.{ℕ, zero, suc, _+_, _-_, _^_, _≤_, _<_}
+use native.Mathlib.Nat.{add-zero, zero-add}
 use native.Mathlib.Omega.{arith}
-use mathlib.Core.Path.{_≡_, refl, sym, ap, _∙_, subst}
+use mathlib.Core.Path.{_≡_, sym, ap, _∙_, subst}
 use mathlib.Core.List.{List, [], _∷_, _++_}
-use mathlib.Core.Bool.{Bool, true, false}
+use mathlib.Core.Bool.{true}
 use lib.ListN.{length, getD, replicate, length-append, length-replicate, List·getD-append}
 use lib.Seq.{ext-getD, getD-append-add}
 use lib.Dec.{ltb}
 use borrow.Author.Tests.{ltb-true, ltb-false}
-use Rattle.file.specs.Bytes.{All, Byte, Bytes, numberOf, bytesOf, part, allZero}
+use Rattle.file.specs.Bytes.{Bytes, numberOf, bytesOf, part, allZero}
 use Rattle.file.proofs.Order.{byCase}
+use Rattle.file.proofs.NumberLaws.{part-length}
 use Rattle.file.proofs.Sizes.{bytesOf-length}
-use Rattle.file.proofs.Bytes.{length-part, getD-part, bytes-part, numberOf-bytesOf, bytesOf-numberOf, allZero-replicate, replicate-allZero}
+use Rattle.file.proofs.Bytes.{getD-part, bytes-part, numberOf-bytesOf, bytesOf-numberOf, allZero-replicate, replicate-allZero}
 
 -- x stands in f at p
 pub record Stands (f : List ℕ) (p : ℕ) (x : List ℕ) : Type 0 where
@@ -25,13 +26,13 @@ module _ {f : List ℕ} where
   -- what stands at a place is the part there, and the part stands there
   pub stands-part : {p : ℕ} {x : List ℕ} → Stands f p x → part f p (length x) ≡ x
   stands-part {p} {x} s =
-      let long : length (part f p (length x)) ≡ length x = length-part f p (length x) (s .fits) in
+      let long : length (part f p (length x)) ≡ length x = part-length f p (length x) (s .fits) in
       ext-getD 0 (part f p (length x)) x long
       (λ i h. let k : i < length x = omega arith in getD-part f p (length x) i k ∙ s .same i k)
 
   pub part-stands : {p : ℕ} (n : ℕ) → p + n ≤ length f → Stands f p (part f p n)
   part-stands {p} n h =
-      let long : length (part f p n) ≡ n = length-part f p n h in
+      let long : length (part f p n) ≡ n = part-length f p n h in
       record { fits = omega arith; same = λ i k. sym (getD-part f p n i (omega arith)) }
 
   -- the place by an equation
@@ -95,7 +96,7 @@ module _ {f : List ℕ} where
   -- zeros
   pub stands-zeros : {p : ℕ} (n : ℕ) → p + n ≤ length f → allZero (part f p n) ≡ true → Stands f p (replicate n 0)
   stands-zeros {p} n h z =
-      let zeros : part f p n ≡ replicate n 0 = replicate-allZero (part f p n) z ∙ ap (λ (k : ℕ). replicate k 0) (length-part f p n h) in
+      let zeros : part f p n ≡ replicate n 0 = replicate-allZero (part f p n) z ∙ ap (λ (k : ℕ). replicate k 0) (part-length f p n h) in
       subst (λ (l : List ℕ). Stands f p l) zeros (part-stands n h)
 
   pub zeros-stand : {p : ℕ} (n : ℕ) → Stands f p (replicate n 0) → allZero (part f p n) ≡ true
@@ -109,7 +110,7 @@ module _ {f : List ℕ} where
   pub stands-number : {p n : ℕ} (w : ℕ) → Bytes f → p + w ≤ length f → numberOf (part f p w) ≡ n → Stands f p (bytesOf w n)
   stands-number {p} {n} w b h e =
       let spelled : part f p w ≡ bytesOf w n =
-      sym (bytesOf-numberOf (bytes-part b p w)) ∙ cc (length-part f p w h)
+      sym (bytesOf-numberOf (bytes-part b p w)) ∙ cc (part-length f p w h)
       in
       subst (λ (l : List ℕ). Stands f p l) spelled (part-stands w h)
 

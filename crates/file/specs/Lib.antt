@@ -8,3 +8,5 @@ pub mod Decode
 pub mod Legal
 pub mod Grounds
 pub mod Places
+pub mod Accepted
+pub mod Checked
