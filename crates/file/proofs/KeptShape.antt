@@ -18,7 +18,7 @@ use Rattle.file.proofs.Shape.{files-bytes-length, shape-count, shape-fi
 use Rattle.file.proofs.Kept.{lastRecord-same, files-rising}
 use Rattle.file.proofs.Accepted.{legal-becomes}
 
--- the files of a slave, and of slaves, are bytes
+-- the files of a slave are bytes
 pub record HoldsBytes (s : Slave) : Type 0 where
   pub files : All (λ x. Bytes (x .bytes)) (s .files)
 
