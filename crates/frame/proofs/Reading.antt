@@ -2,15 +2,18 @@
 -- Assumes nothing.
 use Prim.Native.Nat.{ℕ, _%_}
 use mathlib.Core.Path.{_≡_, refl, sym, _∙_}
-use mathlib.Core.List.{List}
+use mathlib.Core.List.{List, [], _∷_}
 use mathlib.Core.Bool.{Bool, true, false, cond}
-use lib.ListN.{getD}
+use lib.ListN.{length, getD}
 use lib.Dec.{eqb}
 use Rattle.file.specs.Order.{firstOf}
 use Rattle.file.specs.Cluster.{fileNumberOf, operationOf}
-use Rattle.file.proofs.Order.{byCase}
+use Rattle.frame.specs.Fireworks.{addressFirework}
+use Rattle.frame.specs.Check.{addressCheck}
+use Rattle.frame.specs.Frames.{frameSize}
 use Rattle.frame.specs.Grounds.{noAddress, wrongLength, wrongCheck, noOperation, broadcastRead}
 use Rattle.frame.specs.Reading.{Reading, refused, parts, partsOf, readGround, readAddress}
+use Rattle.frame.proofs.Tests.{address, six, check-right}
 
 module _ (frame : List ℕ) where
   refuse : {g : ℕ} → eqb g 0 ≡ false → readGround frame ≡ g → refused g ≡ readAddress frame
@@ -34,6 +37,12 @@ module _ (frame : List ℕ) where
     pub firework : noAddress frame ≡ false
     pub size : wrongLength frame ≡ false
     pub check : wrongCheck frame ≡ false
+
+  pub formed : {check : ℕ} → (length frame ≡ 0 → ⊥) → getD frame 0 0 ≡ addressFirework → length frame ≡ frameSize
+    → check ≡ addressCheck (getD frame 1 0 ∷ getD frame 2 0 ∷ getD frame 3 0 ∷ getD frame 4 0 ∷ []) → getD frame 5 0 ≡ check
+    → Formed
+  formed some first long e same =
+      record { firework = address frame some first; size = six frame long; check = check-right frame e same }
 
   -- The code's logical name and its tests are values of its own, with their equations.
   pub refuse-13 : {t : Bool} → Formed → t ≡ noOperation (operationOf (getD frame 3 0)) → t ≡ true → refused 13 ≡ readAddress frame

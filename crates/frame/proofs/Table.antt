@@ -1,10 +1,10 @@
--- A table whose entries, put into the rule's terms, are the rule's values in order: the rule holds at each place.
+-- A table that holds a rule's values in order has the rule's value at each place.
 -- Assumes nothing.
 use Prim.Native.Nat.{ℕ, zero, suc, _+_, _<_}
 use mathlib.Core.Path.{_≡_, refl, sym, ap, _∙_}
-use mathlib.Core.List.{List, [], _∷_, map}
+use mathlib.Core.List.{List, [], _∷_}
 use native.Mathlib.Nat.{add-zero, zero-add, add-suc, suc-add, le-of-suc-le-suc, not-suc-le-zero}
-use lib.ListN.{getD, List·getD-map}
+use lib.ListN.{getD}
 
 module _ {A : Type 0} where
   -- the n values of the rule from i on
@@ -17,10 +17,5 @@ module _ {A : Type 0} where
   from rule d i (suc n) zero h = ap rule (sym (add-zero i))
   from rule d i (suc n) (suc k) h = from rule d (suc i) n k (le-of-suc-le-suc h) ∙ ap rule (suc-add i k ∙ sym (add-suc i k))
 
-  pub entry : (turn rule : ℕ → A) (n : ℕ) (entries : List ℕ) → map turn entries ≡ table rule 0 n → (k : ℕ) → k < n
-    → turn (getD entries k 0) ≡ rule k
-  entry turn rule n entries same k h =
-      sym (List·getD-map turn entries k 0) ∙
-      ap (λ (l : List A). getD l k (turn 0)) same ∙
-      from rule (turn 0) 0 n k h ∙
-      ap rule (zero-add k)
+  pub entry : (rule : ℕ → A) (d : A) (n k : ℕ) → k < n → getD (table rule 0 n) k d ≡ rule k
+  entry rule d n k h = from rule d 0 n k h ∙ ap rule (zero-add k)

@@ -82,9 +82,9 @@ module _ (frame : List ℕ) where
   unfolding wrongCheck
   check-byte p = agree _ _ p
 
-pub operation-low : (operation : ℕ) → noOperation operation ≡ false → operation ≤ 2
+pub operation-low : {known : Bool} (operation : ℕ) → known ≡ noOperation operation → known ≡ false → operation ≤ 2
 unfolding noOperation
-operation-low operation p = omega (arith, leb-false 3 operation p)
+operation-low operation e p = omega (arith, leb-false 3 operation (sym e ∙ p))
 
 module _ (file : ℕ) where
   pub file-high : 63 < file → noFileNumber file ≡ true

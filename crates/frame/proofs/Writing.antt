@@ -1,15 +1,16 @@
 -- The writers' answer and buffer, ground by ground: one law for each way that a writer can end, and back from what was written.
 -- Assumes nothing.
-use Prim.Native.Nat.{ℕ, suc, _≤_}
-use mathlib.Core.Path.{_≡_, refl, sym, ap, _∙_}
+use Prim.Native.Nat.{ℕ, _+_, _*_, _≤_}
+use mathlib.Core.Path.{_≡_, refl}
 use mathlib.Core.List.{List, [], _∷_, _++_}
 use mathlib.Core.Bool.{Bool, true, false, cond}
 use native.Mathlib.Omega.{arith}
-use native.Mathlib.Nat.{le-of-suc-le-suc, not-suc-le-zero}
 use lib.ListN.{length, drop, set}
 use lib.Dec.{eqb}
 use Rattle.file.specs.Order.{firstOf}
-use Rattle.frame.specs.Frames.{frameSize, frameOf, addressFrame, dataFrame}
+use Rattle.frame.specs.Fireworks.{addressFirework, dataFirework}
+use Rattle.frame.specs.Check.{addressCheck, dataCheck}
+use Rattle.frame.specs.Frames.{frameSize, frameOf, pb2Of, addressBytes, addressFrame, dataFrame}
 use Rattle.frame.specs.Grounds.{shortBuffer, noOperation, broadcastRead, noFileNumber}
 use Rattle.frame.specs.Writing.{Writing, refused, written, writeFrame, writeGround, dataGround, writeAddress, writeData}
 
@@ -35,33 +36,33 @@ module _ (frame buffer : List ℕ) where
   unfolding writeFrame
   accept ground e = rw e
 
--- the writer of address frames, ground by ground
+-- The writer of address frames, ground by ground. The code's tests, check byte and buffer are values of its own, with their equations.
 module _ (buffer : List ℕ) (epoch name file operation «record» : ℕ) where
   pub address-9 : shortBuffer buffer ≡ true → (refused 9, buffer) ≡ writeAddress buffer epoch name file operation «record»
   unfolding writeAddress writeGround firstOf
   address-9 p = refuse _ buffer refl _ (rw p)
 
-  pub address-13 : shortBuffer buffer ≡ false → noOperation operation ≡ true
-    → (refused 13, buffer) ≡ writeAddress buffer epoch name file operation «record»
-  unfolding writeAddress writeGround firstOf
-  address-13 p q = refuse _ buffer refl _ (rw (p, q))
+  module _ {t : Bool} (fits : shortBuffer buffer ≡ false) (known : t ≡ noOperation operation) where
+    pub address-13 : t ≡ true → (refused 13, buffer) ≡ writeAddress buffer epoch name file operation «record»
+    unfolding writeAddress writeGround firstOf
+    address-13 p = refuse _ buffer refl _ (rw (fits, ← known, p))
 
-  pub address-14 : shortBuffer buffer ≡ false → noOperation operation ≡ false → broadcastRead operation name ≡ true
-    → (refused 14, buffer) ≡ writeAddress buffer epoch name file operation «record»
-  unfolding writeAddress writeGround firstOf
-  address-14 p q r = refuse _ buffer refl _ (rw (p, q, r))
+    module _ {u : Bool} (known-so : t ≡ false) (reads : u ≡ broadcastRead operation name) where
+      pub address-14 : u ≡ true → (refused 14, buffer) ≡ writeAddress buffer epoch name file operation «record»
+      unfolding writeAddress writeGround firstOf
+      address-14 p = refuse _ buffer refl _ (rw (fits, ← known, known-so, ← reads, p))
 
-  pub address-18 : shortBuffer buffer ≡ false → noOperation operation ≡ false → broadcastRead operation name ≡ false
-    → noFileNumber file ≡ true → (refused 18, buffer) ≡ writeAddress buffer epoch name file operation «record»
-  unfolding writeAddress writeGround firstOf
-  address-18 p q r s = refuse _ buffer refl _ (rw (p, q, r, s))
+      pub address-18 : u ≡ false → noFileNumber file ≡ true
+        → (refused 18, buffer) ≡ writeAddress buffer epoch name file operation «record»
+      unfolding writeAddress writeGround firstOf
+      address-18 p q = refuse _ buffer refl _ (rw (fits, ← known, known-so, ← reads, p, q))
 
-  pub address-written : shortBuffer buffer ≡ false → noOperation operation ≡ false → broadcastRead operation name ≡ false
-    → noFileNumber file ≡ false
-    → (written, addressFrame epoch name file operation «record» ++ drop frameSize buffer)
-      ≡ writeAddress buffer epoch name file operation «record»
-  unfolding writeAddress writeGround firstOf
-  address-written p q r s = accept _ buffer _ (rw (p, q, r, s))
+      pub address-written : {check : ℕ} {after : List ℕ} → u ≡ false → noFileNumber file ≡ false
+        → check ≡ addressCheck (epoch ∷ name ∷ (4 * file + operation) ∷ «record» ∷ [])
+        → after ≡ frameOf addressFirework (epoch ∷ name ∷ (4 * file + operation) ∷ «record» ∷ []) check ++ drop frameSize buffer
+        → (written, after) ≡ writeAddress buffer epoch name file operation «record»
+      unfolding writeAddress writeGround firstOf addressFrame addressBytes pb2Of
+      address-written p q e left = rw (left, e) (accept _ buffer _ (rw (fits, ← known, known-so, ← reads, p, q)))
 
 -- the writer of data frames
 module _ (buffer bytes : List ℕ) where
@@ -69,6 +70,7 @@ module _ (buffer bytes : List ℕ) where
   unfolding writeData dataGround firstOf
   data-9 p = refuse _ buffer refl _ (rw p)
 
-  pub data-written : shortBuffer buffer ≡ false → (written, dataFrame bytes ++ drop frameSize buffer) ≡ writeData buffer bytes
-  unfolding writeData dataGround firstOf
-  data-written p = accept _ buffer _ (rw p)
+  pub data-written : {check : ℕ} {after : List ℕ} → shortBuffer buffer ≡ false → check ≡ dataCheck bytes
+    → after ≡ frameOf dataFirework bytes check ++ drop frameSize buffer → (written, after) ≡ writeData buffer bytes
+  unfolding writeData dataGround firstOf dataFrame
+  data-written p e left = rw (left, e) (accept _ buffer _ (rw p))
