@@ -1,24 +1,24 @@
 -- Back from an answer: what the reader or a writer accepted has no ground.
 -- Assumes nothing.
-use Prim.Native.Nat.{ℕ, suc, _≤_}
-use mathlib.Core.Path.{_≡_, refl, sym, ap, _∙_}
-use mathlib.Core.List.{List, [], _∷_}
-use mathlib.Core.Bool.{Bool, true, false, cond}
+use Prim.Native.Nat.{ℕ, suc}
+use mathlib.Core.Path.{_≡_, refl}
+use mathlib.Core.List.{List, _∷_}
+use mathlib.Core.Bool.{Bool, true, false}
 use native.Mathlib.Omega.{arith}
-use lib.ListN.{length, getD}
+use lib.ListN.{getD}
 use lib.Dec.{eqb}
 use borrow.Author.Tests.{eqb-true}
 use Rattle.file.specs.Order.{Ground, firstOf}
-use Rattle.file.specs.Cluster.{fileNumberOf, operationOf}
+use Rattle.file.specs.Cluster.{operationOf}
 use Rattle.file.proofs.Order.{byCase}
-use Rattle.frame.specs.Grounds.{shortBuffer, noAddress, wrongLength, wrongCheck, noOperation, broadcastRead, noFileNumber}
-use Rattle.frame.specs.Reading.{Reading, parts, partsOf, readGround, readAddress}
-use Rattle.frame.specs.Writing.{Writing, written, writeFrame, writeGround, writeAddress}
+use Rattle.frame.specs.Grounds.{shortBuffer, noOperation, broadcastRead, noFileNumber}
+use Rattle.frame.specs.Reading.{parts, partsOf, readGround, readAddress}
+use Rattle.frame.specs.Writing.{written, writeFrame, writeGround, writeAddress}
 use Rattle.frame.proofs.Reading.{Formed}
 
 -- no ground of a list holds: not the first, and none of the rest
 no-ground : (n : ℕ) (holds : Bool) (gs : List Ground) → firstOf (record { number = suc n; holds = holds } ∷ gs) ≡ 0
-  → (holds ≡ false) × (firstOf gs ≡ 0)
+    → (holds ≡ false) × (firstOf gs ≡ 0)
 unfolding firstOf
 no-ground n true gs p = absurd (omega arith)
 no-ground n false gs p = (refl, p)

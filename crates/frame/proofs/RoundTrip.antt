@@ -1,12 +1,11 @@
 -- Reader and writer of address frames undo one another, and the document's cases M1 to M5.
 -- Assumes nothing.
-use Prim.Native.Nat.{ℕ, zero, suc, _+_, _*_, _≤_, _<_}
-use mathlib.Core.Path.{_≡_, refl, sym, ap, _∙_}
-use mathlib.Core.List.{List, [], _∷_, _++_, append-nil}
+use Prim.Native.Nat.{ℕ, _+_, _≤_}
+use mathlib.Core.Path.{_≡_, refl, ap, _∙_}
+use mathlib.Core.List.{List, [], _∷_, _++_}
 use native.Mathlib.Omega.{arith}
-use lib.ListN.{length, getD, take, drop, drop-of-length-le}
-use lib.Seq.{take-at, set-getD}
-use Rattle.file.specs.Bytes as bytes-are
+use lib.ListN.{length, getD, take, drop}
+use lib.Seq.{take-at}
 use Rattle.file.specs.Bytes.{Bytes}
 use Rattle.file.specs.Cluster.{fileNumberOf, operationOf, readOperation, writeOperation, executeOperation}
 use Rattle.file.specs.Order.{firstOf, both, either}
@@ -15,49 +14,28 @@ use Rattle.frame.specs.Frames.{frameSize, frameOf, pb2Of, addressBytes, 
 use Rattle.frame.specs.Grounds.{shortBuffer, noAddress, wrongLength, wrongCheck, noOperation, broadcastRead, noFileNumber}
 use Rattle.frame.specs.Reading.{Reading, partsOf, readGround, readAddress}
 use Rattle.frame.specs.Writing.{Writing, writeFrame, writeGround, dataGround, writeAddress, writeData}
-use Rattle.frame.proofs.Tests.{long, address-first, six-long, check-byte, file-fits}
-use Rattle.frame.proofs.Writing.{stored}
-use Rattle.frame.proofs.Accepted.{Read, read-accepted, read-same, Write, write-accepted}
-use Rattle.frame.proofs.Written.{address-places, address-writes, address-reads}
+use Rattle.frame.proofs.Tests.{long, file-fits}
+use Rattle.frame.proofs.Accepted.{read-accepted, read-same, Write, write-accepted}
+use Rattle.frame.proofs.Written.{address-places, address-writes, address-reads, whole, byte-at}
 
 -- What the writer writes, the reader reads as the same parts.
 pub written-reads : (buffer : List ℕ) (epoch name file operation «record» : ℕ)
-  → writeAddress buffer epoch name file operation «record» .0 ≡ Writing.written
-  → readAddress (take frameSize (writeAddress buffer epoch name file operation «record» .1))
+    → writeAddress buffer epoch name file operation «record» .0 ≡ Writing.written
+    → readAddress (take frameSize (writeAddress buffer epoch name file operation «record» .1))
     ≡ Reading.parts epoch name file operation «record»
 written-reads buffer epoch name file operation «record» accepted =
     let w = write-accepted buffer epoch name file operation «record» accepted in
-    rw (address-writes buffer epoch name file operation «record» w,
-    take-at (addressFrame epoch name file operation «record») (drop frameSize buffer) frameSize
-    (address-places epoch name file operation «record» .size))
+    rw (
+      address-writes buffer epoch name file operation «record» w,
+      take-at (addressFrame epoch name file operation «record») (drop frameSize buffer) frameSize
+          (address-places epoch name file operation «record» .size),
+    )
     (address-reads epoch name file operation «record» (w .operation-known) (w .name-fits))
-
--- a list of six bytes by its places: storing there what stands there changes nothing
-spread : (frame : List ℕ) → length frame ≡ frameSize
-  → frameOf (getD frame 0 0) (getD frame 1 0 ∷ getD frame 2 0 ∷ getD frame 3 0 ∷ getD frame 4 0 ∷ []) (getD frame 5 0) ≡ frame
-spread frame h =
-    let all : drop frameSize frame ≡ [] = drop-of-length-le frame {i = frameSize} (omega arith) in
-    let at : ℕ → ℕ = λ k. getD frame k 0 in
-    sym (simp (set-getD, all, append-nil) at (stored frame (at 0) (at 1) (at 2) (at 3) (at 4) (at 5) (omega arith)))
-
--- an accepted frame is the frame of its parts
-whole : (frame : List ℕ) → Read frame
-  → addressFrame (getD frame 1 0) (getD frame 2 0) (fileNumberOf (getD frame 3 0)) (operationOf (getD frame 3 0)) (getD frame 4 0) ≡ frame
-unfolding addressFrame addressBytes pb2Of
-whole frame a =
-    let pb2 : 4 * fileNumberOf (getD frame 3 0) + operationOf (getD frame 3 0) ≡ getD frame 3 0 = omega arith in
-    rw (pb2, ← check-byte frame (a .formed .check), ← address-first frame (a .formed .firework))
-    (spread frame (six-long frame (a .formed .size)))
-
-byte-at : {bytes : List ℕ} → Bytes bytes → (k : ℕ) → getD bytes k 0 < 256
-byte-at bytes-are.none k = omega arith
-byte-at (bytes-are.both b bs) zero = b
-byte-at (bytes-are.both b bs) (suc k) = byte-at bs k
 
 -- What the reader accepts, the writer writes again byte for byte, and past it keeps the buffer.
 pub read-writes : (frame buffer : List ℕ) {epoch name file operation «record» : ℕ} → Bytes frame
-  → readAddress frame ≡ Reading.parts epoch name file operation «record» → frameSize ≤ length buffer
-  → writeAddress buffer epoch name file operation «record» ≡ (Writing.written, frame ++ drop frameSize buffer)
+    → readAddress frame ≡ Reading.parts epoch name file operation «record» → frameSize ≤ length buffer
+    → writeAddress buffer epoch name file operation «record» ≡ (Writing.written, frame ++ drop frameSize buffer)
 unfolding partsOf
 read-writes frame buffer {epoch} {name} {file} {operation} {«record»} bytes accepted room =
     let a = read-accepted frame accepted in
@@ -68,12 +46,12 @@ read-writes frame buffer {epoch} {name} {file} {operation} {«record»} bytes ac
     let o : operationOf (getD frame 3 0) ≡ operation = cc in
     let r : getD frame 4 0 ≡ «record» = cc in
     let w : Write buffer (getD frame 2 0) (fileNumberOf (getD frame 3 0)) (operationOf (getD frame 3 0)) =
-        record {
-            fits = long buffer room;
-            operation-known = a .operation;
-            name-fits = a .name;
-            file-known = file-fits _ (omega (arith, byte-at bytes 3))
-        }
+    record {
+      fits = long buffer room;
+      operation-known = a .operation;
+      name-fits = a .name;
+      file-known = file-fits _ (omega (arith, byte-at bytes 3));
+    }
     in
     rw (← e, ← n, ← f, ← o, ← r) (address-writes buffer _ _ _ _ _ w ∙ ap (λ (l : List ℕ). (Writing.written, l ++ drop frameSize buffer)) (whole frame a))
 
@@ -101,9 +79,9 @@ pub record FrameCases : Type 0 where
 pub frame-cases : FrameCases
 unfolding readAddress readGround partsOf writeAddress writeData writeGround dataGround writeFrame addressFrame dataFrame addressBytes pb2Of frameOf addressCheck dataCheck exclusiveOr firstOf shortBuffer noAddress wrongLength wrongCheck noOperation broadcastRead noFileNumber either both
 frame-cases = record {
-    m1 = record { reads = refl; writes = refl };
-    m2 = record { reads = refl; writes = refl };
-    m3 = refl;
-    m4 = record { reads = refl; writes = refl };
-    m5 = refl
+  m1 = record { reads = refl; writes = refl };
+  m2 = record { reads = refl; writes = refl };
+  m3 = refl;
+  m4 = record { reads = refl; writes = refl };
+  m5 = refl;
 }
