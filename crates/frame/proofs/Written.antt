@@ -16,7 +16,7 @@ use Rattle.frame.specs.Frames.{frameSize, frameOf, pb2Of, addressBytes, 
 use Rattle.frame.specs.Grounds.{noOperation, broadcastRead}
 use Rattle.frame.specs.Reading.{parts, readAddress}
 use Rattle.frame.specs.Writing.{written, writeAddress, writeData}
-use Rattle.frame.proofs.Tests.{operation-fits, file-fits, long, operation-low, address-first, six-long, check-byte}
+use Rattle.frame.proofs.Tests.{operation-fits, file-fits, long, operation-low, address-first, length-is, check-is}
 use Rattle.frame.proofs.Reading.{formed, accept}
 use Rattle.frame.proofs.Writing.{stored, address-written, data-written}
 use Rattle.frame.proofs.Accepted.{Read, Write}
@@ -124,21 +124,21 @@ address-reads epoch name file operation «record» known named =
     rw (f, o)
 
 -- a list of six bytes by its places: storing there what stands there changes nothing
-spread : (frame : List ℕ) → length frame ≡ frameSize
+by-places : (frame : List ℕ) → length frame ≡ frameSize
     → frameOf (getD frame 0 0) (getD frame 1 0 ∷ getD frame 2 0 ∷ getD frame 3 0 ∷ getD frame 4 0 ∷ []) (getD frame 5 0) ≡ frame
-spread frame h =
+by-places frame h =
     let at : ℕ → ℕ = λ k. getD frame k 0 in
     sym (nothing-past _ frame h) ∙
     sym (simp set-getD at (stored frame (at 0) (at 1) (at 2) (at 3) (at 4) (at 5) (omega arith)))
 
 -- an accepted frame is the frame of its parts
-pub whole : (frame : List ℕ) → Read frame
+pub frame-of-parts : (frame : List ℕ) → Read frame
     → addressFrame (getD frame 1 0) (getD frame 2 0) (fileNumberOf (getD frame 3 0)) (operationOf (getD frame 3 0)) (getD frame 4 0) ≡ frame
 unfolding addressFrame addressBytes pb2Of
-whole frame a =
+frame-of-parts frame a =
     let pb2 : 4 * fileNumberOf (getD frame 3 0) + operationOf (getD frame 3 0) ≡ getD frame 3 0 = omega arith in
-    rw (pb2, ← check-byte frame (a .formed .check), ← address-first frame (a .formed .firework))
-    (spread frame (six-long frame (a .formed .size)))
+    rw (pb2, ← check-is frame addressCheck (a .formed .check), ← address-first frame (a .formed .firework))
+    (by-places frame (length-is frame frameSize (a .formed .size)))
 
 pub byte-at : {bytes : List ℕ} → Bytes bytes → (k : ℕ) → getD bytes k 0 < 256
 byte-at none k = omega arith
