@@ -1,4 +1,4 @@
--- The reader's answer, ground by ground: one law for each way that the reader can end, and back from what it accepted.
+-- The reader's answer, ground by ground: one law for each way that the reader can end.
 -- Assumes nothing.
 use Prim.Native.Nat.{ℕ}
 use mathlib.Core.Path.{_≡_, refl, _∙_}
@@ -28,7 +28,8 @@ module _ (frame : List ℕ) where
   unfolding readGround firstOf
   refuse-11 p q = refuse refl (rw (p, q))
 
-  pub refuse-12 : noAddress frame ≡ false → wrongLength frameSize frame ≡ false → wrongCheck addressCheck frame ≡ true → refused 12 ≡ readAddress frame
+  pub refuse-12 : noAddress frame ≡ false → wrongLength frameSize frame ≡ false → wrongCheck addressCheck frame ≡ true
+      → refused 12 ≡ readAddress frame
   unfolding readGround firstOf
   refuse-12 p q r = refuse refl (rw (p, q, r))
 
@@ -39,8 +40,7 @@ module _ (frame : List ℕ) where
     pub check : wrongCheck addressCheck frame ≡ false
 
   pub formed : {check : ℕ} → (length frame ≡ 0 → ⊥) → getD frame 0 0 ≡ addressFirework → length frame ≡ frameSize
-      → check ≡ addressCheck (between frame) → getD frame 5 0 ≡ check
-      → Formed
+      → check ≡ addressCheck (between frame) → getD frame 5 0 ≡ check → Formed
   formed some first long e same =
       record { firework = address frame some first; size = right-length frame long; check = right-check frame addressCheck e same }
 
@@ -49,7 +49,8 @@ module _ (frame : List ℕ) where
   unfolding readGround firstOf
   refuse-13 f e s = refuse refl (rw (f .firework, f .size, f .check, ← e, s))
 
-  module _ {n : ℕ} {t u : Bool} (formed : Formed) (named : n ≡ getD frame 2 0) (known : t ≡ noOperation (operationOf (getD frame 3 0)))
+  module _ {n : ℕ} {t u : Bool} (formed : Formed) (named : n ≡ getD frame 2 0)
+      (known : t ≡ noOperation (operationOf (getD frame 3 0)))
       (known-so : t ≡ false) (reads : u ≡ broadcastRead (operationOf (getD frame 3 0)) n) where
     grounds : readGround frame ≡ cond u 14 0
     unfolding readGround firstOf

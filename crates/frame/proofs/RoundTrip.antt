@@ -53,7 +53,9 @@ read-writes frame buffer {epoch} {name} {file} {operation} {«record»} bytes ac
       file-known = file-fits _ (omega (arith, byte-at bytes 3));
     }
     in
-    rw (← e, ← n, ← f, ← o, ← r) (address-writes buffer _ _ _ _ _ w ∙ ap (λ (l : List ℕ). (Writing.written, l ++ drop frameSize buffer)) (frame-of-parts frame a))
+    rw (← e, ← n, ← f, ← o, ← r)
+    (address-writes buffer _ _ _ _ _ w ∙
+    ap (λ (l : List ℕ). (Writing.written, l ++ drop frameSize buffer)) (frame-of-parts frame a))
 
 -- The cases M1 to M5 of document 01, "Fireworks and frames".
 abbrev sixZeros : List ℕ
@@ -77,7 +79,8 @@ pub record FrameCases : Type 0 where
   pub m5 : readAddress (0x55 ∷ 0x05 ∷ 0xFF ∷ 0x22 ∷ 0x02 ∷ 0xDB ∷ []) ≡ Reading.refused 12
 
 pub frame-cases : FrameCases
-unfolding readAddress readGround partsOf writeAddress writeData writeGround dataGround writeFrame addressFrame dataFrame addressBytes pb2Of frameOf addressCheck dataCheck exclusiveOr firstOf shortBuffer noAddress wrongLength wrongCheck noOperation broadcastRead noFileNumber either both
+unfolding readAddress readGround partsOf writeAddress writeData writeGround dataGround writeFrame addressFrame dataFrame
+    addressBytes pb2Of frameOf addressCheck dataCheck exclusiveOr firstOf shortBuffer noAddress wrongLength wrongCheck noOperation broadcastRead noFileNumber either both
 frame-cases = record {
   m1 = record { reads = refl; writes = refl };
   m2 = record { reads = refl; writes = refl };

@@ -29,7 +29,10 @@ NumberedBack r = roundNumbered (entryOf r) ≡ r
 numbered-back-in : {es : List (ℕ × Round)} → All (λ (e : ℕ × Round). NumberedBack (e .1)) es → (b : ℕ) → NumberedBack (roundIn es b)
 unfolding roundIn roundNumbered entryOf
 numbered-back-in none b = refl
-numbered-back-in (both {a = e} {l = es} t ts) b = byCase {P = NumberedBack (roundIn (e ∷ es) b)} (eqb b (e .0)) (λ p. rw p t) (λ p. rw p (numbered-back-in ts b))
+numbered-back-in (both {a = e} {l = es} t ts) b =
+    byCase {P = NumberedBack (roundIn (e ∷ es) b)} (eqb b (e .0))
+    (λ p. rw p t)
+    (λ p. rw p (numbered-back-in ts b))
 
 numbered-back : (b : ℕ) → NumberedBack (roundOf b)
 unfolding roundOf roundNumbered entryOf
