@@ -20,7 +20,8 @@ use Rattle.file.specs.Encode.{slavesPlace}
 use Rattle.file.specs.Places.{filePlaceAt, filePlace}
 use Rattle.file.specs.Accepted.{Placed}
 use Rattle.file.specs.Answers.{Verdict, accepted, refused, verdictOf}
-use Rattle.file.specs.Checked.{GoodHeader, HeaderChecked, statedPlaces, walkOf, SlavesWalked, WholeWalk, BodyWalked, slavesGround, nameAt, NameStands, NamesRead, Surveyed}
+use Rattle.file.specs.Checked.{GoodHeader, HeaderChecked, statedPlaces, walkOf, SlavesWalked, WholeWalk, BodyWalked, slavesGround, nameAt, NameStands, NamesRead}
+use Rattle.file.specs.Surveyed.{Surveyed}
 use Rattle.file.proofs.Order.{byCase, clash, either-right, either-false, either-false-left, either-false-right}
 use Rattle.file.proofs.Facts.{true-unless, size-facts, header-facts}
 use Rattle.file.proofs.AcceptedFacts.{layout-whole}
