@@ -39,5 +39,5 @@ edition-one = record {
   zeroAt = refl;
   offsetAt = refl;
   slaves = refl;
-  size = refl
+  size = refl;
 }

@@ -92,7 +92,7 @@ module _ {f : List ℕ} {d k entry left low place conf doc : ℕ} (h : Walking f
       record {
         entries = omega (arith, h .entries);
         within = omega (arith, good .within, b .is);
-        walk = rw (add-one, a .is, b .is, ← (walk-step 2 f entry low place left more (sym is ∙ e))) (h .walk);
+        walk = rw (add-one number, a .is, b .is, ← (walk-step 2 f entry low place left more (sym is ∙ e))) (h .walk);
         config = rw (conf-is, a .is, b .is, ← (good .offset), ← (stated-step 2 f configuration 3 conf entry left more)) (h .config);
         document = rw (doc-is, a .is, b .is, ← (good .offset), ← (stated-step 2 f documentation 2 doc entry left more)) (h .document);
       }

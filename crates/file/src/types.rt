@@ -1,5 +1,8 @@
-// The types that keep a file number, a record number and a logical name apart, and the refusals.
+// "A file number, a record number and a logical name are never taken for one another" (document 01): a type for each. And the
+// refusals.
 ghost use mathlib.Core.Path.{_≡_};
+ghost use lib.Dec.{eqb};
+ghost use Rattle.file.specs.Cluster.{unnamed, broadcast};
 
 pub struct FileNumber(pub u8);
 
@@ -7,6 +10,7 @@ pub struct RecordNumber(pub u8);
 
 pub struct LogicalName(pub u8);
 
+// "Logical name 0xFF is "unnamed", 0x00 is broadcast."
 impl LogicalName {
     pub const UNNAMED: LogicalName = LogicalName(0xFF);
 
@@ -16,6 +20,18 @@ impl LogicalName {
         ensures { λ r. ⌜ r .0 ≡ name ⌝ }
     {
         LogicalName(name)
+    }
+
+    pub fn is_unnamed(self) -> bool
+        ensures { λ r. ⌜ r ≡ eqb (self .0) unnamed ⌝ }
+    {
+        self.0 == LogicalName::UNNAMED.0
+    }
+
+    pub fn is_broadcast(self) -> bool
+        ensures { λ r. ⌜ r ≡ eqb (self .0) broadcast ⌝ }
+    {
+        self.0 == LogicalName::BROADCAST.0
     }
 }
 
