@@ -105,13 +105,40 @@ pub const M10: [u8; 100] = [
     0,
 ];
 
-// The file with one byte changed.
-pub fn put(file: [u8; 100], at: usize, value: u8) -> [u8; 100]
-    requires { ⌜ at < 100 ⌝ }
+pub fn wide(x: u8) -> usize
+    ensures { λ r. ⌜ r < 256 ⌝ }
 {
-    let mut changed = file;
-    changed[at] = value;
-    changed
+    x as usize
+}
+
+// Puts bytes: a place and its byte, and so on.
+pub fn edit(file: &mut [u8; 100], edits: &[u8]) {
+    let mut i = 0;
+    while i < edits.len() / 2 {
+        let at = wide(edits[2 * i]);
+        if at < 100 {
+            file[at] = edits[2 * i + 1];
+        }
+        i += 1;
+    }
+}
+
+// Puts a physical name's eight bytes.
+pub fn name_at(file: &mut [u8; 100], at: usize, name: u64)
+    requires { ⌜ at < 90 ⌝ }
+{
+    file[at] = byte(name / 0x100000000000000);
+    file[at + 1] = byte(name / 0x1000000000000);
+    file[at + 2] = byte(name / 0x10000000000);
+    file[at + 3] = byte(name / 0x100000000);
+    file[at + 4] = byte(name / 0x1000000);
+    file[at + 5] = byte(name / 0x10000);
+    file[at + 6] = byte(name / 0x100);
+    file[at + 7] = byte(name);
+}
+
+fn byte(n: u64) -> u8 {
+    (n % 256) as u8
 }
 
 fn high(n: usize) -> u8 {

@@ -1,5 +1,4 @@
 // Document 01's cluster file against the checker and the readers: the edges of each ground, their order, and vectors.
-ghost use Prim.Native.Nat.{_<_};
 
 mod build;
 mod describe;
@@ -7,10 +6,12 @@ mod show;
 mod vectors;
 
 use build::M10;
+use build::edit;
 use build::longest;
 use build::many;
-use build::put;
+use build::name_at;
 use build::three;
+use build::wide;
 use describe::describe;
 use show::case;
 use show::title;
@@ -22,23 +23,27 @@ fn first(label: &[u8], length: usize, bytes: &[u8]) {
     }
 }
 
-fn short(label: &[u8], length: usize, file: [u8; 100]) {
+fn hundred(label: &[u8], length: usize, file: [u8; 100]) {
     first(label, length, &file);
 }
 
-fn m10(label: &[u8], file: [u8; 100]) {
-    short(label, 96, file);
+// M10's first bytes, with bytes changed: a place and its byte, and so on.
+fn short(label: &[u8], length: usize, edits: &[u8]) {
+    let mut file = M10;
+    edit(&mut file, edits);
+    hundred(label, length, file);
 }
 
-// The first bytes, with that length in the length field.
-fn stated(label: &[u8], length: u8, file: [u8; 100]) {
-    short(label, length as usize, put(file, 7, length));
+fn m10(label: &[u8], edits: &[u8]) {
+    short(label, 96, edits);
 }
 
-fn wide(x: u8) -> usize
-    ensures { λ r. ⌜ r < 256 ⌝ }
-{
-    x as usize
+// The same with their number in the length field.
+fn stated(label: &[u8], length: u8, edits: &[u8]) {
+    let mut file = M10;
+    file[7] = length;
+    edit(&mut file, edits);
+    hundred(label, length as usize, file);
 }
 
 // The bytes up to the length that the length field states.
@@ -49,11 +54,10 @@ fn built(label: &[u8], bytes: [u8; 3104]) {
 
 fn sizes() {
     title(b"ground 1, sizes");
-    m10(b"M10", M10);
-    let empty = put(put(M10, 3, 0), 7, 16);
-    short(b"no bytes", 0, M10);
-    short(b"15 bytes", 15, empty);
-    short(b"16 bytes, no slaves", 16, empty);
+    m10(b"M10", b"");
+    short(b"no bytes", 0, b"");
+    stated(b"15 bytes", 15, &[3, 0]);
+    stated(b"16 bytes, no slaves", 16, &[3, 0]);
     let long = longest();
     first(b"32768 bytes", 32768, &long);
     first(b"32769 bytes", 32769, &long);
@@ -61,34 +65,34 @@ fn sizes() {
 
 fn marks() {
     title(b"grounds 2 to 4, mark, edition, length field");
-    m10(b"mark 55 41", put(M10, 0, 0x55));
-    m10(b"mark 54 40", put(M10, 1, 0x40));
-    m10(b"mark 41 54", put(put(M10, 0, 0x41), 1, 0x54));
-    m10(b"edition 0", put(M10, 2, 0));
-    m10(b"edition 2", put(M10, 2, 2));
-    m10(b"edition 255", put(M10, 2, 255));
-    m10(b"length field 95", put(M10, 7, 95));
-    m10(b"length field 97", put(M10, 7, 97));
-    m10(b"length field 352", put(M10, 6, 1));
-    short(b"95 bytes, length field 96", 95, M10);
-    short(b"97 bytes, length field 96", 97, M10);
+    m10(b"mark 55 41", &[0, 0x55]);
+    m10(b"mark 54 40", &[1, 0x40]);
+    m10(b"mark 41 54", &[0, 0x41, 1, 0x54]);
+    m10(b"edition 0", &[2, 0]);
+    m10(b"edition 2", &[2, 2]);
+    m10(b"edition 255", &[2, 255]);
+    m10(b"length field 95", &[7, 95]);
+    m10(b"length field 97", &[7, 97]);
+    m10(b"length field 352", &[6, 1]);
+    short(b"95 bytes, length field 96", 95, b"");
+    short(b"97 bytes, length field 96", 97, b"");
 }
 
 fn pending(label: &[u8], flag: u8, name: u8, pb2: u8) {
-    m10(label, put(put(put(M10, 9, flag), 10, name), 11, pb2));
+    m10(label, &[9, flag, 10, name, 11, pb2]);
 }
 
 fn headers() {
     title(b"ground 5, header");
     built(b"32 slaves", many(32));
     built(b"33 slaves", many(33));
-    m10(b"table offset 17", put(M10, 5, 17));
-    m10(b"table offset 272", put(M10, 4, 1));
-    m10(b"byte 13 not zero", put(M10, 13, 1));
-    m10(b"byte 14 not zero", put(M10, 14, 128));
-    m10(b"byte 15 not zero", put(M10, 15, 255));
-    m10(b"byte 12, PB3, not zero", put(M10, 12, 255));
-    m10(b"epoch 255", put(M10, 8, 255));
+    m10(b"table offset 17", &[5, 17]);
+    m10(b"table offset 272", &[4, 1]);
+    m10(b"byte 13 not zero", &[13, 1]);
+    m10(b"byte 14 not zero", &[14, 128]);
+    m10(b"byte 15 not zero", &[15, 255]);
+    m10(b"byte 12, PB3, not zero", &[12, 255]);
+    m10(b"epoch 255", &[8, 255]);
     pending(b"flag 2", 2, 1, 0x21);
     pending(b"flag 255", 255, 1, 0x21);
     pending(b"flag 1, operation 3", 1, 1, 0x23);
@@ -104,21 +108,24 @@ fn headers() {
 
 fn tables() {
     title(b"ground 6, table and directories");
-    m10(b"zero of the first table entry", put(M10, 19, 1));
-    m10(b"zero of the last table entry", put(M10, 23, 1));
-    m10(b"first directory a byte on", put(M10, 17, 0x19));
-    m10(b"last directory a byte back", put(M10, 21, 0x3B));
-    m10(b"last directory past the end", put(M10, 20, 0x80));
-    m10(b"count 1", put(M10, 3, 1));
-    m10(b"count 3", put(M10, 3, 3));
-    m10(b"three files in the first directory", put(M10, 18, 3));
-    let lone = put(put(put(M10, 3, 1), 17, 20), 18, 0);
-    stated(b"table past the end by 4", 16, lone);
-    stated(b"table past the end by 1", 19, lone);
-    stated(b"table up to the end, no files", 20, lone);
-    stated(b"directory past the end by 4", 20, put(lone, 18, 1));
-    stated(b"directory past the end by 1", 23, put(lone, 18, 1));
-    stated(b"directory of 255 past the end", 20, put(lone, 18, 255));
+    m10(b"zero of the first table entry", &[19, 1]);
+    m10(b"zero of the last table entry", &[23, 1]);
+    m10(b"first directory a byte on", &[17, 0x19]);
+    m10(b"last directory a byte back", &[21, 0x3B]);
+    m10(b"last directory past the end", &[20, 0x80]);
+    m10(b"count 1", &[3, 1]);
+    m10(b"count 3", &[3, 3]);
+    m10(b"three files in the first directory", &[18, 3]);
+    stated(b"table past the end by 4", 16, &[3, 1, 17, 20, 18, 0]);
+    stated(b"table past the end by 1", 19, &[3, 1, 17, 20, 18, 0]);
+    stated(b"table up to the end, no files", 20, &[3, 1, 17, 20, 18, 0]);
+    stated(b"directory past the end by 4", 20, &[3, 1, 17, 20, 18, 1]);
+    stated(b"directory past the end by 1", 23, &[3, 1, 17, 20, 18, 1]);
+    stated(
+        b"directory of 255 past the end",
+        20,
+        &[3, 1, 17, 20, 18, 255],
+    );
 }
 
 fn files() {
@@ -140,30 +147,26 @@ fn files() {
         b"r of 255 three times",
         three(0x08, 255, 0x3D, 255, 0x3F, 255),
     );
-    m10(b"first file a byte on", put(M10, 27, 0x21));
-    m10(b"last file a byte back", put(M10, 67, 0x53));
-    m10(b"last file past the end", put(M10, 66, 0x80));
-    m10(b"last file a record longer", put(M10, 65, 3));
-    stated(b"a gap of 4 before the last file", 100, put(M10, 67, 0x58));
+    m10(b"first file a byte on", &[27, 0x21]);
+    m10(b"last file a byte back", &[67, 0x53]);
+    m10(b"last file past the end", &[66, 0x80]);
+    m10(b"last file a record longer", &[65, 3]);
+    stated(b"a gap of 4 before the last file", 100, &[67, 0x58]);
     stated(
         b"the gap filled by the file before",
         100,
-        put(put(M10, 61, 4), 67, 0x58),
+        &[61, 4, 67, 0x58],
     );
-    stated(
-        b"an overlap of 4 with the last file",
-        92,
-        put(M10, 67, 0x50),
-    );
+    stated(b"an overlap of 4 with the last file", 92, &[67, 0x50]);
     stated(
         b"the overlap ended by the file before",
         92,
-        put(put(M10, 61, 2), 67, 0x50),
+        &[61, 2, 67, 0x50],
     );
-    stated(b"a byte too many", 97, M10);
-    stated(b"a byte too few", 95, M10);
-    stated(b"four bytes too many", 100, M10);
-    stated(b"four bytes too few", 92, M10);
+    stated(b"a byte too many", 97, b"");
+    stated(b"a byte too few", 95, b"");
+    stated(b"four bytes too many", 100, b"");
+    stated(b"four bytes too few", 92, b"");
 }
 
 fn needed() {
@@ -174,37 +177,48 @@ fn needed() {
     built(b"3D with r 2", three(0x08, 3, 0x3D, 2, 0x3F, 1));
     built(b"no 08", three(0x09, 3, 0x3D, 2, 0x3F, 1));
     built(b"no 3D", three(0x08, 3, 0x3C, 2, 0x3E, 2));
-    m10(b"no 08 in the last slave", put(M10, 60, 0x07));
-    m10(b"no 3D in the first slave", put(M10, 28, 0x3E));
+    m10(b"no 08 in the last slave", &[60, 0x07]);
+    m10(b"no 3D in the first slave", &[28, 0x3E]);
     built(b"no slaves", many(0));
 }
 
-// Physical names by their most significant and their least significant byte, those between 0.
-fn names(label: &[u8], high0: u8, low0: u8, high1: u8, low1: u8) {
-    let first = put(put(put(M10, 55, 0), 52, high0), 59, low0);
-    m10(label, put(put(put(first, 91, 0), 88, high1), 95, low1));
+fn names(label: &[u8], name0: u64, name1: u64) {
+    let mut file = M10;
+    name_at(&mut file, 52, name0);
+    name_at(&mut file, 88, name1);
+    hundred(label, 96, file);
 }
 
 fn physical_names() {
     title(b"ground 8, physical names");
-    names(b"0 and 0", 0, 0, 0, 0);
-    names(b"0 and 1", 0, 0, 0, 1);
-    names(b"0 and 2^56", 0, 0, 1, 0);
-    let first = put(put(put(put(M10, 52, 255), 53, 255), 54, 255), 55, 255);
-    let most = put(put(put(put(first, 56, 255), 57, 255), 58, 255), 59, 255);
-    let second = put(put(put(put(most, 88, 255), 89, 255), 90, 255), 91, 255);
-    let both = put(put(put(put(second, 92, 255), 93, 255), 94, 255), 95, 255);
-    m10(b"2^64 - 1 and 2^64 - 1", both);
-    m10(b"2^64 - 1 and 2^64 - 2", put(both, 95, 254));
-    m10(b"2^64 - 1 and 2^63 - 1", put(both, 88, 127));
-    m10(b"2^64 - 1 and 2^64 - 1 - 2^32", put(both, 91, 254));
-    m10(
-        b"2^64 - 1 and 0",
-        put(put(put(put(most, 91, 0), 95, 0), 84, 9), 72, 1),
+    names(b"0 and 0", 0, 0);
+    names(b"0 and 1", 0, 1);
+    names(b"0 and 2^56", 0, 0x100000000000000);
+    names(
+        b"2^64 - 1 and 2^64 - 1",
+        0xFFFFFFFFFFFFFFFF,
+        0xFFFFFFFFFFFFFFFF,
     );
-    m10(b"equal serial numbers", put(put(M10, 91, 8), 95, 0x10));
-    m10(b"equal names", put(M10, 95, 0x10));
-    m10(b"equal logical names", put(put(M10, 39, 1), 75, 1));
+    names(
+        b"2^64 - 1 and 2^64 - 2",
+        0xFFFFFFFFFFFFFFFF,
+        0xFFFFFFFFFFFFFFFE,
+    );
+    names(
+        b"2^64 - 1 and 2^63 - 1",
+        0xFFFFFFFFFFFFFFFF,
+        0x7FFFFFFFFFFFFFFF,
+    );
+    names(
+        b"2^64 - 1 and 2^64 - 1 - 2^32",
+        0xFFFFFFFFFFFFFFFF,
+        0xFFFFFFFEFFFFFFFF,
+    );
+    names(b"2^64 - 1 and 0", 0xFFFFFFFFFFFFFFFF, 0);
+    names(b"equal serial numbers", 0x0700000010, 0x0800000010);
+    names(b"equal series numbers", 0x0700000010, 0x07000000A0);
+    names(b"equal names", 0x0700000010, 0x0700000010);
+    m10(b"equal logical names", &[39, 1, 75, 1]);
     let mut bytes = many(32);
     bytes[1295] = 0;
     built(b"equal in the first and the last of 32", bytes);
@@ -216,26 +230,17 @@ fn physical_names() {
 
 fn order() {
     title(b"two grounds at once");
-    short(b"1 and 2", 15, put(M10, 0, 0));
-    m10(b"2 and 3", put(put(M10, 1, 0), 2, 2));
-    m10(b"3 and 4", put(put(M10, 2, 2), 7, 95));
-    m10(b"4 and 5", put(put(M10, 7, 95), 3, 33));
-    m10(b"5 and 6", put(put(M10, 9, 2), 17, 0));
-    m10(
-        b"6 and 7, both in the first slave",
-        put(put(M10, 24, 0x07), 27, 0),
-    );
-    m10(
-        b"7 in the first slave, 6 in the last",
-        put(put(M10, 24, 0x07), 67, 0),
-    );
-    m10(b"7 in the first slave", put(M10, 24, 0x07));
-    m10(b"7 and 8", put(put(M10, 24, 0x07), 95, 0x10));
-    m10(
-        b"7 in the last slave, and 8",
-        put(put(M10, 60, 0x07), 95, 0x10),
-    );
-    m10(b"6 and 8", put(put(M10, 67, 0), 95, 0x10));
+    short(b"1 and 2", 15, &[0, 0]);
+    m10(b"2 and 3", &[1, 0, 2, 2]);
+    m10(b"3 and 4", &[2, 2, 7, 95]);
+    m10(b"4 and 5", &[7, 95, 3, 33]);
+    m10(b"5 and 6", &[9, 2, 17, 0]);
+    m10(b"6 and 7, both in the first slave", &[24, 0x07, 27, 0]);
+    m10(b"7 in the first slave, 6 in the last", &[24, 0x07, 67, 0]);
+    m10(b"7 in the first slave", &[24, 0x07]);
+    m10(b"7 and 8", &[24, 0x07, 95, 0x10]);
+    m10(b"7 in the last slave, and 8", &[60, 0x07, 95, 0x10]);
+    m10(b"6 and 8", &[67, 0, 95, 0x10]);
 }
 
 fn described(label: &[u8], length: usize, bytes: &[u8]) {
@@ -244,16 +249,44 @@ fn described(label: &[u8], length: usize, bytes: &[u8]) {
     }
 }
 
+fn described_hundred(label: &[u8], length: usize, file: [u8; 100]) {
+    described(label, length, &file);
+}
+
+fn described_m10(label: &[u8], length: usize, edits: &[u8]) {
+    let mut file = M10;
+    edit(&mut file, edits);
+    described_hundred(label, length, file);
+}
+
 fn readers() {
     title(b"readers");
-    let m = M10;
-    described(b"M10", 96, &m);
-    let named = put(put(put(M10, 74, 9), 75, 0x05), 39, 0);
-    let compared = put(put(put(named, 40, 0x12), 47, 0x34), 79, 0x56);
-    let long = put(put(put(compared, 61, 4), 67, 0x58), 7, 100);
-    described(b"other names and values, a longer 08", 100, &long);
-    let empty = put(put(M10, 3, 0), 7, 16);
-    described(b"no slaves", 16, &empty);
+    described_m10(b"M10", 96, b"");
+    described_m10(
+        b"other names and values, a longer 08",
+        100,
+        &[
+            74,
+            9,
+            75,
+            0x05,
+            39,
+            0,
+            40,
+            0x12,
+            47,
+            0x34,
+            79,
+            0x56,
+            61,
+            4,
+            67,
+            0x58,
+            7,
+            100,
+        ],
+    );
+    described_m10(b"no slaves", 16, &[3, 0, 7, 16]);
     let bytes = three(0x08, 3, 0x3D, 2, 0x3F, 255);
     described(b"three files", 1084, &bytes);
 }
