@@ -6,7 +6,8 @@ use lib.ListN.{drop}
 use lib.Dec.{eqb}
 use Rattle.file.specs.Order.{Ground, firstOf}
 use Rattle.frame.specs.Frames.{frameSize, addressFrame, dataFrame}
-use Rattle.frame.specs.Grounds.{shortBuffer, noOperation, broadcastRead, noFileNumber}
+use Rattle.file.specs.Cluster.{noOperation, broadcastRead}
+use Rattle.frame.specs.Grounds.{shortBuffer, noFileNumber}
 
 pub data Writing : Type 0 where
   refused : ℕ → Writing
