@@ -24,9 +24,9 @@ use Rattle.file.proofs.Facts.{EntryFacts}
 use Rattle.file.proofs.Bytes.{all-at}
 use Rattle.file.proofs.AcceptedFacts.{accepted}
 use Rattle.file.proofs.Stores.{file-fits, read-byte, read-part}
-use Rattle.file.proofs.Stated.{not-broken, walk-took, entry-number, entry-bytes, entry-length, files-count}
-use Rattle.file.proofs.StatedSlaves.{slave-took, slaves-took, slave-end}
-use Rattle.file.proofs.SurveyLaws.{slaves-count}
+use Rattle.file.proofs.Arrivals.{broken-arrives, walk-took, slave-took, slaves-took, length-filesAt, length-slavesAt}
+use Rattle.file.proofs.Stated.{entry-number, entry-bytes, entry-length}
+use Rattle.file.proofs.StatedSlaves.{slave-end}
 
 -- ---- slaves
 
@@ -230,11 +230,11 @@ table-walk f g =
     let walk = accepted 2 f .0 g .layout in
     byCase (leb (16 + 4 * getD f 3 0) (length f))
     (λ t. (leb-true _ _ t, rw t at walk))
-    (λ t. not-broken (rw t at walk))
+    (λ t. broken-arrives (rw t at walk))
 
 pub count-there : (f : List ℕ) → length (decode f .slaves) ≡ getD f 3 0
 unfolding decode decodeAt
-count-there f = slaves-count 2 f 16 (getD f 3 0)
+count-there f = length-slavesAt 2 f 16 (getD f 3 0)
 
 module _ {f : List ℕ} (h : Becomes f (decode f)) where
   pub header-within : 3 < length f
@@ -271,7 +271,7 @@ module _ {f : List ℕ} (h : Becomes f (decode f)) where
     place-there n =
         let took = slave-took 2 f (16 + 4 * s) (there .at) (there .end) (there .walk) in
         let at = there .place′ n in
-        rw (slaves-count 2 f 16 (getD f 3 0), at, took .facts .offset, ← directory-is, ← (count .is), files-count 2 f d k)
+        rw (length-slavesAt 2 f 16 (getD f 3 0), at, took .facts .offset, ← directory-is, ← (count .is), length-filesAt 2 f d k)
 
     pub file-found : {r : FoundFile} (n : ℕ) → r ≡ searchDirectory 2 f n d k → r ≡ findFile (decode f) s n
     unfolding findFile bytesIn foundAmong
