@@ -6,7 +6,7 @@ use native.Mathlib.Nat.{add-zero, mul-div-cancel-left}
 use native.Mathlib.Omega.{arith}
 use mathlib.Core.Path.{_≡_, refl, sym, ap, ap₂, _∙_, subst}
 use mathlib.Core.List.{List, [], _∷_, _++_}
-use mathlib.Core.Bool.{Bool, true, false, cond}
+use mathlib.Core.Bool.{true}
 use lib.ListN.{length, getD, replicate, length-append, length-replicate}
 use Rattle.file.specs.Bytes.{All, Bytes, bytesOf, part}
 use Rattle.file.specs.Order.{both}

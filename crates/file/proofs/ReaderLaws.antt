@@ -1,31 +1,30 @@
 -- What the bytes of an accepted file say of its cluster, as the readers find them.
 -- Assumes nothing.
-use Prim.Native.Nat.{ℕ, zero, suc, _+_, _*_, _-_, _/_, _≤_, _<_}
+use Prim.Native.Nat.{ℕ, zero, suc, _+_, _*_, _-_, _≤_, _<_}
 use mathlib.Core.Path.{_≡_, refl, sym, _∙_, ap, subst}
 use mathlib.Core.List.{List, [], _∷_}
-use mathlib.Core.Bool.{Bool, true, false, cond}
+use mathlib.Core.Bool.{cond}
 use native.Mathlib.Omega.{arith}
 use borrow.Author.Tests.{eq-eqb, ne-eqb, eqb-true, eqb-false, le-leb, lt-leb, leb-true}
 use lib.ListN.{length, getD}
 use lib.Dec.{eqb, leb}
-use Rattle.file.specs.Bytes.{All, numberOf, part, ByteAt, NumberAt}
-use Rattle.file.specs.Layout.{entrySize, offsetWidth}
-use Rattle.file.specs.Cluster.{File, Slave, Cluster, lastRecord, bytesAmong, bytesIn, hasRecord, configuration, documentation, logicalName, physicalName, comparisonValue}
+use Rattle.file.specs.Bytes.{numberOf, part, ByteAt, NumberAt}
+use Rattle.file.specs.Layout.{entrySize}
+use Rattle.file.specs.Cluster.{File, Cluster, lastRecord, bytesAmong, bytesIn, hasRecord, configuration, documentation, logicalName, physicalName, comparisonValue}
 use Rattle.file.specs.Encode.{encode, slavesPlace}
 use Rattle.file.specs.Decode.{offsetAt, fileSize, filesAt, slaveAt, slavesAt, decodeAt, decode}
 use Rattle.file.specs.Decode
 use Rattle.file.specs.Legal.{LegalSlave}
-use Rattle.file.specs.Grounds.{Walk, broken, to, walkDirectory, walkSlave, walkSlaves, walkFile, tableEnd, fileGround}
+use Rattle.file.specs.Grounds.{to, walkDirectory, walkSlave, walkSlaves, walkFile, tableEnd, fileGround}
 use Rattle.file.specs.Places.{noSlave, slaveOf, placeAmong, filePlaceFrom, filePlaceAt, filePlace}
 use Rattle.file.specs.Accepted.{Becomes, Placed, KeptAt, FoundFile, fileAt, FoundRecord, recordAt, findFile, findRecord}
 use Rattle.file.specs.Checked.{searchDirectory}
 use Rattle.file.proofs.Order.{byCase}
-use Rattle.file.proofs.Facts.{EntryFacts}
 use Rattle.file.proofs.Bytes.{all-at}
 use Rattle.file.proofs.AcceptedFacts.{accepted}
 use Rattle.file.proofs.Stores.{file-fits, read-byte, read-part}
 use Rattle.file.proofs.Arrivals.{broken-arrives, walk-took, slave-took, slaves-took, length-filesAt, length-slavesAt}
-use Rattle.file.proofs.Stated.{entry-number, entry-bytes, entry-length}
+use Rattle.file.proofs.Stated.{entry-number, entry-length}
 use Rattle.file.proofs.StatedSlaves.{slave-end}
 
 -- ---- slaves

@@ -1,25 +1,23 @@
 -- The places that a walked directory states for a file, said of the files it holds.
 -- Assumes nothing.
-use Prim.Native.Nat.{ℕ, zero, suc, _+_, _*_, _-_, _/_, _≤_, _<_}
-use mathlib.Core.Path.{_≡_, refl, sym, _∙_, ap}
-use mathlib.Core.List.{List, [], _∷_, _++_}
-use mathlib.Core.Bool.{Bool, true, false, cond, not}
+use Prim.Native.Nat.{ℕ, zero, suc, _+_, _-_, _≤_, _<_}
+use mathlib.Core.Path.{_≡_, refl, sym, _∙_}
+use mathlib.Core.List.{List, [], _∷_}
 use native.Mathlib.Omega.{arith}
-use borrow.Author.Tests.{eq-eqb, ne-eqb, eqb-true, eqb-false, le-leb, lt-leb, leb-true, leb-false}
+use borrow.Author.Tests.{eq-eqb, ne-eqb, eqb-true, eqb-false, leb-true, leb-false}
 use lib.ListN.{length, getD, length-append}
 use lib.Dec.{leb, eqb}
-use Rattle.file.specs.Order.{both}
 use Rattle.file.specs.Bytes.{part}
 use Rattle.file.specs.Layout.{entrySize}
 use Rattle.file.specs.Cluster.{File, lastRecord, bytesAmong}
 use Rattle.file.specs.Encode.{contents}
 use Rattle.file.specs.Decode.{offsetAt, fileSize, fileAt, filesAt}
-use Rattle.file.specs.Grounds.{Walk, broken, to, goodEntry, walkDirectory}
+use Rattle.file.specs.Grounds.{to, walkDirectory}
 use Rattle.file.specs.Places.{placeAmong}
 use Rattle.file.specs.Checked.{keptPlace, statedPlace}
-use Rattle.file.proofs.Order.{byCase, both-next, both-false-left}
-use Rattle.file.proofs.Facts.{EntryFacts, entry-facts}
-use Rattle.file.proofs.Arrivals.{Step, walk-took}
+use Rattle.file.proofs.Order.{byCase}
+use Rattle.file.proofs.Facts.{EntryFacts}
+use Rattle.file.proofs.Arrivals.{walk-took}
 use Rattle.file.proofs.NumberLaws.{part-length}
 use Rattle.file.proofs.WalkLaws.{kept-here, kept-short, kept-other}
 

@@ -1,9 +1,9 @@
 -- The places that a walked table and its directories state for 0x08 and 0x3D: what they say of the slaves that the file holds.
 -- Assumes nothing.
 use Prim.Native.Nat.{ℕ, zero, suc, _+_, _*_, _-_, _≤_, _<_}
-use mathlib.Core.Path.{_≡_, refl, sym, _∙_, ap, ap₂, subst}
-use mathlib.Core.List.{List, [], _∷_, _++_, map}
-use mathlib.Core.Bool.{Bool, true, false, cond, not}
+use mathlib.Core.Path.{_≡_, refl, sym, ap, ap₂, subst}
+use mathlib.Core.List.{List, _∷_, _++_, map}
+use mathlib.Core.Bool.{Bool, true, false, not}
 use native.Mathlib.Omega.{arith}
 use borrow.Author.Tests.{eq-eqb, ne-eqb, eqb-false, le-leb, lt-leb}
 use lib.ListN.{length, getD}
@@ -12,16 +12,15 @@ use lib.Dec.{leb, eqb}
 use Rattle.file.specs.Order.{both, either}
 use Rattle.file.specs.Bytes.{All, none, numberOf, part}
 use Rattle.file.specs.Bytes
-use Rattle.file.specs.Layout.{entrySize, recordSize}
+use Rattle.file.specs.Layout.{entrySize}
 use Rattle.file.specs.Cluster.{File, Slave, lastRecord, bytesAmong, bytesIn, physicalName, configuration, documentation}
-use Rattle.file.specs.Encode.{contents, slaveSize}
-use Rattle.file.specs.Decode.{offsetAt, fileSize, filesAt, slaveAt, slavesAt}
-use Rattle.file.specs.Grounds.{Walk, broken, to, andThen, goodTableEntry, walkDirectory, walkSlave, walkSlaves, hasNeeded, allHaveNeeded, isAmong}
+use Rattle.file.specs.Encode.{slaveSize}
+use Rattle.file.specs.Decode.{fileSize, slaveAt, slavesAt}
+use Rattle.file.specs.Grounds.{to, walkSlave, walkSlaves, hasNeeded, allHaveNeeded, isAmong}
 use Rattle.file.specs.Places.{placeAmong, filePlaceFrom}
 use Rattle.file.specs.Checked.{statedIn, statedPlaces, nameAt, NameStands}
-use Rattle.file.proofs.Order.{byCase, clash, either-false-left, either-false-right}
-use Rattle.file.proofs.Facts.{TableEntryFacts, table-entry-facts}
-use Rattle.file.proofs.Arrivals.{SlaveStep, slave-took, SlavesStep, slaves-took, length-filesAt}
+use Rattle.file.proofs.Order.{either-false-left, either-false-right}
+use Rattle.file.proofs.Arrivals.{slave-took, slaves-took, length-filesAt}
 use Rattle.file.proofs.NumberLaws.{part-add, part-length}
 use Rattle.file.proofs.Stated.{Stated, lacking, found, stated-file, last-size, walk-end}
 

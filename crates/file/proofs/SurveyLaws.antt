@@ -1,8 +1,8 @@
 -- The checker's last steps: the physical names, and one law for each way to its answer.
 -- Assumes nothing.
 use Prim.Native.Nat.{ℕ, zero, suc, _+_, _*_, _-_, _≤_, _<_}
-use mathlib.Core.Path.{_≡_, refl, sym, _∙_, ap, subst}
-use mathlib.Core.List.{List, [], _∷_, _++_, map, map-append}
+use mathlib.Core.Path.{_≡_, refl, sym, _∙_, ap}
+use mathlib.Core.List.{List, [], _∷_, map, map-append}
 use mathlib.Core.Bool.{Bool, true, false, not}
 use native.Mathlib.Omega.{arith}
 use native.Mathlib.Numerals.{add-one}
@@ -11,11 +11,11 @@ use lib.Dec.{leb}
 use lib.ListN.{length, getD, take, set, length-set}
 use lib.Seq.{take-suc, take-suc-set, take-length, getD-take}
 use Rattle.file.specs.Order.{firstOf, either}
-use Rattle.file.specs.Bytes.{All, Bytes, numberOf, part, ByteAt, NumberAt}
+use Rattle.file.specs.Bytes.{All, Bytes, ByteAt, NumberAt}
 use Rattle.file.specs.Layout.{entrySize}
 use Rattle.file.specs.Cluster.{configuration, documentation, physicalName}
 use Rattle.file.specs.Decode.{slavesAt, decodeAt, decode}
-use Rattle.file.specs.Grounds.{Walk, broken, to, walkSlaves, tableEnd, walkFile, brokenLayout, lacksNeeded, equalPhysicalNames, isAmong, hasRepeat, fileGround}
+use Rattle.file.specs.Grounds.{to, walkSlaves, tableEnd, walkFile, brokenLayout, lacksNeeded, equalPhysicalNames, isAmong, hasRepeat, fileGround}
 use Rattle.file.specs.Encode.{slavesPlace}
 use Rattle.file.specs.Places.{filePlaceAt, filePlace}
 use Rattle.file.specs.Accepted.{Placed}

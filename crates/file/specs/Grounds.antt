@@ -7,7 +7,7 @@ use lib.Dec.{eqb, leb, ltb}
 use Rattle.file.specs.Bytes.{part, allZero}
 use Rattle.file.specs.Order.{Ground, firstOf, both, either}
 use Rattle.file.specs.Layout.{offsetWidth, mark₀, mark₁, editionOf, editionPlace, countPlace, tablePlace, lengthPlace, flagPlace, pendingNamePlace, pendingPB2Place, zerosPlace, zerosLength, headerSize, entrySize, fillLength, maxSlaves, maxLength, maxFileNumber}
-use Rattle.file.specs.Cluster.{Slave, Cluster, bytesIn, lastRecord, configuration, documentation, physicalName, operationOf, noOperation, broadcastRead}
+use Rattle.file.specs.Cluster.{Slave, bytesIn, lastRecord, configuration, documentation, physicalName, operationOf, noOperation, broadcastRead}
 use Rattle.file.specs.Decode.{offsetAt, fileSize, decodeAt}
 
 -- ---- 1 to 5: the header

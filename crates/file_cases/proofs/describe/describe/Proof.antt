@@ -1,7 +1,7 @@
 -- `file_cases::describe::describe` is safe and ends: behind an accepted answer the survey's promise is all that the readers ask.
 -- Assumes nothing.
 use mathlib.Core.Path.{_≡_, ap}
-use Rattle.file.specs.Answers.{Verdict, accepted, checkedOf}
+use Rattle.file.specs.Answers.{accepted, checkedOf}
 use Rattle.file.specs.declared.survey.FileAnswer.{FileAnswer}
 use Rattle.file.specs.declared.survey.FileAnswer.the-variants.{Accepted}
 use borrow.Author.Needs.{needs}
