@@ -162,9 +162,6 @@ module _ {f confs docs : List ℕ} (h : WholeWalk f confs docs) where
       let long : length docs ≡ getD f 3 0 = ap length (h .document) ∙ stated-count 2 f documentation 2 16 (getD f 3 0) in
       (omega (arith, long, few), stand (sym is ∙ e) .1)
 
-  pub docs-count : length docs ≡ getD f 3 0
-  docs-count = ap length (h .document) ∙ stated-count 2 f documentation 2 16 (getD f 3 0)
-
   module _ {a b : Bool} (is₁ : a ≡ isAmong 0 confs) (no₁ : a ≡ false) (is₂ : b ≡ isAmong 0 docs) (no₂ : b ≡ false)
       {names : List ℕ} (read : NamesRead f docs names) {t : Bool} (is : t ≡ hasRepeat (take (length docs) names)) where
     repeats : equalPhysicalNames 2 f ≡ t

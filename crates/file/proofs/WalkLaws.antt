@@ -13,16 +13,12 @@ use Rattle.file.specs.Bytes.{ByteAt, NumberAt}
 use Rattle.file.specs.Layout.{entrySize}
 use Rattle.file.specs.Cluster.{configuration, documentation}
 use Rattle.file.specs.Decode.{offsetAt, fileSize}
-use Rattle.file.specs.Grounds.{broken, to, goodEntry, walkDirectory}
+use Rattle.file.specs.Grounds.{broken, goodEntry, walkDirectory}
 use Rattle.file.specs.Checked.{keptPlace, statedPlace, walkOf, DirectoryWalked}
 use Rattle.file.proofs.Order.{clash, both-next, both-false-left, both-false-right}
 use Rattle.file.proofs.Facts.{false-unless, entry-facts, zeros-none}
 
 -- ---- the definitions, an entry at a time
-
-pub walk-done : (w : ℕ) (f : List ℕ) (d low place : ℕ) → walkDirectory w f d low place 0 ≡ to place
-unfolding walkDirectory
-walk-done w f d low place = refl
 
 pub walk-stop : (w : ℕ) (f : List ℕ) (d low place k : ℕ) → 0 < k → goodEntry w f d low place ≡ false → walkDirectory w f d low place k ≡ broken
 unfolding walkDirectory

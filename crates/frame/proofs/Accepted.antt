@@ -9,9 +9,9 @@ use lib.ListN.{getD}
 use lib.Dec.{eqb}
 use borrow.Author.Tests.{eqb-true}
 use Rattle.file.specs.Order.{Ground, firstOf}
-use Rattle.file.specs.Cluster.{operationOf, noOperation, broadcastRead}
+use Rattle.file.specs.Cluster.{operationOf}
 use Rattle.file.proofs.Order.{byCase}
-use Rattle.frame.specs.Grounds.{shortBuffer, noFileNumber}
+use Rattle.frame.specs.Grounds.{shortBuffer, noOperation, broadcastRead, noFileNumber}
 use Rattle.frame.specs.Reading.{parts, partsOf, readGround, readAddress}
 use Rattle.frame.specs.Writing.{written, writeFrame, writeGround, writeAddress}
 use Rattle.frame.proofs.Reading.{Formed}

@@ -7,11 +7,11 @@ use mathlib.Core.Bool.{Bool, true, false, cond}
 use lib.ListN.{length, getD}
 use lib.Dec.{eqb}
 use Rattle.file.specs.Order.{firstOf}
-use Rattle.file.specs.Cluster.{fileNumberOf, operationOf, noOperation, broadcastRead}
+use Rattle.file.specs.Cluster.{fileNumberOf, operationOf}
 use Rattle.frame.specs.Fireworks.{addressFirework}
 use Rattle.frame.specs.Check.{addressCheck}
 use Rattle.frame.specs.Frames.{frameSize, between}
-use Rattle.frame.specs.Grounds.{noAddress, wrongLength, wrongCheck}
+use Rattle.frame.specs.Grounds.{noAddress, wrongLength, wrongCheck, noOperation, broadcastRead}
 use Rattle.frame.specs.Reading.{refused, parts, partsOf, readGround, readAddress}
 use Rattle.frame.proofs.Tests.{address, right-length, right-check}
 

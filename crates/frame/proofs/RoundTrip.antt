@@ -7,11 +7,11 @@ use native.Mathlib.Omega.{arith}
 use lib.ListN.{length, getD, take, drop}
 use lib.Seq.{take-at}
 use Rattle.file.specs.Bytes.{Bytes}
-use Rattle.file.specs.Cluster.{fileNumberOf, operationOf, readOperation, writeOperation, executeOperation, noOperation, broadcastRead}
+use Rattle.file.specs.Cluster.{fileNumberOf, operationOf, readOperation, writeOperation, executeOperation}
 use Rattle.file.specs.Order.{firstOf, both, either}
 use Rattle.frame.specs.Check.{exclusiveOr, addressCheck, dataCheck}
 use Rattle.frame.specs.Frames.{frameSize, frameOf, pb2Of, addressBytes, addressFrame, dataFrame}
-use Rattle.frame.specs.Grounds.{shortBuffer, noAddress, wrongLength, wrongCheck, noFileNumber}
+use Rattle.frame.specs.Grounds.{shortBuffer, noAddress, wrongLength, wrongCheck, noOperation, broadcastRead, noFileNumber}
 use Rattle.frame.specs.Reading.{Reading, partsOf, readGround, readAddress}
 use Rattle.frame.specs.Writing.{Writing, writeFrame, writeGround, dataGround, writeAddress, writeData}
 use Rattle.frame.proofs.Tests.{long, file-fits}

@@ -8,11 +8,11 @@ use native.Mathlib.Omega.{arith}
 use lib.ListN.{length, getD}
 use lib.Dec.{eqb}
 use borrow.Author.Tests.{lt-ltb, le-ltb, eq-eqb, ne-eqb, eqb-true, leb-false, lt-leb, not-false}
-use Rattle.file.specs.Cluster.{readOperation, broadcast, noOperation, broadcastRead}
+use Rattle.file.specs.Cluster.{readOperation, broadcast}
 use Rattle.file.proofs.Order.{either-left, either-right, either-false, either-false-right, both-false-left, both-false-right}
 use Rattle.frame.specs.Frames.{frameSize, between}
 use Rattle.frame.specs.Fireworks.{addressFirework}
-use Rattle.frame.specs.Grounds.{shortBuffer, noAddress, wrongLength, wrongCheck, noFileNumber}
+use Rattle.frame.specs.Grounds.{shortBuffer, noAddress, wrongLength, wrongCheck, noOperation, broadcastRead, noFileNumber}
 
 -- a test of equality that is negated
 pub differs : {a b : ℕ} → (a ≡ b → ⊥) → not (eqb a b) ≡ true

@@ -11,8 +11,7 @@ use Rattle.file.specs.Order.{firstOf}
 use Rattle.frame.specs.Fireworks.{addressFirework, dataFirework}
 use Rattle.frame.specs.Check.{addressCheck, dataCheck}
 use Rattle.frame.specs.Frames.{frameSize, frameOf, pb2Of, addressBytes, addressFrame, dataFrame}
-use Rattle.file.specs.Cluster.{noOperation, broadcastRead}
-use Rattle.frame.specs.Grounds.{shortBuffer, noFileNumber}
+use Rattle.frame.specs.Grounds.{shortBuffer, noOperation, broadcastRead, noFileNumber}
 use Rattle.frame.specs.Writing.{refused, written, writeFrame, writeGround, dataGround, writeAddress, writeData}
 
 -- six stores from the start are the frame, and past it the buffer

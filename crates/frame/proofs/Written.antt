@@ -8,11 +8,12 @@ use native.Mathlib.Omega.{arith}
 use lib.ListN.{length, getD, drop, drop-of-length-le}
 use lib.Seq.{set-getD}
 use lib.Bits.{xor-lt}
-use Rattle.file.specs.Cluster.{fileNumberOf, operationOf, noOperation, broadcastRead}
+use Rattle.file.specs.Cluster.{fileNumberOf, operationOf}
 use Rattle.file.specs.Bytes.{none, both, Byte, Bytes}
 use Rattle.frame.specs.Fireworks.{addressFirework, dataFirework}
 use Rattle.frame.specs.Check.{exclusiveOr, addressCheck, dataCheck}
 use Rattle.frame.specs.Frames.{frameSize, frameOf, between, pb2Of, addressBytes, addressFrame, dataFrame}
+use Rattle.frame.specs.Grounds.{noOperation, broadcastRead}
 use Rattle.frame.specs.Reading.{parts, readAddress}
 use Rattle.frame.specs.Writing.{written, writeAddress, writeData}
 use Rattle.frame.proofs.Tests.{operation-fits, file-fits, long, operation-low, address-first, length-is, check-is}

@@ -8,6 +8,10 @@ use Rattle.file.specs.Order.{either}
 use Rattle.frame.specs.Fireworks.{addressFirework}
 use Rattle.frame.specs.Frames.{frameSize, between}
 
+-- 13. "An address frame, read or to be written, has operation 3, or above 3 when handed to the writer.": `noOperation`.
+-- 14. "A read, received or to be written, is addressed to 0x00.": `broadcastRead`. A file's pending operation is judged by both too.
+unfoldable pub use Rattle.file.specs.Cluster.{noOperation, broadcastRead}
+
 -- 9. "The answer buffer is shorter .. than 6 for the frame writer."
 unfoldable pub shortBuffer : List ℕ → Bool
 shortBuffer buffer = ltb (length buffer) frameSize
@@ -23,9 +27,6 @@ wrongLength size frame = not (eqb (length frame) size)
 -- 12. "The check byte is wrong.", by the given check of the four bytes before it
 unfoldable pub wrongCheck : (List ℕ → ℕ) → List ℕ → Bool
 wrongCheck check frame = not (eqb (getD frame 5 0) (check (between frame)))
-
--- 13. "An address frame, read or to be written, has operation 3, or above 3 when handed to the writer." and 14. "A read, received or
--- to be written, is addressed to 0x00.": `noOperation` and `broadcastRead`, as a pending operation in a file is judged by them too
 
 -- 18. "A file number handed to the writer is above 63."
 unfoldable pub noFileNumber : ℕ → Bool

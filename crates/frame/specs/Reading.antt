@@ -5,10 +5,10 @@ use mathlib.Core.Bool.{cond}
 use lib.ListN.{getD}
 use lib.Dec.{eqb}
 use Rattle.file.specs.Order.{firstOf}
-use Rattle.file.specs.Cluster.{fileNumberOf, operationOf, noOperation, broadcastRead}
+use Rattle.file.specs.Cluster.{fileNumberOf, operationOf}
 use Rattle.frame.specs.Check.{addressCheck}
 use Rattle.frame.specs.Frames.{frameSize}
-use Rattle.frame.specs.Grounds.{noAddress, wrongLength, wrongCheck}
+use Rattle.frame.specs.Grounds.{noAddress, wrongLength, wrongCheck, noOperation, broadcastRead}
 
 -- a refusal by its number, or epoch, logical name, file number, operation and record number
 pub data Reading : Type 0 where

@@ -6,8 +6,7 @@ use lib.ListN.{drop}
 use lib.Dec.{eqb}
 use Rattle.file.specs.Order.{firstOf}
 use Rattle.frame.specs.Frames.{frameSize, addressFrame, dataFrame}
-use Rattle.file.specs.Cluster.{noOperation, broadcastRead}
-use Rattle.frame.specs.Grounds.{shortBuffer, noFileNumber}
+use Rattle.frame.specs.Grounds.{shortBuffer, noOperation, broadcastRead, noFileNumber}
 
 pub data Writing : Type 0 where
   refused : ℕ → Writing

@@ -2,7 +2,7 @@
 use crate::types::Operation;
 use file::types::LogicalName;
 ghost use mathlib.Core.Path.{_≡_};
-ghost use Rattle.file.specs.Cluster.{noOperation, broadcastRead};
+ghost use Rattle.frame.specs.Grounds.{noOperation, broadcastRead};
 
 pub const FRAME_SIZE: usize = 6;
 

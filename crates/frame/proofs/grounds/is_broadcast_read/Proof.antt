@@ -3,7 +3,7 @@
 use borrow.Author.Tests.{eq-eqb, ne-eqb}
 use mathlib.Core.Path.{sym, _∙_}
 use Rattle.file.proofs.Order.{both-next, both-false-left}
-use Rattle.file.specs.Cluster.{broadcastRead}
+use Rattle.frame.specs.Grounds.{broadcastRead}
 use Rattle.frame.proofs.grounds.is_broadcast_read.Statement.{statement}
 use Rattle.frame.proofs.grounds.is_broadcast_read.Tie as tie
 

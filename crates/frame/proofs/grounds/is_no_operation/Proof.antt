@@ -1,7 +1,7 @@
 -- `frame::grounds::is_no_operation` meets its contract.
 -- Assumes nothing.
 use borrow.Author.Needs.{needs}
-use Rattle.file.specs.Cluster.{noOperation}
+use Rattle.frame.specs.Grounds.{noOperation}
 use Rattle.frame.proofs.grounds.is_no_operation.Statement.{statement}
 use Rattle.frame.proofs.grounds.is_no_operation.Tie as tie
 
