@@ -7,7 +7,6 @@ use lib.Dec.{eqb, ltb}
 use Rattle.file.specs.Order.{either}
 use Rattle.frame.specs.Fireworks.{addressFirework}
 use Rattle.frame.specs.Frames.{frameSize, between}
-
 -- 13. "An address frame, read or to be written, has operation 3, or above 3 when handed to the writer.": `noOperation`.
 -- 14. "A read, received or to be written, is addressed to 0x00.": `broadcastRead`. A file's pending operation is judged by both too.
 unfoldable pub use Rattle.file.specs.Cluster.{noOperation, broadcastRead}
