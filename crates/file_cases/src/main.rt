@@ -93,6 +93,9 @@ fn headers() {
     m10(b"byte 15 not zero", &[15, 255]);
     m10(b"byte 12, PB3, not zero", &[12, 255]);
     m10(b"epoch 255", &[8, 255]);
+}
+
+fn pending_operations() {
     pending(b"flag 2", 2, 1, 0x21);
     pending(b"flag 255", 255, 1, 0x21);
     pending(b"flag 1, operation 3", 1, 1, 0x23);
@@ -116,6 +119,9 @@ fn tables() {
     m10(b"count 1", &[3, 1]);
     m10(b"count 3", &[3, 3]);
     m10(b"three files in the first directory", &[18, 3]);
+}
+
+fn past_the_end() {
     stated(b"table past the end by 4", 16, &[3, 1, 17, 20, 18, 0]);
     stated(b"table past the end by 1", 19, &[3, 1, 17, 20, 18, 0]);
     stated(b"table up to the end, no files", 20, &[3, 1, 17, 20, 18, 0]);
@@ -147,6 +153,9 @@ fn files() {
         b"r of 255 three times",
         three(0x08, 255, 0x3D, 255, 0x3F, 255),
     );
+}
+
+fn file_places() {
     m10(b"first file a byte on", &[27, 0x21]);
     m10(b"last file a byte back", &[67, 0x53]);
     m10(b"last file past the end", &[66, 0x80]);
@@ -219,6 +228,9 @@ fn physical_names() {
     names(b"equal series numbers", 0x0700000010, 0x07000000A0);
     names(b"equal names", 0x0700000010, 0x0700000010);
     m10(b"equal logical names", &[39, 1, 75, 1]);
+}
+
+fn names_of_many() {
     let mut bytes = many(32);
     bytes[1295] = 0;
     built(b"equal in the first and the last of 32", bytes);
@@ -295,10 +307,14 @@ fn main() {
     sizes();
     marks();
     headers();
+    pending_operations();
     tables();
+    past_the_end();
     files();
+    file_places();
     needed();
     physical_names();
+    names_of_many();
     order();
     readers();
     title(b"vectors");
