@@ -1,12 +1,11 @@
 -- A record of a file, by what the search for the file returned: one law for each way through `find_record`.
 -- Assumes nothing.
-use Prim.Native.Nat.{ℕ, _+_, _*_, _≤_, _<_, _^_}
-use mathlib.Core.Path.{_≡_, sym, _∙_, ap}
+use Prim.Native.Nat.{ℕ, _+_, _*_, _≤_, _<_}
+use mathlib.Core.Path.{_≡_}
 use mathlib.Core.List.{List}
-use native.Mathlib.Omega.{arith}
 use lib.ListN.{length}
 use Rattle.file.specs.Cluster.{Cluster}
-use Rattle.file.specs.Accepted.{Becomes, FoundFile, fileAt, findFile, findRecord}
+use Rattle.file.specs.Accepted.{Becomes, fileAt, findFile, findRecord}
 use Rattle.file.specs.Answers.{foundFile, foundRecord}
 use Rattle.file.specs.declared.readers.FileBytes.{FileBytes}
 use Rattle.file.specs.declared.readers.FilePlace.{FilePlace}
