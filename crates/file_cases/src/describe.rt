@@ -28,11 +28,11 @@ fn file_place(file: &[u8], slave: usize, number: u8)
     hex(number as u64, 2);
     let found = find_file(file, slave, FileNumber(number));
     match found {
-        FilePlace::Bytes { place, size } => {
+        FilePlace::Bytes(bytes) => {
             text(b" at");
-            decimal(place);
+            decimal(bytes.place);
             text(b" size");
-            decimal(size);
+            decimal(bytes.size);
         }
         FilePlace::NoFile => text(b" none"),
     }
