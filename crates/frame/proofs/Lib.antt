@@ -1,0 +1,5 @@
+pub mod Table
+pub mod Rounds
+pub mod Tests
+pub mod Reading
+pub mod Writing

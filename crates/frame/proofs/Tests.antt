@@ -1,0 +1,100 @@
+-- When the tests of the grounds pass, in the terms of the code's own tests.
+-- Assumes nothing.
+use Prim.Native.Nat.{ℕ, _<_, _≤_}
+use mathlib.Core.Path.{_≡_, refl, sym, _∙_}
+use mathlib.Core.List.{List, [], _∷_}
+use mathlib.Core.Bool.{Bool, true, false, not}
+use native.Mathlib.Omega.{arith}
+use lib.ListN.{length, getD}
+use lib.Dec.{eqb, ltb, leb}
+use borrow.Author.Tests.{lt-ltb, le-ltb, eq-eqb, ne-eqb, eqb-true, eqb-false, ltb-false, leb-false, not-false}
+use Rattle.file.proofs.Order.{either-left, either-right, either-false, either-false-right}
+use Rattle.frame.specs.Check.{addressCheck}
+use Rattle.frame.specs.Frames.{frameSize}
+use Rattle.frame.specs.Fireworks.{addressFirework}
+use Rattle.frame.specs.Grounds.{shortBuffer, noAddress, wrongLength, wrongCheck, noOperation, noFileNumber}
+
+-- a test of equality that is negated
+pub differs : {a b : ℕ} → (a ≡ b → ⊥) → not (eqb a b) ≡ true
+differs {a} {b} h = rw (ne-eqb a b h)
+
+pub agrees : {a b : ℕ} → a ≡ b → not (eqb a b) ≡ false
+agrees {a} {b} h = rw (eq-eqb a b h)
+
+pub agree : (a b : ℕ) → not (eqb a b) ≡ false → a ≡ b
+agree a b p = eqb-true a b (not-false (eqb a b) p)
+
+module _ (buffer : List ℕ) where
+  pub short : length buffer < frameSize → shortBuffer buffer ≡ true
+  unfolding shortBuffer
+  short h = lt-ltb _ _ h
+
+  pub long : frameSize ≤ length buffer → shortBuffer buffer ≡ false
+  unfolding shortBuffer
+  long h = le-ltb _ _ h
+
+  pub long-enough : shortBuffer buffer ≡ false → frameSize ≤ length buffer
+  unfolding shortBuffer
+  long-enough p = ltb-false _ _ p
+
+module _ (frame : List ℕ) where
+  pub empty : length frame ≡ 0 → noAddress frame ≡ true
+  unfolding noAddress
+  empty h = either-left _ (eq-eqb _ _ h)
+
+  pub other-firework : (getD frame 0 0 ≡ addressFirework → ⊥) → noAddress frame ≡ true
+  unfolding noAddress
+  other-firework h = either-right _ (differs h)
+
+  pub address : (length frame ≡ 0 → ⊥) → getD frame 0 0 ≡ addressFirework → noAddress frame ≡ false
+  unfolding noAddress
+  address h e = either-false (ne-eqb _ _ h) (agrees e)
+
+  pub address-first : noAddress frame ≡ false → getD frame 0 0 ≡ addressFirework
+  unfolding noAddress
+  address-first p = agree _ _ (either-false-right _ _ p)
+
+  pub six : length frame ≡ frameSize → wrongLength frame ≡ false
+  unfolding wrongLength
+  six e = agrees e
+
+  pub not-six : (length frame ≡ frameSize → ⊥) → wrongLength frame ≡ true
+  unfolding wrongLength
+  not-six h = differs h
+
+  pub six-long : wrongLength frame ≡ false → length frame ≡ frameSize
+  unfolding wrongLength
+  six-long p = agree _ _ p
+
+  -- the code's check byte is a value of its own, with its equation
+  pub check-right : {check : ℕ} → check ≡ addressCheck (getD frame 1 0 ∷ getD frame 2 0 ∷ getD frame 3 0 ∷ getD frame 4 0 ∷ [])
+    → getD frame 5 0 ≡ check → wrongCheck frame ≡ false
+  unfolding wrongCheck
+  check-right e same = agrees (same ∙ e)
+
+  pub check-wrong : {check : ℕ} → check ≡ addressCheck (getD frame 1 0 ∷ getD frame 2 0 ∷ getD frame 3 0 ∷ getD frame 4 0 ∷ [])
+    → (getD frame 5 0 ≡ check → ⊥) → wrongCheck frame ≡ true
+  unfolding wrongCheck
+  check-wrong e other = differs (λ same. other (same ∙ sym e))
+
+  pub check-byte : wrongCheck frame ≡ false
+    → getD frame 5 0 ≡ addressCheck (getD frame 1 0 ∷ getD frame 2 0 ∷ getD frame 3 0 ∷ getD frame 4 0 ∷ [])
+  unfolding wrongCheck
+  check-byte p = agree _ _ p
+
+pub operation-low : {known : Bool} (operation : ℕ) → known ≡ noOperation operation → known ≡ false → operation ≤ 2
+unfolding noOperation
+operation-low operation e p = omega (arith, leb-false 3 operation (sym e ∙ p))
+
+module _ (file : ℕ) where
+  pub file-high : 63 < file → noFileNumber file ≡ true
+  unfolding noFileNumber
+  file-high h = lt-ltb _ _ h
+
+  pub file-fits : file ≤ 63 → noFileNumber file ≡ false
+  unfolding noFileNumber
+  file-fits h = le-ltb _ _ h
+
+  pub file-low : noFileNumber file ≡ false → file ≤ 63
+  unfolding noFileNumber
+  file-low p = ltb-false _ _ p
