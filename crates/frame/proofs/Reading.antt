@@ -39,8 +39,8 @@ module _ (frame : List ℕ) where
     pub check : wrongCheck frame ≡ false
 
   pub formed : {check : ℕ} → (length frame ≡ 0 → ⊥) → getD frame 0 0 ≡ addressFirework → length frame ≡ frameSize
-    → check ≡ addressCheck (getD frame 1 0 ∷ getD frame 2 0 ∷ getD frame 3 0 ∷ getD frame 4 0 ∷ []) → getD frame 5 0 ≡ check
-    → Formed
+      → check ≡ addressCheck (getD frame 1 0 ∷ getD frame 2 0 ∷ getD frame 3 0 ∷ getD frame 4 0 ∷ []) → getD frame 5 0 ≡ check
+      → Formed
   formed some first long e same =
       record { firework = address frame some first; size = six frame long; check = check-right frame e same }
 
@@ -50,7 +50,7 @@ module _ (frame : List ℕ) where
   refuse-13 f e s = refuse refl (rw (f .firework, f .size, f .check, ← e, s))
 
   module _ {n : ℕ} {t u : Bool} (formed : Formed) (named : n ≡ getD frame 2 0) (known : t ≡ noOperation (operationOf (getD frame 3 0)))
-    (known-so : t ≡ false) (reads : u ≡ broadcastRead (operationOf (getD frame 3 0)) n) where
+      (known-so : t ≡ false) (reads : u ≡ broadcastRead (operationOf (getD frame 3 0)) n) where
     grounds : readGround frame ≡ cond u 14 0
     unfolding readGround firstOf
     grounds = rw (formed .firework, formed .size, formed .check, ← known, known-so, ← named, ← reads)
@@ -59,6 +59,6 @@ module _ (frame : List ℕ) where
     refuse-14 p = refuse refl (grounds ∙ rw p)
 
     pub accept : u ≡ false
-      → parts (getD frame 1 0) n (fileNumberOf (getD frame 3 0)) (operationOf (getD frame 3 0)) (getD frame 4 0) ≡ readAddress frame
+        → parts (getD frame 1 0) n (fileNumberOf (getD frame 3 0)) (operationOf (getD frame 3 0)) (getD frame 4 0) ≡ readAddress frame
     unfolding readAddress partsOf
     accept p = rw (grounds, p, named)

@@ -56,6 +56,6 @@ module _ (byte : ℕ) (below : byte < 256) where
   none-entry e = stands-for e
 
   pub multipartner-entry : (n : ℕ) → getD entries byte 0 ≡ n → (n ≡ 1 → ⊥) → (n ≡ 5 → ⊥) → (n ≡ 8 → ⊥)
-    → Round.multipartner n ≡ roundOf byte
+      → Round.multipartner n ≡ roundOf byte
   unfolding roundNumbered
   multipartner-entry n e a b c = simp (ne-eqb n 1 a, ne-eqb n 5 b, ne-eqb n 8 c) at (stands-for e)

@@ -68,17 +68,17 @@ module _ (frame : List ℕ) where
 
   -- the code's check byte is a value of its own, with its equation
   pub check-right : {check : ℕ} → check ≡ addressCheck (getD frame 1 0 ∷ getD frame 2 0 ∷ getD frame 3 0 ∷ getD frame 4 0 ∷ [])
-    → getD frame 5 0 ≡ check → wrongCheck frame ≡ false
+      → getD frame 5 0 ≡ check → wrongCheck frame ≡ false
   unfolding wrongCheck
   check-right e same = agrees (same ∙ e)
 
   pub check-wrong : {check : ℕ} → check ≡ addressCheck (getD frame 1 0 ∷ getD frame 2 0 ∷ getD frame 3 0 ∷ getD frame 4 0 ∷ [])
-    → (getD frame 5 0 ≡ check → ⊥) → wrongCheck frame ≡ true
+      → (getD frame 5 0 ≡ check → ⊥) → wrongCheck frame ≡ true
   unfolding wrongCheck
   check-wrong e other = differs (λ same. other (same ∙ sym e))
 
   pub check-byte : wrongCheck frame ≡ false
-    → getD frame 5 0 ≡ addressCheck (getD frame 1 0 ∷ getD frame 2 0 ∷ getD frame 3 0 ∷ getD frame 4 0 ∷ [])
+      → getD frame 5 0 ≡ addressCheck (getD frame 1 0 ∷ getD frame 2 0 ∷ getD frame 3 0 ∷ getD frame 4 0 ∷ [])
   unfolding wrongCheck
   check-byte p = agree _ _ p
 

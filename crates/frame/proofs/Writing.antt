@@ -16,7 +16,7 @@ use Rattle.frame.specs.Writing.{Writing, refused, written, writeFrame, w
 
 -- six stores from the start are the frame, and past it the buffer
 pub stored : (buffer : List ℕ) (firework b0 b1 b2 b3 check : ℕ) → frameSize ≤ length buffer
-  → set (set (set (set (set (set buffer 0 firework) 1 b0) 2 b1) 3 b2) 4 b3) 5 check
+    → set (set (set (set (set (set buffer 0 firework) 1 b0) 2 b1) 3 b2) 4 b3) 5 check
     ≡ frameOf firework (b0 ∷ b1 ∷ b2 ∷ b3 ∷ []) check ++ drop frameSize buffer
 unfolding frameOf
 stored [] f a b c d e h = absurd (omega (arith, h))
@@ -53,14 +53,14 @@ module _ (buffer : List ℕ) (epoch name file operation «record» : ℕ) where
       address-14 p = refuse _ buffer refl _ (rw (fits, ← known, known-so, ← reads, p))
 
       pub address-18 : u ≡ false → noFileNumber file ≡ true
-        → (refused 18, buffer) ≡ writeAddress buffer epoch name file operation «record»
+          → (refused 18, buffer) ≡ writeAddress buffer epoch name file operation «record»
       unfolding writeAddress writeGround firstOf
       address-18 p q = refuse _ buffer refl _ (rw (fits, ← known, known-so, ← reads, p, q))
 
       pub address-written : {check : ℕ} {after : List ℕ} → u ≡ false → noFileNumber file ≡ false
-        → check ≡ addressCheck (epoch ∷ name ∷ (4 * file + operation) ∷ «record» ∷ [])
-        → after ≡ frameOf addressFirework (epoch ∷ name ∷ (4 * file + operation) ∷ «record» ∷ []) check ++ drop frameSize buffer
-        → (written, after) ≡ writeAddress buffer epoch name file operation «record»
+          → check ≡ addressCheck (epoch ∷ name ∷ (4 * file + operation) ∷ «record» ∷ [])
+          → after ≡ frameOf addressFirework (epoch ∷ name ∷ (4 * file + operation) ∷ «record» ∷ []) check ++ drop frameSize buffer
+          → (written, after) ≡ writeAddress buffer epoch name file operation «record»
       unfolding writeAddress writeGround firstOf addressFrame addressBytes pb2Of
       address-written p q e left = rw (left, e) (accept _ buffer _ (rw (fits, ← known, known-so, ← reads, p, q)))
 
@@ -71,6 +71,6 @@ module _ (buffer bytes : List ℕ) where
   data-9 p = refuse _ buffer refl _ (rw p)
 
   pub data-written : {check : ℕ} {after : List ℕ} → shortBuffer buffer ≡ false → check ≡ dataCheck bytes
-    → after ≡ frameOf dataFirework bytes check ++ drop frameSize buffer → (written, after) ≡ writeData buffer bytes
+      → after ≡ frameOf dataFirework bytes check ++ drop frameSize buffer → (written, after) ≡ writeData buffer bytes
   unfolding writeData dataGround firstOf dataFrame
   data-written p e left = rw (left, e) (accept _ buffer _ (rw p))
