@@ -28,11 +28,11 @@ all-change f d (suc k) keeps (both q r) = both q (all-change f d k keeps r)
 
 -- ---- files and slaves
 
-lastRecord-same : (l m : List ℕ) → length l ≡ length m → lastRecord l ≡ lastRecord m
+pub lastRecord-same : (l m : List ℕ) → length l ≡ length m → lastRecord l ≡ lastRecord m
 unfolding lastRecord
 lastRecord-same l m e = rw e
 
-files-rising : {low : ℕ} {xs ys : List File} → SameFiles xs ys → Rising low xs → Rising low ys
+pub files-rising : {low : ℕ} {xs ys : List File} → SameFiles xs ys → Rising low xs → Rising low ys
 files-rising noFiles end = end
 files-rising (sameFile p q r) (next h t) = next (rw p at h) (files-rising r (rw p at t))
 
