@@ -3,3 +3,6 @@ pub mod Rounds
 pub mod Tests
 pub mod Reading
 pub mod Writing
+pub mod Accepted
+pub mod Written
+pub mod RoundTrip

@@ -1,7 +1,7 @@
 -- The reader's answer, ground by ground: one law for each way that the reader can end, and back from what it accepted.
 -- Assumes nothing.
-use Prim.Native.Nat.{ℕ, _%_}
-use mathlib.Core.Path.{_≡_, refl, sym, _∙_}
+use Prim.Native.Nat.{ℕ}
+use mathlib.Core.Path.{_≡_, refl, _∙_}
 use mathlib.Core.List.{List, [], _∷_}
 use mathlib.Core.Bool.{Bool, true, false, cond}
 use lib.ListN.{length, getD}
@@ -12,7 +12,7 @@ use Rattle.frame.specs.Fireworks.{addressFirework}
 use Rattle.frame.specs.Check.{addressCheck}
 use Rattle.frame.specs.Frames.{frameSize}
 use Rattle.frame.specs.Grounds.{noAddress, wrongLength, wrongCheck, noOperation, broadcastRead}
-use Rattle.frame.specs.Reading.{Reading, refused, parts, partsOf, readGround, readAddress}
+use Rattle.frame.specs.Reading.{refused, parts, partsOf, readGround, readAddress}
 use Rattle.frame.proofs.Tests.{address, six, check-right}
 
 module _ (frame : List ℕ) where

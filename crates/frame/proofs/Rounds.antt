@@ -2,14 +2,14 @@
 -- Assumes nothing.
 use Prim.Native.Nat.{ℕ, _<_}
 use mathlib.Core.Path.{_≡_, refl, sym, ap, _∙_}
-use mathlib.Core.List.{List, [], _∷_}
+use mathlib.Core.List.{List, _∷_}
 use mathlib.Core.Bool.{cond}
 use lib.Dec.{eqb}
 use lib.ListN.{getD}
 use borrow.Author.Tests.{ne-eqb}
 use Rattle.file.specs.Bytes.{All, none, both}
 use Rattle.file.proofs.Order.{byCase}
-use Rattle.frame.specs.Fireworks.{Round, fireworks, roundOf, roundIn}
+use Rattle.frame.specs.Fireworks.{Round, roundOf, roundIn}
 use Rattle.frame.proofs.Table.{table, entry}
 
 -- an entry is the round's number, 1 for MSD and 5 for MSA, or 8 for none

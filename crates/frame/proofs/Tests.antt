@@ -1,18 +1,19 @@
 -- When the tests of the grounds pass, in the terms of the code's own tests.
 -- Assumes nothing.
 use Prim.Native.Nat.{ℕ, _<_, _≤_}
-use mathlib.Core.Path.{_≡_, refl, sym, _∙_}
+use mathlib.Core.Path.{_≡_, sym, _∙_}
 use mathlib.Core.List.{List, [], _∷_}
 use mathlib.Core.Bool.{Bool, true, false, not}
 use native.Mathlib.Omega.{arith}
 use lib.ListN.{length, getD}
-use lib.Dec.{eqb, ltb, leb}
-use borrow.Author.Tests.{lt-ltb, le-ltb, eq-eqb, ne-eqb, eqb-true, eqb-false, ltb-false, leb-false, not-false}
-use Rattle.file.proofs.Order.{either-left, either-right, either-false, either-false-right}
+use lib.Dec.{eqb}
+use borrow.Author.Tests.{lt-ltb, le-ltb, eq-eqb, ne-eqb, eqb-true, leb-false, lt-leb, not-false}
+use Rattle.file.specs.Cluster.{readOperation, broadcast}
+use Rattle.file.proofs.Order.{either-left, either-right, either-false, either-false-right, both-false-left, both-false-right}
 use Rattle.frame.specs.Check.{addressCheck}
 use Rattle.frame.specs.Frames.{frameSize}
 use Rattle.frame.specs.Fireworks.{addressFirework}
-use Rattle.frame.specs.Grounds.{shortBuffer, noAddress, wrongLength, wrongCheck, noOperation, noFileNumber}
+use Rattle.frame.specs.Grounds.{shortBuffer, noAddress, wrongLength, wrongCheck, noOperation, broadcastRead, noFileNumber}
 
 -- a test of equality that is negated
 pub differs : {a b : ℕ} → (a ≡ b → ⊥) → not (eqb a b) ≡ true
@@ -32,10 +33,6 @@ module _ (buffer : List ℕ) where
   pub long : frameSize ≤ length buffer → shortBuffer buffer ≡ false
   unfolding shortBuffer
   long h = le-ltb _ _ h
-
-  pub long-enough : shortBuffer buffer ≡ false → frameSize ≤ length buffer
-  unfolding shortBuffer
-  long-enough p = ltb-false _ _ p
 
 module _ (frame : List ℕ) where
   pub empty : length frame ≡ 0 → noAddress frame ≡ true
@@ -82,6 +79,10 @@ module _ (frame : List ℕ) where
   unfolding wrongCheck
   check-byte p = agree _ _ p
 
+pub operation-fits : (operation : ℕ) → operation ≤ 2 → noOperation operation ≡ false
+unfolding noOperation
+operation-fits operation h = lt-leb 3 operation (omega arith)
+
 pub operation-low : {known : Bool} (operation : ℕ) → known ≡ noOperation operation → known ≡ false → operation ≤ 2
 unfolding noOperation
 operation-low operation e p = omega (arith, leb-false 3 operation (sym e ∙ p))
@@ -95,6 +96,11 @@ module _ (file : ℕ) where
   unfolding noFileNumber
   file-fits h = le-ltb _ _ h
 
-  pub file-low : noFileNumber file ≡ false → file ≤ 63
-  unfolding noFileNumber
-  file-low p = ltb-false _ _ p
+-- no broadcast read: not a read, or not at 0x00
+pub no-read : (operation name : ℕ) → (operation ≡ readOperation → ⊥) → broadcastRead operation name ≡ false
+unfolding broadcastRead
+no-read operation name h = both-false-left _ (ne-eqb _ _ h)
+
+pub no-broadcast : (operation name : ℕ) → (name ≡ broadcast → ⊥) → broadcastRead operation name ≡ false
+unfolding broadcastRead
+no-broadcast operation name h = both-false-right _ (ne-eqb _ _ h)

@@ -3,7 +3,7 @@
 use Prim.Native.Nat.{ℕ, _+_, _*_, _≤_}
 use mathlib.Core.Path.{_≡_, refl}
 use mathlib.Core.List.{List, [], _∷_, _++_}
-use mathlib.Core.Bool.{Bool, true, false, cond}
+use mathlib.Core.Bool.{Bool, true, false}
 use native.Mathlib.Omega.{arith}
 use lib.ListN.{length, drop, set}
 use lib.Dec.{eqb}
@@ -12,7 +12,7 @@ use Rattle.frame.specs.Fireworks.{addressFirework, dataFirework}
 use Rattle.frame.specs.Check.{addressCheck, dataCheck}
 use Rattle.frame.specs.Frames.{frameSize, frameOf, pb2Of, addressBytes, addressFrame, dataFrame}
 use Rattle.frame.specs.Grounds.{shortBuffer, noOperation, broadcastRead, noFileNumber}
-use Rattle.frame.specs.Writing.{Writing, refused, written, writeFrame, writeGround, dataGround, writeAddress, writeData}
+use Rattle.frame.specs.Writing.{refused, written, writeFrame, writeGround, dataGround, writeAddress, writeData}
 
 -- six stores from the start are the frame, and past it the buffer
 pub stored : (buffer : List ℕ) (firework b0 b1 b2 b3 check : ℕ) → frameSize ≤ length buffer

@@ -1,5 +1,4 @@
 -- The code's answers in document 01's numbers and values. No two answers of one type are taken to the same.
-use Prim.Native.Nat.{ℕ}
 use Rattle.frame.specs.declared.firework.Firework.{Firework}
 use Rattle.frame.specs.declared.firework.Firework.the-variants as fireworks
 use Rattle.frame.specs.declared.types.AddressReading.{AddressReading}
