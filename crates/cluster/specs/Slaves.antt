@@ -53,10 +53,13 @@ pendingOperation c = cond (eqb (c .flag) 1) (operationIn (c .pendingName) (c .pe
 unfoldable pub isUnnamed : Slave → Bool
 isUnnamed s = eqb (logicalName s) unnamed
 
--- "Addressed are: at 0xFF the unnamed, at 0x00 all others, else those of that logical name"
+-- "Addressed are: at 0xFF the unnamed, at 0x00 all others, else those of that logical name": a slave by its own logical name
+unfoldable pub addresses : ℕ → ℕ → Bool
+addresses name own =
+    cond (eqb name unnamed) (eqb own unnamed) (cond (eqb name broadcast) (not (eqb own unnamed)) (eqb own name))
+
 unfoldable pub addressed : ℕ → Slave → Bool
-addressed name s =
-    cond (eqb name unnamed) (isUnnamed s) (cond (eqb name broadcast) (not (isUnnamed s)) (eqb (logicalName s) name))
+addressed name s = addresses name (logicalName s)
 
 -- ---- what an addressed slave sends: its bytes from slot 1 on
 

@@ -6,3 +6,4 @@ pub mod Writing
 pub mod Accepted
 pub mod Written
 pub mod RoundTrip
+pub mod Distinct

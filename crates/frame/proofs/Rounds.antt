@@ -23,39 +23,42 @@ roundNumbered : ℕ → Round
 roundNumbered n = cond (eqb n 1) Round.msd (cond (eqb n 5) Round.msa (cond (eqb n 8) Round.none (Round.multipartner n)))
 
 -- no multipartner round of the list has one of the three other numbers
-abbrev Told : Round → Type 0
-Told r = roundNumbered (entryOf r) ≡ r
+abbrev NumberedBack : Round → Type 0
+NumberedBack r = roundNumbered (entryOf r) ≡ r
 
-told-in : {es : List (ℕ × Round)} → All (λ (e : ℕ × Round). Told (e .1)) es → (b : ℕ) → Told (roundIn es b)
+numbered-back-in : {es : List (ℕ × Round)} → All (λ (e : ℕ × Round). NumberedBack (e .1)) es → (b : ℕ) → NumberedBack (roundIn es b)
 unfolding roundIn roundNumbered entryOf
-told-in none b = refl
-told-in (both {a = e} {l = es} t ts) b = byCase {P = Told (roundIn (e ∷ es) b)} (eqb b (e .0)) (λ p. rw p t) (λ p. rw p (told-in ts b))
+numbered-back-in none b = refl
+numbered-back-in (both {a = e} {l = es} t ts) b =
+    byCase {P = NumberedBack (roundIn (e ∷ es) b)} (eqb b (e .0))
+    (λ p. rw p t)
+    (λ p. rw p (numbered-back-in ts b))
 
-told : (b : ℕ) → Told (roundOf b)
+numbered-back : (b : ℕ) → NumberedBack (roundOf b)
 unfolding roundOf roundNumbered entryOf
-told b = told-in (both refl (both refl (both refl (both refl (both refl (both refl (both refl (both refl none)))))))) b
+numbered-back b = numbered-back-in (both refl (both refl (both refl (both refl (both refl (both refl (both refl (both refl none)))))))) b
 
 -- the table: the entry of each byte's round
 abbrev pub entries : List ℕ
 entries = table (λ (b : ℕ). entryOf (roundOf b)) 0 256
 
 module _ (byte : ℕ) (below : byte < 256) where
-  stands-for : {n : ℕ} → getD entries byte 0 ≡ n → roundNumbered n ≡ roundOf byte
-  stands-for e = ap roundNumbered (sym e ∙ entry (λ (b : ℕ). entryOf (roundOf b)) 0 256 byte below) ∙ told byte
+  round-of-entry : {n : ℕ} → getD entries byte 0 ≡ n → roundNumbered n ≡ roundOf byte
+  round-of-entry e = ap roundNumbered (sym e ∙ entry (λ (b : ℕ). entryOf (roundOf b)) 0 256 byte below) ∙ numbered-back byte
 
   pub data-entry : getD entries byte 0 ≡ 1 → Round.msd ≡ roundOf byte
   unfolding roundNumbered
-  data-entry e = stands-for e
+  data-entry e = round-of-entry e
 
   pub address-entry : getD entries byte 0 ≡ 5 → Round.msa ≡ roundOf byte
   unfolding roundNumbered
-  address-entry e = stands-for e
+  address-entry e = round-of-entry e
 
   pub none-entry : getD entries byte 0 ≡ 8 → Round.none ≡ roundOf byte
   unfolding roundNumbered
-  none-entry e = stands-for e
+  none-entry e = round-of-entry e
 
   pub multipartner-entry : (n : ℕ) → getD entries byte 0 ≡ n → (n ≡ 1 → ⊥) → (n ≡ 5 → ⊥) → (n ≡ 8 → ⊥)
       → Round.multipartner n ≡ roundOf byte
   unfolding roundNumbered
-  multipartner-entry n e a b c = simp (ne-eqb n 1 a, ne-eqb n 5 b, ne-eqb n 8 c) at (stands-for e)
+  multipartner-entry n e a b c = simp (ne-eqb n 1 a, ne-eqb n 5 b, ne-eqb n 8 c) at (round-of-entry e)

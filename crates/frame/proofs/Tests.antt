@@ -2,7 +2,7 @@
 -- Assumes nothing.
 use Prim.Native.Nat.{ℕ, _<_, _≤_}
 use mathlib.Core.Path.{_≡_, sym, _∙_}
-use mathlib.Core.List.{List, [], _∷_}
+use mathlib.Core.List.{List}
 use mathlib.Core.Bool.{Bool, true, false, not}
 use native.Mathlib.Omega.{arith}
 use lib.ListN.{length, getD}
@@ -10,8 +10,7 @@ use lib.Dec.{eqb}
 use borrow.Author.Tests.{lt-ltb, le-ltb, eq-eqb, ne-eqb, eqb-true, leb-false, lt-leb, not-false}
 use Rattle.file.specs.Cluster.{readOperation, broadcast}
 use Rattle.file.proofs.Order.{either-left, either-right, either-false, either-false-right, both-false-left, both-false-right}
-use Rattle.frame.specs.Check.{addressCheck}
-use Rattle.frame.specs.Frames.{frameSize}
+use Rattle.frame.specs.Frames.{frameSize, between}
 use Rattle.frame.specs.Fireworks.{addressFirework}
 use Rattle.frame.specs.Grounds.{shortBuffer, noAddress, wrongLength, wrongCheck, noOperation, broadcastRead, noFileNumber}
 
@@ -51,33 +50,31 @@ module _ (frame : List ℕ) where
   unfolding noAddress
   address-first p = agree _ _ (either-false-right _ _ p)
 
-  pub six : length frame ≡ frameSize → wrongLength frame ≡ false
+  pub right-length : {size : ℕ} → length frame ≡ size → wrongLength size frame ≡ false
   unfolding wrongLength
-  six e = agrees e
+  right-length e = agrees e
 
-  pub not-six : (length frame ≡ frameSize → ⊥) → wrongLength frame ≡ true
+  pub other-length : {size : ℕ} → (length frame ≡ size → ⊥) → wrongLength size frame ≡ true
   unfolding wrongLength
-  not-six h = differs h
+  other-length h = differs h
 
-  pub six-long : wrongLength frame ≡ false → length frame ≡ frameSize
+  pub length-is : (size : ℕ) → wrongLength size frame ≡ false → length frame ≡ size
   unfolding wrongLength
-  six-long p = agree _ _ p
+  length-is size p = agree _ _ p
 
   -- the code's check byte is a value of its own, with its equation
-  pub check-right : {check : ℕ} → check ≡ addressCheck (getD frame 1 0 ∷ getD frame 2 0 ∷ getD frame 3 0 ∷ getD frame 4 0 ∷ [])
-      → getD frame 5 0 ≡ check → wrongCheck frame ≡ false
-  unfolding wrongCheck
-  check-right e same = agrees (same ∙ e)
+  module _ (f : List ℕ → ℕ) {check : ℕ} (made : check ≡ f (between frame)) where
+    pub right-check : getD frame 5 0 ≡ check → wrongCheck f frame ≡ false
+    unfolding wrongCheck
+    right-check same = agrees (same ∙ made)
 
-  pub check-wrong : {check : ℕ} → check ≡ addressCheck (getD frame 1 0 ∷ getD frame 2 0 ∷ getD frame 3 0 ∷ getD frame 4 0 ∷ [])
-      → (getD frame 5 0 ≡ check → ⊥) → wrongCheck frame ≡ true
-  unfolding wrongCheck
-  check-wrong e other = differs (λ same. other (same ∙ sym e))
+    pub other-check : (getD frame 5 0 ≡ check → ⊥) → wrongCheck f frame ≡ true
+    unfolding wrongCheck
+    other-check other = differs (λ same. other (same ∙ sym made))
 
-  pub check-byte : wrongCheck frame ≡ false
-      → getD frame 5 0 ≡ addressCheck (getD frame 1 0 ∷ getD frame 2 0 ∷ getD frame 3 0 ∷ getD frame 4 0 ∷ [])
+  pub check-is : (f : List ℕ → ℕ) → wrongCheck f frame ≡ false → getD frame 5 0 ≡ f (between frame)
   unfolding wrongCheck
-  check-byte p = agree _ _ p
+  check-is f p = agree _ _ p
 
 pub operation-fits : (operation : ℕ) → operation ≤ 2 → noOperation operation ≡ false
 unfolding noOperation

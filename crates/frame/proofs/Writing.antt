@@ -1,11 +1,11 @@
--- The writers' answer and buffer, ground by ground: one law for each way that a writer can end, and back from what was written.
+-- The writers' answer and buffer, ground by ground: one law for each way that a writer can end.
 -- Assumes nothing.
 use Prim.Native.Nat.{ℕ, _+_, _*_, _≤_}
 use mathlib.Core.Path.{_≡_, refl}
 use mathlib.Core.List.{List, [], _∷_, _++_}
 use mathlib.Core.Bool.{Bool, true, false}
-use native.Mathlib.Omega.{arith}
 use lib.ListN.{length, drop, set}
+use lib.Seq.{sets-eq}
 use lib.Dec.{eqb}
 use Rattle.file.specs.Order.{firstOf}
 use Rattle.frame.specs.Fireworks.{addressFirework, dataFirework}
@@ -19,13 +19,7 @@ pub stored : (buffer : List ℕ) (firework b0 b1 b2 b3 check : ℕ) → frameSiz
     → set (set (set (set (set (set buffer 0 firework) 1 b0) 2 b1) 3 b2) 4 b3) 5 check
     ≡ frameOf firework (b0 ∷ b1 ∷ b2 ∷ b3 ∷ []) check ++ drop frameSize buffer
 unfolding frameOf
-stored [] f a b c d e h = absurd (omega (arith, h))
-stored (_ ∷ []) f a b c d e h = absurd (omega (arith, h))
-stored (_ ∷ _ ∷ []) f a b c d e h = absurd (omega (arith, h))
-stored (_ ∷ _ ∷ _ ∷ []) f a b c d e h = absurd (omega (arith, h))
-stored (_ ∷ _ ∷ _ ∷ _ ∷ []) f a b c d e h = absurd (omega (arith, h))
-stored (_ ∷ _ ∷ _ ∷ _ ∷ _ ∷ []) f a b c d e h = absurd (omega (arith, h))
-stored (_ ∷ _ ∷ _ ∷ _ ∷ _ ∷ _ ∷ rest) f a b c d e h = refl
+stored buffer f a b c d e h = sets-eq (f ∷ a ∷ b ∷ c ∷ d ∷ e ∷ []) buffer 0 h
 
 module _ (frame buffer : List ℕ) where
   refuse : {g : ℕ} → eqb g 0 ≡ false → (ground : ℕ) → ground ≡ g → (refused g, buffer) ≡ writeFrame ground frame buffer

@@ -12,11 +12,11 @@ use Rattle.file.specs.Cluster.{fileNumberOf, operationOf}
 use Rattle.file.specs.Bytes.{none, both, Byte, Bytes}
 use Rattle.frame.specs.Fireworks.{addressFirework, dataFirework}
 use Rattle.frame.specs.Check.{exclusiveOr, addressCheck, dataCheck}
-use Rattle.frame.specs.Frames.{frameSize, frameOf, pb2Of, addressBytes, addressFrame, dataFrame}
+use Rattle.frame.specs.Frames.{frameSize, frameOf, between, pb2Of, addressBytes, addressFrame, dataFrame}
 use Rattle.frame.specs.Grounds.{noOperation, broadcastRead}
 use Rattle.frame.specs.Reading.{parts, readAddress}
 use Rattle.frame.specs.Writing.{written, writeAddress, writeData}
-use Rattle.frame.proofs.Tests.{operation-fits, file-fits, long, operation-low, address-first, six-long, check-byte}
+use Rattle.frame.proofs.Tests.{operation-fits, file-fits, long, operation-low, address-first, length-is, check-is}
 use Rattle.frame.proofs.Reading.{formed, accept}
 use Rattle.frame.proofs.Writing.{stored, address-written, data-written}
 use Rattle.frame.proofs.Accepted.{Read, Write}
@@ -36,7 +36,8 @@ unfolding frameOf
 places f a b c d e = record { size = refl; at-0 = refl; at-1 = refl; at-2 = refl; at-3 = refl; at-4 = refl; at-5 = refl }
 
 pub address-places : (epoch name file operation «record» : ℕ)
-    → Places addressFirework epoch name (pb2Of file operation) «record» (addressCheck (epoch ∷ name ∷ pb2Of file operation ∷ «record» ∷ []))
+    → Places addressFirework epoch name (pb2Of file operation) «record»
+    (addressCheck (epoch ∷ name ∷ pb2Of file operation ∷ «record» ∷ []))
     (addressFrame epoch name file operation «record»)
 unfolding addressFrame addressBytes
 address-places epoch name file operation «record» = places _ _ _ _ _ _
@@ -100,7 +101,10 @@ pub address-writes : (buffer : List ℕ) (epoch name file operation «record» :
     ≡ (written, addressFrame epoch name file operation «record» ++ drop frameSize buffer)
 unfolding addressFrame addressBytes pb2Of
 address-writes buffer epoch name file operation «record» w =
-    sym (address-written buffer epoch name file operation «record» (w .fits) refl (w .operation-known) refl (w .name-fits) (w .file-known) refl refl)
+    sym
+    (address-written buffer epoch name file operation «record» (w .fits) refl (w .operation-known) refl (w .name-fits) (w .file-known)
+    refl
+    refl)
 
 pub data-writes : (buffer bytes : List ℕ) → frameSize ≤ length buffer
     → writeData buffer bytes ≡ (written, dataFrame bytes ++ drop frameSize buffer)
@@ -124,21 +128,21 @@ address-reads epoch name file operation «record» known named =
     rw (f, o)
 
 -- a list of six bytes by its places: storing there what stands there changes nothing
-spread : (frame : List ℕ) → length frame ≡ frameSize
-    → frameOf (getD frame 0 0) (getD frame 1 0 ∷ getD frame 2 0 ∷ getD frame 3 0 ∷ getD frame 4 0 ∷ []) (getD frame 5 0) ≡ frame
-spread frame h =
+by-places : (frame : List ℕ) → length frame ≡ frameSize
+    → frameOf (getD frame 0 0) (between frame) (getD frame 5 0) ≡ frame
+by-places frame h =
     let at : ℕ → ℕ = λ k. getD frame k 0 in
     sym (nothing-past _ frame h) ∙
     sym (simp set-getD at (stored frame (at 0) (at 1) (at 2) (at 3) (at 4) (at 5) (omega arith)))
 
 -- an accepted frame is the frame of its parts
-pub whole : (frame : List ℕ) → Read frame
+pub frame-of-parts : (frame : List ℕ) → Read frame
     → addressFrame (getD frame 1 0) (getD frame 2 0) (fileNumberOf (getD frame 3 0)) (operationOf (getD frame 3 0)) (getD frame 4 0) ≡ frame
 unfolding addressFrame addressBytes pb2Of
-whole frame a =
+frame-of-parts frame a =
     let pb2 : 4 * fileNumberOf (getD frame 3 0) + operationOf (getD frame 3 0) ≡ getD frame 3 0 = omega arith in
-    rw (pb2, ← check-byte frame (a .formed .check), ← address-first frame (a .formed .firework))
-    (spread frame (six-long frame (a .formed .size)))
+    rw (pb2, ← check-is frame addressCheck (a .formed .check), ← address-first frame (a .formed .firework))
+    (by-places frame (length-is frame frameSize (a .formed .size)))
 
 pub byte-at : {bytes : List ℕ} → Bytes bytes → (k : ℕ) → getD bytes k 0 < 256
 byte-at none k = omega arith

@@ -1,6 +1,7 @@
 -- The two frames of six bytes (document 01, "Fireworks and frames", second paragraph).
 use Prim.Native.Nat.{ℕ, _+_, _*_}
 use mathlib.Core.List.{List, [], _∷_, _++_}
+use lib.ListN.{getD}
 use Rattle.frame.specs.Fireworks.{addressFirework, dataFirework}
 use Rattle.frame.specs.Check.{addressCheck, dataCheck}
 
@@ -11,6 +12,10 @@ frameSize = 6
 -- firework, four bytes, check
 unfoldable pub frameOf : ℕ → List ℕ → ℕ → List ℕ
 frameOf firework bytes check = firework ∷ (bytes ++ (check ∷ []))
+
+-- the "four bytes between firework and check"
+abbrev pub between : List ℕ → List ℕ
+between frame = getD frame 1 0 ∷ getD frame 2 0 ∷ getD frame 3 0 ∷ getD frame 4 0 ∷ []
 
 -- PB2: "file number in the six high bits, operation in the two low"
 unfoldable pub pb2Of : ℕ → ℕ → ℕ

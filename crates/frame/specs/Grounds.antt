@@ -1,14 +1,13 @@
 -- The grounds that a frame or the arguments of a frame writer can have (document 01, "Grounds for turning something away").
 use Prim.Native.Nat.{ℕ}
-use mathlib.Core.List.{List, [], _∷_}
+use mathlib.Core.List.{List}
 use mathlib.Core.Bool.{Bool, not}
 use lib.ListN.{length, getD}
 use lib.Dec.{eqb, leb, ltb}
 use Rattle.file.specs.Order.{both, either}
 use Rattle.file.specs.Cluster.{readOperation, broadcast}
 use Rattle.frame.specs.Fireworks.{addressFirework}
-use Rattle.frame.specs.Check.{addressCheck}
-use Rattle.frame.specs.Frames.{frameSize}
+use Rattle.frame.specs.Frames.{frameSize, between}
 
 -- 9. "The answer buffer is shorter .. than 6 for the frame writer."
 unfoldable pub shortBuffer : List ℕ → Bool
@@ -18,15 +17,13 @@ shortBuffer buffer = ltb (length buffer) frameSize
 unfoldable pub noAddress : List ℕ → Bool
 noAddress frame = either (eqb (length frame) 0) (not (eqb (getD frame 0 0) addressFirework))
 
--- 11. "The frame's length does not fit its firework."
-unfoldable pub wrongLength : List ℕ → Bool
-wrongLength frame = not (eqb (length frame) frameSize)
+-- 11. "The frame's length does not fit its firework.": it is not the given one
+unfoldable pub wrongLength : ℕ → List ℕ → Bool
+wrongLength size frame = not (eqb (length frame) size)
 
--- 12. "The check byte is wrong."
-unfoldable pub wrongCheck : List ℕ → Bool
-wrongCheck frame =
-    not
-    (eqb (getD frame 5 0) (addressCheck (getD frame 1 0 ∷ getD frame 2 0 ∷ getD frame 3 0 ∷ getD frame 4 0 ∷ [])))
+-- 12. "The check byte is wrong.", by the given check of the four bytes before it
+unfoldable pub wrongCheck : (List ℕ → ℕ) → List ℕ → Bool
+wrongCheck check frame = not (eqb (getD frame 5 0) (check (between frame)))
 
 -- 13. "An address frame, read or to be written, has operation 3, or above 3 when handed to the writer."
 unfoldable pub noOperation : ℕ → Bool

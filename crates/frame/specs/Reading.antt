@@ -6,6 +6,8 @@ use lib.ListN.{getD}
 use lib.Dec.{eqb}
 use Rattle.file.specs.Order.{Ground, firstOf}
 use Rattle.file.specs.Cluster.{fileNumberOf, operationOf}
+use Rattle.frame.specs.Check.{addressCheck}
+use Rattle.frame.specs.Frames.{frameSize}
 use Rattle.frame.specs.Grounds.{noAddress, wrongLength, wrongCheck, noOperation, broadcastRead}
 
 -- a refusal by its number, or epoch, logical name, file number, operation and record number
@@ -20,8 +22,8 @@ readGround frame =
     let operation = operationOf (getD frame 3 0) in
     firstOf
     (record { number = 10; holds = noAddress frame } ∷
-    record { number = 11; holds = wrongLength frame } ∷
-    record { number = 12; holds = wrongCheck frame } ∷
+    record { number = 11; holds = wrongLength frameSize frame } ∷
+    record { number = 12; holds = wrongCheck addressCheck frame } ∷
     record { number = 13; holds = noOperation operation } ∷
     record { number = 14; holds = broadcastRead operation name } ∷
     [])

@@ -23,7 +23,8 @@ ghost use Rattle.frame.specs.Answers.{writingOf};
 
 fn put_frame(buf: &mut [u8], firework: u8, b0: u8, b1: u8, b2: u8, b3: u8, check: u8)
     requires { ⌜ frameSize ≤ length (now buf) ⌝ }
-    ensures { λ _. ⌜ now (buf .exit) ≡ frameOf firework (b0 ∷ b1 ∷ b2 ∷ b3 ∷ []) check ++ drop frameSize (now (buf .entry)) ⌝ }
+    ensures { λ _. ⌜ now (buf .exit)
+        ≡ frameOf firework (b0 ∷ b1 ∷ b2 ∷ b3 ∷ []) check ++ drop frameSize (now (buf .entry)) ⌝ }
 {
     buf[0] = firework;
     buf[1] = b0;
@@ -41,7 +42,8 @@ pub fn write_address(
     operation: Operation,
     record: RecordNumber,
 ) -> FrameWriting
-    ensures { λ r. ⌜ (writingOf r, now (buf .exit)) ≡ writeAddress (now (buf .entry)) epoch (name .0) (file .0) (operation .0) («record» .0) ⌝ }
+    ensures { λ r. ⌜ (writingOf r, now (buf .exit))
+        ≡ writeAddress (now (buf .entry)) epoch (name .0) (file .0) (operation .0) («record» .0) ⌝ }
 {
     if buf.len() < FRAME_SIZE {
         return FrameWriting::Refused(Refusal::BUFFER);

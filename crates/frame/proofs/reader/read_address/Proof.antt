@@ -1,7 +1,7 @@
 -- `frame::reader::read_address` meets its contract: at each `return` one law of the reading says what the tests before it leave.
 -- Assumes nothing.
 use Rattle.frame.specs.Answers.{readingOf}
-use Rattle.frame.proofs.Tests.{empty, other-firework, address, six, not-six, check-wrong}
+use Rattle.frame.proofs.Tests.{empty, other-firework, address, right-length, other-length, other-check}
 use Rattle.frame.proofs.Reading.{refuse-10, refuse-11, refuse-12, refuse-13, refuse-14, formed, accept}
 use borrow.Author.Needs.{needs}
 use Rattle.frame.proofs.reader.read_address.Statement.{statement}
@@ -20,7 +20,7 @@ returns-2 c = search (refuse-10, other-firework)
 
 returns-3 : tie.Need-returns-3
 unfolding readingOf
-returns-3 c = search (refuse-11, address, not-six)
+returns-3 c = search (refuse-11, address, other-length)
 
 shared-slice-read-pb2 : tie.Need-shared-slice-read-pb2
 shared-slice-read-pb2 c = search needs
@@ -42,7 +42,7 @@ address-check-requires c κs = search needs
 
 returns-4 : tie.Need-returns-4
 unfolding readingOf
-returns-4 c = search (refuse-12, address, six, check-wrong)
+returns-4 c = search (refuse-12, address, right-length, other-check)
 
 shared-slice-read-new : tie.Need-shared-slice-read-new
 shared-slice-read-new c = search needs
