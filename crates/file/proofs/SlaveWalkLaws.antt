@@ -139,6 +139,8 @@ module _ {f : List ℕ} {count slave entry place : ℕ} {confs docs : List ℕ} 
         walk = sym (slaves-stop 2 f entry place (count - slave) (omega arith) (sym stopped)) ∙ h .walk;
         config = λ t. clash t refl;
         document = λ t. clash t refl;
+        configRoom = h .config .room;
+        documentRoom = h .document .room;
       }
 
   pub surveying-next : {good : Bool} {end conf doc : ℕ} → slave < count → count ≤ 32 → SlaveWalked f entry place good end conf doc → good ≡ true →
@@ -165,4 +167,6 @@ module _ {f : List ℕ} {count slave entry place : ℕ} {confs docs : List ℕ} 
         walk = rw z at (h .walk);
         config = λ _. rw (z, append-nil, same) at (h .config .all);
         document = λ _. rw (z, append-nil, same) at (h .document .all);
+        configRoom = h .config .room;
+        documentRoom = h .document .room;
       }

@@ -18,7 +18,7 @@ use Rattle.file.specs.Encode.{contents, slaveSize}
 use Rattle.file.specs.Decode.{offsetAt, fileSize, filesAt, slaveAt, slavesAt}
 use Rattle.file.specs.Grounds.{Walk, broken, to, andThen, goodTableEntry, walkDirectory, walkSlave, walkSlaves, hasNeeded, allHaveNeeded, isAmong}
 use Rattle.file.specs.Places.{placeAmong, filePlaceFrom}
-use Rattle.file.specs.Checked.{statedIn, statedPlaces}
+use Rattle.file.specs.Checked.{statedIn, statedPlaces, nameAt, NameStands}
 use Rattle.file.proofs.Order.{byCase, clash, either-false-left, either-false-right}
 use Rattle.file.proofs.Facts.{TableEntryFacts, table-entry-facts}
 use Rattle.file.proofs.NumberLaws.{part-add, part-length}
@@ -91,13 +91,6 @@ pub part-part : (l : List ℕ) (p n a m : ℕ) → p + n ≤ length l → a + m 
 part-part l p n a m h g =
     let split : a + (m + (n - (a + m))) ≡ n = omega arith in
     subst (λ (k : ℕ). part (part l p k) a m ≡ part l (p + a) m) split (part-inside l p a m (n - (a + m)) (omega arith))
-
--- the number in the eight bytes behind record 0x00 of the file at a place
-abbrev pub nameAt : List ℕ → ℕ → ℕ
-nameAt f p = numberOf (part f (p + 4) 8)
-
-pub record NameStands (f : List ℕ) (p : ℕ) : Type 0 where
-  pub within : p + 12 ≤ length f
 
 stated-name : {f : List ℕ} {place : ℕ} {s : Slave} {st : ℕ} → Stated f documentation 2 0 place (s .files) st → (0 ≡ st → ⊥) → (physicalName s ≡ nameAt f st) × NameStands f st
 unfolding physicalName bytesIn fileSize

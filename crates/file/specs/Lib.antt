@@ -9,4 +9,5 @@ pub mod Legal
 pub mod Grounds
 pub mod Places
 pub mod Accepted
+pub mod Answers
 pub mod Checked

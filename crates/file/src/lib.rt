@@ -2,5 +2,6 @@
 mod header;
 pub mod numbers;
 mod repeats;
+pub mod survey;
 pub mod types;
 mod walk;
