@@ -2,3 +2,5 @@ pub mod Bus
 pub mod Kept
 pub mod Rounds
 pub mod Untouched
+pub mod Hearing
+pub mod SlaveLaws
