@@ -218,3 +218,8 @@ module _ {o : Operation} {c : Cluster} {firework : ℕ} {old new : List ℕ} {i 
 pub heard-mask : {r : Senders} {firework : ℕ} {old new : List ℕ} {last mask : ℕ} → Heard r firework old new last → mask ≡ senderMask (sendersTo last) → mask ≡ senderMask r
 unfolding senderMask
 heard-mask {r} {last = last} h e = e ∙ mask-alike (sendersTo last) r slots (λ s. sym (h .reach s))
+
+-- the buffer keeps its length
+pub hearing-length : {o : Operation} {c : Cluster} {firework : ℕ} {old new : List ℕ} {i last : ℕ} → Hearing o c firework old new i last → (entry : List ℕ) → slots ≤ length entry → old ≡ answerIn entry (answerBytes firework nobody) → length new ≡ length entry
+hearing-length {o} {c} {firework} {old} {new} {i} h entry long e =
+    ap length (h .heard .buffer) ∙ answer-length old firework (sentTo o (take i (c .slaves))) (h .long) ∙ ap length e ∙ answer-length entry firework nobody long

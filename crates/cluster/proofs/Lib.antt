@@ -4,3 +4,5 @@ pub mod Rounds
 pub mod Untouched
 pub mod Hearing
 pub mod SlaveLaws
+pub mod Changing
+pub mod DataLaws
