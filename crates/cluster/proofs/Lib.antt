@@ -6,3 +6,4 @@ pub mod Hearing
 pub mod SlaveLaws
 pub mod Changing
 pub mod DataLaws
+pub mod FrameLaws

@@ -1,4 +1,5 @@
 // The simulated cluster: one frame on a cluster file.
 pub mod answer;
+pub mod msa;
 pub mod msd;
 pub mod slaves;
