@@ -7,3 +7,4 @@ pub mod SlaveLaws
 pub mod Changing
 pub mod DataLaws
 pub mod FrameLaws
+pub mod Cases
