@@ -15,7 +15,7 @@ use Rattle.file.specs.Decode.{decode}
 use Rattle.file.specs.Legal.{LegalPending}
 use Rattle.file.specs.Places.{withEpoch, withPending}
 use Rattle.file.specs.Accepted.{Becomes, PendingIs}
-use Rattle.file.proofs.Order.{byCase, clash, both-false-left, both-next}
+use Rattle.file.proofs.Order.{byCase, clash, both-right, both-false-left, both-next}
 use Rattle.frame.specs.Fireworks.{Round, multipartner, msd, msa, dataFirework, addressFirework, fireworks, roundIn, roundOf}
 use Rattle.frame.specs.Check.{dataCheck}
 use Rattle.frame.specs.Frames.{frameSize, between}
@@ -34,7 +34,9 @@ use Rattle.cluster.specs.Bus.{senderMask, answerBytes, answerIn, nobody}
 use Rattle.cluster.specs.Slaves.{withAddress}
 use Rattle.cluster.specs.Grounds.{roundBy, noFirework, writePending, lengthFor, wrongLengthOn, wrongCheckOn, noOperationOn, broadcastReadOn, groundsOn, frameGround}
 use Rattle.cluster.specs.Round.{Effect, Answer, refused, carried, addressEffect, dataEffect, effectOf, frameOn, carriedBy, bufferBy, exchange}
-use Rattle.cluster.specs.Carried.{Carried, Exchanged}
+use Rattle.cluster.specs.Carried.{AllKept, Carried, Exchanged}
+use Rattle.file.proofs.Shape.{shape-refl}
+use Rattle.cluster.proofs.Changing.{all-shape, all-decoded}
 use Rattle.cluster.proofs.Bus.{mask-nobody}
 use Rattle.cluster.proofs.Rounds.{Fits, fits-facts, address-pending}
 
@@ -226,3 +228,29 @@ module _ (c : Cluster) (frame : List ℕ) {x : AddressReading} {epoch : ℕ} {na
       let carry : Carried (addressEffect c frame) addressFirework old new 0 f′ = record { senders = mask-nobody; buffer = stored; becomes = after } in
       let there : Carried (frameOn c frame) addressFirework old new 0 f′ = subst (λ (y : Effect). Carried y addressFirework old new 0 f′) (sym effect) carry in
       exchange-carried c frame old fits (subst (λ (b : ℕ). Carried (frameOn c frame) b old new 0 f′) (sym (address-first frame isAddress)) there)
+
+-- ---- an address and then its data
+
+module _ (c : Cluster) (epoch name pb2 pb3 : ℕ) {f : List ℕ} (raised : Becomes f (withEpoch c epoch)) where
+  pub pending-legal : LegalPending (withAddress c epoch name pb2 pb3) → LegalPending (withPending (decode f) 1 name pb2 pb3)
+  unfolding withAddress
+  pending-legal p = rw (raised .decoded) p
+
+  module _ {g : List ℕ} (stored : Becomes g (withPending (decode f) 1 name pb2 pb3)) where
+    pub becomes-address : Becomes g (withAddress c epoch name pb2 pb3)
+    unfolding withAddress
+    becomes-address = subst (λ (d : Cluster). Becomes g (withPending d 1 name pb2 pb3)) (raised .decoded) stored
+
+    pub address-all : {n : ℕ} {places : List ℕ} {count : ℕ} → AllKept c n places count → AllKept (decode g) n places count
+    unfolding withAddress withPending withEpoch
+    address-all k = all-decoded becomes-address (all-shape {c = c} {d = withAddress c epoch name pb2 pb3} (shape-refl (c .slaves)) k)
+
+    pub address-writes : writePending (decode g) ≡ true → operationOf pb2 ≡ writeOperation
+    unfolding withAddress withPending writePending
+    address-writes w =
+        let there : writePending (withAddress c epoch name pb2 pb3) ≡ true = subst (λ (d : Cluster). writePending d ≡ true) (becomes-address .decoded) w in
+        eqb-true (operationOf pb2) writeOperation (both-right _ _ there)
+
+    pub address-carried : (bytes : List ℕ) {old new file : List ℕ} {mask : ℕ} → Carried (dataEffect (decode g) bytes) dataFirework old new mask file → Carried (dataEffect (withAddress c epoch name pb2 pb3) bytes) dataFirework old new mask file
+    address-carried bytes {old} {new} {file} {mask} k =
+        subst (λ (d : Cluster). Carried (dataEffect d bytes) dataFirework old new mask file) (becomes-address .decoded) k

@@ -8,3 +8,4 @@ pub mod Changing
 pub mod DataLaws
 pub mod FrameLaws
 pub mod Cases
+pub mod Mask

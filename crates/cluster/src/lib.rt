@@ -2,4 +2,5 @@
 pub mod answer;
 pub mod msa;
 pub mod msd;
+pub mod round;
 pub mod slaves;
