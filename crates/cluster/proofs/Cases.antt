@@ -58,7 +58,8 @@ pub m7-reply : (s : Slave) → isUnnamed s ≡ true → physicalName s + 1 ≡ c
 unfolding replyTo
 m7-reply s e less = rw (unnamed-compares s e, lt-leb (comparisonValue s) (physicalName s) (omega (arith, less)))
 
-quiet-mask : (r : Senders) → ((slot : ℕ) → r slot ≡ nobody slot) → senderMask r ≡ 0
+-- where nobody sends the mask is 0
+pub quiet-mask : (r : Senders) → ((slot : ℕ) → r slot ≡ nobody slot) → senderMask r ≡ 0
 unfolding senderMask
 quiet-mask r quiet = mask-alike r nobody slots (λ s. ap anyone (quiet s)) ∙ sym mask-nobody
 

@@ -163,6 +163,11 @@ duty-writes c {flag} {name} {n} {operation} {r} d p e is =
     let w : isWriting (dutyIn flag name n operation r) ≡ true = rw (← e, is) in
     rw (← (p .waits), ← (p .does)) (writes-only flag name n operation r w)
 
+pub pending-writes : (c : Cluster) {name n r : ℕ} → pendingOperation c ≡ writing name n r → writePending c ≡ true
+unfolding writePending pendingOperation operationIn dutyIn isWriting
+pending-writes c p =
+    writes-only (c .flag) (c .pendingName) (fileNumberOf (c .pendingPB2)) (operationOf (c .pendingPB2)) (c .pendingPB3) (ap isWriting p)
+
 -- ---- the file with the epoch raised
 
 pub all-raised : {f : List ℕ} {c : Cluster} {n : ℕ} {places : List ℕ} {count : ℕ} → Becomes f (epochRaised c) → AllKept c n places count → AllKept (decode f) n places count

@@ -167,17 +167,17 @@ address-ground c frame h =
     rw (h, first)
 
 -- what was read of a frame
-record Parts (frame : List ℕ) (epoch name number operation «record» : ℕ) : Type 0 where
-  ground : readGround frame ≡ 0
-  pb0 : epoch ≡ getD frame 1 0
-  pb1 : name ≡ getD frame 2 0
-  pb2 : 4 * number + operation ≡ getD frame 3 0
-  pb3 : «record» ≡ getD frame 4 0
+pub record Parts (frame : List ℕ) (epoch name number operation «record» : ℕ) : Type 0 where
+  pub ground : readGround frame ≡ 0
+  pub pb0 : epoch ≡ getD frame 1 0
+  pub pb1 : name ≡ getD frame 2 0
+  pub pb2 : 4 * number + operation ≡ getD frame 3 0
+  pub pb3 : «record» ≡ getD frame 4 0
 
 parts-refused : {P : Type 0} {e n m o r g : ℕ} → parts e n m o r ≡ Reading.refused g → P
 parts-refused h = let z : _≡_ {A = ℕ} 0 1 = cc in absurd (omega arith)
 
-parts-facts : (frame : List ℕ) {e n m o r : ℕ} → parts e n m o r ≡ readAddress frame → Parts frame e n m o r
+pub parts-facts : (frame : List ℕ) {e n m o r : ℕ} → parts e n m o r ≡ readAddress frame → Parts frame e n m o r
 unfolding readAddress partsOf
 parts-facts frame {e} {n} {m} {o} {r} h =
     byCase (eqb (readGround frame) 0)

@@ -9,3 +9,4 @@ pub mod DataLaws
 pub mod FrameLaws
 pub mod Cases
 pub mod Mask
+pub mod Sent
