@@ -10,3 +10,4 @@ pub mod FrameLaws
 pub mod Cases
 pub mod Mask
 pub mod Sent
+pub mod RoundCall
