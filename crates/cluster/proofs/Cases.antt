@@ -1,24 +1,24 @@
 -- The document's cases M6 to M9, as facts of the round definition: on every file that the round accepts, with the operation pending
 -- that the case names.
 -- Assumes nothing.
-use Prim.Native.Nat.{ℕ, suc, _+_, _*_, _≤_, _<_}
+use Prim.Native.Nat.{ℕ, _+_}
 use native.Mathlib.Omega.{arith}
 use mathlib.Core.Path.{_≡_, refl, sym, ap, _∙_}
-use mathlib.Core.List.{List, [], _∷_, _++_, append-nil}
-use mathlib.Core.Bool.{Bool, true, false, not}
-use lib.ListN.{length, getD, take, drop}
+use mathlib.Core.List.{List, [], _∷_, append-nil}
+use mathlib.Core.Bool.{true}
+use lib.ListN.{getD}
 use lib.Dec.{eqb, leb}
 use borrow.Author.Tests.{eqb-true, eqb-false, le-leb, lt-leb}
 use Rattle.file.specs.Order.{both}
-use Rattle.file.specs.Cluster.{Slave, Cluster, recordOf, logicalName, physicalName, comparisonValue, unnamed, broadcast}
+use Rattle.file.specs.Cluster.{Slave, Cluster, recordOf, logicalName, physicalName, comparisonValue, unnamed}
 use Rattle.file.specs.Decode.{decode}
-use Rattle.file.proofs.Order.{byCase, clash, both-true, both-false-left, both-false-right}
+use Rattle.file.proofs.Order.{byCase}
 use Rattle.frame.specs.Fireworks.{dataFirework, roundOf, roundIn}
 use Rattle.cluster.specs.Bus.{Senders, joined, busByte, anyone, slots, maskBelow, senderMask, slotBytes, answerBytes, answerIn, nobody}
 use Rattle.cluster.specs.Slaves.{addressed, addresses, isUnnamed, Operation, reading, comparing, pendingOperation, answersRead, readReply, answersCompare, replyTo, inSlot, sentTo}
 use Rattle.cluster.specs.Grounds.{roundBy}
-use Rattle.cluster.specs.Round.{Effect, Answer, carried, dataEffect, effectOf, frameOn, carriedBy, bufferBy, roundGround, roundOn}
-use Rattle.cluster.proofs.Bus.{mask-bit, mask-alike, mask-nobody, answer-alike, sendersTo-yes, sendersTo-no}
+use Rattle.cluster.specs.Round.{carried, dataEffect, effectOf, frameOn, carriedBy, bufferBy, roundGround, roundOn}
+use Rattle.cluster.proofs.Bus.{mask-alike, mask-nobody, answer-alike, sendersTo-yes, sendersTo-no}
 use Rattle.cluster.specs.Carried.{sendersTo}
 use Rattle.cluster.proofs.Hearing.{inSlot-yes, inSlot-no, inSlot-nil}
 use Rattle.cluster.proofs.DataLaws.{sent-nothing}

@@ -1,36 +1,32 @@
 -- The data part of a master-slave round: the duty, the epoch, and what each duty's round comes to.
 -- Assumes nothing.
-use Prim.Native.Nat.{ℕ, suc, _+_, _*_, _%_, _≤_, _<_}
+use Prim.Native.Nat.{ℕ, _+_, _%_}
 use native.Mathlib.Omega.{arith}
 use mathlib.Core.Path.{_≡_, refl, sym, ap, _∙_, subst}
-use mathlib.Core.Logic.{_≢_}
 use mathlib.Core.List.{List, [], _∷_, map}
-use mathlib.Core.Bool.{Bool, true, false, cond, not}
-use lib.ListN.{length, getD}
+use mathlib.Core.Bool.{Bool, true, false, not}
 use lib.Dec.{eqb}
 use borrow.Author.Tests.{eq-eqb, ne-eqb, not-true, not-false}
 use Rattle.file.specs.Bytes.{Byte}
 use Rattle.file.specs.Order.{both}
 use Rattle.file.specs.Cluster.{Slave, Cluster, configuration, documentation, operationOf, fileNumberOf, readOperation, writeOperation, executeOperation}
 use Rattle.file.specs.Decode.{decode}
-use Rattle.file.specs.Places.{withSlaves, withEpoch, SameShape}
+use Rattle.file.specs.Places.{withSlaves, withEpoch}
 use Rattle.file.specs.Accepted.{Becomes, PendingIs}
 use Rattle.file.proofs.Order.{byCase, clash, both-true, both-false-left, both-false-right}
-use Rattle.file.proofs.ReaderLaws.{becomes-decoded}
-use Rattle.file.proofs.Shape.{shape-refl}
 use Rattle.cluster.specs.declared.msd.Duty.{Duty}
 use Rattle.cluster.specs.declared.msd.Duty.the-variants as duties
-use Rattle.cluster.specs.Bus.{Senders, senderMask, answerBytes, answerIn, nobody}
-use Rattle.cluster.specs.Slaves.{Operation, nothing, reading, writing, comparing, baptizing, executionOf, operationIn, pendingOperation, nextEpoch, epochRaised, mayWrite, takesWrite, replyTo, inSlot, sentTo, slaveAfter, slavesAfter}
+use Rattle.cluster.specs.Bus.{senderMask, answerBytes, answerIn, nobody}
+use Rattle.cluster.specs.Slaves.{Operation, nothing, reading, writing, comparing, baptizing, executionOf, operationIn, pendingOperation, nextEpoch, epochRaised, mayWrite, takesWrite, replyTo, sentTo, slaveAfter, slavesAfter}
 use Rattle.cluster.specs.Grounds.{writePending}
-use Rattle.cluster.specs.Round.{Effect, dataEffect}
+use Rattle.cluster.specs.Round.{dataEffect}
 use Rattle.cluster.specs.Carried.{sendersTo, Heard, Carried, AllKept}
 use Rattle.cluster.specs.Answers.{dutyOf, dutyIn}
 use Rattle.frame.specs.Fireworks.{dataFirework}
 use Rattle.cluster.proofs.Bus.{counting-start, counting-done}
 use Rattle.cluster.proofs.Hearing.{heard-nobody, heard-mask, inSlot-nil}
 use Rattle.cluster.proofs.Changing.{all-shape, all-decoded}
-use Rattle.cluster.proofs.Kept.{ClusterKept, kept-raised}
+use Rattle.cluster.proofs.Kept.{kept-raised}
 
 -- ---- the duty: one law for each way
 

@@ -1,6 +1,6 @@
 -- One master-slave frame on an accepted file: its grounds, and what each way out comes to.
 -- Assumes nothing.
-use Prim.Native.Nat.{ℕ, suc, _+_, _*_, _/_, _%_, _≤_, _<_}
+use Prim.Native.Nat.{ℕ, _+_, _*_, _/_, _%_, _<_}
 use native.Mathlib.Omega.{arith}
 use mathlib.Core.Path.{_≡_, refl, sym, ap, _∙_, subst}
 use mathlib.Core.List.{List, [], _∷_}
@@ -19,7 +19,7 @@ use Rattle.file.proofs.Order.{byCase, clash, both-right, both-false-left, both-
 use Rattle.frame.specs.Fireworks.{Round, multipartner, msd, msa, dataFirework, addressFirework, fireworks, roundIn, roundOf}
 use Rattle.frame.specs.Check.{dataCheck}
 use Rattle.frame.specs.Frames.{frameSize, between}
-use Rattle.frame.specs.Grounds.{wrongLength, wrongCheck, noOperation, broadcastRead, noAddress}
+use Rattle.frame.specs.Grounds.{wrongLength, wrongCheck, broadcastRead, noAddress}
 use Rattle.frame.specs.Reading.{Reading, parts, readGround, partsOf, readAddress}
 use Rattle.frame.specs.Answers.{readingOf}
 use Rattle.frame.specs.declared.types.AddressReading.{AddressReading}
@@ -30,10 +30,10 @@ use Rattle.file.specs.declared.types.LogicalName.{LogicalName}
 use Rattle.file.specs.declared.types.FileNumber.{FileNumber}
 use Rattle.file.specs.declared.types.RecordNumber.{RecordNumber}
 use Rattle.frame.proofs.Tests as Tests
-use Rattle.cluster.specs.Bus.{senderMask, answerBytes, answerIn, nobody}
+use Rattle.cluster.specs.Bus.{answerBytes, answerIn, nobody}
 use Rattle.cluster.specs.Slaves.{withAddress}
 use Rattle.cluster.specs.Grounds.{roundBy, noFirework, writePending, lengthFor, wrongLengthOn, wrongCheckOn, noOperationOn, broadcastReadOn, groundsOn, frameGround}
-use Rattle.cluster.specs.Round.{Effect, Answer, refused, carried, addressEffect, dataEffect, effectOf, frameOn, carriedBy, bufferBy, exchange}
+use Rattle.cluster.specs.Round.{Effect, refused, carried, addressEffect, dataEffect, effectOf, frameOn, carriedBy, bufferBy, exchange}
 use Rattle.cluster.specs.Carried.{AllKept, Carried, Exchanged}
 use Rattle.file.proofs.Shape.{shape-refl}
 use Rattle.cluster.proofs.Changing.{all-shape, all-decoded}

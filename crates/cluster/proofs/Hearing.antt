@@ -1,20 +1,19 @@
 -- The replies of all slaves, one slave after the other: what a loop along the slaves keeps of buffer and slots, and one law for a
 -- turn.
 -- Assumes nothing.
-use Prim.Native.Nat.{ℕ, zero, suc, _+_, _*_, _≤_, _<_}
+use Prim.Native.Nat.{ℕ, zero, suc, _+_, _≤_, _<_}
 use native.Mathlib.Omega.{arith}
 use native.Mathlib.Numerals.{add-one}
 use mathlib.Core.Path.{_≡_, refl, sym, ap, _∙_}
 use mathlib.Core.Logic.{_⊎_, inl, inr, ⊎-elim}
 use mathlib.Core.List.{List, [], _∷_, _++_, append-assoc, append-nil}
-use mathlib.Core.Bool.{Bool, true, false, cond}
+use mathlib.Core.Bool.{true}
 use lib.ListN.{length, getD, take, drop, length-append, length-take, length-drop}
-use lib.Seq.{take-suc, take-length, take-all, drop-at, drop-nil}
+use lib.Seq.{take-suc, take-all, drop-at, drop-nil}
 use lib.Dec.{leb, ltb}
 use borrow.Author.Tests.{leb-true, leb-false, ltb-true, ltb-false}
 use Rattle.file.specs.Bytes.{part}
-use Rattle.file.specs.Layout.{recordSize}
-use Rattle.file.specs.Cluster.{Slave, Cluster, bytesIn, hasRecord, recordOf}
+use Rattle.file.specs.Cluster.{Slave, Cluster, hasRecord, recordOf}
 use Rattle.file.specs.Places.{noSlave, slaveOf}
 use Rattle.file.proofs.Order.{byCase, both-right}
 use Rattle.file.proofs.Puts.{hasRecord-fits}

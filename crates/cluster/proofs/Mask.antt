@@ -1,6 +1,6 @@
 -- The sender mask, as the layers above read it: "bit s is set exactly when someone sent in slot s"; "bit 0 is never set".
 -- Assumes nothing.
-use Prim.Native.Nat.{ℕ, zero, suc, _/_, _%_, _^_, _<_}
+use Prim.Native.Nat.{ℕ, _/_, _%_, _^_, _<_}
 use native.Mathlib.Omega.{arith}
 use mathlib.Core.Path.{_≡_, refl, sym, ap, _∙_}
 use mathlib.Core.Logic.{_≢_, _↔_}
@@ -8,7 +8,7 @@ use mathlib.Core.List.{List, [], _∷_}
 use Rattle.file.specs.Cluster.{Slave, Cluster}
 use Rattle.frame.specs.Fireworks.{Round, multipartner, msd, msa, none}
 use Rattle.cluster.specs.Bus.{Senders, anyone, slots, senderMask, nobody}
-use Rattle.cluster.specs.Slaves.{Operation, replyTo, inSlot, sentTo, pendingOperation}
+use Rattle.cluster.specs.Slaves.{Operation, inSlot, sentTo, pendingOperation}
 use Rattle.cluster.specs.Multipartner.{sentIn, sentDuring}
 use Rattle.cluster.specs.Grounds.{roundBy}
 use Rattle.cluster.specs.Round.{addressEffect, dataEffect, multipartnerEffect, effectOf, frameOn}

@@ -1,15 +1,13 @@
 -- The public call's ways: a file that is refused, a buffer that is too short, and one frame of any bytes on an accepted file.
 -- Assumes nothing.
 use Prim.Native.Nat.{ℕ, _≤_, _<_}
-use mathlib.Core.Path.{_≡_, refl, sym, ap, _∙_}
-use mathlib.Core.List.{List, [], _∷_}
-use mathlib.Core.Bool.{Bool, true, false, cond}
+use mathlib.Core.Path.{_≡_, sym, _∙_}
+use mathlib.Core.List.{List}
 use lib.ListN.{length, getD}
 use lib.Dec.{eqb}
-use borrow.Author.Tests.{le-ltb, lt-ltb, eqb-true, eqb-false, ne-eqb}
+use borrow.Author.Tests.{le-ltb, lt-ltb, eqb-true, eqb-false}
 use native.Mathlib.Omega.{arith}
 use Rattle.file.specs.Order.{firstOf}
-use Rattle.file.specs.Cluster.{Cluster}
 use Rattle.file.specs.Encode.{encode}
 use Rattle.file.specs.Decode.{decode}
 use Rattle.file.specs.Grounds.{fileGround}
@@ -17,10 +15,9 @@ use Rattle.file.specs.Accepted.{Becomes}
 use Rattle.file.proofs.Order.{byCase}
 use Rattle.cluster.specs.Bus.{slots}
 use Rattle.cluster.specs.Grounds.{shortAnswer, frameGround}
-use Rattle.cluster.specs.Round.{Answer, refused, carried, frameOn, carriedBy, bufferBy, exchange, firstGround, roundGround, roundOn}
+use Rattle.cluster.specs.Round.{Answer, refused, frameOn, carriedBy, bufferBy, exchange, roundGround, roundOn}
 use Rattle.cluster.specs.Carried.{Exchanged}
 use Rattle.cluster.proofs.Rounds.{round-refused, round-accepted, firstGround-next, firstGround-here}
-use Rattle.cluster.proofs.Sent.{round-fits}
 
 pub file-refused : (file frame buffer : List ℕ) {n : ℕ} → n ≡ fileGround file → (n ≡ 0 → ⊥) → (refused n, buffer, file) ≡ roundOn file frame buffer
 unfolding roundGround

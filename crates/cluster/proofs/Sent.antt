@@ -4,30 +4,29 @@
 -- Assumes nothing.
 use Prim.Native.Nat.{ℕ, _+_, _*_, _≤_}
 use native.Mathlib.Omega.{arith}
-use mathlib.Core.Path.{_≡_, refl, sym, ap, _∙_}
+use mathlib.Core.Path.{_≡_, refl, sym, _∙_}
 use mathlib.Core.List.{List, [], _∷_}
-use mathlib.Core.Bool.{Bool, true, false, cond}
+use mathlib.Core.Bool.{true}
 use lib.ListN.{length, getD, take}
-use lib.Dec.{eqb}
-use borrow.Author.Tests.{le-ltb, eq-eqb}
+use borrow.Author.Tests.{le-ltb}
 use Rattle.file.specs.Order.{firstOf}
 use Rattle.file.specs.Cluster.{Cluster}
 use Rattle.file.specs.Encode.{encode}
 use Rattle.file.specs.Decode.{decode}
 use Rattle.file.specs.Grounds.{fileGround}
 use Rattle.file.proofs.Order.{first-none}
-use Rattle.frame.specs.Fireworks.{Round, msd, msa, dataFirework, addressFirework, roundOf, roundIn}
+use Rattle.frame.specs.Fireworks.{msd, msa, dataFirework, addressFirework, roundOf, roundIn}
 use Rattle.frame.specs.Frames.{frameSize, frameOf, between, dataFrame}
 use Rattle.frame.specs.Check.{dataCheck}
-use Rattle.frame.specs.Reading.{Reading, parts, readGround, readAddress}
+use Rattle.frame.specs.Reading.{parts, readGround, readAddress}
 use Rattle.frame.specs.Writing.{Writing, writeAddress}
 use Rattle.frame.proofs.Tests as Tests
 use Rattle.frame.proofs.RoundTrip.{written-reads}
-use Rattle.cluster.specs.Bus.{Senders, slots, senderMask, answerBytes, answerIn, nobody}
-use Rattle.cluster.specs.Slaves.{withAddress, epochRaised, Operation, writing, pendingOperation, sentTo, slavesAfter, replyTo}
+use Rattle.cluster.specs.Bus.{slots, senderMask, answerBytes, answerIn, nobody}
+use Rattle.cluster.specs.Slaves.{withAddress, epochRaised, writing, pendingOperation, sentTo, slavesAfter, replyTo}
 use Rattle.cluster.specs.Grounds.{shortAnswer, roundBy, writePending, frameGround}
-use Rattle.cluster.specs.Round.{Effect, carried, addressEffect, dataEffect, effectOf, frameOn, carriedBy, bufferBy, firstGround, roundGround, roundOn}
-use Rattle.cluster.proofs.Bus.{mask-alike, mask-nobody, answer-alike}
+use Rattle.cluster.specs.Round.{carried, addressEffect, dataEffect, effectOf, frameOn, carriedBy, bufferBy, roundGround, roundOn}
+use Rattle.cluster.proofs.Bus.{mask-nobody, answer-alike}
 use Rattle.cluster.proofs.DataLaws.{sent-nothing, pending-writes}
 use Rattle.cluster.proofs.Cases.{quiet-mask}
 use Rattle.cluster.proofs.Rounds.{round-accepted, firstGround-next}

@@ -1,5 +1,5 @@
 -- What the inner functions promise to one another and to the layers above.
-use Prim.Native.Nat.{ℕ, zero, suc, _≤_, _<_}
+use Prim.Native.Nat.{ℕ, suc, _<_}
 use mathlib.Core.Path.{_≡_}
 use mathlib.Core.List.{List, [], _∷_}
 use mathlib.Core.Bool.{cond}
@@ -11,7 +11,6 @@ use Rattle.file.specs.Cluster.{Slave, Cluster}
 use Rattle.file.specs.Places.{withSlaves}
 use Rattle.file.specs.Accepted.{Becomes, KeptAt}
 use Rattle.cluster.specs.Bus.{Senders, anyone, senderMask, answerBytes, answerIn}
-use Rattle.cluster.specs.Slaves.{Operation, sentTo}
 use Rattle.cluster.specs.Round.{Effect, Answer, exchange}
 
 -- an accepted frame carried out: the mask, the buffer and the file
