@@ -2,3 +2,4 @@ pub mod Bus
 pub mod Kept
 pub mod Rounds
 pub mod Untouched
+pub mod EntryLaws

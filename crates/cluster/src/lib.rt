@@ -1,2 +1,3 @@
 // The simulated cluster: one frame on a cluster file.
 pub mod answer;
+pub mod entry;
