@@ -4,10 +4,10 @@ use Prim.Native.Nat.{ℕ, suc, _+_, _*_, _-_, _≤_, _<_}
 use native.Mathlib.Omega.{arith}
 use mathlib.Core.Path.{_≡_, refl, sym, ap, _∙_}
 use mathlib.Core.Bool.{Bool, true, false, cond}
-use lib.Dec.{leb, ltb}
-use borrow.Author.Tests.{lt-ltb, le-ltb, le-leb, lt-leb, ltb-true, ltb-false}
-use Rattle.file.specs.Order.{both}
-use Rattle.file.proofs.Order.{byCase, both-false-left, both-next}
+use lib.Dec.{leb, ltb, eqb}
+use borrow.Author.Tests.{lt-ltb, le-ltb, le-leb, lt-leb, ltb-true, ltb-false, eqb-true}
+use Rattle.file.specs.Order.{both, either}
+use Rattle.file.proofs.Order.{byCase, clash, both-false-left, both-next, either-false}
 use Rattle.cluster.specs.Entries.{Entry, entryOf, receives, sends, ends, covers, bytePlace}
 use Rattle.cluster.specs.EntryForm.{codeOf, multiplexOf, multiplexIn, OperationIs, entryFrom, evaluated, Action, ending, sending, receiving, resting, actionBy, actionFrom}
 use Rattle.cluster.specs.declared.entry.Entry as Code
@@ -105,3 +105,49 @@ covers-test start count slot h =
 pub covers-late : (e : Code.Entry) (slot : ℕ) → e .slot ≤ slot → ltb (slot - e .slot) (e .length) ≡ covers (entryFrom e) slot
 unfolding covers entryFrom
 covers-late e slot h = covers-test (e .slot) (e .length) slot h ∙ sym (both-next _ (le-leb _ _ h))
+
+-- ---- who sends and who receives
+
+sends-goes-on : (n : ℕ) → sends n ≡ true → ends n ≡ false
+unfolding sends ends either
+sends-goes-on n t =
+    byCase (eqb n 1)
+    (λ q. rw (eqb-true n 1 q))
+    (λ q. byCase (eqb n 5) (λ p. rw (eqb-true n 5 p)) (λ p. clash t (either-false q p)))
+
+receives-silent : (n : ℕ) → receives n ≡ true → (ends n ≡ false) × (sends n ≡ false)
+unfolding receives sends ends either
+receives-silent n t =
+    byCase (eqb n 0)
+    (λ q. rw (eqb-true n 0 q) (refl, refl))
+    (λ q.
+    byCase (eqb n 2)
+    (λ p. rw (eqb-true n 2 p) (refl, refl))
+    (λ p. byCase (eqb n 4) (λ r. rw (eqb-true n 4 r) (refl, refl)) (λ r. clash t (either-false q (either-false p r)))))
+
+pub sends-action : (operation : ℕ) → sends operation ≡ isSending (actionBy operation)
+unfolding actionBy isSending
+sends-action n =
+    byCase (sends n)
+    (λ e. rw (e, sends-goes-on n e))
+    (λ e. rw e (byCase (ends n) (λ q. rw q) (λ q. rw q (byCase (receives n) (λ r. rw r) (λ r. rw r)))))
+
+pub receives-action : (operation : ℕ) → receives operation ≡ isReceiving (actionBy operation)
+unfolding actionBy isReceiving
+receives-action n =
+    byCase (receives n)
+    (λ e. let no = receives-silent n e in rw (e, no .0, no .1))
+    (λ e. rw e (byCase (ends n) (λ q. rw q) (λ q. rw q (byCase (sends n) (λ r. rw r) (λ r. rw r)))))
+
+-- what an operation's action says of it
+pub record Does (e : Code.Entry) (is : Action) : Type 0 where
+  pub send : sends (entryFrom e .operation) ≡ isSending is
+  pub receive : receives (entryFrom e .operation) ≡ isReceiving is
+
+pub does : (e : Code.Entry) {t : Action} (u : Action) → t ≡ actionBy (codeOf (e .operation)) → t ≡ u → Does e u
+unfolding entryFrom
+does e u is q =
+    record {
+      send = sends-action (codeOf (e .operation)) ∙ ap isSending (sym is ∙ q);
+      receive = receives-action (codeOf (e .operation)) ∙ ap isReceiving (sym is ∙ q);
+    }

@@ -3,3 +3,9 @@ pub mod Kept
 pub mod Rounds
 pub mod Untouched
 pub mod EntryLaws
+pub mod TurnLaws
+pub mod RoundFileLaws
+pub mod StoreLaws
+pub mod SearchLaws
+pub mod HearLaws
+pub mod SlotLaws

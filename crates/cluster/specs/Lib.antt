@@ -7,3 +7,4 @@ pub mod Grounds
 pub mod Round
 pub mod Carried
 pub mod EntryForm
+pub mod Slots
