@@ -1,14 +1,14 @@
 -- Laws of the code's entries against those of the rules, one for each way through the functions on them.
 -- Assumes nothing.
-use Prim.Native.Nat.{ℕ, suc, _+_, _*_, _-_, _≤_, _<_}
+use Prim.Native.Nat.{ℕ, suc, _+_, _-_, _≤_, _<_}
 use native.Mathlib.Omega.{arith}
 use mathlib.Core.Path.{_≡_, refl, sym, ap, _∙_}
-use mathlib.Core.Bool.{Bool, true, false, cond}
-use lib.Dec.{leb, ltb, eqb}
+use mathlib.Core.Bool.{Bool, true, false}
+use lib.Dec.{ltb, eqb}
 use borrow.Author.Tests.{lt-ltb, le-ltb, le-leb, lt-leb, ltb-true, ltb-false, eqb-true}
-use Rattle.file.specs.Order.{both, either}
+use Rattle.file.specs.Order.{either}
 use Rattle.file.proofs.Order.{byCase, clash, both-false-left, both-next, either-false}
-use Rattle.cluster.specs.Entries.{Entry, entryOf, receives, sends, ends, covers, bytePlace}
+use Rattle.cluster.specs.Entries.{Entry, entryOf, receives, sends, ends, covers}
 use Rattle.cluster.specs.EntryForm.{codeOf, multiplexOf, multiplexIn, OperationIs, entryFrom, evaluated, Action, ending, sending, receiving, resting, actionBy, actionFrom}
 use Rattle.cluster.specs.declared.entry.Entry as Code
 use Rattle.cluster.specs.declared.entry.EntryOperation.{EntryOperation}

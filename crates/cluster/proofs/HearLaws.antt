@@ -1,22 +1,22 @@
 -- The slaves of a slot, one after the other: what is heard so far, and where the receivers among them store.
 -- Assumes nothing.
-use Prim.Native.Nat.{ℕ, zero, suc, _+_, _*_, _-_, _≤_, _<_}
+use Prim.Native.Nat.{ℕ, zero, suc, _+_, _-_, _≤_, _<_}
 use native.Mathlib.Omega.{arith}
 use native.Mathlib.Numerals.{add-one}
 use mathlib.Core.Path.{_≡_, refl, sym, ap, _∙_}
 use mathlib.Core.List.{List, [], _∷_, _++_, append-assoc, append-nil}
-use mathlib.Core.Bool.{Bool, true, false, cond}
+use mathlib.Core.Bool.{Bool, true, false}
 use lib.ListN.{length, getD, set, take, length-set}
 use lib.Seq.{take-all, getD-set-same, getD-set-other}
 use lib.Dec.{eqb}
 use lib.Bits.{bitAnd}
 use borrow.Author.Tests.{eqb-true, eqb-false}
 use Rattle.file.specs.Order.{either}
-use Rattle.file.specs.Cluster.{Slave, Cluster, bytesIn}
+use Rattle.file.specs.Cluster.{Slave, Cluster}
 use Rattle.file.specs.Decode.{decode}
-use Rattle.file.specs.Places.{noSlave, slaveOf, filePlace}
+use Rattle.file.specs.Places.{noSlave, slaveOf}
 use Rattle.file.specs.Accepted.{Becomes}
-use Rattle.file.proofs.Order.{byCase, either-right}
+use Rattle.file.proofs.Order.{byCase}
 use Rattle.file.proofs.ReaderLaws.{place-within, header-within}
 use Rattle.cluster.specs.Bus.{joined, busByte, anyone}
 use Rattle.cluster.specs.Multipartner.{Place, sendsFrom, storesAt, byteThere, sentBy}

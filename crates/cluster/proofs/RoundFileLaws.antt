@@ -1,19 +1,18 @@
 -- Where each slave keeps its round file: one law for each way of finding it, and the loop over the slaves.
 -- Assumes nothing.
-use Prim.Native.Nat.{ℕ, zero, suc, _+_, _*_, _-_, _/_, _≤_, _<_}
+use Prim.Native.Nat.{ℕ, _+_, _-_, _/_, _≤_, _<_}
 use native.Mathlib.Omega.{arith}
-use mathlib.Core.Path.{_≡_, refl, sym, ap, _∙_}
-use mathlib.Core.List.{List, [], _∷_}
-use mathlib.Core.Bool.{Bool, true, false, cond}
+use mathlib.Core.Path.{_≡_, refl, sym, _∙_}
+use mathlib.Core.List.{List}
 use lib.ListN.{length, getD, set, length-set}
 use lib.Seq.{getD-set-same, getD-set-other}
-use lib.Dec.{eqb, ltb}
-use borrow.Author.Tests.{eq-eqb, ne-eqb, eqb-true, eqb-false, ltb-true, ltb-false}
+use lib.Dec.{eqb}
+use borrow.Author.Tests.{eq-eqb, ne-eqb, eqb-true, eqb-false}
 use Rattle.file.specs.Bytes.{All, none, both}
-use Rattle.file.specs.Cluster.{File, Slave, Cluster, bytesAmong, bytesIn, lastRecord, logicalName, configuration}
-use Rattle.file.specs.Legal.{LegalFile, LegalSlave}
-use Rattle.file.specs.Places.{slaveOf, filePlace}
-use Rattle.file.specs.Accepted.{Becomes, Placed, KeptAt, FoundFile, fileAt, findFile}
+use Rattle.file.specs.Cluster.{File, Cluster, bytesAmong, bytesIn, lastRecord, logicalName, configuration}
+use Rattle.file.specs.Legal.{LegalFile}
+use Rattle.file.specs.Places.{slaveOf}
+use Rattle.file.specs.Accepted.{Becomes, KeptAt, findFile}
 use Rattle.file.specs.Answers.{foundFile}
 use Rattle.file.specs.declared.readers.FilePlace.{FilePlace}
 use Rattle.file.specs.declared.readers.FilePlace.the-variants.{Bytes, NoFile}

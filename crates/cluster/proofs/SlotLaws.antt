@@ -1,28 +1,27 @@
 -- Slots 1 to 63, one after the other: what the loop over them keeps, and the round that it makes.
 -- Assumes nothing.
-use Prim.Native.Nat.{ℕ, zero, suc, _+_, _*_, _-_, _^_, _≤_, _<_}
+use Prim.Native.Nat.{ℕ, zero, suc, _+_, _-_, _^_, _≤_, _<_}
 use native.Mathlib.Omega.{arith}
 use native.Mathlib.Numerals.{add-one}
-use mathlib.Core.Path.{_≡_, refl, sym, ap, _∙_, subst}
-use mathlib.Core.List.{List, [], _∷_, map}
-use mathlib.Core.Bool.{Bool, true, false, cond}
-use lib.ListN.{length, getD, set, length-set}
-use lib.Dec.{eqb}
-use Rattle.file.specs.Cluster.{Slave, Cluster, bytesIn, lastRecord, logicalName, configuration}
+use mathlib.Core.Path.{_≡_, refl, sym, ap, _∙_}
+use mathlib.Core.List.{List, [], _∷_}
+use mathlib.Core.Bool.{Bool, true, false}
+use lib.ListN.{length, set}
+use Rattle.file.specs.Cluster.{Cluster, bytesIn, logicalName, configuration}
 use Rattle.file.specs.Decode.{decode}
-use Rattle.file.specs.Places.{slaveOf, filePlace, withSlaves, SameShape}
+use Rattle.file.specs.Places.{slaveOf, filePlace, SameShape}
 use Rattle.file.specs.Accepted.{Becomes, Placed}
 use Rattle.file.proofs.Shape.{shape-count, shape-filePlaceAt}
 use Rattle.file.proofs.ReaderLaws.{becomes-decoded}
 use Rattle.cluster.specs.Bus.{Senders, busByte, anyone, maskBelow, slots, senderMask}
 use Rattle.cluster.specs.Slaves.{isUnnamed}
-use Rattle.cluster.specs.Multipartner.{storesAt, storedThere, sentBy, sentIn, receivedIn, clusterBelow, sentDuring}
+use Rattle.cluster.specs.Multipartner.{sentBy, sentIn, receivedIn, clusterBelow, sentDuring}
 use Rattle.cluster.specs.Carried.{Carried}
 use Rattle.cluster.specs.Slots.{slotsEffect, Configured, entriesIn, RoundFileIs, RoundFilesAre, storedBelow}
 use Rattle.cluster.proofs.Bus.{busByte-byte, mask-below, mask-next, mask-silent, Filled, filled-start, filled-next, filled-done}
 use Rattle.cluster.proofs.Kept.{kept-received}
 use Rattle.cluster.proofs.Untouched.{filesOf-slave, received-other}
-use Rattle.cluster.proofs.StoreLaws.{stored-length, receivedBy, receiver, received-all, stored-becomes}
+use Rattle.cluster.proofs.StoreLaws.{stored-length, receivedBy, received-all, stored-becomes}
 use Rattle.cluster.proofs.HearLaws.{someone, someone-yes, someone-no, Hearing, heard-byte, heard-any, heard-aims}
 
 pub placed-configured : {c : Cluster} {count : ℕ} {a b : List ℕ} → Placed c count a b → Configured c count a

@@ -1,12 +1,12 @@
 -- The slot's byte stored by the receivers: the loop, and the cluster that the file then holds.
 -- Assumes nothing.
-use Prim.Native.Nat.{ℕ, zero, suc, _+_, _*_, _-_, _≤_, _<_}
+use Prim.Native.Nat.{ℕ, zero, suc, _+_, _-_, _≤_, _<_}
 use native.Mathlib.Omega.{arith}
 use native.Mathlib.Numerals.{add-one}
 use mathlib.Core.Path.{_≡_, refl, sym, ap, _∙_}
 use mathlib.Core.Logic.{_≢_}
 use mathlib.Core.List.{List, [], _∷_, map}
-use mathlib.Core.Bool.{Bool, true, false, cond}
+use mathlib.Core.Bool.{true, cond}
 use lib.ListN.{length, getD, set, length-set}
 use lib.Dec.{eqb}
 use borrow.Author.Tests.{eq-eqb, ne-eqb, ltb-true}
@@ -23,13 +23,11 @@ use Rattle.file.proofs.Shape.{shape-refl, shape-filePlaceAt}
 use Rattle.file.proofs.Stores.{store-byte}
 use Rattle.file.proofs.Kept.{legal-putByte}
 use Rattle.file.proofs.Accepted.{legal-becomes}
-use Rattle.cluster.specs.Bus.{busByte}
 use Rattle.cluster.specs.Slaves.{isUnnamed}
 use Rattle.cluster.specs.Entries.{Entry, Acting, acts, acting, bytePlace, receives}
-use Rattle.cluster.specs.Multipartner.{Place, nowhere, byteOf, within, mayStore, storePlace, storesAt, storedThere, receivedIn}
-use Rattle.cluster.specs.Slots.{placeIn, storedBelow, StoresWithin}
-use Rattle.cluster.proofs.Bus.{busByte-byte}
-use Rattle.cluster.proofs.Kept.{SlaveKept, Storable, storesAt-stores, stored-kept}
+use Rattle.cluster.specs.Multipartner.{Place, nowhere, byteOf, within, mayStore, storePlace, storesAt, storedThere}
+use Rattle.cluster.specs.Slots.{placeIn, storedBelow}
+use Rattle.cluster.proofs.Kept.{SlaveKept, storesAt-stores, stored-kept}
 
 -- ---- the loop
 

@@ -1,26 +1,26 @@
 -- What a slave does in a slot: one law for each way through the functions that find it.
 -- Assumes nothing.
-use Prim.Native.Nat.{ℕ, suc, _+_, _*_, _-_, _/_, _≤_, _<_}
+use Prim.Native.Nat.{ℕ, _+_, _-_, _≤_, _<_}
 use native.Mathlib.Omega.{arith}
 use mathlib.Core.Path.{_≡_, refl, sym, ap, _∙_}
-use mathlib.Core.List.{List, [], _∷_}
-use mathlib.Core.Bool.{Bool, true, false, cond, not}
+use mathlib.Core.List.{List}
+use mathlib.Core.Bool.{Bool, true, false, not}
 use lib.ListN.{length, getD}
-use lib.Dec.{leb, ltb, eqb}
+use lib.Dec.{leb, eqb}
 use lib.Bits.{bitAnd}
-use borrow.Author.Tests.{lt-ltb, le-ltb, le-leb, lt-leb, leb-true, leb-false, ltb-true, ltb-false, eqb-true, eqb-false, not-true, not-false}
+use borrow.Author.Tests.{lt-ltb, le-ltb, le-leb, lt-leb, ltb-true, eqb-true, eqb-false, not-true, not-false}
 use Rattle.file.specs.Order.{both, either}
-use Rattle.file.specs.Cluster.{Slave, Cluster, bytesIn}
+use Rattle.file.specs.Cluster.{Cluster, bytesIn}
 use Rattle.file.specs.Places.{slaveOf, filePlace}
 use Rattle.file.specs.Accepted.{Becomes, FoundFile, fileAt, findFile}
 use Rattle.file.specs.Answers.{foundFile}
 use Rattle.file.specs.declared.readers.FilePlace.{FilePlace}
 use Rattle.file.specs.declared.readers.FilePlace.the-variants.{Bytes, NoFile}
-use Rattle.file.proofs.Order.{byCase, clash, both-left, both-right, both-true, both-false-left, both-false-right, both-next, either-right}
+use Rattle.file.proofs.Order.{byCase, both-true, both-false-left, both-false-right, both-next, either-right}
 use Rattle.file.proofs.ReaderLaws.{byte-there, place-within}
 use Rattle.cluster.specs.Bus.{joined}
-use Rattle.cluster.specs.Entries.{Entry, Acting, acts, bytePlace, receives, sends}
-use Rattle.cluster.specs.Multipartner.{Place, nowhere, byteOf, within, mayStore, sendPlace, storePlace, byteThere}
+use Rattle.cluster.specs.Entries.{Entry, acts, bytePlace, receives, sends}
+use Rattle.cluster.specs.Multipartner.{within, mayStore, sendPlace, storePlace, byteThere}
 use Rattle.cluster.specs.EntryForm.{entryFrom, evaluated, codeOf, actionBy, actionFrom, Action, ending, sending, receiving, resting}
 use Rattle.cluster.specs.Slots.{FoundByte, outside, byteAt, findByte, foundByte, placeIn, turnSends, turnStores, isSender, TurnIs}
 use Rattle.cluster.specs.declared.entry.Entry as Code

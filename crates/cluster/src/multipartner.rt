@@ -1,7 +1,6 @@
 // Multipartner rounds: slots 1 to 63 over the slaves' round files.
 ghost use mathlib.Core.Path.{_≡_};
-ghost use Prim.Native.Nat.{_+_, _^_, _≤_, _<_};
-ghost use lib.Bits.{bitAnd};
+ghost use Prim.Native.Nat.{_+_, _≤_, _<_};
 ghost use lib.ListN.{length};
 ghost use Rattle.file.specs.Order.{either};
 ghost use Rattle.file.specs.Cluster.{configuration};
