@@ -9,3 +9,7 @@ pub mod StoreLaws
 pub mod SearchLaws
 pub mod HearLaws
 pub mod SlotLaws
+pub mod Hearing
+pub mod SlaveLaws
+pub mod Changing
+pub mod DataLaws

@@ -8,3 +8,4 @@ pub mod Round
 pub mod Carried
 pub mod EntryForm
 pub mod Slots
+pub mod Answers

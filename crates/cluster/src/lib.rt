@@ -2,3 +2,5 @@
 pub mod answer;
 pub mod entry;
 pub mod multipartner;
+pub mod msd;
+pub mod slaves;
