@@ -9,17 +9,17 @@ use lib.Seq.{getD-set-same, getD-set-other}
 use lib.Dec.{eqb}
 use borrow.Author.Tests.{eq-eqb, ne-eqb, eqb-true, eqb-false}
 use Rattle.file.specs.Bytes.{All, none, both}
-use Rattle.file.specs.Cluster.{File, Cluster, bytesAmong, bytesIn, lastRecord, logicalName, configuration}
+use Rattle.file.specs.Cluster.{File, Cluster, bytesAmong, bytesIn, lastRecord, logicalName}
 use Rattle.file.specs.Legal.{LegalFile}
 use Rattle.file.specs.Places.{slaveOf}
-use Rattle.file.specs.Accepted.{Becomes, KeptAt, findFile}
+use Rattle.file.specs.Accepted.{Becomes, findFile}
 use Rattle.file.specs.Answers.{foundFile}
 use Rattle.file.specs.declared.readers.FilePlace.{FilePlace}
 use Rattle.file.specs.declared.readers.FilePlace.the-variants.{Bytes, NoFile}
 use Rattle.file.proofs.Order.{byCase}
 use Rattle.file.proofs.ReaderLaws.{slave-legal}
 use Rattle.cluster.specs.Slaves.{isUnnamed}
-use Rattle.cluster.specs.Slots.{Configured, entriesIn, RoundFileIs, RoundFilesAre}
+use Rattle.cluster.specs.Slots.{entriesIn, RoundFileIs, RoundFilesAre}
 use Rattle.cluster.proofs.TurnLaws.{Found, found-facts, missing-empty}
 
 -- ---- one slave
@@ -75,11 +75,6 @@ module _ (c : Cluster) (round s : ℕ) where
 
 pub few-slaves : {f : List ℕ} {c : Cluster} → Becomes f c → length (c .slaves) ≤ 32
 few-slaves h = h .legal .count
-
-pub configured-at : {c : Cluster} {count : ℕ} {configurations : List ℕ} (s : ℕ) → Configured c count configurations → s < count → KeptAt c configuration configurations s
-configured-at {c} s p l =
-    let there : s < length (c .slaves) = omega (arith, p .all) in
-    record { slave = there; place = p .config s there }
 
 -- what the loop over the slaves keeps
 pub record Finding (c : Cluster) (round : ℕ) (places entries : List ℕ) (n : ℕ) : Type 0 where

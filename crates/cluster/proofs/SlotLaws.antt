@@ -10,22 +10,20 @@ use lib.ListN.{length, set}
 use Rattle.file.specs.Cluster.{Cluster, bytesIn, logicalName, configuration}
 use Rattle.file.specs.Decode.{decode}
 use Rattle.file.specs.Places.{slaveOf, filePlace, SameShape}
-use Rattle.file.specs.Accepted.{Becomes, Placed}
+use Rattle.file.specs.Accepted.{Becomes}
 use Rattle.file.proofs.Shape.{shape-count, shape-filePlaceAt}
 use Rattle.file.proofs.ReaderLaws.{becomes-decoded}
 use Rattle.cluster.specs.Bus.{Senders, busByte, anyone, maskBelow, slots, senderMask}
-use Rattle.cluster.specs.Slaves.{isUnnamed}
+use Rattle.cluster.specs.Slaves.{isUnnamed, epochRaised}
 use Rattle.cluster.specs.Multipartner.{sentBy, sentIn, receivedIn, clusterBelow, sentDuring}
+use Rattle.cluster.specs.Round.{multipartnerEffect}
 use Rattle.cluster.specs.Carried.{Carried}
-use Rattle.cluster.specs.Slots.{slotsEffect, Configured, entriesIn, RoundFileIs, RoundFilesAre, storedBelow}
+use Rattle.cluster.specs.Slots.{slotsEffect, entriesIn, RoundFileIs, RoundFilesAre, storedBelow}
 use Rattle.cluster.proofs.Bus.{busByte-byte, mask-below, mask-next, mask-silent, Filled, filled-start, filled-next, filled-done}
 use Rattle.cluster.proofs.Kept.{kept-received}
 use Rattle.cluster.proofs.Untouched.{filesOf-slave, received-other}
 use Rattle.cluster.proofs.StoreLaws.{stored-length, receivedBy, received-all, stored-becomes}
 use Rattle.cluster.proofs.HearLaws.{someone, someone-yes, someone-no, Hearing, heard-byte, heard-any, heard-aims}
-
-pub placed-configured : {c : Cluster} {count : ℕ} {a b : List ℕ} → Placed c count a b → Configured c count a
-placed-configured p = record { all = p .all; config = p .config }
 
 -- ---- the round files stay where and what they are
 
@@ -184,3 +182,9 @@ running-done old {slot} h left =
       buffer = filled-done old (h .filled) left;
       becomes = rw last at (h .after);
     }
+
+-- the whole round, from the file whose epoch is raised
+pub raised-carries : (c : Cluster) {f : List ℕ} (round : ℕ) {firework : ℕ} {old new : List ℕ} {mask : ℕ} {file : List ℕ} → Becomes f (epochRaised c)
+    → Carried (slotsEffect (decode f) round) firework old new mask file → Carried (multipartnerEffect c round) firework old new mask file
+unfolding multipartnerEffect slotsEffect
+raised-carries c round h carried = rw (h .decoded) at carried

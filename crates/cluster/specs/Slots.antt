@@ -5,7 +5,7 @@ use mathlib.Core.List.{List, [], _∷_}
 use mathlib.Core.Bool.{Bool, true, false, cond}
 use lib.ListN.{length, getD, set}
 use lib.Dec.{eqb}
-use Rattle.file.specs.Cluster.{Slave, Cluster, bytesIn, lastRecord, configuration}
+use Rattle.file.specs.Cluster.{Slave, Cluster, bytesIn, lastRecord}
 use Rattle.file.specs.Places.{slaveOf, filePlace}
 use Rattle.cluster.specs.Bus.{slots}
 use Rattle.cluster.specs.Slaves.{isUnnamed}
@@ -20,11 +20,6 @@ use Rattle.cluster.specs.declared.multipartner.Turn.the-variants.{Sends,
 -- a multipartner round whose epoch is raised already
 unfoldable pub slotsEffect : Cluster → ℕ → Effect
 slotsEffect c round = record { senders = sentDuring round c; after = clusterBelow round c slots }
-
--- the number of slaves, and where each keeps 0x08
-pub record Configured (c : Cluster) (count : ℕ) (configurations : List ℕ) : Type 0 where
-  pub all : count ≡ length (c .slaves)
-  pub config : (s : ℕ) → s < length (c .slaves) → getD configurations s 0 ≡ filePlace c s configuration
 
 -- ---- each slave's round file: "Round r runs file r of each slave not unnamed; others take no part."
 

@@ -1,6 +1,6 @@
 // The simulated cluster: one frame on a cluster file.
 pub mod answer;
 pub mod entry;
-pub mod multipartner;
 pub mod msd;
+pub mod multipartner;
 pub mod slaves;

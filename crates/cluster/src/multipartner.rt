@@ -5,13 +5,14 @@ ghost use lib.ListN.{length};
 ghost use Rattle.file.specs.Order.{either};
 ghost use Rattle.file.specs.Cluster.{configuration};
 ghost use Rattle.file.specs.Decode.{decode};
-ghost use Rattle.file.specs.Accepted.{Becomes, Placed, KeptAt};
+ghost use Rattle.file.specs.Accepted.{Becomes, KeptAt};
 ghost use Rattle.cluster.specs.Bus.{slots, joined};
 ghost use Rattle.cluster.specs.Entries.{Acting};
 ghost use Rattle.cluster.specs.Multipartner.{mayStore};
 ghost use Rattle.cluster.specs.EntryForm.{entryFrom};
-ghost use Rattle.cluster.specs.Carried.{Carried};
-ghost use Rattle.cluster.specs.Slots.{slotsEffect, Configured, RoundFileIs, RoundFilesAre, findByte, foundByte, TurnIs, turnSends, turnStores, isSender, storedBelow, StoresWithin};
+ghost use Rattle.cluster.specs.Carried.{Carried, AllKept};
+ghost use Rattle.cluster.specs.Round.{multipartnerEffect};
+ghost use Rattle.cluster.specs.Slots.{slotsEffect, RoundFileIs, RoundFilesAre, findByte, foundByte, TurnIs, turnSends, turnStores, isSender, storedBelow, StoresWithin};
 use crate::answer::SLOTS;
 use crate::answer::with_sender;
 use crate::entry::Entry;
@@ -21,10 +22,10 @@ use crate::entry::byte_place;
 use crate::entry::entry_at;
 use crate::entry::is_covering;
 use crate::entry::is_end;
+use crate::msd::raise_epoch;
 use file::readers::FilePlace;
 use file::readers::find_file;
 use file::readers::logical_name;
-use file::survey::Places;
 use file::types::FileNumber;
 use file::types::LogicalName;
 
@@ -74,7 +75,7 @@ fn round_files(
     count: usize,
     round: FileNumber,
 ) -> RoundFiles
-    requires { ⌜ Becomes (now file) (decode (now file)) × Configured (decode (now file)) count (now configurations) ⌝ }
+    requires { ⌜ Becomes (now file) (decode (now file)) × AllKept (decode (now file)) configuration (now configurations) count ⌝ }
     ensures { λ r. ⌜ RoundFilesAre (decode (now (file .entry))) (round .0) (r .places) (r .entries) ⌝ }
 {
     let mut places = [0usize; 32];
@@ -211,20 +212,20 @@ fn store(file: &mut [u8], places: &[usize; 32], count: usize, byte: u8)
     }
 }
 
-// A whole multipartner round, its epoch already raised.
-pub fn multipartner(
+// Slots 1 to 63 of a multipartner round. Where each slave keeps its round file is found once, before the first slot: no receive
+// stores in a round file or in 0x08.
+fn run_slots(
     file: &mut [u8],
-    places: Places,
+    configurations: &[usize; 32],
+    count: usize,
     round: u8,
     firework: u8,
     buffer: &mut [u8],
 ) -> u64
-    requires { ⌜ Becomes (now file) (decode (now file)) × Placed (decode (now file)) (places .count) (places .configuration) (places .documentation) × (round < 0x10) × (slots ≤ length (now buffer)) ⌝ }
+    requires { ⌜ Becomes (now file) (decode (now file)) × AllKept (decode (now file)) configuration (now configurations) count × (round < 0x10) × (slots ≤ length (now buffer)) ⌝ }
     ensures { λ r. ⌜ Carried (slotsEffect (decode (now (file .entry))) round) firework (now (buffer .entry)) (now (buffer .exit)) r (now (file .exit)) ⌝ }
 {
-    let count = places.count;
-    let configurations = places.configuration;
-    let files = round_files(file, &configurations, count, FileNumber(round));
+    let files = round_files(file, configurations, count, FileNumber(round));
     let starts = files.places;
     let entries = files.entries;
     let mut mask = 0u64;
@@ -264,4 +265,20 @@ pub fn multipartner(
         slot = slot + 1;
     }
     mask
+}
+
+// One multipartner frame: the round of that number. The mask of the slots in which someone sent.
+pub fn carry_multipartner(
+    file: &mut [u8],
+    configurations: &[usize; 32],
+    count: usize,
+    round: u8,
+    firework: u8,
+    buffer: &mut [u8],
+) -> u64
+    requires { ⌜ Becomes (now file) (decode (now file)) × AllKept (decode (now file)) configuration (now configurations) count × (round < 0x10) × (slots ≤ length (now buffer)) ⌝ }
+    ensures { λ r. ⌜ Carried (multipartnerEffect (decode (now (file .entry))) round) firework (now (buffer .entry)) (now (buffer .exit)) r (now (file .exit)) ⌝ }
+{
+    raise_epoch(file);
+    run_slots(file, configurations, count, round, firework, buffer)
 }

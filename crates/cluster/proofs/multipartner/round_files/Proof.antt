@@ -4,7 +4,7 @@ use Prim.Native.Nat.{_-_}
 use native.Mathlib.Omega.{arith}
 use mathlib.Core.Path.{refl}
 use Rattle.file.specs.Decode.{decode}
-use Rattle.cluster.proofs.RoundFileLaws.{Finding, finding-start, finding-next, finding-done, configured-at, few-slaves}
+use Rattle.cluster.proofs.RoundFileLaws.{Finding, finding-start, finding-next, finding-done, few-slaves}
 use Rattle.cluster.proofs.multipartner.round_files.Statement.{statement}
 use Rattle.cluster.proofs.multipartner.round_files.Tie as tie
 
@@ -22,7 +22,7 @@ loop-holds c = finding-start _ _ refl refl
 round-file-requires : tie.Need-round-file-requires Inv-loop μ-loop
 round-file-requires c κs =
     let start = c .before .before .before in
-    (start .pre .0, configured-at _ (start .pre .1) (c .loop-test .taken))
+    (start .pre .0, start .pre .1 .at (c .before .loop .slave) (omega (arith, start .pre .1 .all)))
 
 mul-places : tie.Need-mul-places Inv-loop μ-loop
 mul-places c = omega arith

@@ -1,4 +1,4 @@
--- `cluster::multipartner::multipartner` meets its contract. The invariants: of the slots `Running`, the round so far; of a slot's
+-- `cluster::multipartner::run_slots` meets its contract. The invariants: of the slots `Running`, the round so far; of a slot's
 -- slaves `Hearing`, what was sent and who stores where; of a slave's entries `Searching`, that the entry that acts is yet to come.
 -- Assumes nothing.
 use Prim.Native.Nat.{_-_}
@@ -12,39 +12,39 @@ use Rattle.file.proofs.ReaderLaws.{length-limit}
 use Rattle.cluster.proofs.Bus.{filled-length}
 use Rattle.cluster.proofs.SearchLaws.{Searching, Turned, turned-same, searching-start, start-small, entry-within, searching-end, searching-covers, searching-next, searching-done, covering-fits}
 use Rattle.cluster.proofs.HearLaws.{Hearing, hearing-start, hearing-next, aims-within}
-use Rattle.cluster.proofs.SlotLaws.{Running, placed-configured, running-start, mask-small, running-silent, running-heard, running-done}
-use Rattle.cluster.proofs.multipartner.multipartner.Statement.{statement}
-use Rattle.cluster.proofs.multipartner.multipartner.Tie as tie
+use Rattle.cluster.proofs.SlotLaws.{Running, running-start, mask-small, running-silent, running-heard, running-done}
+use Rattle.cluster.proofs.multipartner.run_slots.Statement.{statement}
+use Rattle.cluster.proofs.multipartner.run_slots.Tie as tie
 
 abbrev Inv-entries : tie.InvT-entries
-Inv-entries file round firework buffer count starts entries mask slot bus heard stores slave turn₀ left₀ at₀ turn left at =
+Inv-entries file configurations count round firework buffer starts entries mask slot bus heard stores slave turn₀ left₀ at₀ turn left at =
     Searching (decode file) round slot slave turn left at
 
 abbrev μ-entries : tie.MeasureT-entries
-μ-entries file round firework buffer count starts entries mask slot bus heard stores slave turn₀ left₀ at₀ turn left at =
+μ-entries file configurations count round firework buffer starts entries mask slot bus heard stores slave turn₀ left₀ at₀ turn left at =
     left
 
 abbrev Inv-slaves : tie.InvT-slaves
-Inv-slaves file round firework buffer count starts entries mask slot bus₀ heard₀ stores₀ slave₀ bus heard stores slave =
+Inv-slaves file configurations count round firework buffer starts entries mask slot bus₀ heard₀ stores₀ slave₀ bus heard stores slave =
     Hearing (decode file) round slot slave bus heard stores
 
 abbrev μ-slaves : tie.MeasureT-slaves
-μ-slaves file round firework buffer count starts entries mask slot bus₀ heard₀ stores₀ slave₀ bus heard stores slave =
+μ-slaves file configurations count round firework buffer starts entries mask slot bus₀ heard₀ stores₀ slave₀ bus heard stores slave =
     count - slave
 
 abbrev Inv-slots : tie.InvT-slots
-Inv-slots file₀ round firework buffer₀ count starts entries mask₀ slot₀ file buffer mask slot =
+Inv-slots file₀ configurations count round firework buffer₀ starts entries mask₀ slot₀ file buffer mask slot =
     Running file₀ round firework count starts entries buffer₀ slot mask buffer file
 
 abbrev μ-slots : tie.MeasureT-slots
-μ-slots file₀ round firework buffer₀ count starts entries mask₀ slot₀ file buffer mask slot =
+μ-slots file₀ configurations count round firework buffer₀ starts entries mask₀ slot₀ file buffer mask slot =
     64 - slot
 
 round-files-requires :
     tie.Need-round-files-requires Inv-entries μ-entries Inv-slaves μ-slaves Inv-slots μ-slots
 round-files-requires c κs =
-    let start = c .before .before .before .before .before in
-    (start .pre .0, placed-configured (start .pre .1))
+    let start = c .before .before .before in
+    (start .pre .0, start .pre .1)
 
 slice-write-buffer :
     tie.Need-slice-write-buffer Inv-entries μ-entries Inv-slaves μ-slaves Inv-slots μ-slots
@@ -52,7 +52,7 @@ slice-write-buffer c = omega arith
 
 slots-holds : tie.Need-slots-holds Inv-entries μ-entries Inv-slaves μ-slaves Inv-slots μ-slots
 slots-holds c =
-    let start = c .before .before .before .before .before .before .before .before in
+    let start = c .before .before .before .before .before .before in
     running-start _ (start .args .buffer .now) (start .pre .0) (start .pre .2) (start .pre .1 .all) (c .before .before .round-files .ensures) (start .pre .3)
 
 slaves-holds : tie.Need-slaves-holds Inv-entries μ-entries Inv-slaves μ-slaves Inv-slots μ-slots
@@ -125,7 +125,7 @@ entries-again c =
 
 -- the three ways out of the search meet here
 turned : (c : tie.Left-entries Inv-entries μ-entries Inv-slaves μ-slaves Inv-slots μ-slots) →
-    Turned (decode (c .before .before .before .before .before .slots .file)) (c .before .before .before .before .before .before .before .before .before .before .before .before .before .before .args .round) (c .before .before .before .before .before .slots .slot) (c .before .before .before .slaves .slave) (c .entries-test .turn)
+    Turned (decode (c .before .before .before .before .before .slots .file)) (c .before .before .before .before .before .before .before .before .before .before .before .before .args .round) (c .before .before .before .before .before .slots .slot) (c .before .before .before .slaves .slave) (c .entries-test .turn)
 turned c =
     let search = c .before .entries .inv in
     let accepted = c .before .before .before .before .before .slots .inv .ready .becomes in
@@ -212,8 +212,8 @@ same-length-2 c = filled-length (c .before .slots .inv .filled) ∙ simp length-
 returns : tie.Need-returns Inv-entries μ-entries Inv-slaves μ-slaves Inv-slots μ-slots
 returns c = running-done _ (c .before .slots .inv) (c .slots-test .left)
 
-pub multipartner-spec : {M : Type 1} → statement M
-multipartner-spec =
+pub run-slots-spec : {M : Type 1} → statement M
+run-slots-spec =
     tie.close
     (tie.spec
     Inv-entries
