@@ -13,3 +13,4 @@ pub mod Hearing
 pub mod SlaveLaws
 pub mod Changing
 pub mod DataLaws
+pub mod RoundNumbers

@@ -18,7 +18,7 @@ use Rattle.cluster.specs.Bus.{slots}
 use Rattle.cluster.specs.Slaves.{isUnnamed}
 use Rattle.cluster.specs.Entries.{Entry, entryOf, entryAt, ends, covers, Acting, none, acts, actingFrom, acting}
 use Rattle.cluster.specs.Multipartner.{sendPlace, storePlace, sendsFrom, storesAt, byteThere}
-use Rattle.cluster.specs.EntryForm.{entryFrom, evaluated}
+use Rattle.cluster.specs.EntryForm.{entryFrom, evaluated, Reaches}
 use Rattle.cluster.specs.Slots.{entriesIn, RoundFileIs, placeIn, turnSends, turnStores, TurnIs}
 use Rattle.cluster.specs.declared.entry.Entry as Code
 use Rattle.cluster.specs.declared.multipartner.Turn.{Turn}
@@ -198,10 +198,10 @@ searching-done {c} {round} {slot} {s} {turn} {left} q over =
     (turned c round slot s none (sym (q .same) ∙ acting-none (bytesIn (slaveOf c s) round) slot (q .k) left nought) (nobody-acts c s slot))
 
 -- what `turn_of` asks of the covering entry
-pub covering-fits : (b₀ b₁ b₂ b₃ : ℕ) {slot : ℕ} (e : Code.Entry) {t : Bool} → entryFrom e ≡ evaluated (entryOf b₀ b₁ b₂ b₃) → t ≡ covers (entryFrom e) slot → t ≡ true → slot < slots
-    → (e .address .align < 4) × (e .slot ≤ slot) × (slot < slots)
+pub covering-reaches : (b₀ b₁ b₂ b₃ : ℕ) {slot : ℕ} (e : Code.Entry) {t : Bool} → entryFrom e ≡ evaluated (entryOf b₀ b₁ b₂ b₃) → t ≡ covers (entryFrom e) slot → t ≡ true → slot < slots
+    → Reaches e slot
 unfolding entryFrom evaluated entryOf covers
-covering-fits b₀ b₁ b₂ b₃ {slot} e is cover inside few =
+covering-reaches b₀ b₁ b₂ b₃ {slot} e is cover inside few =
     let align : e .address .align ≡ b₀ % 4 = ap (λ (x : Entry). x .align) is in
     let start : e .slot ≤ slot = leb-true (e .slot) slot (both-left _ _ (sym cover ∙ inside)) in
-    (omega (arith, align), start, few)
+    record { align = omega (arith, align); begun = start; inRound = few }

@@ -1,9 +1,10 @@
 -- The code's entry in the terms of Entries.antt: each operation by its code of 002, table 4. A struct's entry keeps the multiplex
 -- field for the multiplexed operations alone, which alone evaluate it.
-use Prim.Native.Nat.{ℕ}
+use Prim.Native.Nat.{ℕ, _≤_, _<_}
 use mathlib.Core.Path.{_≡_, refl}
 use mathlib.Core.Bool.{cond}
 use lib.Dec.{leb}
+use Rattle.cluster.specs.Bus.{slots}
 use Rattle.cluster.specs.Entries.{Entry, entryOf, receives, sends, ends}
 use Rattle.cluster.specs.declared.entry.Entry as Code
 use Rattle.cluster.specs.declared.entry.EntryOperation.{EntryOperation}
@@ -83,6 +84,12 @@ evaluated e =
       multiplex = multiplexIn (e .operation) (e .multiplex);
       start = e .start;
     }
+
+-- a slot of the round that the entry reaches: its byte place is small
+pub record Reaches (e : Code.Entry) (slot : ℕ) : Type 0 where
+  pub align : e .address .align < 4
+  pub begun : e .slot ≤ slot
+  pub inRound : slot < slots
 
 -- what a slave does for an entry that covers a slot, by its operation
 pub data Action : Type 0 where

@@ -3,8 +3,7 @@ ghost use mathlib.Core.Path.{_≡_};
 ghost use Prim.Native.Nat.{_+_, _≤_, _<_};
 ghost use lib.ListN.{length, getD};
 ghost use Rattle.cluster.specs.Entries.{entryOf, ends, covers, bytePlace};
-ghost use Rattle.cluster.specs.Bus.{slots};
-ghost use Rattle.cluster.specs.EntryForm.{OperationIs, codeOf, entryFrom, evaluated, actionBy, actionFrom};
+ghost use Rattle.cluster.specs.EntryForm.{OperationIs, codeOf, entryFrom, evaluated, Reaches, actionBy, actionFrom};
 use file::types::FileNumber;
 use file::types::RecordNumber;
 
@@ -147,7 +146,7 @@ pub fn is_covering(entry: Entry, slot: usize) -> bool
 
 // The byte of the entry's file that a slot is about.
 pub fn byte_place(entry: Entry, slot: usize) -> usize
-    requires { ⌜ (entry .address .align < 4) × (entry .slot ≤ slot) × (slot < slots) ⌝ }
+    requires { ⌜ Reaches entry slot ⌝ }
     ensures { λ r. ⌜ r ≡ bytePlace (entryFrom entry) slot ⌝ }
 {
     let record = entry.address.record.0 as usize;

@@ -9,7 +9,7 @@ ghost use Rattle.file.specs.Accepted.{Becomes, KeptAt};
 ghost use Rattle.cluster.specs.Bus.{slots, joined};
 ghost use Rattle.cluster.specs.Entries.{Acting};
 ghost use Rattle.cluster.specs.Multipartner.{mayStore};
-ghost use Rattle.cluster.specs.EntryForm.{entryFrom};
+ghost use Rattle.cluster.specs.EntryForm.{entryFrom, Reaches};
 ghost use Rattle.cluster.specs.Carried.{Carried, AllKept};
 ghost use Rattle.cluster.specs.Round.{multipartnerEffect};
 ghost use Rattle.cluster.specs.Slots.{slotsEffect, RoundFileIs, RoundFilesAre, findByte, foundByte, TurnIs, turnSends, turnStores, isSender, storedBelow, StoresWithin};
@@ -98,7 +98,7 @@ pub enum BytePlace {
 
 // The byte that a slot is about, for an entry that covers it.
 fn find_byte(file: &[u8], slave: usize, entry: Entry, slot: usize) -> BytePlace
-    requires { ⌜ Becomes (now file) (decode (now file)) × (slave < length (decode (now file) .slaves)) × ((entry .address .align < 4) × (entry .slot ≤ slot) × (slot < slots)) ⌝ }
+    requires { ⌜ Becomes (now file) (decode (now file)) × (slave < length (decode (now file) .slaves)) × Reaches entry slot ⌝ }
     ensures { λ r. ⌜ foundByte r ≡ findByte (decode (now (file .entry))) slave (entryFrom entry) slot ⌝ }
 {
     let number = entry.address.file;
@@ -115,7 +115,7 @@ fn find_byte(file: &[u8], slave: usize, entry: Entry, slot: usize) -> BytePlace
 
 // A receive stores only in files 0x10 to 0x3C, outside record 0x00.
 fn may_store(entry: Entry, slot: usize) -> bool
-    requires { ⌜ (entry .address .align < 4) × (entry .slot ≤ slot) × (slot < slots) ⌝ }
+    requires { ⌜ Reaches entry slot ⌝ }
     ensures { λ r. ⌜ r ≡ mayStore (entryFrom entry) slot ⌝ }
 {
     if entry.address.file.0 < 0x10 {
@@ -136,7 +136,7 @@ pub enum Turn {
 
 // What the acting entry makes a slave do.
 fn turn_of(file: &[u8], slave: usize, entry: Entry, slot: usize) -> Turn
-    requires { ⌜ Becomes (now file) (decode (now file)) × (slave < length (decode (now file) .slaves)) × ((entry .address .align < 4) × (entry .slot ≤ slot) × (slot < slots)) ⌝ }
+    requires { ⌜ Becomes (now file) (decode (now file)) × (slave < length (decode (now file) .slaves)) × Reaches entry slot ⌝ }
     ensures { λ r. ⌜ TurnIs (decode (now (file .entry))) slave slot (Acting.acts (entryFrom entry)) r ⌝ }
 {
     let operation = entry.operation;

@@ -10,7 +10,7 @@ use borrow.Author.Needs.{needs}
 use Rattle.file.specs.Decode.{decode}
 use Rattle.file.proofs.ReaderLaws.{length-limit}
 use Rattle.cluster.proofs.Bus.{filled-length}
-use Rattle.cluster.proofs.SearchLaws.{Searching, Turned, turned-same, searching-start, start-small, entry-within, searching-end, searching-covers, searching-next, searching-done, covering-fits}
+use Rattle.cluster.proofs.SearchLaws.{Searching, Turned, turned-same, searching-start, start-small, entry-within, searching-end, searching-covers, searching-next, searching-done, covering-reaches}
 use Rattle.cluster.proofs.HearLaws.{Hearing, hearing-start, hearing-next, aims-within}
 use Rattle.cluster.proofs.SlotLaws.{Running, running-start, mask-small, running-silent, running-heard, running-done}
 use Rattle.cluster.proofs.multipartner.run_slots.Statement.{statement}
@@ -101,7 +101,7 @@ turn-of-requires c κs =
     let read = cover .before .before .before in
     let slave = read .before .before .before .before .before in
     let slot = slave .before .before in
-    (slot .slots .inv .ready .becomes, omega (arith, slot .slots .inv .ready .all, read .before .before .before .before .slaves-test .taken), covering-fits _ _ _ _ _ (read .entry-at .ensures) (cover .is-covering .ensures) (c .before .if2 .taken) (slave .before .slots-test .taken))
+    (slot .slots .inv .ready .becomes, omega (arith, slot .slots .inv .ready .all, read .before .before .before .before .slaves-test .taken), covering-reaches _ _ _ _ _ (read .entry-at .ensures) (cover .is-covering .ensures) (c .before .if2 .taken) (slave .before .slots-test .taken))
 
 add-at-2 : tie.Need-add-at-2 Inv-entries μ-entries Inv-slaves μ-slaves Inv-slots μ-slots
 add-at-2 c =
