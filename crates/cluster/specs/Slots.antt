@@ -27,10 +27,12 @@ slotsEffect c round = record { senders = sentDuring round c; after = clusterBelo
 unfoldable pub entriesIn : ℕ → Slave → ℕ
 entriesIn round s = cond (isUnnamed s) 0 (lastRecord (bytesIn s round))
 
+-- where the slave at index s keeps them, 0 where it runs none
 pub record RoundFileIs (c : Cluster) (round s place entries : ℕ) : Type 0 where
   pub count : entries ≡ entriesIn round (slaveOf c s)
   pub lies : place ≡ cond (eqb entries 0) 0 (filePlace c s round)
 
+-- the same of every slave, in front of whatever else the arrays hold
 pub record RoundFilesAre (c : Cluster) (round : ℕ) (places entries : List ℕ) : Type 0 where
   pub placesRoom : length places ≡ 32
   pub entriesRoom : length entries ≡ 32
@@ -57,6 +59,7 @@ unfoldable pub placeIn : Cluster → ℕ → Place → ℕ
 placeIn c s nowhere = 0
 placeIn c s (byteOf n k) = filePlace c s n + k
 
+-- the bytes that a turn puts on the bus, where it stores the slot's byte, and whether it sends
 unfoldable pub turnSends : Turn → List ℕ
 turnSends (Sends b) = b ∷ []
 turnSends (Stores place) = []
@@ -72,6 +75,7 @@ isSender (Sends b) = true
 isSender (Stores place) = false
 isSender Rests = false
 
+-- the turn of the slave at index s, by the entry that acts
 pub record TurnIs (c : Cluster) (s slot : ℕ) (acting : Acting) (turn : Turn) : Type 0 where
   pub sends : turnSends turn ≡ byteThere (slaveOf c s) (sendPlace (slaveOf c s) slot acting)
   pub stores : turnStores turn ≡ placeIn c s (storePlace (slaveOf c s) slot acting)
@@ -83,6 +87,7 @@ storedBelow f places b (suc n) =
     let before = storedBelow f places b n in
     cond (eqb (getD places n 0) 0) before (set before (getD places n 0) b)
 
+-- every place lies in the file, 0 too
 pub record StoresWithin (f places : List ℕ) (count : ℕ) : Type 0 where
   pub few : count ≤ 32
   pub within : (s : ℕ) → s < count → getD places s 0 < length f
