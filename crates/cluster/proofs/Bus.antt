@@ -315,3 +315,12 @@ pub record-said : (b f : List ℕ) (p check : ℕ) → p + 4 ≤ length f → ch
     said b 1 (getD f p 0 ∷ getD f (p + 1) 0 ∷ getD f (p + 2) 0 ∷ getD f (p + 3) 0 ∷ check ∷ []) ≡ said b 1 (readReply (part f p 4))
 unfolding readReply
 record-said b f p check long is = rw (part-four f p long, is)
+
+nobody-quiet : (s : ℕ) → 0 ≡ anyone (nobody s)
+unfolding nobody anyone
+nobody-quiet s = refl
+
+-- the mask of a round in which nobody sends
+pub mask-nobody : 0 ≡ senderMask nobody
+unfolding senderMask
+mask-nobody = counting-done (counting-start 0) (omega arith) (omega arith) ∙ mask-alike (sendersTo 0) nobody slots (λ s. sendersTo-no 0 s (λ h. omega arith) ∙ nobody-quiet s)

@@ -179,7 +179,7 @@ carried-by : (c : Cluster) (bytes : List ℕ) {o : Operation} {firework : ℕ} {
 unfolding dataEffect
 carried-by c bytes p b h m = record { senders = rw p (heard-mask h m); buffer = rw p (h .buffer); becomes = rw p b }
 
-sent-nothing : (o : Operation) → ((s : Slave) → replyTo o s ≡ []) → (ss : List Slave) (slot : ℕ) → sentTo o ss slot ≡ []
+pub sent-nothing : (o : Operation) → ((s : Slave) → replyTo o s ≡ []) → (ss : List Slave) (slot : ℕ) → sentTo o ss slot ≡ []
 unfolding sentTo
 sent-nothing o quiet [] slot = refl
 sent-nothing o quiet (s ∷ ss) slot = rw (quiet s, inSlot-nil slot, sent-nothing o quiet ss slot)

@@ -138,6 +138,7 @@ heard-more {r} {t} {firework} {old} {last = last} {next} reply h more b n far fe
     inside : (slot : ℕ) → 1 ≤ slot → slot ≤ length reply → anyone (t slot) ≡ anyone (sendersTo (length reply) slot)
     inside slot low high =
         ap anyone (more slot) ∙ anyone-more (r slot) (inSlot reply slot) (inSlot-yes reply slot low high) ∙ sym (sendersTo-yes (length reply) slot low high)
+
     outside : (slot : ℕ) → (1 ≤ slot → length reply < slot) → anyone (t slot) ≡ anyone (sendersTo (length reply) slot)
     outside slot out =
         ap anyone (more slot) ∙ anyone-append (r slot) (inSlot reply slot) (inSlot-no reply slot out) ∙ h .reach slot

@@ -14,3 +14,6 @@ pub mod SlaveLaws
 pub mod Changing
 pub mod DataLaws
 pub mod RoundNumbers
+pub mod FrameLaws
+pub mod Cases
+pub mod Mask

@@ -115,7 +115,6 @@ unfolding both
 both-assoc true b d = refl
 both-assoc false b d = refl
 
-
 answersRead-as : (name n r : ℕ) (s : Slave) {own : ℕ} → own ≡ logicalName s → answersRead name n r s ≡ both (both (addresses name own) (not (eqb own unnamed))) (hasRecord s n r)
 unfolding answersRead addressed isUnnamed
 answersRead-as name n r s {own} e = rw e (both-assoc (addresses name (logicalName s)) (not (eqb (logicalName s) unnamed)) (hasRecord s n r))
