@@ -8,12 +8,21 @@ pub mod Mask
 pub mod Kept
 pub mod Untouched
 pub mod Rounds
--- loops along the slaves: their replies, and their changes
+-- loops along the slaves of a master-slave round: their replies, and their changes
 pub mod Hearing
 pub mod Changing
+-- multipartner rounds: entries, a slave's turn, its round file, stores, the search for the acting entry, a slot's senders, the slots
+pub mod EntryLaws
+pub mod TurnLaws
+pub mod RoundFileLaws
+pub mod StoreLaws
+pub mod SearchLaws
+pub mod HearLaws
+pub mod SlotLaws
 -- the functions: one law for each way through a slave's part, a data part, and a frame
 pub mod SlaveLaws
 pub mod DataLaws
+pub mod RoundNumbers
 pub mod FrameLaws
 -- the document's cases, frames that the writers wrote, and the ways of the round call
 pub mod Cases

@@ -6,4 +6,6 @@ pub mod Multipartner
 pub mod Grounds
 pub mod Round
 pub mod Carried
+pub mod EntryForm
+pub mod Slots
 pub mod Answers

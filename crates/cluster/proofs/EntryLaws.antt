@@ -1,0 +1,153 @@
+-- Laws of the code's entries against those of the rules, one for each way through the functions on them.
+-- Assumes nothing.
+use Prim.Native.Nat.{ℕ, suc, _+_, _-_, _≤_, _<_}
+use native.Mathlib.Omega.{arith}
+use mathlib.Core.Path.{_≡_, refl, sym, ap, _∙_}
+use mathlib.Core.Bool.{Bool, true, false}
+use lib.Dec.{ltb, eqb}
+use borrow.Author.Tests.{lt-ltb, le-ltb, le-leb, lt-leb, ltb-true, ltb-false, eqb-true}
+use Rattle.file.specs.Order.{either}
+use Rattle.file.proofs.Order.{byCase, clash, both-false-left, both-next, either-false}
+use Rattle.cluster.specs.Entries.{Entry, entryOf, receives, sends, ends, covers}
+use Rattle.cluster.specs.EntryForm.{codeOf, multiplexOf, multiplexIn, OperationIs, entryFrom, evaluated, Action, ending, sending, receiving, resting, actionBy, actionFrom}
+use Rattle.cluster.specs.declared.entry.Entry as Code
+use Rattle.cluster.specs.declared.entry.EntryOperation.{EntryOperation}
+use Rattle.cluster.specs.declared.entry.EntryAction.{EntryAction}
+use Rattle.cluster.specs.declared.entry.EntryAction.the-variants.{Receives, Sends, Ends, Rests}
+
+-- ---- the operation of a code
+
+pub operation-is : (r : EntryOperation) {n m : ℕ} → n ≡ codeOf r → multiplexOf r ≡ multiplexIn (codeOf r) m → OperationIs r n m
+operation-is r {n} {m} is field = record { code = sym is; field = rw is field }
+
+-- a number that is not k, and not below it, is above it
+pub above : (k : ℕ) {n : ℕ} → k ≤ n → (n ≡ k → ⊥) → suc k ≤ n
+above k {n} low other = byCase (ltb k n) (λ e. ltb-true k n e) (λ e. absurd (other (omega (arith, ltb-false k n e))))
+
+-- an entry made of an operation and of numbers is the entry of its bytes
+pub entry-is : {o : EntryOperation} (b₀ b₁ b₂ b₃ : ℕ) → OperationIs o (entryOf b₀ b₁ b₂ b₃ .operation) (entryOf b₀ b₁ b₂ b₃ .multiplex) →
+    record {
+      file = entryOf b₀ b₁ b₂ b₃ .file;
+      align = entryOf b₀ b₁ b₂ b₃ .align;
+      «record» = entryOf b₀ b₁ b₂ b₃ .«record»;
+      operation = codeOf o;
+      length = entryOf b₀ b₁ b₂ b₃ .length;
+      multiplex = multiplexOf o;
+      start = entryOf b₀ b₁ b₂ b₃ .start;
+    } ≡ evaluated (entryOf b₀ b₁ b₂ b₃)
+unfolding evaluated entryOf
+entry-is b₀ b₁ b₂ b₃ is = rw (is .code, is .field)
+
+-- ---- what an operation makes a slave do
+
+unfoldable pub isEnding : Action → Bool
+isEnding ending = true
+isEnding sending = false
+isEnding receiving = false
+isEnding resting = false
+
+unfoldable pub isSending : Action → Bool
+isSending ending = false
+isSending sending = true
+isSending receiving = false
+isSending resting = false
+
+unfoldable pub isReceiving : Action → Bool
+isReceiving ending = false
+isReceiving sending = false
+isReceiving receiving = true
+isReceiving resting = false
+
+-- an operation acts as the one that a match found it to be
+pub acts-as : {o : EntryOperation} {a : Action} (v : EntryOperation) → o ≡ v → a ≡ actionBy (codeOf v) → a ≡ actionBy (codeOf o)
+acts-as v q is = is ∙ ap (λ (x : EntryOperation). actionBy (codeOf x)) (sym q)
+
+pub ends-action : (operation : ℕ) → ends operation ≡ isEnding (actionBy operation)
+unfolding actionBy isEnding
+ends-action operation =
+    byCase (ends operation)
+    (λ e. rw e)
+    (λ e. rw e (byCase (sends operation) (λ q. rw q) (λ q. rw q (byCase (receives operation) (λ r. rw r) (λ r. rw r)))))
+
+end-by : (e : Code.Entry) {t : Action} (u : Action) → t ≡ actionBy (codeOf (e .operation)) → t ≡ u → isEnding u ≡ ends (entryFrom e .operation)
+unfolding entryFrom
+end-by e u is q = sym (ends-action (codeOf (e .operation)) ∙ ap isEnding (sym is ∙ q))
+
+module _ (e : Code.Entry) {a : EntryAction} (is : actionFrom a ≡ actionBy (codeOf (e .operation))) where
+  pub receiver-goes-on : a ≡ Receives → false ≡ ends (entryFrom e .operation)
+  unfolding actionFrom isEnding
+  receiver-goes-on q = end-by e receiving is (ap actionFrom q)
+
+  pub sender-goes-on : a ≡ Sends → false ≡ ends (entryFrom e .operation)
+  unfolding actionFrom isEnding
+  sender-goes-on q = end-by e sending is (ap actionFrom q)
+
+  pub end-ends : a ≡ Ends → true ≡ ends (entryFrom e .operation)
+  unfolding actionFrom isEnding
+  end-ends q = end-by e ending is (ap actionFrom q)
+
+  pub rest-goes-on : a ≡ Rests → false ≡ ends (entryFrom e .operation)
+  unfolding actionFrom isEnding
+  rest-goes-on q = end-by e resting is (ap actionFrom q)
+
+-- ---- the slots that an entry covers
+
+pub covers-early : (e : Code.Entry) (slot : ℕ) → slot < e .slot → false ≡ covers (entryFrom e) slot
+unfolding covers entryFrom
+covers-early e slot h = sym (both-false-left _ (lt-leb _ _ h))
+
+covers-test : (start count slot : ℕ) → start ≤ slot → ltb (slot - start) count ≡ ltb slot (start + count)
+covers-test start count slot h =
+    byCase (ltb slot (start + count))
+    (λ e. rw e (lt-ltb (slot - start) count (omega (arith, ltb-true slot (start + count) e))))
+    (λ e. rw e (le-ltb (slot - start) count (omega (arith, ltb-false slot (start + count) e))))
+
+pub covers-late : (e : Code.Entry) (slot : ℕ) → e .slot ≤ slot → ltb (slot - e .slot) (e .length) ≡ covers (entryFrom e) slot
+unfolding covers entryFrom
+covers-late e slot h = covers-test (e .slot) (e .length) slot h ∙ sym (both-next _ (le-leb _ _ h))
+
+-- ---- who sends and who receives
+
+sends-goes-on : (n : ℕ) → sends n ≡ true → ends n ≡ false
+unfolding sends ends either
+sends-goes-on n t =
+    byCase (eqb n 1)
+    (λ q. rw (eqb-true n 1 q))
+    (λ q. byCase (eqb n 5) (λ p. rw (eqb-true n 5 p)) (λ p. clash t (either-false q p)))
+
+receives-silent : (n : ℕ) → receives n ≡ true → (ends n ≡ false) × (sends n ≡ false)
+unfolding receives sends ends either
+receives-silent n t =
+    byCase (eqb n 0)
+    (λ q. rw (eqb-true n 0 q) (refl, refl))
+    (λ q.
+    byCase (eqb n 2)
+    (λ p. rw (eqb-true n 2 p) (refl, refl))
+    (λ p. byCase (eqb n 4) (λ r. rw (eqb-true n 4 r) (refl, refl)) (λ r. clash t (either-false q (either-false p r)))))
+
+pub sends-action : (operation : ℕ) → sends operation ≡ isSending (actionBy operation)
+unfolding actionBy isSending
+sends-action n =
+    byCase (sends n)
+    (λ e. rw (e, sends-goes-on n e))
+    (λ e. rw e (byCase (ends n) (λ q. rw q) (λ q. rw q (byCase (receives n) (λ r. rw r) (λ r. rw r)))))
+
+pub receives-action : (operation : ℕ) → receives operation ≡ isReceiving (actionBy operation)
+unfolding actionBy isReceiving
+receives-action n =
+    byCase (receives n)
+    (λ e. let no = receives-silent n e in rw (e, no .0, no .1))
+    (λ e. rw e (byCase (ends n) (λ q. rw q) (λ q. rw q (byCase (sends n) (λ r. rw r) (λ r. rw r)))))
+
+-- what an operation's action says of it
+pub record Does (e : Code.Entry) (is : Action) : Type 0 where
+  pub send : sends (entryFrom e .operation) ≡ isSending is
+  pub receive : receives (entryFrom e .operation) ≡ isReceiving is
+
+pub does : (e : Code.Entry) {t : Action} (u : Action) → t ≡ actionBy (codeOf (e .operation)) → t ≡ u → Does e u
+unfolding entryFrom
+does e u is q =
+    record {
+      send = sends-action (codeOf (e .operation)) ∙ ap isSending (sym is ∙ q);
+      receive = receives-action (codeOf (e .operation)) ∙ ap isReceiving (sym is ∙ q);
+    }

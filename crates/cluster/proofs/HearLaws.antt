@@ -1,0 +1,132 @@
+-- The slaves of a slot, one after the other: what is heard so far, and where the receivers among them store.
+-- Assumes nothing.
+use Prim.Native.Nat.{ℕ, zero, suc, _+_, _-_, _≤_, _<_}
+use native.Mathlib.Omega.{arith}
+use native.Mathlib.Numerals.{add-one}
+use mathlib.Core.Path.{_≡_, refl, sym, ap, _∙_}
+use mathlib.Core.List.{List, [], _∷_, _++_, append-assoc, append-nil}
+use mathlib.Core.Bool.{Bool, true, false}
+use lib.ListN.{length, getD, set, take, length-set}
+use lib.Seq.{take-all, getD-set-same, getD-set-other}
+use lib.Dec.{eqb}
+use lib.Bits.{bitAnd}
+use borrow.Author.Tests.{eqb-true, eqb-false}
+use Rattle.file.specs.Order.{either}
+use Rattle.file.specs.Cluster.{Slave, Cluster}
+use Rattle.file.specs.Decode.{decode}
+use Rattle.file.specs.Places.{noSlave, slaveOf}
+use Rattle.file.specs.Accepted.{Becomes}
+use Rattle.file.proofs.Order.{byCase}
+use Rattle.file.proofs.ReaderLaws.{place-within, header-within}
+use Rattle.cluster.specs.Bus.{joined, busByte, anyone}
+use Rattle.cluster.specs.Multipartner.{Place, sendsFrom, storesAt, byteThere, sentBy}
+use Rattle.cluster.specs.Slots.{placeIn, turnSends, turnStores, isSender, StoresWithin}
+use Rattle.cluster.specs.declared.multipartner.Turn.{Turn}
+use Rattle.cluster.specs.declared.multipartner.Turn.the-variants as Turns
+use Rattle.cluster.proofs.StoreLaws.{Lands, stays, lands, storesAt-lands}
+use Rattle.cluster.proofs.SearchLaws.{Turned}
+
+-- ---- the bytes sent, with one more slave
+
+sent-next : (round slot : ℕ) (ss : List Slave) (n : ℕ) → n < length ss
+    → sentBy round slot (take (suc n) ss) ≡ sentBy round slot (take n ss) ++ byteThere (getD ss n noSlave) (sendsFrom round slot (getD ss n noSlave))
+unfolding sentBy
+sent-next round slot [] n l = absurd (omega arith)
+sent-next round slot (s ∷ ss) zero l = append-nil (byteThere s (sendsFrom round slot s))
+sent-next round slot (s ∷ ss) (suc n) l =
+    ap (λ (x : List ℕ). byteThere s (sendsFrom round slot s) ++ x) (sent-next round slot ss n (omega arith)) ∙ simp append-assoc
+
+joined-append : (bus : ℕ) (xs ys : List ℕ) → joined bus (xs ++ ys) ≡ joined (joined bus xs) ys
+unfolding joined
+joined-append bus [] ys = refl
+joined-append bus (x ∷ xs) ys = joined-append (bitAnd bus x) xs ys
+
+busByte-append : (xs ys : List ℕ) → busByte (xs ++ ys) ≡ joined (busByte xs) ys
+unfolding busByte
+busByte-append xs ys = joined-append 0xFF xs ys
+
+-- whether a byte is among those sent
+unfoldable pub someone : List ℕ → Bool
+someone [] = false
+someone (b ∷ bs) = true
+
+pub someone-yes : (sent : List ℕ) → someone sent ≡ true → anyone sent ≡ 1
+unfolding someone anyone
+someone-yes [] e = absurd (mathlib.Core.Bool.true≢false (sym e))
+someone-yes (b ∷ bs) e = refl
+
+pub someone-no : (sent : List ℕ) → someone sent ≡ false → sent ≡ []
+unfolding someone
+someone-no [] e = refl
+someone-no (b ∷ bs) e = absurd (mathlib.Core.Bool.true≢false e)
+
+someone-next : (sent : List ℕ) (turn : Turn) → someone (sent ++ turnSends turn) ≡ either (someone sent) (isSender turn)
+unfolding someone turnSends isSender either
+someone-next [] (Turns.Sends b) = refl
+someone-next [] (Turns.Stores p) = refl
+someone-next [] Turns.Rests = refl
+someone-next (x ∷ xs) turn = refl
+
+-- ---- the loop over the slaves
+
+pub record Hearing (c : Cluster) (round slot n bus : ℕ) (heard : Bool) (stores : List ℕ) : Type 0 where
+  pub most : n ≤ length (c .slaves)
+  pub byte : bus ≡ busByte (sentBy round slot (take n (c .slaves)))
+  pub any : heard ≡ someone (sentBy round slot (take n (c .slaves)))
+  pub room : length stores ≡ 32
+  pub aims : (s : ℕ) → s < n → getD stores s 0 ≡ placeIn c s (storesAt round slot (slaveOf c s))
+
+pub hearing-start : (c : Cluster) (round slot : ℕ) {stores : List ℕ} → length stores ≡ 32 → Hearing c round slot 0 255 false stores
+unfolding busByte joined sentBy someone
+hearing-start c round slot room =
+    record { most = omega arith; byte = refl; any = refl; room = room; aims = λ s l. absurd (omega arith) }
+
+module _ {c : Cluster} {round slot n bus : ℕ} {heard : Bool} {stores : List ℕ} (h : Hearing c round slot n bus heard stores) where
+  module _ {turn : Turn} (more : n < length (c .slaves)) (does : Turned c round slot n turn) where
+    sent-turn : sentBy round slot (take (n + 1) (c .slaves)) ≡ sentBy round slot (take n (c .slaves)) ++ turnSends turn
+    unfolding slaveOf
+    sent-turn = rw (add-one, does .sends) (sent-next round slot (c .slaves) n more)
+
+    pub hearing-next : {bus′ place : ℕ} {heard′ : Bool} → length (c .slaves) ≤ 32 → bus′ ≡ joined bus (turnSends turn) → heard′ ≡ either heard (isSender turn) → place ≡ turnStores turn
+        → Hearing c round slot (n + 1) bus′ heard′ (set stores n place)
+    hearing-next {place = place} few byte any at =
+        record {
+          most = omega arith;
+          byte = byte ∙ ap (λ (x : ℕ). joined x (turnSends turn)) (h .byte) ∙ sym (ap busByte sent-turn ∙ busByte-append (sentBy round slot (take n (c .slaves))) (turnSends turn));
+          any = any ∙ ap (λ (x : Bool). either x (isSender turn)) (h .any) ∙ sym (ap someone sent-turn ∙ someone-next (sentBy round slot (take n (c .slaves))) turn);
+          room = length-set stores n place ∙ h .room;
+          aims = λ s l. byCase (eqb s n)
+              (λ e. let same : s ≡ n = eqb-true s n e in rw (same, getD-set-same stores n place 0 (omega (arith, h .room))) (at ∙ does .stores))
+              (λ e. let other = eqb-false s n e in rw (getD-set-other stores n s place 0 other) (h .aims s (below s l other)));
+        }
+      where
+        below : (s : ℕ) → s < n + 1 → (s ≡ n → ⊥) → s < n
+        below s l other = omega arith
+
+  module _ (left : length (c .slaves) ≤ n) where
+    pub heard-byte : bus ≡ busByte (sentBy round slot (c .slaves))
+    heard-byte = h .byte ∙ rw (take-all n (c .slaves) left)
+
+    pub heard-any : heard ≡ someone (sentBy round slot (c .slaves))
+    heard-any = h .any ∙ rw (take-all n (c .slaves) left)
+
+    pub heard-aims : (s : ℕ) → s < length (c .slaves) → getD stores s 0 ≡ placeIn c s (storesAt round slot (slaveOf c s))
+    heard-aims s l = h .aims s (omega arith)
+
+-- ---- the receivers' places lie within the file
+
+land-within : {f : List ℕ} {c : Cluster} (s : ℕ) {p : Place} → Becomes f c → 0 < length f → Lands (slaveOf c s) p → placeIn c s p < length f
+unfolding placeIn
+land-within s h long stays = long
+land-within s h long (lands {n = m} {k} low high place inside) = omega (arith, place-within h s m (omega arith))
+
+pub aims-within : {f : List ℕ} {round slot count n bus : ℕ} {heard : Bool} {stores : List ℕ} → Becomes f (decode f) → count ≡ length (decode f .slaves) → Hearing (decode f) round slot n bus heard stores → length (decode f .slaves) ≤ n
+    → StoresWithin f stores count
+aims-within {f} {round} {slot} b all h left =
+    record {
+      few = omega (arith, all, b .legal .count);
+      within = λ s l.
+          let there : s < length (decode f .slaves) = omega (arith, all) in
+          rw (heard-aims h left s there)
+          (land-within s b (omega (arith, header-within b)) (storesAt-lands round slot (slaveOf (decode f) s)));
+    }

@@ -1,0 +1,214 @@
+-- The slot's byte stored by the receivers: the loop, and the cluster that the file then holds.
+-- Assumes nothing.
+use Prim.Native.Nat.{ℕ, zero, suc, _+_, _-_, _≤_, _<_}
+use native.Mathlib.Omega.{arith}
+use native.Mathlib.Numerals.{add-one}
+use mathlib.Core.Path.{_≡_, refl, sym, ap, _∙_}
+use mathlib.Core.Logic.{_≢_}
+use mathlib.Core.List.{List, [], _∷_, map}
+use mathlib.Core.Bool.{true, cond}
+use lib.ListN.{length, getD, set, length-set}
+use lib.Dec.{eqb}
+use borrow.Author.Tests.{eq-eqb, ne-eqb, ltb-true}
+use Rattle.file.specs.Bytes.{Byte}
+use Rattle.file.specs.Order as Order
+use Rattle.file.specs.Layout.{recordSize}
+use Rattle.file.specs.Cluster.{Slave, Cluster, bytesIn, documentation}
+use Rattle.file.specs.Encode.{encode}
+use Rattle.file.specs.Legal.{Legal}
+use Rattle.file.specs.Places.{noSlave, slaveOf, filePlace, putInSlave, withSlaves, putByte, SameShape, noSlaves, sameSlave}
+use Rattle.file.specs.Accepted.{Becomes}
+use Rattle.file.proofs.Order.{byCase, both-left, both-right}
+use Rattle.file.proofs.Shape.{shape-refl, shape-filePlaceAt}
+use Rattle.file.proofs.Stores.{store-byte}
+use Rattle.file.proofs.Kept.{legal-putByte}
+use Rattle.file.proofs.Accepted.{legal-becomes}
+use Rattle.cluster.specs.Slaves.{isUnnamed}
+use Rattle.cluster.specs.Entries.{Entry, Acting, acts, acting, bytePlace, receives}
+use Rattle.cluster.specs.Multipartner.{Place, nowhere, byteOf, within, mayStore, storePlace, storesAt, storedThere}
+use Rattle.cluster.specs.Slots.{placeIn, storedBelow}
+use Rattle.cluster.proofs.Kept.{SlaveKept, storesAt-stores, stored-kept}
+
+-- ---- the loop
+
+pub stored-length : (f places : List ℕ) (b n : ℕ) → length (storedBelow f places b n) ≡ length f
+unfolding storedBelow
+stored-length f places b zero = refl
+stored-length f places b (suc n) =
+    byCase (eqb (getD places n 0) 0)
+    (λ t. rw t (stored-length f places b n))
+    (λ t. rw t (length-set (storedBelow f places b n) (getD places n 0) b ∙ stored-length f places b n))
+
+pub record Storing (f places : List ℕ) (b count n : ℕ) (g : List ℕ) : Type 0 where
+  pub most : n ≤ count
+  pub stored : g ≡ storedBelow f places b n
+
+pub storing-start : (f places : List ℕ) (b count : ℕ) → Storing f places b count 0 f
+unfolding storedBelow
+storing-start f places b count = record { most = omega arith; stored = refl }
+
+module _ {f places : List ℕ} {b count n : ℕ} {g : List ℕ} (h : Storing f places b count n g) where
+  pub storing-length : length g ≡ length f
+  storing-length = ap length (h .stored) ∙ stored-length f places b n
+
+  pub storing-here : {new : List ℕ} → n < count → (getD places n 0 ≡ 0 → ⊥) → new ≡ set g (getD places n 0) b → Storing f places b count (n + 1) new
+  unfolding storedBelow
+  storing-here more some is =
+      record { most = omega arith; stored = rw (is, add-one, ne-eqb (getD places n 0) 0 some, h .stored) }
+
+  pub storing-past : {new : List ℕ} → n < count → getD places n 0 ≡ 0 → new ≡ g → Storing f places b count (n + 1) new
+  unfolding storedBelow
+  storing-past more none is =
+      record { most = omega arith; stored = rw (is, add-one, eq-eqb (getD places n 0) 0 none) (h .stored) }
+
+  pub storing-done : count ≤ n → g ≡ storedBelow f places b count
+  storing-done left = let e : n ≡ count = omega (arith, h .most) in rw e at (h .stored)
+
+-- ---- where a receive stores lies within the slave's file
+
+pub data Lands (s : Slave) : Place → Type 0 where
+  stays : Lands s nowhere
+  lands : {n k : ℕ} → 0x10 ≤ n → n ≤ 0x3C → recordSize ≤ k → k < length (bytesIn s n) → Lands s (byteOf n k)
+
+may-land : (s : Slave) (e : Entry) (slot : ℕ) → mayStore e slot ≡ true → within s e slot ≡ true → Lands s (byteOf (e .file) (bytePlace e slot))
+unfolding mayStore within
+may-land s e slot may inside =
+    lands
+    (borrow.Author.Tests.leb-true 0x10 (e .file) (both-left _ _ may))
+    (borrow.Author.Tests.leb-true (e .file) 0x3C (both-left _ _ (both-right _ _ may)))
+    (borrow.Author.Tests.leb-true recordSize (bytePlace e slot) (both-right _ _ (both-right _ _ may)))
+    (ltb-true (bytePlace e slot) (length (bytesIn s (e .file))) inside)
+
+store-lands : (s : Slave) (slot : ℕ) (a : Acting) → Lands s (storePlace s slot a)
+unfolding storePlace
+store-lands s slot Acting.none = stays
+store-lands s slot (acts e) =
+    byCase (Order.both (receives (e .operation)) (Order.both (mayStore e slot) (within s e slot)))
+    (λ t. let rest = both-right _ _ t in rw t (may-land s e slot (both-left _ _ rest) (both-right _ _ rest)))
+    (λ t. rw t stays)
+
+pub storesAt-lands : (round slot : ℕ) (s : Slave) → Lands s (storesAt round slot s)
+unfolding storesAt
+storesAt-lands round slot s =
+    byCase (isUnnamed s) (λ t. rw t stays) (λ t. rw t (store-lands s slot (acting (bytesIn s round) slot)))
+
+-- ---- the first n slaves changed
+
+unfoldable pub firstChanged : (Slave → Slave) → ℕ → List Slave → List Slave
+firstChanged f zero ss = ss
+firstChanged f (suc n) [] = []
+firstChanged f (suc n) (s ∷ ss) = f s ∷ firstChanged f n ss
+
+module _ (f : Slave → Slave) where
+  changed-all : (ss : List Slave) → firstChanged f (length ss) ss ≡ map f ss
+  unfolding firstChanged
+  changed-all [] = refl
+  changed-all (s ∷ ss) = ap (λ (l : List Slave). f s ∷ l) (changed-all ss)
+
+  changed-next : (ss : List Slave) (n : ℕ) → n < length ss → set (firstChanged f n ss) n (f (getD ss n noSlave)) ≡ firstChanged f (suc n) ss
+  unfolding firstChanged
+  changed-next [] n l = absurd (omega arith)
+  changed-next (s ∷ ss) zero l = refl
+  changed-next (s ∷ ss) (suc n) l = ap (λ (x : List Slave). f s ∷ x) (changed-next ss n (omega arith))
+
+  changed-same : (ss : List Slave) (n : ℕ) → f (getD ss n noSlave) ≡ getD ss n noSlave → firstChanged f n ss ≡ firstChanged f (suc n) ss
+  unfolding firstChanged
+  changed-same [] zero e = refl
+  changed-same [] (suc n) e = refl
+  changed-same (s ∷ ss) zero e = ap (λ (x : Slave). x ∷ ss) (sym e)
+  changed-same (s ∷ ss) (suc n) e = ap (λ (x : List Slave). f s ∷ x) (changed-same ss n e)
+
+  changed-at : (ss : List Slave) (n : ℕ) → getD (firstChanged f n ss) n noSlave ≡ getD ss n noSlave
+  unfolding firstChanged
+  changed-at [] zero = refl
+  changed-at [] (suc n) = refl
+  changed-at (s ∷ ss) zero = refl
+  changed-at (s ∷ ss) (suc n) = changed-at ss n
+
+  changed-shape : ((s : Slave) → SlaveKept s (f s)) → (n : ℕ) (ss : List Slave) → SameShape ss (firstChanged f n ss)
+  unfolding firstChanged
+  changed-shape keeps zero ss = shape-refl ss
+  changed-shape keeps (suc n) [] = noSlaves
+  changed-shape keeps (suc n) (s ∷ ss) = sameSlave (keeps s .files) (changed-shape keeps n ss)
+
+-- ---- the file after the stores
+
+module _ (c : Cluster) (round slot b : ℕ) where
+  -- the slave with the slot's byte stored
+  unfoldable pub receiver : Slave → Slave
+  receiver s = storedThere s (storesAt round slot s) b
+
+  -- the cluster with it stored by the first n slaves
+  unfoldable pub receivedBy : ℕ → Cluster
+  receivedBy n = withSlaves c (firstChanged receiver n (c .slaves))
+
+pub received-all : (c : Cluster) (round slot b : ℕ) → receivedBy c round slot b (length (c .slaves)) ≡ withSlaves c (map (λ (s : Slave). storedThere s (storesAt round slot s) b) (c .slaves))
+unfolding receivedBy receiver
+received-all c round slot b = ap (withSlaves c) (changed-all (λ (s : Slave). storedThere s (storesAt round slot s) b) (c .slaves))
+
+module _ (c : Cluster) (round slot b : ℕ) (byte : Byte b) where
+  receiver-kept : (s : Slave) → SlaveKept s (receiver c round slot b s)
+  unfolding receiver
+  receiver-kept s = stored-kept s b byte (storesAt-stores round slot s)
+
+  received-shape : (n : ℕ) → SameShape (c .slaves) (receivedBy c round slot b n .slaves)
+  unfolding receivedBy withSlaves
+  received-shape n = changed-shape (receiver c round slot b) receiver-kept n (c .slaves)
+
+  received-place : (n s m : ℕ) → filePlace (receivedBy c round slot b n) s m ≡ filePlace c s m
+  unfolding filePlace
+  received-place n s m = sym (shape-filePlaceAt c (receivedBy c round slot b n) (received-shape n) 2 s m)
+
+  received-slave : (n : ℕ) → slaveOf (receivedBy c round slot b n) n ≡ slaveOf c n
+  unfolding slaveOf receivedBy withSlaves
+  received-slave n = changed-at (receiver c round slot b) (c .slaves) n
+
+  -- a byte stored by slave n
+  put-next : (n m k : ℕ) → n < length (c .slaves) → storesAt round slot (slaveOf c n) ≡ byteOf m k → putByte (receivedBy c round slot b n) n m k b ≡ receivedBy c round slot b (suc n)
+  unfolding putByte receivedBy withSlaves slaveOf receiver storedThere
+  put-next n m k l at =
+      let ss : List Slave = c .slaves in
+      let f : Slave → Slave = receiver c round slot b in
+      let put : f (getD ss n noSlave) ≡ putInSlave (getD ss n noSlave) m k b = rw at in
+      let moved : set (firstChanged f n ss) n (f (getD ss n noSlave)) ≡ firstChanged f (suc n) ss = changed-next f ss n l in
+      rw (changed-at f ss n, ← put, moved)
+
+  keep-next : (n : ℕ) → storesAt round slot (slaveOf c n) ≡ nowhere → receivedBy c round slot b n ≡ receivedBy c round slot b (suc n)
+  unfolding receivedBy slaveOf receiver storedThere
+  keep-next n at =
+      let same : receiver c round slot b (getD (c .slaves) n noSlave) ≡ getD (c .slaves) n noSlave = rw at in
+      ap (withSlaves c) (changed-same (receiver c round slot b) (c .slaves) n same)
+
+  stored-none : {f : List ℕ} → Becomes f c → Becomes f (receivedBy c round slot b 0)
+  unfolding receivedBy firstChanged withSlaves
+  stored-none h = h
+
+  module _ (stores : List ℕ) (aimed : (s : ℕ) → s < length (c .slaves) → getD stores s 0 ≡ placeIn c s (storesAt round slot (slaveOf c s))) where
+    store-there : {f : List ℕ} {m k : ℕ} (n : ℕ) → n < length (c .slaves) → Becomes f (receivedBy c round slot b n) → storesAt round slot (slaveOf c n) ≡ byteOf m k → m ≢ documentation
+        → k < length (bytesIn (slaveOf c n) m) → Becomes (set f (filePlace c n m + k) b) (receivedBy c round slot b (suc n))
+    unfolding encode filePlace
+    store-there {f} {m} {k} n l h at other inside =
+        let d : Cluster = receivedBy c round slot b n in
+        let fits : k < length (bytesIn (slaveOf d n) m) = rw (received-slave n) inside in
+        let there : filePlace d n m ≡ filePlace c n m = received-place n n m in
+        let put : putByte d n m k b ≡ receivedBy c round slot b (suc n) = put-next n m k l at in
+        let legal : Legal (receivedBy c round slot b (suc n)) = rw put at (legal-putByte d n m k b other byte (h .legal)) in
+        let stored : set f (filePlace c n m + k) b ≡ encode (receivedBy c round slot b (suc n)) =
+        rw (h .encoded, ← there, ← put) (store-byte {w = 2} (omega arith) n m d k b fits)
+        in
+        rw stored (legal-becomes (receivedBy c round slot b (suc n)) legal)
+
+    store-next : {f : List ℕ} (p : Place) (n : ℕ) → n < length (c .slaves) → Lands (slaveOf c n) p → storesAt round slot (slaveOf c n) ≡ p → Becomes f (receivedBy c round slot b n)
+        → Becomes (cond (eqb (placeIn c n p) 0) f (set f (placeIn c n p) b)) (receivedBy c round slot b (suc n))
+    unfolding placeIn
+    store-next p n l stays at h = rw (← keep-next n at) h
+    store-next p n l (lands {n = m} {k} low high place inside) at h =
+        rw (ne-eqb (filePlace c n m + k) 0 (λ e. omega arith))
+        (store-there n l h at (λ e. omega (arith, e)) inside)
+
+    pub stored-becomes : {f : List ℕ} → Becomes f c → (n : ℕ) → n ≤ length (c .slaves) → Becomes (storedBelow f stores b n) (receivedBy c round slot b n)
+    unfolding storedBelow
+    stored-becomes h zero l = stored-none h
+    stored-becomes h (suc n) l =
+        rw (aimed n (omega arith))
+        (store-next (storesAt round slot (slaveOf c n)) n (omega arith) (storesAt-lands round slot (slaveOf c n)) refl (stored-becomes h n (omega arith)))

@@ -1,0 +1,47 @@
+-- `cluster::entry::is_end` meets its contract: a law for each action.
+-- Assumes nothing.
+use Rattle.cluster.proofs.EntryLaws.{receiver-goes-on, sender-goes-on, end-ends, rest-goes-on}
+use borrow.Author.Needs.{needs}
+use Rattle.cluster.proofs.entry.is_end.Statement.{statement}
+use Rattle.cluster.proofs.entry.is_end.Tie as tie
+
+action-of-requires : tie.Need-action-of-requires
+action-of-requires c κs = search needs
+
+enum-told : tie.Need-enum-told
+enum-told c = search needs
+
+enum-told-2 : tie.Need-enum-told-2
+enum-told-2 c = search needs
+
+enum-told-3 : tie.Need-enum-told-3
+enum-told-3 c = search needs
+
+enum-told-4 : tie.Need-enum-told-4
+enum-told-4 c = search needs
+
+returns : tie.Need-returns
+returns c = search (needs, receiver-goes-on)
+
+returns-2 : tie.Need-returns-2
+returns-2 c = search (needs, sender-goes-on)
+
+returns-3 : tie.Need-returns-3
+returns-3 c = search (needs, end-ends)
+
+returns-4 : tie.Need-returns-4
+returns-4 c = search (needs, rest-goes-on)
+
+pub is-end-spec : {M : Type 1} → statement M
+is-end-spec =
+    tie.close
+    (tie.spec
+    action-of-requires
+    enum-told
+    enum-told-2
+    enum-told-3
+    enum-told-4
+    returns
+    returns-2
+    returns-3
+    returns-4)

@@ -1,0 +1,28 @@
+-- `cluster::multipartner::bus_with` meets its contract: a law for each turn.
+-- Assumes nothing.
+use Rattle.cluster.proofs.TurnLaws.{bus-sends, bus-stores, bus-rests}
+use borrow.Author.Needs.{needs}
+use Rattle.cluster.proofs.multipartner.bus_with.Statement.{statement}
+use Rattle.cluster.proofs.multipartner.bus_with.Tie as tie
+
+enum-known-turn : tie.Need-enum-known-turn
+enum-known-turn c = search needs
+
+enum-told : tie.Need-enum-told
+enum-told c = search needs
+
+enum-told-2 : tie.Need-enum-told-2
+enum-told-2 c = search needs
+
+returns : tie.Need-returns
+returns c = search (needs, bus-sends)
+
+returns-2 : tie.Need-returns-2
+returns-2 c = search (needs, bus-stores)
+
+returns-3 : tie.Need-returns-3
+returns-3 c = search (needs, bus-rests)
+
+pub bus-with-spec : {M : Type 1} → statement M
+bus-with-spec =
+    tie.close (tie.spec enum-known-turn enum-told enum-told-2 returns returns-2 returns-3)

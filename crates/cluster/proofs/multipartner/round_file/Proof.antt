@@ -1,0 +1,47 @@
+-- `cluster::multipartner::round_file` meets its contract: a law for each way.
+-- Assumes nothing.
+use native.Mathlib.Omega.{arith}
+use Rattle.cluster.proofs.RoundFileLaws.{round-unnamed, round-missing, round-found, round-long}
+use borrow.Author.Needs.{needs}
+use Rattle.cluster.proofs.multipartner.round_file.Statement.{statement}
+use Rattle.cluster.proofs.multipartner.round_file.Tie as tie
+
+logical-name-requires : tie.Need-logical-name-requires
+logical-name-requires c κs = search needs
+
+returns : tie.Need-returns
+returns c = search (needs, round-unnamed)
+
+find-file-requires : tie.Need-find-file-requires
+find-file-requires c κs = search needs
+
+enum-known-found : tie.Need-enum-known-found
+enum-known-found c = search needs
+
+enum-told : tie.Need-enum-told
+enum-told c = search needs
+
+returns-2 : tie.Need-returns-2
+returns-2 c = search (needs, round-missing)
+
+sub-t12 : tie.Need-sub-t12
+sub-t12 c =
+    let found = c .before in
+    let start = found .before .before .before .before .before .before .before .before in
+    omega (arith, round-long _ _ _ (found .before .before .find-file .ensures) (found .found .given .1) (start .pre .0) (start .pre .1 .slave))
+
+returns-3 : tie.Need-returns-3
+returns-3 c = search (needs, round-found)
+
+pub round-file-spec : {M : Type 1} → statement M
+round-file-spec =
+    tie.close
+    (tie.spec
+    logical-name-requires
+    returns
+    find-file-requires
+    enum-known-found
+    enum-told
+    returns-2
+    sub-t12
+    returns-3)
