@@ -23,16 +23,22 @@ byte-place-requires : tie.Need-byte-place-requires
 byte-place-requires c κs = search needs
 
 returns-2 : tie.Need-returns-2
-returns-2 c = search (needs, byte-outside)
-
-add-t11 : tie.Need-add-t11
-add-t11 c =
-    let found = c .before .before .before in
+returns-2 c =
+    let found = c .before .before .before .before in
     let start = found .before .before .before .before .before in
-    omega (arith, byte-fits _ _ (start .args .entry) (start .args .slot) (found .before .before .find-file .ensures) (found .found .given .1) (start .pre .0) (c .if1 .left), length-limit (start .pre .0))
+    byte-outside _ _ (start .args .entry) (start .args .slot) (found .before .before .find-file .ensures) (found .found .given .1) (c .before .before .byte-place .ensures) (c .if1 .taken)
+
+add-t10 : tie.Need-add-t10
+add-t10 c =
+    let found = c .before .before .before .before .before in
+    let start = found .before .before .before .before .before in
+    omega (arith, byte-fits _ _ (start .args .entry) (start .args .slot) (found .before .before .find-file .ensures) (found .found .given .1) (start .pre .0) (c .before .if1 .left), length-limit (start .pre .0))
 
 returns-3 : tie.Need-returns-3
-returns-3 c = search (needs, byte-found)
+returns-3 c =
+    let found = c .before .before .before .before .before in
+    let start = found .before .before .before .before .before in
+    byte-found _ _ (start .args .entry) (start .args .slot) (found .before .before .find-file .ensures) (found .found .given .1) (c .before .before .before .byte-place .ensures) (c .before .if1 .left)
 
 pub find-byte-spec : {M : Type 1} → statement M
 find-byte-spec =
@@ -44,5 +50,5 @@ find-byte-spec =
     returns
     byte-place-requires
     returns-2
-    add-t11
+    add-t10
     returns-3)

@@ -24,14 +24,19 @@ enum-told c = search needs
 returns-2 : tie.Need-returns-2
 returns-2 c = search (needs, round-missing)
 
-sub-t12 : tie.Need-sub-t12
-sub-t12 c =
-    let found = c .before in
+sub-t11 : tie.Need-sub-t11
+sub-t11 c =
+    let found = c .before .before in
     let start = found .before .before .before .before .before .before .before .before in
     omega (arith, round-long _ _ _ (found .before .before .find-file .ensures) (found .found .given .1) (start .pre .0) (start .pre .1 .slave))
 
 returns-3 : tie.Need-returns-3
-returns-3 c = search (needs, round-found)
+returns-3 c =
+    let found = c .before .before in
+    let left = found .before .before .before in
+    let start = left .before .before .before .before .before in
+    round-found _ _ _ (found .before .before .find-file .ensures) (found .found .given .1) (start .pre .0) (start .pre .1 .slave)
+    (left .before .before .before .logical-name .ensures) (left .if1 .left)
 
 pub round-file-spec : {M : Type 1} → statement M
 round-file-spec =
@@ -43,5 +48,5 @@ round-file-spec =
     enum-known-found
     enum-told
     returns-2
-    sub-t12
+    sub-t11
     returns-3)
