@@ -28,3 +28,4 @@ pub mod FrameLaws
 pub mod Cases
 pub mod Sent
 pub mod RoundCall
+pub mod FrameCall

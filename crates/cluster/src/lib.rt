@@ -1,5 +1,6 @@
 // The simulated cluster: one frame on a cluster file.
 pub mod answer;
+pub mod call;
 pub mod entry;
 pub mod msa;
 pub mod msd;
