@@ -1,0 +1,82 @@
+-- Small cases of the definitions, computed.
+-- Assumes nothing.
+use Prim.Native.Nat.{ℕ, zero, suc, _+_}
+use mathlib.Core.Path.{_≡_, refl}
+use mathlib.Core.List.{List, [], _∷_, map}
+use mathlib.Core.Bool.{Bool, true, false, cond}
+use Rattle.file.specs.Grounds.{isAmong}
+use Rattle.file.specs.Order.{both, either}
+use Rattle.file.specs.Bytes.{bytesOf}
+use Rattle.naming.specs.View.{SlaveView, sent, Sent, atUnnamed}
+use Rattle.naming.specs.Run.{Position, operationOf, operationAt, placeOf, askOrGive, questionOf, partOf, giveOf, tried}
+use Rattle.naming.specs.Account.{Named, Account, accountOf, comparisonsOf, comparisonsAfter, oneRound, pass, freePass, goOn, passDone, runEnds, give, falling, insert, unnamedAmong, namesHeld, endWith}
+
+-- n names from a on
+from : ℕ → ℕ → List ℕ
+from zero a = []
+from (suc n) a = a ∷ from n (suc a)
+
+slave : ℕ → ℕ → Named
+slave p n = record { physical = p; logical = n }
+
+rounds : ℕ → Account → Account
+rounds zero a = a
+rounds (suc n) a = rounds n (oneRound a)
+
+-- an account's names, end, rounds and comparisons
+pub record Figures : Type 0 where
+  pub slaves : List Named
+  pub end : ℕ
+  pub rounds : ℕ
+  pub comparisons : ℕ
+
+figures : Account → Figures
+figures a = record { slaves = a .slaves; end = a .end; rounds = a .rounds; comparisons = comparisonsOf a }
+
+-- case M10: "named 2 compares 131 rounds 404"
+m10 :
+    figures (rounds 404 (accountOf (slave 0x0000000700000010 0xFF ∷ slave 0x00000007000000A0 0xFF ∷ []) (from 254 1))) ≡
+    record {
+      slaves = slave 0x0000000700000010 2 ∷ slave 0x00000007000000A0 1 ∷ [];
+      end = 1;
+      rounds = 404;
+      comparisons = 131;
+    }
+unfolding figures rounds from slave comparisonsOf comparisonsAfter oneRound pass freePass goOn passDone runEnds give accountOf falling insert unnamedAmong namesHeld endWith isAmong either
+m10 = refl
+
+-- names 5 and 7 for slaves of which one holds 5 and one, with physical name 0, is unnamed: "names used up" after 1 + 200 rounds
+small :
+    figures (rounds 300 (accountOf (slave 9 5 ∷ slave 0 0xFF ∷ []) (5 ∷ 7 ∷ []))) ≡
+    record { slaves = slave 9 5 ∷ slave 0 7 ∷ []; end = 2; rounds = 201; comparisons = 65 }
+unfolding figures rounds from slave comparisonsOf comparisonsAfter oneRound pass freePass goOn passDone runEnds give accountOf falling insert unnamedAmong namesHeld endWith isAmong either
+small = refl
+
+-- the rounds that a run over names 5 and 7 sends
+at : ℕ → ℕ → Position
+at step value = record { mark = 0; index = 1; step = step; value = value; rounds = 9; comparisons = 2 }
+
+sends : ℕ → ℕ → Sent
+sends step value = sent (operationOf (5 ∷ 7 ∷ []) (at step value))
+
+-- step 0 reads 0x3D record 1 at the name; step 196 writes 00 00 name FF; steps 4 and 195 are the write of record 2 for bit 63 and
+-- the execute for bit 0
+poll-sends : sends 0 0 ≡ record { name = 7; file = 0x3D; operation = 0; «record» = 1; content = [] }
+unfolding sends at sent operationOf operationAt placeOf
+poll-sends = refl
+
+name-sends : sends 196 0 ≡ record { name = 0xFF; file = 0x08; operation = 1; «record» = 1; content = 0 ∷ 0 ∷ 7 ∷ 0xFF ∷ [] }
+unfolding sends at sent atUnnamed operationOf operationAt placeOf askOrGive giveOf
+name-sends = refl
+
+bit-sends : sends 4 0 ≡ record { name = 0xFF; file = 0x08; operation = 1; «record» = 2; content = 0x80 ∷ 0 ∷ 0 ∷ 0 ∷ [] }
+unfolding sends at sent atUnnamed operationOf operationAt placeOf askOrGive questionOf partOf tried bytesOf
+bit-sends = refl
+
+last-bit-sends : sends 195 3 ≡ record { name = 0xFF; file = 0x08; operation = 2; «record» = 2; content = [] }
+unfolding sends at sent atUnnamed operationOf operationAt placeOf askOrGive questionOf partOf tried
+last-bit-sends = refl
+
+last-low-sends : sends 194 2 ≡ record { name = 0xFF; file = 0x08; operation = 1; «record» = 3; content = 0 ∷ 0 ∷ 0 ∷ 3 ∷ [] }
+unfolding sends at sent atUnnamed operationOf operationAt placeOf askOrGive questionOf partOf tried bytesOf
+last-low-sends = refl

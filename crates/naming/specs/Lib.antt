@@ -1,0 +1,4 @@
+-- What a reader must believe of the naming run, in document 01's order.
+pub mod View
+pub mod Run
+pub mod Account

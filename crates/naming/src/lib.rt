@@ -1,0 +1,1 @@
+// The naming run. Its definitions and theorem stand in specs/ and proofs/.
