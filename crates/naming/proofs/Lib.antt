@@ -1,3 +1,4 @@
 pub mod Examples
 pub mod Places
 pub mod Search
+pub mod Facts
