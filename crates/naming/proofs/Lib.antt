@@ -2,3 +2,4 @@ pub mod Examples
 pub mod Places
 pub mod Search
 pub mod Facts
+pub mod Answers
