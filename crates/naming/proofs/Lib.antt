@@ -3,3 +3,4 @@ pub mod Places
 pub mod Search
 pub mod Facts
 pub mod Answers
+pub mod Simulation

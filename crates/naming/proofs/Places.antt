@@ -40,13 +40,16 @@ part-back high = refl
 part-back low = refl
 part-back reply = refl
 
--- the places of a pass
+-- the places of a pass but its last, and all of them
+pub data Inner : Place → Type 0 where
+  at-poll : Inner poll
+  at-ask : {q : Question} (r : Part) → LegalQuestion q → Inner (ask q r)
+  at-name : Inner giveName
+  at-high : Inner giveHigh
+  at-low : Inner giveLow
+
 pub data LegalPlace : Place → Type 0 where
-  at-poll : LegalPlace poll
-  at-ask : {q : Question} (r : Part) → LegalQuestion q → LegalPlace (ask q r)
-  at-name : LegalPlace giveName
-  at-high : LegalPlace giveHigh
-  at-low : LegalPlace giveLow
+  inner : {l : Place} → Inner l → LegalPlace l
   at-baptize : LegalPlace baptize
 
 -- a place is that of its step
@@ -61,11 +64,11 @@ place-ask {q} r h =
 
 pub place-of-step : {l : Place} → LegalPlace l → placeOf (stepOf l) ≡ l
 unfolding placeOf stepOf askOrGive giveOf
-place-of-step at-poll = refl
-place-of-step (at-ask r h) = place-ask r h
-place-of-step at-name = refl
-place-of-step at-high = refl
-place-of-step at-low = refl
+place-of-step (inner at-poll) = refl
+place-of-step (inner (at-ask r h)) = place-ask r h
+place-of-step (inner at-name) = refl
+place-of-step (inner at-high) = refl
+place-of-step (inner at-low) = refl
 place-of-step at-baptize = refl
 
 -- the next place of a pass, which baptize has not
@@ -89,44 +92,41 @@ unfolding afterBit stepOf questionNumber partNumber
 step-after-bit zero h = refl
 step-after-bit (suc b) h = omega arith
 
-pub step-after : {l : Place} → LegalPlace l → (l ≡ baptize → ⊥) → stepOf (afterPlace l) ≡ suc (stepOf l)
+pub step-after : {l : Place} → Inner l → stepOf (afterPlace l) ≡ suc (stepOf l)
 unfolding afterPlace stepOf questionNumber partNumber
-step-after at-poll n = refl
-step-after (at-ask high h) n = omega arith
-step-after (at-ask low h) n = omega arith
-step-after (at-ask reply of-least) n = refl
-step-after (at-ask reply (of-bit {b = b} h)) n = step-after-bit b h
-step-after at-name n = refl
-step-after at-high n = refl
-step-after at-low n = refl
-step-after at-baptize n = absurd (n refl)
+step-after at-poll = refl
+step-after (at-ask high h) = omega arith
+step-after (at-ask low h) = omega arith
+step-after (at-ask reply of-least) = refl
+step-after (at-ask reply (of-bit {b = b} h)) = step-after-bit b h
+step-after at-name = refl
+step-after at-high = refl
+step-after at-low = refl
 
 legal-after-bit : (b : ℕ) → b < bits → LegalPlace (afterBit b)
 unfolding afterBit
-legal-after-bit zero h = at-name
-legal-after-bit (suc b) h = let k : b < bits = omega arith in at-ask high (of-bit k)
+legal-after-bit zero h = inner at-name
+legal-after-bit (suc b) h = let k : b < bits = omega arith in inner (at-ask high (of-bit k))
 
-pub legal-after : {l : Place} → LegalPlace l → LegalPlace (afterPlace l)
+pub legal-after : {l : Place} → Inner l → LegalPlace (afterPlace l)
 unfolding afterPlace
-legal-after at-poll = at-ask high of-least
-legal-after (at-ask high h) = at-ask low h
-legal-after (at-ask low h) = at-ask reply h
-legal-after (at-ask reply of-least) = let k : 63 < bits = omega arith in at-ask high (of-bit k)
+legal-after at-poll = inner (at-ask high of-least)
+legal-after (at-ask high h) = inner (at-ask low h)
+legal-after (at-ask low h) = inner (at-ask reply h)
+legal-after (at-ask reply of-least) = let k : 63 < bits = omega arith in inner (at-ask high (of-bit k))
 legal-after (at-ask reply (of-bit {b = b} h)) = legal-after-bit b h
-legal-after at-name = at-high
-legal-after at-high = at-low
+legal-after at-name = inner at-high
+legal-after at-high = inner at-low
 legal-after at-low = at-baptize
-legal-after at-baptize = at-baptize
 
 -- a pass has 200 places, baptize is the last
-pub step-lt : {l : Place} → LegalPlace l → (l ≡ baptize → ⊥) → stepOf l < lastStep
+pub step-lt : {l : Place} → Inner l → stepOf l < lastStep
 unfolding stepOf
-step-lt at-poll n = omega arith
-step-lt (at-ask {q = q} r h) n = omega (arith, question-le q, part-lt r)
-step-lt at-name n = omega arith
-step-lt at-high n = omega arith
-step-lt at-low n = omega arith
-step-lt at-baptize n = absurd (n refl)
+step-lt at-poll = omega arith
+step-lt (at-ask {q = q} r h) = omega (arith, question-le q, part-lt r)
+step-lt at-name = omega arith
+step-lt at-high = omega arith
+step-lt at-low = omega arith
 
 -- the comparisons that a place's round makes: one at an execute of record 2
 unfoldable pub comparing : Place → ℕ
@@ -140,13 +140,12 @@ comparing giveLow = 0
 comparing baptize = 0
 
 pub comparisons-next :
-    {l : Place} → LegalPlace l → (l ≡ baptize → ⊥) → comparisonsAfter (suc (stepOf l)) ≡ comparisonsAfter (stepOf l) + comparing l
+    {l : Place} → Inner l → comparisonsAfter (suc (stepOf l)) ≡ comparisonsAfter (stepOf l) + comparing l
 unfolding comparisonsAfter comparing stepOf partNumber
-comparisons-next at-poll n = refl
-comparisons-next (at-ask {q = q} high h) n = omega (arith, question-le q)
-comparisons-next (at-ask {q = q} low h) n = omega (arith, question-le q)
-comparisons-next (at-ask {q = q} reply h) n = omega (arith, question-le q)
-comparisons-next at-name n = refl
-comparisons-next at-high n = refl
-comparisons-next at-low n = refl
-comparisons-next at-baptize n = absurd (n refl)
+comparisons-next at-poll = refl
+comparisons-next (at-ask {q = q} high h) = omega (arith, question-le q)
+comparisons-next (at-ask {q = q} low h) = omega (arith, question-le q)
+comparisons-next (at-ask {q = q} reply h) = omega (arith, question-le q)
+comparisons-next at-name = refl
+comparisons-next at-high = refl
+comparisons-next at-low = refl
