@@ -22,6 +22,7 @@ use Rattle.naming.proofs.Places.{LegalQuestion, of-least, of-bit, Inner
 use Rattle.naming.proofs.Places.{comparing as counting}
 use Rattle.naming.proofs.Search.{cleared, cleared-all, cleared-none, answered, tried-small, halves}
 use Rattle.naming.proofs.Facts.{Facts, Fit, all-head, all-map, drop-taken, give-greatest, fall-head, physicals}
+use Rattle.naming.proofs.Rounds.{account, Goes, goes-on, taken-round, giving-round, ending-round}
 use Rattle.naming.proofs.Answers.{namedOf, OfUnnamed, Wait, poll-answers, compare-silent, compare-answers, Quiet, polling, telling-name, telling-high, telling-low, comparing, quiet-names, quiet-told, baptize-names, Same, same-names, same-told}
 
 -- ---- the relation
@@ -71,10 +72,6 @@ pub record At
 abbrev pub position : ℕ → ℕ → ℕ → ℕ → ℕ → ℕ → Position
 position mark index step value rounds comparisons =
     record { mark = mark; index = index; step = step; value = value; rounds = rounds; comparisons = comparisons }
-
-abbrev pub account : List ℕ → List ℕ → List Named → List ℕ → ℕ → ℕ → ℕ → ℕ → Account
-account left waiting slaves held end rounds done k =
-    record { left = left; waiting = waiting; slaves = slaves; held = held; end = end; rounds = rounds; done = done; k = k }
 
 -- the run has ended as the account says
 pub record Over (names : List ℕ) (vs : List SlaveView) (mark index comparisons : ℕ) (slaves : List Named) (done k : ℕ) : Type 0 where
@@ -138,21 +135,9 @@ next-name names {vs} index step value rounds comparisons n done (m ∷ ms) {ws =
 
 -- ---- a round that goes on within the pass
 
--- the account has more rounds to make
-abbrev Goes : List ℕ → ℕ → Type 0
-Goes [] k = eqb (suc k) 4 ≡ false
-Goes (p ∷ ps) k = Unit {0}
-
 found-goes : (r x k : ℕ) (ws : List ℕ) → Found r x ws → Goes ws k
 found-goes r x k [] f = absurd f
 found-goes r x k (p ∷ ps) f = tt
-
-goes-on :
-    (n : ℕ) (ns ws : List ℕ) (slaves : List Named) (held : List ℕ) (rounds done k : ℕ) → isAmong n held ≡ false → suc k < 200 → Goes ws k →
-    oneRound (account (n ∷ ns) ws slaves held notYet rounds done k) ≡ account (n ∷ ns) ws slaves held notYet (suc rounds) done (suc k)
-unfolding oneRound pass freePass goOn
-goes-on n ns [] slaves held rounds done k free l g = rw (free, g)
-goes-on n ns (p ∷ ps) slaves held rounds done k free l g = rw (free, ne-eqb (suc k) 200 (λ (e : suc k ≡ 200). omega arith))
 
 go-on :
     {names : List ℕ} {vs : List SlaveView} {l : Place} {index step value rounds comparisons n done : ℕ} {ns ws held : List ℕ} {slaves : List Named}
@@ -182,27 +167,6 @@ go-on {names} {vs} {l} {index} {step} {value} {rounds} {comparisons} {n} {done} 
     rw (goes-on n ns ws slaves held rounds done step free m g) (going a)
 
 -- ---- the places
-
--- the account's last round of a pass: of a taken name, of one that is given, of the run
-taken-round :
-    (n : ℕ) (ns ws : List ℕ) (slaves : List Named) (held : List ℕ) (rounds done k : ℕ) → isAmong n held ≡ true →
-    oneRound (account (n ∷ ns) ws slaves held notYet rounds done k) ≡ account ns ws slaves held (endWith ns) (suc rounds) (done + 0) 0
-unfolding oneRound pass passDone
-taken-round n ns ws slaves held rounds done k t = rw t
-
-giving-round :
-    (n : ℕ) (ns : List ℕ) (p : ℕ) (ps : List ℕ) (slaves : List Named) (held : List ℕ) (rounds done k : ℕ) → isAmong n held ≡ false →
-    suc k ≡ 200 →
-    oneRound (account (n ∷ ns) (p ∷ ps) slaves held notYet rounds done k) ≡
-    account ns ps (map (give p n) slaves) held (endWith ns) (suc rounds) (done + 65) 0
-unfolding oneRound pass freePass passDone
-giving-round n ns p ps slaves held rounds done k f e = rw (f, eq-eqb (suc k) 200 e)
-
-ending-round :
-    (n : ℕ) (ns : List ℕ) (slaves : List Named) (held : List ℕ) (rounds done k : ℕ) → isAmong n held ≡ false → suc k ≡ 4 →
-    oneRound (account (n ∷ ns) [] slaves held notYet rounds done k) ≡ account (n ∷ ns) [] slaves held 1 (suc rounds) done (suc k)
-unfolding oneRound pass freePass runEnds
-ending-round n ns slaves held rounds done k f e = rw (f, eq-eqb (suc k) 4 e)
 
 -- the next place behind bit b, and what is known there
 known-after-bit : (b n : ℕ) (held : List ℕ) (x : ℕ) (ws : List ℕ) → isAmong n held ≡ false → Found b x ws → Known (afterBit b) n held x ws

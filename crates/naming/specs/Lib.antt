@@ -2,3 +2,4 @@
 pub mod View
 pub mod Run
 pub mod Account
+pub mod Figures
