@@ -6,3 +6,4 @@ pub mod Answers
 pub mod Rounds
 pub mod Simulation
 pub mod Tally
+pub mod Closed
