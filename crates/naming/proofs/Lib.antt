@@ -7,3 +7,5 @@ pub mod Rounds
 pub mod Simulation
 pub mod Tally
 pub mod Closed
+pub mod Sorted
+pub mod Start
