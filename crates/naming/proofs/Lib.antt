@@ -9,3 +9,4 @@ pub mod Tally
 pub mod Closed
 pub mod Sorted
 pub mod Start
+pub mod Abstract

@@ -16,7 +16,7 @@ use Rattle.file.specs.Cluster.{unnamed}
 use Rattle.file.specs.Grounds.{isAmong}
 use Rattle.file.proofs.Order.{byCase, clash}
 use Rattle.naming.specs.View.{SlaveView, Operation, Operation.poll as pollOf, writeName, writeHigh, writeLow, compare, Operation.baptize as baptizeAll, told, change, changeAll, answers, comparisonOf, half}
-use Rattle.naming.specs.Run.{Position, running, markAt, Place, Place.poll, ask, giveName, giveHigh, giveLow, Place.baptize, Question, least, bit, Part, high, low, reply, placeOf, stepOf, tried, operationAt, operationOf, onward, nextName, endAllNamed, moveOn, advance, bits, questionNumber, partNumber}
+use Rattle.naming.specs.Run.{Position, running, fresh, markAt, Place, Place.poll, ask, giveName, giveHigh, giveLow, Place.baptize, Question, least, bit, Part, high, low, reply, placeOf, stepOf, tried, operationAt, operationOf, onward, nextName, endAllNamed, moveOn, advance, bits, questionNumber, partNumber}
 use Rattle.naming.specs.Account.{Named, Account, comparisonsAfter, comparisonsOf, endWith, goOn, passDone, runEnds, give, freePass, pass, oneRound, namesHeld, notYet}
 use Rattle.naming.proofs.Places.{LegalQuestion, of-least, of-bit, Inner, LegalPlace, inner, at-poll, at-ask, at-name, at-high, at-low, at-baptize, place-of-step, afterBit, afterPlace, step-after, legal-after, step-lt, comparisons-next}
 use Rattle.naming.proofs.Places.{comparing as counting}
@@ -97,7 +97,7 @@ pub data Tie (names : List ℕ) : List SlaveView → Position → Account → Ty
 drop-next : (names : List ℕ) (index n : ℕ) (ns : List ℕ) → drop index names ≡ n ∷ ns → drop (suc index) names ≡ ns
 drop-next names index n ns e = rw (← add-one index, ← drop-drop 1 index names, e)
 
-length-here : (names : List ℕ) (index n : ℕ) (ns : List ℕ) → drop index names ≡ n ∷ ns → length names ≡ index + suc (length ns)
+pub length-here : (names : List ℕ) (index n : ℕ) (ns : List ℕ) → drop index names ≡ n ∷ ns → length names ≡ index + suc (length ns)
 length-here names index n ns e = let l : length names - index ≡ suc (length ns) = sym (length-drop index names) ∙ ap length e in omega arith
 
 nothing-told : (P : SlaveView → Type 0) (vs : List SlaveView) → ((v : SlaveView) → P v) → OfUnnamed P vs
@@ -201,7 +201,7 @@ unfolding comparisonOf
 compared x v h = halves (h .0) (h .1)
 
 -- a step at a place: the round changes the views, the position moves on by the answer, the account makes a round
-abbrev Moves :
+abbrev pub Moves :
     List ℕ → List SlaveView → Place → ℕ → ℕ → ℕ → ℕ → ℕ → ℕ → List ℕ → List ℕ → List Named → List ℕ → ℕ → Type 0
 Moves names vs l index step value rounds comparisons n ns ws slaves held done =
     At names vs l index step value rounds comparisons n ns ws slaves held done →
@@ -341,7 +341,7 @@ at-end-moves names vs index step value rounds comparisons n ns slaves held done 
     } in
     rw (compare-silent vs w, ending-round n ns slaves held rounds done step (i .known .0) e) (over o)
 
-moves :
+pub moves :
     (names : List ℕ) (vs : List SlaveView) (l : Place) (index step value rounds comparisons n : ℕ) (ns ws : List ℕ) (slaves : List Named)
     (held : List ℕ) (done : ℕ) → LegalPlace l → Moves names vs l index step value rounds comparisons n ns ws slaves held done
 moves names vs l index step value rounds comparisons n ns ws slaves held done (inner at-poll) i =
@@ -366,3 +366,27 @@ moves names vs l index step value rounds comparisons n ns ws slaves held done (i
 moves names vs l index step value rounds comparisons n ns [] slaves held done at-baptize i = absurd (i .known .1)
 moves names vs l index step value rounds comparisons n ns (p ∷ ps) slaves held done at-baptize i =
     at-baptize-moves names vs index step value rounds comparisons n ns p ps slaves held done i
+
+-- a fresh run
+pub fresh-at :
+    (vs : List SlaveView) (names ws : List ℕ) (slaves : List Named) (held : List ℕ) → Facts names ws slaves held → map namedOf vs ≡ slaves →
+    Tie names vs (fresh names) (account names ws slaves held (endWith names) 0 0 0)
+unfolding fresh markAt endWith comparisonsAfter stepOf
+fresh-at vs [] ws slaves held f v =
+    let o : Over [] vs 2 0 0 slaves 0 0 = record { views = v; some = omega arith; most = omega arith; within = omega arith; counted = refl } in
+    over o
+fresh-at vs (n ∷ ns) ws slaves held f v =
+    let a : At (n ∷ ns) vs poll 0 0 0 0 0 n ns ws slaves held 0 =
+    record {
+      legal = inner at-poll;
+      facts = f;
+      here = refl;
+      place = refl;
+      counted = refl;
+      views = v;
+      known = tt;
+      heard = nothing-told (λ v. Unit {0}) vs (λ v. tt);
+      small = omega arith;
+    } in
+    let l : 0 < suc (length ns) = omega arith in
+    rw (lt-ltb 0 (suc (length ns)) l) (going a)

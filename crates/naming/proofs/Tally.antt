@@ -122,7 +122,7 @@ pass-positive false [] = omega arith
 pass-positive false (p ∷ ps) = omega arith
 
 module _ (R C : ℕ) (F : List Named) where
-  next-pass :
+  pub next-pass :
       (ns ws : List ℕ) (slaves : List Named) (held : List ℕ) (rounds done : ℕ) → rounds + due held ns ws ≡ R →
       done + dueComparisons held ns ws ≡ C → finally held ns ws slaves ≡ F → Falling ws →
       Tally R C F (account ns ws slaves held (endWith ns) rounds done 0)
