@@ -126,7 +126,7 @@ pub record Agree (vs : List SlaveView) (p : Position) (a : Account) : Type 0 whe
   pub rounds : p .rounds ≡ a .rounds
   pub comparisons : p .comparisons ≡ comparisonsOf a
 
-tie-agree : {names : List ℕ} {vs : List SlaveView} {p : Position} {a : Account} → Tie names vs p a → Agree vs p a
+pub tie-agree : {names : List ℕ} {vs : List SlaveView} {p : Position} {a : Account} → Tie names vs p a → Agree vs p a
 unfolding comparisonsOf
 tie-agree (going i) = record { names = i .views; end = refl; rounds = refl; comparisons = i .counted }
 tie-agree (over o) = record { names = o .views; end = refl; rounds = refl; comparisons = o .counted }
@@ -164,12 +164,12 @@ pub record Short (R C : ℕ) (a : Account) : Type 0 where
   pub rounds : a .rounds < R
   pub done : a .done ≤ C
 
-tally-running : {R C : ℕ} {F : List Named} {a : Account} → Tally R C F a → a .end ≡ notYet → Short R C a
+pub tally-running : {R C : ℕ} {F : List Named} {a : Account} → Tally R C F a → a .end ≡ notYet → Short R C a
 tally-running (in-pass {n = n} {rounds = rounds} {done = done} {k = k} {ns = ns} {ws = ws} {held = held} d) e =
     record { rounds = omega (arith, d .all, d .within, pass-due n ns ws held); done = omega (arith, d .comparisons) }
 tally-running (ended d) e = absurd (omega (arith, d .some))
 
-tally-ended : {R C : ℕ} {F : List Named} {a : Account} → Tally R C F a → (a .end ≡ notYet → ⊥) → Done R C F (a .slaves) (a .end) (a .rounds) (a .done) (a .k)
+pub tally-ended : {R C : ℕ} {F : List Named} {a : Account} → Tally R C F a → (a .end ≡ notYet → ⊥) → Done R C F (a .slaves) (a .end) (a .rounds) (a .done) (a .k)
 tally-ended (in-pass d) n = absurd (n refl)
 tally-ended (ended d) n = d
 
@@ -218,23 +218,25 @@ pub data Permitted (S : Type 0) (Allowed : S → Position → Call → Type 0) (
       {w : S × Position} {c : Call} {cs : List Call} → Allowed (w .0) (w .1) c → Permitted S Allowed call (call (w .0) (w .1) c) cs →
       Permitted S Allowed call w (c ∷ cs)
 
+-- what holds between calls: the tie and the tally
+pub record Between
+    (S : Type 0) (names : List ℕ) (view : S → List SlaveView) (Good : S → Type 0) (R C : ℕ) (F : List Named) (w : S × Position) (a : Account) :
+    Type 0 where
+  pub good : Good (w .0)
+  pub tie : Tie names (view (w .0)) (w .1) a
+  pub tally : Tally R C F a
+
 module _
     (S : Type 0) (names : List ℕ) (view : S → List SlaveView) (Good : S → Type 0) (Allowed : S → Position → Call → Type 0)
     (call : S → Position → Call → S × Position) (laws : Laws S names view Good Allowed call) (R C : ℕ) (F : List Named) (few : R < countLimit)
     (fewer : C + 65 < countLimit) where
-  -- what holds between calls
-  pub record Between (w : S × Position) (a : Account) : Type 0 where
-    pub good : Good (w .0)
-    pub tie : Tie names (view (w .0)) (w .1) a
-    pub tally : Tally R C F a
-
   -- ground 17 never holds
-  pub stays-fit : (w : S × Position) (a : Account) → Between w a → unfitPosition names (w .1) ≡ false
+  pub stays-fit : (w : S × Position) (a : Account) → Between S names view Good R C F w a → unfitPosition names (w .1) ≡ false
   stays-fit w a h = tie-fit R C (h .tie) (tally-running (h .tally)) few fewer
 
   running-step :
-      (w : S × Position) (a : Account) (buffer : List ℕ) → Between w a → Allowed (w .0) (w .1) (step buffer) → shortBuffer buffer ≡ false →
-      w .1 .mark ≡ running → Between (call (w .0) (w .1) (step buffer)) (oneRound a)
+      (w : S × Position) (a : Account) (buffer : List ℕ) → Between S names view Good R C F w a → Allowed (w .0) (w .1) (step buffer) → shortBuffer buffer ≡ false →
+      w .1 .mark ≡ running → Between S names view Good R C F (call (w .0) (w .1) (step buffer)) (oneRound a)
   running-step w a buffer h allowed long m =
       record { good = st .good; tie = rw (st .views, st .moved) (tie-step (h .tie) m); tally = tally-round R C F (h .tally) }
     where
@@ -242,11 +244,11 @@ module _
       st = laws .steps (w .0) (w .1) buffer (h .good) allowed long (stays-fit w a h) m (tie-sendable (h .tie) m)
 
   idle-step :
-      (w : S × Position) (a : Account) (buffer : List ℕ) → Between w a → shortBuffer buffer ≡ false → (w .1 .mark ≡ running → ⊥) →
-      Between (call (w .0) (w .1) (step buffer)) (oneRound a)
+      (w : S × Position) (a : Account) (buffer : List ℕ) → Between S names view Good R C F w a → shortBuffer buffer ≡ false → (w .1 .mark ≡ running → ⊥) →
+      Between S names view Good R C F (call (w .0) (w .1) (step buffer)) (oneRound a)
   idle-step w a buffer h long n = rw (laws .idle (w .0) (w .1) buffer (h .good) long (stays-fit w a h) n, tie-idle (h .tie) n) h
 
-  one-call : (w : S × Position) (a : Account) (c : Call) → Between w a → Allowed (w .0) (w .1) c → Between (call (w .0) (w .1) c) (accountCall a c)
+  one-call : (w : S × Position) (a : Account) (c : Call) → Between S names view Good R C F w a → Allowed (w .0) (w .1) c → Between S names view Good R C F (call (w .0) (w .1) c) (accountCall a c)
   unfolding accountCall
   one-call w a (step buffer) h allowed =
       byCase (shortBuffer buffer)
@@ -261,8 +263,8 @@ module _
       record { good = o .good; tie = rw (o .stays) (tie-others (o .same) (h .tie)); tally = h .tally }
 
   pub all-calls :
-      (w : S × Position) (a : Account) (cs : List Call) → Between w a → Permitted S Allowed call w cs →
-      Between (runCalls S call w cs) (accountAfter a cs)
+      (w : S × Position) (a : Account) (cs : List Call) → Between S names view Good R C F w a → Permitted S Allowed call w cs →
+      Between S names view Good R C F (runCalls S call w cs) (accountAfter a cs)
   unfolding runCalls accountAfter
   all-calls w a [] h all-made = h
   all-calls w a (c ∷ cs) h (one-more allowed rest) =

@@ -10,3 +10,4 @@ pub mod Closed
 pub mod Sorted
 pub mod Start
 pub mod Abstract
+pub mod Demand

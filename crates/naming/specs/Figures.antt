@@ -59,10 +59,17 @@ unfoldable pub namesAfter : List Named → List ℕ → List Named
 namesAfter slaves names =
     map (renamed (givings (falling (unnamedAmong slaves)) (freeNames (namesHeld slaves) names))) slaves
 
+-- the rounds and comparisons of the whole run, u being the count of the unnamed slaves
+unfoldable pub roundsFor : List Named → List ℕ → ℕ
+roundsFor slaves names = roundsOf (namesHeld slaves) (length (unnamedAmong slaves)) names
+
+unfoldable pub comparisonsFor : List Named → List ℕ → ℕ
+comparisonsFor slaves names = comparisonsIn (namesHeld slaves) (length (unnamedAmong slaves)) names
+
 -- what a run over these names that began with these slaves has come to, by its end mark, its counts and the slaves now: it has
 -- ended exactly when its rounds are the figure, and then comparisons and names are theirs
 pub record Outcome (slaves : List Named) (names : List ℕ) (now : List Named) (mark rounds comparisons : ℕ) : Type 0 where
-  pub ended : (mark ≡ 0 → ⊥) → rounds ≡ roundsOf (namesHeld slaves) (length (unnamedAmong slaves)) names
-  pub ends : rounds ≡ roundsOf (namesHeld slaves) (length (unnamedAmong slaves)) names → mark ≡ 0 → ⊥
-  pub compared : (mark ≡ 0 → ⊥) → comparisons ≡ comparisonsIn (namesHeld slaves) (length (unnamedAmong slaves)) names
+  pub ended : (mark ≡ 0 → ⊥) → rounds ≡ roundsFor slaves names
+  pub ends : rounds ≡ roundsFor slaves names → mark ≡ 0 → ⊥
+  pub compared : (mark ≡ 0 → ⊥) → comparisons ≡ comparisonsFor slaves names
   pub named : (mark ≡ 0 → ⊥) → now ≡ namesAfter slaves names
