@@ -16,7 +16,7 @@ use Rattle.file.specs.Grounds.{isAmong}
 use Rattle.file.proofs.Order.{byCase, clash, either-false, both-false-left, both-false-right}
 use Rattle.naming.specs.View.{SlaveView, Operation, Operation.poll as pollOf, writeName, writeHigh, writeLow, compare, Operation.baptize as baptizeAll, changeAll, answers, half}
 use Rattle.naming.specs.Run.{Position, running, namesUsedUp, fresh, markAt, Place, ask, giveName, giveHigh, giveLow, Question, least, bit, Part, high, low, reply, placeOf, stepOf, operationAt, operationOf, moveOn, advance, unfitPosition, countLimit, lastStep, bits, tried}
-use Rattle.naming.specs.Account.{Named, Account, Call, step, frame, shortBuffer, notYet, accountOf, accountCall, accountAfter, oneRound, comparisonsOf, comparisonsAfter, endWith, falling, unnamedAmong, namesHeld}
+use Rattle.naming.specs.Account.{namingComparisons, Named, Account, Call, step, frame, shortBuffer, notYet, accountOf, accountCall, accountAfter, oneRound, comparisonsOf, comparisonsAfter, endWith, falling, unnamedAmong, namesHeld}
 use Rattle.naming.specs.Figures.{Outcome, roundsOf, comparisonsIn, namesAfter, freeNames, givings}
 use Rattle.naming.proofs.Places.{LegalPlace, inner, at-poll, at-ask, at-name, at-high, at-low, at-baptize, place-of-step, step-lt}
 use Rattle.naming.proofs.Search.{tried-small}
@@ -178,14 +178,14 @@ unfolding stepOf
 step-most (inner h) = omega (arith, step-lt h)
 step-most at-baptize = omega arith
 
-comparisons-most : (k : ℕ) → comparisonsAfter k ≤ 65
+comparisons-most : (k : ℕ) → comparisonsAfter k ≤ namingComparisons
 unfolding comparisonsAfter
 comparisons-most k = omega arith
 
 -- no ground 17
 tie-fit :
     {names : List ℕ} {vs : List SlaveView} {p : Position} {a : Account} (R C : ℕ) → Tie names vs p a → (a .end ≡ notYet → Short R C a) →
-    R < countLimit → C + 65 < countLimit → unfitPosition names p ≡ false
+    R < countLimit → C + namingComparisons < countLimit → unfitPosition names p ≡ false
 unfolding unfitPosition
 tie-fit {names} R C (going {index = index} {step = k} {rounds = rounds} {comparisons = comparisons} {n = n} {done = done} {ns = ns} i) s r c =
     let l : length names ≡ index + suc (length ns) = length-here names index n ns (i .here) in
@@ -229,7 +229,7 @@ pub record Between
 module _
     (S : Type 0) (names : List ℕ) (view : S → List SlaveView) (Good : S → Type 0) (Allowed : S → Position → Call → Type 0)
     (call : S → Position → Call → S × Position) (laws : Laws S names view Good Allowed call) (R C : ℕ) (F : List Named) (few : R < countLimit)
-    (fewer : C + 65 < countLimit) where
+    (fewer : C + namingComparisons < countLimit) where
   -- ground 17 never holds
   pub stays-fit : (w : S × Position) (a : Account) → Between S names view Good R C F w a → unfitPosition names (w .1) ≡ false
   stays-fit w a h = tie-fit R C (h .tie) (tally-running (h .tally)) few fewer

@@ -183,13 +183,25 @@ pub data Same : List SlaveView → List SlaveView → Type 0 where
   end : Same [] []
   next : {v w : SlaveView} {vs ws : List SlaveView} → SameSlave v w → Same vs ws → Same (v ∷ vs) (w ∷ ws)
 
-pub same-names : {vs ws : List SlaveView} → Same vs ws → map namedOf ws ≡ map namedOf vs
-same-names end = refl
-same-names (next s h) = rw (s .names, same-names h)
-
 named-unnamed : (v w : SlaveView) → namedOf w ≡ namedOf v → isUnnamed w ≡ isUnnamed v
 unfolding isUnnamed namedOf
 named-unnamed v w e = ap (λ (s : Named). eqb (s .logical) unnamed) e
+
+-- no slave has changed
+pub same-refl : (vs : List SlaveView) → Same vs vs
+same-refl [] = end
+same-refl (v ∷ vs) = next (record { names = refl; kept = λ u. refl }) (same-refl vs)
+
+pub same-trans : {us vs ws : List SlaveView} → Same us vs → Same vs ws → Same us ws
+same-trans end end = end
+same-trans (next {v = u} {w = v} s h) (next {w = w} t k) =
+    next
+    (record { names = t .names ∙ s .names; kept = λ e. t .kept (named-unnamed u v (s .names) ∙ e) ∙ s .kept e })
+    (same-trans h k)
+
+pub same-names : {vs ws : List SlaveView} → Same vs ws → map namedOf ws ≡ map namedOf vs
+same-names end = refl
+same-names (next s h) = rw (s .names, same-names h)
 
 pub same-told : (P : SlaveView → Type 0) {vs ws : List SlaveView} → Same vs ws → OfUnnamed P vs → OfUnnamed P ws
 unfolding OfUnnamed

@@ -78,7 +78,7 @@ module _ (slaves : List Named) (names : List ℕ) where
       )
 
   comparisons-few : namingRounds * length slaves + endingRounds + 256 < countLimit →
-      comparisonsFor slaves names + 65 < countLimit
+      comparisonsFor slaves names + namingComparisons < countLimit
   comparisons-few few =
       omega (
         arith,
@@ -138,7 +138,7 @@ demand S names view Good Allowed call laws n start good s few calls permitted =
     few-rounds : R < countLimit
     few-rounds = rounds-few slaves names n few
 
-    few-comparisons : C + 65 < countLimit
+    few-comparisons : C + namingComparisons < countLimit
     few-comparisons = comparisons-few slaves names few
 
     begin : Between S names view Good R C F (start, fresh names) (accountOf slaves names)

@@ -11,3 +11,4 @@ pub mod Sorted
 pub mod Start
 pub mod Abstract
 pub mod Demand
+pub mod FromFile

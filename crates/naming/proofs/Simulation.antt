@@ -17,7 +17,7 @@ use Rattle.file.specs.Grounds.{isAmong}
 use Rattle.file.proofs.Order.{byCase, clash}
 use Rattle.naming.specs.View.{SlaveView, Operation, Operation.poll as pollOf, writeName, writeHigh, writeLow, compare, Operation.baptize as baptizeAll, told, change, changeAll, answers, comparisonOf, half}
 use Rattle.naming.specs.Run.{Position, running, fresh, markAt, Place, Place.poll, ask, giveName, giveHigh, giveLow, Place.baptize, Question, least, bit, Part, high, low, reply, placeOf, stepOf, tried, operationAt, operationOf, onward, nextName, endAllNamed, moveOn, advance, bits, questionNumber, partNumber}
-use Rattle.naming.specs.Account.{Named, Account, comparisonsAfter, comparisonsOf, endWith, goOn, passDone, runEnds, give, freePass, pass, oneRound, namesHeld, notYet}
+use Rattle.naming.specs.Account.{Named, Account, comparisonsAfter, comparisonsOf, endWith, goOn, passDone, runEnds, give, freePass, pass, oneRound, namesHeld, notYet, namingRounds, namingComparisons, endingRounds}
 use Rattle.naming.proofs.Places.{LegalQuestion, of-least, of-bit, Inner, LegalPlace, inner, at-poll, at-ask, at-name, at-high, at-low, at-baptize, place-of-step, afterBit, afterPlace, step-after, legal-after, step-lt, comparisons-next}
 use Rattle.naming.proofs.Places.{comparing as counting}
 use Rattle.naming.proofs.Search.{cleared, cleared-all, cleared-none, answered, tried-small, halves}
@@ -163,7 +163,7 @@ go-on {names} {vs} {l} {index} {step} {value} {rounds} {comparisons} {n} {done} 
       heard = heard;
       small = small;
     } in
-    let m : suc step < 200 = omega (arith, step-lt here, i .place) in
+    let m : suc step < namingRounds = omega (arith, step-lt here, i .place) in
     rw (goes-on n ns ws slaves held rounds done step free m g) (going a)
 
 -- ---- the places
@@ -182,7 +182,7 @@ told-after-bit (suc b) n x v = tt
 -- a comparison's writes end no run
 asked-goes : (q : Question) (r : Part) (x step : ℕ) (ws : List ℕ) → Asked q x ws → step ≡ stepOf (ask q r) → partNumber r < 2 → Goes ws step
 unfolding stepOf questionNumber
-asked-goes least r x step [] k e l = ne-eqb (suc step) 4 (λ (z : suc step ≡ 4). omega arith)
+asked-goes least r x step [] k e l = ne-eqb (suc step) endingRounds (λ (z : suc step ≡ endingRounds). omega arith)
 asked-goes least r x step (p ∷ ps) k e l = tt
 asked-goes (bit b) r x step [] k e l = absurd k
 asked-goes (bit b) r x step (p ∷ ps) k e l = tt
@@ -312,11 +312,11 @@ module _
   at-baptize-moves : Moves names vs baptize index step value rounds comparisons n ns (p ∷ ps) slaves held done
   unfolding moveOn operationAt stepOf comparisonsAfter OfUnnamed
   at-baptize-moves i =
-      let e : suc step ≡ 200 = ap suc (i .place) in
-      let c : comparisons ≡ done + 65 = i .counted ∙ rw (i .place) in
+      let e : suc step ≡ namingRounds = ap suc (i .place) in
+      let c : comparisons ≡ done + namingComparisons = i .counted ∙ rw (i .place) in
       let x : value ≡ p = i .known .1 ∙ cleared-none p in
       rw (giving-round n ns p ps slaves held rounds done step (i .known .0) e)
-      (next-name names index step value rounds comparisons n (done + 65) ns (give-greatest (i .facts)) (i .here)
+      (next-name names index step value rounds comparisons n (done + namingComparisons) ns (give-greatest (i .facts)) (i .here)
       (baptize-names n p ps vs (waiting baptize i)
       (all-map (λ (v : SlaveView) k u. (k u .0, compared value v (k u .1, k u .2) ∙ x)) (i .heard))
       ∙ ap (map (give p n)) (i .views))
@@ -328,7 +328,7 @@ at-end-moves :
     (done : ℕ) → Moves names vs (ask least reply) index step value rounds comparisons n ns [] slaves held done
 unfolding moveOn operationAt stepOf questionNumber partNumber comparisonsAfter endAllNamed Wait
 at-end-moves names vs index step value rounds comparisons n ns slaves held done i =
-    let e : suc step ≡ 4 = ap suc (i .place) in
+    let e : suc step ≡ endingRounds = ap suc (i .place) in
     let c : comparisons ≡ done + 0 = i .counted ∙ rw (i .place) in
     let w : Wait [] (map namedOf vs) = rw (i .views) (i .facts .waits) in
     let o : Over names (changeAll compare vs) 1 index (suc comparisons) slaves done (suc step) =

@@ -5,13 +5,20 @@ use mathlib.Core.List.{List, [], _∷_, map}
 use mathlib.Core.Bool.{Bool, true, false, cond}
 use lib.ListN.{length}
 use lib.Dec.{eqb, leb, ltb}
-use Rattle.file.specs.Cluster.{unnamed}
+use Rattle.file.specs.Cluster.{Slave, Cluster, physicalName, logicalName, unnamed}
 use Rattle.file.specs.Grounds.{isAmong}
 
 -- a slave's physical and logical name
 pub record Named : Type 0 where
   pub physical : ℕ
   pub logical : ℕ
+
+unfoldable pub namesOf : Slave → Named
+namesOf s = record { physical = physicalName s; logical = logicalName s }
+
+-- those of a cluster's slaves, in table order
+unfoldable pub namesIn : Cluster → List Named
+namesIn c = map namesOf (c .slaves)
 
 -- "It keeps the names left, the unnamed physical names in falling order, each slave's logical name, the names held at the start,
 -- the end, both totals and k, the rounds of this pass." Of the comparisons it keeps those of the passes done.

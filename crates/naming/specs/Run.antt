@@ -1,12 +1,12 @@
 -- The naming run (document 01, "The naming run", first paragraph): its position, the places of a pass, the round that is next and
 -- how the position moves on. All of any position's content; a position that no run reaches is carried on as it is.
 use Prim.Native.Nat.{ℕ, zero, suc, _+_, _*_, _-_, _/_, _%_, _^_}
-use mathlib.Core.List.{List, [], _∷_}
+use mathlib.Core.List.{List, [], _∷_, _++_}
 use mathlib.Core.Bool.{Bool, true, false, cond}
 use lib.ListN.{length, getD}
 use lib.Dec.{eqb, leb, ltb}
 use lib.Bits.{bitOr}
-use Rattle.file.specs.Order.{Ground, both, either}
+use Rattle.file.specs.Order.{Ground, firstOf, both, either}
 use Rattle.file.specs.Cluster.{unnamed, broadcast}
 use Rattle.file.specs.Grounds.{hasRepeat}
 use Rattle.naming.specs.View.{Operation, half}
@@ -216,3 +216,10 @@ unfitPosition names p =
     (either (eqb (p .index) (length names))
     (either (ltb lastStep (p .step))
     (either (leb countLimit (p .rounds)) (leb countLimit (p .comparisons)))))))
+
+-- a fresh run takes the names alone; a step checks the names, then the position
+unfoldable pub startGround : List ℕ → ℕ
+startGround names = firstOf (namesGrounds names)
+
+unfoldable pub runGrounds : List ℕ → Position → List Ground
+runGrounds names p = namesGrounds names ++ (record { number = 17; holds = unfitPosition names p } ∷ [])
