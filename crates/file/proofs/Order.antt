@@ -1,11 +1,11 @@
 -- Laws of tests that are joined, and of the first ground that holds. A test's facts are read and made through these, so that no
 -- proof opens `both`, `either` or `firstOf`.
 -- Assumes nothing.
-use Prim.Native.Nat.{ℕ}
+use Prim.Native.Nat.{ℕ, suc}
+use native.Mathlib.Nat.{suc-ne-zero}
 use mathlib.Core.Path.{_≡_, refl, sym, _∙_}
 use mathlib.Core.List.{List, [], _∷_}
-use mathlib.Core.Bool.{Bool, true, false, cond, not}
-use mathlib.Core.Logic.{_⊎_}
+use mathlib.Core.Bool.{Bool, true, false, cond}
 use Rattle.file.specs.Order.{Ground, firstOf, both, either}
 
 -- by cases on a test, with its equation
@@ -50,6 +50,15 @@ pub both-next : {a : Bool} (b : Bool) → a ≡ true → both a b ≡ b
 unfolding both
 both-next b p = rw p
 
+-- not both: where the first passes the second fails
+pub both-unless : (a : Bool) {b : Bool} → (a ≡ true → b ≡ false) → both a b ≡ false
+unfolding both
+both-unless true q = q refl
+both-unless false q = refl
+
+pub both-false-next : {a : Bool} (b : Bool) → a ≡ true → both a b ≡ false → b ≡ false
+both-false-next b p q = sym (both-next b p) ∙ q
+
 pub either-left : {a : Bool} (b : Bool) → a ≡ true → either a b ≡ true
 unfolding either
 either-left b p = rw p
@@ -91,3 +100,26 @@ first-here g gs p = rw p
 pub first-next : (g : Ground) (gs : List Ground) → g .holds ≡ false → firstOf (g ∷ gs) ≡ firstOf gs
 unfolding firstOf
 first-next g gs p = rw p
+
+pub first-end : firstOf [] ≡ 0
+unfolding firstOf
+first-end = refl
+
+-- no ground holds: the first does not, and no other does
+pub first-none : (n : ℕ) (b : Bool) (gs : List Ground) → firstOf (record { number = suc n; holds = b } ∷ gs) ≡ 0 → (b ≡ false) × (firstOf gs ≡ 0)
+unfolding firstOf
+first-none n true gs p = absurd (suc-ne-zero n p)
+first-none n false gs p = (refl, p)
+
+-- two lists of grounds that start with the same ground, and that agree behind it where it does not hold, agree
+pub first-alike :
+    (n : ℕ) {a b : Bool} (gs hs : List Ground)
+    → a ≡ b
+    → (a ≡ false → firstOf gs ≡ firstOf hs)
+    → firstOf (record { number = n; holds = a } ∷ gs) ≡ firstOf (record { number = n; holds = b } ∷ hs)
+unfolding firstOf
+first-alike n {a} {b} gs hs e r = rw (sym e) (go a r)
+  where
+    go : (x : Bool) → (x ≡ false → firstOf gs ≡ firstOf hs) → cond x n (firstOf gs) ≡ cond x n (firstOf hs)
+    go true q = refl
+    go false q = q refl

@@ -2,7 +2,8 @@
 use Prim.Native.Nat.{ℕ, zero, suc, _+_, _*_, _/_, _%_, _^_, _<_}
 use mathlib.Core.List.{List, [], _∷_}
 use mathlib.Core.Bool.{Bool, true, false, cond}
-use lib.ListN.{length, take, drop}
+use mathlib.Core.Path.{_≡_}
+use lib.ListN.{length, take, drop, getD}
 use lib.Dec.{eqb}
 
 -- every element of the list has the property
@@ -35,3 +36,13 @@ part l at n = take n (drop at l)
 unfoldable pub allZero : List ℕ → Bool
 allZero [] = true
 allZero (b ∷ bs) = cond (eqb b 0) (allZero bs) false
+
+-- b is the byte at a place of the list
+pub record ByteAt (l : List ℕ) (at b : ℕ) : Type 0 where
+  pub is : b ≡ getD l at 0
+  pub byte : Byte b
+
+-- n is the number in the w bytes at a place of the list
+pub record NumberAt (l : List ℕ) (at w n : ℕ) : Type 0 where
+  pub is : n ≡ numberOf (part l at w)
+  pub below : n < 256 ^ w

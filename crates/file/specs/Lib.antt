@@ -8,3 +8,6 @@ pub mod Decode
 pub mod Legal
 pub mod Grounds
 pub mod Places
+pub mod Accepted
+pub mod Answers
+pub mod Checked

@@ -1,5 +1,7 @@
--- Where a cluster's encoding keeps a file's bytes, and the cluster with one byte of a file put.
+-- Where a cluster's encoding keeps a file's bytes, the cluster with bytes of a file or a header's field put, and clusters of the
+-- same shape, whose encodings keep every file at the same place.
 use Prim.Native.Nat.{ℕ, zero, suc, _+_, _*_}
+use mathlib.Core.Path.{_≡_}
 use mathlib.Core.List.{List, [], _∷_}
 use mathlib.Core.Bool.{Bool, cond}
 use lib.ListN.{length, getD, set}
@@ -57,3 +59,41 @@ withSlaves c ss =
 -- byte k of file n of slave s replaced
 unfoldable pub putByte : Cluster → ℕ → ℕ → ℕ → ℕ → Cluster
 putByte c s n k b = withSlaves c (set (c .slaves) s (putInSlave (slaveOf c s) n k b))
+
+-- the bytes of file n of slave s from k on replaced by those of the list, first to last
+unfoldable pub putBytes : Cluster → ℕ → ℕ → ℕ → List ℕ → Cluster
+putBytes c s n k [] = c
+putBytes c s n k (b ∷ bs) = putBytes (putByte c s n k b) s n (suc k) bs
+
+-- the header's five bytes replaced: the epoch, and the pending flag, logical name, PB2 and PB3
+unfoldable pub withEpoch : Cluster → ℕ → Cluster
+withEpoch c epoch =
+    record {
+      epoch = epoch;
+      flag = c .flag;
+      pendingName = c .pendingName;
+      pendingPB2 = c .pendingPB2;
+      pendingPB3 = c .pendingPB3;
+      slaves = c .slaves;
+    }
+
+unfoldable pub withPending : Cluster → ℕ → ℕ → ℕ → ℕ → Cluster
+withPending c flag name pb2 pb3 =
+    record {
+      epoch = c .epoch;
+      flag = flag;
+      pendingName = name;
+      pendingPB2 = pb2;
+      pendingPB3 = pb3;
+      slaves = c .slaves;
+    }
+
+-- as many files, each of the same number and as many bytes
+pub data SameFiles : List File → List File → Type 0 where
+  noFiles : SameFiles [] []
+  sameFile : {x y : File} {xs ys : List File} → x .number ≡ y .number → length (x .bytes) ≡ length (y .bytes) → SameFiles xs ys → SameFiles (x ∷ xs) (y ∷ ys)
+
+-- as many slaves, each with such files
+pub data SameShape : List Slave → List Slave → Type 0 where
+  noSlaves : SameShape [] []
+  sameSlave : {s t : Slave} {ss ts : List Slave} → SameFiles (s .files) (t .files) → SameShape ss ts → SameShape (s ∷ ss) (t ∷ ts)

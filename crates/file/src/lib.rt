@@ -1,1 +1,7 @@
+// The cluster file: its checker and the readers of slaves and records.
+mod header;
+pub mod numbers;
+mod repeats;
+pub mod survey;
 pub mod types;
+mod walk;

@@ -1,0 +1,56 @@
+-- What the cluster file's checker accepts, in edition 1: exactly the encodings of legal clusters. Encoding and decoding are inverse to
+-- each other between legal clusters and accepted files.
+-- Assumes nothing.
+use Prim.Native.Nat.{ℕ}
+use mathlib.Core.Path.{_≡_, refl, sym, subst}
+use mathlib.Core.Logic.{_↔_}
+use mathlib.Core.List.{List}
+use Rattle.file.specs.Bytes.{Bytes}
+use Rattle.file.specs.Cluster.{Cluster}
+use Rattle.file.specs.Encode.{encode}
+use Rattle.file.specs.Decode.{decode}
+use Rattle.file.specs.Legal.{Legal}
+use Rattle.file.specs.Grounds.{fileGround}
+use Rattle.file.specs.Accepted.{Becomes}
+use Rattle.file.proofs.Width.{edition1}
+use Rattle.file.proofs.RoundTrip
+
+-- a legal cluster comes back from its encoding
+pub decode-encode : (c : Cluster) → Legal c → decode (encode c) ≡ c
+unfolding decode encode
+decode-encode c l = RoundTrip.decode-encode edition1 c l
+
+-- the encoding of a legal cluster is accepted
+pub encode-accepted : (c : Cluster) → Legal c → fileGround (encode c) ≡ 0
+unfolding fileGround encode
+encode-accepted c l = RoundTrip.encode-accepted edition1 c l
+
+-- and it is bytes
+pub encode-bytes : (c : Cluster) → Legal c → Bytes (encode c)
+unfolding encode
+encode-bytes c l = RoundTrip.encode-bytes edition1 c l
+
+-- an accepted file comes back from its cluster
+pub encode-decode : (f : List ℕ) → Bytes f → fileGround f ≡ 0 → encode (decode f) ≡ f
+unfolding fileGround encode decode
+encode-decode f b g = RoundTrip.encode-decode edition1 f b g
+
+-- and its cluster is legal
+pub accepted-legal : (f : List ℕ) → Bytes f → fileGround f ≡ 0 → Legal (decode f)
+unfolding fileGround decode
+accepted-legal f b g = RoundTrip.accepted-legal edition1 f b g
+
+-- bytes are accepted exactly where they are the encoding of a legal cluster
+pub accepted-exactly : (f : List ℕ) → Bytes f → (fileGround f ≡ 0) ↔ ((c : Cluster) × Legal c × (f ≡ encode c))
+accepted-exactly f b = (
+  λ g. (decode f, accepted-legal f b g, sym (encode-decode f b g)),
+  λ (c, l, e). subst (λ (h : List ℕ). fileGround h ≡ 0) (sym e) (encode-accepted c l),
+)
+
+-- the same as the layers above hand it on
+pub legal-becomes : (c : Cluster) → Legal c → Becomes (encode c) c
+legal-becomes c l = record { accepted = encode-accepted c l; decoded = decode-encode c l; encoded = refl; legal = l }
+
+pub accepted-becomes : (f : List ℕ) → Bytes f → fileGround f ≡ 0 → Becomes f (decode f)
+accepted-becomes f b g =
+    record { accepted = g; decoded = refl; encoded = sym (encode-decode f b g); legal = accepted-legal f b g }

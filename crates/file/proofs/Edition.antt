@@ -1,0 +1,39 @@
+-- A file of an unknown edition is refused before anything behind its first three bytes is looked at: its length and those bytes alone
+-- decide the ground.
+-- Assumes nothing.
+use Prim.Native.Nat.{ℕ, _<_}
+use native.Mathlib.Omega.{arith}
+use mathlib.Core.Path.{_≡_, sym, ap, _∙_}
+use mathlib.Core.List.{List}
+use mathlib.Core.Bool.{true, not}
+use lib.ListN.{length, getD, take}
+use lib.Seq.{getD-take}
+use borrow.Author.Tests.{ne-eqb}
+use Rattle.file.specs.Layout.{offsetWidth, editionPlace, editionOf}
+use Rattle.file.specs.Grounds.{wrongSize, wrongMark, wrongEdition, fileGrounds, fileGroundAt, fileGround}
+use Rattle.file.proofs.Order.{clash, first-alike}
+
+-- files with the same first bytes agree in each of them
+pub same-front : (n : ℕ) (f g : List ℕ) → take n f ≡ take n g → (i : ℕ) → i < n → getD f i 0 ≡ getD g i 0
+same-front n f g e i h = sym (getD-take n f i 0 h) ∙ ap (λ (l : List ℕ). getD l i 0) e ∙ getD-take n g i 0 h
+
+pub unknown-edition-at :
+    (w : ℕ) (f g : List ℕ)
+    → length f ≡ length g
+    → take 3 f ≡ take 3 g
+    → (getD f editionPlace 0 ≡ editionOf w → ⊥)
+    → fileGroundAt w f ≡ fileGroundAt w g
+unfolding fileGroundAt fileGrounds wrongSize wrongMark wrongEdition
+unknown-edition-at w f g long front other =
+    let e₀ : getD f 0 0 ≡ getD g 0 0 = same-front 3 f g front 0 (omega arith) in
+    let e₁ : getD f 1 0 ≡ getD g 1 0 = same-front 3 f g front 1 (omega arith) in
+    let e₂ : getD f 2 0 ≡ getD g 2 0 = same-front 3 f g front 2 (omega arith) in
+    let refused : wrongEdition w f ≡ true = ap not (ne-eqb _ _ other) in
+    first-alike 1 _ _ (rw long)
+    (λ _. first-alike 2 _ _ (rw (e₀, e₁)) (λ _. first-alike 3 _ _ (rw e₂) (λ p. clash refused p)))
+
+-- edition 1
+pub unknown-edition :
+    (f g : List ℕ) → length f ≡ length g → take 3 f ≡ take 3 g → (getD f editionPlace 0 ≡ 1 → ⊥) → fileGround f ≡ fileGround g
+unfolding fileGround
+unknown-edition f g long front other = unknown-edition-at offsetWidth f g long front other

@@ -1,0 +1,172 @@
+-- The walk of the slaves, step by step: what a loop along the table keeps, and one law for each way through a turn.
+-- Assumes nothing.
+use Prim.Native.Nat.{ℕ, zero, suc, _+_, _*_, _-_, _≤_, _<_}
+use mathlib.Core.Path.{_≡_, refl, sym, _∙_, ap}
+use mathlib.Core.List.{List, [], _∷_, _++_, append-nil}
+use mathlib.Core.Bool.{Bool, true, false, cond, not}
+use native.Mathlib.Omega.{arith}
+use native.Mathlib.Numerals.{add-one}
+use lib.ListN.{length, getD, take, set, length-set}
+use lib.Seq.{take-suc-set, append-snoc}
+use Rattle.file.specs.Bytes.{numberOf, part, ByteAt, NumberAt}
+use Rattle.file.specs.Layout.{entrySize}
+use Rattle.file.specs.Cluster.{configuration, documentation}
+use Rattle.file.specs.Decode.{offsetAt}
+use Rattle.file.specs.Grounds.{Walk, broken, to, andThen, goodTableEntry, walkDirectory, walkSlave, walkSlaves}
+use Rattle.file.specs.Checked.{statedPlace, statedIn, statedPlaces, walkOf, DirectoryWalked, SlaveWalked, SlavesWalked}
+use Rattle.file.proofs.Order.{clash}
+use Rattle.file.proofs.Facts.{false-unless, TableEntryFacts, table-entry-facts, table-entry-yes, zeros-first, zeros-more, zeros-none}
+
+-- ---- one slave
+
+pub slave-stop : (w : ℕ) (f : List ℕ) (t place : ℕ) → goodTableEntry w f t place ≡ false → walkSlave w f t place ≡ broken
+unfolding walkSlave
+slave-stop w f t place e = rw e
+
+pub slave-step : (w : ℕ) (f : List ℕ) (t place : ℕ) → goodTableEntry w f t place ≡ true →
+    walkSlave w f t place ≡ walkDirectory w f place 0 (place + entrySize w * getD f (t + w) 0) (getD f (t + w) 0)
+unfolding walkSlave
+slave-step w f t place e = rw e
+
+refused : {f : List ℕ} {t place : ℕ} → (TableEntryFacts 2 f t place → ⊥) → SlaveWalked f t place false 0 0 0
+unfolding walkOf
+refused {f} {t} {place} not-so =
+    record {
+      walk = sym (slave-stop 2 f t place (false-unless (λ e. not-so (table-entry-facts 2 f t place e))));
+      config = λ e. clash e refl;
+      document = λ e. clash e refl;
+      within = λ e. clash e refl;
+    }
+
+pub slave-elsewhere : {f : List ℕ} {t place n : ℕ} → NumberAt f t 2 n → (n ≡ place → ⊥) → SlaveWalked f t place false 0 0 0
+unfolding offsetAt
+slave-elsewhere k h = refused (λ g. h (k .is ∙ g .offset))
+
+pub slave-zero : {f : List ℕ} {t : ℕ} (place : ℕ) {n : ℕ} → t + 4 ≤ length f → ByteAt f (t + 3) n → (n ≡ 0 → ⊥) → SlaveWalked f t place false 0 0 0
+slave-zero {f} {t} place {n} long k h =
+    let same : t + 3 ≡ t + 2 + 1 = omega arith in
+    let near : t + 2 + 1 < length f = omega arith in
+    refused (λ (g : TableEntryFacts 2 f t place). h (k .is ∙ rw same (zeros-first f (t + 2 + 1) 0 near (g .zeros))))
+
+pub slave-past : {f : List ℕ} {t place n : ℕ} → ByteAt f (t + 2) n → length f < place + 4 * n → SlaveWalked f t place false 0 0 0
+slave-past k h = refused (λ g. omega (arith, g .within, k .is))
+
+pub slave-walks : {f : List ℕ} {t place n offset zero′ : ℕ} {good : Bool} {end conf doc : ℕ} → t + 4 ≤ length f → ByteAt f (t + 2) n → NumberAt f t 2 offset → offset ≡ place →
+    ByteAt f (t + 3) zero′ → zero′ ≡ 0 → place + 4 * n ≤ length f → DirectoryWalked f place n good end conf doc → SlaveWalked f t place good end conf doc
+unfolding statedIn offsetAt
+slave-walks {f} {t} {place} {n} {offset} {zero′} long count o here z none fits h =
+    let same : t + 3 ≡ t + 2 + 1 = omega arith in
+    let zero-there : getD f (t + 2 + 1) 0 ≡ 0 = rw (← same, ← (z .is)) none in
+    let facts : TableEntryFacts 2 f t place = record {
+      offset = sym (o .is) ∙ here;
+      zeros = zeros-more f (t + 2 + 1) 0 (omega arith) zero-there (zeros-none f (suc (t + 2 + 1)));
+      within = omega (arith, count .is);
+    } in
+    let there : numberOf (part f t 2) ≡ place = sym (o .is) ∙ here in
+    record {
+      walk = rw (slave-step 2 f t place (table-entry-yes 2 f t place facts), ← (count .is)) (h .walk);
+      config = λ e. rw (there, ← (count .is)) (h .config e);
+      document = λ e. rw (there, ← (count .is)) (h .document e);
+      within = h .within;
+    }
+
+-- ---- all slaves
+
+-- a walk that stopped, and one that came to a place, in front of the rest
+pub slaves-stop : (w : ℕ) (f : List ℕ) (t place k : ℕ) → 0 < k → walkSlave w f t place ≡ broken → walkSlaves w f t place k ≡ broken
+unfolding walkSlaves andThen
+slaves-stop w f t place zero h e = absurd (omega arith)
+slaves-stop w f t place (suc k) h e = rw e
+
+pub slaves-step : (w : ℕ) (f : List ℕ) (t place k end : ℕ) → 0 < k → walkSlave w f t place ≡ to end → walkSlaves w f t place k ≡ walkSlaves w f (t + entrySize w) end (k - 1)
+unfolding walkSlaves andThen
+slaves-step w f t place zero end h e = absurd (omega arith)
+slaves-step w f t place (suc k) end h e =
+    let same : suc k - 1 ≡ k = omega arith in
+    rw (e, same)
+
+stated-cons : (w : ℕ) (f : List ℕ) (n least t k : ℕ) → 0 < k → statedPlaces w f n least t k ≡ statedIn w f n least t ∷ statedPlaces w f n least (t + entrySize w) (k - 1)
+unfolding statedPlaces
+stated-cons w f n least t zero h = absurd (omega arith)
+stated-cons w f n least t (suc k) h =
+    let same : suc k - 1 ≡ k = omega arith in
+    rw same
+
+-- the places written so far, in front of those to come
+pub record Written (f : List ℕ) (n least count slave entry : ℕ) (places : List ℕ) : Type 0 where
+  pub room : length places ≡ 32
+  pub all : take slave places ++ statedPlaces 2 f n least entry (count - slave) ≡ statedPlaces 2 f n least 16 count
+
+written-next : {f : List ℕ} {n least count slave entry : ℕ} {places : List ℕ} {p : ℕ} → Written f n least count slave entry places → slave < count → count ≤ 32 → p ≡ statedIn 2 f n least entry →
+    Written f n least count (slave + 1) (entry + 4) (set places slave p)
+written-next {f} {n} {least} {count} {slave} {entry} {places} {p} h more most is =
+    let long : slave < length places = omega (arith, h .room) in
+    let less : count - (slave + 1) ≡ count - slave - 1 = omega arith in
+    let cons = stated-cons 2 f n least entry (count - slave) (omega arith) in
+    let old : take slave places ++ (statedIn 2 f n least entry ∷ statedPlaces 2 f n least (entry + 4) (count - slave - 1)) ≡ statedPlaces 2 f n least 16 count = rw cons at (h .all) in
+    record {
+      room = rw length-set (h .room);
+      all = rw (add-one slave, take-suc-set places slave p long, is, append-snoc, ← (add-one slave), less) old;
+    }
+
+-- what the loop along the table keeps
+pub record Surveying (f : List ℕ) (count slave entry place : ℕ) (confs docs : List ℕ) : Type 0 where
+  pub at : entry ≡ 16 + 4 * slave
+  pub most : slave ≤ count
+  pub within : place ≤ length f
+  pub walk : walkSlaves 2 f entry place (count - slave) ≡ walkSlaves 2 f 16 (16 + 4 * count) count
+  pub config : Written f configuration 3 count slave entry confs
+  pub document : Written f documentation 2 count slave entry docs
+
+pub surveying-start : {f : List ℕ} {count : ℕ} {confs docs : List ℕ} → 16 + 4 * count ≤ length f → length confs ≡ 32 → length docs ≡ 32 → Surveying f count 0 16 (16 + 4 * count) confs docs
+surveying-start {f} {count} h a b =
+    let same : count - 0 ≡ count = omega arith in
+    record {
+      at = refl;
+      most = omega arith;
+      within = h;
+      walk = rw same;
+      config = record { room = a; all = rw same };
+      document = record { room = b; all = rw same };
+    }
+
+module _ {f : List ℕ} {count slave entry place : ℕ} {confs docs : List ℕ} (h : Surveying f count slave entry place confs docs) where
+  pub surveying-stop : {good : Bool} {end conf doc : ℕ} → slave < count → SlaveWalked f entry place good end conf doc → good ≡ false → SlavesWalked f count false 0 confs docs
+  unfolding walkOf
+  surveying-stop {good} {end} more s e =
+      let stopped : broken ≡ walkSlave 2 f entry place = rw e at (s .walk) in
+      record {
+        walk = sym (slaves-stop 2 f entry place (count - slave) (omega arith) (sym stopped)) ∙ h .walk;
+        config = λ t. clash t refl;
+        document = λ t. clash t refl;
+        configRoom = h .config .room;
+        documentRoom = h .document .room;
+      }
+
+  pub surveying-next : {good : Bool} {end conf doc : ℕ} → slave < count → count ≤ 32 → SlaveWalked f entry place good end conf doc → good ≡ true →
+      Surveying f count (slave + 1) (entry + 4) end (set confs slave conf) (set docs slave doc)
+  unfolding walkOf
+  surveying-next {good} {end} {conf} {doc} more most s e =
+      let here : to end ≡ walkSlave 2 f entry place = rw e at (s .walk) in
+      let less : count - (slave + 1) ≡ count - slave - 1 = omega arith in
+      record {
+        at = omega (arith, h .at);
+        most = omega arith;
+        within = s .within e;
+        walk = rw (less, ← (slaves-step 2 f entry place (count - slave) end (omega arith) (sym here))) (h .walk);
+        config = written-next (h .config) more most (s .config e);
+        document = written-next (h .document) more most (s .document e);
+      }
+
+  pub surveying-done : count ≤ slave → SlavesWalked f count true place confs docs
+  unfolding walkOf walkSlaves statedPlaces
+  surveying-done none =
+      let z : count - slave ≡ 0 = omega arith in
+      let same : slave ≡ count = omega (arith, h .most) in
+      record {
+        walk = rw z at (h .walk);
+        config = λ _. rw (z, append-nil, same) at (h .config .all);
+        document = λ _. rw (z, append-nil, same) at (h .document .all);
+        configRoom = h .config .room;
+        documentRoom = h .document .room;
+      }

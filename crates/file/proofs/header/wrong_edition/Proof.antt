@@ -1,0 +1,15 @@
+-- `file::header::wrong_edition` meets its contract.
+-- Assumes nothing.
+use Rattle.file.proofs.HeaderLaws.{edition-test}
+use borrow.Author.Needs.{needs}
+use Rattle.file.proofs.header.wrong_edition.Statement.{statement}
+use Rattle.file.proofs.header.wrong_edition.Tie as tie
+
+byte-at-requires : tie.Need-byte-at-requires
+byte-at-requires c κs = search needs
+
+returns : tie.Need-returns
+returns c = search (needs, edition-test)
+
+pub wrong-edition-spec : {M : Type 1} → statement M
+wrong-edition-spec = tie.close (tie.spec byte-at-requires returns)

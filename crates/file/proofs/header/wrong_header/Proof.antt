@@ -1,0 +1,71 @@
+-- `file::header::wrong_header` meets its contract: a law for each way.
+-- Assumes nothing.
+use Rattle.file.proofs.HeaderLaws.{header-count, header-table, header-zero, header-last}
+use borrow.Author.Needs.{needs}
+use Rattle.file.proofs.header.wrong_header.Statement.{statement}
+use Rattle.file.proofs.header.wrong_header.Tie as tie
+
+byte-at-requires : tie.Need-byte-at-requires
+byte-at-requires c κs = search needs
+
+returns : tie.Need-returns
+returns c = search (needs, header-count)
+
+offset-at-requires : tie.Need-offset-at-requires
+offset-at-requires c κs = search needs
+
+returns-2 : tie.Need-returns-2
+returns-2 c = search (needs, header-table)
+
+byte-at-requires-2 : tie.Need-byte-at-requires-2
+byte-at-requires-2 c κs = search needs
+
+returns-3 : tie.Need-returns-3
+returns-3 c = search (needs, header-zero 0)
+
+byte-at-requires-3 : tie.Need-byte-at-requires-3
+byte-at-requires-3 c κs = search needs
+
+returns-4 : tie.Need-returns-4
+returns-4 c = search (needs, header-zero 1)
+
+byte-at-requires-4 : tie.Need-byte-at-requires-4
+byte-at-requires-4 c κs = search needs
+
+returns-5 : tie.Need-returns-5
+returns-5 c = search (needs, header-zero 2)
+
+byte-at-requires-5 : tie.Need-byte-at-requires-5
+byte-at-requires-5 c κs = search needs
+
+byte-at-requires-6 : tie.Need-byte-at-requires-6
+byte-at-requires-6 c κs = search needs
+
+byte-at-requires-7 : tie.Need-byte-at-requires-7
+byte-at-requires-7 c κs = search needs
+
+wrong-pending-requires : tie.Need-wrong-pending-requires
+wrong-pending-requires c κs = search needs
+
+returns-6 : tie.Need-returns-6
+returns-6 c = search (needs, header-last)
+
+pub wrong-header-spec : {M : Type 1} → statement M
+wrong-header-spec =
+    tie.close
+    (tie.spec
+    byte-at-requires
+    returns
+    offset-at-requires
+    returns-2
+    byte-at-requires-2
+    returns-3
+    byte-at-requires-3
+    returns-4
+    byte-at-requires-4
+    returns-5
+    byte-at-requires-5
+    byte-at-requires-6
+    byte-at-requires-7
+    wrong-pending-requires
+    returns-6)

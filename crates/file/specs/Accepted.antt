@@ -1,0 +1,43 @@
+-- An accepted file and the cluster it holds, as the layers above hand it on.
+use Prim.Native.Nat.{ℕ, _+_, _*_, _<_}
+use mathlib.Core.Path.{_≡_}
+use mathlib.Core.List.{List}
+use mathlib.Core.Bool.{cond}
+use lib.ListN.{length, getD}
+use lib.Dec.{eqb}
+use Rattle.file.specs.Layout.{recordSize}
+use Rattle.file.specs.Cluster.{Cluster, bytesIn, hasRecord, configuration, documentation}
+use Rattle.file.specs.Encode.{encode}
+use Rattle.file.specs.Decode.{decode}
+use Rattle.file.specs.Legal.{Legal}
+use Rattle.file.specs.Grounds.{fileGround}
+use Rattle.file.specs.Places.{slaveOf, filePlace}
+
+-- the file is accepted, and it is that cluster's one encoding
+pub record Becomes (f : List ℕ) (c : Cluster) : Type 0 where
+  pub accepted : fileGround f ≡ 0
+  pub decoded : decode f ≡ c
+  pub encoded : f ≡ encode c
+  pub legal : Legal c
+
+-- the number of slaves, and where each keeps 0x08 and 0x3D
+pub record Placed (c : Cluster) (count : ℕ) (configurations documentations : List ℕ) : Type 0 where
+  pub all : count ≡ length (c .slaves)
+  pub config : (s : ℕ) → s < length (c .slaves) → getD configurations s 0 ≡ filePlace c s configuration
+  pub document : (s : ℕ) → s < length (c .slaves) → getD documentations s 0 ≡ filePlace c s documentation
+
+-- where a slave keeps a file, and how many bytes it has; where it keeps a record
+pub data FoundFile : Type 0 where
+  missing : FoundFile
+  fileAt : ℕ → ℕ → FoundFile
+
+unfoldable pub findFile : Cluster → ℕ → ℕ → FoundFile
+findFile c s n =
+    cond (eqb (length (bytesIn (slaveOf c s) n)) 0) missing (fileAt (filePlace c s n) (length (bytesIn (slaveOf c s) n)))
+
+pub data FoundRecord : Type 0 where
+  missing : FoundRecord
+  recordAt : ℕ → FoundRecord
+
+unfoldable pub findRecord : Cluster → ℕ → ℕ → ℕ → FoundRecord
+findRecord c s n r = cond (hasRecord (slaveOf c s) n r) (recordAt (filePlace c s n + recordSize * r)) missing

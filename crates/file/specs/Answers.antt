@@ -1,0 +1,24 @@
+-- The checker's answer in document 01's numbers.
+use Prim.Native.Nat.{ℕ, zero, suc}
+use mathlib.Core.List.{List}
+use Rattle.file.specs.Grounds.{loadGround}
+use Rattle.file.specs.declared.survey.FileAnswer.{FileAnswer}
+use Rattle.file.specs.declared.survey.FileAnswer.the-variants.{Accepted, Refused}
+
+-- something is accepted, or refused by its number
+pub data Verdict : Type 0 where
+  accepted : Verdict
+  refused : ℕ → Verdict
+
+-- the verdict of a ground: 0 is none
+unfoldable pub verdictOf : ℕ → Verdict
+verdictOf zero = accepted
+verdictOf (suc n) = refused (suc n)
+
+unfoldable pub checkedOf : FileAnswer → Verdict
+checkedOf Accepted = accepted
+checkedOf (Refused r) = refused (r .0)
+
+-- what the checker's call answers to a file
+unfoldable pub loadVerdict : List ℕ → Verdict
+loadVerdict f = verdictOf (loadGround f)

@@ -1,0 +1,136 @@
+// The checker: grounds 1 to 8 in one walk, which hands back where each slave keeps 0x08 and 0x3D.
+ghost use mathlib.Core.Path.{_≡_};
+ghost use Prim.Native.Nat.{_≤_};
+ghost use lib.ListN.{length};
+ghost use Rattle.file.specs.Bytes.{All};
+ghost use Rattle.file.specs.Checked.{GoodHeader, BodyWalked, WholeWalk, slavesGround, NameStands, NamesRead, Surveyed};
+ghost use Rattle.file.specs.Answers.{Verdict, checkedOf, loadVerdict};
+use crate::header::header_ground;
+use crate::numbers::byte_at;
+use crate::numbers::u64_at;
+use crate::repeats::has_repeat;
+use crate::repeats::is_among;
+use crate::types::Refusal;
+use crate::walk::SlavesWalk;
+use crate::walk::walk_slaves;
+
+// How many slaves there are, and where each keeps 0x08 and 0x3D.
+pub struct Places {
+    pub count: usize,
+    pub configuration: [usize; 32],
+    pub documentation: [usize; 32],
+}
+
+pub enum FileAnswer {
+    Accepted,
+    Refused(Refusal),
+}
+
+// The checker's answer; where the file is accepted, its places too.
+pub struct FileSurvey {
+    pub answer: FileAnswer,
+    pub places: Places,
+}
+
+// The number in the eight bytes behind record 0x00 of each file.
+fn physical_names(file: &[u8], documentation: &[usize]) -> [usize; 32]
+    requires { ⌜ (length (now documentation) ≤ 32) × All (NameStands (now file)) (now documentation) ⌝ }
+    ensures { λ r. ⌜ NamesRead (now (file .entry)) (now (documentation .entry)) r ⌝ }
+{
+    let mut names = [0usize; 32];
+    let mut slave = 0;
+    while slave < documentation.len() {
+        let at = documentation[slave] + 4;
+        names[slave] = u64_at(file, at) as usize;
+        slave = slave + 1;
+    }
+    names
+}
+
+fn refused(ground: Refusal) -> FileSurvey
+    ensures { λ r. ⌜ checkedOf (r .answer) ≡ Verdict.refused (ground .0) ⌝ }
+{
+    FileSurvey {
+        answer: FileAnswer::Refused(ground),
+        places: Places {
+            count: 0,
+            configuration: [0usize; 32],
+            documentation: [0usize; 32],
+        },
+    }
+}
+
+// Ground 6 behind a good header: whether the layout is whole, and the places that its directories state.
+fn walk_body(file: &[u8]) -> SlavesWalk
+    requires { ⌜ GoodHeader 2 (now file) ⌝ }
+    ensures { λ r. ⌜ BodyWalked (now (file .entry)) (r .good) (r .configuration) (r .documentation) ⌝ }
+{
+    let count = byte_at(file, 3);
+    if file.len() < 16 + 4 * count {
+        return SlavesWalk {
+            good: false,
+            end: 0,
+            configuration: [0usize; 32],
+            documentation: [0usize; 32],
+        };
+    }
+    let mut walk = walk_slaves(file, count);
+    if walk.end != file.len() {
+        walk.good = false;
+    }
+    walk
+}
+
+// Grounds 7 and 8, by the places that the directories of all slaves state.
+fn slaves_ground(file: &[u8], configuration: &[usize], documentation: &[usize]) -> u8
+    requires { ⌜ WholeWalk (now file) (now configuration) (now documentation) ⌝ }
+    ensures { λ r. ⌜ r ≡ slavesGround (now (file .entry)) ⌝ }
+{
+    if is_among(0, configuration) {
+        return 7;
+    }
+    if is_among(0, documentation) {
+        return 7;
+    }
+    let names = physical_names(file, documentation);
+    let count = documentation.len();
+    if has_repeat(&names[..count]) {
+        return 8;
+    }
+    0
+}
+
+pub fn survey(file: &[u8]) -> FileSurvey
+    ensures { λ r. ⌜ Surveyed (now (file .entry)) (checkedOf (r .answer)) (r .places .count) (r .places .configuration) (r .places .documentation) ⌝ }
+{
+    let ground = header_ground(file);
+    if ground != 0 {
+        return refused(Refusal(ground));
+    }
+    let walk = walk_body(file);
+    if !walk.good {
+        return refused(Refusal::LAYOUT);
+    }
+    let count = byte_at(file, 3);
+    let configuration = walk.configuration;
+    let documentation = walk.documentation;
+    let last = slaves_ground(file, &configuration[..count], &documentation[..count]);
+    if last != 0 {
+        return refused(Refusal(last));
+    }
+    FileSurvey {
+        answer: FileAnswer::Accepted,
+        places: Places {
+            count,
+            configuration,
+            documentation,
+        },
+    }
+}
+
+// The checker's call: a file from outside is accepted, or refused by the first of its grounds that holds.
+pub fn check(file: &[u8]) -> FileAnswer
+    ensures { λ r. ⌜ checkedOf r ≡ loadVerdict (now (file .entry)) ⌝ }
+{
+    survey(file).answer
+}
