@@ -1,33 +1,27 @@
 -- Demand 3 over abstract laws: a system whose naming steps do to the slaves' views what their rounds do, and whose other permitted
 -- calls leave alone what the run rests on, keeps step with the plain account over every list of calls.
 -- Assumes nothing.
-use Prim.Native.Nat.{ℕ, zero, suc, _+_, _*_, _-_, _/_, _%_, _^_, _≤_, _<_}
-use mathlib.Core.Path.{_≡_, refl, sym, ap, _∙_, subst}
+use Prim.Native.Nat.{ℕ, suc, _+_, _/_, _%_, _^_, _≤_, _<_}
+use mathlib.Core.Path.{_≡_, refl, sym, _∙_}
 use mathlib.Core.List.{List, [], _∷_, map}
-use mathlib.Core.Bool.{Bool, true, false, cond}
+use mathlib.Core.Bool.{true, false}
 use native.Mathlib.Omega.{arith}
 use lib.ListN.{length, drop, getD}
 use lib.Seq.{getD-drop}
-use lib.Dec.{eqb, leb, ltb}
-use borrow.Author.Tests.{eq-eqb, ne-eqb, lt-ltb, le-ltb, le-leb, lt-leb, eqb-true, eqb-false}
-use Rattle.file.specs.Bytes.{All}
-use Rattle.file.specs.Order.{both, either}
+use lib.Dec.{eqb}
+use borrow.Author.Tests.{ne-eqb, le-ltb, lt-leb, eqb-true, eqb-false}
 use Rattle.file.specs.Grounds.{isAmong}
-use Rattle.file.proofs.Order.{byCase, clash, either-false, both-false-left, both-false-right}
+use Rattle.file.proofs.Bytes.{all-first}
+use Rattle.file.proofs.Order.{byCase, either-false, both-false-left, both-false-right}
 use Rattle.naming.specs.View.{SlaveView, Operation, Operation.poll as pollOf, writeName, writeHigh, writeLow, compare, Operation.baptize as baptizeAll, changeAll, answers, half}
-use Rattle.naming.specs.Run.{Position, running, namesUsedUp, fresh, markAt, Place, ask, giveName, giveHigh, giveLow, Question, least, bit, Part, high, low, reply, placeOf, stepOf, operationAt, operationOf, moveOn, advance, unfitPosition, countLimit, lastStep, bits, tried}
-use Rattle.naming.specs.Account.{namingComparisons, Named, Account, Call, step, frame, shortBuffer, notYet, accountOf, accountCall, accountAfter, oneRound, comparisonsOf, comparisonsAfter, endWith, falling, unnamedAmong, namesHeld}
-use Rattle.naming.specs.Figures.{Outcome, roundsOf, comparisonsIn, namesAfter, freeNames, givings}
+use Rattle.naming.specs.Run.{Position, running, namesUsedUp, Place, high, low, reply, placeOf, stepOf, operationAt, operationOf, advance, unfitPosition, countLimit, lastStep, bits, tried}
+use Rattle.naming.specs.Account.{namingComparisons, Named, Account, Call, step, frame, shortBuffer, notYet, accountCall, accountAfter, oneRound, comparisonsOf, comparisonsAfter}
 use Rattle.naming.proofs.Places.{LegalPlace, inner, at-poll, at-ask, at-name, at-high, at-low, at-baptize, place-of-step, step-lt}
 use Rattle.naming.proofs.Search.{tried-small}
-use Rattle.naming.proofs.Facts.{Facts, Fit, all-head}
+use Rattle.naming.proofs.Facts.{Fit}
 use Rattle.naming.proofs.Answers.{namedOf, Same, same-names, same-told}
-use Rattle.naming.proofs.Rounds.{account}
-use Rattle.naming.proofs.Simulation.{position, Told, At, Over, Tie, going, over, moves, fresh-at, length-here}
-use Rattle.naming.proofs.Tally.{Tally, in-pass, ended, Due, Done, due, dueComparisons, finally, length-of-pass, next-pass, tally-round}
-use Rattle.naming.proofs.Closed.{due-rounds, due-comparisons, due-bound, due-comparisons-bound}
-use Rattle.naming.proofs.Sorted.{length-falling, distinct-length, repeat-distinct}
-use Rattle.naming.proofs.Start.{Slaves, Names, start-facts}
+use Rattle.naming.proofs.Simulation.{position, Told, At, Tie, going, over, moves, length-here}
+use Rattle.naming.proofs.Tally.{Tally, in-pass, ended, Done, due, length-of-pass, tally-round}
 
 -- ---- the laws
 
@@ -136,14 +130,14 @@ sendable-at :
     {names : List ℕ} {vs : List SlaveView} {l : Place} {index step value rounds comparisons n done : ℕ} {ns ws held : List ℕ} {slaves : List Named} →
     LegalPlace l → At names vs l index step value rounds comparisons n ns ws slaves held done → Sendable (operationAt l n value)
 unfolding operationAt
-sendable-at (inner at-poll) i = of-poll (all-head (i .facts .fit))
+sendable-at (inner at-poll) i = of-poll (all-first (i .facts .fit))
 sendable-at {value = value} (inner (at-ask {q = q} high h)) i =
     let t : tried q value < 2 ^ bits = tried-small h value (i .small) in
     let k : tried q value / half < half = omega arith in
     of-high k
 sendable-at {value = value} (inner (at-ask {q = q} low h)) i = let k : tried q value % half < half = omega arith in of-low k
 sendable-at (inner (at-ask reply h)) i = of-compare
-sendable-at (inner at-name) i = of-name (all-head (i .facts .fit))
+sendable-at (inner at-name) i = of-name (all-first (i .facts .fit))
 sendable-at {value = value} (inner at-high) i = let k : value / half < half = omega (arith, i .small) in of-high k
 sendable-at {value = value} (inner at-low) i = let k : value % half < half = omega arith in of-low k
 sendable-at at-baptize i = of-baptize

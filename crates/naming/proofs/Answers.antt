@@ -1,22 +1,23 @@
 -- What the rounds of a run do to the slaves' views and who answers them, told by the plain account's lists; and what a round of
 -- others may do.
 -- Assumes nothing.
-use Prim.Native.Nat.{ℕ, zero, suc, _+_, _*_, _-_, _/_, _%_, _^_, _≤_, _<_}
+use Prim.Native.Nat.{ℕ, _≤_, _<_}
 use mathlib.Core.Path.{_≡_, refl, sym, ap, _∙_, subst}
 use mathlib.Core.List.{List, [], _∷_, map}
 use mathlib.Core.Bool.{Bool, true, false, cond, not}
 use native.Mathlib.Omega.{arith}
 use native.Mathlib.Nat.{le-refl, le-of-lt}
-use lib.Dec.{eqb, leb, ltb}
-use borrow.Author.Tests.{eqb-true, eqb-false, eq-eqb, ne-eqb, le-leb, lt-leb, leb-true, leb-false}
+use lib.Dec.{eqb, leb}
+use borrow.Author.Tests.{eqb-true, eqb-false, eq-eqb, ne-eqb, lt-leb, leb-false}
 use Rattle.file.specs.Bytes.{All, All.none, All.both as also}
-use Rattle.file.specs.Order.{both, either}
+use Rattle.file.specs.Order.{both}
 use Rattle.file.specs.Cluster.{unnamed}
 use Rattle.file.specs.Grounds.{isAmong}
-use Rattle.file.proofs.Order.{byCase, clash, both-true, both-false-left, both-false-right, both-next, either-left, either-right, either-next, either-false}
+use Rattle.file.proofs.Bytes.{all-map}
+use Rattle.file.proofs.Order.{byCase, clash, both-true, both-false-left, both-false-right, either-left, either-right, either-next, either-false}
 use Rattle.naming.specs.View.{SlaveView, Operation, poll, writeName, writeHigh, writeLow, compare, baptize, told, change, replies, someone, changeAll, answers, comparisonOf, isUnnamed}
 use Rattle.naming.specs.Account.{Named, give, namesHeld}
-use Rattle.naming.proofs.Facts.{physicals, all-among, all-map, among-here, among-next}
+use Rattle.naming.proofs.Facts.{physicals, all-among, among-here}
 
 -- what the account keeps of a slave
 unfoldable pub namedOf : SlaveView → Named

@@ -3,7 +3,7 @@
 use Prim.Native.Nat.{ℕ, zero, suc, _+_, _*_, min, _≤_, _<_}
 use mathlib.Core.Path.{_≡_, refl, sym, ap, _∙_}
 use mathlib.Core.List.{List, [], _∷_}
-use mathlib.Core.Bool.{Bool, true, false, cond}
+use mathlib.Core.Bool.{true, false, cond}
 use native.Mathlib.Omega.{arith}
 use native.Mathlib.Nat.{suc-min-suc}
 use lib.ListN.{length}
@@ -11,7 +11,7 @@ use lib.Dec.{ltb, leb·suc-suc}
 use borrow.Author.Tests.{lt-ltb, le-ltb, ltb-false}
 use Rattle.file.specs.Grounds.{isAmong}
 use Rattle.file.proofs.Order.{byCase}
-use Rattle.naming.specs.Account.{namingRounds, namingComparisons, endingRounds, endingComparisons, falling, insert}
+use Rattle.naming.specs.Account.{namingRounds, namingComparisons, endingRounds, endingComparisons}
 use Rattle.naming.specs.Figures.{takenNames, freeNames, beforeFree, takenTried, roundsOf, comparisonsIn}
 use Rattle.naming.proofs.Tally.{due, dueComparisons}
 

@@ -1,25 +1,26 @@
 -- Demand 3 over abstract laws, whole: from a fresh run, after every list of permitted calls, each slave's name, the end and both
 -- counts are the plain account's, ground 17 does not hold, and the closed figures say when the run has ended and what it has done.
 -- Assumes nothing.
-use Prim.Native.Nat.{ℕ, zero, suc, _+_, _*_, min, _≤_, _<_}
+use Prim.Native.Nat.{ℕ, suc, _+_, _*_, min, _≤_, _<_}
 use mathlib.Core.Path.{_≡_, refl, sym, ap, _∙_}
 use mathlib.Core.List.{List, [], _∷_, map}
-use mathlib.Core.Bool.{Bool, true, false, cond}
+use mathlib.Core.Bool.{false}
 use native.Mathlib.Omega.{arith}
 use native.Mathlib.Nat.{suc-min-suc, zero-add}
-use lib.ListN.{length, length-map}
+use lib.ListN.{length}
 use lib.Dec.{eqb}
 use Rattle.file.specs.Cluster.{unnamed}
+use Rattle.file.proofs.AcceptedFacts.{no-repeat}
 use Rattle.file.proofs.Order.{byCase}
 use Rattle.naming.specs.View.{SlaveView}
 use Rattle.naming.specs.Run.{Position, fresh, running, unfitPosition, countLimit}
-use Rattle.naming.specs.Account.{Named, Account, Call, notYet, accountOf, accountAfter, comparisonsOf, endWith, falling, unnamedAmong, namesHeld, namingRounds, namingComparisons, endingRounds, endingComparisons}
-use Rattle.naming.specs.Figures.{Outcome, roundsFor, comparisonsFor, namesAfter, freeNames, givings}
+use Rattle.naming.specs.Account.{Named, Account, Call, accountOf, accountAfter, comparisonsOf, falling, unnamedAmong, namesHeld, namingRounds, namingComparisons, endingRounds}
+use Rattle.naming.specs.Figures.{Outcome, roundsFor, comparisonsFor, namesAfter, givings}
 use Rattle.naming.proofs.Answers.{namedOf}
 use Rattle.naming.proofs.Simulation.{fresh-at}
 use Rattle.naming.proofs.Tally.{Tally, Done, due, dueComparisons, finally, next-pass}
 use Rattle.naming.proofs.Closed.{due-rounds, due-comparisons, due-bound, due-comparisons-bound}
-use Rattle.naming.proofs.Sorted.{length-falling, distinct-length, repeat-distinct}
+use Rattle.naming.proofs.Sorted.{length-falling, distinct-length}
 use Rattle.naming.proofs.Start.{Slaves, Names, start-facts}
 use Rattle.naming.proofs.Abstract.{Laws, Agree, Permitted, runCalls, Between, all-calls, stays-fit, tie-agree, tally-running, tally-ended}
 
@@ -68,7 +69,7 @@ module _ (slaves : List Named) (names : List ℕ) where
   rounds-few : Names names → namingRounds * length slaves + endingRounds + 256 < countLimit →
       roundsFor slaves names < countLimit
   rounds-few n few =
-      let l : length names ≤ 256 = distinct-length 256 (repeat-distinct names (n .different)) (n .bytes) in
+      let l : length names ≤ 256 = distinct-length 256 (no-repeat names (n .different)) (n .bytes) in
       omega (
         arith,
         sym rounds-whole,

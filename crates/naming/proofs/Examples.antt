@@ -1,13 +1,12 @@
 -- Small cases of the definitions, computed.
 -- Assumes nothing.
-use Prim.Native.Nat.{ℕ, zero, suc, _+_}
+use Prim.Native.Nat.{ℕ, zero, suc}
 use mathlib.Core.Path.{_≡_, refl}
-use mathlib.Core.List.{List, [], _∷_, map}
-use mathlib.Core.Bool.{Bool, true, false, cond}
+use mathlib.Core.List.{List, [], _∷_}
 use Rattle.file.specs.Grounds.{isAmong}
-use Rattle.file.specs.Order.{both, either}
+use Rattle.file.specs.Order.{either}
 use Rattle.file.specs.Bytes.{bytesOf}
-use Rattle.naming.specs.View.{SlaveView, sent, Sent, atUnnamed}
+use Rattle.naming.specs.View.{sent, Sent, atUnnamed}
 use Rattle.naming.specs.Run.{Position, operationOf, operationAt, placeOf, askOrGive, questionOf, partOf, giveOf, tried}
 use Rattle.naming.specs.Account.{Named, Account, accountOf, comparisonsOf, comparisonsAfter, oneRound, pass, freePass, goOn, passDone, runEnds, give, falling, insert, unnamedAmong, namesHeld, endWith}
 

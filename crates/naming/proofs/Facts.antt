@@ -2,19 +2,19 @@
 -- slaves', the names left are fit and different, and each name left is held now if it was held at the start. A taken name that is
 -- dropped and a name that is given keep them.
 -- Assumes nothing.
-use Prim.Native.Nat.{ℕ, zero, suc, _+_, _*_, _-_, _/_, _%_, _^_, _≤_, _<_}
+use Prim.Native.Nat.{ℕ, _^_, _<_}
 use mathlib.Core.Path.{_≡_, refl, sym, ap, _∙_, subst}
 use mathlib.Core.List.{List, [], _∷_, map}
-use mathlib.Core.Bool.{Bool, true, false, cond, not}
+use mathlib.Core.Bool.{true, false, cond}
 use native.Mathlib.Omega.{arith}
-use lib.Dec.{eqb, leb, ltb}
-use borrow.Author.Tests.{eqb-true, eqb-false, eq-eqb, ne-eqb}
+use lib.Dec.{eqb}
+use borrow.Author.Tests.{eqb-true, eq-eqb, ne-eqb}
 use Rattle.file.specs.Bytes.{All, All.none, All.both as also}
-use Rattle.file.specs.Order.{both, either}
-use Rattle.file.specs.Legal.{Distinct, Distinct.end as alone, Distinct.next as apart}
+use Rattle.file.specs.Legal.{Distinct, Distinct.next as apart}
 use Rattle.file.specs.Cluster.{unnamed, broadcast}
 use Rattle.file.specs.Grounds.{isAmong}
-use Rattle.file.proofs.Order.{byCase, clash, either-left, either-right, either-next}
+use Rattle.file.proofs.Bytes.{all-first, all-others}
+use Rattle.file.proofs.Order.{byCase, clash, either-left, either-next}
 use Rattle.naming.specs.Account.{Named, give, namesHeld}
 
 -- strictly falling
@@ -42,16 +42,6 @@ pub record Facts (left waiting : List ℕ) (slaves : List Named) (held : List �
   pub taken : All (λ n. isAmong n held ≡ isAmong n (namesHeld slaves)) left
 
 -- ---- lists
-
-pub all-head : {A : Type 0} {P : A → Type 0} {a : A} {l : List A} → All P (a ∷ l) → P a
-all-head (also p h) = p
-
-pub all-tail : {A : Type 0} {P : A → Type 0} {a : A} {l : List A} → All P (a ∷ l) → All P l
-all-tail (also p h) = h
-
-pub all-map : {A : Type 0} {P Q : A → Type 0} {l : List A} → ((a : A) → P a → Q a) → All P l → All Q l
-all-map f none = none
-all-map f (also p h) = also (f _ p) (all-map f h)
 
 pub all-both : {A : Type 0} {P Q R : A → Type 0} {l : List A} → ((a : A) → P a → Q a → R a) → All P l → All Q l → All R l
 all-both f none none = none
@@ -84,11 +74,11 @@ differs (apart h d) = h
 pub differ-tail : {n : ℕ} {ns : List ℕ} → Distinct (n ∷ ns) → Distinct ns
 differ-tail (apart h d) = d
 
-pub fall-tail : {p : ℕ} {ps : List ℕ} → Falling (p ∷ ps) → Falling ps
-fall-tail (next h f) = f
+pub fall-others : {p : ℕ} {ps : List ℕ} → Falling (p ∷ ps) → Falling ps
+fall-others (next h f) = f
 
-pub fall-head : {p : ℕ} {ps : List ℕ} → Falling (p ∷ ps) → All (λ q. q < p) ps
-fall-head (next h f) = h
+pub fall-first : {p : ℕ} {ps : List ℕ} → Falling (p ∷ ps) → All (λ q. q < p) ps
+fall-first (next h f) = h
 
 -- ---- a taken name is dropped
 
@@ -99,9 +89,9 @@ drop-taken f =
       small = f .small;
       there = f .there;
       waits = f .waits;
-      fit = all-tail (f .fit);
+      fit = all-others (f .fit);
       different = differ-tail (f .different);
-      taken = all-tail (f .taken);
+      taken = all-others (f .taken);
     }
 
 -- ---- a name is given to the greatest
@@ -154,13 +144,13 @@ pub give-greatest :
     {n p : ℕ} {ns ps : List ℕ} {ss : List Named} {held : List ℕ} → Facts (n ∷ ns) (p ∷ ps) ss held → Facts ns ps (map (give p n) ss) held
 give-greatest {n} {p} {ns} {ps} {ss} {held} f =
     record {
-      falls = fall-tail (f .falls);
-      small = all-tail (f .small);
-      there = rw give-physicals (all-tail (f .there));
-      waits = give-waits p n ps (not-among p (fall-head (f .falls))) (all-head (f .fit) .named) (f .waits);
-      fit = all-tail (f .fit);
+      falls = fall-others (f .falls);
+      small = all-others (f .small);
+      there = rw give-physicals (all-others (f .there));
+      waits = give-waits p n ps (not-among p (fall-first (f .falls))) (all-first (f .fit) .named) (f .waits);
+      fit = all-others (f .fit);
       different = differ-tail (f .different);
-      taken = all-both one (all-both (λ m a b. (a, b)) (differs (f .different)) (all-tail (f .fit))) (all-tail (f .taken));
+      taken = all-both one (all-both (λ m a b. (a, b)) (differs (f .different)) (all-others (f .fit))) (all-others (f .taken));
     }
   where
     one : (m : ℕ) → (n ≡ m → ⊥) × Fit m → isAmong m held ≡ isAmong m (namesHeld ss) → isAmong m held ≡ isAmong m (namesHeld (map (give p n) ss))

@@ -1,16 +1,16 @@
 -- The search for the greatest physical name, as arithmetic: the value so far before bit b is the name with its low b + 1 bits
 -- cleared, and a comparison with that bit set tells the bit.
 -- Assumes nothing.
-use Prim.Native.Nat.{ℕ, zero, suc, _+_, _*_, _-_, _/_, _%_, _^_, _≤_, _<_}
-use mathlib.Core.Path.{_≡_, refl, sym, ap, _∙_}
+use Prim.Native.Nat.{ℕ, zero, suc, _+_, _*_, _/_, _%_, _^_, _≤_, _<_}
+use mathlib.Core.Path.{_≡_, refl, ap, _∙_}
 use mathlib.Core.Bool.{Bool, true, false, cond}
 use native.Mathlib.Omega.{arith}
 use native.Mathlib.Nat.{div-add-mod', mod-lt, div-div-eq-div-mul, pow-suc, div-eq-of-lt, div-one, mul-one}
 use lib.Dec.{leb}
-use lib.Bits.{bitOr, or-shifted, or-lt}
+use lib.Bits.{or-shifted, or-lt}
 use lib.Pow.{pow-pos, pow-lt}
 use borrow.Author.Tests.{leb-true, leb-false}
-use Rattle.naming.specs.Run.{Question, least, bit, tried, bits}
+use Rattle.naming.specs.Run.{Question, bit, tried, bits}
 use Rattle.naming.specs.View.{half}
 use Rattle.naming.proofs.Places.{LegalQuestion, of-least, of-bit}
 

@@ -1,29 +1,29 @@
 -- The tie between run and plain account: at each place of a pass what the slaves have been told and what the value so far is; a
 -- step of both keeps it.
 -- Assumes nothing.
-use Prim.Native.Nat.{ℕ, zero, suc, _+_, _*_, _-_, _/_, _%_, _^_, _≤_, _<_}
-use mathlib.Core.Path.{_≡_, refl, sym, ap, _∙_, subst}
+use Prim.Native.Nat.{ℕ, zero, suc, _+_, _-_, _/_, _%_, _^_, _≤_, _<_}
+use mathlib.Core.Path.{_≡_, refl, sym, ap, _∙_}
 use mathlib.Core.List.{List, [], _∷_, map}
-use mathlib.Core.Bool.{Bool, true, false, cond, not}
+use mathlib.Core.Bool.{Bool, true, false, cond}
 use native.Mathlib.Omega.{arith}
 use native.Mathlib.Numerals.{add-one}
-use lib.Dec.{eqb, leb, ltb}
-use lib.ListN.{length, getD, drop, length-drop}
-use lib.Seq.{drop-drop, getD-drop}
-use borrow.Author.Tests.{eq-eqb, ne-eqb, lt-ltb, le-ltb, le-leb}
-use Rattle.file.specs.Bytes.{All, All.none, All.both as also}
-use Rattle.file.specs.Cluster.{unnamed}
+use lib.Dec.{leb}
+use lib.ListN.{length, drop, length-drop}
+use lib.Seq.{drop-drop}
+use borrow.Author.Tests.{ne-eqb, lt-ltb, le-ltb, le-leb}
+use Rattle.file.specs.Bytes.{All.none, All.both as also}
 use Rattle.file.specs.Grounds.{isAmong}
-use Rattle.file.proofs.Order.{byCase, clash}
-use Rattle.naming.specs.View.{SlaveView, Operation, Operation.poll as pollOf, writeName, writeHigh, writeLow, compare, Operation.baptize as baptizeAll, told, change, changeAll, answers, comparisonOf, half}
-use Rattle.naming.specs.Run.{Position, running, fresh, markAt, Place, Place.poll, ask, giveName, giveHigh, giveLow, Place.baptize, Question, least, bit, Part, high, low, reply, placeOf, stepOf, tried, operationAt, operationOf, onward, nextName, endAllNamed, moveOn, advance, bits, questionNumber, partNumber}
-use Rattle.naming.specs.Account.{Named, Account, comparisonsAfter, comparisonsOf, endWith, goOn, passDone, runEnds, give, freePass, pass, oneRound, namesHeld, notYet, namingRounds, namingComparisons, endingRounds}
-use Rattle.naming.proofs.Places.{LegalQuestion, of-least, of-bit, Inner, LegalPlace, inner, at-poll, at-ask, at-name, at-high, at-low, at-baptize, place-of-step, afterBit, afterPlace, step-after, legal-after, step-lt, comparisons-next}
+use Rattle.file.proofs.Bytes.{all-first, all-map}
+use Rattle.file.proofs.Order.{byCase}
+use Rattle.naming.specs.View.{SlaveView, Operation, Operation.poll as pollOf, writeName, writeHigh, writeLow, compare, told, changeAll, answers, comparisonOf, half}
+use Rattle.naming.specs.Run.{Position, running, fresh, markAt, Place, Place.poll, ask, giveName, giveHigh, giveLow, Place.baptize, Question, least, bit, Part, high, low, reply, stepOf, tried, operationAt, onward, nextName, endAllNamed, moveOn, bits, questionNumber, partNumber}
+use Rattle.naming.specs.Account.{Named, Account, comparisonsAfter, endWith, give, oneRound, notYet, namingRounds, namingComparisons, endingRounds}
+use Rattle.naming.proofs.Places.{LegalQuestion, of-least, of-bit, Inner, LegalPlace, inner, at-poll, at-ask, at-name, at-high, at-low, at-baptize, afterBit, afterPlace, step-after, legal-after, step-lt, comparisons-next}
 use Rattle.naming.proofs.Places.{comparing as counting}
 use Rattle.naming.proofs.Search.{cleared, cleared-all, cleared-none, answered, tried-small, halves}
-use Rattle.naming.proofs.Facts.{Facts, Fit, all-head, all-map, drop-taken, give-greatest, fall-head, physicals}
+use Rattle.naming.proofs.Facts.{Facts, drop-taken, give-greatest, fall-first}
 use Rattle.naming.proofs.Rounds.{account, Goes, goes-on, taken-round, giving-round, ending-round}
-use Rattle.naming.proofs.Answers.{namedOf, OfUnnamed, Wait, poll-answers, compare-silent, compare-answers, Quiet, polling, telling-name, telling-high, telling-low, comparing, quiet-names, quiet-told, baptize-names, Same, same-names, same-told}
+use Rattle.naming.proofs.Answers.{namedOf, OfUnnamed, Wait, poll-answers, compare-silent, compare-answers, Quiet, polling, telling-name, telling-high, telling-low, comparing, quiet-names, quiet-told, baptize-names}
 
 -- ---- the relation
 
@@ -222,7 +222,7 @@ module _
       (go-on value i at-poll f (goes ws) polling (i .small) (f, tt) (nothing-told (λ v. Unit {0}) (changeAll (pollOf n) vs) (λ v. tt))))
     where
       replied : answers (pollOf n) vs ≡ isAmong n held
-      replied = poll-answers n vs (all-head (i .facts .fit) .named) ∙ rw (i .views) (sym (all-head (i .facts .taken)))
+      replied = poll-answers n vs (all-first (i .facts .fit) .named) ∙ rw (i .views) (sym (all-first (i .facts .taken)))
 
       goes : (qs : List ℕ) → Goes qs step
       goes [] = rw (i .place)
@@ -282,8 +282,8 @@ module _
       answers compare vs ≡ leb (tried q value) p
   unfolding OfUnnamed
   replied-by q i =
-      compare-answers (tried q value) p ps vs (waiting (ask q reply) i) (fall-head (i .facts .falls))
-      (rw (i .views) (all-head (i .facts .there)))
+      compare-answers (tried q value) p ps vs (waiting (ask q reply) i) (fall-first (i .facts .falls))
+      (rw (i .views) (all-first (i .facts .there)))
       (all-map (λ (v : SlaveView) k u. compared (tried q value) v (k u)) (i .heard))
 
   at-least-moves : Moves names vs (ask least reply) index step value rounds comparisons n ns (p ∷ ps) slaves held done
@@ -292,7 +292,7 @@ module _
       let r : answers compare vs ≡ true = replied-by least i ∙ zero-least value p in
       rw r
       (go-on 0 i (at-ask reply of-least) (i .known .0) tt comparing (omega arith)
-      (i .known .0, sym (cleared-all p (all-head (i .facts .small))))
+      (i .known .0, sym (cleared-all p (all-first (i .facts .small))))
       (nothing-told (λ v. Unit {0}) (changeAll compare vs) (λ v. tt)))
 
   at-bit-moves : (b : ℕ) → b < bits → Moves names vs (ask (bit b) reply) index step value rounds comparisons n ns (p ∷ ps) slaves held done

@@ -1,22 +1,23 @@
 -- Laws of a list in falling order: the same elements, the same length, strictly falling where no element repeats; and a list of
 -- different numbers below m has at most m of them.
 -- Assumes nothing.
-use Prim.Native.Nat.{ℕ, zero, suc, _+_, _≤_, _<_}
-use mathlib.Core.Path.{_≡_, refl, sym, ap, _∙_, subst}
-use mathlib.Core.List.{List, [], _∷_, map}
-use mathlib.Core.Bool.{Bool, true, false, cond}
+use Prim.Native.Nat.{ℕ, suc, _≤_, _<_}
+use mathlib.Core.Path.{_≡_, refl, ap, _∙_}
+use mathlib.Core.List.{List, [], _∷_}
+use mathlib.Core.Bool.{Bool, true, false}
 use native.Mathlib.Omega.{arith}
 use native.Mathlib.Nat.{lt-trans}
 use lib.ListN.{length}
 use lib.Dec.{eqb, ltb}
-use borrow.Author.Tests.{eqb-true, eqb-false, eq-eqb, ne-eqb, ltb-true, ltb-false}
+use borrow.Author.Tests.{eqb-false, ltb-true, ltb-false}
 use Rattle.file.specs.Bytes.{All, All.none, All.both as also}
 use Rattle.file.specs.Legal.{Distinct, Distinct.end as alone, Distinct.next as apart}
-use Rattle.file.specs.Grounds.{isAmong, hasRepeat}
+use Rattle.file.specs.Grounds.{isAmong}
 use Rattle.file.specs.Order.{either}
-use Rattle.file.proofs.Order.{byCase, clash, either-left, either-right, either-next, either-false-left, either-false-right}
+use Rattle.file.proofs.Bytes.{all-map}
+use Rattle.file.proofs.Order.{byCase, either-right, either-false-left, either-false-right}
 use Rattle.naming.specs.Account.{falling, insert}
-use Rattle.naming.proofs.Facts.{Falling, Falling.end as lowest, Falling.next as below, all-map, all-both, all-among, among-here, among-next}
+use Rattle.naming.proofs.Facts.{Falling, Falling.end as lowest, Falling.next as below, all-among, among-here}
 
 pub all-of : {A : Type 0} {P : A → Type 0} → ((a : A) → P a) → (l : List A) → All P l
 all-of f [] = none
@@ -27,21 +28,9 @@ unfolding isAmong
 all-self [] = none
 all-self (n ∷ l) = also (among-here n l) (all-map (λ p e. either-right (eqb p n) e) (all-self l))
 
--- a number that differs from all is not among them, and back
+-- a number that differs from all is not among them
 pub apart-among : {l : List ℕ} (p : ℕ) → All (λ m. p ≡ m → ⊥) l → isAmong p l ≡ false
 apart-among {l} p h = byCase (isAmong p l) (λ t. absurd (all-among p h t refl)) (λ f. f)
-
-pub among-apart : (p : ℕ) (l : List ℕ) → isAmong p l ≡ false → All (λ m. p ≡ m → ⊥) l
-unfolding isAmong
-among-apart p [] f = none
-among-apart p (m ∷ l) f =
-    also (eqb-false p m (either-false-left (eqb p m) (isAmong p l) f)) (among-apart p l (either-false-right (eqb p m) (isAmong p l) f))
-
-pub repeat-distinct : (l : List ℕ) → hasRepeat l ≡ false → Distinct l
-unfolding hasRepeat
-repeat-distinct [] f = alone
-repeat-distinct (n ∷ ns) f =
-    apart (among-apart n ns (either-false-left (isAmong n ns) (hasRepeat ns) f)) (repeat-distinct ns (either-false-right (isAmong n ns) (hasRepeat ns) f))
 
 -- ---- the sort
 

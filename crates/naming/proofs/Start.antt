@@ -1,11 +1,9 @@
 -- What an accepted file and an accepted list of names give at the start: the facts of the plain account.
 -- Assumes nothing.
-use Prim.Native.Nat.{ℕ, zero, suc, _+_, _^_, _≤_, _<_}
-use mathlib.Core.Path.{_≡_, refl, sym, ap, _∙_, subst}
-use mathlib.Core.List.{List, [], _∷_, map}
-use mathlib.Core.Bool.{Bool, true, false, cond}
-use native.Mathlib.Omega.{arith}
-use lib.ListN.{length}
+use Prim.Native.Nat.{ℕ, _^_, _<_}
+use mathlib.Core.Path.{_≡_, refl, sym, _∙_}
+use mathlib.Core.List.{List, [], _∷_}
+use mathlib.Core.Bool.{false}
 use lib.Dec.{eqb}
 use borrow.Author.Tests.{eqb-false, ne-eqb}
 use Rattle.file.specs.Bytes.{All, All.none, All.both as also}
@@ -13,11 +11,13 @@ use Rattle.file.specs.Legal.{Distinct, Distinct.end as alone, Distinct.next as 
 use Rattle.file.specs.Cluster.{unnamed, broadcast}
 use Rattle.file.specs.Grounds.{isAmong, hasRepeat}
 use Rattle.file.specs.Order.{either}
+use Rattle.file.proofs.Bytes.{all-map}
+use Rattle.file.proofs.AcceptedFacts.{no-repeat}
 use Rattle.file.proofs.Order.{byCase, either-false-left, either-false-right}
 use Rattle.naming.specs.Run.{unfitName}
 use Rattle.naming.specs.Account.{Named, falling, unnamedAmong, namesHeld}
-use Rattle.naming.proofs.Facts.{Facts, Fit, physicals, all-map, all-both, among-here, among-next}
-use Rattle.naming.proofs.Sorted.{all-of, all-self, apart-among, repeat-distinct, all-falling, among-falling, falling-falls}
+use Rattle.naming.proofs.Facts.{Facts, Fit, physicals, all-both, among-here, among-next}
+use Rattle.naming.proofs.Sorted.{all-of, all-self, apart-among, all-falling, among-falling, falling-falls}
 
 -- slaves that have physical names of 64 bits, all different
 pub record Slaves (ss : List Named) : Type 0 where
@@ -87,6 +87,6 @@ start-facts ss names s n =
       there = all-falling (all-unnamed ss (all-self (physicals ss)));
       waits = all-map (λ (r : Named) e. e ∙ sym (among-falling (r .physical) (unnamedAmong ss))) (wait ss (s .different));
       fit = names-fit (n .bytes) (n .fit);
-      different = repeat-distinct names (n .different);
+      different = no-repeat names (n .different);
       taken = all-of (λ m. refl) names;
     }

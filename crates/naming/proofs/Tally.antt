@@ -1,20 +1,18 @@
 -- The tally of the plain account: what it has made and what it still has to make are always the whole; and the whole in closed form.
 -- Assumes nothing.
-use Prim.Native.Nat.{ℕ, zero, suc, _+_, _*_, _-_, _/_, min, _≤_, _<_}
+use Prim.Native.Nat.{ℕ, suc, _+_, _<_}
 use mathlib.Core.Path.{_≡_, refl, sym, ap, _∙_, subst}
 use mathlib.Core.List.{List, [], _∷_, map}
 use mathlib.Core.Bool.{Bool, true, false, cond}
 use native.Mathlib.Omega.{arith}
-use lib.ListN.{length}
-use lib.Dec.{eqb, ltb}
-use borrow.Author.Tests.{eqb-true, eqb-false, eq-eqb, ne-eqb, lt-ltb, le-ltb, ltb-true, ltb-false}
+use lib.Dec.{eqb}
+use borrow.Author.Tests.{eqb-true, eqb-false, ne-eqb}
 use Rattle.file.specs.Grounds.{isAmong}
-use Rattle.file.specs.Bytes.{All}
-use Rattle.file.proofs.Order.{byCase, clash, either-false-left, either-false-right}
+use Rattle.file.proofs.Order.{byCase, either-false-left, either-false-right}
 use Rattle.naming.specs.Account.{Named, Account, notYet, endWith, give, oneRound, comparisonsAfter, namingRounds, namingComparisons, endingRounds, endingComparisons}
-use Rattle.naming.specs.Figures.{takenNames, freeNames, beforeFree, takenTried, roundsOf, comparisonsIn, givings, nameIn, renamed}
-use Rattle.naming.proofs.Facts.{Falling, fall-head, fall-tail, not-among}
-use Rattle.naming.proofs.Rounds.{account, Goes, goes-on, taken-round, giving-round, ending-round}
+use Rattle.naming.specs.Figures.{freeNames, givings, nameIn, renamed}
+use Rattle.naming.proofs.Facts.{Falling, fall-first, fall-others, not-among}
+use Rattle.naming.proofs.Rounds.{account, goes-on, taken-round, giving-round, ending-round}
 
 -- the rounds and comparisons of the passes from here on
 unfoldable pub due : List ℕ → List ℕ → List ℕ → ℕ
@@ -164,7 +162,7 @@ module _ (R C : ℕ) (F : List Named) where
       let c : done + (namingComparisons + dueComparisons held ns ps) ≡ C = rw f at (d .comparisons) in
       let m : map (renamed (givings (p ∷ ps) (n ∷ freeNames held ns))) slaves ≡ F = rw f at (d .names) in
       next-pass ns ps (map (give p n) slaves) held (suc rounds) (done + namingComparisons) (omega arith) (omega arith)
-      (given-now p n ps (freeNames held ns) (not-among p (fall-head (d .falls))) slaves ∙ m) (fall-tail (d .falls))
+      (given-now p n ps (freeNames held ns) (not-among p (fall-first (d .falls))) slaves ∙ m) (fall-others (d .falls))
 
   ending-pass :
       (n : ℕ) (ns : List ℕ) (slaves : List Named) (held : List ℕ) (rounds done k : ℕ) → Due R C F n ns [] slaves held rounds done k →

@@ -1,10 +1,10 @@
 -- The plain account (document 01's term; "The naming run", second paragraph) that the naming run is measured against. It knows
 -- nothing of frames, positions and comparison values.
-use Prim.Native.Nat.{ℕ, zero, suc, _+_, _-_, _/_, min}
+use Prim.Native.Nat.{ℕ, suc, _+_, _-_, _/_, min}
 use mathlib.Core.List.{List, [], _∷_, map}
-use mathlib.Core.Bool.{Bool, true, false, cond}
+use mathlib.Core.Bool.{Bool, cond}
 use lib.ListN.{length}
-use lib.Dec.{eqb, leb, ltb}
+use lib.Dec.{eqb, ltb}
 use Rattle.file.specs.Cluster.{Slave, Cluster, physicalName, logicalName, unnamed}
 use Rattle.file.specs.Grounds.{isAmong}
 

@@ -1,9 +1,9 @@
 -- The closed figures of a whole run (document 01, demand 3), from the slaves and the listed names at the start alone: u unnamed
 -- slaves, f listed names held by nobody.
-use Prim.Native.Nat.{ℕ, zero, suc, _+_, _*_, min, _<_}
+use Prim.Native.Nat.{ℕ, zero, suc, _+_, _*_, min}
 use mathlib.Core.Path.{_≡_}
 use mathlib.Core.List.{List, [], _∷_, map}
-use mathlib.Core.Bool.{Bool, true, false, cond}
+use mathlib.Core.Bool.{cond}
 use lib.ListN.{length}
 use lib.Dec.{eqb, ltb}
 use Rattle.file.specs.Grounds.{isAmong}

@@ -2,7 +2,7 @@
 -- rounds that the run sends).
 use Prim.Native.Nat.{ℕ, _+_, _*_, _^_}
 use mathlib.Core.List.{List, [], _∷_, map}
-use mathlib.Core.Bool.{Bool, true, false, cond, not}
+use mathlib.Core.Bool.{Bool, false, cond, not}
 use lib.Dec.{eqb, leb}
 use Rattle.file.specs.Bytes.{numberOf, bytesOf}
 use Rattle.file.specs.Order.{both, either}
