@@ -12,3 +12,4 @@ pub mod Start
 pub mod Abstract
 pub mod Demand
 pub mod FromFile
+pub mod SlaveViews
