@@ -1,0 +1,227 @@
+-- What a round keeps: the slaves' shape, their physical names, and that the cluster is legal; and the files that it leaves alone.
+-- Assumes nothing.
+use Prim.Native.Nat.{ℕ, zero, suc, _+_, _*_, _%_, _≤_, _<_}
+use native.Mathlib.Omega.{arith}
+use mathlib.Core.Path.{_≡_, refl, sym, ap, _∙_}
+use mathlib.Core.Logic.{_≢_}
+use mathlib.Core.List.{List, [], _∷_, map}
+use mathlib.Core.Bool.{Bool, true, false, cond, not}
+use lib.ListN.{length, getD}
+use lib.Dec.{eqb, leb, ltb}
+use borrow.Author.Tests.{eqb-true, eqb-false, leb-true, leb-false, ltb-true, not-true, ne-eqb, eq-eqb}
+use Rattle.file.specs.Bytes.{Byte, Bytes, All, none, both}
+use Rattle.file.specs.Order as Order
+use Rattle.file.specs.Layout.{offsetWidth, maxSlaves, maxLength, recordSize}
+use Rattle.file.specs.Cluster.{File, Slave, Cluster, bytesAmong, bytesIn, configuration, documentation, physicalName, newLogicalName, operationOf, readOperation, broadcast}
+use Rattle.file.specs.Legal.{LegalFile, LegalSlave, LegalPending, LegalAt, Legal, Distinct}
+use Rattle.file.specs.Places.{noSlave, slaveOf, putInSlave, withSlaves, withEpoch, withPending, SameFiles, SameShape, noSlaves, sameSlave}
+use Rattle.file.proofs.Order.{byCase, clash, both-left, both-right}
+use Rattle.file.proofs.Shape.{files-refl, files-trans, shape-refl, shape-trans, shape-count, shape-fileLength, slave-put}
+use Rattle.file.proofs.Puts.{inSlave-other, inSlave-physicalName}
+use Rattle.file.proofs.Kept.{slave-legal, legal-withEpoch, legal-withPending}
+use Rattle.file.proofs.Bytes.{all-getD, byte-at, bytes-part}
+use Rattle.cluster.specs.Bus.{busByte}
+use Rattle.cluster.specs.Slaves.{withAddress, nextEpoch, epochRaised, isUnnamed, Operation, nothing, reading, writing, comparing, baptizing, mayWrite, takesWrite, takesName, named, replaced, slaveAfter, slavesAfter}
+use Rattle.cluster.specs.Entries.{Entry, Acting, acts, acting, bytePlace, receives}
+use Rattle.cluster.specs.Multipartner.{Place, nowhere, byteOf, within, mayStore, storePlace, storesAt, storedThere, receivedIn, sentIn, clusterBelow}
+use Rattle.cluster.proofs.Bus.{busByte-byte}
+
+-- ---- a slave
+
+pub record SlaveKept (s t : Slave) : Type 0 where
+  pub files : SameFiles (s .files) (t .files)
+  pub name : physicalName t ≡ physicalName s
+  pub legal : LegalSlave s → LegalSlave t
+
+pub slave-refl : (s : Slave) → SlaveKept s s
+slave-refl s = record { files = files-refl (s .files); name = refl; legal = λ l. l }
+
+pub slave-trans : {s t u : Slave} → SlaveKept s t → SlaveKept t u → SlaveKept s u
+slave-trans p q =
+    record { files = files-trans (p .files) (q .files); name = q .name ∙ p .name; legal = λ l. q .legal (p .legal l) }
+
+pub slave-kept : (s : Slave) (n k b : ℕ) → n ≢ documentation → (LegalSlave s → Byte b) → SlaveKept s (putInSlave s n k b)
+slave-kept s n k b differ byte =
+    record {
+      files = slave-put s n k b;
+      name = inSlave-physicalName n k b s differ;
+      legal = λ l. slave-legal n k b (byte l) s l;
+    }
+
+pub replaced-kept : (s : Slave) (n k : ℕ) {bs : List ℕ} → n ≢ documentation → Bytes bs → SlaveKept s (replaced s n k bs)
+unfolding replaced
+replaced-kept s n k differ none = slave-refl s
+replaced-kept s n k differ (both {a = b} p r) =
+    slave-trans (slave-kept s n k b differ (λ _. p)) (replaced-kept (putInSlave s n k b) n (suc k) differ r)
+
+-- the bytes of a legal slave's files are bytes
+among-bytes : {xs : List File} (n : ℕ) → All LegalFile xs → Bytes (bytesAmong xs n)
+unfolding bytesAmong
+among-bytes n none = none
+among-bytes n (both {a = x} p r) = byCase (eqb (x .number) n) (λ e. rw e (p .bytes)) (λ e. rw e (among-bytes n r))
+
+pub slave-bytes : {s : Slave} (n : ℕ) → LegalSlave s → Bytes (bytesIn s n)
+unfolding bytesIn
+slave-bytes n l = among-bytes n (l .files)
+
+pub newLogicalName-byte : {s : Slave} → LegalSlave s → Byte (newLogicalName s)
+unfolding newLogicalName
+newLogicalName-byte l = byte-at (slave-bytes configuration l) (recordSize + 2)
+
+pub named-kept : (s : Slave) → SlaveKept s (named s)
+unfolding named
+named-kept s =
+    slave-kept s configuration (recordSize + 3) (newLogicalName s) (λ e. omega (arith, e)) (λ l. newLogicalName-byte l)
+
+-- a write is never one of the documentation
+pub takesWrite-file : (name n r : ℕ) (s : Slave) → takesWrite name n r s ≡ true → n ≢ documentation
+unfolding takesWrite mayWrite
+takesWrite-file name n r s e same =
+    let test : not (eqb n documentation) ≡ true = both-left _ _ (both-right _ _ (both-right _ _ e)) in
+    clash (eq-eqb n documentation same) (not-true _ test)
+
+pub slaveAfter-kept : (o : Operation) {bs : List ℕ} → Bytes bs → (s : Slave) → SlaveKept s (slaveAfter o bs s)
+unfolding slaveAfter
+slaveAfter-kept nothing bytes s = slave-refl s
+slaveAfter-kept (reading name n r) bytes s = slave-refl s
+slaveAfter-kept (writing name n r) bytes s =
+    byCase (takesWrite name n r s)
+    (λ e. rw e (replaced-kept s n (recordSize * r) (takesWrite-file name n r s e) bytes))
+    (λ e. rw e (slave-refl s))
+slaveAfter-kept (comparing name) bytes s = slave-refl s
+slaveAfter-kept (baptizing name) bytes s =
+    byCase (takesName name s) (λ e. rw e (named-kept s)) (λ e. rw e (slave-refl s))
+
+-- ---- where a slave stores in a slot
+
+pub record Storable (n k : ℕ) : Type 0 where
+  pub low : 0x10 ≤ n
+  pub high : n ≤ 0x3C
+  pub place : recordSize ≤ k
+
+pub data Stores : Place → Type 0 where
+  stays : Stores nowhere
+  here : {n k : ℕ} → Storable n k → Stores (byteOf n k)
+
+mayStore-facts : (e : Entry) (slot : ℕ) → mayStore e slot ≡ true → Storable (e .file) (bytePlace e slot)
+unfolding mayStore
+mayStore-facts e slot t =
+    record {
+      low = leb-true _ _ (both-left _ _ t);
+      high = leb-true _ _ (both-left _ _ (both-right _ _ t));
+      place = leb-true _ _ (both-right _ _ (both-right _ _ t));
+    }
+
+storePlace-stores : (s : Slave) (slot : ℕ) (a : Acting) → Stores (storePlace s slot a)
+unfolding storePlace
+storePlace-stores s slot Acting.none = stays
+storePlace-stores s slot (acts e) =
+    byCase (Order.both (receives (e .operation)) (Order.both (mayStore e slot) (within s e slot)))
+    (λ t. rw t (here (mayStore-facts e slot (both-left _ _ (both-right _ _ t)))))
+    (λ t. rw t stays)
+
+pub storesAt-stores : (round slot : ℕ) (s : Slave) → Stores (storesAt round slot s)
+unfolding storesAt
+storesAt-stores round slot s =
+    byCase (isUnnamed s) (λ t. rw t stays) (λ t. rw t (storePlace-stores s slot (acting (bytesIn s round) slot)))
+
+pub stored-kept : (s : Slave) (b : ℕ) {p : Place} → Byte b → Stores p → SlaveKept s (storedThere s p b)
+unfolding storedThere
+stored-kept s b byte stays = slave-refl s
+stored-kept s b byte (here {n} {k} h) = slave-kept s n k b (λ e. omega (arith, e, h .high)) (λ _. byte)
+
+-- files outside 0x10 to 0x3C stay
+pub stored-other : (s : Slave) (b : ℕ) {p : Place} → Stores p → (n : ℕ) → (0x10 ≤ n → 0x3C < n) → bytesIn (storedThere s p b) n ≡ bytesIn s n
+unfolding storedThere
+stored-other s b stays n out = refl
+stored-other s b (here {n = m} {k} h) n out = inSlave-other m k b s n (λ e. omega (arith, h .low, h .high, out (omega (arith, h .low, e)), e))
+
+-- ---- a cluster
+
+pub record ClusterKept (c d : Cluster) : Type 0 where
+  pub shape : SameShape (c .slaves) (d .slaves)
+  pub names : map physicalName (d .slaves) ≡ map physicalName (c .slaves)
+  pub legal : Legal c → Legal d
+
+pub kept-refl : (c : Cluster) → ClusterKept c c
+kept-refl c = record { shape = shape-refl (c .slaves); names = refl; legal = λ l. l }
+
+pub kept-trans : {c d e : Cluster} → ClusterKept c d → ClusterKept d e → ClusterKept c e
+kept-trans p q =
+    record { shape = shape-trans (p .shape) (q .shape); names = q .names ∙ p .names; legal = λ l. q .legal (p .legal l) }
+
+module _ (f : Slave → Slave) (keeps : (s : Slave) → SlaveKept s (f s)) where
+  map-shape : (ss : List Slave) → SameShape ss (map f ss)
+  map-shape [] = noSlaves
+  map-shape (s ∷ ss) = sameSlave (keeps s .files) (map-shape ss)
+
+  map-names : (ss : List Slave) → map physicalName (map f ss) ≡ map physicalName ss
+  map-names [] = refl
+  map-names (s ∷ ss) = rw (keeps s .name, map-names ss)
+
+  map-legal : {ss : List Slave} → All LegalSlave ss → All LegalSlave (map f ss)
+  map-legal none = none
+  map-legal (both {a = s} p r) = both (keeps s .legal p) (map-legal r)
+
+  pub kept-map : (c : Cluster) → ClusterKept c (withSlaves c (map f (c .slaves)))
+  unfolding withSlaves
+  kept-map c =
+      record {
+        shape = map-shape (c .slaves);
+        names = map-names (c .slaves);
+        legal = λ l. record {
+          count = rw (← shape-count (map-shape (c .slaves))) (l .count);
+          pending = pending-slaves c (map f (c .slaves)) (l .pending);
+          slaves = map-legal (l .slaves);
+          names = rw (map-names (c .slaves)) (l .names);
+          size = rw (← shape-fileLength offsetWidth (map-shape (c .slaves))) (l .size);
+        };
+      }
+    where
+      pending-slaves : (d : Cluster) (ss : List Slave) → LegalPending d → LegalPending (withSlaves d ss)
+      pending-slaves d ss p =
+          record {
+            epoch = p .epoch;
+            flag = p .flag;
+            name = p .name;
+            pb2 = p .pb2;
+            pb3 = p .pb3;
+            operation = p .operation;
+            broadcastRead = p .broadcastRead;
+          }
+
+pub nextEpoch-byte : (n : ℕ) → Byte (nextEpoch n)
+unfolding nextEpoch
+nextEpoch-byte n = omega arith
+
+pub kept-epoch : (c : Cluster) (epoch : ℕ) → Byte epoch → ClusterKept c (withEpoch c epoch)
+unfolding withEpoch
+kept-epoch c epoch byte =
+    record { shape = shape-refl (c .slaves); names = refl; legal = λ l. legal-withEpoch c epoch byte l }
+
+pub kept-raised : (c : Cluster) → ClusterKept c (epochRaised c)
+unfolding epochRaised
+kept-raised c = kept-epoch c (nextEpoch (c .epoch)) (nextEpoch-byte (c .epoch))
+
+pub kept-pending : (c : Cluster) (flag name pb2 pb3 : ℕ) → LegalPending (withPending c flag name pb2 pb3) → ClusterKept c (withPending c flag name pb2 pb3)
+unfolding withPending
+kept-pending c flag name pb2 pb3 p =
+    record { shape = shape-refl (c .slaves); names = refl; legal = λ l. legal-withPending c flag name pb2 pb3 p l }
+
+pub kept-after : (o : Operation) {bs : List ℕ} → Bytes bs → (c : Cluster) → ClusterKept c (slavesAfter o bs c)
+unfolding slavesAfter
+kept-after o {bs} bytes c = kept-map (slaveAfter o bs) (slaveAfter-kept o bytes) c
+
+pub kept-received : (round slot : ℕ) (c : Cluster) (sent : List ℕ) → ClusterKept c (receivedIn round slot c sent)
+unfolding receivedIn
+kept-received round slot c [] = kept-refl c
+kept-received round slot c (b ∷ bs) =
+    kept-map (λ (s : Slave). storedThere s (storesAt round slot s) (busByte (b ∷ bs)))
+    (λ s. stored-kept s (busByte (b ∷ bs)) (busByte-byte (b ∷ bs)) (storesAt-stores round slot s)) c
+
+pub kept-below : (round : ℕ) (c : Cluster) (n : ℕ) → ClusterKept c (clusterBelow round c n)
+unfolding clusterBelow
+kept-below round c zero = kept-refl c
+kept-below round c (suc n) =
+    kept-trans (kept-below round c n)
+    (kept-received round n (clusterBelow round c n) (sentIn round n (clusterBelow round c n)))

@@ -1,0 +1,4 @@
+pub mod Bus
+pub mod Kept
+pub mod Rounds
+pub mod Untouched

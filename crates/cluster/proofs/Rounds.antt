@@ -1,0 +1,170 @@
+-- Laws of a round for the layers above: an accepted one leaves a legal cluster of the same shape and physical names, a refused one
+-- leaves all as it was, and the answer to a file of unknown edition depends on its length and first three bytes alone.
+-- Assumes nothing.
+use Prim.Native.Nat.{ℕ, suc, _+_, _≤_, _<_}
+use native.Mathlib.Omega.{arith}
+use mathlib.Core.Path.{_≡_, refl, sym, ap, _∙_}
+use mathlib.Core.Logic.{_≢_}
+use mathlib.Core.List.{List, [], _∷_, map}
+use mathlib.Core.Bool.{Bool, true, false, cond}
+use lib.ListN.{length, getD, take}
+use lib.Dec.{eqb, leb}
+use borrow.Author.Tests.{eqb-true, eq-eqb, ne-eqb, leb-false, ltb-false}
+use Rattle.file.specs.Bytes.{Byte, Bytes}
+use Rattle.file.specs.Order.{firstOf, both}
+use Rattle.file.specs.Layout.{offsetWidth, editionPlace}
+use Rattle.file.specs.Cluster.{Slave, Cluster, bytesIn, configuration, physicalName, operationOf, readOperation, broadcast}
+use Rattle.file.specs.Encode.{encode, fileLength}
+use Rattle.file.specs.Decode.{decode}
+use Rattle.file.specs.Grounds.{fileGround}
+use Rattle.file.specs.Legal.{LegalPending, Legal}
+use Rattle.file.specs.Places.{withEpoch, withPending}
+use Rattle.file.specs.Accepted.{Becomes}
+use Rattle.file.proofs.Order.{byCase, clash, first-none, both-true}
+use Rattle.file.proofs.Bytes.{byte-at, bytes-part}
+use Rattle.file.proofs.Accepted.{legal-becomes, accepted-becomes}
+use Rattle.file.proofs.AcceptedFacts as AcceptedFacts
+use Rattle.file.proofs.Edition.{unknown-edition}
+use Rattle.frame.specs.Fireworks.{Round, multipartner, msd, msa, none}
+use Rattle.frame.specs.Grounds.{noOperation, broadcastRead}
+use Rattle.cluster.specs.Bus.{slots}
+use Rattle.cluster.specs.Slaves.{withAddress, epochRaised, pendingOperation}
+use Rattle.cluster.specs.Multipartner.{clusterBelow}
+use Rattle.cluster.specs.Grounds.{shortAnswer, roundBy, noFirework, wrongLengthOn, wrongCheckOn, noOperationOn, broadcastReadOn, groundsOn, frameGround, dataOf}
+use Rattle.cluster.specs.Round.{Effect, Answer, refused, carried, addressEffect, dataEffect, multipartnerEffect, effectOf, frameOn, carriedBy, bufferBy, exchange, firstGround, roundGround, roundOn}
+use Rattle.cluster.proofs.Kept.{ClusterKept, kept-refl, kept-trans, kept-epoch, kept-raised, kept-pending, kept-after, kept-below}
+
+-- ---- the grounds of a frame that is accepted
+
+pub record Fits (c : Cluster) (round : Round) (frame : List ℕ) : Type 0 where
+  pub firework : noFirework round ≡ false
+  pub size : wrongLengthOn c round frame ≡ false
+  pub check : wrongCheckOn c round frame ≡ false
+  pub operation : noOperationOn round frame ≡ false
+  pub broadcastRead : broadcastReadOn round frame ≡ false
+
+pub fits-facts : (c : Cluster) (round : Round) (frame : List ℕ) → firstOf (groundsOn c round frame) ≡ 0 → Fits c round frame
+unfolding groundsOn
+fits-facts c round frame e =
+    let f₁ = first-none 9 _ _ e in
+    let f₂ = first-none 10 _ _ (f₁ .1) in
+    let f₃ = first-none 11 _ _ (f₂ .1) in
+    let f₄ = first-none 12 _ _ (f₃ .1) in
+    let f₅ = first-none 13 _ _ (f₄ .1) in
+    record { firework = f₁ .0; size = f₂ .0; check = f₃ .0; operation = f₄ .0; broadcastRead = f₅ .0 }
+
+pub fits-none : (c : Cluster) (round : Round) (frame : List ℕ) → Fits c round frame → firstOf (groundsOn c round frame) ≡ 0
+unfolding groundsOn firstOf
+fits-none c round frame f = rw (f .firework, f .size, f .check, f .operation, f .broadcastRead)
+
+-- ---- what an accepted frame keeps
+
+pub address-pending : (c : Cluster) (pb0 pb1 pb2 pb3 : ℕ) → Byte pb0 → Byte pb1 → Byte pb2 → Byte pb3 → noOperation (operationOf pb2) ≡ false → broadcastRead (operationOf pb2) pb1 ≡ false →
+    LegalPending (withPending (withEpoch c pb0) 1 pb1 pb2 pb3)
+unfolding withPending withEpoch noOperation broadcastRead
+address-pending c pb0 pb1 pb2 pb3 b0 b1 b2 b3 op read =
+    record {
+      epoch = b0;
+      flag = omega arith;
+      name = b1;
+      pb2 = b2;
+      pb3 = b3;
+      operation = λ _ three. omega (arith, leb-false 3 (operationOf pb2) op, three);
+      broadcastRead = λ _ isRead isAll. clash (both-true (eq-eqb _ _ isRead) (eq-eqb _ _ isAll)) read;
+    }
+
+pub address-kept : (c : Cluster) (pb0 pb1 pb2 pb3 : ℕ) → Byte pb0 → Byte pb1 → Byte pb2 → Byte pb3 → noOperation (operationOf pb2) ≡ false → broadcastRead (operationOf pb2) pb1 ≡ false →
+    ClusterKept c (withAddress c pb0 pb1 pb2 pb3)
+unfolding withAddress
+address-kept c pb0 pb1 pb2 pb3 b0 b1 b2 b3 op read =
+    kept-trans (kept-epoch c pb0 b0)
+    (kept-pending (withEpoch c pb0) 1 pb1 pb2 pb3 (address-pending c pb0 pb1 pb2 pb3 b0 b1 b2 b3 op read))
+
+pub data-kept : (c : Cluster) {bytes : List ℕ} → Bytes bytes → ClusterKept c (dataEffect c bytes .after)
+unfolding dataEffect
+data-kept c bs = kept-trans (kept-raised c) (kept-after (pendingOperation c) bs (epochRaised c))
+
+pub multipartner-kept : (c : Cluster) (r : ℕ) → ClusterKept c (multipartnerEffect c r .after)
+unfolding multipartnerEffect
+multipartner-kept c r = kept-trans (kept-raised c) (kept-below r (epochRaised c) slots)
+
+effect-kept : (c : Cluster) (round : Round) (frame : List ℕ) → Bytes frame → Fits c round frame → ClusterKept c (effectOf c round frame .after)
+unfolding effectOf addressEffect noOperationOn broadcastReadOn dataOf
+effect-kept c (multipartner r) frame bs f = multipartner-kept c r
+effect-kept c msd frame bs f = data-kept c (bytes-part bs 1 4)
+effect-kept c msa frame bs f =
+    address-kept c (getD frame 1 0) (getD frame 2 0) (getD frame 3 0) (getD frame 4 0)
+    (byte-at bs 1) (byte-at bs 2) (byte-at bs 3) (byte-at bs 4) (f .operation) (f .broadcastRead)
+effect-kept c none frame bs f = kept-refl c
+
+pub frame-kept : (c : Cluster) (frame : List ℕ) → Bytes frame → frameGround c frame ≡ 0 → ClusterKept c (frameOn c frame .after)
+unfolding frameOn frameGround
+frame-kept c frame bs e = effect-kept c (roundBy frame) frame bs (fits-facts c (roundBy frame) frame e)
+
+-- ---- the round call
+
+pub firstGround-left : (n m : ℕ) → firstGround n m ≡ 0 → n ≡ 0
+unfolding firstGround
+firstGround-left n m e = byCase (eqb n 0) (λ t. eqb-true n 0 t) (λ t. rw t at e)
+
+pub firstGround-right : (n m : ℕ) → firstGround n m ≡ 0 → m ≡ 0
+unfolding firstGround
+firstGround-right n m e = byCase (eqb n 0) (λ t. rw t at e) (λ t. let z : n ≡ 0 = rw t at e in clash (eq-eqb n 0 z) t)
+
+pub firstGround-next : (n m : ℕ) → n ≡ 0 → firstGround n m ≡ m
+unfolding firstGround
+firstGround-next n m z = rw (eq-eqb n 0 z)
+
+pub firstGround-here : (n m : ℕ) → n ≢ 0 → firstGround n m ≡ n
+unfolding firstGround
+firstGround-here n m h = rw (ne-eqb n 0 h)
+
+-- a refused round returns its number and leaves all as it was
+pub round-refused : (file frame buffer : List ℕ) → roundGround file frame buffer ≢ 0 → roundOn file frame buffer ≡ (refused (roundGround file frame buffer), buffer, file)
+unfolding roundOn
+round-refused file frame buffer h = rw (ne-eqb _ _ h)
+
+pub round-accepted : (file frame buffer : List ℕ) → roundGround file frame buffer ≡ 0 →
+    roundOn file frame buffer ≡ (carriedBy (frameOn (decode file) frame), bufferBy (frameOn (decode file) frame) (getD frame 0 0) buffer, encode (frameOn (decode file) frame .after))
+unfolding roundOn
+round-accepted file frame buffer h = rw (eq-eqb _ _ h)
+
+-- what an accepted round was given
+pub record RoundFits (file frame buffer : List ℕ) : Type 0 where
+  pub accepted : fileGround file ≡ 0
+  pub long : slots ≤ length buffer
+  pub fits : frameGround (decode file) frame ≡ 0
+
+pub round-facts : (file frame buffer : List ℕ) → roundGround file frame buffer ≡ 0 → RoundFits file frame buffer
+unfolding roundGround shortAnswer
+round-facts file frame buffer e =
+    let rest = firstGround-right _ _ e in
+    record {
+      accepted = firstGround-left _ _ e;
+      long = ltb-false _ _ (first-none 8 _ _ (firstGround-left _ _ rest) .0);
+      fits = firstGround-right _ _ rest;
+    }
+
+-- an accepted round leaves an accepted file, which holds the rules' cluster: legal, of the same shape and physical names
+pub round-becomes : (file frame buffer : List ℕ) → Bytes file → Bytes frame → roundGround file frame buffer ≡ 0 → Becomes (roundOn file frame buffer .2) (frameOn (decode file) frame .after)
+round-becomes file frame buffer fb rb e =
+    let given = round-facts file frame buffer e in
+    let old : Becomes file (decode file) = accepted-becomes file fb (given .accepted) in
+    rw (round-accepted file frame buffer e) (legal-becomes (frameOn (decode file) frame .after) (frame-kept (decode file) frame rb (given .fits) .legal (old .legal)))
+
+pub round-kept : (file frame buffer : List ℕ) → Bytes frame → roundGround file frame buffer ≡ 0 → ClusterKept (decode file) (frameOn (decode file) frame .after)
+round-kept file frame buffer rb e = frame-kept (decode file) frame rb (round-facts file frame buffer e .fits)
+
+-- a file of unknown edition: answer and buffer are the same for two files of one length with the same first three bytes
+pub round-edition : (f g frame buffer : List ℕ) → length f ≡ length g → take 3 f ≡ take 3 g → (getD f editionPlace 0 ≡ 1 → ⊥) →
+    (roundOn f frame buffer .0 ≡ roundOn g frame buffer .0) × (roundOn f frame buffer .1 ≡ roundOn g frame buffer .1)
+unfolding roundGround fileGround
+round-edition f g frame buffer long front other =
+    let refused-f : fileGround f ≢ 0 = λ z. other (AcceptedFacts.accepted offsetWidth f .0 z .edition) in
+    let same : fileGround f ≡ fileGround g = unknown-edition f g long front other in
+    let here-f : roundGround f frame buffer ≡ fileGround f = firstGround-here _ _ refused-f in
+    let refused-g : fileGround g ≢ 0 = λ z. refused-f (same ∙ z) in
+    let here-g : roundGround g frame buffer ≡ fileGround g = firstGround-here _ _ refused-g in
+    let left = round-refused f frame buffer (λ z. refused-f (sym here-f ∙ z)) in
+    let right = round-refused g frame buffer (λ z. refused-g (sym here-g ∙ z)) in
+    (rw (left, right, here-f, here-g, same), rw (left, right))

@@ -1,0 +1,101 @@
+-- Files that a round leaves as they were: a multipartner round all but 0x10 to 0x3C, the data part of a master-slave round all but
+-- the one written, or the configuration where the operation is an execute of it.
+-- Assumes nothing.
+use Prim.Native.Nat.{ℕ, zero, suc, _+_, _*_, _≤_, _<_}
+use mathlib.Core.Path.{_≡_, refl, sym, ap, _∙_}
+use mathlib.Core.Logic.{_≢_}
+use mathlib.Core.List.{List, [], _∷_, map}
+use lib.ListN.{getD, List·getD-map}
+use Rattle.file.specs.Layout.{recordSize}
+use Rattle.file.specs.Cluster.{Slave, Cluster, bytesIn, configuration, newLogicalName}
+use Rattle.file.specs.Places.{noSlave, slaveOf, putInSlave, withSlaves, withEpoch, withPending}
+use Rattle.file.proofs.Order.{byCase}
+use Rattle.file.proofs.Puts.{inSlave-other}
+use Rattle.frame.specs.Fireworks.{Round, multipartner, msd, msa, none}
+use Rattle.cluster.specs.Bus.{busByte, slots}
+use Rattle.cluster.specs.Slaves.{withAddress, epochRaised, Operation, nothing, reading, writing, comparing, baptizing, pendingOperation, takesWrite, takesName, named, replaced, slaveAfter, slavesAfter}
+use Rattle.cluster.specs.Multipartner.{storesAt, storedThere, receivedIn, sentIn, clusterBelow}
+use Rattle.cluster.specs.Grounds.{roundBy, dataOf}
+use Rattle.cluster.specs.Round.{addressEffect, dataEffect, multipartnerEffect, effectOf, frameOn}
+use Rattle.cluster.proofs.Kept.{storesAt-stores, stored-other}
+
+-- the bytes of file n, slave by slave
+unfoldable pub filesOf : ℕ → List Slave → List (List ℕ)
+filesOf n ss = map (λ (s : Slave). bytesIn s n) ss
+
+-- the same of the slave at an index
+pub filesOf-slave : (n : ℕ) (c d : Cluster) → filesOf n (d .slaves) ≡ filesOf n (c .slaves) → (s : ℕ) → bytesIn (slaveOf d s) n ≡ bytesIn (slaveOf c s) n
+unfolding filesOf slaveOf
+filesOf-slave n c d same s =
+    sym (List·getD-map (λ (x : Slave). bytesIn x n) (d .slaves) s noSlave)
+    ∙ ap (λ (l : List (List ℕ)). getD l s (bytesIn noSlave n)) same
+    ∙ List·getD-map (λ (x : Slave). bytesIn x n) (c .slaves) s noSlave
+
+filesOf-map : (n : ℕ) (f : Slave → Slave) → ((s : Slave) → bytesIn (f s) n ≡ bytesIn s n) → (ss : List Slave) → filesOf n (map f ss) ≡ filesOf n ss
+unfolding filesOf
+filesOf-map n f same [] = refl
+filesOf-map n f same (s ∷ ss) = rw (same s, filesOf-map n f same ss)
+
+-- ---- multipartner rounds
+
+-- a file that no receive stores in
+abbrev pub Unstored : ℕ → Type 0
+Unstored n = 0x10 ≤ n → 0x3C < n
+
+pub received-other : (round slot : ℕ) (c : Cluster) (sent : List ℕ) (n : ℕ) → Unstored n → filesOf n (receivedIn round slot c sent .slaves) ≡ filesOf n (c .slaves)
+unfolding receivedIn withSlaves
+received-other round slot c [] n out = refl
+received-other round slot c (b ∷ bs) n out =
+    filesOf-map n (λ (s : Slave). storedThere s (storesAt round slot s) (busByte (b ∷ bs)))
+    (λ s. stored-other s (busByte (b ∷ bs)) (storesAt-stores round slot s) n out) (c .slaves)
+
+pub below-other : (round : ℕ) (c : Cluster) (k n : ℕ) → Unstored n → filesOf n (clusterBelow round c k .slaves) ≡ filesOf n (c .slaves)
+unfolding clusterBelow
+below-other round c zero n out = refl
+below-other round c (suc k) n out =
+    received-other round k (clusterBelow round c k) (sentIn round k (clusterBelow round c k)) n out ∙ below-other round c k n out
+
+-- ---- the data part of a master-slave round
+
+-- the operation changes no byte of file n
+pub data Leaves (n : ℕ) : Operation → Type 0 where
+  by-nothing : Leaves n nothing
+  by-read : {name m r : ℕ} → Leaves n (reading name m r)
+  by-write : {name m r : ℕ} → n ≢ m → Leaves n (writing name m r)
+  by-compare : {name : ℕ} → Leaves n (comparing name)
+  by-baptize : {name : ℕ} → n ≢ configuration → Leaves n (baptizing name)
+
+pub replaced-other : (s : Slave) (m k : ℕ) (bs : List ℕ) (n : ℕ) → n ≢ m → bytesIn (replaced s m k bs) n ≡ bytesIn s n
+unfolding replaced
+replaced-other s m k [] n differ = refl
+replaced-other s m k (b ∷ bs) n differ =
+    replaced-other (putInSlave s m k b) m (suc k) bs n differ ∙ inSlave-other m k b s n differ
+
+pub slaveAfter-other : {n : ℕ} {o : Operation} → Leaves n o → (bytes : List ℕ) (s : Slave) → bytesIn (slaveAfter o bytes s) n ≡ bytesIn s n
+unfolding slaveAfter named
+slaveAfter-other by-nothing bytes s = refl
+slaveAfter-other by-read bytes s = refl
+slaveAfter-other {n} (by-write {name} {m} {r} differ) bytes s =
+    byCase (takesWrite name m r s) (λ e. rw e (replaced-other s m (recordSize * r) bytes n differ)) (λ e. rw e)
+slaveAfter-other by-compare bytes s = refl
+slaveAfter-other {n} (by-baptize {name} differ) bytes s =
+    byCase (takesName name s) (λ e. rw e (inSlave-other configuration (recordSize + 3) (newLogicalName s) s n differ)) (λ e. rw e)
+
+pub after-other : {n : ℕ} {o : Operation} → Leaves n o → (bytes : List ℕ) (c : Cluster) → filesOf n (slavesAfter o bytes c .slaves) ≡ filesOf n (c .slaves)
+unfolding slavesAfter withSlaves
+after-other {n} {o} leaves bytes c = filesOf-map n (slaveAfter o bytes) (slaveAfter-other leaves bytes) (c .slaves)
+
+-- ---- any round
+
+effect-other : (n : ℕ) → Unstored n → (c : Cluster) → Leaves n (pendingOperation c) → (round : Round) (frame : List ℕ) → filesOf n (effectOf c round frame .after .slaves) ≡ filesOf n (c .slaves)
+unfolding effectOf addressEffect withAddress withPending dataEffect multipartnerEffect epochRaised withEpoch
+effect-other n out c leaves (multipartner r) frame = below-other r (epochRaised c) slots n out
+effect-other n out c leaves msd frame = after-other leaves (dataOf frame) (epochRaised c)
+effect-other n out c leaves msa frame = refl
+effect-other n out c leaves none frame = refl
+
+-- a frame on a cluster whose pending operation leaves file n, one outside 0x10 to 0x3C, leaves it in every slave; so every frame
+-- leaves the configuration but the data part of a write to it or of an execute of it
+pub frame-other : (n : ℕ) → Unstored n → (c : Cluster) → Leaves n (pendingOperation c) → (frame : List ℕ) → filesOf n (frameOn c frame .after .slaves) ≡ filesOf n (c .slaves)
+unfolding frameOn
+frame-other n out c leaves frame = effect-other n out c leaves (roundBy frame) frame

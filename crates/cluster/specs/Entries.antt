@@ -1,0 +1,70 @@
+-- A round file's entries (document 01, "Multipartner rounds"). A round file is the round descriptor list of 002.
+use Prim.Native.Nat.{ℕ, zero, suc, _+_, _*_, _-_, _/_, _%_}
+use mathlib.Core.List.{List}
+use mathlib.Core.Bool.{Bool, cond}
+use lib.ListN.{getD}
+use lib.Dec.{eqb, leb, ltb}
+use Rattle.file.specs.Order.{both, either}
+use Rattle.file.specs.Layout.{recordSize}
+use Rattle.file.specs.Cluster.{lastRecord}
+
+-- "byte 0 file number (six high bits) and align; byte 1 record; byte 2 operation (four high bits) and length minus one; byte 3
+-- multiplex (two high bits) and start slot"
+pub record Entry : Type 0 where
+  pub file : ℕ
+  pub align : ℕ
+  pub «record» : ℕ
+  pub operation : ℕ
+  pub length : ℕ
+  pub multiplex : ℕ
+  pub start : ℕ
+
+unfoldable pub entryOf : ℕ → ℕ → ℕ → ℕ → Entry
+entryOf b₀ b₁ b₂ b₃ =
+    record {
+      file = b₀ / 4;
+      align = b₀ % 4;
+      «record» = b₁;
+      operation = b₂ / 16;
+      length = b₂ % 16 + 1;
+      multiplex = b₃ / 64;
+      start = b₃ % 64;
+    }
+
+-- "each record is an entry": record k of the round file
+unfoldable pub entryAt : List ℕ → ℕ → Entry
+entryAt rodl k =
+    let at = recordSize * k in entryOf (getD rodl at 0) (getD rodl (at + 1) 0) (getD rodl (at + 2) 0) (getD rodl (at + 3) 0)
+
+-- "Operations are those of 002, table 4: 0, 2, 4 receive; 1, 5 send; 6, 7 end; 3 and 8 to 15 cover their slots and do nothing."
+unfoldable pub receives : ℕ → Bool
+receives operation = either (eqb operation 0) (either (eqb operation 2) (eqb operation 4))
+
+unfoldable pub sends : ℕ → Bool
+sends operation = either (eqb operation 1) (eqb operation 5)
+
+unfoldable pub ends : ℕ → Bool
+ends operation = either (eqb operation 6) (eqb operation 7)
+
+-- the entry covers the slots from its start, as many as its length
+unfoldable pub covers : Entry → ℕ → Bool
+covers e slot = both (leb (e .start) slot) (ltb slot (e .start + e .length))
+
+-- "the first entry before the end that covers it acts", of n records from k on
+pub data Acting : Type 0 where
+  none : Acting
+  acts : Entry → Acting
+
+unfoldable pub actingFrom : List ℕ → ℕ → ℕ → ℕ → Acting
+actingFrom rodl slot k zero = none
+actingFrom rodl slot k (suc n) =
+    let rest = actingFrom rodl slot (suc k) n in
+    cond (ends (entryAt rodl k .operation)) none (cond (covers (entryAt rodl k) slot) (acts (entryAt rodl k)) rest)
+
+-- "From record 1, each record is an entry"
+unfoldable pub acting : List ℕ → ℕ → Acting
+acting rodl slot = actingFrom rodl slot 1 (lastRecord rodl)
+
+-- "The byte place is 4 × record + align + (slot − start)."
+unfoldable pub bytePlace : Entry → ℕ → ℕ
+bytePlace e slot = recordSize * e .«record» + e .align + (slot - e .start)

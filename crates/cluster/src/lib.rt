@@ -1,0 +1,1 @@
+// The simulated cluster: one frame on a cluster file.
