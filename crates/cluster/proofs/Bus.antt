@@ -1,20 +1,24 @@
 -- Laws of the bus, for every sender rule: the mask bit by bit, the buffer byte by byte, and both after one more sender.
 -- Assumes nothing.
 use Prim.Native.Nat.{ℕ, zero, suc, _+_, _*_, _-_, _/_, _%_, _^_, _≤_, _<_}
-use native.Mathlib.Nat.{pow-suc, mul-add-div-right, mul-add-mod-self-right, mul-assoc, add-zero, zero-mul}
+use native.Mathlib.Nat.{pow-suc, mul-add-div-right, mul-add-mod-self-right, mul-assoc, add-zero, zero-add, zero-mul}
+use native.Mathlib.Numerals.{add-one}
 use native.Mathlib.Omega.{arith}
 use mathlib.Core.Path.{_≡_, refl, sym, ap, _∙_}
 use mathlib.Core.List.{List, [], _∷_, _++_, append-nil}
 use mathlib.Core.Bool.{Bool, true, false, cond}
 use lib.ListN.{length, getD, set, take, drop, length-append, length-drop, length-set}
-use lib.Seq.{set-at, getD-at, append-snoc, drop-nil}
-use lib.Bits.{bitAnd, and-le-l}
-use lib.Pow.{pow-pos, pow-add, high}
-use lib.Dec.{ltb}
-use borrow.Author.Tests.{ltb-true, ltb-false}
-use Rattle.file.specs.Bytes.{Byte}
-use Rattle.file.proofs.Order.{byCase}
+use lib.Seq.{set-at, getD-at, append-snoc, drop-nil, drop-cons, drop-set-lt}
+use lib.Bits.{bitAnd, bitOr, and-le-l, or-shifted-r}
+use lib.Pow.{pow-pos, pow-add, high, shl-exact}
+use lib.Dec.{ltb, leb}
+use borrow.Author.Tests.{ltb-true, ltb-false, le-leb, lt-leb, leb-true}
+use Rattle.file.specs.Bytes.{Byte, part}
+use Rattle.file.proofs.Order.{byCase, both-true, both-next, both-false-left}
 use Rattle.cluster.specs.Bus.{Senders, joined, busByte, anyone, maskBelow, slots, senderMask, slotBytes, answerBytes, answerIn, nobody}
+use Rattle.frame.specs.Check.{dataCheck}
+use Rattle.cluster.specs.Slaves.{readReply}
+use Rattle.cluster.specs.Carried.{said, sendersTo}
 
 -- ---- one slot
 
@@ -111,16 +115,11 @@ answer-alike buffer firework r t same = rw (slotBytes-alike r t 1 63 same)
 
 -- ---- one more sender
 
--- the bytes of a sender joined into those of the slots, first to first
+-- the bytes of a sender joined into those of the slots, first to first; `said` does so in a buffer, store by store
 unfoldable pub overlaid : List ℕ → List ℕ → List ℕ
 overlaid xs [] = xs
 overlaid [] (b ∷ bs) = []
 overlaid (x ∷ xs) (b ∷ bs) = bitAnd x b ∷ overlaid xs bs
-
--- the same in a buffer, from a place on, store by store
-unfoldable pub said : List ℕ → ℕ → List ℕ → List ℕ
-said buffer at [] = buffer
-said buffer at (b ∷ bs) = said (set buffer at (bitAnd (getD buffer at 0) b)) (suc at) bs
 
 pub said-length : (buffer : List ℕ) (at : ℕ) (bs : List ℕ) → length (said buffer at bs) ≡ length buffer
 unfolding said
@@ -166,3 +165,153 @@ answer-said buffer firework r t bs few more =
     said-overlaid (firework ∷ []) (slotBytes r 1 63) (drop slots buffer) 1 bs refl fits
     ∙ ap (λ (l : List ℕ). firework ∷ (l ++ drop slots buffer))
     (overlaid-slots r t 1 63 bs (λ j. let e : 1 + j ≡ suc j = omega arith in rw e (more j)))
+
+-- ---- slot by slot
+
+-- a buffer whose slots below n are filled by the rule, and which is as it was from n on
+pub record Filled (r : Senders) (firework : ℕ) (old : List ℕ) (n : ℕ) (new : List ℕ) : Type 0 where
+  pub some : 1 ≤ n
+  pub most : n ≤ slots
+  pub long : slots ≤ length old
+  pub filled : new ≡ (firework ∷ slotBytes r 1 (n - 1)) ++ drop n old
+
+slotBytes-snoc : (r : Senders) (s n : ℕ) → slotBytes r s (suc n) ≡ slotBytes r s n ++ (busByte (r (s + n)) ∷ [])
+unfolding slotBytes
+slotBytes-snoc r s zero = rw add-zero
+slotBytes-snoc r s (suc n) =
+    let e : suc s + n ≡ s + suc n = omega arith in
+    ap (λ (l : List ℕ). busByte (r s) ∷ l) (slotBytes-snoc r (suc s) n ∙ rw e)
+
+-- the firework stored first
+pub filled-start : (r : Senders) (firework : ℕ) (old : List ℕ) → slots ≤ length old → Filled r firework (set old 0 firework) 1 (set old 0 firework)
+unfolding slotBytes
+filled-start r firework [] long = absurd (omega arith)
+filled-start r firework (x ∷ xs) long = record { some = omega arith; most = omega arith; long = long; filled = refl }
+
+pub filled-length : {r : Senders} {firework : ℕ} {old : List ℕ} {n : ℕ} {new : List ℕ} → Filled r firework old n new → length new ≡ length old
+filled-length {r} {firework} {old} {n} f =
+    ap length (f .filled)
+    ∙ simp (length-append, slotBytes-length, length-drop) (omega (arith, f .some, f .most, f .long))
+
+pub filled-next : {r : Senders} {firework : ℕ} {old : List ℕ} {n b : ℕ} {new : List ℕ} → Filled r firework old n new → n < slots → b ≡ busByte (r n) → Filled r firework old (n + 1) (set new n b)
+filled-next {r} {firework} {old} {n} {b} {new} f more is =
+    let k : ℕ = n - 1 in
+    let one : n ≡ 1 + k = omega (arith, f .some) in
+    let front : List ℕ = firework ∷ slotBytes r 1 k in
+    let size : length front ≡ n = ap suc (slotBytes-length r 1 k) ∙ omega (arith, f .some) in
+    let here : n < length old = omega (arith, f .long) in
+    let cut : drop n old ≡ getD old n 0 ∷ drop (suc n) old = drop-cons old n 0 here in
+    let store : set (front ++ drop n old) n b ≡ front ++ (b ∷ drop (suc n) old) =
+    ap (λ (l : List ℕ). set (front ++ l) n b) cut ∙ set-at front (getD old n 0) (drop (suc n) old) b n size
+    in
+    let grown : slotBytes r 1 (n + 1 - 1) ≡ slotBytes r 1 k ++ (b ∷ []) =
+    let e : n + 1 - 1 ≡ suc k = omega (arith, f .some) in rw (e, slotBytes-snoc r 1 k, ← one, is) in
+    let next : suc n ≡ n + 1 = omega arith in
+    record {
+      some = omega arith;
+      most = omega arith;
+      long = f .long;
+      filled =
+        ap (λ (l : List ℕ). set l n b) (f .filled) ∙ store
+        ∙ rw (grown, ← next) (sym (ap (λ (l : List ℕ). firework ∷ l) (append-snoc (slotBytes r 1 k) b (drop (suc n) old))));
+    }
+
+pub filled-done : {r : Senders} {firework : ℕ} (old : List ℕ) {n : ℕ} {new : List ℕ} → Filled r firework (set old 0 firework) n new → slots ≤ n → new ≡ answerIn old (answerBytes firework r)
+unfolding answerIn answerBytes
+filled-done {r} {firework} old {n} f all =
+    let e : n ≡ 64 = omega (arith, f .most) in
+    f .filled ∙ rw (e, drop-set-lt 64 old 0 firework (omega arith))
+
+-- ---- the mask, slot by slot
+
+-- one more slot, above all others
+pub mask-next : (r : Senders) (n : ℕ) {m : ℕ} → m ≡ maskBelow r n → anyone (r n) ≡ 1 → 2 ^ n + m ≡ maskBelow r (n + 1)
+unfolding maskBelow
+mask-next r n m one = rw (add-one n, one, m) (omega arith)
+
+pub mask-silent : (r : Senders) (n : ℕ) {m : ℕ} → m ≡ maskBelow r n → anyone (r n) ≡ 0 → m ≡ maskBelow r (n + 1)
+unfolding maskBelow
+mask-silent r n m none = rw (add-one n, none, zero-mul, zero-add) m
+
+-- nothing more above the last slot that someone sent in
+pub mask-rest : (r : Senders) (n k : ℕ) → ((s : ℕ) → n ≤ s → anyone (r s) ≡ 0) → maskBelow r (n + k) ≡ maskBelow r n
+mask-rest r n zero quiet = rw add-zero
+mask-rest r n (suc k) quiet =
+    let e : n + suc k ≡ n + k + 1 = omega arith in
+    rw e (sym (mask-silent r (n + k) refl (quiet (n + k) (omega arith))) ∙ mask-rest r n k quiet)
+
+-- someone in each of the slots 1 to last
+pub sendersTo-yes : (last slot : ℕ) → 1 ≤ slot → slot ≤ last → anyone (sendersTo last slot) ≡ 1
+unfolding sendersTo anyone
+sendersTo-yes last slot low high = rw (both-true (le-leb 1 slot low) (le-leb slot last high))
+
+pub sendersTo-no : (last slot : ℕ) → (1 ≤ slot → last < slot) → anyone (sendersTo last slot) ≡ 0
+unfolding sendersTo anyone
+sendersTo-no last slot out =
+    byCase (leb 1 slot)
+    (λ e. rw (both-next (leb slot last) e, lt-leb slot last (out (leb-true 1 slot e))))
+    (λ e. rw (both-false-left (leb slot last) e))
+
+pub record Counting (last slot mask : ℕ) : Type 0 where
+  pub some : 1 ≤ slot
+  pub most : slot ≤ last + 1
+  pub counted : mask ≡ maskBelow (sendersTo last) slot
+
+zero-mask : (r : Senders) → 0 ≡ maskBelow r 0
+unfolding maskBelow
+zero-mask r = refl
+
+pub counting-start : (last : ℕ) → Counting last 1 0
+counting-start last =
+    record {
+      some = omega arith;
+      most = omega arith;
+      counted = mask-silent (sendersTo last) 0 (zero-mask (sendersTo last)) (sendersTo-no last 0 (λ h. absurd (omega arith)));
+    }
+
+pub counting-next : {last slot mask next : ℕ} → Counting last slot mask → slot ≤ last → next ≡ 2 ^ slot + mask → Counting last (slot + 1) next
+counting-next {last} {slot} c more is =
+    record {
+      some = omega arith;
+      most = omega arith;
+      counted = is ∙ mask-next (sendersTo last) slot (c .counted) (sendersTo-yes last slot (c .some) more);
+    }
+
+pub counting-done : {last slot mask : ℕ} → Counting last slot mask → last < slot → last < slots → mask ≡ senderMask (sendersTo last)
+unfolding senderMask
+counting-done {last} {slot} {mask} c past few =
+    let split : slot + (64 - slot) ≡ 64 = omega (arith, c .most) in
+    c .counted
+    ∙ sym (rw split at (mask-rest (sendersTo last) slot (64 - slot) (λ s above. sendersTo-no last s (λ _. omega arith))))
+
+pub mask-fits : {last slot mask : ℕ} → Counting last slot mask → mask < 2 ^ slot
+mask-fits {last} {slot} c = rw (c .counted) (mask-below (sendersTo last) slot)
+
+-- a bit above all others, joined by or
+pub or-above : {n m : ℕ} → n < slots → m < 2 ^ n → bitOr m ((1 * 2 ^ n) % 2 ^ 64) ≡ 2 ^ n + m
+or-above {n} {m} few below =
+    rw (shl-exact {a = 1} 1 n 64 (omega arith) (omega arith), or-shifted-r 1 n m below) (omega arith)
+
+-- the byte of a slot in which nobody sends
+pub nobody-byte : (slot : ℕ) → 255 ≡ busByte (nobody slot)
+unfolding busByte joined nobody
+nobody-byte slot = refl
+
+-- ---- a sender's record
+
+part-cons : (f : List ℕ) (p q n : ℕ) → p < length f → q ≡ suc p → part f p (suc n) ≡ getD f p 0 ∷ part f q n
+unfolding part
+part-cons f p q n h e = rw (drop-cons f p 0 h, e)
+
+part-none : (f : List ℕ) (p : ℕ) → part f p 0 ≡ []
+unfolding part
+part-none f p = refl
+
+pub part-four : (f : List ℕ) (p : ℕ) → p + 4 ≤ length f → part f p 4 ≡ getD f p 0 ∷ getD f (p + 1) 0 ∷ getD f (p + 2) 0 ∷ getD f (p + 3) 0 ∷ []
+part-four f p h =
+    rw (part-cons f p (p + 1) 3 (omega arith) (omega arith), part-cons f (p + 1) (p + 2) 2 (omega arith) (omega arith), part-cons f (p + 2) (p + 3) 1 (omega arith) (omega arith), part-cons f (p + 3) (p + 4) 0 (omega arith) (omega arith), part-none f (p + 4))
+
+pub record-said : (b f : List ℕ) (p check : ℕ) → p + 4 ≤ length f → check ≡ dataCheck (getD f p 0 ∷ getD f (p + 1) 0 ∷ getD f (p + 2) 0 ∷ getD f (p + 3) 0 ∷ []) →
+    said b 1 (getD f p 0 ∷ getD f (p + 1) 0 ∷ getD f (p + 2) 0 ∷ getD f (p + 3) 0 ∷ check ∷ []) ≡ said b 1 (readReply (part f p 4))
+unfolding readReply
+record-said b f p check long is = rw (part-four f p long, is)

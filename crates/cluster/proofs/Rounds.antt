@@ -10,7 +10,7 @@ use mathlib.Core.Bool.{Bool, true, false, cond}
 use lib.ListN.{length, getD, take}
 use lib.Dec.{eqb, leb}
 use borrow.Author.Tests.{eqb-true, eq-eqb, ne-eqb, leb-false, ltb-false}
-use Rattle.file.specs.Bytes.{Byte, Bytes}
+use Rattle.file.specs.Bytes.{Byte, Bytes, All}
 use Rattle.file.specs.Order.{firstOf, both}
 use Rattle.file.specs.Layout.{offsetWidth, editionPlace}
 use Rattle.file.specs.Cluster.{Slave, Cluster, bytesIn, configuration, physicalName, operationOf, readOperation, broadcast}
@@ -21,16 +21,17 @@ use Rattle.file.specs.Legal.{LegalPending, Legal}
 use Rattle.file.specs.Places.{withEpoch, withPending}
 use Rattle.file.specs.Accepted.{Becomes}
 use Rattle.file.proofs.Order.{byCase, clash, first-none, both-true}
-use Rattle.file.proofs.Bytes.{byte-at, bytes-part}
+use Rattle.file.proofs.Bytes.{byte-at}
 use Rattle.file.proofs.Accepted.{legal-becomes, accepted-becomes}
 use Rattle.file.proofs.AcceptedFacts as AcceptedFacts
 use Rattle.file.proofs.Edition.{unknown-edition}
 use Rattle.frame.specs.Fireworks.{Round, multipartner, msd, msa, none}
+use Rattle.frame.specs.Frames.{between}
 use Rattle.frame.specs.Grounds.{noOperation, broadcastRead}
 use Rattle.cluster.specs.Bus.{slots}
 use Rattle.cluster.specs.Slaves.{withAddress, epochRaised, pendingOperation}
 use Rattle.cluster.specs.Multipartner.{clusterBelow}
-use Rattle.cluster.specs.Grounds.{shortAnswer, roundBy, noFirework, wrongLengthOn, wrongCheckOn, noOperationOn, broadcastReadOn, groundsOn, frameGround, dataOf}
+use Rattle.cluster.specs.Grounds.{shortAnswer, roundBy, noFirework, wrongLengthOn, wrongCheckOn, noOperationOn, broadcastReadOn, groundsOn, frameGround}
 use Rattle.cluster.specs.Round.{Effect, Answer, refused, carried, addressEffect, dataEffect, multipartnerEffect, effectOf, frameOn, carriedBy, bufferBy, exchange, firstGround, roundGround, roundOn}
 use Rattle.cluster.proofs.Kept.{ClusterKept, kept-refl, kept-trans, kept-epoch, kept-raised, kept-pending, kept-after, kept-below}
 
@@ -88,10 +89,13 @@ pub multipartner-kept : (c : Cluster) (r : ℕ) → ClusterKept c (multipartnerE
 unfolding multipartnerEffect
 multipartner-kept c r = kept-trans (kept-raised c) (kept-below r (epochRaised c) slots)
 
+between-bytes : {frame : List ℕ} → Bytes frame → Bytes (between frame)
+between-bytes bs = All.both (byte-at bs 1) (All.both (byte-at bs 2) (All.both (byte-at bs 3) (All.both (byte-at bs 4) All.none)))
+
 effect-kept : (c : Cluster) (round : Round) (frame : List ℕ) → Bytes frame → Fits c round frame → ClusterKept c (effectOf c round frame .after)
-unfolding effectOf addressEffect noOperationOn broadcastReadOn dataOf
+unfolding effectOf addressEffect noOperationOn broadcastReadOn
 effect-kept c (multipartner r) frame bs f = multipartner-kept c r
-effect-kept c msd frame bs f = data-kept c (bytes-part bs 1 4)
+effect-kept c msd frame bs f = data-kept c (between-bytes bs)
 effect-kept c msa frame bs f =
     address-kept c (getD frame 1 0) (getD frame 2 0) (getD frame 3 0) (getD frame 4 0)
     (byte-at bs 1) (byte-at bs 2) (byte-at bs 3) (byte-at bs 4) (f .operation) (f .broadcastRead)

@@ -12,10 +12,11 @@ use Rattle.file.specs.Places.{noSlave, slaveOf, putInSlave, withSlaves, withEpo
 use Rattle.file.proofs.Order.{byCase}
 use Rattle.file.proofs.Puts.{inSlave-other}
 use Rattle.frame.specs.Fireworks.{Round, multipartner, msd, msa, none}
+use Rattle.frame.specs.Frames.{between}
 use Rattle.cluster.specs.Bus.{busByte, slots}
 use Rattle.cluster.specs.Slaves.{withAddress, epochRaised, Operation, nothing, reading, writing, comparing, baptizing, pendingOperation, takesWrite, takesName, named, replaced, slaveAfter, slavesAfter}
 use Rattle.cluster.specs.Multipartner.{storesAt, storedThere, receivedIn, sentIn, clusterBelow}
-use Rattle.cluster.specs.Grounds.{roundBy, dataOf}
+use Rattle.cluster.specs.Grounds.{roundBy}
 use Rattle.cluster.specs.Round.{addressEffect, dataEffect, multipartnerEffect, effectOf, frameOn}
 use Rattle.cluster.proofs.Kept.{storesAt-stores, stored-other}
 
@@ -90,7 +91,7 @@ after-other {n} {o} leaves bytes c = filesOf-map n (slaveAfter o bytes) (slaveAf
 effect-other : (n : ℕ) → Unstored n → (c : Cluster) → Leaves n (pendingOperation c) → (round : Round) (frame : List ℕ) → filesOf n (effectOf c round frame .after .slaves) ≡ filesOf n (c .slaves)
 unfolding effectOf addressEffect withAddress withPending dataEffect multipartnerEffect epochRaised withEpoch
 effect-other n out c leaves (multipartner r) frame = below-other r (epochRaised c) slots n out
-effect-other n out c leaves msd frame = after-other leaves (dataOf frame) (epochRaised c)
+effect-other n out c leaves msd frame = after-other leaves (between frame) (epochRaised c)
 effect-other n out c leaves msa frame = refl
 effect-other n out c leaves none frame = refl
 

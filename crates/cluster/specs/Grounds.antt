@@ -2,16 +2,15 @@
 -- "Fireworks and frames").
 use Prim.Native.Nat.{ℕ}
 use mathlib.Core.List.{List, [], _∷_}
-use mathlib.Core.Bool.{Bool, true, false, cond, not}
+use mathlib.Core.Bool.{Bool, true, false, cond}
 use lib.ListN.{length, getD}
 use lib.Dec.{eqb, ltb}
-use Rattle.file.specs.Bytes.{part}
-use Rattle.file.specs.Order.{Ground, firstOf, both, either}
+use Rattle.file.specs.Order.{Ground, firstOf, both}
 use Rattle.file.specs.Cluster.{Cluster, operationOf, writeOperation}
 use Rattle.frame.specs.Fireworks.{Round, multipartner, msd, msa, none, roundOf}
-use Rattle.frame.specs.Check.{dataCheck}
+use Rattle.frame.specs.Check.{addressCheck, dataCheck}
 use Rattle.frame.specs.Frames.{frameSize}
-use Rattle.frame.specs.Grounds.{wrongCheck, noOperation, broadcastRead}
+use Rattle.frame.specs.Grounds.{wrongLength, wrongCheck, noOperation, broadcastRead}
 use Rattle.cluster.specs.Bus.{slots}
 
 -- 9. "The answer buffer is shorter than 64 bytes"
@@ -42,20 +41,13 @@ lengthFor c msa = frameSize
 lengthFor c none = 0
 
 unfoldable pub wrongLengthOn : Cluster → Round → List ℕ → Bool
-wrongLengthOn c round frame = not (eqb (length frame) (lengthFor c round))
-
--- the four data bytes of an MSD
-unfoldable pub dataOf : List ℕ → List ℕ
-dataOf frame = part frame 1 4
+wrongLengthOn c round frame = wrongLength (lengthFor c round) frame
 
 -- 12. "The check byte is wrong."
-unfoldable pub wrongDataCheck : List ℕ → Bool
-wrongDataCheck frame = not (eqb (getD frame 5 0) (dataCheck (dataOf frame)))
-
 unfoldable pub wrongCheckOn : Cluster → Round → List ℕ → Bool
 wrongCheckOn c (multipartner r) frame = false
-wrongCheckOn c msd frame = both (writePending c) (wrongDataCheck frame)
-wrongCheckOn c msa frame = wrongCheck frame
+wrongCheckOn c msd frame = both (writePending c) (wrongCheck dataCheck frame)
+wrongCheckOn c msa frame = wrongCheck addressCheck frame
 wrongCheckOn c none frame = false
 
 -- 13. "An address frame .. has operation 3"

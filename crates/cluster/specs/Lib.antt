@@ -5,3 +5,4 @@ pub mod Entries
 pub mod Multipartner
 pub mod Grounds
 pub mod Round
+pub mod Carried

@@ -11,10 +11,11 @@ use Rattle.file.specs.Encode.{encode}
 use Rattle.file.specs.Decode.{decode}
 use Rattle.file.specs.Grounds.{fileGround}
 use Rattle.frame.specs.Fireworks.{Round, multipartner, msd, msa, none}
+use Rattle.frame.specs.Frames.{between}
 use Rattle.cluster.specs.Bus.{Senders, slots, senderMask, answerBytes, answerIn, nobody}
 use Rattle.cluster.specs.Slaves.{withAddress, epochRaised, pendingOperation, sentTo, slavesAfter}
 use Rattle.cluster.specs.Multipartner.{clusterBelow, sentDuring}
-use Rattle.cluster.specs.Grounds.{shortAnswer, roundBy, dataOf, frameGround}
+use Rattle.cluster.specs.Grounds.{shortAnswer, roundBy, frameGround}
 
 -- what an accepted frame does: who sends in each slot, and what the cluster becomes
 pub record Effect : Type 0 where
@@ -41,7 +42,7 @@ multipartnerEffect c round =
 
 unfoldable pub effectOf : Cluster → Round → List ℕ → Effect
 effectOf c (multipartner r) frame = multipartnerEffect c r
-effectOf c msd frame = dataEffect c (dataOf frame)
+effectOf c msd frame = dataEffect c (between frame)
 effectOf c msa frame = addressEffect c frame
 effectOf c none frame = record { senders = nobody; after = c }
 

@@ -1,1 +1,2 @@
 // The simulated cluster: one frame on a cluster file.
+pub mod answer;
