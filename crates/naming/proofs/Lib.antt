@@ -13,3 +13,5 @@ pub mod Abstract
 pub mod Demand
 pub mod FromFile
 pub mod SlaveViews
+pub mod SlaveRounds
+pub mod StepFrames
