@@ -15,3 +15,4 @@ pub mod FromFile
 pub mod SlaveViews
 pub mod SlaveRounds
 pub mod StepFrames
+pub mod StepRound
