@@ -16,3 +16,4 @@ pub mod SlaveViews
 pub mod SlaveRounds
 pub mod StepFrames
 pub mod StepRound
+pub mod ByteLaws

@@ -54,6 +54,12 @@ pub view-same :
     (s t : Slave) → bytesIn t configuration ≡ bytesIn s configuration → bytesIn t documentation ≡ bytesIn s documentation → viewOf t ≡ viewOf s
 view-same s t c d = rw (view-by s, view-by t, c, d)
 
+-- and so with the physical name alone
+pub view-alike :
+  (s t : Slave) → bytesIn t configuration ≡ bytesIn s configuration → physicalName t ≡ physicalName s → viewOf t ≡ viewOf s
+unfolding viewOf logicalName newLogicalName recordOf
+view-alike s t c d = rw (c, d)
+
 module _ (l d : List ℕ) (long : 16 ≤ length l) where
   -- the two halves are the comparison value
   pub halves-by : numberOf (part l 8 8) ≡ comparisonOf (viewBy l d)

@@ -4,3 +4,4 @@ pub mod Run
 pub mod Step
 pub mod Account
 pub mod Figures
+pub mod Demand
