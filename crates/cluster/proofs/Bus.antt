@@ -212,8 +212,8 @@ filled-next {r} {firework} {old} {n} {b} {new} f more is =
       most = omega arith;
       long = f .long;
       filled =
-        ap (λ (l : List ℕ). set l n b) (f .filled) ∙ store
-        ∙ rw (grown, ← next) (sym (ap (λ (l : List ℕ). firework ∷ l) (append-snoc (slotBytes r 1 k) b (drop (suc n) old))));
+          ap (λ (l : List ℕ). set l n b) (f .filled) ∙ store
+          ∙ rw (grown, ← next) (sym (ap (λ (l : List ℕ). firework ∷ l) (append-snoc (slotBytes r 1 k) b (drop (suc n) old))));
     }
 
 pub filled-done : {r : Senders} {firework : ℕ} (old : List ℕ) {n : ℕ} {new : List ℕ} → Filled r firework (set old 0 firework) n new → slots ≤ n → new ≡ answerIn old (answerBytes firework r)

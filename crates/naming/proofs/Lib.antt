@@ -17,3 +17,4 @@ pub mod SlaveRounds
 pub mod StepFrames
 pub mod StepRound
 pub mod ByteLaws
+pub mod OverBytes

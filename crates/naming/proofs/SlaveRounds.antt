@@ -1,32 +1,32 @@
 -- What the cluster's rules make of a slave in a round of the naming run, told by its view: it changes as the view does, and sends
 -- in slot 1 where the view says so.
 -- Assumes nothing.
-use Prim.Native.Nat.{ℕ, zero, suc, _+_, _*_, _^_, _≤_, _<_}
-use mathlib.Core.Path.{_≡_, refl, sym, ap, _∙_, subst}
+use Prim.Native.Nat.{ℕ, suc, _+_, _*_, _≤_}
+use mathlib.Core.Path.{_≡_, refl, sym, ap, _∙_}
 use mathlib.Core.List.{List, [], _∷_, _++_, map}
 use mathlib.Core.Bool.{Bool, true, false, cond, not}
 use native.Mathlib.Omega.{arith}
-use lib.ListN.{length, getD, set, take, drop}
+use lib.ListN.{length, getD}
 use lib.Seq.{sets}
 use lib.Dec.{eqb, leb}
-use borrow.Author.Tests.{eqb-true, eqb-false, eq-eqb, ne-eqb, le-leb}
+use borrow.Author.Tests.{ne-eqb, le-leb}
 use Rattle.file.specs.Bytes.{All, none, both as also, bytesOf}
 use Rattle.file.specs.Order.{both, either}
 use Rattle.file.specs.Layout.{recordSize}
-use Rattle.file.specs.Cluster.{Slave, bytesIn, configuration, documentation, hasRecord, recordOf, lastRecord, physicalName, logicalName, newLogicalName, comparisonValue, unnamed, broadcast}
+use Rattle.file.specs.Cluster.{Slave, bytesIn, configuration, documentation, hasRecord, recordOf, lastRecord, logicalName, newLogicalName, comparisonValue, unnamed, broadcast}
 use Rattle.file.specs.Legal.{LegalSlave}
 use Rattle.file.specs.Places.{putInSlave}
-use Rattle.file.proofs.Order.{byCase, both-next, both-true}
+use Rattle.file.proofs.Order.{byCase}
 use Rattle.file.proofs.Puts.{inSlave-same, inSlave-other}
 use Rattle.cluster.specs.Bus.{anyone}
 use Rattle.cluster.specs.Slaves.{operationIn, executionOf, addresses, addressed, answersRead, readReply, answersCompare, replyTo, inSlot, sentTo, replaced, mayWrite, takesWrite, takesName, named, slaveAfter}
 use Rattle.cluster.specs.Slaves as Slaves
 use Rattle.cluster.proofs.Untouched.{replaced-other}
 use Rattle.frame.specs.Frames.{pb2Of}
-use Rattle.naming.specs.View.{SlaveView, Operation, poll, writeName, writeHigh, writeLow, compare, baptize, Sent, sent, atUnnamed, viewOf, isUnnamed, comparisonOf, told, change, replies, someone, answers, changeAll}
+use Rattle.naming.specs.View.{SlaveView, Operation, poll, writeName, writeHigh, writeLow, compare, baptize, sent, atUnnamed, viewOf, isUnnamed, comparisonOf, told, change, replies, someone, answers, changeAll}
 use Rattle.naming.proofs.Facts.{Fit}
 use Rattle.naming.proofs.Abstract.{Sendable, of-poll, of-name, of-high, of-low, of-compare, of-baptize}
-use Rattle.naming.proofs.SlaveViews.{viewBy, view-by, view-same, halves-by, wrote-name, wrote-high, wrote-low, took-name}
+use Rattle.naming.proofs.SlaveViews.{viewBy, view-by, halves-by, wrote-name, wrote-high, wrote-low, took-name}
 
 -- the rules' operation of each of the run's rounds
 unfoldable pub carriedOut : Operation → Slaves.Operation
@@ -101,16 +101,16 @@ writes s r l some most =
 
 -- a write changes the view of those it reaches
 write-changes :
-  (s : Slave) (r : ℕ) (bs : List ℕ) (o : Operation) → LegalSlave s → (r ≡ 0 → ⊥) → r ≤ 3 →
-  viewBy (sets (bytesIn s configuration) (recordSize * r) bs) (bytesIn s documentation) ≡ told o (viewBy (bytesIn s configuration) (bytesIn s documentation)) →
-  viewOf (slaveAfter (Slaves.writing unnamed configuration r) bs s) ≡ change o (viewOf s)
+    (s : Slave) (r : ℕ) (bs : List ℕ) (o : Operation) → LegalSlave s → (r ≡ 0 → ⊥) → r ≤ 3 →
+    viewBy (sets (bytesIn s configuration) (recordSize * r) bs) (bytesIn s documentation) ≡ told o (viewBy (bytesIn s configuration) (bytesIn s documentation)) →
+    viewOf (slaveAfter (Slaves.writing unnamed configuration r) bs s) ≡ change o (viewOf s)
 unfolding slaveAfter change
 write-changes s r bs o l some most e =
     rw (writes s r l some most)
-      (byCase {P = viewOf (cond (isUnnamed (viewOf s)) (replaced s configuration (recordSize * r) bs) s) ≡ cond (isUnnamed (viewOf s)) (told o (viewOf s)) (viewOf s)}
-        (isUnnamed (viewOf s))
-        (λ t. rw t (replaced-view s (recordSize * r) bs ∙ e ∙ ap (told o) (sym (view-by s))))
-        (λ f. rw f))
+    (byCase {P = viewOf (cond (isUnnamed (viewOf s)) (replaced s configuration (recordSize * r) bs) s) ≡ cond (isUnnamed (viewOf s)) (told o (viewOf s)) (viewOf s)}
+    (isUnnamed (viewOf s))
+    (λ t. rw t (replaced-view s (recordSize * r) bs ∙ e ∙ ap (told o) (sym (view-by s))))
+    (λ f. rw f))
 
 unchanged : (b : Bool) (v : SlaveView) → v ≡ cond b v v
 unchanged true v = refl
@@ -118,24 +118,24 @@ unchanged false v = refl
 
 -- a new logical name taken
 named-view :
-  (s : Slave) → LegalSlave s →
-  viewOf (named s) ≡
-  record {
-    physical = viewOf s .physical;
-    logical = viewOf s .newName;
-    newName = viewOf s .newName;
-    high = viewOf s .high;
-    low = viewOf s .low;
-  }
+    (s : Slave) → LegalSlave s →
+    viewOf (named s) ≡
+    record {
+      physical = viewOf s .physical;
+      logical = viewOf s .newName;
+      newName = viewOf s .newName;
+      high = viewOf s .high;
+      low = viewOf s .low;
+    }
 unfolding named newLogicalName
 named-view s l =
     view-by (putInSlave s configuration 7 (getD (bytesIn s configuration) 6 0))
     ∙ rw (
-        inSlave-same configuration 7 (getD (bytesIn s configuration) 6 0) s,
-        inSlave-other configuration 7 (getD (bytesIn s configuration) 6 0) s documentation documents-differ,
-        view-by s,
-      )
-      (took-name (bytesIn s configuration) (bytesIn s documentation) (configured l))
+      inSlave-same configuration 7 (getD (bytesIn s configuration) 6 0) s,
+      inSlave-other configuration 7 (getD (bytesIn s configuration) 6 0) s documentation documents-differ,
+      view-by s,
+    )
+    (took-name (bytesIn s configuration) (bytesIn s documentation) (configured l))
 
 names-taken : (s : Slave) → LegalSlave s → takesName unnamed s ≡ both (isUnnamed (viewOf s)) (eqb (viewOf s .physical) (comparisonOf (viewOf s)))
 unfolding takesName
@@ -145,26 +145,26 @@ baptize-changes : (s : Slave) → LegalSlave s → viewOf (slaveAfter (Slaves.ba
 unfolding slaveAfter change told both
 baptize-changes s l =
     rw (names-taken s l)
-      (byCase (isUnnamed (viewOf s))
-        (λ t.
-          rw t
-            (byCase (eqb (viewOf s .physical) (comparisonOf (viewOf s))) (λ y. rw y (named-view s l)) (λ n. rw n)))
-        (λ f. rw f))
+    (byCase (isUnnamed (viewOf s))
+    (λ t.
+    rw t
+    (byCase (eqb (viewOf s .physical) (comparisonOf (viewOf s))) (λ y. rw y (named-view s l)) (λ n. rw n)))
+    (λ f. rw f))
 
 -- the slave's view after a round of the run
 pub slave-changes :
-  {o : Operation} → Sendable o → (s : Slave) → LegalSlave s → viewOf (slaveAfter (carriedOut o) (sent o .content) s) ≡ change o (viewOf s)
+    {o : Operation} → Sendable o → (s : Slave) → LegalSlave s → viewOf (slaveAfter (carriedOut o) (sent o .content) s) ≡ change o (viewOf s)
 unfolding carriedOut sent atUnnamed
 slave-changes (of-poll f) s l = unfold slaveAfter change told in unchanged (isUnnamed (viewOf s)) (viewOf s)
 slave-changes (of-name {n} f) s l =
     write-changes s 1 (0 ∷ 0 ∷ n ∷ unnamed ∷ []) (writeName n) l (λ (z : 1 ≡ 0). omega arith) (omega arith)
-      (wrote-name (bytesIn s configuration) (bytesIn s documentation) (configured l) n)
+    (wrote-name (bytesIn s configuration) (bytesIn s documentation) (configured l) n)
 slave-changes (of-high {h} k) s l =
     write-changes s 2 (bytesOf 4 h) (writeHigh h) l (λ (z : 2 ≡ 0). omega arith) (omega arith)
-      (wrote-high (bytesIn s configuration) (bytesIn s documentation) (configured l) h k)
+    (wrote-high (bytesIn s configuration) (bytesIn s documentation) (configured l) h k)
 slave-changes (of-low {l = h} k) s l =
     write-changes s 3 (bytesOf 4 h) (writeLow h) l (λ (z : 3 ≡ 0). omega arith) (omega arith)
-      (wrote-low (bytesIn s configuration) (bytesIn s documentation) (configured l) h k)
+    (wrote-low (bytesIn s configuration) (bytesIn s documentation) (configured l) h k)
 slave-changes of-compare s l = unfold slaveAfter change told in unchanged (isUnnamed (viewOf s)) (viewOf s)
 slave-changes of-baptize s l = baptize-changes s l
 
@@ -200,13 +200,13 @@ pub slave-sends : {o : Operation} → Sendable o → (s : Slave) → LegalSlave 
 unfolding carriedOut replyTo
 slave-sends (of-poll {n} f) s l =
     rw (poll-sends n s f l)
-      (byCase (replies (poll n) (viewOf s)) (λ t. rw t (read-begins (recordOf s documentation 1))) (λ e. rw e (unfold inSlot anyone in refl)))
+    (byCase (replies (poll n) (viewOf s)) (λ t. rw t (read-begins (recordOf s documentation 1))) (λ e. rw e (unfold inSlot anyone in refl)))
 slave-sends (of-name f) s l = unfold inSlot anyone replies in refl
 slave-sends (of-high k) s l = unfold inSlot anyone replies in refl
 slave-sends (of-low k) s l = unfold inSlot anyone replies in refl
 slave-sends of-compare s l =
     rw (compare-sends s l)
-      (byCase (replies compare (viewOf s)) (λ t. rw t (unfold inSlot anyone in refl)) (λ e. rw e (unfold inSlot anyone in refl)))
+    (byCase (replies compare (viewOf s)) (λ t. rw t (unfold inSlot anyone in refl)) (λ e. rw e (unfold inSlot anyone in refl)))
 slave-sends of-baptize s l = unfold inSlot anyone replies in refl
 
 -- ---- all slaves
@@ -225,8 +225,8 @@ slaves-send {o} f (also {a = s} {l = ss} l h) =
     someone-of (inSlot (replyTo (carriedOut o) s) 1) (sentTo (carriedOut o) ss 1) (replies o (viewOf s)) (answers o (map viewOf ss)) (slave-sends f s l) (slaves-send f h)
 
 pub slaves-change :
-  {o : Operation} → Sendable o → {ss : List Slave} → All LegalSlave ss →
-  map viewOf (map (slaveAfter (carriedOut o) (sent o .content)) ss) ≡ changeAll o (map viewOf ss)
+    {o : Operation} → Sendable o → {ss : List Slave} → All LegalSlave ss →
+    map viewOf (map (slaveAfter (carriedOut o) (sent o .content)) ss) ≡ changeAll o (map viewOf ss)
 unfolding changeAll
 slaves-change f none = refl
 slaves-change f (also {a = s} l h) = rw (slave-changes f s l, slaves-change f h)

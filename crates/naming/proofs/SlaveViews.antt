@@ -56,7 +56,7 @@ view-same s t c d = rw (view-by s, view-by t, c, d)
 
 -- and so with the physical name alone
 pub view-alike :
-  (s t : Slave) → bytesIn t configuration ≡ bytesIn s configuration → physicalName t ≡ physicalName s → viewOf t ≡ viewOf s
+    (s t : Slave) → bytesIn t configuration ≡ bytesIn s configuration → physicalName t ≡ physicalName s → viewOf t ≡ viewOf s
 unfolding viewOf logicalName newLogicalName recordOf
 view-alike s t c d = rw (c, d)
 

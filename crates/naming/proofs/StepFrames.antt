@@ -1,34 +1,29 @@
 -- The two frames of a round of the naming run: bytes, accepted, and what they do to a legal cluster.
 -- Assumes nothing.
-use Prim.Native.Nat.{ℕ, zero, suc, _+_, _*_, _/_, _%_, _^_, _≤_, _<_}
-use mathlib.Core.Path.{_≡_, refl, sym, ap, _∙_, subst}
-use mathlib.Core.List.{List, [], _∷_, _++_, map}
-use mathlib.Core.Bool.{Bool, true, false, cond, not}
+use Prim.Native.Nat.{ℕ, _≤_}
+use mathlib.Core.Path.{_≡_, refl}
+use mathlib.Core.List.{List, [], _∷_, map}
+use mathlib.Core.Bool.{false, not}
 use native.Mathlib.Omega.{arith}
-use lib.ListN.{length, getD}
-use lib.Dec.{eqb, leb}
-use borrow.Author.Tests.{eqb-true, eqb-false, eq-eqb, ne-eqb}
-use Rattle.file.specs.Bytes.{Byte, Bytes, All, none, both as also, bytesOf, part}
+use lib.Dec.{eqb}
+use borrow.Author.Tests.{eq-eqb, ne-eqb}
+use Rattle.file.specs.Bytes.{Byte, Bytes, none, both as also, bytesOf}
 use Rattle.file.specs.Order.{both}
-use Rattle.file.specs.Cluster.{Slave, Cluster, unnamed, broadcast, operationOf, fileNumberOf, readOperation, writeOperation}
-use Rattle.file.specs.Legal.{LegalSlave, Legal}
+use Rattle.file.specs.Cluster.{Slave, Cluster, unnamed, broadcast, operationOf}
 use Rattle.file.specs.Places.{withSlaves, withEpoch, withPending}
-use Rattle.file.proofs.Order.{byCase, both-next}
 use Rattle.file.proofs.Bytes.{bytes-bytesOf}
-use Rattle.frame.specs.Fireworks.{Round, msd, msa, roundOf, roundIn, dataFirework}
+use Rattle.frame.specs.Fireworks.{msd, msa, roundOf, roundIn, dataFirework}
 use Rattle.frame.specs.Check.{addressCheck, dataCheck}
 use Rattle.frame.specs.Frames.{frameOf, pb2Of, addressBytes, addressFrame, dataFrame, between}
 use Rattle.frame.specs.Grounds.{wrongLength, wrongCheck, noOperation, broadcastRead}
 use Rattle.frame.proofs.Written.{address-bytes, data-bytes}
-use Rattle.cluster.specs.Bus.{senderMask}
-use Rattle.cluster.specs.Slaves.{withAddress, nextEpoch, epochRaised, pendingOperation, operationIn, sentTo, slavesAfter, slaveAfter}
+use Rattle.cluster.specs.Slaves.{withAddress, nextEpoch, epochRaised, pendingOperation, sentTo, slavesAfter, slaveAfter}
 use Rattle.cluster.specs.Grounds.{roundBy, noFirework, writePending, lengthFor, wrongLengthOn, wrongCheckOn, noOperationOn, broadcastReadOn, frameGround}
-use Rattle.cluster.specs.Round.{Effect, addressEffect, dataEffect, effectOf, frameOn}
+use Rattle.cluster.specs.Round.{addressEffect, dataEffect, effectOf, frameOn}
 use Rattle.cluster.proofs.Kept.{nextEpoch-byte}
-use Rattle.cluster.proofs.Rounds.{Fits, fits-none}
-use Rattle.naming.specs.View.{Operation, poll, writeName, writeHigh, writeLow, compare, baptize, Sent, sent, atUnnamed, half}
+use Rattle.cluster.proofs.Rounds.{fits-none}
+use Rattle.naming.specs.View.{Operation, poll, writeName, writeHigh, writeLow, compare, baptize, Sent, sent, atUnnamed}
 use Rattle.naming.specs.Step.{addressSent, dataSent}
-use Rattle.naming.proofs.Facts.{Fit}
 use Rattle.naming.proofs.Abstract.{Sendable, of-poll, of-name, of-high, of-low, of-compare, of-baptize}
 use Rattle.naming.proofs.SlaveRounds.{carriedOut, operation-sent}
 
@@ -77,18 +72,18 @@ module _ (c : Cluster) {o : Operation} (f : Sendable o) where
   unfolding frameGround
   address-accepted =
       rw address-round
-        (fits-none c msa (addressSent c (sent o))
-          (record {
-            firework = unfold noFirework in refl;
-            size = unfold wrongLengthOn wrongLength lengthFor addressSent addressFrame addressBytes frameOf in refl;
-            check = address-check;
-            operation = unfold noOperationOn addressSent addressFrame addressBytes frameOf in (sent-fits f .0);
-            broadcastRead = unfold broadcastReadOn addressSent addressFrame addressBytes frameOf in (sent-fits f .1);
-          }))
+      (fits-none c msa (addressSent c (sent o))
+      (record {
+        firework = unfold noFirework in refl;
+        size = unfold wrongLengthOn wrongLength lengthFor addressSent addressFrame addressBytes frameOf in refl;
+        check = address-check;
+        operation = unfold noOperationOn addressSent addressFrame addressBytes frameOf in (sent-fits f .0);
+        broadcastRead = unfold broadcastReadOn addressSent addressFrame addressBytes frameOf in (sent-fits f .1);
+      }))
 
   pub address-after :
-    frameOn c (addressSent c (sent o)) .after ≡
-    withAddress c (nextEpoch (c .epoch)) (sent o .name) (pb2Of (sent o .file) (sent o .operation)) (sent o .«record»)
+      frameOn c (addressSent c (sent o)) .after ≡
+      withAddress c (nextEpoch (c .epoch)) (sent o .name) (pb2Of (sent o .file) (sent o .operation)) (sent o .«record»)
   unfolding frameOn
   address-after = rw address-round (unfold effectOf addressEffect addressSent addressFrame addressBytes frameOf in refl)
 
@@ -97,7 +92,7 @@ module _ (c : Cluster) {o : Operation} (f : Sendable o) where
   address-sent-bytes =
       let b : SentBytes (sent o) = sent-bytes f in
       address-bytes (nextEpoch (c .epoch)) (sent o .name) (sent o .file) (sent o .operation) (sent o .«record») (nextEpoch-byte (c .epoch)) (b .name)
-        (b .file) (b .operation) (b .«record»)
+      (b .file) (b .operation) (b .«record»)
 
 -- ---- the data frame
 
@@ -110,6 +105,7 @@ name-bytes n b = also zero-byte (also zero-byte (also b (also most-byte none)))
   where
     zero-byte : Byte 0
     zero-byte = omega arith
+
     most-byte : Byte unnamed
     most-byte = omega arith
 
@@ -157,14 +153,14 @@ module _ (c : Cluster) where
   unfolding frameGround
   data-accepted o =
       rw (data-round o)
-        (fits-none (asked c o) msd (dataSent (sent o))
-          (record {
-            firework = unfold noFirework in refl;
-            size = data-size o;
-            check = data-check o;
-            operation = unfold noOperationOn in refl;
-            broadcastRead = unfold broadcastReadOn in refl;
-          }))
+      (fits-none (asked c o) msd (dataSent (sent o))
+      (record {
+        firework = unfold noFirework in refl;
+        size = data-size o;
+        check = data-check o;
+        operation = unfold noOperationOn in refl;
+        broadcastRead = unfold broadcastReadOn in refl;
+      }))
 
   asked-pending : (o : Operation) → pendingOperation (asked c o) ≡ carriedOut o
   unfolding pendingOperation asked withAddress withPending
@@ -188,5 +184,5 @@ module _ (c : Cluster) where
   unfolding frameOn
   data-slaves o =
       rw (data-round o)
-        (unfold effectOf dataEffect slavesAfter in
-          rw (asked-pending o) (unfold epochRaised withSlaves asked withAddress withPending withEpoch in data-content o (c .slaves)))
+      (unfold effectOf dataEffect slavesAfter in
+      rw (asked-pending o) (unfold epochRaised withSlaves asked withAddress withPending withEpoch in data-content o (c .slaves)))

@@ -1,28 +1,26 @@
 -- A round of the naming run on an accepted file: the file stays accepted, the views change as the round says, and bit 1 of the mask
 -- says whether someone answers.
 -- Assumes nothing.
-use Prim.Native.Nat.{ℕ, zero, suc, _+_, _*_, _/_, _%_, _^_, _≤_, _<_}
-use mathlib.Core.Path.{_≡_, refl, sym, ap, _∙_, subst}
+use Prim.Native.Nat.{ℕ, _≤_}
+use mathlib.Core.Path.{_≡_, refl, _∙_}
 use mathlib.Core.List.{List, [], _∷_, map}
 use mathlib.Core.Bool.{Bool, true, false, cond}
 use native.Mathlib.Omega.{arith}
-use lib.ListN.{length, getD}
-use lib.Dec.{eqb, ltb}
-use borrow.Author.Tests.{eqb-true, eq-eqb, le-ltb, ltb-false}
+use lib.ListN.{length}
+use lib.Dec.{eqb}
+use borrow.Author.Tests.{ltb-false}
 use Rattle.file.specs.Bytes.{Bytes, All}
 use Rattle.file.specs.Order.{firstOf}
-use Rattle.file.specs.Cluster.{Slave, Cluster}
-use Rattle.file.specs.Encode.{encode}
 use Rattle.file.specs.Decode.{decode}
 use Rattle.file.specs.Grounds.{fileGround}
-use Rattle.file.specs.Legal.{LegalSlave, Legal}
+use Rattle.file.specs.Legal.{LegalSlave}
 use Rattle.file.specs.Accepted.{Becomes}
-use Rattle.file.proofs.Order.{byCase, first-next, first-end}
+use Rattle.file.proofs.Order.{first-next, first-end}
 use Rattle.file.proofs.Accepted.{accepted-becomes, encode-bytes}
-use Rattle.cluster.specs.Bus.{Senders, slots, anyone, maskBelow, senderMask, answerBytes, answerIn}
-use Rattle.cluster.specs.Slaves.{sentTo, slaveAfter}
+use Rattle.cluster.specs.Bus.{Senders, slots, anyone, senderMask}
+use Rattle.cluster.specs.Slaves.{sentTo}
 use Rattle.cluster.specs.Grounds.{shortAnswer, frameGround}
-use Rattle.cluster.specs.Round.{Effect, Answer, carried, frameOn, carriedBy, bufferBy, firstGround, roundGround, roundOn}
+use Rattle.cluster.specs.Round.{Effect, Answer, carried, frameOn, carriedBy, bufferBy, roundGround, roundOn}
 use Rattle.cluster.proofs.Bus.{mask-bit, answer-length}
 use Rattle.cluster.proofs.Rounds.{firstGround-next, round-accepted, round-becomes}
 use Rattle.naming.specs.View.{Operation, viewOf, view, sent, changeAll, answers}
@@ -33,7 +31,7 @@ use Rattle.naming.proofs.StepFrames.{asked, address-accepted, address-a
 
 -- a frame that fits, on an accepted file and with a buffer that is long enough, is accepted
 pub round-fits :
-  (file frame buffer : List ℕ) → fileGround file ≡ 0 → shortAnswer buffer ≡ false → frameGround (decode file) frame ≡ 0 → roundGround file frame buffer ≡ 0
+    (file frame buffer : List ℕ) → fileGround file ≡ 0 → shortAnswer buffer ≡ false → frameGround (decode file) frame ≡ 0 → roundGround file frame buffer ≡ 0
 unfolding roundGround
 round-fits file frame buffer good long fits =
     firstGround-next (fileGround file) _ good
@@ -88,7 +86,7 @@ module _ (f : List ℕ) {o : Operation} (buffer : List ℕ) (bytes : Bytes f) (g
   second-ground : roundGround (first .2) (dataSent (sent o)) (first .1) ≡ 0
   second-ground =
       round-fits (first .2) (dataSent (sent o)) (first .1) (first-becomes .accepted) first-long
-        (rw (first-becomes .decoded) (data-accepted (decode f) o))
+      (rw (first-becomes .decoded) (data-accepted (decode f) o))
 
   first-bytes : Bytes (first .2)
   first-bytes = rw (first-becomes .encoded) (encode-bytes (asked (decode f) o) (first-becomes .legal))

@@ -16,13 +16,16 @@ use Rattle.cluster.specs.Grounds.{roundBy}
 use Rattle.cluster.specs.Round.{Answer, refused, carried, roundGround, roundOn}
 use Rattle.naming.specs.Run.{Position, unfitPosition}
 use Rattle.naming.specs.Step.{stepGround, stepOn}
-use Rattle.naming.specs.Account.{Account, Call, step, frame, namesIn, accountOf, accountAfter, comparisonsOf}
+use Rattle.naming.specs.Account.{Call, step, frame, namesIn, accountOf, accountAfter, comparisonsOf}
 use Rattle.naming.specs.Figures.{Outcome}
 
 -- the file as the last call left it, and whether a round of others is half done: its MSA accepted, its MSD still to come
 pub record State : Type 0 where
   pub file : List ℕ
   pub halfway : Bool
+
+unfoldable pub startOn : List ℕ → State
+startOn file = record { file = file; halfway = false }
 
 -- refused calls aside, an MSA opens a round, an MSD ends it
 unfoldable pub halfwayAfter : Bool → Answer → Round → Bool

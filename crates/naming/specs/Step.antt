@@ -1,7 +1,7 @@
 -- One step of a naming run on a file (document 01, "The naming run": it "moves one complete master-slave round a step").
 use Prim.Native.Nat.{ℕ, _/_, _%_}
 use mathlib.Core.List.{List, [], _∷_}
-use mathlib.Core.Bool.{Bool, true, false, cond}
+use mathlib.Core.Bool.{Bool, false, cond}
 use lib.Dec.{eqb}
 use Rattle.file.specs.Order.{firstOf}
 use Rattle.file.specs.Cluster.{Cluster, writeOperation}
