@@ -18,3 +18,4 @@ pub mod StepFrames
 pub mod StepRound
 pub mod ByteLaws
 pub mod OverBytes
+pub mod Lists
