@@ -49,6 +49,11 @@ module _ {A : Type 0} {P : A → Type 0} where
   all-getD (All.both p q) z zero = p
   all-getD (All.both p q) z (suc i) = all-getD q z i
 
+  pub all-at : (d : A) {x : List A} {i : ℕ} → All P x → i < length x → P (getD x i d)
+  all-at d All.none h = absurd (omega arith)
+  all-at d {i = zero} (All.both p q) h = p
+  all-at d {i = suc i} (All.both p q) h = all-at d q (omega arith)
+
   -- a property that follows from another
   pub all-map : {Q : A → Type 0} {x : List A} → ((a : A) → P a → Q a) → All P x → All Q x
   all-map f All.none = All.none

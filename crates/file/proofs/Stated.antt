@@ -48,7 +48,7 @@ pub last-size : (r : ℕ) (bs : List ℕ) → length bs ≡ fileSize r → lastR
 unfolding lastRecord fileSize
 last-size r bs h = rw h (omega arith)
 
-entry-number : (w : ℕ) (f : List ℕ) (d : ℕ) → fileAt w f d .number ≡ getD f d 0
+pub entry-number : (w : ℕ) (f : List ℕ) (d : ℕ) → fileAt w f d .number ≡ getD f d 0
 unfolding fileAt
 entry-number w f d = refl
 

@@ -29,12 +29,6 @@ use Rattle.file.proofs.StatedSlaves.{needed-places, stated-names, state
 use Rattle.file.proofs.HeaderLaws.{after-header}
 use Rattle.file.proofs.Accepted.{accepted-becomes}
 
--- what holds of every element holds of the one at an index
-pub all-at : {P : ℕ → Type 0} {l : List ℕ} {i : ℕ} → All P l → i < length l → P (getD l i 0)
-all-at All.none h = absurd (omega arith)
-all-at {i = zero} (All.both p q) h = p
-all-at {i = suc i} (All.both p q) h = all-at q (omega arith)
-
 -- what the loop along the places keeps
 pub record Reading (f docs : List ℕ) (slave : ℕ) (names : List ℕ) : Type 0 where
   pub room : length names ≡ 32
@@ -134,7 +128,7 @@ unfolding statedPlaces
 stated-count w f n least t zero = refl
 stated-count w f n least t (suc k) = ap suc (stated-count w f n least (t + entrySize w) k)
 
-slaves-count : (w : ℕ) (f : List ℕ) (t k : ℕ) → length (slavesAt w f t k) ≡ k
+pub slaves-count : (w : ℕ) (f : List ℕ) (t k : ℕ) → length (slavesAt w f t k) ≡ k
 unfolding slavesAt
 slaves-count w f t zero = refl
 slaves-count w f t (suc k) = ap suc (slaves-count w f (t + entrySize w) k)

@@ -26,6 +26,11 @@ pub record Placed (c : Cluster) (count : ℕ) (configurations documentations : L
   pub config : (s : ℕ) → s < length (c .slaves) → getD configurations s 0 ≡ filePlace c s configuration
   pub document : (s : ℕ) → s < length (c .slaves) → getD documentations s 0 ≡ filePlace c s documentation
 
+-- slave s is there, and the list has the place of its file n
+pub record KeptAt (c : Cluster) (n : ℕ) (places : List ℕ) (s : ℕ) : Type 0 where
+  pub slave : s < length (c .slaves)
+  pub place : getD places s 0 ≡ filePlace c s n
+
 -- where a slave keeps a file, and how many bytes it has; where it keeps a record
 pub data FoundFile : Type 0 where
   missing : FoundFile

@@ -1,7 +1,12 @@
--- The checker's answer in document 01's numbers.
+-- The answers of the file's functions: the checker's in document 01's numbers, the readers' as the places they found.
 use Prim.Native.Nat.{ℕ, zero, suc}
 use mathlib.Core.List.{List}
 use Rattle.file.specs.Grounds.{loadGround}
+use Rattle.file.specs.Accepted.{FoundFile, FoundRecord, fileAt, recordAt}
+use Rattle.file.specs.declared.readers.FilePlace.{FilePlace}
+use Rattle.file.specs.declared.readers.FilePlace.the-variants.{Bytes, NoFile}
+use Rattle.file.specs.declared.readers.RecordPlace.{RecordPlace}
+use Rattle.file.specs.declared.readers.RecordPlace.the-variants.{At, NoRecord}
 use Rattle.file.specs.declared.survey.FileAnswer.{FileAnswer}
 use Rattle.file.specs.declared.survey.FileAnswer.the-variants.{Accepted, Refused}
 
@@ -22,3 +27,12 @@ checkedOf (Refused r) = refused (r .0)
 -- what the checker's call answers to a file
 unfoldable pub loadVerdict : List ℕ → Verdict
 loadVerdict f = verdictOf (loadGround f)
+
+-- what a search for a file or for a record found
+unfoldable pub foundFile : FilePlace → FoundFile
+foundFile (Bytes place size) = fileAt place size
+foundFile NoFile = FoundFile.missing
+
+unfoldable pub foundRecord : RecordPlace → FoundRecord
+foundRecord (At place) = recordAt place
+foundRecord NoRecord = FoundRecord.missing

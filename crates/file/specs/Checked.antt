@@ -9,8 +9,8 @@ use Rattle.file.specs.Order.{firstOf, both}
 use Rattle.file.specs.Layout.{entrySize}
 use Rattle.file.specs.Cluster.{configuration, documentation}
 use Rattle.file.specs.Bytes.{numberOf, part}
-use Rattle.file.specs.Decode.{offsetAt, decode}
-use Rattle.file.specs.Accepted.{Becomes, Placed}
+use Rattle.file.specs.Decode.{offsetAt, fileSize, decode}
+use Rattle.file.specs.Accepted.{Becomes, Placed, FoundFile, fileAt}
 use Rattle.file.specs.Answers.{Verdict, accepted, verdictOf}
 use Rattle.file.specs.Grounds.{wrongSize, wrongMark, wrongEdition, wrongLength, wrongHeader, fileGround, Walk, broken, to, walkDirectory, walkSlave, walkSlaves, walkFile, brokenLayout, lacksNeeded, equalPhysicalNames}
 
@@ -91,6 +91,14 @@ pub record BodyWalked (f : List ℕ) (good : Bool) (confs docs : List ℕ) : Typ
 -- the first of grounds 7 and 8 that holds
 unfoldable pub slavesGround : List ℕ → ℕ
 slavesGround f = firstOf (record { number = 7; holds = lacksNeeded 2 f } ∷ record { number = 8; holds = equalPhysicalNames 2 f } ∷ [])
+
+-- what the k directory entries from d on state for file n
+unfoldable pub searchDirectory : ℕ → List ℕ → ℕ → ℕ → ℕ → FoundFile
+searchDirectory w f n d zero = FoundFile.missing
+searchDirectory w f n d (suc k) =
+    cond (eqb (getD f d 0) n)
+    (fileAt (offsetAt w f (d + w)) (fileSize (getD f (d + 1) 0)))
+    (searchDirectory w f n (d + entrySize w) k)
 
 -- ---- the physical names at the stated places of 0x3D
 

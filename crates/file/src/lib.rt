@@ -1,6 +1,7 @@
 // The cluster file: its checker and the readers of slaves and records.
 mod header;
 pub mod numbers;
+pub mod readers;
 mod repeats;
 pub mod survey;
 pub mod types;

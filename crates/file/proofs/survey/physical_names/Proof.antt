@@ -4,7 +4,8 @@ use Prim.Native.Nat.{_-_}
 use mathlib.Core.Path.{refl}
 use native.Mathlib.Omega.{arith}
 use lib.ListN.{length}
-use Rattle.file.proofs.SurveyLaws.{all-at, Reading, reading-start, reading-next, reading-done}
+use Rattle.file.proofs.Bytes.{all-at}
+use Rattle.file.proofs.SurveyLaws.{Reading, reading-start, reading-next, reading-done}
 use Rattle.file.proofs.survey.physical_names.Statement.{statement}
 use Rattle.file.proofs.survey.physical_names.Tie as tie
 
@@ -24,10 +25,10 @@ shared-slice-read-at : tie.Need-shared-slice-read-at Inv-loop μ-loop
 shared-slice-read-at c = omega arith
 
 add-at : tie.Need-add-at Inv-loop μ-loop
-add-at c = omega (arith, all-at (c .before .before .before .before .before .pre .1) (c .before .loop-test .taken) .within)
+add-at c = omega (arith, all-at 0 (c .before .before .before .before .before .pre .1) (c .before .loop-test .taken) .within)
 
 u64-at-requires : tie.Need-u64-at-requires Inv-loop μ-loop
-u64-at-requires c κs = omega (arith, all-at (c .before .before .before .before .before .pre .1) (c .before .loop-test .taken) .within)
+u64-at-requires c κs = omega (arith, all-at 0 (c .before .before .before .before .before .pre .1) (c .before .loop-test .taken) .within)
 
 mul-names : tie.Need-mul-names Inv-loop μ-loop
 mul-names c = omega arith

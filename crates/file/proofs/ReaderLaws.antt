@@ -1,0 +1,333 @@
+-- What the bytes of an accepted file say of its cluster, as the readers find them.
+-- Assumes nothing.
+use Prim.Native.Nat.{ℕ, zero, suc, _+_, _*_, _-_, _/_, _≤_, _<_}
+use mathlib.Core.Path.{_≡_, refl, sym, _∙_, ap, subst}
+use mathlib.Core.List.{List, [], _∷_}
+use mathlib.Core.Bool.{Bool, true, false, cond}
+use native.Mathlib.Omega.{arith}
+use borrow.Author.Tests.{eq-eqb, ne-eqb, eqb-true, eqb-false, le-leb, lt-leb, leb-true}
+use lib.ListN.{length, getD}
+use lib.Dec.{eqb, leb}
+use Rattle.file.specs.Bytes.{All, numberOf, part, ByteAt, NumberAt}
+use Rattle.file.specs.Layout.{entrySize, offsetWidth}
+use Rattle.file.specs.Cluster.{File, Slave, Cluster, lastRecord, bytesAmong, bytesIn, hasRecord, configuration, documentation, logicalName, physicalName, comparisonValue}
+use Rattle.file.specs.Encode.{encode, slavesPlace}
+use Rattle.file.specs.Decode.{offsetAt, fileSize, filesAt, slaveAt, slavesAt, decodeAt, decode}
+use Rattle.file.specs.Decode
+use Rattle.file.specs.Legal.{LegalSlave}
+use Rattle.file.specs.Grounds.{Walk, broken, to, walkDirectory, walkSlave, walkSlaves, walkFile, tableEnd, fileGround}
+use Rattle.file.specs.Places.{noSlave, slaveOf, placeAmong, filePlaceFrom, filePlaceAt, filePlace}
+use Rattle.file.specs.Accepted.{Becomes, Placed, KeptAt, FoundFile, fileAt, FoundRecord, recordAt, findFile, findRecord}
+use Rattle.file.specs.Checked.{searchDirectory}
+use Rattle.file.proofs.Order.{byCase}
+use Rattle.file.proofs.Facts.{EntryFacts}
+use Rattle.file.proofs.Bytes.{all-at}
+use Rattle.file.proofs.AcceptedFacts.{accepted}
+use Rattle.file.proofs.Stores.{file-fits, read-byte, read-part}
+use Rattle.file.proofs.Stated.{not-broken, walk-took, entry-number, entry-bytes, entry-length, files-count}
+use Rattle.file.proofs.StatedSlaves.{slave-took, slaves-took, slave-end}
+use Rattle.file.proofs.SurveyLaws.{slaves-count}
+
+-- ---- slaves
+
+pub becomes-decoded : {f : List ℕ} {c : Cluster} → Becomes f c → Becomes f (decode f)
+becomes-decoded {f} {c} h =
+    record {
+      accepted = h .accepted;
+      decoded = refl;
+      encoded = rw (h .decoded) (h .encoded);
+      legal = subst Rattle.file.specs.Legal.Legal (sym (h .decoded)) (h .legal);
+    }
+
+pub placed-configuration : {c : Cluster} {count : ℕ} {a b : List ℕ} (s : ℕ) → Placed c count a b → s < length (c .slaves) → KeptAt c configuration a s
+placed-configuration s p h = record { slave = h; place = p .config s h }
+
+pub placed-documentation : {c : Cluster} {count : ℕ} {a b : List ℕ} (s : ℕ) → Placed c count a b → s < length (c .slaves) → KeptAt c documentation b s
+placed-documentation s p h = record { slave = h; place = p .document s h }
+
+last-room : (r : ℕ) (bs : List ℕ) → 1 ≤ r → r ≤ lastRecord bs → 4 * r + 4 ≤ length bs
+unfolding lastRecord
+last-room r bs some h = omega arith
+
+module _ {f : List ℕ} {c : Cluster} (h : Becomes f c) (s : ℕ) where
+  pub slave-legal : s < length (c .slaves) → LegalSlave (slaveOf c s)
+  unfolding slaveOf
+  slave-legal l = all-at noSlave (h .legal .slaves) l
+
+  -- 0x08 has the bytes of records 0x00 to 3, 0x3D those of 0x00 to 2
+  pub configuration-room : s < length (c .slaves) → 16 ≤ length (bytesIn (slaveOf c s) configuration)
+  configuration-room l = last-room 3 _ (omega arith) (slave-legal l .configured)
+
+  pub documentation-room : s < length (c .slaves) → 12 ≤ length (bytesIn (slaveOf c s) documentation)
+  documentation-room l = last-room 2 _ (omega arith) (slave-legal l .documented)
+
+  -- a file's bytes lie within the accepted file, and are read at its place
+  pub place-within : (n : ℕ) → 0 < length (bytesIn (slaveOf c s) n) → filePlace c s n + length (bytesIn (slaveOf c s) n) ≤ length f
+  unfolding filePlace encode
+  place-within n some = rw (h .encoded) (file-fits {w = 2} (omega arith) s n c some)
+
+  pub byte-there : (n k : ℕ) → k < length (bytesIn (slaveOf c s) n) → getD f (filePlace c s n + k) 0 ≡ getD (bytesIn (slaveOf c s) n) k 0
+  unfolding filePlace encode
+  byte-there n k l = rw (h .encoded) (read-byte {w = 2} (omega arith) s n c k l)
+
+  pub part-there : (n a m : ℕ) → a + m ≤ length (bytesIn (slaveOf c s) n) → part f (filePlace c s n + a) m ≡ part (bytesIn (slaveOf c s) n) a m
+  unfolding filePlace encode
+  part-there n a m l = rw (h .encoded) (read-part {w = 2} (omega arith) s n c a m l)
+
+-- ---- the readers of 0x08 and 0x3D
+
+module _ {f : List ℕ} {c : Cluster} {places : List ℕ} {s : ℕ} (h : Becomes f c) where
+  pub configuration-within : KeptAt c configuration places s → getD places s 0 + 16 ≤ length f
+  configuration-within k =
+      let room = configuration-room h s (k .slave) in
+      omega (arith, place-within h s configuration (omega arith), k .place)
+
+  pub documentation-within : KeptAt c documentation places s → getD places s 0 + 12 ≤ length f
+  documentation-within k =
+      let room = documentation-room h s (k .slave) in
+      omega (arith, place-within h s documentation (omega arith), k .place)
+
+  pub logical-there : KeptAt c configuration places s → getD f (getD places s 0 + 7) 0 ≡ logicalName (slaveOf c s)
+  unfolding logicalName
+  logical-there k =
+      let room = configuration-room h s (k .slave) in
+      rw (k .place) (byte-there h s configuration 7 (omega arith))
+
+  pub physical-there : {r : ℕ} → KeptAt c documentation places s → NumberAt f (getD places s 0 + 4) 8 r → r ≡ physicalName (slaveOf c s)
+  unfolding physicalName
+  physical-there k is =
+      let room = documentation-room h s (k .slave) in
+      is .is ∙ ap numberOf (rw (k .place) (part-there h s documentation 4 8 (omega arith)))
+
+  pub comparison-there : {r : ℕ} → KeptAt c configuration places s → NumberAt f (getD places s 0 + 8) 8 r → r ≡ comparisonValue (slaveOf c s)
+  unfolding comparisonValue
+  comparison-there k is =
+      let room = configuration-room h s (k .slave) in
+      is .is ∙ ap numberOf (rw (k .place) (part-there h s configuration 8 8 (omega arith)))
+
+-- ---- the search of a directory
+
+pub search-none : (w : ℕ) (f : List ℕ) (n d : ℕ) → searchDirectory w f n d 0 ≡ FoundFile.missing
+unfolding searchDirectory
+search-none w f n d = refl
+
+pub search-here : (w : ℕ) (f : List ℕ) (n d k : ℕ) → 0 < k → getD f d 0 ≡ n → searchDirectory w f n d k ≡ fileAt (offsetAt w f (d + w)) (fileSize (getD f (d + 1) 0))
+unfolding searchDirectory
+search-here w f n d zero h e = absurd (omega arith)
+search-here w f n d (suc k) h e = rw (eq-eqb (getD f d 0) n e)
+
+pub search-next : (w : ℕ) (f : List ℕ) (n d k : ℕ) → 0 < k → (getD f d 0 ≡ n → ⊥) → searchDirectory w f n d k ≡ searchDirectory w f n (d + entrySize w) (k - 1)
+unfolding searchDirectory
+search-next w f n d zero h e = absurd (omega arith)
+search-next w f n d (suc k) h e =
+    let same : suc k - 1 ≡ k = omega arith in
+    rw (ne-eqb (getD f d 0) n e, same)
+
+-- what the loop along a directory keeps
+pub record Searching (f : List ℕ) (n d k entry left : ℕ) : Type 0 where
+  pub entries : entry + 4 * left ≤ length f
+  pub same : searchDirectory 2 f n entry left ≡ searchDirectory 2 f n d k
+
+pub searching-start : {f : List ℕ} {d k : ℕ} (n : ℕ) → d + 4 * k ≤ length f → Searching f n d k d k
+searching-start n h = record { entries = h; same = refl }
+
+module _ {f : List ℕ} {n d k entry left b : ℕ} (h : Searching f n d k entry left) (more : 0 < left) (is : ByteAt f entry b) where
+  pub searching-here : {last place : ℕ} → b ≡ n → ByteAt f (entry + 1) last → NumberAt f (entry + 2) 2 place → fileAt place (4 * (last + 1)) ≡ searchDirectory 2 f n d k
+  unfolding offsetAt fileSize
+  searching-here here l p = rw (l .is, p .is) (sym (search-here 2 f n entry left more (sym (is .is) ∙ here)) ∙ h .same)
+
+  pub searching-next : (b ≡ n → ⊥) → Searching f n d k (entry + 4) (left - 1)
+  searching-next other =
+      record {
+        entries = omega (arith, h .entries);
+        same = sym (search-next 2 f n entry left more (λ q. other (is .is ∙ q))) ∙ h .same;
+      }
+
+pub searching-done : {f : List ℕ} {n d k entry left : ℕ} → Searching f n d k entry left → left ≤ 0 → FoundFile.missing ≡ searchDirectory 2 f n d k
+unfolding searchDirectory
+searching-done {left = left} h none =
+    let z : left ≡ 0 = omega arith in
+    rw z at (h .same)
+
+-- ---- a directory that was walked states each of its files
+
+-- what files from a place on hold of a number
+unfoldable pub foundAmong : ℕ → List File → ℕ → FoundFile
+foundAmong place xs n = cond (eqb (length (bytesAmong xs n)) 0) FoundFile.missing (fileAt (placeAmong place xs n) (length (bytesAmong xs n)))
+
+found-here : (place : ℕ) (x : File) (xs : List File) (n : ℕ) → x .number ≡ n → 0 < length (x .bytes) → foundAmong place (x ∷ xs) n ≡ fileAt place (length (x .bytes))
+unfolding foundAmong bytesAmong placeAmong
+found-here place x xs n is some = rw (eq-eqb (x .number) n is, ne-eqb (length (x .bytes)) 0 (λ q. omega arith))
+
+found-behind : (place : ℕ) (x : File) (xs : List File) (n : ℕ) → (x .number ≡ n → ⊥) → foundAmong place (x ∷ xs) n ≡ foundAmong (place + length (x .bytes)) xs n
+unfolding foundAmong bytesAmong placeAmong
+found-behind place x xs n other = rw (ne-eqb (x .number) n other)
+
+nothing : (p m : ℕ) → FoundFile.missing ≡ foundAmong p [] m
+unfolding foundAmong bytesAmong
+nothing p m = refl
+
+size-some : (r : ℕ) → 0 < fileSize r
+unfolding fileSize
+size-some r = omega arith
+
+pub search-finds : (w : ℕ) (f : List ℕ) (n d low place k e : ℕ) → walkDirectory w f d low place k ≡ to e → searchDirectory w f n d k ≡ foundAmong place (filesAt w f d k) n
+unfolding filesAt
+search-finds w f n d low place zero e h = search-none w f n d ∙ nothing place n
+search-finds w f n d low place (suc k) e h =
+    let s = walk-took w f d low place k e h in
+    let x = Decode.fileAt w f d in
+    let r = getD f (d + 1) 0 in
+    let long = entry-length w f d low place (s .facts) in
+    byCase (eqb (getD f d 0) n)
+    (λ t.
+    let is = eqb-true (getD f d 0) n t in
+    search-here w f n d (suc k) (omega arith) is ∙
+    sym (found-here place x (filesAt w f (d + entrySize w) k) n (entry-number w f d ∙ is) (rw long (size-some r)) ∙ rw (long, s .facts .offset)))
+    (λ t.
+    let other = eqb-false (getD f d 0) n t in
+    let same : suc k - 1 ≡ k = omega arith in
+    let rest = search-finds w f n (d + entrySize w) (suc (getD f d 0)) (place + fileSize r) k e (s .rest) in
+    search-next w f n d (suc k) (omega arith) other ∙
+    (rw (same, rest, ← long) (sym (found-behind place x (filesAt w f (d + entrySize w) k) n (λ q. other (sym (entry-number w f d) ∙ q))))))
+
+-- ---- the slave of a table entry
+
+pub record SlaveThere (w : ℕ) (f : List ℕ) (t place k s : ℕ) : Type 0 where
+  pub at : ℕ
+  pub end : ℕ
+  pub walk : walkSlave w f (t + entrySize w * s) at ≡ to end
+  pub slave : getD (slavesAt w f t k) s noSlave ≡ slaveAt w f (t + entrySize w * s)
+  pub place′ : (n : ℕ) → filePlaceFrom w place (slavesAt w f t k) s n ≡ placeAmong (at + entrySize w * length (slaveAt w f (t + entrySize w * s) .files)) (slaveAt w f (t + entrySize w * s) .files) n
+
+pub slave-there : (w : ℕ) (f : List ℕ) (t place k e s : ℕ) → walkSlaves w f t place k ≡ to e → s < k → SlaveThere w f t place k s
+unfolding slavesAt filePlaceFrom
+slave-there w f t place (suc k) e zero h l =
+    let step = slaves-took w f t place k e h in
+    let same : t + entrySize w * 0 ≡ t = omega arith in
+    record { at = place; end = step .middle; walk = rw same (step .first); slave = rw same; place′ = λ n. rw same }
+slave-there w f t place (suc k) e (suc s) h l =
+    let step = slaves-took w f t place k e h in
+    let end = slave-end w f t place (step .middle) (step .first) in
+    let r = slave-there w f (t + entrySize w) (step .middle) k e s (step .rest) (omega arith) in
+    let same : t + entrySize w * suc s ≡ t + entrySize w + entrySize w * s = omega arith in
+    record {
+      at = r .at;
+      end = r .end;
+      walk = rw same (r .walk);
+      slave = rw same (r .slave);
+      place′ = λ n. rw same (subst (λ (p : ℕ). filePlaceFrom w p (slavesAt w f (t + entrySize w) k) s n ≡ placeAmong (r .at + entrySize w * length (slaveAt w f (t + entrySize w + entrySize w * s) .files)) (slaveAt w f (t + entrySize w + entrySize w * s) .files) n) end (r .place′ n));
+    }
+
+-- ---- the table of an accepted file
+
+walk-moved : (f : List ℕ) {d k a b e : ℕ} → d ≡ a → k ≡ b → walkDirectory 2 f a 0 (a + 4 * b) b ≡ to e → walkDirectory 2 f d 0 (d + 4 * k) k ≡ to e
+walk-moved f p q h = rw (p, q) h
+
+table-walk : (f : List ℕ) → fileGround f ≡ 0 → (16 + 4 * getD f 3 0 ≤ length f) × (walkSlaves 2 f 16 (16 + 4 * getD f 3 0) (getD f 3 0) ≡ to (length f))
+unfolding fileGround walkFile tableEnd
+table-walk f g =
+    let walk = accepted 2 f .0 g .layout in
+    byCase (leb (16 + 4 * getD f 3 0) (length f))
+    (λ t. (leb-true _ _ t, rw t at walk))
+    (λ t. not-broken (rw t at walk))
+
+pub count-there : (f : List ℕ) → length (decode f .slaves) ≡ getD f 3 0
+unfolding decode decodeAt
+count-there f = slaves-count 2 f 16 (getD f 3 0)
+
+module _ {f : List ℕ} (h : Becomes f (decode f)) where
+  pub header-within : 3 < length f
+  header-within = omega (arith, table-walk f (h .accepted) .0)
+
+  pub length-limit : length f ≤ 32768
+  unfolding fileGround
+  length-limit = accepted 2 f .0 (h .accepted) .size .high
+
+  pub entry-within : (s : ℕ) → s < length (decode f .slaves) → 16 + 4 * s + 4 ≤ length f
+  entry-within s l = omega (arith, table-walk f (h .accepted) .0, count-there f)
+
+  module _ (s : ℕ) (l : s < length (decode f .slaves)) {d k : ℕ} (offset : NumberAt f (16 + 4 * s) 2 d) (count : ByteAt f (16 + 4 * s + 2) k) where
+    there : SlaveThere 2 f 16 (16 + 4 * getD f 3 0) (getD f 3 0) s
+    there = slave-there 2 f 16 (16 + 4 * getD f 3 0) (getD f 3 0) (length f) s (table-walk f (h .accepted) .1) (omega (arith, count-there f))
+
+    directory-is : d ≡ there .at
+    unfolding offsetAt
+    directory-is = offset .is ∙ slave-took 2 f (16 + 4 * s) (there .at) (there .end) (there .walk) .facts .offset
+
+    pub directory-within : d + 4 * k ≤ length f
+    directory-within =
+        let took = slave-took 2 f (16 + 4 * s) (there .at) (there .end) (there .walk) in
+        omega (arith, took .facts .within, directory-is, count .is)
+
+    files-there : slaveOf (decode f) s .files ≡ filesAt 2 f d k
+    unfolding slaveOf decode decodeAt slaveAt
+    files-there =
+        let took = slave-took 2 f (16 + 4 * s) (there .at) (there .end) (there .walk) in
+        rw (there .slave, took .facts .offset, ← directory-is, ← (count .is))
+
+    place-there : (n : ℕ) → filePlace (decode f) s n ≡ placeAmong (d + 4 * k) (filesAt 2 f d k) n
+    unfolding filePlace filePlaceAt slavesPlace decode decodeAt slaveAt
+    place-there n =
+        let took = slave-took 2 f (16 + 4 * s) (there .at) (there .end) (there .walk) in
+        let at = there .place′ n in
+        rw (slaves-count 2 f 16 (getD f 3 0), at, took .facts .offset, ← directory-is, ← (count .is), files-count 2 f d k)
+
+    pub file-found : {r : FoundFile} (n : ℕ) → r ≡ searchDirectory 2 f n d k → r ≡ findFile (decode f) s n
+    unfolding findFile bytesIn foundAmong
+    file-found n is =
+        let took = slave-took 2 f (16 + 4 * s) (there .at) (there .end) (there .walk) in
+        let walk : walkDirectory 2 f d 0 (d + 4 * k) k ≡ to (there .end) = walk-moved f directory-is (count .is) (took .files) in
+        rw (files-there, place-there n) (is ∙ search-finds 2 f n d 0 (d + 4 * k) k (there .end) walk)
+
+-- ---- a record of a file that was found
+
+find-cases : (c : Cluster) (s n : ℕ) {place size : ℕ} → fileAt place size ≡ findFile c s n → (place ≡ filePlace c s n) × (size ≡ length (bytesIn (slaveOf c s) n))
+unfolding findFile
+find-cases c s n {place} {size} h =
+    byCase (eqb (length (bytesIn (slaveOf c s) n)) 0)
+    (λ t. absurd (other (rw t at h)))
+    (λ t. same (rw t at h))
+  where
+    other : fileAt place size ≡ FoundFile.missing → ⊥
+    other q = let z : _≡_ {A = ℕ} 0 1 = cc in omega arith
+
+    same : {a b : ℕ} → fileAt place size ≡ fileAt a b → (place ≡ a) × (size ≡ b)
+    same q = (cc, cc)
+
+pub record-missing : (c : Cluster) (s n r : ℕ) → FoundFile.missing ≡ findFile c s n → FoundRecord.missing ≡ findRecord c s n r
+unfolding findFile findRecord hasRecord
+record-missing c s n r h =
+    byCase (eqb (length (bytesIn (slaveOf c s) n)) 0)
+    (λ t.
+    let z = eqb-true (length (bytesIn (slaveOf c s) n)) 0 t in
+    rw (lt-leb (4 * r + 4) (length (bytesIn (slaveOf c s) n)) (omega arith)))
+    (λ t. absurd (other (rw t at h)))
+  where
+    other : {a b : ℕ} → FoundFile.missing ≡ fileAt a b → ⊥
+    other q = let z : _≡_ {A = ℕ} 0 1 = cc in omega arith
+
+pub record-past : (c : Cluster) (s n r : ℕ) {place size : ℕ} → fileAt place size ≡ findFile c s n → size < 4 * r + 4 → FoundRecord.missing ≡ findRecord c s n r
+unfolding findRecord hasRecord
+record-past c s n r h l = rw (lt-leb (4 * r + 4) (length (bytesIn (slaveOf c s) n)) (omega (arith, find-cases c s n h .1)))
+
+pub record-found : (c : Cluster) (s n r : ℕ) {place size : ℕ} → fileAt place size ≡ findFile c s n → 4 * r + 4 ≤ size → recordAt (place + 4 * r) ≡ findRecord c s n r
+unfolding findRecord hasRecord
+record-found c s n r h l = rw (le-leb (4 * r + 4) (length (bytesIn (slaveOf c s) n)) (omega (arith, find-cases c s n h .1)), find-cases c s n h .0)
+
+-- a file that was found lies within the file
+pub found-within : {f : List ℕ} {c : Cluster} (h : Becomes f c) (s n : ℕ) {place size : ℕ} → fileAt place size ≡ findFile c s n → place + size ≤ length f
+unfolding findFile
+found-within {f} {c} h s n {place} {size} is =
+    let both = find-cases c s n is in
+    byCase (eqb (length (bytesIn (slaveOf c s) n)) 0)
+    (λ t. absurd (other (rw t at is)))
+    (λ t.
+    let some = eqb-false (length (bytesIn (slaveOf c s) n)) 0 t in
+    omega (arith, both, place-within h s n (positive some)))
+  where
+    other : fileAt place size ≡ FoundFile.missing → ⊥
+    other q = let z : _≡_ {A = ℕ} 0 1 = cc in omega arith
+
+    positive : {m : ℕ} → (m ≡ 0 → ⊥) → 0 < m
+    positive {m} no′ = omega arith

@@ -1,0 +1,56 @@
+-- `file::readers::find_record` meets its contract: a law for each way.
+-- Assumes nothing.
+use native.Mathlib.Omega.{arith}
+use Rattle.file.proofs.ReaderLaws.{length-limit}
+use Rattle.file.proofs.RecordLaws.{no-file, no-record, record-there, bytes-within}
+use borrow.Author.Needs.{needs}
+use Rattle.file.proofs.readers.find_record.Statement.{statement}
+use Rattle.file.proofs.readers.find_record.Tie as tie
+
+find-file-requires : tie.Need-find-file-requires
+find-file-requires c κs = search needs
+
+enum-known-found : tie.Need-enum-known-found
+enum-known-found c = search needs
+
+enum-told : tie.Need-enum-told
+enum-told c = search needs
+
+returns : tie.Need-returns
+returns c = search (needs, no-file)
+
+cast-start : tie.Need-cast-start
+cast-start c = search needs
+
+mul-start : tie.Need-mul-start
+mul-start c = search needs
+
+add-if1 : tie.Need-add-if1
+add-if1 c = search needs
+
+returns-2 : tie.Need-returns-2
+returns-2 c = search (needs, no-record)
+
+add-t9 : tie.Need-add-t9
+add-t9 c =
+    let found = c .before .before .before in
+    let start = found .before .before .before .before in
+    omega (arith, bytes-within _ _ _ (found .before .before .find-file .ensures) (found .found .given .1) (start .pre .0), length-limit (start .pre .0))
+
+returns-3 : tie.Need-returns-3
+returns-3 c = search (needs, record-there)
+
+pub find-record-spec : {M : Type 1} → statement M
+find-record-spec =
+    tie.close
+    (tie.spec
+    find-file-requires
+    enum-known-found
+    enum-told
+    returns
+    cast-start
+    mul-start
+    add-if1
+    returns-2
+    add-t9
+    returns-3)

@@ -1,0 +1,81 @@
+-- `file::readers::search_directory` meets its contract: what is left of the search is what the whole search gives.
+-- Assumes nothing.
+use borrow.Author.Needs.{needs}
+use native.Mathlib.Omega.{arith}
+use Rattle.file.specs.Answers.{foundFile}
+use Rattle.file.proofs.ReaderLaws.{Searching, searching-start, searching-here, searching-next, searching-done}
+use Rattle.file.proofs.readers.search_directory.Statement.{statement}
+use Rattle.file.proofs.readers.search_directory.Tie as tie
+
+abbrev Inv-loop : tie.InvT-loop
+Inv-loop file directory count number entry₀ left₀ entry left = Searching file number directory count entry left
+
+abbrev μ-loop : tie.MeasureT-loop
+μ-loop file directory count number entry₀ left₀ entry left = left
+
+loop-holds : tie.Need-loop-holds Inv-loop μ-loop
+loop-holds c = search (needs, searching-start)
+
+byte-at-requires : tie.Need-byte-at-requires Inv-loop μ-loop
+byte-at-requires c κs = omega arith
+
+add-byte-at : tie.Need-add-byte-at Inv-loop μ-loop
+add-byte-at c = omega arith
+
+byte-at-requires-2 : tie.Need-byte-at-requires-2 Inv-loop μ-loop
+byte-at-requires-2 c κs = omega arith
+
+add-offset-at : tie.Need-add-offset-at Inv-loop μ-loop
+add-offset-at c = omega arith
+
+offset-at-requires : tie.Need-offset-at-requires Inv-loop μ-loop
+offset-at-requires c κs = omega arith
+
+add-t11 : tie.Need-add-t11 Inv-loop μ-loop
+add-t11 c = omega arith
+
+mul-t12 : tie.Need-mul-t12 Inv-loop μ-loop
+mul-t12 c = omega arith
+
+returns : tie.Need-returns Inv-loop μ-loop
+unfolding foundFile
+returns c =
+    let e = c .before .before in
+    searching-here (e .before .before .before .loop .inv) (e .before .before .loop-test .taken) (e .before .byte-at .ensures) (e .if1 .taken) (c .before .byte-at2 .ensures) (c .offset-at .ensures)
+
+add-entry : tie.Need-add-entry Inv-loop μ-loop
+add-entry c = omega arith
+
+sub-left : tie.Need-sub-left Inv-loop μ-loop
+sub-left c = omega arith
+
+loop-less : tie.Need-loop-less Inv-loop μ-loop
+loop-less c = omega arith
+
+loop-again : tie.Need-loop-again Inv-loop μ-loop
+loop-again c = searching-next (c .before .before .before .loop .inv) (c .before .before .loop-test .taken) (c .before .byte-at .ensures) (c .if1 .left)
+
+returns-2 : tie.Need-returns-2 Inv-loop μ-loop
+unfolding foundFile
+returns-2 c = searching-done (c .before .loop .inv) (c .loop-test .left)
+
+pub search-directory-spec : {M : Type 1} → statement M
+search-directory-spec =
+    tie.close
+    (tie.spec
+    Inv-loop
+    μ-loop
+    loop-holds
+    byte-at-requires
+    add-byte-at
+    byte-at-requires-2
+    add-offset-at
+    offset-at-requires
+    add-t11
+    mul-t12
+    returns
+    add-entry
+    sub-left
+    loop-less
+    loop-again
+    returns-2)

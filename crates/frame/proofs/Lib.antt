@@ -1,0 +1,9 @@
+pub mod Table
+pub mod Rounds
+pub mod Tests
+pub mod Reading
+pub mod Writing
+pub mod Accepted
+pub mod Written
+pub mod RoundTrip
+pub mod Distinct

@@ -1,0 +1,70 @@
+-- `frame::writer::write_address` meets its contract: at each `return` one law of the writing says what the tests before it leave.
+-- Assumes nothing.
+use native.Mathlib.Omega.{arith}
+use Rattle.frame.specs.Answers.{writingOf}
+use Rattle.frame.proofs.Tests.{short, long, file-high, file-fits, operation-low}
+use Rattle.frame.proofs.Writing.{address-9, address-13, address-14, address-18, address-written}
+use borrow.Author.Needs.{needs}
+use Rattle.frame.proofs.writer.write_address.Statement.{statement}
+use Rattle.frame.proofs.writer.write_address.Tie as tie
+
+returns : tie.Need-returns
+unfolding writingOf
+returns c = search (address-9, short)
+
+is-no-operation-requires : tie.Need-is-no-operation-requires
+is-no-operation-requires c κs = search needs
+
+returns-2 : tie.Need-returns-2
+unfolding writingOf
+returns-2 c = search (address-13, long)
+
+is-broadcast-read-requires : tie.Need-is-broadcast-read-requires
+is-broadcast-read-requires c κs = search needs
+
+returns-3 : tie.Need-returns-3
+unfolding writingOf
+returns-3 c = search (address-14, long)
+
+returns-4 : tie.Need-returns-4
+unfolding writingOf
+returns-4 c = search (address-18, long, file-high)
+
+mul-pb2 : tie.Need-mul-pb2
+mul-pb2 c = search needs
+
+add-pb2 : tie.Need-add-pb2
+add-pb2 c =
+    let e = c .before .before .before .before .before .before in
+    let low = operation-low _ (e .before .is-no-operation .ensures) (e .if2 .left) in
+    omega arith
+
+address-check-requires : tie.Need-address-check-requires
+address-check-requires c κs = search needs
+
+put-frame-requires : tie.Need-put-frame-requires
+put-frame-requires c κs = search needs
+
+same-length : tie.Need-same-length
+same-length c = search needs
+
+returns-5 : tie.Need-returns-5
+unfolding writingOf
+returns-5 c = search (address-written, long, file-fits)
+
+pub write-address-spec : {M : Type 1} → statement M
+write-address-spec =
+    tie.close
+    (tie.spec
+    returns
+    is-no-operation-requires
+    returns-2
+    is-broadcast-read-requires
+    returns-3
+    returns-4
+    mul-pb2
+    add-pb2
+    address-check-requires
+    put-frame-requires
+    same-length
+    returns-5)

@@ -1,0 +1,29 @@
+-- `frame::writer::write_data` meets its contract.
+-- Assumes nothing.
+use Rattle.frame.specs.Answers.{writingOf}
+use Rattle.frame.proofs.Tests.{short, long}
+use Rattle.frame.proofs.Writing.{data-9, data-written}
+use borrow.Author.Needs.{needs}
+use Rattle.frame.proofs.writer.write_data.Statement.{statement}
+use Rattle.frame.proofs.writer.write_data.Tie as tie
+
+returns : tie.Need-returns
+unfolding writingOf
+returns c = search (data-9, short)
+
+data-check-requires : tie.Need-data-check-requires
+data-check-requires c κs = search needs
+
+put-frame-requires : tie.Need-put-frame-requires
+put-frame-requires c κs = search needs
+
+same-length : tie.Need-same-length
+same-length c = search needs
+
+returns-2 : tie.Need-returns-2
+unfolding writingOf
+returns-2 c = search (data-written, long)
+
+pub write-data-spec : {M : Type 1} → statement M
+write-data-spec =
+    tie.close (tie.spec returns data-check-requires put-frame-requires same-length returns-2)
