@@ -3,22 +3,25 @@
 use Prim.Native.Nat.{ℕ, zero, suc}
 use mathlib.Core.Path.{_≡_, refl}
 use mathlib.Core.List.{List, [], _∷_}
+use lib.ListN.{length}
 use Rattle.file.specs.Grounds.{isAmong}
 use Rattle.file.specs.Order.{either}
-use Rattle.file.specs.Bytes.{bytesOf}
+use Rattle.file.specs.Bytes.{numberOf, bytesOf, part}
+use Rattle.file.specs.Cluster.{bytesAmong, bytesIn, physicalName, logicalName}
+use Rattle.file.specs.Decode.{decode, decodeAt, slavesAt, slaveAt, filesAt, fileAt, fileSize, offsetAt}
 use Rattle.naming.specs.View.{sent, Sent, atUnnamed}
 use Rattle.naming.specs.Run.{Position, operationOf, operationAt, placeOf, askOrGive, questionOf, partOf, giveOf, tried}
-use Rattle.naming.specs.Account.{Named, Account, accountOf, comparisonsOf, comparisonsAfter, oneRound, pass, freePass, goOn, passDone, runEnds, give, falling, insert, unnamedAmong, namesHeld, endWith}
+use Rattle.naming.specs.Account.{Named, namesOf, namesIn, Account, accountOf, comparisonsOf, comparisonsAfter, oneRound, pass, freePass, goOn, passDone, runEnds, give, falling, insert, unnamedAmong, namesHeld, endWith}
 
 -- n names from a on
-from : ℕ → ℕ → List ℕ
+pub from : ℕ → ℕ → List ℕ
 from zero a = []
 from (suc n) a = a ∷ from n (suc a)
 
-slave : ℕ → ℕ → Named
+pub slave : ℕ → ℕ → Named
 slave p n = record { physical = p; logical = n }
 
-rounds : ℕ → Account → Account
+pub rounds : ℕ → Account → Account
 rounds zero a = a
 rounds (suc n) a = rounds n (oneRound a)
 
@@ -29,19 +32,35 @@ pub record Figures : Type 0 where
   pub rounds : ℕ
   pub comparisons : ℕ
 
-figures : Account → Figures
+pub figures : Account → Figures
 figures a = record { slaves = a .slaves; end = a .end; rounds = a .rounds; comparisons = comparisonsOf a }
 
--- case M10: "named 2 compares 131 rounds 404"
-m10 :
-    figures (rounds 404 (accountOf (slave 0x0000000700000010 0xFF ∷ slave 0x00000007000000A0 0xFF ∷ []) (from 254 1))) ≡
+-- case M10: "the 96-byte file"
+pub m10File : List ℕ
+m10File =
+    0x54 ∷ 0x41 ∷ 0x01 ∷ 0x02 ∷ 0x00 ∷ 0x10 ∷ 0x00 ∷ 0x60 ∷ 0 ∷ 0 ∷ 0 ∷ 0 ∷ 0 ∷ 0 ∷ 0 ∷ 0 ∷
+    0x00 ∷ 0x18 ∷ 0x02 ∷ 0x00 ∷ 0x00 ∷ 0x3C ∷ 0x02 ∷ 0x00 ∷
+    0x08 ∷ 0x03 ∷ 0x00 ∷ 0x20 ∷ 0x3D ∷ 0x02 ∷ 0x00 ∷ 0x30 ∷
+    0 ∷ 0 ∷ 0 ∷ 0 ∷ 0 ∷ 0 ∷ 0 ∷ 0xFF ∷ 0 ∷ 0 ∷ 0 ∷ 0 ∷ 0 ∷ 0 ∷ 0 ∷ 0 ∷
+    0 ∷ 0 ∷ 0 ∷ 0 ∷ 0 ∷ 0 ∷ 0 ∷ 0x07 ∷ 0 ∷ 0 ∷ 0 ∷ 0x10 ∷
+    0x08 ∷ 0x03 ∷ 0x00 ∷ 0x44 ∷ 0x3D ∷ 0x02 ∷ 0x00 ∷ 0x54 ∷
+    0 ∷ 0 ∷ 0 ∷ 0 ∷ 0 ∷ 0 ∷ 0 ∷ 0xFF ∷ 0 ∷ 0 ∷ 0 ∷ 0 ∷ 0 ∷ 0 ∷ 0 ∷ 0 ∷
+    0 ∷ 0 ∷ 0 ∷ 0 ∷ 0 ∷ 0 ∷ 0 ∷ 0x07 ∷ 0 ∷ 0 ∷ 0 ∷ 0xA0 ∷ []
+
+m10-length : length m10File ≡ 96
+unfolding m10File
+m10-length = refl
+
+-- the names and counts of its account: "named 2 compares 131 rounds 404"
+pub m10 :
+    figures (rounds 404 (accountOf (namesIn (decode m10File)) (from 254 1))) ≡
     record {
       slaves = slave 0x0000000700000010 2 ∷ slave 0x00000007000000A0 1 ∷ [];
       end = 1;
       rounds = 404;
       comparisons = 131;
     }
-unfolding figures rounds from slave comparisonsOf comparisonsAfter oneRound pass freePass goOn passDone runEnds give accountOf falling insert unnamedAmong namesHeld endWith isAmong either
+unfolding m10File decode decodeAt slavesAt slaveAt filesAt fileAt fileSize offsetAt part numberOf namesIn namesOf physicalName logicalName bytesIn bytesAmong figures rounds from slave comparisonsOf comparisonsAfter oneRound pass freePass goOn passDone runEnds give accountOf falling insert unnamedAmong namesHeld endWith isAmong either
 m10 = refl
 
 -- names 5 and 7 for slaves of which one holds 5 and one, with physical name 0, is unnamed: "names used up" after 1 + 200 rounds
