@@ -6,7 +6,7 @@ use mathlib.Core.Bool.{cond}
 use lib.ListN.{length, getD}
 use lib.Dec.{eqb}
 use Rattle.file.specs.Layout.{recordSize}
-use Rattle.file.specs.Cluster.{Cluster, bytesIn, hasRecord, configuration, documentation}
+use Rattle.file.specs.Cluster.{Cluster, bytesIn, hasRecord, configuration, documentation, fileNumberOf, operationOf}
 use Rattle.file.specs.Encode.{encode}
 use Rattle.file.specs.Decode.{decode}
 use Rattle.file.specs.Legal.{Legal}
@@ -30,6 +30,14 @@ pub record Placed (c : Cluster) (count : ℕ) (configurations documentations : L
 pub record KeptAt (c : Cluster) (n : ℕ) (places : List ℕ) (s : ℕ) : Type 0 where
   pub slave : s < length (c .slaves)
   pub place : getD places s 0 ≡ filePlace c s n
+
+-- the cluster's pending flag, logical name and record number, and PB2 split into file number and operation
+pub record PendingIs (c : Cluster) (flag name number operation «record» : ℕ) : Type 0 where
+  pub waits : flag ≡ c .flag
+  pub named : name ≡ c .pendingName
+  pub file : number ≡ fileNumberOf (c .pendingPB2)
+  pub does : operation ≡ operationOf (c .pendingPB2)
+  pub place : «record» ≡ c .pendingPB3
 
 -- where a slave keeps a file, and how many bytes it has; where it keeps a record
 pub data FoundFile : Type 0 where

@@ -6,3 +6,4 @@ mod repeats;
 pub mod survey;
 pub mod types;
 mod walk;
+pub mod writers;
