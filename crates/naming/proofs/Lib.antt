@@ -19,3 +19,4 @@ pub mod StepRound
 pub mod ByteLaws
 pub mod OverBytes
 pub mod Lists
+pub mod StepLaws

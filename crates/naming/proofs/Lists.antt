@@ -2,22 +2,21 @@
 -- where it ends, and so with any accepted round of others that does not change the configuration.
 -- Assumes nothing.
 use Prim.Native.Nat.{ℕ}
-use mathlib.Core.Path.{_≡_, refl, sym, ap, _∙_}
+use mathlib.Core.Path.{_≡_, refl, _∙_}
 use mathlib.Core.List.{List, [], _∷_, _++_}
 use mathlib.Core.Bool.{Bool, true, false, cond, not}
 use lib.ListN.{getD}
 use lib.Dec.{eqb}
-use borrow.Author.Tests.{eq-eqb, not-true}
-use Rattle.file.specs.Bytes.{Bytes, All, none, both as also}
-use Rattle.file.specs.Order.{both}
+use borrow.Author.Tests.{not-true}
+use Rattle.file.specs.Bytes.{All, none, both as also}
 use Rattle.file.specs.Grounds.{fileGround}
-use Rattle.file.proofs.Order.{byCase, both-left, both-right, both-true}
+use Rattle.file.proofs.Order.{both-left, both-right, both-true}
 use Rattle.frame.specs.Fireworks.{Round, multipartner, msd, msa, roundOf, roundIn}
 use Rattle.frame.specs.Grounds.{wrongLength}
 use Rattle.cluster.specs.Grounds.{shortAnswer, roundBy, noFirework, lengthFor, wrongLengthOn, wrongCheckOn, noOperationOn, broadcastReadOn, frameGround}
 use Rattle.file.specs.Cluster.{Cluster}
 use Rattle.file.specs.Decode.{decode}
-use Rattle.cluster.specs.Round.{carried, frameOn, carriedBy, roundGround, roundOn}
+use Rattle.cluster.specs.Round.{carried, carriedBy, roundGround, roundOn}
 use Rattle.cluster.proofs.Rounds.{fits-none, round-accepted}
 use Rattle.naming.specs.Run.{Position}
 use Rattle.naming.specs.Step.{stepGround}
