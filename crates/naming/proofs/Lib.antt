@@ -20,3 +20,6 @@ pub mod ByteLaws
 pub mod OverBytes
 pub mod Lists
 pub mod StepLaws
+pub mod PositionLaws
+pub mod NameLaws
+pub mod SendLaws

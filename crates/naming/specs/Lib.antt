@@ -5,3 +5,4 @@ pub mod Step
 pub mod Account
 pub mod Figures
 pub mod Demand
+pub mod Answers

@@ -223,3 +223,11 @@ startGround names = firstOf (namesGrounds names)
 
 unfoldable pub runGrounds : List ℕ → Position → List Ground
 runGrounds names p = namesGrounds names ++ (record { number = 17; holds = unfitPosition names p } ∷ [])
+
+-- making a fresh run: a refusal by its number, or the run
+pub data Starting : Type 0 where
+  refused : ℕ → Starting
+  begun : Position → Starting
+
+unfoldable pub startOver : List ℕ → Starting
+startOver names = cond (eqb (startGround names) 0) (begun (fresh names)) (refused (startGround names))
