@@ -3,12 +3,13 @@ use Prim.Native.Nat.{ℕ, zero, suc, _≤_, _<_}
 use mathlib.Core.Path.{_≡_}
 use mathlib.Core.List.{List, [], _∷_}
 use mathlib.Core.Bool.{cond}
-use lib.ListN.{length, getD, set, take}
+use lib.ListN.{length, getD, set}
 use lib.Dec.{leb}
 use lib.Bits.{bitAnd}
 use Rattle.file.specs.Order.{both}
 use Rattle.file.specs.Cluster.{Slave, Cluster}
-use Rattle.file.specs.Accepted.{Becomes}
+use Rattle.file.specs.Places.{withSlaves}
+use Rattle.file.specs.Accepted.{Becomes, KeptAt}
 use Rattle.cluster.specs.Bus.{Senders, anyone, senderMask, answerBytes, answerIn}
 use Rattle.cluster.specs.Slaves.{Operation, sentTo}
 use Rattle.cluster.specs.Round.{Effect}
@@ -33,3 +34,24 @@ pub record Heard (r : Senders) (firework : ℕ) (old new : List ℕ) (last : ℕ
   pub few : last < 64
   pub reach : (slot : ℕ) → anyone (r slot) ≡ anyone (sendersTo last slot)
   pub buffer : new ≡ answerIn old (answerBytes firework r)
+
+-- ---- slave by slave
+
+-- the number of slaves, and where each keeps file n
+pub record AllKept (c : Cluster) (n : ℕ) (places : List ℕ) (count : ℕ) : Type 0 where
+  pub all : count ≡ length (c .slaves)
+  pub at : (s : ℕ) → s < length (c .slaves) → KeptAt c n places s
+
+-- the last slot that someone sent in, behind one more sender
+unfoldable pub reachOf : ℕ → List ℕ → ℕ
+reachOf last [] = last
+reachOf last (b ∷ bs) = length (b ∷ bs)
+
+-- one slave's part in a read or a compare: its reply joined into the buffer
+pub record Turn (reply old new : List ℕ) (last next : ℕ) : Type 0 where
+  pub buffer : new ≡ said old 1 reply
+  pub reach : next ≡ reachOf last reply
+
+-- the cluster with the slave at an index replaced
+unfoldable pub withSlave : Cluster → ℕ → Slave → Cluster
+withSlave c s x = withSlaves c (set (c .slaves) s x)

@@ -6,3 +6,4 @@ pub mod Multipartner
 pub mod Grounds
 pub mod Round
 pub mod Carried
+pub mod Answers

@@ -1,0 +1,18 @@
+-- `cluster::slaves::is_compared` meets its contract: one test behind another.
+-- Assumes nothing.
+use Rattle.cluster.proofs.SlaveLaws.{at-broadcast-none, not-broadcast}
+use borrow.Author.Needs.{needs}
+use Rattle.cluster.proofs.slaves.is_compared.Statement.{statement}
+use Rattle.cluster.proofs.slaves.is_compared.Tie as tie
+
+returns : tie.Need-returns
+returns c = search (needs, at-broadcast-none)
+
+is-addressed-requires : tie.Need-is-addressed-requires
+is-addressed-requires c κs = search needs
+
+returns-2 : tie.Need-returns-2
+returns-2 c = search (needs, not-broadcast)
+
+pub is-compared-spec : {M : Type 1} → statement M
+is-compared-spec = tie.close (tie.spec returns is-addressed-requires returns-2)

@@ -1,0 +1,84 @@
+-- `cluster::slaves::write_slave` meets its contract: a law for each way.
+-- Assumes nothing.
+use Prim.Native.Nat.{ℕ}
+use mathlib.Core.List.{List}
+use native.Mathlib.Omega.{arith}
+use Rattle.file.specs.Bytes.{Bytes}
+use Rattle.frame.specs.Frames.{between}
+use Rattle.cluster.proofs.SlaveLaws.{record-room, between-bytes, write-unaddressed, write-missing, write-found}
+use borrow.Author.Needs.{needs}
+use Rattle.cluster.proofs.slaves.write_slave.Statement.{statement}
+use Rattle.cluster.proofs.slaves.write_slave.Tie as tie
+
+logical-name-requires : tie.Need-logical-name-requires
+logical-name-requires c κs = search needs
+
+is-addressed-requires : tie.Need-is-addressed-requires
+is-addressed-requires c κs = search needs
+
+same-length : tie.Need-same-length
+same-length c = search needs
+
+returns : tie.Need-returns
+returns c = search (needs, write-unaddressed)
+
+find-record-requires : tie.Need-find-record-requires
+find-record-requires c κs = search needs
+
+enum-known-found : tie.Need-enum-known-found
+enum-known-found c = search needs
+
+enum-told : tie.Need-enum-told
+enum-told c = search needs
+
+same-length-2 : tie.Need-same-length-2
+same-length-2 c = search needs
+
+returns-2 : tie.Need-returns-2
+returns-2 c = search (needs, write-missing)
+
+shared-slice-read-store-record : tie.Need-shared-slice-read-store-record
+shared-slice-read-store-record c = search needs
+
+shared-slice-read-store-record-2 : tie.Need-shared-slice-read-store-record-2
+shared-slice-read-store-record-2 c = search needs
+
+shared-slice-read-store-record-3 : tie.Need-shared-slice-read-store-record-3
+shared-slice-read-store-record-3 c = search needs
+
+shared-slice-read-store-record-4 : tie.Need-shared-slice-read-store-record-4
+shared-slice-read-store-record-4 c = search needs
+
+store-record-requires : tie.Need-store-record-requires
+store-record-requires c κs = search (needs, record-room)
+
+same-length-3 : tie.Need-same-length-3
+same-length-3 c = search needs
+
+returns-3 : tie.Need-returns-3
+returns-3 c =
+    let start = c .before .before .before .before .before .before .before .before .before .before .before .before .before .before .before .before .before .before .before in
+    let frame : List ℕ = start .args .frame .now in
+    let bytes : Bytes (between frame) = between-bytes frame (λ k. omega (arith, c .before .before .before .shared-slice-known5 .given k)) in
+    search (needs, write-found, bytes)
+
+pub write-slave-spec : {M : Type 1} → statement M
+write-slave-spec =
+    tie.close
+    (tie.spec
+    logical-name-requires
+    is-addressed-requires
+    same-length
+    returns
+    find-record-requires
+    enum-known-found
+    enum-told
+    same-length-2
+    returns-2
+    shared-slice-read-store-record
+    shared-slice-read-store-record-2
+    shared-slice-read-store-record-3
+    shared-slice-read-store-record-4
+    store-record-requires
+    same-length-3
+    returns-3)

@@ -1,0 +1,158 @@
+// What one slave does in the data part of a master-slave round, in a file that is known to be accepted.
+ghost use mathlib.Core.Path.{_≡_};
+ghost use mathlib.Core.Bool.{true, not};
+ghost use mathlib.Core.List.{[]};
+ghost use Prim.Native.Nat.{_≤_, _<_};
+ghost use lib.ListN.{length};
+ghost use lib.Dec.{eqb};
+ghost use Rattle.file.specs.Order.{both};
+ghost use Rattle.file.specs.Cluster.{configuration, documentation, unnamed, broadcast};
+ghost use Rattle.file.specs.Decode.{decode};
+ghost use Rattle.file.specs.Places.{slaveOf};
+ghost use Rattle.file.specs.Accepted.{Becomes, KeptAt};
+ghost use Rattle.frame.specs.Frames.{between};
+ghost use Rattle.cluster.specs.Bus.{slots};
+ghost use Rattle.cluster.specs.Slaves.{addresses, mayWrite, reading, writing, comparing, baptizing, replyTo, slaveAfter};
+ghost use Rattle.cluster.specs.Carried.{Turn, withSlave};
+use crate::answer::send_byte;
+use crate::answer::send_record;
+use file::readers::RecordPlace;
+use file::readers::comparison_value;
+use file::readers::find_record;
+use file::readers::logical_name;
+use file::readers::physical_name;
+use file::types::FileNumber;
+use file::types::LogicalName;
+use file::types::RecordNumber;
+use file::writers::store_record;
+use file::writers::take_new_name;
+
+// Whether a slave with its own logical name is addressed.
+fn is_addressed(name: LogicalName, own: LogicalName) -> bool
+    ensures { λ r. ⌜ r ≡ addresses (name .0) (own .0) ⌝ }
+{
+    if name.0 == LogicalName::UNNAMED.0 {
+        return own.0 == LogicalName::UNNAMED.0;
+    }
+    if name.0 == LogicalName::BROADCAST.0 {
+        return own.0 != LogicalName::UNNAMED.0;
+    }
+    own.0 == name.0
+}
+
+// The same for a read: never an unnamed slave.
+fn is_read(name: LogicalName, own: LogicalName) -> bool
+    ensures { λ r. ⌜ r ≡ both (addresses (name .0) (own .0)) (not (eqb (own .0) unnamed)) ⌝ }
+{
+    if !is_addressed(name, own) {
+        return false;
+    }
+    own.0 != LogicalName::UNNAMED.0
+}
+
+// The same for a compare: none at broadcast.
+fn is_compared(name: LogicalName, own: LogicalName) -> bool
+    ensures { λ r. ⌜ r ≡ both (not (eqb (name .0) broadcast)) (addresses (name .0) (own .0)) ⌝ }
+{
+    if name.0 == LogicalName::BROADCAST.0 {
+        return false;
+    }
+    is_addressed(name, own)
+}
+
+// Read: the slave's reply joined into the buffer; the last slot that someone has sent in.
+pub fn read_slave(
+    file: &[u8],
+    configurations: &[usize; 32],
+    slave: usize,
+    name: LogicalName,
+    number: FileNumber,
+    record: RecordNumber,
+    buffer: &mut [u8],
+    last: u64,
+) -> u64
+    requires { ⌜ Becomes (now file) (decode (now file)) × KeptAt (decode (now file)) configuration (now configurations) slave × (slots ≤ length (now buffer)) ⌝ }
+    ensures { λ r. ⌜ Turn (replyTo (reading (name .0) (number .0) («record» .0)) (slaveOf (decode (now (file .entry))) slave)) (now (buffer .entry)) (now (buffer .exit)) last r ⌝ }
+{
+    let own = logical_name(file, configurations, slave);
+    if !is_read(name, own) {
+        return last;
+    }
+    let found = find_record(file, slave, number, record);
+    let RecordPlace::At(place) = found else {
+        return last;
+    };
+    send_record(buffer, file, place);
+    5
+}
+
+// Compare: the same, where the physical name is at least the comparison value.
+pub fn compare_slave(
+    file: &[u8],
+    configurations: &[usize; 32],
+    documentations: &[usize; 32],
+    slave: usize,
+    name: LogicalName,
+    buffer: &mut [u8],
+    last: u64,
+) -> u64
+    requires { ⌜ Becomes (now file) (decode (now file)) × KeptAt (decode (now file)) configuration (now configurations) slave × KeptAt (decode (now file)) documentation (now documentations) slave × (slots ≤ length (now buffer)) ⌝ }
+    ensures { λ r. ⌜ Turn (replyTo (comparing (name .0)) (slaveOf (decode (now (file .entry))) slave)) (now (buffer .entry)) (now (buffer .exit)) last r ⌝ }
+{
+    let own = logical_name(file, configurations, slave);
+    if !is_compared(name, own) {
+        return last;
+    }
+    let value = comparison_value(file, configurations, slave);
+    if physical_name(file, documentations, slave) < value {
+        return last;
+    }
+    send_byte(buffer, 0x00);
+    1
+}
+
+// Write: an addressed slave that has the record replaces all four bytes, by those of the frame.
+pub fn write_slave(
+    file: &mut [u8],
+    configurations: &[usize; 32],
+    slave: usize,
+    name: LogicalName,
+    number: FileNumber,
+    record: RecordNumber,
+    frame: &[u8],
+)
+    requires { ⌜ Becomes (now file) (decode (now file)) × KeptAt (decode (now file)) configuration (now configurations) slave × (mayWrite (number .0) («record» .0) ≡ true) × (4 < length (now frame)) ⌝ }
+    ensures { λ _. ⌜ Becomes (now (file .exit)) (withSlave (decode (now (file .entry))) slave (slaveAfter (writing (name .0) (number .0) («record» .0)) (between (now (frame .entry))) (slaveOf (decode (now (file .entry))) slave))) ⌝ }
+{
+    let own = logical_name(file, configurations, slave);
+    if !is_addressed(name, own) {
+        return;
+    }
+    let found = find_record(file, slave, number, record);
+    let RecordPlace::At(place) = found else {
+        return;
+    };
+    store_record(file, place, frame[1], frame[2], frame[3], frame[4]);
+}
+
+// Execute of record 1: an addressed slave whose physical name is the comparison value takes its new logical name.
+pub fn baptize_slave(
+    file: &mut [u8],
+    configurations: &[usize; 32],
+    documentations: &[usize; 32],
+    slave: usize,
+    name: LogicalName,
+)
+    requires { ⌜ Becomes (now file) (decode (now file)) × KeptAt (decode (now file)) configuration (now configurations) slave × KeptAt (decode (now file)) documentation (now documentations) slave ⌝ }
+    ensures { λ _. ⌜ Becomes (now (file .exit)) (withSlave (decode (now (file .entry))) slave (slaveAfter (baptizing (name .0)) [] (slaveOf (decode (now (file .entry))) slave))) ⌝ }
+{
+    let own = logical_name(file, configurations, slave);
+    if !is_addressed(name, own) {
+        return;
+    }
+    let value = comparison_value(file, configurations, slave);
+    if physical_name(file, documentations, slave) != value {
+        return;
+    }
+    take_new_name(file, configurations, slave);
+}
