@@ -23,3 +23,5 @@ pub mod StepLaws
 pub mod PositionLaws
 pub mod NameLaws
 pub mod SendLaws
+pub mod RunLaws
+pub mod StepCode

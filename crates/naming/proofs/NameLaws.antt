@@ -96,12 +96,12 @@ module _ {l : List ℕ} {seen : List Bool} {i : ℕ} (h : Marking l seen i) (mor
   marked n b =
       byCase (eqb n (getD l (i - 1) 0))
       (λ e.
-        let same : n ≡ getD l (i - 1) 0 = eqb-true n (getD l (i - 1) 0) e in
-        rw (behind n, either-left (isAmong n (drop i l)) e, same)
-        (getD-set-same seen (getD l (i - 1) 0) true false (rw (h .room) byte)))
+      let same : n ≡ getD l (i - 1) 0 = eqb-true n (getD l (i - 1) 0) e in
+      rw (behind n, either-left (isAmong n (drop i l)) e, same)
+      (getD-set-same seen (getD l (i - 1) 0) true false (rw (h .room) byte)))
       (λ e.
-        let other : n ≡ getD l (i - 1) 0 → ⊥ = eqb-false n (getD l (i - 1) 0) e in
-        rw (behind n, either-next (isAmong n (drop i l)) e) (getD-set-other seen (getD l (i - 1) 0) n true false other ∙ h .marks n b))
+      let other : n ≡ getD l (i - 1) 0 → ⊥ = eqb-false n (getD l (i - 1) 0) e in
+      rw (behind n, either-next (isAmong n (drop i l)) e) (getD-set-other seen (getD l (i - 1) 0) n true false other ∙ h .marks n b))
 
   pub marking-next : getD seen (getD l (i - 1) 0) false ≡ false → Marking l (set seen (getD l (i - 1) 0) true) (i - 1)
   unfolding hasRepeat

@@ -157,11 +157,23 @@ module _ (names : List ℕ) (mark index step value rounds comparisons : ℕ) whe
             pub unfit-rounds : 1_000_000 ≤ rounds → true ≡ unfitPosition names (at mark index step value rounds comparisons)
             unfolding unfitPosition either both
             unfit-rounds h =
-                rw (le-ltb namesUsedUp mark m, le-ltb (length names) index i, eq-eqb mark running runs, ne-eqb index (length names) inside,
-                le-ltb lastStep step s, le-leb countLimit rounds h)
+                rw (
+                  le-ltb namesUsedUp mark m,
+                  le-ltb (length names) index i,
+                  eq-eqb mark running runs,
+                  ne-eqb index (length names) inside,
+                  le-ltb lastStep step s,
+                  le-leb countLimit rounds h,
+                )
 
             pub unfit-comparisons : rounds < 1_000_000 → leb countLimit comparisons ≡ unfitPosition names (at mark index step value rounds comparisons)
             unfolding unfitPosition either both
             unfit-comparisons h =
-                rw (le-ltb namesUsedUp mark m, le-ltb (length names) index i, eq-eqb mark running runs, ne-eqb index (length names) inside,
-                le-ltb lastStep step s, lt-leb countLimit rounds h)
+                rw (
+                  le-ltb namesUsedUp mark m,
+                  le-ltb (length names) index i,
+                  eq-eqb mark running runs,
+                  ne-eqb index (length names) inside,
+                  le-ltb lastStep step s,
+                  lt-leb countLimit rounds h,
+                )

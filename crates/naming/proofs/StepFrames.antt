@@ -5,6 +5,7 @@ use mathlib.Core.Path.{_≡_, refl}
 use mathlib.Core.List.{List, [], _∷_, map}
 use mathlib.Core.Bool.{false, not}
 use native.Mathlib.Omega.{arith}
+use lib.ListN.{getD}
 use lib.Dec.{eqb}
 use borrow.Author.Tests.{eq-eqb, ne-eqb}
 use Rattle.file.specs.Bytes.{Byte, Bytes, none, both as also, bytesOf}
@@ -28,7 +29,7 @@ use Rattle.naming.proofs.Abstract.{Sendable, of-poll, of-name, of-high,
 use Rattle.naming.proofs.SlaveRounds.{carriedOut, operation-sent}
 
 -- the operations are legal, and no read is at 0x00
-sent-fits : {o : Operation} → Sendable o → (noOperation (operationOf (pb2Of (sent o .file) (sent o .operation))) ≡ false) × (broadcastRead (operationOf (pb2Of (sent o .file) (sent o .operation))) (sent o .name) ≡ false)
+pub sent-fits : {o : Operation} → Sendable o → (noOperation (operationOf (pb2Of (sent o .file) (sent o .operation))) ≡ false) × (broadcastRead (operationOf (pb2Of (sent o .file) (sent o .operation))) (sent o .name) ≡ false)
 unfolding sent atUnnamed pb2Of noOperation broadcastRead
 sent-fits (of-poll {n} f) = (refl, rw (ne-eqb n broadcast (f .some)) (unfold both in refl))
 sent-fits (of-name f) = (refl, unfold both in refl)
@@ -41,13 +42,13 @@ checked : (n : ℕ) → not (eqb n n) ≡ false
 checked n = rw (eq-eqb n n refl)
 
 -- what is sent are bytes
-record SentBytes (s : Sent) : Type 0 where
-  name : Byte (s .name)
-  file : s .file ≤ 63
-  operation : s .operation ≤ 3
-  «record» : Byte (s .«record»)
+pub record SentBytes (s : Sent) : Type 0 where
+  pub name : Byte (s .name)
+  pub file : s .file ≤ 63
+  pub operation : s .operation ≤ 3
+  pub «record» : Byte (s .«record»)
 
-sent-bytes : {o : Operation} → Sendable o → SentBytes (sent o)
+pub sent-bytes : {o : Operation} → Sendable o → SentBytes (sent o)
 unfolding sent atUnnamed
 sent-bytes (of-poll f) = record { name = f .byte; file = omega arith; operation = omega arith; «record» = omega arith }
 sent-bytes (of-name f) = record { name = omega arith; file = omega arith; operation = omega arith; «record» = omega arith }
@@ -121,7 +122,7 @@ data-sent-bytes (of-low k) = data-bytes (bytes-bytesOf 4 k)
 data-sent-bytes of-compare = firework-bytes
 data-sent-bytes of-baptize = firework-bytes
 
-data-round : (o : Operation) → roundBy (dataSent (sent o)) ≡ msd
+pub data-round : (o : Operation) → roundBy (dataSent (sent o)) ≡ msd
 unfolding dataSent sent atUnnamed dataFrame frameOf roundBy roundOf roundIn
 data-round (poll n) = refl
 data-round (writeName n) = refl
@@ -129,6 +130,15 @@ data-round (writeHigh h) = refl
 data-round (writeLow l) = refl
 data-round compare = refl
 data-round baptize = refl
+
+pub data-first : (o : Operation) → getD (dataSent (sent o)) 0 0 ≡ dataFirework
+unfolding dataSent sent atUnnamed dataFrame frameOf
+data-first (poll n) = refl
+data-first (writeName n) = refl
+data-first (writeHigh h) = refl
+data-first (writeLow l) = refl
+data-first compare = refl
+data-first baptize = refl
 
 module _ (c : Cluster) where
   data-size : (o : Operation) → wrongLengthOn (asked c o) msd (dataSent (sent o)) ≡ false

@@ -2,32 +2,35 @@
 -- says whether someone answers.
 -- Assumes nothing.
 use Prim.Native.Nat.{ℕ, _≤_}
-use mathlib.Core.Path.{_≡_, refl, _∙_}
-use mathlib.Core.List.{List, [], _∷_, map}
+use mathlib.Core.Path.{_≡_, refl, ap, _∙_}
+use mathlib.Core.List.{List, [], _∷_, _++_, map}
 use mathlib.Core.Bool.{Bool, true, false, cond}
 use native.Mathlib.Omega.{arith}
-use lib.ListN.{length}
+use lib.ListN.{length, drop}
+use lib.Seq.{drop-at}
 use lib.Dec.{eqb}
 use borrow.Author.Tests.{ltb-false}
 use Rattle.file.specs.Bytes.{Bytes, All}
 use Rattle.file.specs.Order.{firstOf}
+use Rattle.file.specs.Encode.{encode}
 use Rattle.file.specs.Decode.{decode}
 use Rattle.file.specs.Grounds.{fileGround}
 use Rattle.file.specs.Legal.{LegalSlave}
 use Rattle.file.specs.Accepted.{Becomes}
 use Rattle.file.proofs.Order.{first-next, first-end}
 use Rattle.file.proofs.Accepted.{accepted-becomes, encode-bytes}
-use Rattle.cluster.specs.Bus.{Senders, slots, anyone, senderMask}
+use Rattle.frame.specs.Fireworks.{dataFirework}
+use Rattle.cluster.specs.Bus.{Senders, slots, anyone, senderMask, answerBytes, answerIn}
 use Rattle.cluster.specs.Slaves.{sentTo}
 use Rattle.cluster.specs.Grounds.{shortAnswer, frameGround}
 use Rattle.cluster.specs.Round.{Effect, Answer, carried, frameOn, carriedBy, bufferBy, roundGround, roundOn}
-use Rattle.cluster.proofs.Bus.{mask-bit, answer-length}
+use Rattle.cluster.proofs.Bus.{mask-bit, answerBytes-length, answer-length}
 use Rattle.cluster.proofs.Rounds.{firstGround-next, round-accepted, round-becomes}
 use Rattle.naming.specs.View.{Operation, viewOf, view, sent, changeAll, answers}
 use Rattle.naming.specs.Step.{addressSent, dataSent, roundSent, inSlotOne}
 use Rattle.naming.proofs.Abstract.{Sendable}
 use Rattle.naming.proofs.SlaveRounds.{carriedOut, slaves-send, slaves-change}
-use Rattle.naming.proofs.StepFrames.{asked, address-accepted, address-after, address-sent-bytes, data-accepted, data-sent-bytes, data-senders, data-slaves}
+use Rattle.naming.proofs.StepFrames.{asked, address-accepted, address-after, address-sent-bytes, data-first, data-accepted, data-sent-bytes, data-senders, data-slaves}
 
 -- a frame that fits, on an accepted file and with a buffer that is long enough, is accepted
 pub round-fits :
@@ -47,6 +50,13 @@ unfolding shortAnswer bufferBy
 buffer-long e firework buffer long =
     let l : slots ≤ length buffer = ltb-false (length buffer) slots long in
     rw (answer-length buffer firework (e .senders) l) long
+
+-- of two answers in a buffer the second stays
+answered-twice : (e d : Effect) (firework last : ℕ) (buffer : List ℕ) → bufferBy e last (bufferBy d firework buffer) ≡ bufferBy e last buffer
+unfolding bufferBy answerIn
+answered-twice e d firework last buffer =
+    ap (λ (l : List ℕ). answerBytes last (e .senders) ++ l)
+    (drop-at (answerBytes firework (d .senders)) (drop slots buffer) slots (answerBytes-length firework (d .senders)))
 
 -- bit 1 of the mask
 bit-one : (r : Senders) (b : Bool) → anyone (r 1) ≡ cond b 1 0 → inSlotOne (carried (senderMask r)) ≡ b
@@ -100,6 +110,18 @@ module _ (f : List ℕ) {o : Operation} (buffer : List ℕ) (bytes : Bytes f) (g
   unfolding second carriedBy
   second-answer =
       rw (round-accepted (first .2) (dataSent (sent o)) (first .1) second-ground, first-becomes .decoded, data-senders (decode f) o)
+
+  -- the two frames together: what the data frame does, over the buffer as it was
+  pub round-is :
+      roundSent f (sent o) buffer ≡ (
+        carriedBy (frameOn (asked (decode f) o) (dataSent (sent o))),
+        bufferBy (frameOn (asked (decode f) o) (dataSent (sent o))) dataFirework buffer,
+        encode (frameOn (asked (decode f) o) (dataSent (sent o)) .after),
+      )
+  unfolding roundSent first
+  round-is =
+      round-accepted (first .2) (dataSent (sent o)) (first .1) second-ground
+      ∙ rw (first-becomes .decoded, data-first o, round-accepted f (addressSent (decode f) (sent o)) buffer first-ground, answered-twice)
 
   legal-slaves : All LegalSlave (decode f .slaves)
   legal-slaves = accepted-becomes f bytes good .legal .slaves

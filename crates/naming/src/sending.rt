@@ -1,18 +1,32 @@
-// The round that a run sends next.
+// The round that a run sends next, and its sending.
 ghost use mathlib.Core.Path.{_≡_};
 ghost use mathlib.Core.List.{[], _∷_};
 ghost use Prim.Native.Nat.{_≤_, _<_, _/_, _%_};
+ghost use lib.ListN.{length};
 ghost use Rattle.file.specs.Bytes.{bytesOf};
-ghost use Rattle.file.specs.Cluster.{writeOperation, executeOperation};
+ghost use Rattle.file.specs.Cluster.{configuration, documentation, writeOperation, executeOperation};
+ghost use Rattle.file.specs.Decode.{decode};
+ghost use Rattle.file.specs.Legal.{LegalPending};
+ghost use Rattle.file.specs.Accepted.{Becomes};
+ghost use Rattle.frame.specs.Fireworks.{dataFirework};
+ghost use Rattle.cluster.specs.Bus.{slots};
+ghost use Rattle.cluster.specs.Round.{carried, dataEffect};
+ghost use Rattle.cluster.specs.Carried.{AllKept, Carried};
 ghost use Rattle.naming.specs.View.{half, poll, writeHigh, writeLow, sent, atUnnamed};
 ghost use Rattle.naming.specs.Run.{placeOf, giveOf, partOf, operationAt, lastStep};
-ghost use Rattle.naming.specs.Answers.{Sends, askedBy};
+ghost use Rattle.naming.specs.Step.{inSlotOne};
+ghost use Rattle.naming.specs.Answers.{heard, Sends, askedBy, askedFor};
 use crate::position::GIVE_NAME;
 use crate::position::POLL;
+use crate::position::Reply;
 use crate::position::tried_value;
+use cluster::msd::carry_data;
+use cluster::msd::raise_epoch;
 use file::types::FileNumber;
 use file::types::LogicalName;
 use file::types::RecordNumber;
+use file::writers::set_pending;
+use frame::firework::MSD;
 use frame::types::Operation;
 
 // Name, file, operation and record of the address frame, and the data of a write, 0 for any other.
@@ -146,4 +160,33 @@ pub fn round_at(step: u64, name: LogicalName, value: u64) -> NextRound
         return compare_round(asked % 3, tried);
     }
     give_round(step - GIVE_NAME, name, value)
+}
+
+// Whether someone sent in slot 1.
+pub fn reply_in(senders: u64) -> Reply
+    ensures { λ r. ⌜ heard r ≡ inSlotOne (carried senders) ⌝ }
+{
+    if senders / 2 % 2 == 1 {
+        return Reply::Heard;
+    }
+    Reply::Silence
+}
+
+// The complete round on an accepted file: its operation becomes pending, with the epoch plus 1, and is carried out. The mask of
+// the slots in which someone sent.
+pub fn send(
+    file: &mut [u8],
+    configurations: &[usize; 32],
+    documentations: &[usize; 32],
+    count: usize,
+    next: NextRound,
+    buffer: &mut [u8],
+) -> u64
+    requires { ⌜ Becomes (now file) (decode (now file)) × AllKept (decode (now file)) configuration (now configurations) count × AllKept (decode (now file)) documentation (now documentations) count × LegalPending (askedFor (decode (now file)) next) × (slots ≤ length (now buffer)) ⌝ }
+    ensures { λ r. ⌜ Carried (dataEffect (askedFor (decode (now (file .entry))) next) (next .b0 ∷ next .b1 ∷ next .b2 ∷ next .b3 ∷ [])) dataFirework (now (buffer .entry)) (now (buffer .exit)) r (now (file .exit)) ⌝ }
+{
+    raise_epoch(file);
+    set_pending(file, next.name, next.number, next.operation.0, next.record);
+    let frame = [MSD, next.b0, next.b1, next.b2, next.b3, 0];
+    carry_data(file, configurations, documentations, count, &frame, buffer)
 }
