@@ -6,7 +6,6 @@ use native.Mathlib.Numerals.{add-one}
 use native.Mathlib.Omega.{arith}
 use mathlib.Core.Path.{_≡_, refl, sym, ap, _∙_}
 use mathlib.Core.List.{List, [], _∷_, _++_, append-nil}
-use mathlib.Core.Bool.{Bool, true, false, cond}
 use lib.ListN.{length, getD, set, take, drop, length-append, length-drop, length-set}
 use lib.Seq.{set-at, getD-at, append-snoc, drop-nil, drop-cons, drop-set-lt}
 use lib.Bits.{bitAnd, bitOr, and-le-l, or-shifted-r}
@@ -315,3 +314,12 @@ pub record-said : (b f : List ℕ) (p check : ℕ) → p + 4 ≤ length f → ch
     said b 1 (getD f p 0 ∷ getD f (p + 1) 0 ∷ getD f (p + 2) 0 ∷ getD f (p + 3) 0 ∷ check ∷ []) ≡ said b 1 (readReply (part f p 4))
 unfolding readReply
 record-said b f p check long is = rw (part-four f p long, is)
+
+nobody-quiet : (s : ℕ) → 0 ≡ anyone (nobody s)
+unfolding nobody anyone
+nobody-quiet s = refl
+
+-- the mask of a round in which nobody sends
+pub mask-nobody : 0 ≡ senderMask nobody
+unfolding senderMask
+mask-nobody = counting-done (counting-start 0) (omega arith) (omega arith) ∙ mask-alike (sendersTo 0) nobody slots (λ s. sendersTo-no 0 s (λ h. omega arith) ∙ nobody-quiet s)

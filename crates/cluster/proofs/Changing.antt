@@ -1,6 +1,6 @@
 -- The slaves changed one after the other: what a loop along the slaves keeps of the file, and one law for a turn.
 -- Assumes nothing.
-use Prim.Native.Nat.{ℕ, zero, suc, _+_, _*_, _≤_, _<_}
+use Prim.Native.Nat.{ℕ, zero, suc, _+_, _≤_, _<_}
 use native.Mathlib.Omega.{arith}
 use native.Mathlib.Numerals.{add-one}
 use mathlib.Core.Path.{_≡_, refl, sym, ap, _∙_, subst}
@@ -8,13 +8,12 @@ use mathlib.Core.List.{List, [], _∷_, _++_, map, append-nil}
 use lib.ListN.{length, getD, set, take, drop, length-map, drop-of-length-le}
 use lib.Seq.{take-suc, drop-cons, take-all, length-take-le, getD-at, set-at, append-snoc}
 use Rattle.file.specs.Layout.{offsetWidth}
-use Rattle.file.specs.Cluster.{Slave, Cluster}
+use Rattle.file.specs.Cluster.{Slave, Cluster, configuration, documentation}
 use Rattle.file.specs.Decode.{decode}
-use Rattle.file.specs.Places.{noSlave, slaveOf, filePlace, filePlaceAt, withSlaves, SameShape, noSlaves, sameSlave}
-use Rattle.file.specs.Accepted.{Becomes, KeptAt}
+use Rattle.file.specs.Places.{noSlave, slaveOf, filePlace, withSlaves, SameShape, noSlaves, sameSlave}
+use Rattle.file.specs.Accepted.{Becomes, Placed, KeptAt}
 use Rattle.file.proofs.Shape.{shape-refl, shape-count, shape-filePlaceAt}
-use Rattle.file.proofs.ReaderLaws.{becomes-decoded}
-use Rattle.cluster.specs.Slaves.{Operation, slaveAfter, slavesAfter}
+use Rattle.file.proofs.ReaderLaws.{becomes-decoded, placed-configuration, placed-documentation}
 use Rattle.cluster.specs.Carried.{AllKept, withSlave}
 use Rattle.cluster.proofs.Kept.{SlaveKept}
 
@@ -110,3 +109,10 @@ module _ {f : Slave → Slave} {c : Cluster} {i : ℕ} {file : List ℕ} (h : Ch
       rw (take-all i (c .slaves) all, drop-of-length-le (c .slaves) all, append-nil)
       in
       subst (λ (ss : List Slave). Becomes file (withSlaves c ss)) whole (h .becomes)
+
+-- the places that a survey hands back
+pub placed-configurations : {c : Cluster} {count : ℕ} {a b : List ℕ} → Placed c count a b → AllKept c configuration a count
+placed-configurations p = record { all = p .all; at = λ s inside. placed-configuration s p inside }
+
+pub placed-documentations : {c : Cluster} {count : ℕ} {a b : List ℕ} → Placed c count a b → AllKept c documentation b count
+placed-documentations p = record { all = p .all; at = λ s inside. placed-documentation s p inside }

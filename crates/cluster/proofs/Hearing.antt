@@ -1,20 +1,19 @@
 -- The replies of all slaves, one slave after the other: what a loop along the slaves keeps of buffer and slots, and one law for a
 -- turn.
 -- Assumes nothing.
-use Prim.Native.Nat.{ℕ, zero, suc, _+_, _*_, _≤_, _<_}
+use Prim.Native.Nat.{ℕ, zero, suc, _+_, _≤_, _<_}
 use native.Mathlib.Omega.{arith}
 use native.Mathlib.Numerals.{add-one}
 use mathlib.Core.Path.{_≡_, refl, sym, ap, _∙_}
 use mathlib.Core.Logic.{_⊎_, inl, inr, ⊎-elim}
 use mathlib.Core.List.{List, [], _∷_, _++_, append-assoc, append-nil}
-use mathlib.Core.Bool.{Bool, true, false, cond}
+use mathlib.Core.Bool.{true}
 use lib.ListN.{length, getD, take, drop, length-append, length-take, length-drop}
-use lib.Seq.{take-suc, take-length, take-all, drop-at, drop-nil}
+use lib.Seq.{take-suc, take-all, drop-at, drop-nil}
 use lib.Dec.{leb, ltb}
 use borrow.Author.Tests.{leb-true, leb-false, ltb-true, ltb-false}
 use Rattle.file.specs.Bytes.{part}
-use Rattle.file.specs.Layout.{recordSize}
-use Rattle.file.specs.Cluster.{Slave, Cluster, bytesIn, hasRecord, recordOf}
+use Rattle.file.specs.Cluster.{Slave, Cluster, hasRecord, recordOf}
 use Rattle.file.specs.Places.{noSlave, slaveOf}
 use Rattle.file.proofs.Order.{byCase, both-right}
 use Rattle.file.proofs.Puts.{hasRecord-fits}
@@ -138,6 +137,7 @@ heard-more {r} {t} {firework} {old} {last = last} {next} reply h more b n far fe
     inside : (slot : ℕ) → 1 ≤ slot → slot ≤ length reply → anyone (t slot) ≡ anyone (sendersTo (length reply) slot)
     inside slot low high =
         ap anyone (more slot) ∙ anyone-more (r slot) (inSlot reply slot) (inSlot-yes reply slot low high) ∙ sym (sendersTo-yes (length reply) slot low high)
+
     outside : (slot : ℕ) → (1 ≤ slot → length reply < slot) → anyone (t slot) ≡ anyone (sendersTo (length reply) slot)
     outside slot out =
         ap anyone (more slot) ∙ anyone-append (r slot) (inSlot reply slot) (inSlot-no reply slot out) ∙ h .reach slot

@@ -1,27 +1,26 @@
 -- What a round keeps: the slaves' shape, their physical names, and that the cluster is legal; and the files that it leaves alone.
 -- Assumes nothing.
-use Prim.Native.Nat.{ℕ, zero, suc, _+_, _*_, _%_, _≤_, _<_}
+use Prim.Native.Nat.{ℕ, zero, suc, _+_, _*_, _≤_, _<_}
 use native.Mathlib.Omega.{arith}
-use mathlib.Core.Path.{_≡_, refl, sym, ap, _∙_}
+use mathlib.Core.Path.{_≡_, refl, _∙_}
 use mathlib.Core.Logic.{_≢_}
 use mathlib.Core.List.{List, [], _∷_, map}
-use mathlib.Core.Bool.{Bool, true, false, cond, not}
-use lib.ListN.{length, getD}
-use lib.Dec.{eqb, leb, ltb}
-use borrow.Author.Tests.{eqb-true, eqb-false, leb-true, leb-false, ltb-true, not-true, ne-eqb, eq-eqb}
+use mathlib.Core.Bool.{true, not}
+use lib.Dec.{eqb}
+use borrow.Author.Tests.{leb-true, not-true, eq-eqb}
 use Rattle.file.specs.Bytes.{Byte, Bytes, All, none, both}
 use Rattle.file.specs.Order as Order
-use Rattle.file.specs.Layout.{offsetWidth, maxSlaves, maxLength, recordSize}
-use Rattle.file.specs.Cluster.{File, Slave, Cluster, bytesAmong, bytesIn, configuration, documentation, physicalName, newLogicalName, operationOf, readOperation, broadcast}
-use Rattle.file.specs.Legal.{LegalFile, LegalSlave, LegalPending, LegalAt, Legal, Distinct}
-use Rattle.file.specs.Places.{noSlave, slaveOf, putInSlave, withSlaves, withEpoch, withPending, SameFiles, SameShape, noSlaves, sameSlave}
+use Rattle.file.specs.Layout.{offsetWidth, recordSize}
+use Rattle.file.specs.Cluster.{File, Slave, Cluster, bytesAmong, bytesIn, configuration, documentation, physicalName, newLogicalName}
+use Rattle.file.specs.Legal.{LegalFile, LegalSlave, LegalPending, Legal}
+use Rattle.file.specs.Places.{putInSlave, withSlaves, withEpoch, withPending, SameFiles, SameShape, noSlaves, sameSlave}
 use Rattle.file.proofs.Order.{byCase, clash, both-left, both-right}
 use Rattle.file.proofs.Shape.{files-refl, files-trans, shape-refl, shape-trans, shape-count, shape-fileLength, slave-put}
 use Rattle.file.proofs.Puts.{inSlave-other, inSlave-physicalName}
 use Rattle.file.proofs.Kept.{slave-legal, legal-withEpoch, legal-withPending}
-use Rattle.file.proofs.Bytes.{all-getD, byte-at, bytes-part}
+use Rattle.file.proofs.Bytes.{byte-at}
 use Rattle.cluster.specs.Bus.{busByte}
-use Rattle.cluster.specs.Slaves.{withAddress, nextEpoch, epochRaised, isUnnamed, Operation, nothing, reading, writing, comparing, baptizing, mayWrite, takesWrite, takesName, named, replaced, slaveAfter, slavesAfter}
+use Rattle.cluster.specs.Slaves.{nextEpoch, epochRaised, isUnnamed, Operation, nothing, reading, writing, comparing, baptizing, mayWrite, takesWrite, takesName, named, replaced, slaveAfter, slavesAfter}
 use Rattle.cluster.specs.Entries.{Entry, Acting, acts, acting, bytePlace, receives}
 use Rattle.cluster.specs.Multipartner.{Place, nowhere, byteOf, within, mayStore, storePlace, storesAt, storedThere, receivedIn, sentIn, clusterBelow}
 use Rattle.cluster.proofs.Bus.{busByte-byte}

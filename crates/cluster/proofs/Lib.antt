@@ -1,8 +1,21 @@
+-- The laws of rounds, layer by layer; a module cites those above it. Each function's own proof stands in the folder of its source
+-- file.
+
+-- the bus: mask and buffer of any sender rule
 pub mod Bus
+pub mod Mask
+-- what a round keeps, what it leaves alone, and the laws of the round definition
 pub mod Kept
-pub mod Rounds
 pub mod Untouched
+pub mod Rounds
+-- loops along the slaves: their replies, and their changes
 pub mod Hearing
-pub mod SlaveLaws
 pub mod Changing
+-- the functions: one law for each way through a slave's part, a data part, and a frame
+pub mod SlaveLaws
 pub mod DataLaws
+pub mod FrameLaws
+-- the document's cases, frames that the writers wrote, and the ways of the round call
+pub mod Cases
+pub mod Sent
+pub mod RoundCall

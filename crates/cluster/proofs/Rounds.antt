@@ -1,23 +1,23 @@
 -- Laws of a round for the layers above: an accepted one leaves a legal cluster of the same shape and physical names, a refused one
 -- leaves all as it was, and the answer to a file of unknown edition depends on its length and first three bytes alone.
 -- Assumes nothing.
-use Prim.Native.Nat.{ℕ, suc, _+_, _≤_, _<_}
+use Prim.Native.Nat.{ℕ, _≤_}
 use native.Mathlib.Omega.{arith}
-use mathlib.Core.Path.{_≡_, refl, sym, ap, _∙_}
+use mathlib.Core.Path.{_≡_, sym, _∙_}
 use mathlib.Core.Logic.{_≢_}
-use mathlib.Core.List.{List, [], _∷_, map}
-use mathlib.Core.Bool.{Bool, true, false, cond}
+use mathlib.Core.List.{List}
+use mathlib.Core.Bool.{false}
 use lib.ListN.{length, getD, take}
-use lib.Dec.{eqb, leb}
+use lib.Dec.{eqb}
 use borrow.Author.Tests.{eqb-true, eq-eqb, ne-eqb, leb-false, ltb-false}
 use Rattle.file.specs.Bytes.{Byte, Bytes, All}
 use Rattle.file.specs.Order.{firstOf, both}
 use Rattle.file.specs.Layout.{offsetWidth, editionPlace}
-use Rattle.file.specs.Cluster.{Slave, Cluster, bytesIn, configuration, physicalName, operationOf, readOperation, broadcast}
-use Rattle.file.specs.Encode.{encode, fileLength}
+use Rattle.file.specs.Cluster.{Cluster, operationOf}
+use Rattle.file.specs.Encode.{encode}
 use Rattle.file.specs.Decode.{decode}
 use Rattle.file.specs.Grounds.{fileGround}
-use Rattle.file.specs.Legal.{LegalPending, Legal}
+use Rattle.file.specs.Legal.{LegalPending}
 use Rattle.file.specs.Places.{withEpoch, withPending}
 use Rattle.file.specs.Accepted.{Becomes}
 use Rattle.file.proofs.Order.{byCase, clash, first-none, both-true}
@@ -30,9 +30,8 @@ use Rattle.frame.specs.Frames.{between}
 use Rattle.frame.specs.Grounds.{noOperation, broadcastRead}
 use Rattle.cluster.specs.Bus.{slots}
 use Rattle.cluster.specs.Slaves.{withAddress, epochRaised, pendingOperation}
-use Rattle.cluster.specs.Multipartner.{clusterBelow}
 use Rattle.cluster.specs.Grounds.{shortAnswer, roundBy, noFirework, wrongLengthOn, wrongCheckOn, noOperationOn, broadcastReadOn, groundsOn, frameGround}
-use Rattle.cluster.specs.Round.{Effect, Answer, refused, carried, addressEffect, dataEffect, multipartnerEffect, effectOf, frameOn, carriedBy, bufferBy, exchange, firstGround, roundGround, roundOn}
+use Rattle.cluster.specs.Round.{refused, addressEffect, dataEffect, multipartnerEffect, effectOf, frameOn, carriedBy, bufferBy, firstGround, roundGround, roundOn}
 use Rattle.cluster.proofs.Kept.{ClusterKept, kept-refl, kept-trans, kept-epoch, kept-raised, kept-pending, kept-after, kept-below}
 
 -- ---- the grounds of a frame that is accepted

@@ -1,10 +1,10 @@
 -- One slave's part in the data part of a master-slave round: one law for each way out of a function.
 -- Assumes nothing.
-use Prim.Native.Nat.{ℕ, zero, suc, _+_, _*_, _≤_, _<_}
+use Prim.Native.Nat.{ℕ, suc, _+_, _*_, _≤_, _<_}
 use native.Mathlib.Omega.{arith}
 use mathlib.Core.Path.{_≡_, refl, sym, ap, _∙_, subst}
 use mathlib.Core.Logic.{_≢_}
-use mathlib.Core.List.{List, [], _∷_, _++_}
+use mathlib.Core.List.{List, [], _∷_}
 use mathlib.Core.Bool.{Bool, true, false, cond, not}
 use lib.ListN.{length, getD, set, length-append}
 use lib.Seq.{set-getD, set-set, sets}
@@ -14,19 +14,19 @@ use Rattle.file.specs.Bytes.{Byte, Bytes, All, part}
 use Rattle.file.specs.Order.{both}
 use Rattle.file.specs.Layout.{recordSize}
 use Rattle.file.specs.Cluster.{Slave, Cluster, hasRecord, recordOf, logicalName, physicalName, comparisonValue, newLogicalName, configuration, documentation, unnamed, broadcast}
-use Rattle.file.specs.Encode.{encode, encodeAt}
+use Rattle.file.specs.Encode.{encode}
 use Rattle.file.specs.Places.{noSlave, slaveOf, filePlace, putInSlave, withSlaves, putByte, putBytes}
-use Rattle.file.specs.Accepted.{Becomes, KeptAt, FoundRecord, recordAt, findRecord}
+use Rattle.file.specs.Accepted.{Becomes, FoundRecord, recordAt, findRecord}
 use Rattle.file.specs.Answers.{foundRecord}
 use Rattle.file.specs.declared.readers.RecordPlace.{RecordPlace}
 use Rattle.file.specs.declared.readers.RecordPlace.the-variants.{At, NoRecord}
-use Rattle.file.proofs.Order.{byCase, clash, both-true, both-left, both-right, both-next, both-false-left, both-false-right}
-use Rattle.file.proofs.Stores.{read-record, file-fits}
+use Rattle.file.proofs.Order.{byCase, clash, both-true, both-left, both-next, both-false-left, both-false-right}
+use Rattle.file.proofs.Stores.{read-record}
 use Rattle.file.proofs.Puts.{putByte-slave-same, putByte-count, hasRecord-fits}
 use Rattle.file.proofs.ReaderLaws.{place-within}
 use Rattle.file.proofs.StoreLaws.{becomes-record}
 use Rattle.frame.specs.Frames.{between}
-use Rattle.cluster.specs.Slaves.{addresses, addressed, isUnnamed, reading, writing, comparing, baptizing, Operation, answersRead, readReply, answersCompare, replyTo, mayWrite, takesWrite, takesName, named, replaced, slaveAfter}
+use Rattle.cluster.specs.Slaves.{addresses, addressed, isUnnamed, reading, writing, comparing, baptizing, answersRead, readReply, answersCompare, replyTo, mayWrite, takesWrite, takesName, named, replaced, slaveAfter}
 use Rattle.cluster.proofs.Hearing.{recordOf-length}
 use Rattle.cluster.specs.Carried.{said, reachOf, Turn, withSlave}
 
@@ -114,7 +114,6 @@ both-assoc : (a b d : Bool) → both a (both b d) ≡ both (both a b) d
 unfolding both
 both-assoc true b d = refl
 both-assoc false b d = refl
-
 
 answersRead-as : (name n r : ℕ) (s : Slave) {own : ℕ} → own ≡ logicalName s → answersRead name n r s ≡ both (both (addresses name own) (not (eqb own unnamed))) (hasRecord s n r)
 unfolding answersRead addressed isUnnamed

@@ -5,6 +5,9 @@ use lib.Dec.{eqb}
 use Rattle.file.specs.Cluster.{readOperation, writeOperation, executeOperation}
 use Rattle.cluster.specs.declared.msd.Duty.{Duty}
 use Rattle.cluster.specs.declared.msd.Duty.the-variants as duties
+use Rattle.cluster.specs.declared.answer.RoundAnswer.{RoundAnswer}
+use Rattle.cluster.specs.declared.answer.RoundAnswer.the-variants as answers
+use Rattle.cluster.specs.Round.{Answer, refused, carried}
 use Rattle.cluster.specs.Slaves.{Operation, nothing, reading, writing, comparing, baptizing, executionOf}
 
 -- what is pending, by logical name, file number and record number
@@ -23,3 +26,8 @@ dutyIn flag name n operation r =
     (cond (eqb operation writeOperation) (writing name n r)
     (cond (eqb operation executeOperation) (executionOf name n r) nothing)))
     nothing
+
+-- the answer to a frame: document 01's number, or the mask
+unfoldable pub answerOf : RoundAnswer → Answer
+answerOf (answers.Refused why) = refused (why .0)
+answerOf (answers.Carried mask) = carried mask

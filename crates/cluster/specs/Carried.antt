@@ -1,5 +1,5 @@
 -- What the inner functions promise to one another and to the layers above.
-use Prim.Native.Nat.{ℕ, zero, suc, _≤_, _<_}
+use Prim.Native.Nat.{ℕ, suc, _<_}
 use mathlib.Core.Path.{_≡_}
 use mathlib.Core.List.{List, [], _∷_}
 use mathlib.Core.Bool.{cond}
@@ -11,14 +11,19 @@ use Rattle.file.specs.Cluster.{Slave, Cluster}
 use Rattle.file.specs.Places.{withSlaves}
 use Rattle.file.specs.Accepted.{Becomes, KeptAt}
 use Rattle.cluster.specs.Bus.{Senders, anyone, senderMask, answerBytes, answerIn}
-use Rattle.cluster.specs.Slaves.{Operation, sentTo}
-use Rattle.cluster.specs.Round.{Effect}
+use Rattle.cluster.specs.Round.{Effect, Answer, exchange}
 
 -- an accepted frame carried out: the mask, the buffer and the file
 pub record Carried (effect : Effect) (firework : ℕ) (old new : List ℕ) (mask : ℕ) (file : List ℕ) : Type 0 where
   pub senders : mask ≡ senderMask (effect .senders)
   pub buffer : new ≡ answerIn old (answerBytes firework (effect .senders))
   pub becomes : Becomes file (effect .after)
+
+-- one frame of any bytes on an accepted file: answer, buffer and file are those of `exchange`
+pub record Exchanged (c : Cluster) (frame old new : List ℕ) (answer : Answer) (file : List ℕ) : Type 0 where
+  pub answers : answer ≡ exchange c frame old .0
+  pub buffer : new ≡ exchange c frame old .1
+  pub becomes : Becomes file (exchange c frame old .2)
 
 -- someone sends in each of the slots 1 to last, and in no other
 unfoldable pub sendersTo : ℕ → Senders

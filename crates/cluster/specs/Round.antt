@@ -2,10 +2,10 @@
 -- for every input.").
 use Prim.Native.Nat.{ℕ}
 use mathlib.Core.List.{List, [], _∷_}
-use mathlib.Core.Bool.{Bool, cond}
+use mathlib.Core.Bool.{cond}
 use lib.ListN.{getD}
 use lib.Dec.{eqb}
-use Rattle.file.specs.Order.{Ground, firstOf}
+use Rattle.file.specs.Order.{firstOf}
 use Rattle.file.specs.Cluster.{Cluster}
 use Rattle.file.specs.Encode.{encode}
 use Rattle.file.specs.Decode.{decode}

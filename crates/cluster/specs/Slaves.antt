@@ -1,7 +1,7 @@
 -- What slaves do in master-slave rounds (document 01, "What slaves do").
 use Prim.Native.Nat.{ℕ, zero, suc, _+_, _*_, _%_}
 use mathlib.Core.List.{List, [], _∷_, _++_, map}
-use mathlib.Core.Bool.{Bool, true, false, cond, not}
+use mathlib.Core.Bool.{Bool, cond, not}
 use lib.ListN.{take, drop}
 use lib.Dec.{eqb, leb}
 use Rattle.file.specs.Order.{both}

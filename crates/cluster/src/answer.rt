@@ -7,7 +7,14 @@ ghost use Rattle.file.specs.Bytes.{part};
 ghost use Rattle.cluster.specs.Bus.{slots, senderMask, answerBytes, answerIn, nobody};
 ghost use Rattle.cluster.specs.Slaves.{readReply};
 ghost use Rattle.cluster.specs.Carried.{sendersTo, said};
+use file::types::Refusal;
 use frame::check::data_check;
+
+// A frame is refused, or carried out, with the mask of the slots in which someone sent.
+pub enum RoundAnswer {
+    Refused(Refusal),
+    Carried(u64),
+}
 
 pub const SLOTS: usize = 64;
 

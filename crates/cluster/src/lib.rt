@@ -1,4 +1,6 @@
 // The simulated cluster: one frame on a cluster file.
 pub mod answer;
+pub mod msa;
 pub mod msd;
+pub mod round;
 pub mod slaves;

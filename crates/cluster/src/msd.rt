@@ -96,7 +96,16 @@ fn read_round(
     let mut last = 0u64;
     let mut slave = 0;
     while slave < count {
-        last = read_slave(file, configurations, slave, name, number, record, buffer, last);
+        last = read_slave(
+            file,
+            configurations,
+            slave,
+            name,
+            number,
+            record,
+            buffer,
+            last,
+        );
         slave = slave + 1;
     }
     last
@@ -117,7 +126,15 @@ fn compare_round(
     let mut last = 0u64;
     let mut slave = 0;
     while slave < count {
-        last = compare_slave(file, configurations, documentations, slave, name, buffer, last);
+        last = compare_slave(
+            file,
+            configurations,
+            documentations,
+            slave,
+            name,
+            buffer,
+            last,
+        );
         slave = slave + 1;
     }
     last

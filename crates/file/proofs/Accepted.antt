@@ -1,8 +1,8 @@
 -- What the cluster file's checker accepts, in edition 1: exactly the encodings of legal clusters. Encoding and decoding are inverse to
 -- each other between legal clusters and accepted files.
 -- Assumes nothing.
-use Prim.Native.Nat.{ℕ}
-use mathlib.Core.Path.{_≡_, refl, sym, subst}
+use Prim.Native.Nat.{ℕ, zero, suc}
+use mathlib.Core.Path.{_≡_, refl, sym, _∙_, ap, subst}
 use mathlib.Core.Logic.{_↔_}
 use mathlib.Core.List.{List}
 use Rattle.file.specs.Bytes.{Bytes}
@@ -10,7 +10,9 @@ use Rattle.file.specs.Cluster.{Cluster}
 use Rattle.file.specs.Encode.{encode}
 use Rattle.file.specs.Decode.{decode}
 use Rattle.file.specs.Legal.{Legal}
-use Rattle.file.specs.Grounds.{fileGround}
+use native.Mathlib.Omega.{arith}
+use Rattle.file.specs.Grounds.{fileGround, loadGround}
+use Rattle.file.specs.Answers.{Verdict, verdictOf, loadVerdict}
 use Rattle.file.specs.Accepted.{Becomes}
 use Rattle.file.proofs.Width.{edition1}
 use Rattle.file.proofs.RoundTrip
@@ -54,3 +56,20 @@ legal-becomes c l = record { accepted = encode-accepted c l; decoded = decode-en
 pub accepted-becomes : (f : List ℕ) → Bytes f → fileGround f ≡ 0 → Becomes f (decode f)
 accepted-becomes f b g =
     record { accepted = g; decoded = refl; encoded = sym (encode-decode f b g); legal = accepted-legal f b g }
+
+-- the same of the checker's call
+verdict-zero : verdictOf 0 ≡ Verdict.accepted
+unfolding verdictOf
+verdict-zero = refl
+
+no-ground : (n : ℕ) → verdictOf n ≡ Verdict.accepted → n ≡ 0
+unfolding verdictOf
+no-ground zero h = refl
+no-ground (suc n) h = let z : _≡_ {A = ℕ} 0 1 = cc in absurd (omega arith)
+
+pub load-accepts : (f : List ℕ) → Bytes f → (loadVerdict f ≡ Verdict.accepted) ↔ ((c : Cluster) × Legal c × (f ≡ encode c))
+unfolding loadVerdict loadGround
+load-accepts f b = (
+  λ v. accepted-exactly f b .0 (no-ground (fileGround f) v),
+  λ legal. ap verdictOf (accepted-exactly f b .1 legal) ∙ verdict-zero,
+)

@@ -5,23 +5,21 @@ use Prim.Native.Nat.{ℕ, _≤_}
 use mathlib.Core.Path.{_≡_, refl, ap, _∙_}
 use mathlib.Core.Logic.{_↔_}
 use mathlib.Core.List.{List, [], _∷_, map}
-use mathlib.Core.Bool.{Bool, true, false, not}
+use mathlib.Core.Bool.{true, false}
 use lib.ListN.{length, getD}
 use lib.Dec.{eqb}
+use native.Mathlib.Omega.{arith}
 use borrow.Author.Tests.{leb-true, le-leb, ltb-false, le-ltb, eqb-true, eqb-false, eq-eqb, ne-eqb, not-false}
 use Rattle.file.specs.Bytes.{All}
 use Rattle.file.specs.Order.{both, either}
 use Rattle.file.specs.Layout.{editionOf, editionPlace, lengthPlace}
-use Rattle.file.specs.Cluster.{Slave, bytesIn, lastRecord, configuration, documentation, physicalName, operationOf, readOperation, broadcast}
+use Rattle.file.specs.Cluster.{Slave, bytesIn, lastRecord, configuration, documentation, physicalName, operationOf, readOperation, broadcast, noOperation}
+use Rattle.file.specs.Cluster
 use Rattle.file.specs.Decode.{offsetAt, decodeAt}
 use Rattle.file.specs.Legal.{Distinct}
 use Rattle.file.specs.Grounds.{wrongPending, Walk, walkFile, endsAt, brokenLayout, hasNeeded, allHaveNeeded, lacksNeeded, isAmong, hasRepeat, equalPhysicalNames, fileGrounds, fileGroundAt}
-use Rattle.file.proofs.Facts.{SizeFacts, size-facts, size-yes, MarkFacts, mark-facts, mark-yes, edition-facts, edition-yes, length-facts, length-yes, HeaderFacts, header-facts, header-yes}
+use Rattle.file.proofs.Facts.{not-yes, no-operation, some-operation, SizeFacts, size-facts, size-yes, MarkFacts, mark-facts, mark-yes, edition-facts, edition-yes, length-facts, length-yes, HeaderFacts, header-facts, header-yes}
 use Rattle.file.proofs.Order.{clash, both-left, both-right, both-true, both-unless, both-false-next, either-false, either-false-left, either-false-right, first-none, first-next, first-end}
-
--- a test that passes is not one that fails
-not-not : {b : Bool} → b ≡ true → not b ≡ false
-not-not p = rw p
 
 -- ---- 5: the pending operation
 
@@ -31,15 +29,15 @@ pub record PendingFits (flag name pb2 : ℕ) : Type 0 where
   pub broadcastRead : flag ≡ 1 → operationOf pb2 ≡ readOperation → name ≡ broadcast → ⊥
 
 pub pending-fits : (flag name pb2 : ℕ) → (wrongPending flag name pb2 ≡ false) ↔ PendingFits flag name pb2
-unfolding wrongPending
+unfolding wrongPending Cluster.broadcastRead
 pending-fits flag name pb2 = (
   λ p.
-      let pending : flag ≡ 1 → either (eqb (operationOf pb2) 3) (both (eqb (operationOf pb2) readOperation) (eqb name broadcast)) ≡ false =
+      let pending : flag ≡ 1 → either (noOperation (operationOf pb2)) (both (eqb (operationOf pb2) readOperation) (eqb name broadcast)) ≡ false =
       λ e. both-false-next _ (eq-eqb flag 1 e) (either-false-right _ _ p)
       in
       record {
         most = ltb-false _ _ (either-false-left _ _ p);
-        operation = λ e. eqb-false _ _ (either-false-left _ _ (pending e));
+        operation = λ e o. clash (no-operation o) (either-false-left _ _ (pending e));
         broadcastRead =
             λ e o. eqb-false _ _ (both-false-next _ (eq-eqb (operationOf pb2) readOperation o) (either-false-right _ _ (pending e)));
       },
@@ -48,7 +46,7 @@ pending-fits flag name pb2 = (
       (both-unless (eqb flag 1)
       (λ e.
       let one : flag ≡ 1 = eqb-true flag 1 e in
-      either-false (ne-eqb _ _ (s .operation one))
+      either-false (some-operation (s .operation one) (omega arith))
       (both-unless (eqb (operationOf pb2) readOperation)
       (λ o. ne-eqb _ _ (s .broadcastRead one (eqb-true (operationOf pb2) readOperation o)))))),
 )
@@ -66,7 +64,7 @@ at-end n p = rw p (eq-eqb n n refl)
 
 pub layout-whole : (w : ℕ) (f : List ℕ) → (brokenLayout w f ≡ false) ↔ (walkFile w f ≡ Walk.to (length f))
 unfolding brokenLayout
-layout-whole w f = (λ p. ends-at (walkFile w f) (length f) (not-false _ p), λ e. not-not (at-end (length f) e))
+layout-whole w f = (λ p. ends-at (walkFile w f) (length f) (not-false _ p), λ e. not-yes (at-end (length f) e))
 
 -- ---- 7
 
@@ -93,7 +91,7 @@ needed-all (All.both n ns) = both-true (needed _ .1 n) (needed-all ns)
 
 pub all-have-needed : (w : ℕ) (f : List ℕ) → (lacksNeeded w f ≡ false) ↔ All Needed (decodeAt w f .slaves)
 unfolding lacksNeeded
-all-have-needed w f = (λ p. all-needed _ (not-false _ p), λ n. not-not (needed-all n))
+all-have-needed w f = (λ p. all-needed _ (not-false _ p), λ n. not-yes (needed-all n))
 
 -- ---- 8
 

@@ -10,7 +10,8 @@ use lib.ListN.{length, getD, take}
 use lib.Seq.{getD-take}
 use borrow.Author.Tests.{ne-eqb}
 use Rattle.file.specs.Layout.{offsetWidth, editionPlace, editionOf}
-use Rattle.file.specs.Grounds.{wrongSize, wrongMark, wrongEdition, fileGrounds, fileGroundAt, fileGround}
+use Rattle.file.specs.Grounds.{wrongSize, wrongMark, wrongEdition, fileGrounds, fileGroundAt, fileGround, loadGround}
+use Rattle.file.specs.Answers.{verdictOf, loadVerdict}
 use Rattle.file.proofs.Order.{clash, first-alike}
 
 -- files with the same first bytes agree in each of them
@@ -37,3 +38,9 @@ pub unknown-edition :
     (f g : List ℕ) → length f ≡ length g → take 3 f ≡ take 3 g → (getD f editionPlace 0 ≡ 1 → ⊥) → fileGround f ≡ fileGround g
 unfolding fileGround
 unknown-edition f g long front other = unknown-edition-at offsetWidth f g long front other
+
+-- So the checker's call answers the same.
+pub unknown-edition-answer :
+    (f g : List ℕ) → length f ≡ length g → take 3 f ≡ take 3 g → (getD f editionPlace 0 ≡ 1 → ⊥) → loadVerdict f ≡ loadVerdict g
+unfolding loadVerdict loadGround
+unknown-edition-answer f g long first other = ap verdictOf (unknown-edition f g long first other)

@@ -21,8 +21,8 @@ use Rattle.file.proofs.Width.{Width, place-fits}
 use Rattle.file.proofs.Sizes.{header-length, table-length, encodeAt-length}
 use Rattle.file.proofs.Bytes.{all-map, byte-at}
 use Rattle.file.proofs.Stands.{Stands, stands-at, stands-left, stands-right, stands-append, stands-zeros, zeros-stand, stands-number, number-stands, stands-whole, whole-stands}
-use Rattle.file.proofs.Files.{tested-arrives}
-use Rattle.file.proofs.Slaves.{LaidOut, SlavesStand, length-slavesAt, slaves-found, slaves-walk, slaves-read}
+use Rattle.file.proofs.Arrivals.{tested-arrives, length-slavesAt}
+use Rattle.file.proofs.Slaves.{LaidOut, SlavesStand, slaves-found, slaves-walk, slaves-read}
 use Rattle.file.proofs.AcceptedFacts.{PendingFits, pending-fits, Needed, Accepted}
 use Rattle.file.proofs.HeaderFields.{HeaderBytes, header-bytes, bytes-header}
 

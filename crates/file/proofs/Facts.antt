@@ -1,18 +1,19 @@
 -- What each test of the grounds says of the bytes, both ways: a test that passes gives its facts, and its facts make it pass.
 -- Assumes nothing.
 use Prim.Native.Nat.{ℕ, zero, suc, _+_, _*_, _≤_, _<_}
-use mathlib.Core.Path.{_≡_, refl, sym, _∙_}
-use mathlib.Core.List.{List, [], _∷_}
-use mathlib.Core.Bool.{Bool, true, false, cond, not}
-use borrow.Author.Tests.{ltb-false, le-ltb, eqb-true, eq-eqb, ne-eqb, not-false, not-true, leb-true, le-leb}
+use mathlib.Core.Path.{_≡_, refl}
+use mathlib.Core.List.{List, _∷_}
+use mathlib.Core.Bool.{Bool, true, false, not}
+use borrow.Author.Tests.{ltb-false, le-ltb, eqb-true, eq-eqb, not-false, leb-true, le-leb, lt-leb}
 use native.Mathlib.Nat.{add-zero}
 use native.Mathlib.Omega.{arith}
 use lib.ListN.{length, getD}
 use lib.Seq.{drop-cons}
-use lib.Dec.{eqb, leb, ltb}
-use Rattle.file.specs.Order.{both, either}
+use lib.Dec.{eqb}
+use Rattle.file.specs.Order.{both}
 use Rattle.file.specs.Bytes.{part, allZero}
 use Rattle.file.specs.Layout.{mark₀, mark₁, editionOf, editionPlace, countPlace, tablePlace, lengthPlace, flagPlace, pendingNamePlace, pendingPB2Place, zerosPlace, zerosLength, headerSize, entrySize, fillLength, maxSlaves, maxLength, maxFileNumber}
+use Rattle.file.specs.Cluster.{noOperation}
 use Rattle.file.specs.Decode.{offsetAt, fileSize}
 use Rattle.file.specs.Grounds.{wrongSize, wrongMark, wrongEdition, wrongLength, wrongHeader, wrongPending, goodEntry, goodTableEntry}
 use Rattle.file.proofs.Order.{byCase, clash, both-left, both-right, both-true, either-false, either-false-left, either-false-right}
@@ -24,7 +25,7 @@ true-unless {b} h = byCase b (λ e. e) (λ e. absurd (h e))
 pub false-unless : {b : Bool} → (b ≡ true → ⊥) → b ≡ false
 false-unless {b} h = byCase b (λ e. absurd (h e)) (λ e. e)
 
-not-yes : {b : Bool} → b ≡ true → not b ≡ false
+pub not-yes : {b : Bool} → b ≡ true → not b ≡ false
 not-yes e = rw e
 
 pub record SizeFacts (w : ℕ) (f : List ℕ) : Type 0 where
@@ -60,6 +61,15 @@ edition-facts w f e = eqb-true _ _ (not-false _ e)
 pub edition-yes : (w : ℕ) (f : List ℕ) → getD f editionPlace 0 ≡ editionOf w → wrongEdition w f ≡ false
 unfolding wrongEdition
 edition-yes w f h = not-yes (eq-eqb _ _ h)
+
+-- of the four operations that two bits spell only 3 is none
+pub no-operation : {operation : ℕ} → operation ≡ 3 → noOperation operation ≡ true
+unfolding noOperation
+no-operation {operation} e = le-leb 3 operation (omega (arith, e))
+
+pub some-operation : {operation : ℕ} → (operation ≡ 3 → ⊥) → operation < 4 → noOperation operation ≡ false
+unfolding noOperation
+some-operation {operation} other h = lt-leb 3 operation (omega (arith, other))
 
 pub length-facts : (w : ℕ) (f : List ℕ) → wrongLength w f ≡ false → offsetAt w f (lengthPlace w) ≡ length f
 unfolding wrongLength

@@ -6,7 +6,7 @@ use native.Mathlib.Nat.{add-zero, mul-div-cancel-left}
 use native.Mathlib.Omega.{arith}
 use mathlib.Core.Path.{_≡_, refl, sym, ap, ap₂, _∙_, subst}
 use mathlib.Core.List.{List, [], _∷_, _++_}
-use mathlib.Core.Bool.{Bool, true, false, cond}
+use mathlib.Core.Bool.{true}
 use lib.ListN.{length, getD, replicate, length-append, length-replicate}
 use Rattle.file.specs.Bytes.{All, Bytes, bytesOf, part}
 use Rattle.file.specs.Order.{both}
@@ -18,22 +18,10 @@ use Rattle.file.specs.Legal.{LegalFile, Rising}
 use Rattle.file.specs.Grounds.{Walk, goodEntry, walkDirectory}
 use Rattle.file.proofs.Facts.{EntryFacts, entry-facts, entry-yes}
 use Rattle.file.proofs.NumberLaws.{part-length}
+use Rattle.file.proofs.Arrivals.{tested-arrives, arrives-same}
 use Rattle.file.proofs.Sizes.{directoryEntry-length}
 use Rattle.file.proofs.Bytes.{all-first, all-others, byte-at, bytes-part}
 use Rattle.file.proofs.Stands.{Stands, stands-part, part-stands, stands-at, stands-byte, stands-left, stands-right, stands-append, stands-none, stands-next, stands-zeros, zeros-stand, stands-number, number-stands}
-
--- ---- a walk that arrives
-
-pub broken-arrives : {P : Type 0} {e : ℕ} → Walk.broken ≡ Walk.to e → P
-broken-arrives p = let z : _≡_ {A = ℕ} 0 1 = cc in absurd (omega arith)
-
--- a walk that stands behind a test arrives: the test passed, and the walk arrives
-pub tested-arrives : (b : Bool) (r : Walk) {e : ℕ} → cond b r Walk.broken ≡ Walk.to e → (b ≡ true) × (r ≡ Walk.to e)
-tested-arrives true r p = (refl, p)
-tested-arrives false r p = broken-arrives p
-
-pub arrives-same : {a b : ℕ} → Walk.to a ≡ Walk.to b → a ≡ b
-arrives-same p = cc
 
 -- ---- a file's size
 

@@ -1,20 +1,20 @@
 -- One law for each way through the checks of the header: what the tests on the way say, and the ground that follows.
 -- Assumes nothing.
-use Prim.Native.Nat.{ℕ, suc, _+_, _≤_, _<_, _%_}
+use Prim.Native.Nat.{ℕ, suc, _+_, _≤_, _<_}
 use mathlib.Core.Path.{_≡_, refl, sym, _∙_}
 use mathlib.Core.List.{List, [], _∷_}
 use mathlib.Core.Bool.{Bool, true, false, not}
 use native.Mathlib.Omega.{arith}
-use borrow.Author.Tests.{lt-ltb, le-ltb, eq-eqb, ne-eqb}
+use borrow.Author.Tests.{le-ltb, eq-eqb, ne-eqb}
 use lib.ListN.{length, getD}
 use lib.Dec.{eqb}
-use Rattle.file.specs.Order.{firstOf, both, either}
+use Rattle.file.specs.Order.{firstOf}
 use Rattle.file.specs.Bytes.{part, allZero, ByteAt, NumberAt}
 use Rattle.file.specs.Decode.{offsetAt}
 use Rattle.file.specs.Grounds.{wrongSize, wrongMark, wrongEdition, wrongLength, wrongHeader, wrongPending, brokenLayout, lacksNeeded, equalPhysicalNames, fileGrounds, fileGroundAt, fileGround}
 use Rattle.file.specs.Checked.{GoodHeader, HeaderChecked}
-use Rattle.file.proofs.Order.{both-true, both-false-left, both-next, either-left, either-next}
-use Rattle.file.proofs.Facts.{true-unless, size-facts, header-facts, header-yes, zeros-at, zeros-more, zeros-none}
+use Rattle.file.proofs.Order.{both-false-left, both-next, either-next}
+use Rattle.file.proofs.Facts.{true-unless, size-facts, header-facts, zeros-at, zeros-more, zeros-none}
 
 -- ---- the header's ground
 

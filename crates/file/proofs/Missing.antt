@@ -43,7 +43,7 @@ bytes-lacks n (both {a = x} {l = xs} p r) e =
     (λ t. let none-left : x .bytes ≡ [] = rw t at e in absurd (omega (arith, ap length none-left)))
     (λ f. both (eqb-false (x .number) n f) (bytes-lacks n r (rw f at e)))
 
--- "no such file" by the bytes, in a slave whose files all have some
+-- no such file, by the bytes, in a slave whose files all have some
 pub missing : (x : Slave) (n : ℕ) → Filled (x .files) → (bytesIn x n ≡ []) ↔ Lacks (x .files) n
 unfolding bytesIn
 missing x n filled = (bytes-lacks n filled, lacks-bytes n)

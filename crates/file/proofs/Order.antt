@@ -93,10 +93,6 @@ either-false-right a b p = go a p
     go false q = q
 
 -- the first ground that holds: it holds, or it does not and the rest decides
-pub first-here : (g : Ground) (gs : List Ground) → g .holds ≡ true → firstOf (g ∷ gs) ≡ g .number
-unfolding firstOf
-first-here g gs p = rw p
-
 pub first-next : (g : Ground) (gs : List Ground) → g .holds ≡ false → firstOf (g ∷ gs) ≡ firstOf gs
 unfolding firstOf
 first-next g gs p = rw p

@@ -1,32 +1,31 @@
 -- What the bytes of an accepted file say of its cluster, as the readers find them.
 -- Assumes nothing.
-use Prim.Native.Nat.{ℕ, zero, suc, _+_, _*_, _-_, _/_, _≤_, _<_}
+use Prim.Native.Nat.{ℕ, zero, suc, _+_, _*_, _-_, _≤_, _<_}
 use mathlib.Core.Path.{_≡_, refl, sym, _∙_, ap, subst}
 use mathlib.Core.List.{List, [], _∷_}
-use mathlib.Core.Bool.{Bool, true, false, cond}
+use mathlib.Core.Bool.{cond}
 use native.Mathlib.Omega.{arith}
 use borrow.Author.Tests.{eq-eqb, ne-eqb, eqb-true, eqb-false, le-leb, lt-leb, leb-true}
 use lib.ListN.{length, getD}
 use lib.Dec.{eqb, leb}
-use Rattle.file.specs.Bytes.{All, numberOf, part, ByteAt, NumberAt}
-use Rattle.file.specs.Layout.{entrySize, offsetWidth}
-use Rattle.file.specs.Cluster.{File, Slave, Cluster, lastRecord, bytesAmong, bytesIn, hasRecord, configuration, documentation, logicalName, physicalName, comparisonValue}
+use Rattle.file.specs.Bytes.{numberOf, part, ByteAt, NumberAt}
+use Rattle.file.specs.Layout.{entrySize}
+use Rattle.file.specs.Cluster.{File, Cluster, lastRecord, bytesAmong, bytesIn, hasRecord, configuration, documentation, logicalName, physicalName, comparisonValue}
 use Rattle.file.specs.Encode.{encode, slavesPlace}
 use Rattle.file.specs.Decode.{offsetAt, fileSize, filesAt, slaveAt, slavesAt, decodeAt, decode}
 use Rattle.file.specs.Decode
 use Rattle.file.specs.Legal.{LegalSlave}
-use Rattle.file.specs.Grounds.{Walk, broken, to, walkDirectory, walkSlave, walkSlaves, walkFile, tableEnd, fileGround}
+use Rattle.file.specs.Grounds.{to, walkDirectory, walkSlave, walkSlaves, walkFile, tableEnd, fileGround}
 use Rattle.file.specs.Places.{noSlave, slaveOf, placeAmong, filePlaceFrom, filePlaceAt, filePlace}
 use Rattle.file.specs.Accepted.{Becomes, Placed, KeptAt, FoundFile, fileAt, FoundRecord, recordAt, findFile, findRecord}
 use Rattle.file.specs.Checked.{searchDirectory}
 use Rattle.file.proofs.Order.{byCase}
-use Rattle.file.proofs.Facts.{EntryFacts}
 use Rattle.file.proofs.Bytes.{all-at}
 use Rattle.file.proofs.AcceptedFacts.{accepted}
 use Rattle.file.proofs.Stores.{file-fits, read-byte, read-part}
-use Rattle.file.proofs.Stated.{not-broken, walk-took, entry-number, entry-bytes, entry-length, files-count}
-use Rattle.file.proofs.StatedSlaves.{slave-took, slaves-took, slave-end}
-use Rattle.file.proofs.SurveyLaws.{slaves-count}
+use Rattle.file.proofs.Arrivals.{broken-arrives, walk-took, slave-took, slaves-took, length-filesAt, length-slavesAt}
+use Rattle.file.proofs.Stated.{entry-number, entry-length}
+use Rattle.file.proofs.StatedSlaves.{slave-end}
 
 -- ---- slaves
 
@@ -230,11 +229,11 @@ table-walk f g =
     let walk = accepted 2 f .0 g .layout in
     byCase (leb (16 + 4 * getD f 3 0) (length f))
     (λ t. (leb-true _ _ t, rw t at walk))
-    (λ t. not-broken (rw t at walk))
+    (λ t. broken-arrives (rw t at walk))
 
 pub count-there : (f : List ℕ) → length (decode f .slaves) ≡ getD f 3 0
 unfolding decode decodeAt
-count-there f = slaves-count 2 f 16 (getD f 3 0)
+count-there f = length-slavesAt 2 f 16 (getD f 3 0)
 
 module _ {f : List ℕ} (h : Becomes f (decode f)) where
   pub header-within : 3 < length f
@@ -271,7 +270,7 @@ module _ {f : List ℕ} (h : Becomes f (decode f)) where
     place-there n =
         let took = slave-took 2 f (16 + 4 * s) (there .at) (there .end) (there .walk) in
         let at = there .place′ n in
-        rw (slaves-count 2 f 16 (getD f 3 0), at, took .facts .offset, ← directory-is, ← (count .is), files-count 2 f d k)
+        rw (length-slavesAt 2 f 16 (getD f 3 0), at, took .facts .offset, ← directory-is, ← (count .is), length-filesAt 2 f d k)
 
     pub file-found : {r : FoundFile} (n : ℕ) → r ≡ searchDirectory 2 f n d k → r ≡ findFile (decode f) s n
     unfolding findFile bytesIn foundAmong

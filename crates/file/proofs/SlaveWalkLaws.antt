@@ -1,9 +1,9 @@
 -- The walk of the slaves, step by step: what a loop along the table keeps, and one law for each way through a turn.
 -- Assumes nothing.
 use Prim.Native.Nat.{ℕ, zero, suc, _+_, _*_, _-_, _≤_, _<_}
-use mathlib.Core.Path.{_≡_, refl, sym, _∙_, ap}
-use mathlib.Core.List.{List, [], _∷_, _++_, append-nil}
-use mathlib.Core.Bool.{Bool, true, false, cond, not}
+use mathlib.Core.Path.{_≡_, refl, sym, _∙_}
+use mathlib.Core.List.{List, _∷_, _++_, append-nil}
+use mathlib.Core.Bool.{Bool, true, false}
 use native.Mathlib.Omega.{arith}
 use native.Mathlib.Numerals.{add-one}
 use lib.ListN.{length, getD, take, set, length-set}
@@ -12,8 +12,8 @@ use Rattle.file.specs.Bytes.{numberOf, part, ByteAt, NumberAt}
 use Rattle.file.specs.Layout.{entrySize}
 use Rattle.file.specs.Cluster.{configuration, documentation}
 use Rattle.file.specs.Decode.{offsetAt}
-use Rattle.file.specs.Grounds.{Walk, broken, to, andThen, goodTableEntry, walkDirectory, walkSlave, walkSlaves}
-use Rattle.file.specs.Checked.{statedPlace, statedIn, statedPlaces, walkOf, DirectoryWalked, SlaveWalked, SlavesWalked}
+use Rattle.file.specs.Grounds.{broken, to, andThen, goodTableEntry, walkDirectory, walkSlave, walkSlaves}
+use Rattle.file.specs.Checked.{statedIn, statedPlaces, walkOf, DirectoryWalked, SlaveWalked, SlavesWalked}
 use Rattle.file.proofs.Order.{clash}
 use Rattle.file.proofs.Facts.{false-unless, TableEntryFacts, table-entry-facts, table-entry-yes, zeros-first, zeros-more, zeros-none}
 

@@ -16,17 +16,11 @@ use Rattle.file.specs.Decode.{offsetAt, filesAt, slaveAt, slavesAt}
 use Rattle.file.specs.Legal.{LegalFile, Rising}
 use Rattle.file.specs.Grounds.{Walk, andThen, goodTableEntry, walkSlave, walkSlaves}
 use Rattle.file.proofs.Facts.{TableEntryFacts, table-entry-facts, table-entry-yes}
+use Rattle.file.proofs.Arrivals.{tested-arrives, then-arrives, arrives-same, length-filesAt}
 use Rattle.file.proofs.Sizes.{bytesOf-length, directory-length, tableEntry-length, slaveBytes-length}
 use Rattle.file.proofs.Bytes.{all-first, all-others}
 use Rattle.file.proofs.Stands.{Stands, stands-at, stands-byte, stands-left, stands-right, stands-append, stands-none, stands-next, stands-zeros, zeros-stand, stands-number, number-stands}
-use Rattle.file.proofs.Files.{FilesStand, tested-arrives, broken-arrives, arrives-same, files-found, files-walk, files-read}
-
--- a walk that goes on from another arrives: the other arrived, and it arrives from there
-pub then-arrives :
-    (r : Walk) (k : ℕ → Walk) {e : ℕ} → andThen r k ≡ Walk.to e → (next : ℕ) × (r ≡ Walk.to next) × (k next ≡ Walk.to e)
-unfolding andThen
-then-arrives Walk.broken k p = broken-arrives p
-then-arrives (Walk.to next) k p = (next, refl, p)
+use Rattle.file.proofs.Files.{FilesStand, files-found, files-walk, files-read}
 
 -- ---- the bytes of a table entry
 
@@ -138,16 +132,6 @@ module _ {w : ℕ} (two : 2 ≤ w) {f : List ℕ} where
       }
 
 -- ---- found and read
-
-pub length-filesAt : (w : ℕ) (f : List ℕ) (d k : ℕ) → length (filesAt w f d k) ≡ k
-unfolding filesAt
-length-filesAt w f d zero = refl
-length-filesAt w f d (suc k) = ap suc (length-filesAt w f (d + entrySize w) k)
-
-pub length-slavesAt : (w : ℕ) (f : List ℕ) (t n : ℕ) → length (slavesAt w f t n) ≡ n
-unfolding slavesAt
-length-slavesAt w f t zero = refl
-length-slavesAt w f t (suc n) = ap suc (length-slavesAt w f (t + entrySize w) n)
 
 -- the slave that an entry with that offset and file count names
 pub slaveFrom : ℕ → List ℕ → ℕ → ℕ → Slave

@@ -1,42 +1,25 @@
 -- The places that a walked directory states for a file, said of the files it holds.
 -- Assumes nothing.
-use Prim.Native.Nat.{ℕ, zero, suc, _+_, _*_, _-_, _/_, _≤_, _<_}
-use mathlib.Core.Path.{_≡_, refl, sym, _∙_, ap}
-use mathlib.Core.List.{List, [], _∷_, _++_}
-use mathlib.Core.Bool.{Bool, true, false, cond, not}
+use Prim.Native.Nat.{ℕ, zero, suc, _+_, _-_, _≤_, _<_}
+use mathlib.Core.Path.{_≡_, refl, sym, _∙_}
+use mathlib.Core.List.{List, [], _∷_}
 use native.Mathlib.Omega.{arith}
-use borrow.Author.Tests.{eq-eqb, ne-eqb, eqb-true, eqb-false, le-leb, lt-leb, leb-true, leb-false}
+use borrow.Author.Tests.{eq-eqb, ne-eqb, eqb-true, eqb-false, leb-true, leb-false}
 use lib.ListN.{length, getD, length-append}
 use lib.Dec.{leb, eqb}
-use Rattle.file.specs.Order.{both}
 use Rattle.file.specs.Bytes.{part}
 use Rattle.file.specs.Layout.{entrySize}
 use Rattle.file.specs.Cluster.{File, lastRecord, bytesAmong}
 use Rattle.file.specs.Encode.{contents}
 use Rattle.file.specs.Decode.{offsetAt, fileSize, fileAt, filesAt}
-use Rattle.file.specs.Grounds.{Walk, broken, to, goodEntry, walkDirectory}
+use Rattle.file.specs.Grounds.{to, walkDirectory}
 use Rattle.file.specs.Places.{placeAmong}
 use Rattle.file.specs.Checked.{keptPlace, statedPlace}
-use Rattle.file.proofs.Order.{byCase, both-next, both-false-left}
-use Rattle.file.proofs.Facts.{EntryFacts, entry-facts}
+use Rattle.file.proofs.Order.{byCase}
+use Rattle.file.proofs.Facts.{EntryFacts}
+use Rattle.file.proofs.Arrivals.{walk-took}
 use Rattle.file.proofs.NumberLaws.{part-length}
 use Rattle.file.proofs.WalkLaws.{kept-here, kept-short, kept-other}
-
--- ---- a walk that arrives took each step
-
-pub not-broken : {P : Type 0} {e : ℕ} → broken ≡ to e → P
-not-broken q = let z : _≡_ {A = ℕ} 0 1 = cc in absurd (omega arith)
-
-pub record Step (w : ℕ) (f : List ℕ) (d low place k e : ℕ) : Type 0 where
-  pub facts : EntryFacts w f d low place
-  pub rest : walkDirectory w f (d + entrySize w) (suc (getD f d 0)) (place + fileSize (getD f (d + 1) 0)) k ≡ to e
-
-pub walk-took : (w : ℕ) (f : List ℕ) (d low place k e : ℕ) → walkDirectory w f d low place (suc k) ≡ to e → Step w f d low place k e
-unfolding walkDirectory
-walk-took w f d low place k e h =
-    byCase (goodEntry w f d low place)
-    (λ t. record { facts = entry-facts w f d low place t; rest = rw t at h })
-    (λ t. not-broken (rw t at h))
 
 pub walk-ended : (w : ℕ) (f : List ℕ) (d low place e : ℕ) → walkDirectory w f d low place 0 ≡ to e → place ≡ e
 unfolding walkDirectory
@@ -61,11 +44,6 @@ module _ (w : ℕ) (f : List ℕ) (d low place : ℕ) (h : EntryFacts w f d low 
   entry-length = rw entry-bytes (part-length f place (fileSize (getD f (d + 1) 0)) (h .within))
 
 -- ---- what lies where
-
-pub files-count : (w : ℕ) (f : List ℕ) (d k : ℕ) → length (filesAt w f d k) ≡ k
-unfolding filesAt
-files-count w f d zero = refl
-files-count w f d (suc k) = ap suc (files-count w f (d + entrySize w) k)
 
 -- a walk ends behind the contents of its files
 pub walk-end : (w : ℕ) (f : List ℕ) (d low place k e : ℕ) → walkDirectory w f d low place k ≡ to e → e ≡ place + length (contents (filesAt w f d k))

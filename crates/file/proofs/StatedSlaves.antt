@@ -1,9 +1,9 @@
 -- The places that a walked table and its directories state for 0x08 and 0x3D: what they say of the slaves that the file holds.
 -- Assumes nothing.
 use Prim.Native.Nat.{ℕ, zero, suc, _+_, _*_, _-_, _≤_, _<_}
-use mathlib.Core.Path.{_≡_, refl, sym, _∙_, ap, ap₂, subst}
-use mathlib.Core.List.{List, [], _∷_, _++_, map}
-use mathlib.Core.Bool.{Bool, true, false, cond, not}
+use mathlib.Core.Path.{_≡_, refl, sym, ap, ap₂, subst}
+use mathlib.Core.List.{List, _∷_, _++_, map}
+use mathlib.Core.Bool.{Bool, true, false, not}
 use native.Mathlib.Omega.{arith}
 use borrow.Author.Tests.{eq-eqb, ne-eqb, eqb-false, le-leb, lt-leb}
 use lib.ListN.{length, getD}
@@ -12,43 +12,17 @@ use lib.Dec.{leb, eqb}
 use Rattle.file.specs.Order.{both, either}
 use Rattle.file.specs.Bytes.{All, none, numberOf, part}
 use Rattle.file.specs.Bytes
-use Rattle.file.specs.Layout.{entrySize, recordSize}
+use Rattle.file.specs.Layout.{entrySize}
 use Rattle.file.specs.Cluster.{File, Slave, lastRecord, bytesAmong, bytesIn, physicalName, configuration, documentation}
-use Rattle.file.specs.Encode.{contents, slaveSize}
-use Rattle.file.specs.Decode.{offsetAt, fileSize, filesAt, slaveAt, slavesAt}
-use Rattle.file.specs.Grounds.{Walk, broken, to, andThen, goodTableEntry, walkDirectory, walkSlave, walkSlaves, hasNeeded, allHaveNeeded, isAmong}
+use Rattle.file.specs.Encode.{slaveSize}
+use Rattle.file.specs.Decode.{fileSize, slaveAt, slavesAt}
+use Rattle.file.specs.Grounds.{to, walkSlave, walkSlaves, hasNeeded, allHaveNeeded, isAmong}
 use Rattle.file.specs.Places.{placeAmong, filePlaceFrom}
 use Rattle.file.specs.Checked.{statedIn, statedPlaces, nameAt, NameStands}
-use Rattle.file.proofs.Order.{byCase, clash, either-false-left, either-false-right}
-use Rattle.file.proofs.Facts.{TableEntryFacts, table-entry-facts}
+use Rattle.file.proofs.Order.{either-false-left, either-false-right}
+use Rattle.file.proofs.Arrivals.{slave-took, slaves-took, length-filesAt}
 use Rattle.file.proofs.NumberLaws.{part-add, part-length}
-use Rattle.file.proofs.Stated.{Stated, lacking, found, stated-file, last-size, files-count, walk-end, not-broken}
-
--- ---- a walk that arrives took each step
-
-pub record SlaveStep (w : ℕ) (f : List ℕ) (t place e : ℕ) : Type 0 where
-  pub facts : TableEntryFacts w f t place
-  pub files : walkDirectory w f place 0 (place + entrySize w * getD f (t + w) 0) (getD f (t + w) 0) ≡ to e
-
-pub slave-took : (w : ℕ) (f : List ℕ) (t place e : ℕ) → walkSlave w f t place ≡ to e → SlaveStep w f t place e
-unfolding walkSlave
-slave-took w f t place e h =
-    byCase (goodTableEntry w f t place)
-    (λ g. record { facts = table-entry-facts w f t place g; files = rw g at h })
-    (λ g. not-broken (rw g at h))
-
-pub record SlavesStep (w : ℕ) (f : List ℕ) (t place k e : ℕ) : Type 0 where
-  pub middle : ℕ
-  pub first : walkSlave w f t place ≡ to middle
-  pub rest : walkSlaves w f (t + entrySize w) middle k ≡ to e
-
-pub slaves-took : (w : ℕ) (f : List ℕ) (t place k e : ℕ) → walkSlaves w f t place (suc k) ≡ to e → SlavesStep w f t place k e
-unfolding walkSlaves andThen
-slaves-took w f t place k e h = go (walkSlave w f t place) refl h
-  where
-    go : (x : Walk) → walkSlave w f t place ≡ x → andThen x (λ next. walkSlaves w f (t + entrySize w) next k) ≡ to e → SlavesStep w f t place k e
-    go broken q g = not-broken g
-    go (to m) q g = record { middle = m; first = q; rest = g }
+use Rattle.file.proofs.Stated.{Stated, lacking, found, stated-file, last-size, walk-end}
 
 -- ---- one slave
 
@@ -59,7 +33,7 @@ slave-end w f t place e h =
     let s = slave-took w f t place e h in
     let n = getD f (t + w) 0 in
     let end = walk-end w f place 0 (place + entrySize w * n) n e (s .files) in
-    rw (s .facts .offset, files-count w f place n) (omega (arith, end))
+    rw (s .facts .offset, length-filesAt w f place n) (omega (arith, end))
 
 pub stated-slave : (w : ℕ) (f : List ℕ) (n least t place e : ℕ) → 1 ≤ least → walkSlave w f t place ≡ to e →
     Stated f n least 0 (place + entrySize w * length (slaveAt w f t .files)) (slaveAt w f t .files) (statedIn w f n least t)
@@ -67,7 +41,7 @@ unfolding slaveAt statedIn
 stated-slave w f n least t place e some h =
     let s = slave-took w f t place e h in
     let k = getD f (t + w) 0 in
-    rw (s .facts .offset, files-count w f place k) (stated-file w f n least 0 place 0 (place + entrySize w * k) k e some (s .files))
+    rw (s .facts .offset, length-filesAt w f place k) (stated-file w f n least 0 place 0 (place + entrySize w * k) k e some (s .files))
 
 -- a place is stated exactly where the file has the needed size
 pub stated-test : {f : List ℕ} {n least place : ℕ} {xs : List File} {st : ℕ} → 0 < place → Stated f n least 0 place xs st → leb least (lastRecord (bytesAmong xs n)) ≡ not (eqb 0 st)

@@ -1,8 +1,8 @@
 -- The checker's last steps: the physical names, and one law for each way to its answer.
 -- Assumes nothing.
 use Prim.Native.Nat.{ℕ, zero, suc, _+_, _*_, _-_, _≤_, _<_}
-use mathlib.Core.Path.{_≡_, refl, sym, _∙_, ap, subst}
-use mathlib.Core.List.{List, [], _∷_, _++_, map, map-append}
+use mathlib.Core.Path.{_≡_, refl, sym, _∙_, ap}
+use mathlib.Core.List.{List, [], _∷_, map, map-append}
 use mathlib.Core.Bool.{Bool, true, false, not}
 use native.Mathlib.Omega.{arith}
 use native.Mathlib.Numerals.{add-one}
@@ -11,20 +11,21 @@ use lib.Dec.{leb}
 use lib.ListN.{length, getD, take, set, length-set}
 use lib.Seq.{take-suc, take-suc-set, take-length, getD-take}
 use Rattle.file.specs.Order.{firstOf, either}
-use Rattle.file.specs.Bytes.{All, Bytes, numberOf, part, ByteAt, NumberAt}
+use Rattle.file.specs.Bytes.{All, Bytes, ByteAt, NumberAt}
 use Rattle.file.specs.Layout.{entrySize}
 use Rattle.file.specs.Cluster.{configuration, documentation, physicalName}
 use Rattle.file.specs.Decode.{slavesAt, decodeAt, decode}
-use Rattle.file.specs.Grounds.{Walk, broken, to, walkSlaves, tableEnd, walkFile, brokenLayout, lacksNeeded, equalPhysicalNames, isAmong, hasRepeat, fileGround}
+use Rattle.file.specs.Grounds.{to, walkSlaves, tableEnd, walkFile, brokenLayout, lacksNeeded, equalPhysicalNames, isAmong, hasRepeat, fileGround}
 use Rattle.file.specs.Encode.{slavesPlace}
 use Rattle.file.specs.Places.{filePlaceAt, filePlace}
 use Rattle.file.specs.Accepted.{Placed}
 use Rattle.file.specs.Answers.{Verdict, accepted, refused, verdictOf}
-use Rattle.file.specs.Checked.{GoodHeader, HeaderChecked, statedPlaces, walkOf, SlavesWalked, WholeWalk, BodyWalked, slavesGround, nameAt, NameStands, NamesRead, Surveyed}
+use Rattle.file.specs.Checked.{GoodHeader, HeaderChecked, statedPlaces, walkOf, SlavesWalked, WholeWalk, BodyWalked, slavesGround, nameAt, NameStands, NamesRead}
+use Rattle.file.specs.Surveyed.{Surveyed}
 use Rattle.file.proofs.Order.{byCase, clash, either-right, either-false, either-false-left, either-false-right}
 use Rattle.file.proofs.Facts.{true-unless, size-facts, header-facts}
 use Rattle.file.proofs.AcceptedFacts.{layout-whole}
-use Rattle.file.proofs.Stated.{not-broken}
+use Rattle.file.proofs.Arrivals.{broken-arrives, length-slavesAt}
 use Rattle.file.proofs.StatedSlaves.{needed-places, stated-names, stated-place}
 use Rattle.file.proofs.HeaderLaws.{after-header}
 use Rattle.file.proofs.Accepted.{accepted-becomes}
@@ -77,7 +78,7 @@ unfolding walkFile tableEnd
 body-short {f} {n} k h a b =
     let past : length f < 16 + 4 * getD f 3 0 = omega (arith, k .is) in
     record {
-      broke = λ _. layout-broken f (λ e. not-broken (rw (lt-leb (16 + 4 * getD f 3 0) (length f) past) at e));
+      broke = λ _. layout-broken f (λ e. broken-arrives (rw (lt-leb (16 + 4 * getD f 3 0) (length f) past) at e));
       whole = λ t. clash t refl;
       configRoom = a;
       documentRoom = b;
@@ -92,7 +93,7 @@ module _ {f : List ℕ} {n : ℕ} {good : Bool} {end : ℕ} {confs docs : List �
 
   walk-breaks : good ≡ false → brokenLayout 2 f ≡ true
   unfolding walkOf
-  walk-breaks e = layout-broken f (λ q. not-broken (rw (whole-is, e) at q))
+  walk-breaks e = layout-broken f (λ q. broken-arrives (rw (whole-is, e) at q))
 
   pub body-cut : (end ≡ length f → ⊥) → BodyWalked f false confs docs
   unfolding walkOf
@@ -128,18 +129,13 @@ unfolding statedPlaces
 stated-count w f n least t zero = refl
 stated-count w f n least t (suc k) = ap suc (stated-count w f n least (t + entrySize w) k)
 
-pub slaves-count : (w : ℕ) (f : List ℕ) (t k : ℕ) → length (slavesAt w f t k) ≡ k
-unfolding slavesAt
-slaves-count w f t zero = refl
-slaves-count w f t (suc k) = ap suc (slaves-count w f (t + entrySize w) k)
-
 module _ {f confs docs : List ℕ} (h : WholeWalk f confs docs) where
   slaves-walk : walkSlaves 2 f 16 (16 + 4 * getD f 3 0) (getD f 3 0) ≡ to (length f)
   unfolding walkFile tableEnd
   slaves-walk =
       byCase (leb (16 + 4 * getD f 3 0) (length f))
       (λ t. rw t at (h .walk))
-      (λ t. not-broken (rw t at (h .walk)))
+      (λ t. broken-arrives (rw t at (h .walk)))
 
   lacks : lacksNeeded 2 f ≡ either (isAmong 0 confs) (isAmong 0 docs)
   unfolding lacksNeeded decodeAt
@@ -166,9 +162,6 @@ module _ {f confs docs : List ℕ} (h : WholeWalk f confs docs) where
       let few = header-sizes f (h .header) .2 in
       let long : length docs ≡ getD f 3 0 = ap length (h .document) ∙ stated-count 2 f documentation 2 16 (getD f 3 0) in
       (omega (arith, long, few), stand (sym is ∙ e) .1)
-
-  pub docs-count : length docs ≡ getD f 3 0
-  docs-count = ap length (h .document) ∙ stated-count 2 f documentation 2 16 (getD f 3 0)
 
   module _ {a b : Bool} (is₁ : a ≡ isAmong 0 confs) (no₁ : a ≡ false) (is₂ : b ≡ isAmong 0 docs) (no₂ : b ≡ false)
       {names : List ℕ} (read : NamesRead f docs names) {t : Bool} (is : t ≡ hasRepeat (take (length docs) names)) where
@@ -217,13 +210,13 @@ unfolding filePlace filePlaceAt slavesPlace decode decodeAt
 place-there f places n least s some w is m l =
     let k = getD f 3 0 in
     let same : getD places s 0 ≡ getD (statedPlaces 2 f n least 16 k) s 0 = rw (← is) (sym (getD-take k places s 0 l)) in
-    rw (same, slaves-count 2 f 16 k) (stated-place 2 f n least 16 (16 + 4 * k) k (length f) s some w (rw is at m) l)
+    rw (same, length-slavesAt 2 f 16 k) (stated-place 2 f n least 16 (16 + 4 * k) k (length f) s some w (rw is at m) l)
 
 placed-there : {f confs docs : List ℕ} → WholeWalk f (take (getD f 3 0) confs) (take (getD f 3 0) docs) → slavesGround f ≡ 0 → Placed (decode f) (getD f 3 0) confs docs
 unfolding decode decodeAt
 placed-there {f} {confs} {docs} w e =
     let missing = none-missing w e in
-    let k = slaves-count 2 f 16 (getD f 3 0) in
+    let k = length-slavesAt 2 f 16 (getD f 3 0) in
     record {
       all = sym k;
       config = λ s l. place-there f confs configuration 3 s (omega arith) (slaves-walk w) (w .config) (either-false-left _ _ missing) (rw k at l);

@@ -1,29 +1,24 @@
 -- The walk of a directory, step by step: what a loop along its entries keeps, and one law for each way through a turn.
 -- Assumes nothing.
-use Prim.Native.Nat.{ℕ, zero, suc, pred, _+_, _*_, _-_, _≤_, _<_}
+use Prim.Native.Nat.{ℕ, zero, suc, _+_, _*_, _-_, _≤_, _<_}
 use mathlib.Core.Path.{_≡_, refl, sym, _∙_}
-use mathlib.Core.List.{List, [], _∷_}
-use mathlib.Core.Bool.{Bool, true, false, cond, not}
+use mathlib.Core.List.{List}
+use mathlib.Core.Bool.{Bool, true, false}
 use native.Mathlib.Omega.{arith}
 use native.Mathlib.Numerals.{add-one}
-use borrow.Author.Tests.{lt-ltb, le-ltb, eq-eqb, ne-eqb, le-leb, lt-leb, eqb-true, leb-true}
+use borrow.Author.Tests.{eq-eqb, ne-eqb, le-leb, lt-leb}
 use lib.ListN.{length, getD}
 use lib.Dec.{leb, eqb}
-use Rattle.file.specs.Order.{both}
 use Rattle.file.specs.Bytes.{ByteAt, NumberAt}
 use Rattle.file.specs.Layout.{entrySize}
 use Rattle.file.specs.Cluster.{configuration, documentation}
 use Rattle.file.specs.Decode.{offsetAt, fileSize}
-use Rattle.file.specs.Grounds.{Walk, broken, to, goodEntry, walkDirectory}
+use Rattle.file.specs.Grounds.{broken, goodEntry, walkDirectory}
 use Rattle.file.specs.Checked.{keptPlace, statedPlace, walkOf, DirectoryWalked}
 use Rattle.file.proofs.Order.{clash, both-next, both-false-left, both-false-right}
-use Rattle.file.proofs.Facts.{true-unless, false-unless, EntryFacts, entry-facts, entry-yes, zeros-none}
+use Rattle.file.proofs.Facts.{false-unless, entry-facts, zeros-none}
 
 -- ---- the definitions, an entry at a time
-
-pub walk-done : (w : ℕ) (f : List ℕ) (d low place : ℕ) → walkDirectory w f d low place 0 ≡ to place
-unfolding walkDirectory
-walk-done w f d low place = refl
 
 pub walk-stop : (w : ℕ) (f : List ℕ) (d low place k : ℕ) → 0 < k → goodEntry w f d low place ≡ false → walkDirectory w f d low place k ≡ broken
 unfolding walkDirectory
@@ -92,7 +87,7 @@ module _ {f : List ℕ} {d k entry left low place conf doc : ℕ} (h : Walking f
       record {
         entries = omega (arith, h .entries);
         within = omega (arith, good .within, b .is);
-        walk = rw (add-one, a .is, b .is, ← (walk-step 2 f entry low place left more (sym is ∙ e))) (h .walk);
+        walk = rw (add-one number, a .is, b .is, ← (walk-step 2 f entry low place left more (sym is ∙ e))) (h .walk);
         config = rw (conf-is, a .is, b .is, ← (good .offset), ← (stated-step 2 f configuration 3 conf entry left more)) (h .config);
         document = rw (doc-is, a .is, b .is, ← (good .offset), ← (stated-step 2 f documentation 2 doc entry left more)) (h .document);
       }

@@ -6,12 +6,11 @@ use mathlib.Core.Bool.{Bool, true, false, cond}
 use lib.ListN.{length, getD, take}
 use lib.Dec.{eqb, leb}
 use Rattle.file.specs.Order.{firstOf, both}
-use Rattle.file.specs.Layout.{entrySize}
+use Rattle.file.specs.Layout.{offsetWidth, countPlace, headerSize, entrySize, fileCountPlace, recordCountPlace, fileOffsetPlace, maxSlaves, neededConfiguration, neededDocumentation, recordSize}
 use Rattle.file.specs.Cluster.{configuration, documentation}
 use Rattle.file.specs.Bytes.{numberOf, part}
-use Rattle.file.specs.Decode.{offsetAt, fileSize, decode}
-use Rattle.file.specs.Accepted.{Becomes, Placed, FoundFile, fileAt}
-use Rattle.file.specs.Answers.{Verdict, accepted, verdictOf}
+use Rattle.file.specs.Decode.{offsetAt, fileSize}
+use Rattle.file.specs.Accepted.{FoundFile, fileAt}
 use Rattle.file.specs.Grounds.{wrongSize, wrongMark, wrongEdition, wrongLength, wrongHeader, fileGround, Walk, broken, to, walkDirectory, walkSlave, walkSlaves, walkFile, brokenLayout, lacksNeeded, equalPhysicalNames}
 
 -- none of grounds 1 to 5 holds
@@ -25,7 +24,7 @@ pub record GoodHeader (w : ℕ) (f : List ℕ) : Type 0 where
 -- n is the ground that refuses the file, or 0, and then none of grounds 1 to 5 holds
 pub record HeaderChecked (f : List ℕ) (n : ℕ) : Type 0 where
   pub refused : (n ≡ 0 → ⊥) → n ≡ fileGround f
-  pub passed : n ≡ 0 → GoodHeader 2 f
+  pub passed : n ≡ 0 → GoodHeader offsetWidth f
 
 -- ---- where the directories state 0x08 and 0x3D to lie
 
@@ -37,7 +36,7 @@ keptPlace number last n least place kept = cond (both (eqb number n) (leb least 
 unfoldable pub statedPlace : ℕ → List ℕ → ℕ → ℕ → ℕ → ℕ → ℕ → ℕ
 statedPlace w f n least kept d zero = kept
 statedPlace w f n least kept d (suc k) =
-    statedPlace w f n least (keptPlace (getD f d 0) (getD f (d + 1) 0) n least (offsetAt w f (d + w)) kept) (d + entrySize w) k
+    statedPlace w f n least (keptPlace (getD f d 0) (getD f (d + recordCountPlace) 0) n least (offsetAt w f (d + fileOffsetPlace w)) kept) (d + entrySize w) k
 
 -- a walk as the code returns it
 unfoldable pub walkOf : Bool → ℕ → Walk
@@ -46,14 +45,14 @@ walkOf false place = broken
 
 -- the walk of the k entries of the directory at d, and the places of 0x08 and 0x3D in the needed size, 0 where they are not there
 pub record DirectoryWalked (f : List ℕ) (d k : ℕ) (good : Bool) (end conf doc : ℕ) : Type 0 where
-  pub walk : walkOf good end ≡ walkDirectory 2 f d 0 (d + 4 * k) k
-  pub config : good ≡ true → conf ≡ statedPlace 2 f configuration 3 0 d k
-  pub document : good ≡ true → doc ≡ statedPlace 2 f documentation 2 0 d k
+  pub walk : walkOf good end ≡ walkDirectory offsetWidth f d 0 (d + entrySize offsetWidth * k) k
+  pub config : good ≡ true → conf ≡ statedPlace offsetWidth f configuration neededConfiguration 0 d k
+  pub document : good ≡ true → doc ≡ statedPlace offsetWidth f documentation neededDocumentation 0 d k
   pub within : good ≡ true → end ≤ length f
 
 -- the place that the slave of the table entry at t states for file n, and the places that n table entries state
 unfoldable pub statedIn : ℕ → List ℕ → ℕ → ℕ → ℕ → ℕ
-statedIn w f n least t = statedPlace w f n least 0 (offsetAt w f t) (getD f (t + w) 0)
+statedIn w f n least t = statedPlace w f n least 0 (offsetAt w f t) (getD f (t + fileCountPlace w) 0)
 
 unfoldable pub statedPlaces : ℕ → List ℕ → ℕ → ℕ → ℕ → ℕ → List ℕ
 statedPlaces w f n least t zero = []
@@ -61,62 +60,55 @@ statedPlaces w f n least t (suc k) = statedIn w f n least t ∷ statedPlaces w f
 
 -- the same of the slave of the table entry at t, its directory at the place
 pub record SlaveWalked (f : List ℕ) (t place : ℕ) (good : Bool) (end conf doc : ℕ) : Type 0 where
-  pub walk : walkOf good end ≡ walkSlave 2 f t place
-  pub config : good ≡ true → conf ≡ statedIn 2 f configuration 3 t
-  pub document : good ≡ true → doc ≡ statedIn 2 f documentation 2 t
+  pub walk : walkOf good end ≡ walkSlave offsetWidth f t place
+  pub config : good ≡ true → conf ≡ statedIn offsetWidth f configuration neededConfiguration t
+  pub document : good ≡ true → doc ≡ statedIn offsetWidth f documentation neededDocumentation t
   pub within : good ≡ true → end ≤ length f
 
 -- the same of all the slaves
 pub record SlavesWalked (f : List ℕ) (count : ℕ) (good : Bool) (end : ℕ) (confs docs : List ℕ) : Type 0 where
-  pub walk : walkOf good end ≡ walkSlaves 2 f 16 (16 + 4 * count) count
-  pub config : good ≡ true → take count confs ≡ statedPlaces 2 f configuration 3 16 count
-  pub document : good ≡ true → take count docs ≡ statedPlaces 2 f documentation 2 16 count
-  pub configRoom : length confs ≡ 32
-  pub documentRoom : length docs ≡ 32
+  pub walk : walkOf good end ≡ walkSlaves offsetWidth f (headerSize offsetWidth) (headerSize offsetWidth + entrySize offsetWidth * count) count
+  pub config : good ≡ true → take count confs ≡ statedPlaces offsetWidth f configuration neededConfiguration (headerSize offsetWidth) count
+  pub document : good ≡ true → take count docs ≡ statedPlaces offsetWidth f documentation neededDocumentation (headerSize offsetWidth) count
+  pub configRoom : length confs ≡ maxSlaves offsetWidth
+  pub documentRoom : length docs ≡ maxSlaves offsetWidth
 
 -- the walk of the whole file ends with its last byte, and these are the places that its directories state
 pub record WholeWalk (f confs docs : List ℕ) : Type 0 where
-  pub header : GoodHeader 2 f
-  pub walk : walkFile 2 f ≡ to (length f)
-  pub config : confs ≡ statedPlaces 2 f configuration 3 16 (getD f 3 0)
-  pub document : docs ≡ statedPlaces 2 f documentation 2 16 (getD f 3 0)
+  pub header : GoodHeader offsetWidth f
+  pub walk : walkFile offsetWidth f ≡ to (length f)
+  pub config : confs ≡ statedPlaces offsetWidth f configuration neededConfiguration (headerSize offsetWidth) (getD f countPlace 0)
+  pub document : docs ≡ statedPlaces offsetWidth f documentation neededDocumentation (headerSize offsetWidth) (getD f countPlace 0)
 
 -- the layout is broken, or walked whole, with the places in front of whatever else the arrays hold
 pub record BodyWalked (f : List ℕ) (good : Bool) (confs docs : List ℕ) : Type 0 where
-  pub broke : good ≡ false → brokenLayout 2 f ≡ true
-  pub whole : good ≡ true → WholeWalk f (take (getD f 3 0) confs) (take (getD f 3 0) docs)
-  pub configRoom : length confs ≡ 32
-  pub documentRoom : length docs ≡ 32
+  pub broke : good ≡ false → brokenLayout offsetWidth f ≡ true
+  pub whole : good ≡ true → WholeWalk f (take (getD f countPlace 0) confs) (take (getD f countPlace 0) docs)
+  pub configRoom : length confs ≡ maxSlaves offsetWidth
+  pub documentRoom : length docs ≡ maxSlaves offsetWidth
 
 -- the first of grounds 7 and 8 that holds
 unfoldable pub slavesGround : List ℕ → ℕ
-slavesGround f = firstOf (record { number = 7; holds = lacksNeeded 2 f } ∷ record { number = 8; holds = equalPhysicalNames 2 f } ∷ [])
+slavesGround f = firstOf (record { number = 7; holds = lacksNeeded offsetWidth f } ∷ record { number = 8; holds = equalPhysicalNames offsetWidth f } ∷ [])
 
 -- what the k directory entries from d on state for file n
 unfoldable pub searchDirectory : ℕ → List ℕ → ℕ → ℕ → ℕ → FoundFile
 searchDirectory w f n d zero = FoundFile.missing
 searchDirectory w f n d (suc k) =
     cond (eqb (getD f d 0) n)
-    (fileAt (offsetAt w f (d + w)) (fileSize (getD f (d + 1) 0)))
+    (fileAt (offsetAt w f (d + fileOffsetPlace w)) (fileSize (getD f (d + recordCountPlace) 0)))
     (searchDirectory w f n (d + entrySize w) k)
 
 -- ---- the physical names at the stated places of 0x3D
 
 -- the number in the eight bytes behind record 0x00 of the file at a place
 abbrev pub nameAt : List ℕ → ℕ → ℕ
-nameAt f p = numberOf (part f (p + 4) 8)
+nameAt f p = numberOf (part f (p + recordSize) (2 * recordSize))
 
 pub record NameStands (f : List ℕ) (p : ℕ) : Type 0 where
-  pub within : p + 12 ≤ length f
+  pub within : p + 3 * recordSize ≤ length f
 
 -- the names at the places, in front of whatever else the array holds
 pub record NamesRead (f docs names : List ℕ) : Type 0 where
-  pub room : length names ≡ 32
+  pub room : length names ≡ maxSlaves offsetWidth
   pub first : take (length docs) names ≡ map (nameAt f) docs
-
--- ---- the whole survey: its answer is that of the file's ground; a file that is accepted is the encoding of its cluster, and the
--- places are that cluster's
-pub record Surveyed (f : List ℕ) (answer : Verdict) (count : ℕ) (configurations documentations : List ℕ) : Type 0 where
-  pub is : answer ≡ verdictOf (fileGround f)
-  pub becomes : answer ≡ accepted → Becomes f (decode f)
-  pub placed : answer ≡ accepted → Placed (decode f) count configurations documentations

@@ -4,6 +4,7 @@ use mathlib.Core.List.{List, [], _∷_}
 use mathlib.Core.Bool.{Bool, cond}
 use lib.ListN.{length, getD}
 use lib.Dec.{eqb, leb}
+use Rattle.file.specs.Order.{both}
 use Rattle.file.specs.Bytes.{numberOf, part}
 use Rattle.file.specs.Layout.{recordSize}
 
@@ -87,3 +88,11 @@ writeOperation = 1
 
 abbrev pub executeOperation : ℕ
 executeOperation = 2
+
+-- an operation above these is none: operation 3, or any above it
+unfoldable pub noOperation : ℕ → Bool
+noOperation operation = leb 3 operation
+
+-- a read that is addressed to 0x00
+unfoldable pub broadcastRead : ℕ → ℕ → Bool
+broadcastRead operation name = both (eqb operation readOperation) (eqb name broadcast)

@@ -1,23 +1,23 @@
--- The cluster in a list of bytes, read through the offsets that its entries state. Total: of a file that is refused it says
--- nothing of use.
+-- The cluster in a list of bytes, read through the offsets that its entries state. Total: of a file that grounds 1 to 6 refuse it
+-- says nothing of use.
 use Prim.Native.Nat.{ℕ, zero, suc, _+_, _*_}
 use mathlib.Core.List.{List, [], _∷_}
 use lib.ListN.{getD}
 use Rattle.file.specs.Bytes.{numberOf, part}
-use Rattle.file.specs.Layout.{offsetWidth, countPlace, epochPlace, flagPlace, pendingNamePlace, pendingPB2Place, pendingPB3Place, headerSize, entrySize, recordSize}
+use Rattle.file.specs.Layout.{offsetWidth, countPlace, epochPlace, flagPlace, pendingNamePlace, pendingPB2Place, pendingPB3Place, headerSize, entrySize, fileCountPlace, recordCountPlace, fileOffsetPlace, recordSize}
 use Rattle.file.specs.Cluster.{File, Slave, Cluster}
 
 -- a number of the offset's width at a place
 unfoldable pub offsetAt : ℕ → List ℕ → ℕ → ℕ
 offsetAt w f at = numberOf (part f at w)
 
--- the bytes of a file with last record r: records 0x00 to r
+-- "A file is 4(r + 1) bytes, records 0x00 to r"
 unfoldable pub fileSize : ℕ → ℕ
 fileSize r = recordSize * (r + 1)
 
 -- the file of the directory entry at d
 unfoldable pub fileAt : ℕ → List ℕ → ℕ → File
-fileAt w f d = record { number = getD f d 0; bytes = part f (offsetAt w f (d + w)) (fileSize (getD f (d + 1) 0)) }
+fileAt w f d = record { number = getD f d 0; bytes = part f (offsetAt w f (d + fileOffsetPlace w)) (fileSize (getD f (d + recordCountPlace) 0)) }
 
 -- the files of the k directory entries from d on
 unfoldable pub filesAt : ℕ → List ℕ → ℕ → ℕ → List File
@@ -26,7 +26,7 @@ filesAt w f d (suc k) = fileAt w f d ∷ filesAt w f (d + entrySize w) k
 
 -- the slave of the table entry at t
 unfoldable pub slaveAt : ℕ → List ℕ → ℕ → Slave
-slaveAt w f t = record { files = filesAt w f (offsetAt w f t) (getD f (t + w) 0) }
+slaveAt w f t = record { files = filesAt w f (offsetAt w f t) (getD f (t + fileCountPlace w) 0) }
 
 -- the slaves of the n table entries from t on
 unfoldable pub slavesAt : ℕ → List ℕ → ℕ → ℕ → List Slave

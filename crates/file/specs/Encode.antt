@@ -7,7 +7,8 @@ use Rattle.file.specs.Bytes.{bytesOf}
 use Rattle.file.specs.Layout.{offsetWidth, mark₀, mark₁, editionOf, headerSize, entrySize, fillLength, zerosLength}
 use Rattle.file.specs.Cluster.{File, Slave, Cluster, lastRecord}
 
--- "A directory entry is 4 bytes: file number 0 to 63, strictly rising; record count r, 1 to 255; offset (2)."
+-- "A directory entry is 4 bytes: file number 0 to 63, strictly rising; record count r, 1 to 255; offset (2)." (the bounds and the
+-- order: `Legal`)
 unfoldable pub directoryEntry : ℕ → ℕ → File → List ℕ
 directoryEntry w place x = (x .number ∷ lastRecord (x .bytes) ∷ []) ++ (replicate (fillLength w) 0 ++ bytesOf w place)
 
@@ -63,6 +64,7 @@ header w c =
     (bytesOf w (fileLength w (c .slaves)) ++
     ((c .epoch ∷ c .flag ∷ c .pendingName ∷ c .pendingPB2 ∷ c .pendingPB3 ∷ []) ++ replicate (zerosLength w) 0)))
 
+-- "After the table come, slave by slave, its directory and its files in order, without gap, up to the last byte."
 unfoldable pub encodeAt : ℕ → Cluster → List ℕ
 encodeAt w c =
     header w c ++

@@ -7,7 +7,7 @@ use lib.Dec.{eqb, leb, ltb}
 use Rattle.file.specs.Bytes.{part, allZero}
 use Rattle.file.specs.Order.{Ground, firstOf, both, either}
 use Rattle.file.specs.Layout.{offsetWidth, mark₀, mark₁, editionOf, editionPlace, countPlace, tablePlace, lengthPlace, flagPlace, pendingNamePlace, pendingPB2Place, zerosPlace, zerosLength, headerSize, entrySize, fillLength, maxSlaves, maxLength, maxFileNumber}
-use Rattle.file.specs.Cluster.{Slave, Cluster, bytesIn, lastRecord, configuration, documentation, physicalName, operationOf, readOperation, broadcast}
+use Rattle.file.specs.Cluster.{Slave, bytesIn, lastRecord, configuration, documentation, physicalName, operationOf, noOperation, broadcastRead}
 use Rattle.file.specs.Decode.{offsetAt, fileSize, decodeAt}
 
 -- ---- 1 to 5: the header
@@ -32,8 +32,7 @@ wrongLength w f = not (eqb (offsetAt w f (lengthPlace w)) (length f))
 unfoldable pub wrongPending : ℕ → ℕ → ℕ → Bool
 wrongPending flag name pb2 =
     either (ltb 1 flag)
-    (both (eqb flag 1)
-    (either (eqb (operationOf pb2) 3) (both (eqb (operationOf pb2) readOperation) (eqb name broadcast))))
+    (both (eqb flag 1) (either (noOperation (operationOf pb2)) (broadcastRead (operationOf pb2) name)))
 
 -- 5. "The count is above 32, the table offset is not 16, a header zero is not zero, the flag .."
 unfoldable pub wrongHeader : ℕ → List ℕ → Bool

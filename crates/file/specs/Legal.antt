@@ -1,17 +1,17 @@
 -- A legal cluster, by its fields alone (document 01, "The cluster file"): what an accepted file holds.
-use Prim.Native.Nat.{ℕ, suc, _+_, _*_, _≤_, _<_}
+use Prim.Native.Nat.{ℕ, suc, _+_, _*_, _≤_}
 use mathlib.Core.Path.{_≡_}
 use mathlib.Core.List.{List, [], _∷_, map}
 use lib.ListN.{length}
 use Rattle.file.specs.Bytes.{Byte, Bytes, All}
-use Rattle.file.specs.Layout.{offsetWidth, maxSlaves, maxLength, maxFileNumber, maxRecord, recordSize}
+use Rattle.file.specs.Layout.{offsetWidth, maxSlaves, maxLength, maxFileNumber, minRecord, maxRecord, neededConfiguration, neededDocumentation, recordSize}
 use Rattle.file.specs.Cluster.{File, Slave, Cluster, bytesIn, lastRecord, configuration, documentation, physicalName, operationOf, readOperation, broadcast}
 use Rattle.file.specs.Encode.{fileLength}
 
 -- "file number 0 to 63", "record count r, 1 to 255", "A file is 4(r + 1) bytes"
 pub record LegalFile (x : File) : Type 0 where
   pub number : x .number ≤ maxFileNumber
-  pub some : 1 ≤ lastRecord (x .bytes)
+  pub some : minRecord ≤ lastRecord (x .bytes)
   pub most : lastRecord (x .bytes) ≤ maxRecord
   pub whole : length (x .bytes) ≡ recordSize * (lastRecord (x .bytes) + 1)
   pub bytes : Bytes (x .bytes)
@@ -25,8 +25,8 @@ pub data Rising : ℕ → List File → Type 0 where
 pub record LegalSlave (s : Slave) : Type 0 where
   pub rising : Rising 0 (s .files)
   pub files : All LegalFile (s .files)
-  pub configured : 3 ≤ lastRecord (bytesIn s configuration)
-  pub documented : 2 ≤ lastRecord (bytesIn s documentation)
+  pub configured : neededConfiguration ≤ lastRecord (bytesIn s configuration)
+  pub documented : neededDocumentation ≤ lastRecord (bytesIn s documentation)
 
 -- no element of the list stands there twice
 pub data Distinct : List ℕ → Type 0 where

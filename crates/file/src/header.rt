@@ -6,6 +6,7 @@ ghost use Rattle.file.specs.Grounds.{wrongSize, wrongMark, wrongEdition,
 ghost use Rattle.file.specs.Checked.{HeaderChecked};
 use crate::numbers::byte_at;
 use crate::numbers::offset_at;
+use crate::types::Refusal;
 
 fn wrong_size(file: &[u8]) -> bool
     ensures { λ r. ⌜ r ≡ wrongSize 2 (now (file .entry)) ⌝ }
@@ -84,19 +85,19 @@ pub fn header_ground(file: &[u8]) -> u8
     ensures { λ r. ⌜ HeaderChecked (now (file .entry)) r ⌝ }
 {
     if wrong_size(file) {
-        return 1;
+        return Refusal::SIZE.0;
     }
     if wrong_mark(file) {
-        return 2;
+        return Refusal::MARK.0;
     }
     if wrong_edition(file) {
-        return 3;
+        return Refusal::EDITION.0;
     }
     if wrong_length(file) {
-        return 4;
+        return Refusal::LENGTH.0;
     }
     if wrong_header(file) {
-        return 5;
+        return Refusal::HEADER.0;
     }
     0
 }

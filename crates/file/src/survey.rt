@@ -3,7 +3,8 @@ ghost use mathlib.Core.Path.{_≡_};
 ghost use Prim.Native.Nat.{_≤_};
 ghost use lib.ListN.{length};
 ghost use Rattle.file.specs.Bytes.{All};
-ghost use Rattle.file.specs.Checked.{GoodHeader, BodyWalked, WholeWalk, slavesGround, NameStands, NamesRead, Surveyed};
+ghost use Rattle.file.specs.Checked.{GoodHeader, BodyWalked, WholeWalk, slavesGround, NameStands, NamesRead};
+ghost use Rattle.file.specs.Surveyed.{Surveyed};
 ghost use Rattle.file.specs.Answers.{Verdict, checkedOf, loadVerdict};
 use crate::header::header_ground;
 use crate::numbers::byte_at;
@@ -87,15 +88,15 @@ fn slaves_ground(file: &[u8], configuration: &[usize], documentation: &[usize]) 
     ensures { λ r. ⌜ r ≡ slavesGround (now (file .entry)) ⌝ }
 {
     if is_among(0, configuration) {
-        return 7;
+        return Refusal::NEEDED_FILE.0;
     }
     if is_among(0, documentation) {
-        return 7;
+        return Refusal::NEEDED_FILE.0;
     }
     let names = physical_names(file, documentation);
     let count = documentation.len();
     if has_repeat(&names[..count]) {
-        return 8;
+        return Refusal::PHYSICAL_NAMES.0;
     }
     0
 }

@@ -1,5 +1,9 @@
-// The types that keep a file number, a record number and a logical name apart, and the refusals.
+// "A file number, a record number and a logical name are never taken for one another" (document 01): a type for each. And the
+// refusals.
 ghost use mathlib.Core.Path.{_≡_};
+ghost use lib.Dec.{eqb};
+ghost use Rattle.file.specs.Cluster.{unnamed, broadcast};
+ghost use Rattle.file.specs.Typed.{nameIn};
 
 pub struct FileNumber(pub u8);
 
@@ -7,15 +11,28 @@ pub struct RecordNumber(pub u8);
 
 pub struct LogicalName(pub u8);
 
+// "Logical name 0xFF is "unnamed", 0x00 is broadcast."
 impl LogicalName {
     pub const UNNAMED: LogicalName = LogicalName(0xFF);
 
     pub const BROADCAST: LogicalName = LogicalName(0x00);
 
     pub fn new(name: u8) -> LogicalName
-        ensures { λ r. ⌜ r .0 ≡ name ⌝ }
+        ensures { λ r. ⌜ nameIn r ≡ name ⌝ }
     {
         LogicalName(name)
+    }
+
+    pub fn is_unnamed(self) -> bool
+        ensures { λ r. ⌜ r ≡ eqb (nameIn self) unnamed ⌝ }
+    {
+        self.0 == LogicalName::UNNAMED.0
+    }
+
+    pub fn is_broadcast(self) -> bool
+        ensures { λ r. ⌜ r ≡ eqb (nameIn self) broadcast ⌝ }
+    {
+        self.0 == LogicalName::BROADCAST.0
     }
 }
 

@@ -2,6 +2,7 @@
 ghost use mathlib.Core.Path.{_≡_};
 ghost use Prim.Native.Nat.{_+_, _*_, _≤_, _<_};
 ghost use lib.ListN.{length};
+ghost use Rattle.file.specs.Bytes.{ByteAt};
 ghost use Rattle.file.specs.Grounds.{goodEntry};
 ghost use Rattle.file.specs.Checked.{keptPlace, DirectoryWalked, SlaveWalked, SlavesWalked};
 use crate::numbers::byte_at;
@@ -23,12 +24,18 @@ const BROKEN: DirectoryWalk = DirectoryWalk {
     documentation: 0,
 };
 
-fn good_entry(file: &[u8], entry: usize, low: usize, place: usize) -> bool
-    requires { ⌜ (entry + 4 ≤ length (now file)) × (length (now file) ≤ 32768) × (place ≤ 32768) ⌝ }
+// Whether a directory entry is good, of which file number and record count were read.
+fn good_entry(
+    file: &[u8],
+    entry: usize,
+    number: usize,
+    last: usize,
+    low: usize,
+    place: usize,
+) -> bool
+    requires { ⌜ (entry + 4 ≤ length (now file)) × (length (now file) ≤ 32768) × (place ≤ 32768) × ByteAt (now file) entry number × ByteAt (now file) (entry + 1) last ⌝ }
     ensures { λ r. ⌜ r ≡ goodEntry 2 (now (file .entry)) entry low place ⌝ }
 {
-    let number = byte_at(file, entry);
-    let last = byte_at(file, entry + 1);
     if number < low {
         return false;
     }
@@ -76,11 +83,11 @@ fn walk_directory(file: &[u8], directory: usize, count: usize) -> DirectoryWalk
     let mut configuration = 0;
     let mut documentation = 0;
     while 0 < left {
-        if !good_entry(file, entry, low, place) {
-            return BROKEN;
-        }
         let number = byte_at(file, entry);
         let last = byte_at(file, entry + 1);
+        if !good_entry(file, entry, number, last, low, place) {
+            return BROKEN;
+        }
         configuration = kept_place(number, last, 0x08, 3, place, configuration);
         documentation = kept_place(number, last, 0x3D, 2, place, documentation);
         low = number + 1;

@@ -3,11 +3,13 @@ use Prim.Native.Nat.{ℕ}
 use mathlib.Core.List.{List}
 use mathlib.Core.Bool.{Bool, not}
 use lib.ListN.{length, getD}
-use lib.Dec.{eqb, leb, ltb}
-use Rattle.file.specs.Order.{both, either}
-use Rattle.file.specs.Cluster.{readOperation, broadcast}
+use lib.Dec.{eqb, ltb}
+use Rattle.file.specs.Order.{either}
 use Rattle.frame.specs.Fireworks.{addressFirework}
 use Rattle.frame.specs.Frames.{frameSize, between}
+-- 13. "An address frame, read or to be written, has operation 3, or above 3 when handed to the writer.": `noOperation`.
+-- 14. "A read, received or to be written, is addressed to 0x00.": `broadcastRead`. A file's pending operation is judged by both too.
+unfoldable pub use Rattle.file.specs.Cluster.{noOperation, broadcastRead}
 
 -- 9. "The answer buffer is shorter .. than 6 for the frame writer."
 unfoldable pub shortBuffer : List ℕ → Bool
@@ -24,14 +26,6 @@ wrongLength size frame = not (eqb (length frame) size)
 -- 12. "The check byte is wrong.", by the given check of the four bytes before it
 unfoldable pub wrongCheck : (List ℕ → ℕ) → List ℕ → Bool
 wrongCheck check frame = not (eqb (getD frame 5 0) (check (between frame)))
-
--- 13. "An address frame, read or to be written, has operation 3, or above 3 when handed to the writer."
-unfoldable pub noOperation : ℕ → Bool
-noOperation operation = leb 3 operation
-
--- 14. "A read, received or to be written, is addressed to 0x00."
-unfoldable pub broadcastRead : ℕ → ℕ → Bool
-broadcastRead operation name = both (eqb operation readOperation) (eqb name broadcast)
 
 -- 18. "A file number handed to the writer is above 63."
 unfoldable pub noFileNumber : ℕ → Bool

@@ -4,7 +4,7 @@ use mathlib.Core.List.{List, [], _∷_}
 use mathlib.Core.Bool.{cond}
 use lib.ListN.{getD}
 use lib.Dec.{eqb}
-use Rattle.file.specs.Order.{Ground, firstOf}
+use Rattle.file.specs.Order.{firstOf}
 use Rattle.file.specs.Cluster.{fileNumberOf, operationOf}
 use Rattle.frame.specs.Check.{addressCheck}
 use Rattle.frame.specs.Frames.{frameSize}

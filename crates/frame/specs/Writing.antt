@@ -4,7 +4,7 @@ use mathlib.Core.List.{List, [], _∷_, _++_}
 use mathlib.Core.Bool.{cond}
 use lib.ListN.{drop}
 use lib.Dec.{eqb}
-use Rattle.file.specs.Order.{Ground, firstOf}
+use Rattle.file.specs.Order.{firstOf}
 use Rattle.frame.specs.Frames.{frameSize, addressFrame, dataFrame}
 use Rattle.frame.specs.Grounds.{shortBuffer, noOperation, broadcastRead, noFileNumber}
 

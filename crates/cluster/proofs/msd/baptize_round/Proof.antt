@@ -10,7 +10,6 @@ use mathlib.Core.List.{[]}
 use Rattle.cluster.specs.Slaves.{baptizing, slaveAfter, slavesAfter}
 use Rattle.cluster.proofs.Kept.{slaveAfter-kept}
 use Rattle.cluster.proofs.Changing.{Changing, changing-start, changing-decoded, changing-kept, changing-next, changing-done}
-use borrow.Author.Needs.{needs}
 use Rattle.cluster.proofs.msd.baptize_round.Statement.{statement}
 use Rattle.cluster.proofs.msd.baptize_round.Tie as tie
 

@@ -2,7 +2,7 @@
 -- Assumes nothing.
 use borrow.Author.Needs.{needs}
 use native.Mathlib.Omega.{arith}
-use Rattle.file.proofs.NumberLaws.{byte-number, number-join}
+use Rattle.file.proofs.NumberLaws.{number-join}
 use Rattle.file.proofs.numbers.u64_at.Statement.{statement}
 use Rattle.file.proofs.numbers.u64_at.Tie as tie
 

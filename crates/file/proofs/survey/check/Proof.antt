@@ -1,6 +1,5 @@
 -- `file::survey::check` meets its contract: its answer is the survey's.
 -- Assumes nothing.
-use mathlib.Core.Path.{_≡_}
 use Rattle.file.specs.Grounds.{loadGround}
 use Rattle.file.specs.Answers.{loadVerdict}
 use borrow.Author.Needs.{needs}

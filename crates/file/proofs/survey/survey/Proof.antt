@@ -1,7 +1,6 @@
 -- `file::survey::survey` meets its contract: a law for each way.
 -- Assumes nothing.
-use Prim.Native.Nat.{_≤_, _<_}
-use mathlib.Core.Path.{refl, sym}
+use Prim.Native.Nat.{_≤_}
 use borrow.Author.Tests.{not-true, not-false}
 use native.Mathlib.Omega.{arith}
 use denote.Ref.{now}

@@ -5,15 +5,6 @@ use borrow.Author.Needs.{needs}
 use Rattle.file.proofs.walk.good_entry.Statement.{statement}
 use Rattle.file.proofs.walk.good_entry.Tie as tie
 
-byte-at-requires : tie.Need-byte-at-requires
-byte-at-requires c κs = search needs
-
-add-byte-at : tie.Need-add-byte-at
-add-byte-at c = search needs
-
-byte-at-requires-2 : tie.Need-byte-at-requires-2
-byte-at-requires-2 c κs = search needs
-
 returns : tie.Need-returns
 returns c = search (needs, entry-low)
 
@@ -43,17 +34,14 @@ add-result-2 c = search needs
 
 returns-5 : tie.Need-returns-5
 returns-5 c =
-    let e = c .before .before .before .before .before in
-    entry-last _ _ _ (e .before .byte-at .ensures) (e .byte-at2 .ensures) (c .before .before .before .before .if1 .left) (c .before .before .before .if2 .left)
+    let start = c .before .before .before .before .before .before in
+    entry-last _ _ _ (start .pre .3) (start .pre .4) (c .before .before .before .before .if1 .left) (c .before .before .before .if2 .left)
     (c .before .before .if3 .left) (c .before .offset-at .ensures) (c .if4 .left)
 
 pub good-entry-spec : {M : Type 1} → statement M
 good-entry-spec =
     tie.close
     (tie.spec
-    byte-at-requires
-    add-byte-at
-    byte-at-requires-2
     returns
     returns-2
     returns-3

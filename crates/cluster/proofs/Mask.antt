@@ -1,0 +1,50 @@
+-- The sender mask, as the layers above read it: "bit s is set exactly when someone sent in slot s"; "bit 0 is never set".
+-- Assumes nothing.
+use Prim.Native.Nat.{ℕ, _/_, _%_, _^_, _<_}
+use native.Mathlib.Omega.{arith}
+use mathlib.Core.Path.{_≡_, refl, sym, ap, _∙_}
+use mathlib.Core.Logic.{_≢_, _↔_}
+use mathlib.Core.List.{List, [], _∷_}
+use Rattle.file.specs.Cluster.{Slave, Cluster}
+use Rattle.frame.specs.Fireworks.{Round, multipartner, msd, msa, none}
+use Rattle.cluster.specs.Bus.{Senders, anyone, slots, senderMask, nobody}
+use Rattle.cluster.specs.Slaves.{Operation, inSlot, sentTo, pendingOperation}
+use Rattle.cluster.specs.Multipartner.{sentIn, sentDuring}
+use Rattle.cluster.specs.Grounds.{roundBy}
+use Rattle.cluster.specs.Round.{addressEffect, dataEffect, multipartnerEffect, effectOf, frameOn}
+use Rattle.cluster.proofs.Bus.{mask-below, mask-bit}
+
+pub mask-64 : (r : Senders) → senderMask r < 2 ^ 64
+unfolding senderMask
+mask-64 r = mask-below r slots
+
+pub sender-bit : (r : Senders) (s : ℕ) → s < slots → senderMask r / 2 ^ s % 2 ≡ anyone (r s)
+unfolding senderMask
+sender-bit r s h = mask-bit r slots s h
+
+anyone-some : (l : List ℕ) → (anyone l ≡ 1) ↔ (l ≢ [])
+unfolding anyone
+anyone-some [] = (λ e h. omega (arith, e), λ h. absurd (h refl))
+anyone-some (x ∷ xs) = (λ e h. let z : _≡_ {A = ℕ} 0 1 = sym (ap anyone h) in omega (arith, z), λ h. refl)
+
+pub sender-set : (r : Senders) (s : ℕ) → s < slots → (senderMask r / 2 ^ s % 2 ≡ 1) ↔ (r s ≢ [])
+sender-set r s h = (λ e. anyone-some (r s) .0 (sym (sender-bit r s h) ∙ e), λ n. sender-bit r s h ∙ anyone-some (r s) .1 n)
+
+-- nobody sends in slot 0, in any round
+sentTo-zero : (o : Operation) (ss : List Slave) → sentTo o ss 0 ≡ []
+unfolding sentTo inSlot
+sentTo-zero o [] = refl
+sentTo-zero o (s ∷ ss) = sentTo-zero o ss
+
+senders-zero : (c : Cluster) (round : Round) (frame : List ℕ) → effectOf c round frame .senders 0 ≡ []
+unfolding effectOf addressEffect dataEffect multipartnerEffect sentDuring sentIn nobody
+senders-zero c (multipartner r) frame = refl
+senders-zero c msd frame = sentTo-zero (pendingOperation c) (c .slaves)
+senders-zero c msa frame = refl
+senders-zero c none frame = refl
+
+pub bit-zero : (c : Cluster) (frame : List ℕ) → senderMask (frameOn c frame .senders) % 2 ≡ 0
+unfolding frameOn anyone
+bit-zero c frame =
+    let bit : senderMask (frameOn c frame .senders) / 2 ^ 0 % 2 ≡ 0 = sender-bit (frameOn c frame .senders) 0 (omega arith) ∙ ap anyone (senders-zero c (roundBy frame) frame) in
+    omega (arith, bit)

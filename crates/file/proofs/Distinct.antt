@@ -1,0 +1,48 @@
+-- No two answers of one type are taken to the same: each map of `specs/Answers.antt` can be undone.
+-- Assumes nothing.
+use Prim.Native.Nat.{ℕ}
+use mathlib.Core.Path.{_≡_, refl, sym, _∙_, ap}
+use Rattle.file.specs.Accepted.{FoundFile, fileAt, FoundRecord, recordAt}
+use Rattle.file.specs.Answers.{Verdict, checkedOf, foundFile, foundRecord}
+use Rattle.file.specs.declared.survey.FileAnswer.{FileAnswer}
+use Rattle.file.specs.declared.survey.FileAnswer.the-variants as answers
+use Rattle.file.specs.declared.readers.FilePlace.{FilePlace}
+use Rattle.file.specs.declared.readers.FilePlace.the-variants as files
+use Rattle.file.specs.declared.readers.RecordPlace.{RecordPlace}
+use Rattle.file.specs.declared.readers.RecordPlace.the-variants as records
+
+answer : Verdict → FileAnswer
+answer Verdict.accepted = answers.Accepted
+answer (Verdict.refused n) = answers.Refused (record { 0 = n })
+
+answer-back : (a : FileAnswer) → answer (checkedOf a) ≡ a
+unfolding answer checkedOf
+answer-back answers.Accepted = refl
+answer-back (answers.Refused why) = refl
+
+pub answers-distinct : (a b : FileAnswer) → checkedOf a ≡ checkedOf b → a ≡ b
+answers-distinct a b h = sym (answer-back a) ∙ (ap answer h ∙ answer-back b)
+
+file : FoundFile → FilePlace
+file FoundFile.missing = files.NoFile
+file (fileAt place size) = files.Bytes (record { place = place; size = size })
+
+file-back : (a : FilePlace) → file (foundFile a) ≡ a
+unfolding file foundFile
+file-back (files.Bytes b) = refl
+file-back files.NoFile = refl
+
+pub files-distinct : (a b : FilePlace) → foundFile a ≡ foundFile b → a ≡ b
+files-distinct a b h = sym (file-back a) ∙ (ap file h ∙ file-back b)
+
+place : FoundRecord → RecordPlace
+place FoundRecord.missing = records.NoRecord
+place (recordAt at) = records.At at
+
+place-back : (a : RecordPlace) → place (foundRecord a) ≡ a
+unfolding place foundRecord
+place-back (records.At at) = refl
+place-back records.NoRecord = refl
+
+pub records-distinct : (a b : RecordPlace) → foundRecord a ≡ foundRecord b → a ≡ b
+records-distinct a b h = sym (place-back a) ∙ (ap place h ∙ place-back b)
