@@ -25,3 +25,4 @@ pub mod NameLaws
 pub mod SendLaws
 pub mod RunLaws
 pub mod StepCode
+pub mod Cases

@@ -80,22 +80,27 @@ one-silent m n = rw (ne-eqb (m / 2 % 2) 1 n)
 
 -- ---- the sending
 
-module _ {f : List ℕ} (c : Cluster) (r : NextRound) (raised : Becomes f (epochRaised c)) where
-  pub pending-fits : LegalPending (askedFor c r) → LegalPending (withPending (decode f) 1 (r .name .0) (4 * r .number .0 + r .operation .0) (r .«record» .0))
-  unfolding askedFor withAddress epochRaised pb2Of
-  pending-fits l = rw (raised .decoded) l
+pub epoch-last : {e : ℕ} → e ≡ 255 → 0 ≡ nextEpoch e
+unfolding nextEpoch
+epoch-last e = omega arith
 
-  pub asked-becomes : {g : List ℕ} → Becomes g (withPending (decode f) 1 (r .name .0) (4 * r .number .0 + r .operation .0) (r .«record» .0)) → Becomes g (askedFor c r)
-  unfolding askedFor withAddress epochRaised pb2Of
-  asked-becomes h = rw (raised .decoded) at h
+pub epoch-next : {e : ℕ} → e < 256 → (e ≡ 255 → ⊥) → e + 1 ≡ nextEpoch e
+unfolding nextEpoch
+epoch-next b n = omega arith
 
-pub asked-kept : {f : List ℕ} (c : Cluster) (r : NextRound) {n : ℕ} {places : List ℕ} {count : ℕ} → Becomes f (askedFor c r) → AllKept c n places count → AllKept (decode f) n places count
-unfolding askedFor withAddress withPending withEpoch
-asked-kept c r h k = all-decoded h (all-shape {c = c} {d = askedFor c r} (shape-refl (c .slaves)) k)
+module _ (c : Cluster) (r : NextRound) {e n : ℕ} (is : e ≡ c .epoch) (next : n ≡ nextEpoch e) where
+  asked-for : withAddress c n (r .name .0) (4 * r .number .0 + r .operation .0) (r .«record» .0) ≡ askedFor c r
+  unfolding askedFor pb2Of
+  asked-for = rw (next, is)
 
-pub sent-carried : {f : List ℕ} (c : Cluster) (r : NextRound) (bytes : List ℕ) {old new file : List ℕ} {mask : ℕ} → Becomes f (askedFor c r) →
-    Carried (dataEffect (decode f) bytes) dataFirework old new mask file → Carried (dataEffect (askedFor c r) bytes) dataFirework old new mask file
-sent-carried c r bytes h k = rw (h .decoded) at k
+  pub pending-for : LegalPending (askedFor c r) → LegalPending (withAddress c n (r .name .0) (4 * r .number .0 + r .operation .0) (r .«record» .0))
+  pending-for l = rw asked-for l
+
+  pub carried-for :
+      (bytes : List ℕ) {old new file : List ℕ} {mask : ℕ} →
+      Carried (dataEffect (withAddress c n (r .name .0) (4 * r .number .0 + r .operation .0) (r .«record» .0)) bytes) dataFirework old new mask file →
+      Carried (dataEffect (askedFor c r) bytes) dataFirework old new mask file
+  carried-for bytes k = rw asked-for at k
 
 -- ---- the round that the struct stands for
 

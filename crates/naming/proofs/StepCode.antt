@@ -12,7 +12,7 @@ use Rattle.file.specs.Cluster.{Cluster, configuration, documentation}
 use Rattle.file.specs.Decode.{decode}
 use Rattle.file.specs.Grounds.{fileGround}
 use Rattle.file.specs.Accepted.{Becomes, Placed}
-use Rattle.file.specs.Checked.{Surveyed}
+use Rattle.file.specs.Surveyed.{Surveyed}
 use Rattle.file.specs.Answers.{Verdict, verdictOf, checkedOf}
 use Rattle.file.specs.Answers.{Verdict.accepted as acceptedFile, Verdict.refused as refusedFile}
 use Rattle.file.specs.declared.types.Refusal.{Refusal}

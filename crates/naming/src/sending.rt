@@ -10,6 +10,7 @@ ghost use Rattle.file.specs.Legal.{LegalPending};
 ghost use Rattle.file.specs.Accepted.{Becomes};
 ghost use Rattle.frame.specs.Fireworks.{dataFirework};
 ghost use Rattle.cluster.specs.Bus.{slots};
+ghost use Rattle.cluster.specs.Slaves.{nextEpoch};
 ghost use Rattle.cluster.specs.Round.{carried, dataEffect};
 ghost use Rattle.cluster.specs.Carried.{AllKept, Carried};
 ghost use Rattle.naming.specs.View.{half, poll, writeHigh, writeLow, sent, atUnnamed};
@@ -20,12 +21,11 @@ use crate::position::GIVE_NAME;
 use crate::position::POLL;
 use crate::position::Reply;
 use crate::position::tried_value;
-use cluster::msd::carry_data;
-use cluster::msd::raise_epoch;
+use cluster::round::master_slave;
 use file::types::FileNumber;
 use file::types::LogicalName;
 use file::types::RecordNumber;
-use file::writers::set_pending;
+use file::writers::read_epoch;
 use frame::firework::MSD;
 use frame::types::Operation;
 
@@ -172,8 +172,16 @@ pub fn reply_in(senders: u64) -> Reply
     Reply::Silence
 }
 
-// The complete round on an accepted file: its operation becomes pending, with the epoch plus 1, and is carried out. The mask of
-// the slots in which someone sent.
+fn next_epoch(epoch: u8) -> u8
+    ensures { λ r. ⌜ r ≡ nextEpoch epoch ⌝ }
+{
+    if epoch == 255 {
+        return 0;
+    }
+    epoch + 1
+}
+
+// The complete round on an accepted file. The mask of the slots in which someone sent.
 pub fn send(
     file: &mut [u8],
     configurations: &[usize; 32],
@@ -185,8 +193,19 @@ pub fn send(
     requires { ⌜ Becomes (now file) (decode (now file)) × AllKept (decode (now file)) configuration (now configurations) count × AllKept (decode (now file)) documentation (now documentations) count × LegalPending (askedFor (decode (now file)) next) × (slots ≤ length (now buffer)) ⌝ }
     ensures { λ r. ⌜ Carried (dataEffect (askedFor (decode (now (file .entry))) next) (next .b0 ∷ next .b1 ∷ next .b2 ∷ next .b3 ∷ [])) dataFirework (now (buffer .entry)) (now (buffer .exit)) r (now (file .exit)) ⌝ }
 {
-    raise_epoch(file);
-    set_pending(file, next.name, next.number, next.operation.0, next.record);
+    let epoch = next_epoch(read_epoch(file));
     let frame = [MSD, next.b0, next.b1, next.b2, next.b3, 0];
-    carry_data(file, configurations, documentations, count, &frame, buffer)
+    master_slave(
+        file,
+        configurations,
+        documentations,
+        count,
+        epoch,
+        next.name,
+        next.number,
+        next.operation,
+        next.record,
+        &frame,
+        buffer,
+    )
 }
