@@ -1,0 +1,265 @@
+-- Demand 3 over abstract laws: a system whose naming steps do to the slaves' views what their rounds do, and whose other permitted
+-- calls leave alone what the run rests on, keeps step with the plain account over every list of calls.
+-- Assumes nothing.
+use Prim.Native.Nat.{ℕ, suc, _+_, _/_, _%_, _^_, _≤_, _<_}
+use mathlib.Core.Path.{_≡_, refl, sym, _∙_}
+use mathlib.Core.List.{List, [], _∷_, map}
+use mathlib.Core.Bool.{true, false}
+use native.Mathlib.Omega.{arith}
+use lib.ListN.{length, drop, getD}
+use lib.Seq.{getD-drop}
+use lib.Dec.{eqb}
+use borrow.Author.Tests.{ne-eqb, le-ltb, lt-leb, eqb-true, eqb-false}
+use Rattle.file.specs.Grounds.{isAmong}
+use Rattle.file.proofs.Bytes.{all-first}
+use Rattle.file.proofs.Order.{byCase, either-false, both-false-left, both-false-right}
+use Rattle.naming.specs.View.{SlaveView, Operation, Operation.poll as pollOf, writeName, writeHigh, writeLow, compare, Operation.baptize as baptizeAll, changeAll, answers, half}
+use Rattle.naming.specs.Run.{Position, running, namesUsedUp, Place, high, low, reply, placeOf, stepOf, operationAt, operationOf, advance, unfitPosition, countLimit, lastStep, bits, tried}
+use Rattle.naming.specs.Account.{namingComparisons, Named, Account, Call, step, frame, shortBuffer, notYet, accountCall, accountAfter, oneRound, comparisonsOf, comparisonsAfter}
+use Rattle.naming.proofs.Places.{LegalPlace, inner, at-poll, at-ask, at-name, at-high, at-low, at-baptize, place-of-step, step-lt}
+use Rattle.naming.proofs.Search.{tried-small}
+use Rattle.naming.proofs.Facts.{Fit}
+use Rattle.naming.proofs.Answers.{namedOf, Same, same-names, same-told}
+use Rattle.naming.proofs.Simulation.{position, Told, At, Tie, going, over, moves, length-here}
+use Rattle.naming.proofs.Tally.{Tally, in-pass, ended, Done, due, length-of-pass, tally-round}
+
+-- ---- the laws
+
+-- what a round sends are bytes: a fit name, a half of 32 bits
+pub data Sendable : Operation → Type 0 where
+  of-poll : {n : ℕ} → Fit n → Sendable (pollOf n)
+  of-name : {n : ℕ} → Fit n → Sendable (writeName n)
+  of-high : {h : ℕ} → h < half → Sendable (writeHigh h)
+  of-low : {l : ℕ} → l < half → Sendable (writeLow l)
+  of-compare : Sendable compare
+  of-baptize : Sendable baptizeAll
+
+-- a state after a step's round, and one after another call
+pub record Stepped (S : Type 0) (names : List ℕ) (view : S → List SlaveView) (Good : S → Type 0) (s : S) (p : Position) (after : S × Position) :
+    Type 0 where
+  pub good : Good (after .0)
+  pub views : view (after .0) ≡ changeAll (operationOf names p) (view s)
+  pub moved : after .1 ≡ advance names p (answers (operationOf names p) (view s))
+
+pub record Left (S : Type 0) (view : S → List SlaveView) (Good : S → Type 0) (s : S) (p : Position) (after : S × Position) : Type 0 where
+  pub good : Good (after .0)
+  pub same : Same (view s) (view (after .0))
+  pub stays : after .1 ≡ p
+
+-- a state of the file (with what else decides which calls are permitted), the view of it, what holds of it throughout, the calls
+-- that are permitted, and what a call makes of file and run, over a list of names
+pub record Laws
+    (S : Type 0) (names : List ℕ) (view : S → List SlaveView) (Good : S → Type 0) (Allowed : S → Position → Call → Type 0)
+    (call : S → Position → Call → S × Position) : Type 0 where
+  -- a step whose buffer is too short, and a step of an ended run, alter nothing
+  pub short : (s : S) (p : Position) (buffer : List ℕ) → Good s → shortBuffer buffer ≡ true → call s p (step buffer) ≡ (s, p)
+  pub idle :
+      (s : S) (p : Position) (buffer : List ℕ) → Good s → shortBuffer buffer ≡ false → unfitPosition names p ≡ false →
+      (p .mark ≡ running → ⊥) → call s p (step buffer) ≡ (s, p)
+  -- any other step makes its round and moves on by the answer
+  pub steps :
+      (s : S) (p : Position) (buffer : List ℕ) → Good s → Allowed s p (step buffer) → shortBuffer buffer ≡ false →
+      unfitPosition names p ≡ false → p .mark ≡ running → Sendable (operationOf names p) →
+      Stepped S names view Good s p (call s p (step buffer))
+  -- a frame of others, refused or not, leaves each slave's names, and an unnamed slave whole, and the run
+  pub others :
+      (s : S) (p : Position) (bytes buffer : List ℕ) → Good s → Allowed s p (frame bytes buffer) →
+      Left S view Good s p (call s p (frame bytes buffer))
+
+-- ---- the tie, call by call
+
+name-here : (names : List ℕ) (index n : ℕ) (ns : List ℕ) → drop index names ≡ n ∷ ns → getD names index 0 ≡ n
+name-here names index n ns e =
+    let z : index + 0 ≡ index = omega arith in
+    rw (← z) (sym (getD-drop index names 0 0) ∙ rw e)
+
+operation-here :
+    {names : List ℕ} {vs : List SlaveView} {l : Place} {index step value rounds comparisons n done : ℕ} {ns ws held : List ℕ} {slaves : List Named} →
+    At names vs l index step value rounds comparisons n ns ws slaves held done →
+    operationOf names (position running index step value rounds comparisons) ≡ operationAt l n value
+unfolding operationOf
+operation-here {names} {index = index} {n = n} {ns = ns} i = rw (name-here names index n ns (i .here), i .place, place-of-step (i .legal))
+
+pub tie-step :
+    {names : List ℕ} {vs : List SlaveView} {p : Position} {a : Account} → Tie names vs p a → p .mark ≡ running →
+    Tie names (changeAll (operationOf names p) vs) (advance names p (answers (operationOf names p) vs)) (oneRound a)
+unfolding advance
+tie-step {names} {vs} (going {l = l} {index = index} {step = k} {value = value} {rounds = rounds} {comparisons = comparisons} {n = n} {done = done} {ns = ns} {ws = ws} {held = held} {slaves = slaves} i) m =
+    let e : placeOf k ≡ l = rw (i .place) (place-of-step (i .legal)) in
+    rw (operation-here i, e) (moves names vs l index k value rounds comparisons n ns ws slaves held done (i .legal) i)
+tie-step (over o) m = absurd (omega (arith, o .some))
+
+-- an ended account makes no more rounds
+tie-idle : {names : List ℕ} {vs : List SlaveView} {p : Position} {a : Account} → Tie names vs p a → (p .mark ≡ running → ⊥) → oneRound a ≡ a
+unfolding oneRound
+tie-idle (going i) n = absurd (n refl)
+tie-idle (over {mark = mark} o) n = let z : mark ≡ notYet → ⊥ = omega (arith, o .some) in rw (ne-eqb mark notYet z)
+
+-- rounds of others
+tie-others : {names : List ℕ} {vs ws : List SlaveView} {p : Position} {a : Account} → Same vs ws → Tie names vs p a → Tie names ws p a
+tie-others s (going {l = l} {value = value} {n = n} i) =
+    going
+    (record {
+      legal = i .legal;
+      facts = i .facts;
+      here = i .here;
+      place = i .place;
+      counted = i .counted;
+      views = same-names s ∙ i .views;
+      known = i .known;
+      heard = same-told (Told l n value) s (i .heard);
+      small = i .small;
+    })
+tie-others s (over o) =
+    over (record { views = same-names s ∙ o .views; some = o .some; most = o .most; within = o .within; counted = o .counted })
+
+-- what the tie says
+pub record Agree (vs : List SlaveView) (p : Position) (a : Account) : Type 0 where
+  pub names : map namedOf vs ≡ a .slaves
+  pub end : p .mark ≡ a .end
+  pub rounds : p .rounds ≡ a .rounds
+  pub comparisons : p .comparisons ≡ comparisonsOf a
+
+pub tie-agree : {names : List ℕ} {vs : List SlaveView} {p : Position} {a : Account} → Tie names vs p a → Agree vs p a
+unfolding comparisonsOf
+tie-agree (going i) = record { names = i .views; end = refl; rounds = refl; comparisons = i .counted }
+tie-agree (over o) = record { names = o .views; end = refl; rounds = refl; comparisons = o .counted }
+
+-- what is sent are bytes
+sendable-at :
+    {names : List ℕ} {vs : List SlaveView} {l : Place} {index step value rounds comparisons n done : ℕ} {ns ws held : List ℕ} {slaves : List Named} →
+    LegalPlace l → At names vs l index step value rounds comparisons n ns ws slaves held done → Sendable (operationAt l n value)
+unfolding operationAt
+sendable-at (inner at-poll) i = of-poll (all-first (i .facts .fit))
+sendable-at {value = value} (inner (at-ask {q = q} high h)) i =
+    let t : tried q value < 2 ^ bits = tried-small h value (i .small) in
+    let k : tried q value / half < half = omega arith in
+    of-high k
+sendable-at {value = value} (inner (at-ask {q = q} low h)) i = let k : tried q value % half < half = omega arith in of-low k
+sendable-at (inner (at-ask reply h)) i = of-compare
+sendable-at (inner at-name) i = of-name (all-first (i .facts .fit))
+sendable-at {value = value} (inner at-high) i = let k : value / half < half = omega (arith, i .small) in of-high k
+sendable-at {value = value} (inner at-low) i = let k : value % half < half = omega arith in of-low k
+sendable-at at-baptize i = of-baptize
+
+tie-sendable : {names : List ℕ} {vs : List SlaveView} {p : Position} {a : Account} → Tie names vs p a → p .mark ≡ running → Sendable (operationOf names p)
+tie-sendable (going i) m = rw (operation-here i) (sendable-at (i .legal) i)
+tie-sendable (over o) m = absurd (omega (arith, o .some))
+
+-- ---- the tally, and ground 17
+
+pass-due : (n : ℕ) (ns ws held : List ℕ) → length-of-pass (isAmong n held) ws ≤ due held (n ∷ ns) ws
+unfolding length-of-pass due
+pass-due n ns [] held = byCase (isAmong n held) (λ t. rw t (omega arith)) (λ f. rw f (omega arith))
+pass-due n ns (p ∷ ps) held = byCase (isAmong n held) (λ t. rw t (omega arith)) (λ f. rw f (omega arith))
+
+-- a running account has not made all rounds
+pub record Short (R C : ℕ) (a : Account) : Type 0 where
+  pub rounds : a .rounds < R
+  pub done : a .done ≤ C
+
+pub tally-running : {R C : ℕ} {F : List Named} {a : Account} → Tally R C F a → a .end ≡ notYet → Short R C a
+tally-running (in-pass {n = n} {rounds = rounds} {done = done} {k = k} {ns = ns} {ws = ws} {held = held} d) e =
+    record { rounds = omega (arith, d .all, d .within, pass-due n ns ws held); done = omega (arith, d .comparisons) }
+tally-running (ended d) e = absurd (omega (arith, d .some))
+
+pub tally-ended : {R C : ℕ} {F : List Named} {a : Account} → Tally R C F a → (a .end ≡ notYet → ⊥) → Done R C F (a .slaves) (a .end) (a .rounds) (a .done) (a .k)
+tally-ended (in-pass d) n = absurd (n refl)
+tally-ended (ended d) n = d
+
+step-most : {l : Place} → LegalPlace l → stepOf l ≤ lastStep
+unfolding stepOf
+step-most (inner h) = omega (arith, step-lt h)
+step-most at-baptize = omega arith
+
+comparisons-most : (k : ℕ) → comparisonsAfter k ≤ namingComparisons
+unfolding comparisonsAfter
+comparisons-most k = omega arith
+
+-- no ground 17
+tie-fit :
+    {names : List ℕ} {vs : List SlaveView} {p : Position} {a : Account} (R C : ℕ) → Tie names vs p a → (a .end ≡ notYet → Short R C a) →
+    R < countLimit → C + namingComparisons < countLimit → unfitPosition names p ≡ false
+unfolding unfitPosition
+tie-fit {names} R C (going {index = index} {step = k} {rounds = rounds} {comparisons = comparisons} {n = n} {done = done} {ns = ns} i) s r c =
+    let l : length names ≡ index + suc (length ns) = length-here names index n ns (i .here) in
+    let m : k ≤ lastStep = omega (arith, i .place, step-most (i .legal)) in
+    let x : rounds < countLimit = omega (arith, s refl .rounds) in
+    let y : comparisons < countLimit = omega (arith, s refl .done, i .counted, comparisons-most k) in
+    let z : index ≡ length names → ⊥ = omega arith in
+    either-false refl
+    (either-false (le-ltb (length names) index (omega arith))
+    (both-false-right _
+    (either-false (ne-eqb index (length names) z)
+    (either-false (le-ltb lastStep k m) (either-false (lt-leb countLimit rounds x) (lt-leb countLimit comparisons y))))))
+tie-fit {names} R C (over {mark = mark} {index = index} o) s r c =
+    let z : mark ≡ running → ⊥ = omega (arith, o .some) in
+    either-false (le-ltb namesUsedUp mark (o .most))
+    (either-false (le-ltb (length names) index (o .within)) (both-false-left _ (ne-eqb mark running z)))
+
+-- ---- every list of calls
+
+-- file and run after a list of calls
+unfoldable pub runCalls : (S : Type 0) → (S → Position → Call → S × Position) → S × Position → List Call → S × Position
+runCalls S call w [] = w
+runCalls S call w (c ∷ cs) = runCalls S call (call (w .0) (w .1) c) cs
+
+-- each call is permitted where it comes
+pub data Permitted (S : Type 0) (Allowed : S → Position → Call → Type 0) (call : S → Position → Call → S × Position) :
+    S × Position → List Call → Type 0 where
+  all-made : {w : S × Position} → Permitted S Allowed call w []
+  one-more :
+      {w : S × Position} {c : Call} {cs : List Call} → Allowed (w .0) (w .1) c → Permitted S Allowed call (call (w .0) (w .1) c) cs →
+      Permitted S Allowed call w (c ∷ cs)
+
+-- what holds between calls: the tie and the tally
+pub record Between
+    (S : Type 0) (names : List ℕ) (view : S → List SlaveView) (Good : S → Type 0) (R C : ℕ) (F : List Named) (w : S × Position) (a : Account) :
+    Type 0 where
+  pub good : Good (w .0)
+  pub tie : Tie names (view (w .0)) (w .1) a
+  pub tally : Tally R C F a
+
+module _
+    (S : Type 0) (names : List ℕ) (view : S → List SlaveView) (Good : S → Type 0) (Allowed : S → Position → Call → Type 0)
+    (call : S → Position → Call → S × Position) (laws : Laws S names view Good Allowed call) (R C : ℕ) (F : List Named) (few : R < countLimit)
+    (fewer : C + namingComparisons < countLimit) where
+  -- ground 17 never holds
+  pub stays-fit : (w : S × Position) (a : Account) → Between S names view Good R C F w a → unfitPosition names (w .1) ≡ false
+  stays-fit w a h = tie-fit R C (h .tie) (tally-running (h .tally)) few fewer
+
+  running-step :
+      (w : S × Position) (a : Account) (buffer : List ℕ) → Between S names view Good R C F w a → Allowed (w .0) (w .1) (step buffer) → shortBuffer buffer ≡ false →
+      w .1 .mark ≡ running → Between S names view Good R C F (call (w .0) (w .1) (step buffer)) (oneRound a)
+  running-step w a buffer h allowed long m =
+      record { good = st .good; tie = rw (st .views, st .moved) (tie-step (h .tie) m); tally = tally-round R C F (h .tally) }
+    where
+      st : Stepped S names view Good (w .0) (w .1) (call (w .0) (w .1) (step buffer))
+      st = laws .steps (w .0) (w .1) buffer (h .good) allowed long (stays-fit w a h) m (tie-sendable (h .tie) m)
+
+  idle-step :
+      (w : S × Position) (a : Account) (buffer : List ℕ) → Between S names view Good R C F w a → shortBuffer buffer ≡ false → (w .1 .mark ≡ running → ⊥) →
+      Between S names view Good R C F (call (w .0) (w .1) (step buffer)) (oneRound a)
+  idle-step w a buffer h long n = rw (laws .idle (w .0) (w .1) buffer (h .good) long (stays-fit w a h) n, tie-idle (h .tie) n) h
+
+  one-call : (w : S × Position) (a : Account) (c : Call) → Between S names view Good R C F w a → Allowed (w .0) (w .1) c → Between S names view Good R C F (call (w .0) (w .1) c) (accountCall a c)
+  unfolding accountCall
+  one-call w a (step buffer) h allowed =
+      byCase (shortBuffer buffer)
+      (λ t. rw (t, laws .short (w .0) (w .1) buffer (h .good) t) h)
+      (λ f.
+      rw f
+      (byCase (eqb (w .1 .mark) running)
+      (λ t. running-step w a buffer h allowed f (eqb-true _ _ t))
+      (λ g. idle-step w a buffer h f (eqb-false _ _ g))))
+  one-call w a (frame bytes buffer) h allowed =
+      let o : Left S view Good (w .0) (w .1) (call (w .0) (w .1) (frame bytes buffer)) = laws .others (w .0) (w .1) bytes buffer (h .good) allowed in
+      record { good = o .good; tie = rw (o .stays) (tie-others (o .same) (h .tie)); tally = h .tally }
+
+  pub all-calls :
+      (w : S × Position) (a : Account) (cs : List Call) → Between S names view Good R C F w a → Permitted S Allowed call w cs →
+      Between S names view Good R C F (runCalls S call w cs) (accountAfter a cs)
+  unfolding runCalls accountAfter
+  all-calls w a [] h all-made = h
+  all-calls w a (c ∷ cs) h (one-more allowed rest) =
+      all-calls (call (w .0) (w .1) c) (accountCall a c) cs (one-call w a c h allowed) rest

@@ -1,0 +1,223 @@
+-- The abstract laws, shown of the definitions over bytes.
+-- Assumes nothing.
+use Prim.Native.Nat.{ℕ}
+use mathlib.Core.Path.{_≡_, refl, sym, _∙_}
+use mathlib.Core.List.{List, [], _∷_, map}
+use mathlib.Core.Bool.{Bool, true, false, not}
+use native.Mathlib.Omega.{arith}
+use lib.ListN.{getD}
+use lib.Dec.{eqb}
+use borrow.Author.Tests.{eqb-true, eqb-false, eq-eqb, ne-eqb, not-true}
+use Rattle.file.specs.Bytes.{Bytes}
+use Rattle.file.specs.Order.{firstOf, both}
+use Rattle.file.specs.Cluster.{Slave, Cluster, bytesIn, configuration, physicalName, fileNumberOf, operationOf, readOperation, writeOperation, executeOperation}
+use Rattle.file.specs.Decode.{decode}
+use Rattle.file.specs.Grounds.{fileGround}
+use Rattle.file.specs.Accepted.{Becomes}
+use Rattle.file.proofs.Order.{byCase, clash}
+use Rattle.file.proofs.Accepted.{encode-bytes}
+use Rattle.frame.specs.Fireworks.{Round, multipartner, msd, msa, none}
+use Rattle.frame.specs.Frames.{between}
+use Rattle.file.specs.Places.{withEpoch, withPending}
+use Rattle.cluster.specs.Bus.{slots}
+use Rattle.cluster.specs.Slaves.{withAddress, epochRaised, pendingOperation, operationIn, executionOf}
+use Rattle.cluster.specs.Grounds.{shortAnswer, roundBy}
+use Rattle.cluster.specs.Round.{carried, addressEffect, dataEffect, multipartnerEffect, effectOf, frameOn, carriedBy, roundGround, roundOn}
+use Rattle.cluster.proofs.Rounds.{firstGround-next, firstGround-here, round-refused, round-accepted, round-becomes, round-kept}
+use Rattle.cluster.proofs.Untouched.{filesOf, Unstored, Leaves, by-nothing, by-read, by-write, below-other, after-other}
+use Rattle.naming.specs.View.{SlaveView, viewOf, view, sent}
+use Rattle.naming.specs.Run.{Position, running, unfitPosition, namesGrounds, runGrounds, operationOf as nextOperation}
+use Rattle.naming.specs.Step.{stepGround, stepMade, stepOn, roundSent}
+use Rattle.naming.specs.Account.{Call, step, frame, shortBuffer}
+use Rattle.naming.specs.Demand.{State, halfwayAfter, callOn, changesConfiguration, permittedFrame, permittedCall, OfBytes, of-frame}
+use Rattle.naming.proofs.Answers.{same-refl}
+use Rattle.naming.proofs.Start.{Names}
+use Rattle.naming.proofs.Abstract.{Laws, Stepped, Left, Sendable}
+use Rattle.naming.proofs.SlaveViews.{view-alike}
+use Rattle.naming.proofs.StepRound.{Made, round-made}
+
+-- what holds of a state: its file is accepted, and a round of others that is half done leaves the configuration
+pub record Good (s : State) : Type 0 where
+  pub bytes : Bytes (s .file)
+  pub accepted : fileGround (s .file) ≡ 0
+  pub apart : s .halfway ≡ true → Leaves configuration (pendingOperation (decode (s .file)))
+
+unfoldable pub viewIn : State → List SlaveView
+viewIn s = view (decode (s .file))
+
+-- a permitted call of bytes
+pub record Allowed (names : List ℕ) (s : State) (p : Position) (c : Call) : Type 0 where
+  pub bytes : OfBytes c
+  pub may : permittedCall names s p c ≡ true
+
+-- ---- steps
+
+module _ (names : List ℕ) (n : Names names) where
+  -- the names are accepted, so a step's grounds are its buffer's and its position's
+  run-ground : (p : Position) → unfitPosition names p ≡ false → firstOf (runGrounds names p) ≡ 0
+  unfolding runGrounds namesGrounds firstOf
+  run-ground p fit = rw (n .fit, n .different, fit)
+
+  step-ground : (s : State) (p : Position) (buffer : List ℕ) → Good s → shortBuffer buffer ≡ false → unfitPosition names p ≡ false →
+      stepGround (s .file) p names buffer ≡ 0
+  unfolding stepGround shortBuffer shortAnswer firstOf
+  step-ground s p buffer good long fit =
+      firstGround-next (fileGround (s .file)) _ (good .accepted) ∙ rw long (firstGround-next 0 (firstOf (runGrounds names p)) refl ∙ run-ground p fit)
+
+  short-ground : (s : State) (p : Position) (buffer : List ℕ) → Good s → shortBuffer buffer ≡ true → stepGround (s .file) p names buffer ≡ 9
+  unfolding stepGround shortBuffer shortAnswer firstOf
+  short-ground s p buffer good short =
+      firstGround-next (fileGround (s .file)) _ (good .accepted) ∙ rw short (firstGround-here 9 (firstOf (runGrounds names p)) (λ (z : 9 ≡ 0). omega arith))
+
+  short-step : (s : State) (p : Position) (buffer : List ℕ) → Good s → shortBuffer buffer ≡ true → callOn names s p (step buffer) ≡ (s, p)
+  unfolding callOn stepOn
+  short-step s p buffer good short = rw (short-ground s p buffer good short)
+
+  idle-step : (s : State) (p : Position) (buffer : List ℕ) → Good s → shortBuffer buffer ≡ false → unfitPosition names p ≡ false →
+      (p .mark ≡ running → ⊥) → callOn names s p (step buffer) ≡ (s, p)
+  unfolding callOn stepOn
+  idle-step s p buffer good long fit over = rw (step-ground s p buffer good long fit, ne-eqb (p .mark) running over)
+
+  closed-step : (s : State) (p : Position) (buffer : List ℕ) → stepGround (s .file) p names buffer ≡ 0 → permittedCall names s p (step buffer) ≡ true → not (s .halfway) ≡ true
+  unfolding permittedCall
+  closed-step s p buffer g may = rw g at may
+
+  running-step : (s : State) (p : Position) (buffer : List ℕ) → Good s → Allowed names s p (step buffer) → shortBuffer buffer ≡ false →
+      unfitPosition names p ≡ false → p .mark ≡ running → Sendable (nextOperation names p) →
+      Stepped State names viewIn Good s p (callOn names s p (step buffer))
+  unfolding callOn stepOn stepMade viewIn
+  running-step s p buffer good allowed long fit run send =
+      let g : stepGround (s .file) p names buffer ≡ 0 = step-ground s p buffer good long fit in
+      let m : Made (s .file) (nextOperation names p) (roundSent (s .file) (sent (nextOperation names p)) buffer) =
+      round-made (s .file) buffer (good .bytes) (good .accepted) (unfold shortBuffer shortAnswer in long) send in
+      let closed : s .halfway ≡ false = not-true (s .halfway) (closed-step s p buffer g (allowed .may)) in
+      rw (g, eq-eqb (p .mark) running run)
+      (record {
+        good = record { bytes = m .bytes; accepted = m .accepted; apart = λ h. clash h closed };
+        views = m .views;
+        moved = rw (m .heard);
+      })
+
+-- ---- frames of others
+
+-- the same configurations and physical names, the same views
+views-alike : (ss ts : List Slave) → filesOf configuration ts ≡ filesOf configuration ss → map physicalName ts ≡ map physicalName ss → map viewOf ts ≡ map viewOf ss
+unfolding filesOf
+views-alike [] [] c d = refl
+views-alike [] (t ∷ ts) c d = cc
+views-alike (s ∷ ss) [] c d = cc
+views-alike (s ∷ ss) (t ∷ ts) c d =
+    let files : bytesIn t configuration ≡ bytesIn s configuration = cc in
+    let physical : physicalName t ≡ physicalName s = cc in
+    let others : filesOf configuration ts ≡ filesOf configuration ss = cc in
+    let names : map physicalName ts ≡ map physicalName ss = cc in
+    rw (view-alike s t files physical, views-alike ss ts others names)
+
+both-no : (b : Bool) → both b true ≡ false → b ≡ false
+unfolding both
+both-no true e = e
+both-no false e = refl
+
+-- an operation that is no write to and no execute of the configuration leaves it
+operation-leaves : (name pb2 pb3 : ℕ) → changesConfiguration pb2 ≡ false → Leaves configuration (operationIn name pb2 pb3)
+unfolding operationIn changesConfiguration executionOf
+operation-leaves name pb2 pb3 leaves =
+    byCase (eqb (operationOf pb2) readOperation)
+    (λ r. rw r by-read)
+    (λ r.
+    let other : eqb (fileNumberOf pb2) configuration ≡ false = both-no (eqb (fileNumberOf pb2) configuration) (rw r at leaves) in
+    rw r
+    (byCase (eqb (operationOf pb2) writeOperation)
+    (λ w. rw w (by-write (λ (z : configuration ≡ fileNumberOf pb2). eqb-false _ _ other (sym z))))
+    (λ w. rw w (byCase (eqb (operationOf pb2) executeOperation) (λ x. rw (x, other) by-nothing) (λ x. rw x by-nothing)))))
+
+unstored : Unstored configuration
+unstored h = omega arith
+
+module _ (c : Cluster) (bytes : List ℕ) where
+  -- a permitted frame leaves every configuration
+  frame-leaves : (h : Bool) (round : Round) → permittedFrame h round bytes ≡ true → (h ≡ true → Leaves configuration (pendingOperation c)) →
+      filesOf configuration (effectOf c round bytes .after .slaves) ≡ filesOf configuration (c .slaves)
+  unfolding permittedFrame effectOf multipartnerEffect dataEffect addressEffect withAddress withPending epochRaised withEpoch
+  frame-leaves true (multipartner r) p l = clash p refl
+  frame-leaves true msd p l = after-other (l refl) (between bytes) (epochRaised c)
+  frame-leaves true msa p l = clash p refl
+  frame-leaves true none p l = clash p refl
+  frame-leaves false (multipartner r) p l = below-other r (epochRaised c) slots configuration unstored
+  frame-leaves false msd p l = clash p refl
+  frame-leaves false msa p l = refl
+  frame-leaves false none p l = clash p refl
+
+  -- and what is pending when its round is half done
+  next-leaves : (h : Bool) (mask : ℕ) (round : Round) → permittedFrame h round bytes ≡ true → halfwayAfter h (carried mask) round ≡ true →
+      Leaves configuration (pendingOperation (effectOf c round bytes .after))
+  unfolding permittedFrame halfwayAfter effectOf addressEffect withAddress withPending pendingOperation
+  next-leaves true mask (multipartner r) p l = clash p refl
+  next-leaves true mask msd p l = clash l refl
+  next-leaves true mask msa p l = clash p refl
+  next-leaves true mask none p l = clash p refl
+  next-leaves false mask (multipartner r) p l = clash l refl
+  next-leaves false mask msd p l = clash p refl
+  next-leaves false mask msa p l = operation-leaves (getD bytes 2 0) (getD bytes 3 0) (getD bytes 4 0) (not-true (changesConfiguration (getD bytes 3 0)) p)
+  next-leaves false mask none p l = clash p refl
+
+-- a frame of others, refused or accepted
+module _ (names : List ℕ) (s : State) (p : Position) (bytes buffer : List ℕ) (good : Good s) where
+  refused-frame : (roundGround (s .file) bytes buffer ≡ 0 → ⊥) → callOn names s p (frame bytes buffer) ≡ (s, p)
+  unfolding callOn halfwayAfter
+  refused-frame n = rw (round-refused (s .file) bytes buffer n)
+
+  frame-views : Bytes bytes → roundGround (s .file) bytes buffer ≡ 0 → permittedFrame (s .halfway) (roundBy bytes) bytes ≡ true →
+      view (frameOn (decode (s .file)) bytes .after) ≡ view (decode (s .file))
+  unfolding view frameOn
+  frame-views b g may =
+      views-alike (decode (s .file) .slaves) (effectOf (decode (s .file)) (roundBy bytes) bytes .after .slaves)
+      (frame-leaves (decode (s .file)) bytes (s .halfway) (roundBy bytes) may (good .apart))
+      (unfold frameOn in round-kept (s .file) bytes buffer b g .names)
+
+  frame-pending : roundGround (s .file) bytes buffer ≡ 0 → permittedFrame (s .halfway) (roundBy bytes) bytes ≡ true →
+      halfwayAfter (s .halfway) (roundOn (s .file) bytes buffer .0) (roundBy bytes) ≡ true →
+      Leaves configuration (pendingOperation (frameOn (decode (s .file)) bytes .after))
+  unfolding frameOn carriedBy
+  frame-pending g may h =
+      next-leaves (decode (s .file)) bytes (s .halfway) _ (roundBy bytes) may (rw (round-accepted (s .file) bytes buffer g) at h)
+
+  accepted-frame : Bytes bytes → roundGround (s .file) bytes buffer ≡ 0 → permittedFrame (s .halfway) (roundBy bytes) bytes ≡ true →
+      Left State viewIn Good s p (callOn names s p (frame bytes buffer))
+  unfolding callOn viewIn
+  accepted-frame b g may =
+      record {
+        good = record {
+          bytes = rw (after .encoded) (encode-bytes _ (after .legal));
+          accepted = after .accepted;
+          apart = λ h. rw (after .decoded) (frame-pending g may h);
+        };
+        same = rw (after .decoded, frame-views b g may) (same-refl (view (decode (s .file))));
+        stays = refl;
+      }
+    where
+      after : Becomes (roundOn (s .file) bytes buffer .2) (frameOn (decode (s .file)) bytes .after)
+      after = round-becomes (s .file) bytes buffer (good .bytes) b g
+
+  any-frame : Allowed names s p (frame bytes buffer) → Left State viewIn Good s p (callOn names s p (frame bytes buffer))
+  any-frame allowed =
+      byCase (eqb (roundGround (s .file) bytes buffer) 0)
+      (λ t. accepted-frame (frame-of (allowed .bytes)) (eqb-true _ _ t) (accepted-may t (allowed .may)))
+      (λ f. rw (refused-frame (eqb-false _ _ f)) (record { good = good; same = same-refl (viewIn s); stays = refl }))
+    where
+      frame-of : OfBytes (frame bytes buffer) → Bytes bytes
+      frame-of (of-frame b) = b
+
+      accepted-may : eqb (roundGround (s .file) bytes buffer) 0 ≡ true → permittedCall names s p (frame bytes buffer) ≡ true → permittedFrame (s .halfway) (roundBy bytes) bytes ≡ true
+      accepted-may t may = unfold permittedCall in (rw t at may)
+
+-- ---- the laws
+
+pub byte-laws : (names : List ℕ) → Names names → Laws State names viewIn Good (Allowed names) (callOn names)
+byte-laws names n =
+    record {
+      short = short-step names n;
+      idle = idle-step names n;
+      steps = running-step names n;
+      others = λ s p bytes buffer good allowed. any-frame names s p bytes buffer good allowed;
+    }

@@ -1,0 +1,54 @@
+-- The marked cases of document 01, M1 to M10, together.
+-- Assumes nothing.
+use Prim.Native.Nat.{ℕ, _+_}
+use mathlib.Core.Path.{_≡_}
+use mathlib.Core.Bool.{true}
+use mathlib.Core.List.{List, [], _∷_}
+use lib.ListN.{getD}
+use Rattle.file.specs.Cluster.{Slave, unnamed, recordOf, physicalName, comparisonValue}
+use Rattle.file.specs.Decode.{decode}
+use Rattle.frame.specs.Fireworks.{dataFirework}
+use Rattle.frame.proofs.RoundTrip.{FrameCases, frame-cases}
+use Rattle.cluster.specs.Bus.{answerBytes, answerIn, nobody}
+use Rattle.cluster.specs.Slaves.{isUnnamed, reading, comparing, pendingOperation, answersRead}
+use Rattle.cluster.specs.Round.{carried, roundGround, roundOn}
+use Rattle.cluster.proofs.Cases as rounds
+use Rattle.naming.specs.Account.{accountOf, namesIn}
+use Rattle.naming.proofs.Examples.{slave, from, figures, m10File}
+use Rattle.naming.proofs.Examples as account
+
+pub record MarkedCases : Type 0 where
+  -- M1 to M5
+  pub frames : FrameCases
+  -- M6: "physical name equal to IDCV replies"
+  pub m6 :
+      (file buffer : List ℕ) → roundGround file rounds.dataRound buffer ≡ 0 → pendingOperation (decode file) ≡ comparing unnamed → (s : Slave) →
+      decode file .slaves ≡ s ∷ [] → isUnnamed s ≡ true → physicalName s ≡ comparisonValue s →
+      roundOn file rounds.dataRound buffer .0 ≡ carried 2
+  -- M7: "one less is silent"
+  pub m7 :
+      (file buffer : List ℕ) → roundGround file rounds.dataRound buffer ≡ 0 → pendingOperation (decode file) ≡ comparing unnamed → (s : Slave) →
+      decode file .slaves ≡ s ∷ [] → isUnnamed s ≡ true → physicalName s + 1 ≡ comparisonValue s →
+      roundOn file rounds.dataRound buffer .0 ≡ carried 0
+  -- M8: "0xF0 and 0x3C give 0x30"
+  pub m8 :
+      (file buffer : List ℕ) → roundGround file rounds.dataRound buffer ≡ 0 → (name n r : ℕ) → pendingOperation (decode file) ≡ reading name n r →
+      (s t : Slave) → decode file .slaves ≡ s ∷ t ∷ [] → answersRead name n r s ≡ true → answersRead name n r t ≡ true →
+      {bs cs : List ℕ} → recordOf s n r ≡ 0xF0 ∷ bs → recordOf t n r ≡ 0x3C ∷ cs → getD (roundOn file rounds.dataRound buffer .1) 1 0 ≡ 0x30
+  -- M9: "a read at 0xFF is silent"
+  pub m9 :
+      (file buffer : List ℕ) → roundGround file rounds.dataRound buffer ≡ 0 → (n r : ℕ) → pendingOperation (decode file) ≡ reading unnamed n r →
+      (roundOn file rounds.dataRound buffer .0 ≡ carried 0) × (roundOn file rounds.dataRound buffer .1 ≡ answerIn buffer (answerBytes dataFirework nobody))
+  -- M10: "Of M10 the theorem shows the account's names and counts"
+  pub m10 :
+      figures (account.rounds 404 (accountOf (namesIn (decode m10File)) (from 254 1))) ≡
+      record {
+        slaves = slave 0x0000000700000010 2 ∷ slave 0x00000007000000A0 1 ∷ [];
+        end = 1;
+        rounds = 404;
+        comparisons = 131;
+      }
+
+pub marked-cases : MarkedCases
+marked-cases =
+    record { frames = frame-cases; m6 = rounds.m6; m7 = rounds.m7; m8 = rounds.m8; m9 = rounds.m9; m10 = account.m10 }

@@ -1,0 +1,30 @@
+-- `naming::position::is_unfit` meets its contract: one law for each part of the ground.
+-- Assumes nothing.
+use Rattle.naming.proofs.PositionLaws.{unfit-mark, unfit-index, fit-ended, unfit-past, unfit-step, unfit-rounds, unfit-comparisons}
+use Rattle.naming.proofs.position.is_unfit.Statement.{statement}
+use Rattle.naming.proofs.position.is_unfit.Tie as tie
+
+returns : tie.Need-returns
+returns c = search unfit-mark
+
+returns-2 : tie.Need-returns-2
+returns-2 c = search unfit-index
+
+returns-3 : tie.Need-returns-3
+returns-3 c = search fit-ended
+
+returns-4 : tie.Need-returns-4
+returns-4 c = search unfit-past
+
+returns-5 : tie.Need-returns-5
+returns-5 c = search unfit-step
+
+returns-6 : tie.Need-returns-6
+returns-6 c = search unfit-rounds
+
+returns-7 : tie.Need-returns-7
+returns-7 c = search unfit-comparisons
+
+pub is-unfit-spec : {M : Type 1} → statement M
+is-unfit-spec =
+    tie.close (tie.spec returns returns-2 returns-3 returns-4 returns-5 returns-6 returns-7)

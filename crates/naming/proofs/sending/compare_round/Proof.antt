@@ -1,0 +1,35 @@
+-- `naming::sending::compare_round` meets its contract.
+-- Assumes nothing.
+use Rattle.naming.proofs.SendLaws.{part-high, part-low, part-reply}
+use borrow.Author.Needs.{needs}
+use Rattle.naming.proofs.sending.compare_round.Statement.{statement}
+use Rattle.naming.proofs.sending.compare_round.Tie as tie
+
+high-round-requires : tie.Need-high-round-requires
+high-round-requires c κs = search needs
+
+returns : tie.Need-returns
+returns c = part-high _ _ (c .before .if1 .taken) (c .high-round .ensures)
+
+low-round-requires : tie.Need-low-round-requires
+low-round-requires c κs = search needs
+
+returns-2 : tie.Need-returns-2
+returns-2 c = part-low _ _ (c .before .if2 .taken) (c .low-round .ensures)
+
+execute-round-requires : tie.Need-execute-round-requires
+execute-round-requires c κs = search needs
+
+returns-3 : tie.Need-returns-3
+returns-3 c = part-reply _ _ _ (c .before .before .if1 .left) (c .before .if2 .left) (c .execute-round .ensures)
+
+pub compare-round-spec : {M : Type 1} → statement M
+compare-round-spec =
+    tie.close
+    (tie.spec
+    high-round-requires
+    returns
+    low-round-requires
+    returns-2
+    execute-round-requires
+    returns-3)

@@ -1,0 +1,93 @@
+-- Demand 3 (document 01, "The naming run", third paragraph): a list of calls, carried out one after the other on a file and a run,
+-- which of them are permitted, and what is then claimed.
+use Prim.Native.Nat.{ℕ}
+use mathlib.Core.Path.{_≡_}
+use mathlib.Core.List.{List, [], _∷_}
+use mathlib.Core.Bool.{Bool, true, false, cond, not}
+use lib.ListN.{getD}
+use lib.Dec.{eqb}
+use Rattle.file.specs.Bytes.{Bytes}
+use Rattle.file.specs.Order.{both}
+use Rattle.file.specs.Cluster.{configuration, fileNumberOf, operationOf, readOperation}
+use Rattle.file.specs.Decode.{decode}
+use Rattle.file.specs.Grounds.{fileGround}
+use Rattle.frame.specs.Fireworks.{Round, multipartner, msd, msa, none}
+use Rattle.cluster.specs.Grounds.{roundBy}
+use Rattle.cluster.specs.Round.{Answer, refused, carried, roundGround, roundOn}
+use Rattle.naming.specs.Run.{Position, unfitPosition}
+use Rattle.naming.specs.Step.{stepGround, stepOn}
+use Rattle.naming.specs.Account.{Call, step, frame, namesIn, accountOf, accountAfter, comparisonsOf}
+use Rattle.naming.specs.Figures.{Outcome}
+
+-- the file as the last call left it, and whether a round of others is half done: its MSA accepted, its MSD still to come
+pub record State : Type 0 where
+  pub file : List ℕ
+  pub halfway : Bool
+
+unfoldable pub startOn : List ℕ → State
+startOn file = record { file = file; halfway = false }
+
+-- refused calls aside, an MSA opens a round, an MSD ends it
+unfoldable pub halfwayAfter : Bool → Answer → Round → Bool
+halfwayAfter h (refused n) round = h
+halfwayAfter h (carried mask) (multipartner r) = h
+halfwayAfter h (carried mask) msd = false
+halfwayAfter h (carried mask) msa = true
+halfwayAfter h (carried mask) none = h
+
+-- "each call gets the file as the last call left it, each step also the run as the last step left it and the unchanged names"
+unfoldable pub callOn : List ℕ → State → Position → Call → State × Position
+callOn names s p (step buffer) =
+    let r = stepOn (s .file) p names buffer in (record { file = r .3; halfway = s .halfway }, r .1)
+callOn names s p (frame bytes buffer) =
+    let r = roundOn (s .file) bytes buffer in
+    (record { file = r .2; halfway = halfwayAfter (s .halfway) (r .0) (roundBy bytes) }, p)
+
+-- "no write to or execute of 0x08": PB2 of an MSA
+unfoldable pub changesConfiguration : ℕ → Bool
+changesConfiguration pb2 = both (eqb (fileNumberOf pb2) configuration) (not (eqb (operationOf pb2) readOperation))
+
+-- an accepted frame: "A complete round is an accepted MSA followed directly, refused calls aside, by an accepted MSD, or a
+-- multipartner frame; a lone MSA or MSD is none."
+unfoldable pub permittedFrame : Bool → Round → List ℕ → Bool
+permittedFrame true (multipartner r) bytes = false
+permittedFrame true msd bytes = true
+permittedFrame true msa bytes = false
+permittedFrame true none bytes = false
+permittedFrame false (multipartner r) bytes = true
+permittedFrame false msd bytes = false
+permittedFrame false msa bytes = not (changesConfiguration (getD bytes 3 0))
+permittedFrame false none bytes = false
+
+-- a call: a refused one always; an accepted step within no round of others
+unfoldable pub permittedCall : List ℕ → State → Position → Call → Bool
+permittedCall names s p (step buffer) = cond (eqb (stepGround (s .file) p names buffer) 0) (not (s .halfway)) true
+permittedCall names s p (frame bytes buffer) =
+    cond (eqb (roundGround (s .file) bytes buffer) 0) (permittedFrame (s .halfway) (roundBy bytes) bytes) true
+
+-- "every list of steps, permitted rounds .. and refused steps and frames": each judged where it comes, and no round left half done
+unfoldable pub permitted : List ℕ → State → Position → List Call → Bool
+permitted names s p [] = not (s .halfway)
+permitted names s p (c ∷ cs) =
+    let rest = permitted names (callOn names s p c .0) (callOn names s p c .1) cs in both (permittedCall names s p c) rest
+
+-- file and run after the calls
+unfoldable pub afterCalls : List ℕ → State → Position → List Call → State × Position
+afterCalls names s p [] = (s, p)
+afterCalls names s p (c ∷ cs) = afterCalls names (callOn names s p c .0) (callOn names s p c .1) cs
+
+-- a frame is bytes
+pub data OfBytes : Call → Type 0 where
+  of-step : {buffer : List ℕ} → OfBytes (step buffer)
+  of-frame : {bytes buffer : List ℕ} → Bytes bytes → OfBytes (frame bytes buffer)
+
+-- "Demand 3 compares every logical name, the end and both counts carried in the run with this account"; the file stays accepted,
+-- ground 17 does not hold, and the closed figures
+pub record Demand (file names : List ℕ) (calls : List Call) (now : List ℕ) (p : Position) : Type 0 where
+  pub accepted : fileGround now ≡ 0
+  pub logical : namesIn (decode now) ≡ accountAfter (accountOf (namesIn (decode file)) names) calls .slaves
+  pub end : p .mark ≡ accountAfter (accountOf (namesIn (decode file)) names) calls .end
+  pub rounds : p .rounds ≡ accountAfter (accountOf (namesIn (decode file)) names) calls .rounds
+  pub comparisons : p .comparisons ≡ comparisonsOf (accountAfter (accountOf (namesIn (decode file)) names) calls)
+  pub fit : unfitPosition names p ≡ false
+  pub outcome : Outcome (namesIn (decode file)) names (namesIn (decode now)) (p .mark) (p .rounds) (p .comparisons)

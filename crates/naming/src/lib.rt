@@ -1,0 +1,5 @@
+// The naming run: its position, its rounds, and a step of it on a cluster file.
+mod names;
+pub mod position;
+pub mod run;
+mod sending;

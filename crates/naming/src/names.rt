@@ -1,0 +1,54 @@
+// Grounds 15 and 16, of a list of names.
+ghost use mathlib.Core.Path.{_≡_};
+ghost use Rattle.file.specs.Grounds.{hasRepeat};
+ghost use Rattle.naming.specs.Run.{unfitName, startGround};
+use file::types::LogicalName;
+use file::types::Refusal;
+
+// Ground 15.
+fn has_unfit(names: &[u8]) -> bool
+    ensures { λ r. ⌜ r ≡ unfitName (now (names .entry)) ⌝ }
+{
+    let mut i = 0;
+    while i < names.len() {
+        let name = names[i];
+        if name == LogicalName::BROADCAST.0 {
+            return true;
+        }
+        if name == LogicalName::UNNAMED.0 {
+            return true;
+        }
+        i = i + 1;
+    }
+    false
+}
+
+// Ground 16, from the last name to the first: a mark for each name behind this one.
+fn has_twice(names: &[u8]) -> bool
+    ensures { λ r. ⌜ r ≡ hasRepeat (now (names .entry)) ⌝ }
+{
+    let mut seen = [false; 256];
+    let mut i = names.len();
+    while 0 < i {
+        i = i - 1;
+        let name = names[i] as usize;
+        if seen[name] {
+            return true;
+        }
+        seen[name] = true;
+    }
+    false
+}
+
+// The number by which a list of names is refused, 0 where it is accepted.
+pub fn names_ground(names: &[u8]) -> u8
+    ensures { λ r. ⌜ r ≡ startGround (now (names .entry)) ⌝ }
+{
+    if has_unfit(names) {
+        return Refusal::LISTED_NAME.0;
+    }
+    if has_twice(names) {
+        return Refusal::NAME_TWICE.0;
+    }
+    0
+}

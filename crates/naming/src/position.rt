@@ -1,0 +1,181 @@
+// The position of a naming run, and how it moves on.
+ghost use mathlib.Core.Path.{_≡_};
+ghost use Prim.Native.Nat.{_+_, _≤_, _<_};
+ghost use Rattle.naming.specs.Run.{markAt, fresh, onward, nextName, endAllNamed, ask, reply, questionOf, tried, placeOf, moveOn, unfitPosition};
+ghost use Rattle.naming.specs.Answers.{positionOf, heard, GoesOn};
+
+// The caller keeps it between steps, and may hand in any content.
+pub struct RunPosition {
+    pub end: u64,
+    pub index: u64,
+    pub step: u64,
+    pub value: u64,
+    pub rounds: u64,
+    pub comparisons: u64,
+}
+
+pub const RUNNING: u64 = 0;
+
+pub const ALL_NAMED: u64 = 1;
+
+pub const NAMES_USED_UP: u64 = 2;
+
+// The places of a pass: the poll, the rounds of the comparisons, then the four that give the name.
+pub const POLL: u64 = 0;
+
+pub const GIVE_NAME: u64 = 196;
+
+pub const LAST_STEP: u64 = 199;
+
+const COUNT_LIMIT: u64 = 1000000;
+
+// Whether someone sent in slot 1 of a round.
+pub enum Reply {
+    Heard,
+    Silence,
+}
+
+fn mark_at(count: u64, index: u64) -> u64
+    ensures { λ r. ⌜ r ≡ markAt count index ⌝ }
+{
+    if index < count {
+        return RUNNING;
+    }
+    NAMES_USED_UP
+}
+
+// A fresh run over a list of so many names.
+pub fn first_position(names: &[u8]) -> RunPosition
+    ensures { λ r. ⌜ positionOf r ≡ fresh (now (names .entry)) ⌝ }
+{
+    RunPosition {
+        end: mark_at(names.len() as u64, 0),
+        index: 0,
+        step: POLL,
+        value: 0,
+        rounds: 0,
+        comparisons: 0,
+    }
+}
+
+// Ground 17.
+pub fn is_unfit(names: &[u8], run: RunPosition) -> bool
+    ensures { λ r. ⌜ r ≡ unfitPosition (now (names .entry)) (positionOf run) ⌝ }
+{
+    let count = names.len() as u64;
+    if NAMES_USED_UP < run.end {
+        return true;
+    }
+    if count < run.index {
+        return true;
+    }
+    if run.end != RUNNING {
+        return false;
+    }
+    if run.index == count {
+        return true;
+    }
+    if LAST_STEP < run.step {
+        return true;
+    }
+    if COUNT_LIMIT <= run.rounds {
+        return true;
+    }
+    COUNT_LIMIT <= run.comparisons
+}
+
+// To the pass's next round, with a value and so many more comparisons made.
+fn next_round(run: RunPosition, value: u64, more: u64) -> RunPosition
+    requires { ⌜ (run .step < 200) × (run .rounds < 1000000) × (run .comparisons < 1000000) × (more ≤ 1) ⌝ }
+    ensures { λ r. ⌜ positionOf r ≡ onward (positionOf run) value more ⌝ }
+{
+    RunPosition {
+        end: run.end,
+        index: run.index,
+        step: run.step + 1,
+        value,
+        rounds: run.rounds + 1,
+        comparisons: run.comparisons + more,
+    }
+}
+
+// The name is done.
+fn next_name(run: RunPosition, count: u64) -> RunPosition
+    requires { ⌜ (run .index < count) × (run .rounds < 1000000) ⌝ }
+    ensures { λ r. ⌜ positionOf r ≡ nextName count (positionOf run) ⌝ }
+{
+    RunPosition {
+        end: mark_at(count, run.index + 1),
+        index: run.index + 1,
+        step: POLL,
+        value: run.value,
+        rounds: run.rounds + 1,
+        comparisons: run.comparisons,
+    }
+}
+
+fn all_named(run: RunPosition) -> RunPosition
+    requires { ⌜ (run .rounds < 1000000) × (run .comparisons < 1000000) ⌝ }
+    ensures { λ r. ⌜ positionOf r ≡ endAllNamed (positionOf run) ⌝ }
+{
+    RunPosition {
+        end: ALL_NAMED,
+        index: run.index,
+        step: run.step,
+        value: run.value,
+        rounds: run.rounds + 1,
+        comparisons: run.comparisons + 1,
+    }
+}
+
+// The value that a comparison sends, by its number in the pass: 0, then the value so far with bit 63 down to bit 0 set.
+pub fn tried_value(question: u64, value: u64) -> u64
+    requires { ⌜ question ≤ 64 ⌝ }
+    ensures { λ r. ⌜ r ≡ tried (questionOf question) value ⌝ }
+{
+    if question == 0 {
+        return 0;
+    }
+    value | (1u64 << (64 - question))
+}
+
+// Behind the replies to comparison number question: silence at the one with 0 ends the run, a reply at a bit keeps the bit.
+fn compared(run: RunPosition, question: u64, answer: Reply) -> RunPosition
+    requires { ⌜ (question ≤ 64) × (run .step < 200) × (run .rounds < 1000000) × (run .comparisons < 1000000) ⌝ }
+    ensures { λ r. ⌜ positionOf r ≡ moveOn (ask (questionOf question) reply) 0 (positionOf run) (heard answer) ⌝ }
+{
+    if question == 0 {
+        let Reply::Heard = answer else {
+            return all_named(run);
+        };
+        return next_round(run, 0, 1);
+    }
+    let Reply::Heard = answer else {
+        return next_round(run, run.value, 1);
+    };
+    next_round(run, tried_value(question, run.value), 1)
+}
+
+// The position behind the round of a running one, by its answer. A name that is taken leaves its pass at the poll.
+pub fn moved(run: RunPosition, count: u64, answer: Reply) -> RunPosition
+    requires { ⌜ GoesOn count (positionOf run) ⌝ }
+    ensures { λ r. ⌜ positionOf r ≡ moveOn (placeOf (run .step)) count (positionOf run) (heard answer) ⌝ }
+{
+    if run.step == POLL {
+        let Reply::Silence = answer else {
+            return next_name(run, count);
+        };
+        return next_round(run, run.value, 0);
+    }
+    if run.step == LAST_STEP {
+        return next_name(run, count);
+    }
+    if GIVE_NAME <= run.step {
+        return next_round(run, run.value, 0);
+    }
+    let asked = run.step - 1;
+    if asked % 3 != 2 {
+        return next_round(run, run.value, 0);
+    }
+    compared(run, asked / 3, answer)
+}
