@@ -25,11 +25,11 @@ answers-distinct a b h = sym (answer-back a) ∙ (ap answer h ∙ answer-back b)
 
 file : FoundFile → FilePlace
 file FoundFile.missing = files.NoFile
-file (fileAt place size) = files.Bytes place size
+file (fileAt place size) = files.Bytes (record { place = place; size = size })
 
 file-back : (a : FilePlace) → file (foundFile a) ≡ a
 unfolding file foundFile
-file-back (files.Bytes place size) = refl
+file-back (files.Bytes b) = refl
 file-back files.NoFile = refl
 
 pub files-distinct : (a b : FilePlace) → foundFile a ≡ foundFile b → a ≡ b

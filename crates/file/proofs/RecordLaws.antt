@@ -8,6 +8,7 @@ use lib.ListN.{length}
 use Rattle.file.specs.Cluster.{Cluster}
 use Rattle.file.specs.Accepted.{Becomes, FoundFile, fileAt, findFile, findRecord}
 use Rattle.file.specs.Answers.{foundFile, foundRecord}
+use Rattle.file.specs.declared.readers.FileBytes.{FileBytes}
 use Rattle.file.specs.declared.readers.FilePlace.{FilePlace}
 use Rattle.file.specs.declared.readers.FilePlace.the-variants.{Bytes, NoFile}
 use Rattle.file.specs.declared.readers.RecordPlace.the-variants.{At, NoRecord}
@@ -18,18 +19,18 @@ module _ (c : Cluster) (s n : ℕ) {r : FilePlace} (is : foundFile r ≡ findFil
   unfolding foundFile foundRecord
   no-file record′ e = record-missing c s n record′ (rw e at is)
 
-  module _ {place size : ℕ} (e : r ≡ Bytes place size) where
-    file-there : fileAt place size ≡ findFile c s n
+  module _ {found : FileBytes} (e : r ≡ Bytes found) where
+    file-there : fileAt (found .place) (found .size) ≡ findFile c s n
     unfolding foundFile
     file-there = rw e at is
 
-    pub no-record : (record′ : ℕ) → size < 4 * record′ + 4 → foundRecord NoRecord ≡ findRecord c s n record′
+    pub no-record : (record′ : ℕ) → found .size < 4 * record′ + 4 → foundRecord NoRecord ≡ findRecord c s n record′
     unfolding foundRecord
     no-record record′ l = record-past c s n record′ file-there l
 
-    pub record-there : (record′ : ℕ) → 4 * record′ + 4 ≤ size → foundRecord (At (place + 4 * record′)) ≡ findRecord c s n record′
+    pub record-there : (record′ : ℕ) → 4 * record′ + 4 ≤ found .size → foundRecord (At (found .place + 4 * record′)) ≡ findRecord c s n record′
     unfolding foundRecord
     record-there record′ l = record-found c s n record′ file-there l
 
-    pub bytes-within : {f : List ℕ} → Becomes f c → place + size ≤ length f
+    pub bytes-within : {f : List ℕ} → Becomes f c → found .place + found .size ≤ length f
     bytes-within h = found-within h s n file-there

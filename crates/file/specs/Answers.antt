@@ -30,7 +30,7 @@ loadVerdict f = verdictOf (loadGround f)
 
 -- what a search for a file or for a record found
 unfoldable pub foundFile : FilePlace → FoundFile
-foundFile (Bytes place size) = fileAt place size
+foundFile (Bytes found) = fileAt (found .place) (found .size)
 foundFile NoFile = FoundFile.missing
 
 unfoldable pub foundRecord : RecordPlace → FoundRecord

@@ -7,7 +7,8 @@ pub mod Decode
 pub mod Legal
 pub mod Order
 pub mod Grounds
--- Terms of the contracts: places in the file, the accepted file, the answers, and what the checker's parts promise one another.
+-- Terms of the contracts: the typed numbers, places in the file, the accepted file, the answers, and what the checker's parts promise one another.
+pub mod Typed
 pub mod Places
 pub mod Accepted
 pub mod Answers

@@ -5,6 +5,7 @@ ghost use lib.ListN.{length};
 ghost use Rattle.file.specs.Cluster.{configuration, documentation, logicalName, physicalName, comparisonValue};
 ghost use Rattle.file.specs.Decode.{decode};
 ghost use Rattle.file.specs.Places.{slaveOf};
+ghost use Rattle.file.specs.Typed.{fileIn, recordIn, nameIn};
 ghost use Rattle.file.specs.Accepted.{Becomes, KeptAt, findFile, findRecord};
 ghost use Rattle.file.specs.Checked.{searchDirectory};
 ghost use Rattle.file.specs.Answers.{foundFile, foundRecord};
@@ -16,8 +17,13 @@ use crate::types::LogicalName;
 use crate::types::RecordNumber;
 
 // Where a slave keeps a file, and how many bytes it has.
+pub struct FileBytes {
+    pub place: usize,
+    pub size: usize,
+}
+
 pub enum FilePlace {
-    Bytes { place: usize, size: usize },
+    Bytes(FileBytes),
     NoFile,
 }
 
@@ -38,7 +44,7 @@ pub fn slave_count(file: &[u8]) -> usize
 // A slave's logical name, by the place of its 0x08.
 pub fn logical_name(file: &[u8], configurations: &[usize; 32], slave: usize) -> LogicalName
     requires { ⌜ Becomes (now file) (decode (now file)) × KeptAt (decode (now file)) configuration (now configurations) slave ⌝ }
-    ensures { λ r. ⌜ r .0 ≡ logicalName (slaveOf (decode (now (file .entry))) slave) ⌝ }
+    ensures { λ r. ⌜ nameIn r ≡ logicalName (slaveOf (decode (now (file .entry))) slave) ⌝ }
 {
     let at = configurations[slave] + 7;
     LogicalName::new(file[at])
@@ -71,10 +77,10 @@ fn search_directory(file: &[u8], directory: usize, count: usize, number: usize) 
         if byte_at(file, entry) == number {
             let last = byte_at(file, entry + 1);
             let place = offset_at(file, entry + 2);
-            return FilePlace::Bytes {
+            return FilePlace::Bytes(FileBytes {
                 place,
                 size: 4 * (last + 1),
-            };
+            });
         }
         entry = entry + 4;
         left = left - 1;
@@ -85,7 +91,7 @@ fn search_directory(file: &[u8], directory: usize, count: usize, number: usize) 
 // Where a slave keeps a file, or that it has none.
 pub fn find_file(file: &[u8], slave: usize, number: FileNumber) -> FilePlace
     requires { ⌜ Becomes (now file) (decode (now file)) × (slave < length (decode (now file) .slaves)) ⌝ }
-    ensures { λ r. ⌜ foundFile r ≡ findFile (decode (now (file .entry))) slave (number .0) ⌝ }
+    ensures { λ r. ⌜ foundFile r ≡ findFile (decode (now (file .entry))) slave (fileIn number) ⌝ }
 {
     let entry = 16 + 4 * slave;
     let directory = offset_at(file, entry);
@@ -101,12 +107,14 @@ pub fn find_record(
     record: RecordNumber,
 ) -> RecordPlace
     requires { ⌜ Becomes (now file) (decode (now file)) × (slave < length (decode (now file) .slaves)) ⌝ }
-    ensures { λ r. ⌜ foundRecord r ≡ findRecord (decode (now (file .entry))) slave (number .0) («record» .0) ⌝ }
+    ensures { λ r. ⌜ foundRecord r ≡ findRecord (decode (now (file .entry))) slave (fileIn number) (recordIn «record») ⌝ }
 {
     let found = find_file(file, slave, number);
-    let FilePlace::Bytes { place, size } = found else {
+    let FilePlace::Bytes(bytes) = found else {
         return RecordPlace::NoRecord;
     };
+    let place = bytes.place;
+    let size = bytes.size;
     let start = 4 * (record.0 as usize);
     if size < start + 4 {
         return RecordPlace::NoRecord;

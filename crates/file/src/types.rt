@@ -3,6 +3,7 @@
 ghost use mathlib.Core.Path.{_≡_};
 ghost use lib.Dec.{eqb};
 ghost use Rattle.file.specs.Cluster.{unnamed, broadcast};
+ghost use Rattle.file.specs.Typed.{nameIn};
 
 pub struct FileNumber(pub u8);
 
@@ -17,19 +18,19 @@ impl LogicalName {
     pub const BROADCAST: LogicalName = LogicalName(0x00);
 
     pub fn new(name: u8) -> LogicalName
-        ensures { λ r. ⌜ r .0 ≡ name ⌝ }
+        ensures { λ r. ⌜ nameIn r ≡ name ⌝ }
     {
         LogicalName(name)
     }
 
     pub fn is_unnamed(self) -> bool
-        ensures { λ r. ⌜ r ≡ eqb (self .0) unnamed ⌝ }
+        ensures { λ r. ⌜ r ≡ eqb (nameIn self) unnamed ⌝ }
     {
         self.0 == LogicalName::UNNAMED.0
     }
 
     pub fn is_broadcast(self) -> bool
-        ensures { λ r. ⌜ r ≡ eqb (self .0) broadcast ⌝ }
+        ensures { λ r. ⌜ r ≡ eqb (nameIn self) broadcast ⌝ }
     {
         self.0 == LogicalName::BROADCAST.0
     }

@@ -19,7 +19,8 @@ ghost use Prim.Native.Nat.{_≤_};
 ghost use lib.ListN.{length, drop};
 ghost use Rattle.frame.specs.Frames.{frameSize, frameOf};
 ghost use Rattle.frame.specs.Writing.{writeAddress, writeData};
-ghost use Rattle.frame.specs.Answers.{writingOf};
+ghost use Rattle.file.specs.Typed.{fileIn, recordIn, nameIn};
+ghost use Rattle.frame.specs.Answers.{writingOf, operationIn};
 
 fn put_frame(buf: &mut [u8], firework: u8, b0: u8, b1: u8, b2: u8, b3: u8, check: u8)
     requires { ⌜ frameSize ≤ length (now buf) ⌝ }
@@ -43,7 +44,7 @@ pub fn write_address(
     record: RecordNumber,
 ) -> FrameWriting
     ensures { λ r. ⌜ (writingOf r, now (buf .exit))
-        ≡ writeAddress (now (buf .entry)) epoch (name .0) (file .0) (operation .0) («record» .0) ⌝ }
+        ≡ writeAddress (now (buf .entry)) epoch (nameIn name) (fileIn file) (operationIn operation) (recordIn «record») ⌝ }
 {
     if buf.len() < FRAME_SIZE {
         return FrameWriting::Refused(Refusal::BUFFER);

@@ -31,8 +31,8 @@ add-if1 c = search needs
 returns-2 : tie.Need-returns-2
 returns-2 c = search (needs, no-record)
 
-add-t9 : tie.Need-add-t9
-add-t9 c =
+add-t10 : tie.Need-add-t10
+add-t10 c =
     let found = c .before .before .before in
     let start = found .before .before .before .before in
     omega (arith, bytes-within _ _ _ (found .before .before .find-file .ensures) (found .found .given .1) (start .pre .0), length-limit (start .pre .0))
@@ -52,5 +52,5 @@ find-record-spec =
     mul-start
     add-if1
     returns-2
-    add-t9
+    add-t10
     returns-3)

@@ -1,0 +1,15 @@
+-- The number in a value of each of the three types that document 01 keeps apart: "A file number, a record number and a logical name
+-- are never taken for one another". Contracts read a value through these, so that one of another type does not fit.
+use Prim.Native.Nat.{ℕ}
+use Rattle.file.specs.declared.types.FileNumber.{FileNumber}
+use Rattle.file.specs.declared.types.RecordNumber.{RecordNumber}
+use Rattle.file.specs.declared.types.LogicalName.{LogicalName}
+
+abbrev pub fileIn : FileNumber → ℕ
+fileIn n = n .0
+
+abbrev pub recordIn : RecordNumber → ℕ
+recordIn n = n .0
+
+abbrev pub nameIn : LogicalName → ℕ
+nameIn n = n .0
