@@ -67,7 +67,14 @@ pub extern "C" fn ttpa_write_address(
 ) -> u8
     ensures { λ r. ⌜ (r, now (frame .exit)) ≡ writeAddressCall (now (frame .entry)) epoch name file operation «record» ⌝ }
 {
-    let written = write_address(frame, epoch, LogicalName::new(name), FileNumber(file), Operation(operation), RecordNumber(record));
+    let written = write_address(
+        frame,
+        epoch,
+        LogicalName::new(name),
+        FileNumber(file),
+        Operation(operation),
+        RecordNumber(record),
+    );
     writing_number(written)
 }
 

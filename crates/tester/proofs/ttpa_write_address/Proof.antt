@@ -1,3 +1,6 @@
+-- `tester::ttpa_write_address` meets its contract: a law for each way.
+-- Assumes nothing.
+use Rattle.tester.proofs.CallLaws.{address-written}
 use borrow.Author.Needs.{needs}
 use Rattle.tester.proofs.ttpa_write_address.Statement.{statement}
 use Rattle.tester.proofs.ttpa_write_address.Tie as tie
@@ -15,7 +18,7 @@ same-length : tie.Need-same-length
 same-length c = search needs
 
 returns : tie.Need-returns
-returns c = ?
+returns c = search (needs, address-written)
 
 pub ttpa-write-address-spec : {M : Type 1} → statement M
 ttpa-write-address-spec =

@@ -1,3 +1,6 @@
+-- `tester::ttpa_write_data` meets its contract: a law for each way.
+-- Assumes nothing.
+use Rattle.tester.proofs.CallLaws.{data-written}
 use borrow.Author.Needs.{needs}
 use Rattle.tester.proofs.ttpa_write_data.Statement.{statement}
 use Rattle.tester.proofs.ttpa_write_data.Tie as tie
@@ -12,7 +15,7 @@ same-length : tie.Need-same-length
 same-length c = search needs
 
 returns : tie.Need-returns
-returns c = ?
+returns c = search (needs, data-written)
 
 pub ttpa-write-data-spec : {M : Type 1} → statement M
 ttpa-write-data-spec =
