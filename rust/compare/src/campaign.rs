@@ -76,11 +76,13 @@ pub struct Campaign<'a> {
     answers: BTreeMap<(&'static str, u8), u64>,
     /// Accepted rounds in which someone sent, by firework.
     heard: BTreeMap<u8, u64>,
+    /// Whole runs that ended "all named", and "names used up".
+    pub ends: [u64; 2],
 }
 
 impl<'a> Campaign<'a> {
     pub fn new(engine: &'a dyn Engine, model: &'a dyn Engine) -> Campaign<'a> {
-        Campaign { engine, model, passed: 0, failed: 0, answers: BTreeMap::new(), heard: BTreeMap::new() }
+        Campaign { engine, model, passed: 0, failed: 0, answers: BTreeMap::new(), heard: BTreeMap::new(), ends: [0; 2] }
     }
 
     /// Makes one call on both; returns the model's outcome, which the next call builds on.
@@ -111,9 +113,12 @@ impl<'a> Campaign<'a> {
         self.rounds(amounts.rounds, &mut Random::from_seed(seed ^ 4));
         self.starts(amounts.starts, &mut Random::from_seed(seed ^ 5));
         self.steps(amounts.steps, &mut Random::from_seed(seed ^ 6));
-        for run in 0..amounts.runs as u64 {
-            runs::whole_run(self, &mut Random::from_seed(seed ^ 7 ^ run << 8));
+        for run in 0..amounts.runs {
+            // Every number of slaves has its turn; 20 and 33 have no divisor in common.
+            let slaves = 20 * run % (model::MOST_SLAVES + 1);
+            runs::whole_run(self, &mut Random::from_seed(seed ^ 7 ^ (run as u64) << 8), slaves);
         }
+        self.ends_reached();
         self.reached();
     }
 
@@ -202,6 +207,15 @@ impl<'a> Campaign<'a> {
             if expected.mask() != 0 {
                 *self.heard.entry(frame[0]).or_insert(0) += 1;
             }
+        }
+    }
+
+    /// Runs must have ended in both ways.
+    fn ends_reached(&mut self) {
+        let [all_named, names_used_up] = self.ends;
+        println!("runs ended all named {all_named}, names used up {names_used_up}");
+        if all_named == 0 || names_used_up == 0 {
+            self.differ("runs ended in one way only", "inputs too tame");
         }
     }
 

@@ -6,7 +6,7 @@ use crate::case::Call;
 use crate::engine::RunWords;
 use crate::random::Random;
 use crate::{clusters, inputs};
-use model::{check, closed_figures, Account, Cluster, End, Slave};
+use model::{check, closed_figures, Account, Cluster, End, LogicalName, Slave};
 
 const NO_RUN: RunWords = [0; 6];
 
@@ -18,9 +18,13 @@ struct WholeRun {
     account: Account,
 }
 
-pub fn whole_run(campaign: &mut Campaign, random: &mut Random) {
-    let cluster = clusters::cluster(random);
-    let names = inputs::good_names(random, cluster.slaves.len() + 3);
+/// A run over a cluster of so many slaves; in one of three none has a name yet.
+pub fn whole_run(campaign: &mut Campaign, random: &mut Random, slaves: usize) {
+    let mut cluster = clusters::cluster_of(random, slaves);
+    if random.once_in(3) {
+        cluster.slaves.iter_mut().for_each(|slave| slave.set_logical_name(LogicalName::UNNAMED));
+    }
+    let names = inputs::good_names(random, slaves + 3);
     let figures = closed_figures(&cluster, &names);
     let started = campaign.call(&Call::Start { names: names.clone() });
     let account = Account::start(&cluster, &names);
@@ -35,6 +39,7 @@ pub fn whole_run(campaign: &mut Campaign, random: &mut Random) {
     }
     // A step of an ended run alters nothing.
     whole.step(campaign, 64);
+    campaign.ends[usize::from(figures.end == End::NamesUsedUp)] += 1;
     let [end, .., rounds, comparisons] = whole.run;
     if (end, rounds, comparisons) != (figures.end.number(), figures.rounds, figures.comparisons) {
         whole.report(campaign, "the closed figures");
