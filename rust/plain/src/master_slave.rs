@@ -49,8 +49,8 @@ fn is_addressed(logical_name: u8, name: u8) -> bool {
     logical_name == name || (name == 0 && logical_name != UNNAMED)
 }
 
-/// Unnamed slaves never answer, and no accepted read is addressed to 0x00.
-#[inline]
+/// Unnamed slaves never answer, and no accepted read is addressed to 0x00. The records that every slave has
+/// are found without a search.
 pub fn read(
     file: &[u8],
     survey: &Survey,
@@ -59,39 +59,73 @@ pub fn read(
     record: u8,
     answer: &mut [u8; ANSWER_BYTES],
 ) -> u64 {
-    if name == UNNAMED {
-        return 0;
-    }
-    let mut senders = 0;
-    for slave in survey.slaves() {
-        if survey.logical_name(file, slave) != name {
-            continue;
+    let offset = 4 * usize::from(record);
+    match (number, record) {
+        (_, _) if name == UNNAMED => 0,
+        (DOCUMENTATION, 0..=2) => {
+            read_at(file, survey, name, answer, |slave| Some(survey.documentation(slave) + offset))
         }
-        if let Some(place) = survey.record(file, slave, number, record) {
-            let sent = u32_at(file, place).to_be_bytes();
-            let check = sent[0] ^ sent[1] ^ sent[2] ^ sent[3];
-            for (slot, byte) in answer[1..6].iter_mut().zip(sent.into_iter().chain([check])) {
-                *slot &= byte;
-            }
-            senders = 0b11_1110;
+        (CONFIGURATION, 0..=3) => {
+            read_at(file, survey, name, answer, |slave| Some(survey.configuration(slave) + offset))
         }
+        _ => read_at(file, survey, name, answer, |slave| survey.record(file, slave, number, record)),
     }
-    senders
 }
 
 #[inline]
-pub fn write(file: &mut [u8], survey: &Survey, name: u8, number: u8, record: u8, data: [u8; 4]) -> u64 {
-    if number == DOCUMENTATION || record == 0 {
-        return 0;
+fn read_at(
+    file: &[u8],
+    survey: &Survey,
+    name: u8,
+    answer: &mut [u8; ANSWER_BYTES],
+    place_of: impl Fn(usize) -> Option<usize>,
+) -> u64 {
+    let mut senders = 0;
+    let mut bytes = u32::MAX;
+    let mut checks = u8::MAX;
+    for slave in survey.slaves() {
+        if survey.logical_name(file, slave) == name {
+            if let Some(place) = place_of(slave) {
+                let sent = u32_at(file, place);
+                let folded = sent ^ sent >> 16;
+                bytes &= sent;
+                checks &= (folded ^ folded >> 8) as u8;
+                senders = 0b11_1110;
+            }
+        }
     }
+    answer[1..5].copy_from_slice(&bytes.to_be_bytes());
+    answer[5] = checks;
+    senders
+}
+
+pub fn write(file: &mut [u8], survey: &Survey, name: u8, number: u8, record: u8, data: [u8; 4]) -> u64 {
+    let offset = 4 * usize::from(record);
+    match (number, record) {
+        (DOCUMENTATION, _) | (_, 0) => {}
+        (CONFIGURATION, 1..=3) => {
+            write_at(file, survey, name, data, |_, slave| Some(survey.configuration(slave) + offset))
+        }
+        _ => write_at(file, survey, name, data, |file, slave| survey.record(file, slave, number, record)),
+    }
+    0
+}
+
+#[inline]
+fn write_at(
+    file: &mut [u8],
+    survey: &Survey,
+    name: u8,
+    data: [u8; 4],
+    place_of: impl Fn(&[u8], usize) -> Option<usize>,
+) {
     for slave in survey.slaves() {
         if is_addressed(survey.logical_name(file, slave), name) {
-            if let Some(place) = survey.record(file, slave, number, record) {
+            if let Some(place) = place_of(file, slave) {
                 file[place..place + 4].copy_from_slice(&data);
             }
         }
     }
-    0
 }
 
 /// Execute of record 1 of 0x08.

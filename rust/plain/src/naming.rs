@@ -88,24 +88,22 @@ fn carry_on(
 ) -> u64 {
     let [end, index, step, value, rounds, comparisons] = run;
     let name = names[*index as usize];
+    let place = *step;
     // The address frame puts the epoch to one more, the data frame adds one.
     file[EPOCH] = file[EPOCH].wrapping_add(2);
     *rounds += 1;
-    let place = *step;
     *step += 1;
-    let name_done = match place {
+    match place {
         0 => {
             Pending { name, pb2: DOCUMENTATION << 2 | READ, record: 1 }.store(file);
             let senders = read(file, survey, name, DOCUMENTATION, 1, answer);
-            if senders == 0 {
-                return 0;
+            if senders != 0 {
+                finish_name(end, index, step, names.len());
             }
-            finish_name(end, index, step, names.len());
-            return senders;
+            senders
         }
         1..=195 => {
-            let bit = if place < 4 { 0 } else { 1 << (63 - (place - 4) / 3) };
-            let tried = if place < 4 { 0 } else { *value | bit };
+            let tried = if place < 4 { 0 } else { *value | 1 << (63 - (place - 4) / 3) };
             match place % 3 {
                 1 => write_unnamed(file, survey, 2, (tried >> 32) as u32),
                 2 => write_unnamed(file, survey, 3, tried as u32),
@@ -119,33 +117,19 @@ fn carry_on(
                         *end = ALL_NAMED;
                         *step = 3;
                     }
-                    return senders;
+                    senders
                 }
             }
-            false
         }
-        196 => {
-            write_unnamed(file, survey, 1, u32::from_be_bytes([0, 0, name, UNNAMED]));
-            false
-        }
-        197 => {
-            write_unnamed(file, survey, 2, (*value >> 32) as u32);
-            false
-        }
-        198 => {
-            write_unnamed(file, survey, 3, *value as u32);
-            false
-        }
+        196 => write_unnamed(file, survey, 1, u32::from_be_bytes([0, 0, name, UNNAMED])),
+        197 => write_unnamed(file, survey, 2, (*value >> 32) as u32),
+        198 => write_unnamed(file, survey, 3, *value as u32),
         _ => {
             execute_unnamed(file, 1);
-            baptize(file, survey, UNNAMED);
-            true
+            finish_name(end, index, step, names.len());
+            baptize(file, survey, UNNAMED)
         }
-    };
-    if name_done {
-        finish_name(end, index, step, names.len());
     }
-    0
 }
 
 fn finish_name(end: &mut u64, index: &mut u64, step: &mut u64, length: usize) {
@@ -160,7 +144,8 @@ fn execute_unnamed(file: &mut [u8], record: u8) {
     Pending { name: UNNAMED, pb2: CONFIGURATION << 2 | EXECUTE, record }.store(file);
 }
 
-fn write_unnamed(file: &mut [u8], survey: &Survey, record: u8, data: u32) {
+/// Nobody sends at a write.
+fn write_unnamed(file: &mut [u8], survey: &Survey, record: u8, data: u32) -> u64 {
     Pending { name: UNNAMED, pb2: CONFIGURATION << 2 | WRITE, record }.store(file);
-    write(file, survey, UNNAMED, CONFIGURATION, record, data.to_be_bytes());
+    write(file, survey, UNNAMED, CONFIGURATION, record, data.to_be_bytes())
 }

@@ -49,14 +49,14 @@ impl Survey {
         let mut place = HEADER_BYTES + 4 * self.count;
         let mut lacks_a_file = false;
         let places = self.configuration.iter_mut().zip(&mut self.documentation);
-        for (entry, (configuration, documentation)) in table.chunks_exact(4).zip(places) {
-            let entry = u32_at(entry, 0);
-            let directory_bytes = (entry >> 6 & 0x3FC) as usize;
+        for (entry, (configuration, documentation)) in table.as_chunks().0.iter().zip(places) {
+            let entry = u32::from_be_bytes(*entry);
             if entry & 0xFF != 0 || (entry >> 16) as usize != place {
                 return None;
             }
-            let directory = file.get(place..place + directory_bytes)?;
-            place = walk_directory(directory, place + directory_bytes)?;
+            let after = place + directory_bytes(entry);
+            let directory = file.get(place..after)?.as_chunks().0;
+            place = walk_directory(directory, after)?;
             *configuration = configuration_in(directory);
             *documentation = documentation_in(directory);
             lacks_a_file |= *configuration == 0 || *documentation == 0;
@@ -64,13 +64,20 @@ impl Survey {
         (place == file.len()).then_some(lacks_a_file)
     }
 
-    /// At most 32 names, so every pair is compared.
+    /// Equal names have equal marks, so a name whose mark is new need not be compared with the others.
     fn equal_physical_names(&self, file: &[u8]) -> bool {
         let mut names = [0; MOST_SLAVES];
-        for (slave, name) in names.iter_mut().enumerate().take(self.count) {
-            *name = self.physical_name(file, slave);
+        let mut marks = 0u64;
+        for slave in self.slaves() {
+            let name = self.physical_name(file, slave);
+            let mark = 1 << (name.wrapping_mul(0x9E37_79B9_7F4A_7C15) >> 58);
+            if marks & mark != 0 && names[..slave].contains(&name) {
+                return true;
+            }
+            marks |= mark;
+            names[slave] = name;
         }
-        (1..self.count.min(MOST_SLAVES)).any(|slave| names[..slave].contains(&names[slave]))
+        false
     }
 
     pub fn slaves(&self) -> std::ops::Range<usize> {
@@ -87,7 +94,7 @@ impl Survey {
     }
 
     pub fn physical_name(&self, file: &[u8], slave: usize) -> u64 {
-        u64_at(file, usize::from(self.documentation[slave]) + 4)
+        u64_at(file, self.documentation(slave) + 4)
     }
 
     pub fn comparison_value(&self, file: &[u8], slave: usize) -> u64 {
@@ -98,25 +105,22 @@ impl Survey {
     pub fn find(&self, file: &[u8], slave: usize, number: u8) -> Option<(usize, usize)> {
         let entry = u32_at(file, HEADER_BYTES + 4 * slave);
         let directory = (entry >> 16) as usize;
-        let directory_bytes = (entry >> 6 & 0x3FC) as usize;
-        let entries = file[directory..directory + directory_bytes].chunks_exact(4);
+        let entries = file[directory..directory + directory_bytes(entry)].as_chunks().0;
         // Numbers rise, so the search ends at the first that is not below.
-        let entry = entries.map(|entry| u32_at(entry, 0)).find(|entry| entry >> 24 >= u32::from(number))?;
-        let size = 4 * (entry >> 16 & 0xFF) as usize + 4;
-        (entry >> 24 == u32::from(number)).then_some(((entry & 0xFFFF) as usize, size))
+        let entry = entries.iter().find(|entry| entry[0] >= number)?;
+        (entry[0] == number).then_some((place_in(entry), 4 * usize::from(entry[1]) + 4))
+    }
+
+    /// Where the bytes of file 0x3D begin.
+    pub fn documentation(&self, slave: usize) -> usize {
+        usize::from(self.documentation[slave])
     }
 
     /// Where a slave keeps a record, if it has it.
     pub fn record(&self, file: &[u8], slave: usize, number: u8, record: u8) -> Option<usize> {
-        match (number, record) {
-            (CONFIGURATION, 0..=3) => Some(self.configuration(slave) + 4 * usize::from(record)),
-            (DOCUMENTATION, 0..=2) => Some(usize::from(self.documentation[slave]) + 4 * usize::from(record)),
-            _ => {
-                let (place, size) = self.find(file, slave, number)?;
-                let offset = 4 * usize::from(record);
-                (offset < size).then_some(place + offset)
-            }
-        }
+        let (place, size) = self.find(file, slave, number)?;
+        let offset = 4 * usize::from(record);
+        (offset < size).then_some(place + offset)
     }
 }
 
@@ -141,46 +145,46 @@ fn header_ground(header: &[u8; HEADER_BYTES], length: usize) -> u8 {
     0
 }
 
+/// Four bytes for each file that a table entry counts.
+fn directory_bytes(table_entry: u32) -> usize {
+    (table_entry >> 6 & 0x3FC) as usize
+}
+
 /// The place after the slave's last file, or None where an entry breaks the layout. Places past the end
 /// need no test here: the next directory, or the end of the walk, finds them out.
-fn walk_directory(directory: &[u8], mut place: usize) -> Option<usize> {
-    let mut least = 0;
-    for entry in directory.chunks_exact(4) {
-        let entry = u32_at(entry, 0);
-        let number = entry >> 24;
-        let records = entry >> 16 & 0xFF;
-        if number < least || records == 0 || (entry & 0xFFFF) as usize != place {
+fn walk_directory(directory: &[[u8; 4]], mut place: usize) -> Option<usize> {
+    let mut number_before = -1;
+    for entry in directory {
+        let entry = u32::from_be_bytes(*entry);
+        let number = (entry >> 24) as i32;
+        let records = entry & 0x00FF_0000;
+        if number <= number_before || records == 0 || (entry & 0xFFFF) as usize != place {
             return None;
         }
-        least = number + 1;
-        place += 4 * records as usize + 4;
+        number_before = number;
+        place += (records >> 14) as usize + 4;
     }
     // Numbers rise, so the last one speaks for all.
-    (least <= 64).then_some(place)
+    (number_before < 64).then_some(place)
 }
 
 /// The place of file 0x08 with at least 3 records, or 0. Numbers rise, so it is among the first nine.
-fn configuration_in(directory: &[u8]) -> u16 {
-    let mut entries = directory.chunks_exact(4).take(9);
-    let Some(entry) = entries.find(|entry| entry[0] >= CONFIGURATION) else {
-        return 0;
-    };
-    place_if(entry, CONFIGURATION, 3)
+fn configuration_in(directory: &[[u8; 4]]) -> u16 {
+    match directory.iter().find(|entry| entry[0] >= CONFIGURATION) {
+        Some(entry) if entry[0] == CONFIGURATION && entry[1] >= 3 => place_in(entry) as u16,
+        _ => 0,
+    }
 }
 
 /// The place of file 0x3D with at least 2 records, or 0. Only 0x3E and 0x3F can come after it.
-fn documentation_in(directory: &[u8]) -> u16 {
-    let mut entries = directory.chunks_exact(4).rev().take(3);
-    let Some(entry) = entries.find(|entry| entry[0] <= DOCUMENTATION) else {
-        return 0;
-    };
-    place_if(entry, DOCUMENTATION, 2)
+fn documentation_in(directory: &[[u8; 4]]) -> u16 {
+    match directory.iter().rev().find(|entry| entry[0] <= DOCUMENTATION) {
+        Some(entry) if entry[0] == DOCUMENTATION && entry[1] >= 2 => place_in(entry) as u16,
+        _ => 0,
+    }
 }
 
-fn place_if(entry: &[u8], number: u8, records: u8) -> u16 {
-    if entry[0] == number && entry[1] >= records {
-        u16::from_be_bytes([entry[2], entry[3]])
-    } else {
-        0
-    }
+/// The place that a directory entry states.
+fn place_in(entry: &[u8; 4]) -> usize {
+    usize::from(u16::from_be_bytes([entry[2], entry[3]]))
 }
