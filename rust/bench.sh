@@ -5,6 +5,9 @@
 #   rust/bench.sh library      the library beside it, with ratios (TTPA_LIB_DIR: the folder of libtester.a)
 #   rust/bench.sh [library] growth    how check, rounds and naming grow
 #
+# The column nested is plain Rust with the form that document 01 names for multipartner rounds: loops over
+# slots and entries with a labelled exit; it is told apart in those lines only.
+#
 # A call's loop and dispatch, about 15 instructions, are counted on both sides.
 set -eu
 cd "$(dirname "$0")"
@@ -43,18 +46,16 @@ cost() {
     echo $(((twice - once) / times))
 }
 
-if [ "$engines" = plain ]; then
-    printf '%-20s %12s\n' workload plain
-else
-    printf '%-20s %12s %12s %8s\n' workload plain library ratio
-fi
+printf '%-18s %12s %12s' workload plain nested
+[ "$engines" = plain ] && echo || printf ' %12s %8s %8s\n' library /plain /nested
 for workload in $("$bench" $list); do
     plain=$(cost plain "$workload")
+    nested=$plain
+    case $workload in partner-*) nested=$(cost nested "$workload") ;; esac
+    printf '%-18s %12d %12d' "$workload" "$plain" "$nested"
     if [ "$engines" = plain ]; then
-        printf '%-20s %12d\n' "$workload" "$plain"
+        echo
     else
-        library=$(cost library "$workload")
-        ratio=$(awk -v l="$library" -v p="$plain" 'BEGIN { printf "%.2f", l / p }')
-        printf '%-20s %12d %12d %8s\n' "$workload" "$plain" "$library" "$ratio"
+        cost library "$workload" | awk -v p="$plain" -v n="$nested" '{ printf " %12d %8.2f %8.2f\n", $1, $1 / p, $1 / n }'
     fi
 done

@@ -14,7 +14,9 @@ pub fn small(slaves: usize, files: usize, logical_name: impl Fn(usize) -> u8) ->
         let mut slave = Slave { files: vec![configuration(logical_name(number)), documentation(number)] };
         let others = (0..64).filter(|&number| slave.file(FileNumber(number)).is_none());
         let others: Vec<u8> = others.take(files - 2).collect();
-        slave.files.extend(others.into_iter().map(|number| File { number: FileNumber(number), bytes: vec![0; 8] }));
+        slave
+            .files
+            .extend(others.into_iter().map(|number| File { number: FileNumber(number), bytes: vec![0; 8] }));
         slave.files.sort_by_key(|file| file.number);
         slave
     };
@@ -77,10 +79,13 @@ fn configuration(logical_name: u8) -> File {
     File { number: FileNumber::CONFIGURATION, bytes }
 }
 
-/// Physical names that differ in many bits.
+/// Physical names of one series, with serial numbers in no order.
 fn documentation(slave: usize) -> File {
+    let series: u32 = 7;
+    let serial = (slave as u32 + 1).wrapping_mul(0x0100_0193) ^ 0x811C_9DC5;
     let mut bytes = vec![0; 4];
-    bytes.extend((slave as u64 + 1).wrapping_mul(0x9E37_79B9_7F4A_7C15).to_be_bytes());
+    bytes.extend(series.to_be_bytes());
+    bytes.extend(serial.to_be_bytes());
     File { number: FileNumber::DOCUMENTATION, bytes }
 }
 

@@ -28,7 +28,7 @@ fn main() -> ExitCode {
             workload.make(engine, times);
         }
         _ => {
-            eprintln!("usage: bench plain|library WORKLOAD TIMES | --list | --growth");
+            eprintln!("usage: bench plain|nested|library WORKLOAD TIMES | --list | --growth");
             return ExitCode::from(2);
         }
     }
@@ -43,7 +43,8 @@ fn print_names(names: &[&str]) {
 
 fn engine_of(name: &str) -> Option<&'static dyn Engine> {
     match name {
-        "plain" => Some(&Plain),
+        "plain" => Some(&Plain { nested: false }),
+        "nested" => Some(&Plain { nested: true }),
         #[cfg(feature = "library")]
         "library" => Some(&compare::engine::Library),
         _ => None,

@@ -49,11 +49,19 @@ pub const GROWTH: [&str; 22] = [
 
 /// The calls of one workload, with the memory they are lent.
 pub enum Workload {
-    Check { file: Vec<u8> },
+    Check {
+        file: Vec<u8>,
+    },
     /// One frame, again and again.
-    Frame { file: Vec<u8>, frame: Vec<u8> },
+    Frame {
+        file: Vec<u8>,
+        frame: Vec<u8>,
+    },
     /// A whole naming run from the file as it is here.
-    Naming { file: Vec<u8>, names: Vec<u8> },
+    Naming {
+        file: Vec<u8>,
+        names: Vec<u8>,
+    },
 }
 
 impl Workload {
@@ -73,12 +81,9 @@ impl Workload {
                 pending(number(slaves)?, |slave| slave as u8 + 1, [0x11, 0x3D << 2, 1], &[0x49])
             }
             ["read", "all", slaves] => pending(number(slaves)?, |_| 0x11, [0x11, 0x3D << 2, 1], &[0x49]),
-            ["write", "all", slaves] => pending(
-                number(slaves)?,
-                |_| 0xFF,
-                [0xFF, 0x08 << 2 | 1, 2],
-                &[0x49, 0x80, 0, 0, 0, 0x80],
-            ),
+            ["write", "all", slaves] => {
+                pending(number(slaves)?, |_| 0xFF, [0xFF, 0x08 << 2 | 1, 2], &[0x49, 0x80, 0, 0, 0, 0x80])
+            }
             ["execute", record, "all", slaves] => {
                 let record = number(record)? as u8;
                 pending(number(slaves)?, |_| 0xFF, [0xFF, 0x08 << 2 | 2, record], &[0x49])
@@ -88,7 +93,10 @@ impl Workload {
             }
             ["naming", slaves] => {
                 let slaves = number(slaves)?;
-                Workload::Naming { file: files::small(slaves, 2, |_| 0xFF), names: (1..=slaves as u8).collect() }
+                Workload::Naming {
+                    file: files::small(slaves, 2, |_| 0xFF),
+                    names: (1..=slaves as u8).collect(),
+                }
             }
             _ => return None,
         })

@@ -82,7 +82,15 @@ pub struct Campaign<'a> {
 
 impl<'a> Campaign<'a> {
     pub fn new(engine: &'a dyn Engine, model: &'a dyn Engine) -> Campaign<'a> {
-        Campaign { engine, model, passed: 0, failed: 0, answers: BTreeMap::new(), heard: BTreeMap::new(), ends: [0; 2] }
+        Campaign {
+            engine,
+            model,
+            passed: 0,
+            failed: 0,
+            answers: BTreeMap::new(),
+            heard: BTreeMap::new(),
+            ends: [0; 2],
+        }
     }
 
     /// Makes one call on both; returns the model's outcome, which the next call builds on.
@@ -147,7 +155,10 @@ impl<'a> Campaign<'a> {
                 let name = random.one_of(&[0x00, 0x01, 0xFF, 0x33]);
                 let file = random.one_of(&[0, 8, 61, 63, 64, 128, 255]);
                 let operation = random.one_of(&[0, 0, 1, 1, 2, 2, 3, 4, 5, 128, 255]);
-                self.call(&Call::Write { buffer, parts: [random.byte(), name, file, operation, random.byte()] });
+                self.call(&Call::Write {
+                    buffer,
+                    parts: [random.byte(), name, file, operation, random.byte()],
+                });
             }
         }
     }
@@ -224,7 +235,8 @@ impl<'a> Campaign<'a> {
         for (kind, numbers) in ANSWERS {
             let counts: Vec<u64> =
                 numbers.iter().map(|&number| *self.answers.get(&(kind, number)).unwrap_or(&0)).collect();
-            let shown: Vec<String> = numbers.iter().zip(&counts).map(|(n, count)| format!("{n}: {count}")).collect();
+            let shown: Vec<String> =
+                numbers.iter().zip(&counts).map(|(n, count)| format!("{n}: {count}")).collect();
             println!("{kind} answers {}", shown.join(", "));
             if counts.contains(&0) {
                 self.differ(&format!("{kind} never gave one of its answers"), "inputs too tame");

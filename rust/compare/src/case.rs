@@ -115,7 +115,9 @@ impl Call {
         let after = |bytes: &Option<Vec<u8>>| hex(bytes.as_deref().unwrap_or(&[]));
         let result = match self {
             Call::Check { .. } => format!("{number}"),
-            Call::Read { .. } if accepted => format!("{number} {}", decimals(&outcome.parts.unwrap_or([0; 5]), " ")),
+            Call::Read { .. } if accepted => {
+                format!("{number} {}", decimals(&outcome.parts.unwrap_or([0; 5]), " "))
+            }
             Call::Read { .. } => format!("{number}"),
             Call::Write { .. } | Call::Data { .. } => format!("{number} {}", after(&outcome.buffer)),
             Call::Round { .. } => {
@@ -141,8 +143,12 @@ impl Call {
         match words[..] {
             ["check", file] => Some(Call::Check { file: bytes(file)? }),
             ["read", frame] => Some(Call::Read { frame: bytes(frame)? }),
-            ["write", buffer, ref parts @ ..] => Some(Call::Write { buffer: bytes(buffer)?, parts: numbers(parts)? }),
-            ["data", buffer, ref data @ ..] => Some(Call::Data { buffer: bytes(buffer)?, data: numbers(data)? }),
+            ["write", buffer, ref parts @ ..] => {
+                Some(Call::Write { buffer: bytes(buffer)?, parts: numbers(parts)? })
+            }
+            ["data", buffer, ref data @ ..] => {
+                Some(Call::Data { buffer: bytes(buffer)?, data: numbers(data)? })
+            }
             ["round", file, frame, length] => Some(Call::Round {
                 file: bytes(file)?,
                 frame: bytes(frame)?,
@@ -214,7 +220,7 @@ pub fn bytes(text: &str) -> Option<Vec<u8>> {
     if text == "-" {
         return Some(Vec::new());
     }
-    if text.len() % 2 != 0 {
+    if !text.len().is_multiple_of(2) {
         return None;
     }
     (0..text.len() / 2).map(|i| u8::from_str_radix(text.get(2 * i..2 * i + 2)?, 16).ok()).collect()

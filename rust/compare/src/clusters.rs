@@ -58,8 +58,12 @@ pub fn logical_name(random: &mut Random) -> u8 {
 
 /// A legal pending operation, or none with free bytes.
 fn pending(random: &mut Random) -> Pending {
-    let mut pending =
-        Pending { flag: random.once_in(2), name: LogicalName(logical_name(random)), pb2: random.byte(), pb3: 0 };
+    let mut pending = Pending {
+        flag: random.once_in(2),
+        name: LogicalName(logical_name(random)),
+        pb2: random.byte(),
+        pb3: 0,
+    };
     pending.pb3 = random.between(0, 5) as u8;
     if random.once_in(2) {
         pending.pb2 = 0x20 | pending.pb2 & 3;
@@ -130,12 +134,7 @@ fn entry(random: &mut Random, numbers: &[u8]) -> [u8; 4] {
     let operation = if random.once_in(4) { random.below(16) as u8 } else { random.one_of(&[0, 1, 1, 2, 4, 5]) };
     let length = if random.once_in(3) { random.below(16) as u8 } else { random.below(4) as u8 };
     let start = if random.once_in(3) { random.below(64) as u8 } else { random.below(16) as u8 };
-    [
-        file << 2 | random.below(4) as u8,
-        record,
-        operation << 4 | length,
-        (random.below(4) as u8) << 6 | start,
-    ]
+    [file << 2 | random.below(4) as u8, record, operation << 4 | length, (random.below(4) as u8) << 6 | start]
 }
 
 /// A file of this many bytes, its last slave's files grown to reach it; 32 slaves of 64 files each if asked.
@@ -234,7 +233,8 @@ fn damage_layout(random: &mut Random, file: &mut [u8]) {
     let table_entry = HEADER_BYTES + 4 * random.below(count);
     let directory = usize::from(file[table_entry]) << 8 | usize::from(file[table_entry + 1]);
     let entries = usize::from(file[table_entry + 2]);
-    let entry = if random.once_in(3) || entries == 0 { table_entry } else { directory + 4 * random.below(entries) };
+    let entry =
+        if random.once_in(3) || entries == 0 { table_entry } else { directory + 4 * random.below(entries) };
     let place = entry + random.below(4);
     if let Some(byte) = file.get_mut(place) {
         *byte = match random.below(3) {

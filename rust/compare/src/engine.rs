@@ -86,8 +86,10 @@ fn run_of(&[end, index, step, value, rounds, comparisons]: &RunWords) -> model::
     model::Run { end, index, step, value, rounds, comparisons }
 }
 
-/// The tuned plain Rust program.
-pub struct Plain;
+/// The tuned plain Rust program; its multipartner rounds in the form that document 01 names, if asked.
+pub struct Plain {
+    pub nested: bool,
+}
 
 impl Engine for Plain {
     fn check(&self, file: &[u8]) -> u8 {
@@ -107,7 +109,11 @@ impl Engine for Plain {
     }
 
     fn round(&self, file: &mut [u8], frame: &[u8], answer: &mut [u8], senders: &mut u64) -> u8 {
-        plain::round(file, frame, answer, senders)
+        if self.nested {
+            plain::round_in_nested_loops(file, frame, answer, senders)
+        } else {
+            plain::round(file, frame, answer, senders)
+        }
     }
 
     fn start(&self, names: &[u8], run: &mut RunWords) -> u8 {

@@ -11,7 +11,7 @@ use std::process::ExitCode;
 #[cfg(feature = "library")]
 const ENGINE: (&str, &dyn Engine) = ("library", &compare::engine::Library);
 #[cfg(not(feature = "library"))]
-const ENGINE: (&str, &dyn Engine) = ("plain", &compare::engine::Plain);
+const ENGINE: (&str, &dyn Engine) = ("plain", &compare::engine::Plain { nested: false });
 
 const SEED: u64 = 0x7474_7061_0000_0000;
 const LONG: usize = 10;

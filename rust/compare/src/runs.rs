@@ -28,8 +28,7 @@ pub fn whole_run(campaign: &mut Campaign, random: &mut Random, slaves: usize) {
     let figures = closed_figures(&cluster, &names);
     let started = campaign.call(&Call::Start { names: names.clone() });
     let account = Account::start(&cluster, &names);
-    let mut whole =
-        WholeRun { file: cluster.encode(), names, run: started.run.unwrap_or(NO_RUN), account };
+    let mut whole = WholeRun { file: cluster.encode(), names, run: started.run.unwrap_or(NO_RUN), account };
     let traffic = random.one_of(&[2, 4, 10, 50]);
     while whole.run[0] == End::Running.number() {
         if random.once_in(traffic) {
@@ -67,12 +66,8 @@ impl WholeRun {
     }
 
     fn step(&mut self, campaign: &mut Campaign, answer_length: usize) {
-        let call = Call::Step {
-            file: self.file.clone(),
-            names: self.names.clone(),
-            run: self.run,
-            answer_length,
-        };
+        let call =
+            Call::Step { file: self.file.clone(), names: self.names.clone(), run: self.run, answer_length };
         let outcome = campaign.call(&call);
         self.file = outcome.file.expect("a lent file");
         self.run = outcome.run.expect("a lent run");
@@ -128,13 +123,10 @@ impl WholeRun {
     }
 
     fn report(&self, campaign: &mut Campaign, what: &str) {
-        let call = Call::Step {
-            file: self.file.clone(),
-            names: self.names.clone(),
-            run: self.run,
-            answer_length: 64,
-        };
-        campaign.differ(&format!("{what} disagrees, after which the next call would be\n{call}"), "see the case");
+        let call =
+            Call::Step { file: self.file.clone(), names: self.names.clone(), run: self.run, answer_length: 64 };
+        campaign
+            .differ(&format!("{what} disagrees, after which the next call would be\n{call}"), "see the case");
     }
 }
 

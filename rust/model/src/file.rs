@@ -87,7 +87,7 @@ fn files_of(file: &[u8], place: &mut usize, file_count: usize) -> Option<Vec<Fil
     let mut files: Vec<File> = Vec::new();
     for entry in directory.chunks(ENTRY_BYTES) {
         let number = FileNumber(entry[0]);
-        let rising = files.last().map_or(true, |before| before.number < number);
+        let rising = files.last().is_none_or(|before| before.number < number);
         let file_stands_here = number_of(&entry[2..4]) == *place as u64;
         let record_count = usize::from(entry[1]);
         if number > FileNumber::LAST || !rising || record_count == 0 || !file_stands_here {

@@ -53,7 +53,12 @@ impl Entry {
 
 /// "From record 1, each record is an entry"
 fn round_descriptor_list(file: &File) -> Vec<Entry> {
-    file.bytes.chunks(4).skip(1).map(Entry::of).take_while(|entry| entry.operation != EntryOperation::End).collect()
+    file.bytes
+        .chunks(4)
+        .skip(1)
+        .map(Entry::of)
+        .take_while(|entry| entry.operation != EntryOperation::End)
+        .collect()
 }
 
 /// "Round r runs file r of each slave not unnamed; others take no part."

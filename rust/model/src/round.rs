@@ -80,8 +80,7 @@ impl Cluster {
     /// "An accepted MSA sets the epoch to PB0 and becomes pending until the next one; nobody sends."
     fn hold(&mut self, address: &Address) {
         self.epoch = address.epoch;
-        self.pending =
-            Pending { flag: true, name: address.name, pb2: address.pb2(), pb3: address.record.0 };
+        self.pending = Pending { flag: true, name: address.name, pb2: address.pb2(), pb3: address.record.0 };
     }
 
     /// "MSD carries out the pending operation, or nothing."

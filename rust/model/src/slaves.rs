@@ -42,13 +42,7 @@ pub fn write(slaves: &mut [Slave], name: LogicalName, file: FileNumber, record: 
     }
 }
 
-pub fn execute(
-    slaves: &mut [Slave],
-    name: LogicalName,
-    file: FileNumber,
-    record: RecordNumber,
-    bus: &mut Bus,
-) {
+pub fn execute(slaves: &mut [Slave], name: LogicalName, file: FileNumber, record: RecordNumber, bus: &mut Bus) {
     if file != FileNumber::CONFIGURATION {
         return;
     }

@@ -5,8 +5,16 @@ use compare::engine::Model;
 
 const CASES: &str = include_str!("data/cases.txt");
 /// Each kind must be there, or the file was cut.
-const KINDS: [(&str, usize); 8] =
-    [("check", 60), ("read", 200), ("write", 200), ("data", 3), ("round", 100), ("start", 60), ("step", 100), ("list", 10)];
+const KINDS: [(&str, usize); 8] = [
+    ("check", 60),
+    ("read", 200),
+    ("write", 200),
+    ("data", 3),
+    ("round", 100),
+    ("start", 60),
+    ("step", 100),
+    ("list", 10),
+];
 
 fn lines_of(kind: &str) -> Vec<&'static str> {
     CASES.lines().filter(|line| line.split(' ').next() == Some(kind)).collect()

@@ -10,6 +10,7 @@ mod frames;
 mod master_slave;
 mod multipartner;
 mod naming;
+mod nested;
 mod survey;
 
 pub use frames::{read_address, write_address, write_data};
@@ -31,6 +32,22 @@ pub fn check(file: &[u8]) -> u8 {
 
 /// One frame on a file.
 pub fn round(file: &mut [u8], frame: &[u8], answer: &mut [u8], senders: &mut u64) -> u8 {
+    round_with(multipartner::run, file, frame, answer, senders)
+}
+
+/// The same, with multipartner rounds in the form that document 01 names.
+pub fn round_in_nested_loops(file: &mut [u8], frame: &[u8], answer: &mut [u8], senders: &mut u64) -> u8 {
+    round_with(nested::run, file, frame, answer, senders)
+}
+
+#[inline]
+fn round_with(
+    run_partners: impl Fn(&mut [u8], &Survey, u8, &mut [u8; ANSWER_BYTES]) -> u64,
+    file: &mut [u8],
+    frame: &[u8],
+    answer: &mut [u8],
+    senders: &mut u64,
+) -> u8 {
     let mut survey = Survey::new();
     let ground = survey.walk(file);
     if ground != 0 {
@@ -45,7 +62,26 @@ pub fn round(file: &mut [u8], frame: &[u8], answer: &mut [u8], senders: &mut u64
     match firework {
         MSA => address_round(file, frame, answer, senders),
         MSD => data_round(file, &survey, frame, answer, senders),
-        _ => partner_round(file, &survey, frame, answer, senders),
+        _ => {
+            let ground = partner_ground(frame);
+            if ground == 0 {
+                file[EPOCH] = file[EPOCH].wrapping_add(1);
+                *answer = silence(firework);
+                *senders = run_partners(file, &survey, round_of(firework).unwrap_or(0), answer);
+            }
+            ground
+        }
+    }
+}
+
+/// Grounds 10 and 11 of a frame that is neither MSA nor MSD.
+fn partner_ground(frame: &[u8]) -> u8 {
+    if round_of(frame[0]).is_none() {
+        10
+    } else if frame.len() != 1 {
+        11
+    } else {
+        0
     }
 }
 
@@ -86,25 +122,6 @@ fn data_round(
         Some(pending) => pending.carry_out(file, survey, data, answer),
         None => 0,
     };
-    0
-}
-
-fn partner_round(
-    file: &mut [u8],
-    survey: &Survey,
-    frame: &[u8],
-    answer: &mut [u8; ANSWER_BYTES],
-    senders: &mut u64,
-) -> u8 {
-    let Some(round) = round_of(frame[0]) else {
-        return 10;
-    };
-    if frame.len() != 1 {
-        return 11;
-    }
-    file[EPOCH] = file[EPOCH].wrapping_add(1);
-    *answer = silence(frame[0]);
-    *senders = multipartner::run(file, survey, round, answer);
     0
 }
 

@@ -20,11 +20,8 @@ struct Plan {
 
 /// Runs the round, puts what was sent into the answer and returns the mask.
 pub fn run(file: &mut [u8], survey: &Survey, round: u8, answer: &mut [u8; ANSWER_BYTES]) -> u64 {
-    let mut plan = Plan {
-        senders: [0; ANSWER_BYTES],
-        receivers: [0; ANSWER_BYTES],
-        places: [[0; ANSWER_BYTES]; SLAVES],
-    };
+    let mut plan =
+        Plan { senders: [0; ANSWER_BYTES], receivers: [0; ANSWER_BYTES], places: [[0; ANSWER_BYTES]; SLAVES] };
     for slave in survey.slaves() {
         if survey.logical_name(file, slave) != UNNAMED {
             if let Some((place, size)) = survey.find(file, slave, round) {

@@ -22,13 +22,7 @@ pub fn start(names: &[u8], run: &mut [u64; 6]) -> u8 {
     0
 }
 
-pub fn step(
-    file: &mut [u8],
-    run: &mut [u64; 6],
-    names: &[u8],
-    answer: &mut [u8],
-    senders: &mut u64,
-) -> u8 {
+pub fn step(file: &mut [u8], run: &mut [u64; 6], names: &[u8], answer: &mut [u8], senders: &mut u64) -> u8 {
     let mut survey = Survey::new();
     let ground = survey.walk(file);
     if ground != 0 {
