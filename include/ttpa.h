@@ -11,8 +11,7 @@
  * The numbers: 1 file size, 2 mark, 3 edition, 4 length field, 5 header, 6 layout, 7 file 0x08 or 0x3D
  * missing or too small, 8 equal physical names, 9 buffer too short, 10 no firework, 11 frame length,
  * 12 check byte, 13 operation, 14 read addressed to 0x00, 15 listed name 0x00 or 0xFF, 16 listed name
- * twice, 17 run position, 18 file number above 63. Each call checks its own in rising order; where it
- * differs, the call says so. */
+ * twice, 17 run position, 18 file number above 63. Each call checks its own in rising order. */
 #ifndef TTPA_H
 #define TTPA_H
 

@@ -8,6 +8,7 @@ use std::collections::BTreeMap;
 
 /// Cases that are printed before the rest is only counted.
 const MOST_PRINTED: u64 = 10;
+const MOST_SAMPLED_CHARACTERS: usize = 2_000;
 
 /// How many calls of each kind.
 pub struct Amounts {
@@ -78,6 +79,9 @@ pub struct Campaign<'a> {
     heard: BTreeMap<u8, u64>,
     /// Whole runs that ended "all named", and "names used up".
     pub ends: [u64; 2],
+    /// How many cases of each sort to print.
+    sample: u64,
+    sampled: BTreeMap<(&'static str, u8, Option<u8>, bool), u64>,
 }
 
 impl<'a> Campaign<'a> {
@@ -90,7 +94,14 @@ impl<'a> Campaign<'a> {
             answers: BTreeMap::new(),
             heard: BTreeMap::new(),
             ends: [0; 2],
+            sample: 0,
+            sampled: BTreeMap::new(),
         }
+    }
+
+    /// Prints so many cases of each sort (call, answer, firework, whether someone sent) as it goes along.
+    pub fn with_sample(self, sample: u64) -> Campaign<'a> {
+        Campaign { sample, ..self }
     }
 
     /// Makes one call on both; returns the model's outcome, which the next call builds on.
@@ -146,7 +157,7 @@ impl<'a> Campaign<'a> {
 
     fn writes(&mut self, amount: usize, random: &mut Random) {
         for _ in 0..amount {
-            let length = random.between(4, 8);
+            let length = random.one_of(&[0, 5, 5, 6, 6, 6, 7, 70]);
             let buffer = random.bytes(length);
             if random.once_in(4) {
                 let data = random.number().to_be_bytes();
@@ -218,6 +229,25 @@ impl<'a> Campaign<'a> {
             if expected.mask() != 0 {
                 *self.heard.entry(frame[0]).or_insert(0) += 1;
             }
+        }
+        self.print_sample(call, expected);
+    }
+
+    /// Long cases are left out: they would be a burden to whoever keeps them.
+    fn print_sample(&mut self, call: &Call, expected: &Outcome) {
+        if self.sample == 0 {
+            return;
+        }
+        let firework = match call {
+            Call::Round { frame, .. } if expected.number == 0 => frame.first().copied(),
+            _ => None,
+        };
+        let sort = (call.kind(), expected.number, firework, expected.mask() != 0);
+        let printed = self.sampled.entry(sort).or_insert(0);
+        let line = call.line(expected);
+        if *printed < self.sample && line.len() <= MOST_SAMPLED_CHARACTERS {
+            *printed += 1;
+            println!("{line}");
         }
     }
 

@@ -1,7 +1,8 @@
-//! `compare [--long] [--seed N] [--cases FILE]`: compares an engine with the model, call by call.
+//! `compare [--long | --seed N | --cases FILE | --sample N]`: compares an engine with the model, call by call.
 //!
 //! Built with the feature `library` it is the linked library, otherwise the plain program. With `--cases`
-//! it runs kept cases instead. The last line is `N passed, M failed`; the status is 1 on a difference.
+//! it runs kept cases instead; with `--sample` it also prints N cases of each sort. The last line is
+//! `N passed, M failed`; the status is 1 on a difference.
 
 use compare::campaign::{Amounts, Campaign};
 use compare::case::hold_against;
@@ -20,12 +21,13 @@ fn main() -> ExitCode {
     let arguments: Vec<String> = std::env::args().skip(1).collect();
     let words: Vec<&str> = arguments.iter().map(String::as_str).collect();
     let (passed, failed) = match words[..] {
-        [] => campaign(&Amounts::USUAL, SEED),
-        ["--long"] => campaign(&Amounts::USUAL.times(LONG), SEED + 1),
-        ["--seed", seed] => campaign(&Amounts::USUAL, seed.parse().unwrap_or(SEED)),
+        [] => campaign(&Amounts::USUAL, SEED, 0),
+        ["--long"] => campaign(&Amounts::USUAL.times(LONG), SEED + 1, 0),
+        ["--seed", seed] => campaign(&Amounts::USUAL, seed.parse().unwrap_or(SEED), 0),
+        ["--sample", cases] => campaign(&Amounts::USUAL, SEED, cases.parse().unwrap_or(1)),
         ["--cases", path] => cases(path),
         _ => {
-            eprintln!("usage: compare [--long | --seed N | --cases FILE]");
+            eprintln!("usage: compare [--long | --seed N | --cases FILE | --sample N]");
             return ExitCode::from(2);
         }
     };
@@ -33,10 +35,10 @@ fn main() -> ExitCode {
     ExitCode::from(u8::from(failed != 0))
 }
 
-fn campaign(amounts: &Amounts, seed: u64) -> (u64, u64) {
+fn campaign(amounts: &Amounts, seed: u64, sample: u64) -> (u64, u64) {
     let (name, engine) = ENGINE;
     println!("{name} against model");
-    let mut campaign = Campaign::new(engine, &Model);
+    let mut campaign = Campaign::new(engine, &Model).with_sample(sample);
     campaign.all(amounts, seed);
     (campaign.passed, campaign.failed)
 }

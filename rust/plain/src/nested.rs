@@ -26,9 +26,9 @@ pub fn run(file: &mut [u8], survey: &Survey, round: u8, answer: &mut [u8; ANSWER
         }
     }
     let mut mask = 0;
-    for slot in 1..ANSWER_BYTES as u32 {
+    for slot in 1..ANSWER_BYTES as u8 {
         if let Some(byte) = run_slot(file, survey, &partners[..count], slot) {
-            answer[slot as usize] = byte;
+            answer[usize::from(slot)] = byte;
             mask |= 1 << slot;
         }
     }
@@ -36,7 +36,7 @@ pub fn run(file: &mut [u8], survey: &Survey, round: u8, answer: &mut [u8; ANSWER
 }
 
 /// Senders read first; then those that receive store, if someone sent.
-fn run_slot(file: &mut [u8], survey: &Survey, partners: &[Partner], slot: u32) -> Option<u8> {
+fn run_slot(file: &mut [u8], survey: &Survey, partners: &[Partner], slot: u8) -> Option<u8> {
     let mut byte = 0xFF;
     let mut someone_sent = false;
     let mut stores = [0u16; SLAVES];
@@ -54,7 +54,7 @@ fn run_slot(file: &mut [u8], survey: &Survey, partners: &[Partner], slot: u32) -
         let Some((place, size)) = survey.find(file, partner.slave, number as u8) else {
             continue;
         };
-        let offset = (entry >> 14 & 0x3FC | entry >> 24 & 3) as usize + (slot - (entry & 63)) as usize;
+        let offset = (entry >> 14 & 0x3FC | entry >> 24 & 3) as usize + usize::from(slot - (entry as u8 & 63));
         if offset < least || offset >= size {
             continue;
         }
@@ -76,17 +76,17 @@ fn run_slot(file: &mut [u8], survey: &Survey, partners: &[Partner], slot: u32) -
 }
 
 /// The first entry before the end that covers the slot.
-fn acting(list: &[u8], slot: u32) -> Option<u32> {
+fn acting(list: &[u8], slot: u8) -> Option<u32> {
     let mut found = None;
     'entries: for entry in list.as_chunks().0 {
-        let entry = u32::from_be_bytes(*entry);
-        let is_end = entry >> 13 & 7 == 3;
+        let [_, _, operation_and_length, start] = *entry;
+        let is_end = operation_and_length & 0xE0 == 0x60;
         if is_end {
             break 'entries;
         }
-        let covers = slot.wrapping_sub(entry & 63) <= entry >> 8 & 15;
+        let covers = slot.wrapping_sub(start & 63) <= operation_and_length & 15;
         if covers {
-            found = Some(entry);
+            found = Some(u32::from_be_bytes(*entry));
             break 'entries;
         }
     }

@@ -1,4 +1,4 @@
-use std::fmt;
+use core::fmt;
 
 /// Why a call turned something away: the grounds of document 01.
 #[derive(Clone, Copy, Debug, PartialEq, Eq)]
@@ -115,7 +115,7 @@ impl fmt::Display for TtpaError {
     }
 }
 
-impl std::error::Error for TtpaError {}
+impl core::error::Error for TtpaError {}
 
 #[cfg(test)]
 mod tests {

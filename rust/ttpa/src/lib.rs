@@ -16,6 +16,7 @@
 //! # Ok::<(), ttpa::TtpaError>(())
 //! ```
 
+#![no_std]
 #![deny(missing_docs)]
 
 pub mod calls;
