@@ -1,0 +1,143 @@
+//! What is measured. Everything is prepared before the first call.
+
+use crate::files;
+use compare::engine::{Engine, RunWords};
+use std::hint::black_box;
+
+/// The lines of the table.
+pub const TABLE: [&str; 13] = [
+    "check-32-2",
+    "check-most",
+    "address-32",
+    "read-one-of-32",
+    "read-all-32",
+    "write-all-32",
+    "execute-2-all-32",
+    "execute-1-all-32",
+    "partner-1-255",
+    "partner-32-220",
+    "partner-32-63",
+    "naming-1",
+    "naming-32",
+];
+
+/// How the check grows in slaves, and in files of a slave; how a round grows in slaves and entries.
+pub const GROWTH: [&str; 22] = [
+    "check-0-2",
+    "check-1-2",
+    "check-2-2",
+    "check-4-2",
+    "check-8-2",
+    "check-16-2",
+    "check-32-2",
+    "check-32-4",
+    "check-32-8",
+    "check-32-16",
+    "check-32-32",
+    "check-32-64",
+    "partner-1-63",
+    "partner-2-63",
+    "partner-4-63",
+    "partner-8-63",
+    "partner-16-63",
+    "partner-32-63",
+    "partner-32-126",
+    "partner-32-220",
+    "naming-1",
+    "naming-8",
+];
+
+/// The calls of one workload, with the memory they are lent.
+pub enum Workload {
+    Check {
+        file: Vec<u8>,
+    },
+    /// One frame, again and again.
+    Frame {
+        file: Vec<u8>,
+        frame: Vec<u8>,
+    },
+    /// A whole naming run from the file as it is here.
+    Naming {
+        file: Vec<u8>,
+        names: Vec<u8>,
+    },
+}
+
+impl Workload {
+    pub fn of(name: &str) -> Option<Workload> {
+        let words: Vec<&str> = name.split('-').collect();
+        let number = |word: &str| word.parse::<usize>().ok();
+        Some(match words[..] {
+            ["check", "most"] => Workload::Check { file: files::most_entries() },
+            ["check", slaves, files] => {
+                Workload::Check { file: files::small(number(slaves)?, number(files)?, |_| 0xFF) }
+            }
+            ["address", slaves] => Workload::Frame {
+                file: files::small(number(slaves)?, 2, |_| 0xFF),
+                frame: vec![0x55, 0x05, 0xFF, 0x22, 0x02, 0xDA],
+            },
+            ["read", "one", "of", slaves] => {
+                pending(number(slaves)?, |slave| slave as u8 + 1, [0x11, 0x3D << 2, 1], &[0x49])
+            }
+            ["read", "all", slaves] => pending(number(slaves)?, |_| 0x11, [0x11, 0x3D << 2, 1], &[0x49]),
+            ["write", "all", slaves] => {
+                pending(number(slaves)?, |_| 0xFF, [0xFF, 0x08 << 2 | 1, 2], &[0x49, 0x80, 0, 0, 0, 0x80])
+            }
+            ["execute", record, "all", slaves] => {
+                let record = number(record)? as u8;
+                pending(number(slaves)?, |_| 0xFF, [0xFF, 0x08 << 2 | 2, record], &[0x49])
+            }
+            ["partner", slaves, entries] => {
+                Workload::Frame { file: files::partners(number(slaves)?, number(entries)?), frame: vec![0xBA] }
+            }
+            ["naming", slaves] => {
+                let slaves = number(slaves)?;
+                Workload::Naming {
+                    file: files::small(slaves, 2, |_| 0xFF),
+                    names: (1..=slaves as u8).collect(),
+                }
+            }
+            _ => return None,
+        })
+    }
+
+    pub fn make(&mut self, engine: &dyn Engine, times: u64) {
+        let mut answer = [0; 64];
+        let mut senders = 0;
+        for _ in 0..times {
+            match self {
+                Workload::Check { file } => accepted(engine.check(black_box(file))),
+                Workload::Frame { file, frame } => {
+                    accepted(engine.round(black_box(file), black_box(frame), &mut answer, &mut senders));
+                }
+                Workload::Naming { file, names } => naming_run(engine, &mut file.clone(), names),
+            }
+        }
+        black_box(senders);
+    }
+}
+
+/// The data frame of an operation that its address frame has put into the header. It stays pending, so the
+/// same call can be made many times. The comparison value is 0 for all, no physical name is equal to it.
+fn pending(slaves: usize, logical_name: impl Fn(usize) -> u8, operation: [u8; 3], frame: &[u8]) -> Workload {
+    let mut file = files::small(slaves, 2, logical_name);
+    file[9] = 1;
+    file[10..13].copy_from_slice(&operation);
+    Workload::Frame { file, frame: frame.to_vec() }
+}
+
+fn naming_run(engine: &dyn Engine, file: &mut [u8], names: &[u8]) {
+    let mut run: RunWords = [0; 6];
+    let mut answer = [0; 64];
+    let mut senders = 0;
+    accepted(engine.start(names, &mut run));
+    while run[0] == 0 {
+        accepted(engine.step(black_box(file), &mut run, black_box(names), &mut answer, &mut senders));
+    }
+    assert_eq!(run[4], 200 * names.len() as u64);
+}
+
+fn accepted(number: u8) {
+    assert_eq!(number, 0);
+}

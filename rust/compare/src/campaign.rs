@@ -1,0 +1,316 @@
+//! The comparison: each call is made on both engines, and everything it answers and leaves is compared.
+
+use crate::case::{Call, Outcome};
+use crate::engine::Engine;
+use crate::random::Random;
+use crate::{clusters, inputs, runs};
+use std::collections::BTreeMap;
+
+/// Cases that are printed before the rest is only counted.
+const MOST_PRINTED: u64 = 10;
+const MOST_SAMPLED_CHARACTERS: usize = 2_000;
+
+/// How many calls of each kind.
+pub struct Amounts {
+    pub checks: usize,
+    pub reads: usize,
+    pub writes: usize,
+    pub rounds: usize,
+    pub starts: usize,
+    pub steps: usize,
+    pub runs: usize,
+}
+
+impl Amounts {
+    pub const USUAL: Amounts = Amounts {
+        checks: 40_000,
+        reads: 20_000,
+        writes: 20_000,
+        rounds: 80_000,
+        starts: 10_000,
+        steps: 40_000,
+        runs: 60,
+    };
+
+    pub fn times(&self, factor: usize) -> Amounts {
+        Amounts {
+            checks: self.checks * factor,
+            reads: self.reads * factor,
+            writes: self.writes * factor,
+            rounds: self.rounds * factor,
+            starts: self.starts * factor,
+            steps: self.steps * factor,
+            runs: self.runs * factor,
+        }
+    }
+
+    pub fn part(&self, divisor: usize) -> Amounts {
+        Amounts {
+            checks: self.checks / divisor,
+            reads: self.reads / divisor,
+            writes: self.writes / divisor,
+            rounds: self.rounds / divisor,
+            starts: self.starts / divisor,
+            steps: self.steps / divisor,
+            runs: self.runs / divisor,
+        }
+    }
+}
+
+/// The answers that each call has to be seen to give, or the inputs were too tame.
+const ANSWERS: [(&str, &[u8]); 7] = [
+    ("check", &[0, 1, 2, 3, 4, 5, 6, 7, 8]),
+    ("read", &[0, 10, 11, 12, 13, 14]),
+    ("write", &[0, 9, 13, 14, 18]),
+    ("data", &[0, 9]),
+    ("round", &[0, 1, 2, 3, 4, 5, 6, 7, 8, 9, 10, 11, 12, 13, 14]),
+    ("start", &[0, 15, 16]),
+    ("step", &[0, 1, 2, 3, 4, 5, 6, 7, 8, 9, 15, 16, 17]),
+];
+
+/// Both engines, and the count of what they were asked.
+pub struct Campaign<'a> {
+    engine: &'a dyn Engine,
+    model: &'a dyn Engine,
+    pub passed: u64,
+    pub failed: u64,
+    answers: BTreeMap<(&'static str, u8), u64>,
+    /// Accepted rounds in which someone sent, by firework.
+    heard: BTreeMap<u8, u64>,
+    /// Whole runs that ended "all named", and "names used up".
+    pub ends: [u64; 2],
+    /// How many cases of each sort to print.
+    sample: u64,
+    sampled: BTreeMap<(&'static str, u8, Option<u8>, bool), u64>,
+}
+
+impl<'a> Campaign<'a> {
+    pub fn new(engine: &'a dyn Engine, model: &'a dyn Engine) -> Campaign<'a> {
+        Campaign {
+            engine,
+            model,
+            passed: 0,
+            failed: 0,
+            answers: BTreeMap::new(),
+            heard: BTreeMap::new(),
+            ends: [0; 2],
+            sample: 0,
+            sampled: BTreeMap::new(),
+        }
+    }
+
+    /// Prints so many cases of each sort (call, answer, firework, whether someone sent) as it goes along.
+    pub fn with_sample(self, sample: u64) -> Campaign<'a> {
+        Campaign { sample, ..self }
+    }
+
+    /// Makes one call on both; returns the model's outcome, which the next call builds on.
+    pub fn call(&mut self, call: &Call) -> Outcome {
+        let expected = call.make(self.model);
+        let got = call.make(self.engine);
+        self.note(call, &expected);
+        if let Some(what) = difference(call, &expected, &got) {
+            self.differ(&format!("{what}\n{}", call.line(&expected)), &call.line(&got));
+        } else {
+            self.passed += 1;
+        }
+        expected
+    }
+
+    /// Counts a difference and prints it: the first line says what differs, the second is the case.
+    pub fn differ(&mut self, case: &str, got: &str) {
+        self.failed += 1;
+        if self.failed <= MOST_PRINTED {
+            println!("difference: {case}\n# the engine gave: {got}");
+        }
+    }
+
+    pub fn all(&mut self, amounts: &Amounts, seed: u64) {
+        self.checks(amounts.checks, &mut Random::from_seed(seed ^ 1));
+        self.reads(amounts.reads, &mut Random::from_seed(seed ^ 2));
+        self.writes(amounts.writes, &mut Random::from_seed(seed ^ 3));
+        self.rounds(amounts.rounds, &mut Random::from_seed(seed ^ 4));
+        self.starts(amounts.starts, &mut Random::from_seed(seed ^ 5));
+        self.steps(amounts.steps, &mut Random::from_seed(seed ^ 6));
+        for run in 0..amounts.runs {
+            // Every number of slaves has its turn; 20 and 33 have no divisor in common.
+            let slaves = 20 * run % (model::MOST_SLAVES + 1);
+            runs::whole_run(self, &mut Random::from_seed(seed ^ 7 ^ (run as u64) << 8), slaves);
+        }
+        self.ends_reached();
+        self.reached();
+    }
+
+    fn checks(&mut self, amount: usize, random: &mut Random) {
+        for _ in 0..amount {
+            let file = any_file(random);
+            self.call(&Call::Check { file });
+        }
+    }
+
+    fn reads(&mut self, amount: usize, random: &mut Random) {
+        let cluster = clusters::cluster_of(random, 4);
+        for _ in 0..amount {
+            self.call(&Call::Read { frame: inputs::frame(random, &cluster) });
+        }
+    }
+
+    fn writes(&mut self, amount: usize, random: &mut Random) {
+        for _ in 0..amount {
+            let length = random.one_of(&[0, 5, 5, 6, 6, 6, 7, 70]);
+            let buffer = random.bytes(length);
+            if random.once_in(4) {
+                let data = random.number().to_be_bytes();
+                self.call(&Call::Data { buffer, data: [data[0], data[1], data[2], data[3]] });
+            } else {
+                let name = random.one_of(&[0x00, 0x01, 0xFF, 0x33]);
+                let file = random.one_of(&[0, 8, 61, 63, 64, 128, 255]);
+                let operation = random.one_of(&[0, 0, 1, 1, 2, 2, 3, 4, 5, 128, 255]);
+                self.call(&Call::Write {
+                    buffer,
+                    parts: [random.byte(), name, file, operation, random.byte()],
+                });
+            }
+        }
+    }
+
+    /// Frames one after the other on a file, so that data frames meet what is pending.
+    fn rounds(&mut self, amount: usize, random: &mut Random) {
+        let mut made = 0;
+        while made < amount {
+            let mut file = any_file(random);
+            for _ in 0..random.between(1, 20) {
+                let frame = match model::check(&file) {
+                    Ok(cluster) => inputs::frame(random, &cluster),
+                    Err(_) => random.bytes(1),
+                };
+                let answer_length = inputs::answer_length(random);
+                let outcome = self.call(&Call::Round { file: file.clone(), frame, answer_length });
+                made += 1;
+                let refused_by_the_file = (1..=8).contains(&outcome.number);
+                if refused_by_the_file {
+                    break;
+                }
+                file = outcome.file.unwrap_or(file);
+            }
+        }
+    }
+
+    fn starts(&mut self, amount: usize, random: &mut Random) {
+        for _ in 0..amount {
+            self.call(&Call::Start { names: inputs::names(random) });
+        }
+    }
+
+    /// Steps from positions of any content, some of them followed on.
+    fn steps(&mut self, amount: usize, random: &mut Random) {
+        let mut made = 0;
+        while made < amount {
+            let mut file = any_file(random);
+            let names = inputs::names(random);
+            let mut run = inputs::position(random, &names);
+            for _ in 0..random.between(1, 6) {
+                let answer_length = inputs::answer_length(random);
+                let call = Call::Step { file: file.clone(), names: names.clone(), run, answer_length };
+                let outcome = self.call(&call);
+                made += 1;
+                if outcome.number != 0 && outcome.number != 9 {
+                    break;
+                }
+                file = outcome.file.unwrap_or(file);
+                run = outcome.run.unwrap_or(run);
+            }
+        }
+    }
+
+    fn note(&mut self, call: &Call, expected: &Outcome) {
+        *self.answers.entry((call.kind(), expected.number)).or_insert(0) += 1;
+        if let Call::Round { frame, .. } = call {
+            if expected.mask() != 0 {
+                *self.heard.entry(frame[0]).or_insert(0) += 1;
+            }
+        }
+        self.print_sample(call, expected);
+    }
+
+    /// Long cases are left out: they would be a burden to whoever keeps them.
+    fn print_sample(&mut self, call: &Call, expected: &Outcome) {
+        if self.sample == 0 {
+            return;
+        }
+        let firework = match call {
+            Call::Round { frame, .. } if expected.number == 0 => frame.first().copied(),
+            _ => None,
+        };
+        let sort = (call.kind(), expected.number, firework, expected.mask() != 0);
+        let printed = self.sampled.entry(sort).or_insert(0);
+        let line = call.line(expected);
+        if *printed < self.sample && line.len() <= MOST_SAMPLED_CHARACTERS {
+            *printed += 1;
+            println!("{line}");
+        }
+    }
+
+    /// Runs must have ended in both ways.
+    fn ends_reached(&mut self) {
+        let [all_named, names_used_up] = self.ends;
+        println!("runs ended all named {all_named}, names used up {names_used_up}");
+        if all_named == 0 || names_used_up == 0 {
+            self.differ("runs ended in one way only", "inputs too tame");
+        }
+    }
+
+    /// Every answer must have occurred, and someone must have sent in every kind of round.
+    fn reached(&mut self) {
+        for (kind, numbers) in ANSWERS {
+            let counts: Vec<u64> =
+                numbers.iter().map(|&number| *self.answers.get(&(kind, number)).unwrap_or(&0)).collect();
+            let shown: Vec<String> =
+                numbers.iter().zip(&counts).map(|(n, count)| format!("{n}: {count}")).collect();
+            println!("{kind} answers {}", shown.join(", "));
+            if counts.contains(&0) {
+                self.differ(&format!("{kind} never gave one of its answers"), "inputs too tame");
+            }
+        }
+        for firework in inputs::MULTIPARTNER.into_iter().chain([model::MSD]) {
+            let count = *self.heard.get(&firework).unwrap_or(&0);
+            println!("round {firework:02X} with senders: {count}");
+            if count == 0 {
+                self.differ(&format!("nobody ever sent after firework {firework:02X}"), "inputs too tame");
+            }
+        }
+    }
+}
+
+/// Good files twice as often as damaged ones.
+fn any_file(random: &mut Random) -> Vec<u8> {
+    if random.once_in(3) {
+        clusters::damaged(random)
+    } else {
+        clusters::cluster(random).encode()
+    }
+}
+
+/// What differs between what the model and the engine answer and leave; a refusal leaves all as it was.
+fn difference(call: &Call, expected: &Outcome, got: &Outcome) -> Option<&'static str> {
+    let left_alone = |outcome: &Outcome| Outcome { number: 0, ..outcome.clone() } == call.before();
+    if expected.number != got.number {
+        Some("number")
+    } else if expected.number != 0 && !left_alone(expected) {
+        Some("the model altered something by a refusal")
+    } else if expected.number != 0 && !left_alone(got) {
+        Some("a refusal altered something")
+    } else if expected.senders != got.senders {
+        Some("senders")
+    } else if expected.file != got.file {
+        Some("file")
+    } else if expected.buffer != got.buffer {
+        Some("buffer")
+    } else if expected.parts != got.parts {
+        Some("parts")
+    } else if expected.run != got.run {
+        Some("run")
+    } else {
+        None
+    }
+}

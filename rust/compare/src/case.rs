@@ -1,0 +1,236 @@
+//! One call as a line of text: `round FILE FRAME answer-length = number mask FILE-after ANSWER-after`.
+//!
+//! Bytes are hexadecimal and `-` is none; other numbers are decimal, masks sixteen hexadecimal digits. The
+//! answer buffer holds EE throughout before the call. A mask that the call leaves alone is shown as 0.
+
+use crate::engine::{Engine, RunWords};
+use std::fmt;
+
+/// What lent memory holds before a call, so that a byte too many shows.
+pub const FILL: u8 = 0xEE;
+const SENDERS_BEFORE: u64 = 0xEEEE_EEEE_EEEE_EEEE;
+const RUN_BEFORE: RunWords = [SENDERS_BEFORE; 6];
+
+/// The arguments of a call.
+#[derive(Clone, Debug, PartialEq, Eq)]
+pub enum Call {
+    Check { file: Vec<u8> },
+    Read { frame: Vec<u8> },
+    Write { buffer: Vec<u8>, parts: [u8; 5] },
+    Data { buffer: Vec<u8>, data: [u8; 4] },
+    Round { file: Vec<u8>, frame: Vec<u8>, answer_length: usize },
+    Start { names: Vec<u8> },
+    Step { file: Vec<u8>, names: Vec<u8>, run: RunWords, answer_length: usize },
+}
+
+/// Everything a call answers and leaves in lent memory; None is memory that was not lent.
+#[derive(Clone, Debug, PartialEq, Eq, Default)]
+pub struct Outcome {
+    pub number: u8,
+    pub senders: Option<u64>,
+    pub file: Option<Vec<u8>>,
+    /// The frame buffer of a writer, or the answer buffer.
+    pub buffer: Option<Vec<u8>>,
+    pub parts: Option<[u8; 5]>,
+    pub run: Option<RunWords>,
+}
+
+impl Outcome {
+    /// The mask, where the call set it.
+    pub fn mask(&self) -> u64 {
+        self.senders.filter(|&senders| senders != SENDERS_BEFORE).unwrap_or(0)
+    }
+}
+
+impl Call {
+    pub fn kind(&self) -> &'static str {
+        match self {
+            Call::Check { .. } => "check",
+            Call::Read { .. } => "read",
+            Call::Write { .. } => "write",
+            Call::Data { .. } => "data",
+            Call::Round { .. } => "round",
+            Call::Start { .. } => "start",
+            Call::Step { .. } => "step",
+        }
+    }
+
+    pub fn make(&self, engine: &dyn Engine) -> Outcome {
+        let mut outcome = self.before();
+        outcome.number = match self {
+            Call::Check { file } => engine.check(file),
+            Call::Read { frame } => engine.read_address(frame, lent(&mut outcome.parts)),
+            Call::Write { parts, .. } => engine.write_address(lent_bytes(&mut outcome.buffer), *parts),
+            Call::Data { data, .. } => engine.write_data(lent_bytes(&mut outcome.buffer), *data),
+            Call::Round { frame, .. } => engine.round(
+                lent_bytes(&mut outcome.file),
+                frame,
+                lent_bytes(&mut outcome.buffer),
+                lent(&mut outcome.senders),
+            ),
+            Call::Start { names } => engine.start(names, lent(&mut outcome.run)),
+            Call::Step { names, .. } => engine.step(
+                lent_bytes(&mut outcome.file),
+                lent(&mut outcome.run),
+                names,
+                lent_bytes(&mut outcome.buffer),
+                lent(&mut outcome.senders),
+            ),
+        };
+        outcome
+    }
+
+    /// Lent memory before the call: what a refusal has to leave.
+    pub fn before(&self) -> Outcome {
+        let nothing = Outcome::default();
+        let answer = |length: usize| Some(vec![FILL; length]);
+        match self {
+            Call::Check { .. } => nothing,
+            Call::Read { .. } => Outcome { parts: Some([FILL; 5]), ..nothing },
+            Call::Write { buffer, .. } | Call::Data { buffer, .. } => {
+                Outcome { buffer: Some(buffer.clone()), ..nothing }
+            }
+            Call::Round { file, answer_length, .. } => Outcome {
+                senders: Some(SENDERS_BEFORE),
+                file: Some(file.clone()),
+                buffer: answer(*answer_length),
+                ..nothing
+            },
+            Call::Start { .. } => Outcome { run: Some(RUN_BEFORE), ..nothing },
+            Call::Step { file, run, answer_length, .. } => Outcome {
+                senders: Some(SENDERS_BEFORE),
+                file: Some(file.clone()),
+                buffer: answer(*answer_length),
+                run: Some(*run),
+                ..nothing
+            },
+        }
+    }
+
+    /// The call with its outcome, as a case that can be kept.
+    pub fn line(&self, outcome: &Outcome) -> String {
+        let accepted = outcome.number == 0;
+        let mask = outcome.mask();
+        let number = outcome.number;
+        let after = |bytes: &Option<Vec<u8>>| hex(bytes.as_deref().unwrap_or(&[]));
+        let result = match self {
+            Call::Check { .. } => format!("{number}"),
+            Call::Read { .. } if accepted => {
+                format!("{number} {}", decimals(&outcome.parts.unwrap_or([0; 5]), " "))
+            }
+            Call::Read { .. } => format!("{number}"),
+            Call::Write { .. } | Call::Data { .. } => format!("{number} {}", after(&outcome.buffer)),
+            Call::Round { .. } => {
+                format!("{number} {mask:016X} {} {}", after(&outcome.file), after(&outcome.buffer))
+            }
+            Call::Start { .. } if accepted => {
+                format!("{number} {}", decimals(&outcome.run.unwrap_or([0; 6]), " "))
+            }
+            Call::Start { .. } => format!("{number}"),
+            Call::Step { .. } => format!(
+                "{number} {mask:016X} {} {} {}",
+                after(&outcome.file),
+                decimals(&outcome.run.unwrap_or([0; 6]), ","),
+                after(&outcome.buffer)
+            ),
+        };
+        format!("{self} = {result}")
+    }
+
+    /// Reads the part of a case left of its `=`.
+    pub fn parse(text: &str) -> Option<Call> {
+        let words: Vec<&str> = text.split_whitespace().collect();
+        match words[..] {
+            ["check", file] => Some(Call::Check { file: bytes(file)? }),
+            ["read", frame] => Some(Call::Read { frame: bytes(frame)? }),
+            ["write", buffer, ref parts @ ..] => {
+                Some(Call::Write { buffer: bytes(buffer)?, parts: numbers(parts)? })
+            }
+            ["data", buffer, ref data @ ..] => {
+                Some(Call::Data { buffer: bytes(buffer)?, data: numbers(data)? })
+            }
+            ["round", file, frame, length] => Some(Call::Round {
+                file: bytes(file)?,
+                frame: bytes(frame)?,
+                answer_length: length.parse().ok()?,
+            }),
+            ["start", names] => Some(Call::Start { names: bytes(names)? }),
+            ["step", file, names, run, length] => Some(Call::Step {
+                file: bytes(file)?,
+                names: bytes(names)?,
+                run: numbers(&run.split(',').collect::<Vec<&str>>())?,
+                answer_length: length.parse().ok()?,
+            }),
+            _ => None,
+        }
+    }
+}
+
+impl fmt::Display for Call {
+    fn fmt(&self, out: &mut fmt::Formatter) -> fmt::Result {
+        write!(out, "{} ", self.kind())?;
+        match self {
+            Call::Check { file } => write!(out, "{}", hex(file)),
+            Call::Read { frame } => write!(out, "{}", hex(frame)),
+            Call::Write { buffer, parts } => write!(out, "{} {}", hex(buffer), decimals(parts, " ")),
+            Call::Data { buffer, data } => write!(out, "{} {}", hex(buffer), decimals(data, " ")),
+            Call::Round { file, frame, answer_length } => {
+                write!(out, "{} {} {answer_length}", hex(file), hex(frame))
+            }
+            Call::Start { names } => write!(out, "{}", hex(names)),
+            Call::Step { file, names, run, answer_length } => {
+                write!(out, "{} {} {} {answer_length}", hex(file), hex(names), decimals(run, ","))
+            }
+        }
+    }
+}
+
+/// A kept case: Ok, or what differs. An engine passes when the line it gives is the line that was kept and
+/// a refusal has left lent memory alone.
+pub fn hold_against(engine: &dyn Engine, line: &str) -> Result<(), String> {
+    let (left, _) = line.split_once('=').ok_or("a case has a '='")?;
+    let call = Call::parse(left).ok_or("no call of the known kinds")?;
+    let outcome = call.make(engine);
+    let given = call.line(&outcome);
+    if given != line.trim_end() {
+        return Err(format!("expected {line}\n     got {given}"));
+    }
+    if outcome.number != 0 && (Outcome { number: 0, ..outcome }) != call.before() {
+        return Err(format!("a refusal altered lent memory: {line}"));
+    }
+    Ok(())
+}
+
+fn lent<T>(memory: &mut Option<T>) -> &mut T {
+    memory.as_mut().expect("memory of this call")
+}
+
+fn lent_bytes(memory: &mut Option<Vec<u8>>) -> &mut [u8] {
+    lent(memory).as_mut_slice()
+}
+
+pub fn hex(bytes: &[u8]) -> String {
+    if bytes.is_empty() {
+        return "-".to_string();
+    }
+    bytes.iter().map(|byte| format!("{byte:02X}")).collect()
+}
+
+pub fn bytes(text: &str) -> Option<Vec<u8>> {
+    if text == "-" {
+        return Some(Vec::new());
+    }
+    if !text.len().is_multiple_of(2) {
+        return None;
+    }
+    (0..text.len() / 2).map(|i| u8::from_str_radix(text.get(2 * i..2 * i + 2)?, 16).ok()).collect()
+}
+
+fn decimals<T: fmt::Display>(numbers: &[T], between: &str) -> String {
+    numbers.iter().map(T::to_string).collect::<Vec<String>>().join(between)
+}
+
+fn numbers<T: std::str::FromStr + Copy, const N: usize>(words: &[&str]) -> Option<[T; N]> {
+    let read: Option<Vec<T>> = words.iter().map(|word| word.parse().ok()).collect();
+    read?.try_into().ok()
+}

@@ -1,0 +1,175 @@
+//! The calls that outside code makes, each with the lent buffers of the C call and its number as answer.
+
+pub type RunWords = [u64; 6];
+
+/// One implementation of the seven calls. 0 is "carried out", every other number a refusal.
+pub trait Engine {
+    fn check(&self, file: &[u8]) -> u8;
+    fn read_address(&self, frame: &[u8], parts: &mut [u8; 5]) -> u8;
+    fn write_address(&self, frame: &mut [u8], parts: [u8; 5]) -> u8;
+    fn write_data(&self, frame: &mut [u8], data: [u8; 4]) -> u8;
+    fn round(&self, file: &mut [u8], frame: &[u8], answer: &mut [u8], senders: &mut u64) -> u8;
+    fn start(&self, names: &[u8], run: &mut RunWords) -> u8;
+    fn step(
+        &self,
+        file: &mut [u8],
+        run: &mut RunWords,
+        names: &[u8],
+        answer: &mut [u8],
+        senders: &mut u64,
+    ) -> u8;
+}
+
+/// Document 01 read as plain Rust.
+pub struct Model;
+
+impl Engine for Model {
+    fn check(&self, file: &[u8]) -> u8 {
+        number(model::check(file).map(|_| ()))
+    }
+
+    fn read_address(&self, frame: &[u8], parts: &mut [u8; 5]) -> u8 {
+        number(model::read_address(frame).map(|address| {
+            let operation = address.operation.number();
+            *parts = [address.epoch, address.name.0, address.file.0, operation, address.record.0];
+        }))
+    }
+
+    fn write_address(&self, frame: &mut [u8], [epoch, name, file, operation, record]: [u8; 5]) -> u8 {
+        number(model::write_address(frame, epoch, name, file, operation, record))
+    }
+
+    fn write_data(&self, frame: &mut [u8], data: [u8; 4]) -> u8 {
+        number(model::write_data(frame, data))
+    }
+
+    fn round(&self, file: &mut [u8], frame: &[u8], answer: &mut [u8], senders: &mut u64) -> u8 {
+        number(model::round(file, frame, answer).map(|mask| *senders = mask))
+    }
+
+    fn start(&self, names: &[u8], run: &mut RunWords) -> u8 {
+        number(model::start(names).map(|fresh| *run = words_of(&fresh)))
+    }
+
+    fn step(
+        &self,
+        file: &mut [u8],
+        run: &mut RunWords,
+        names: &[u8],
+        answer: &mut [u8],
+        senders: &mut u64,
+    ) -> u8 {
+        let mut position = run_of(run);
+        let stepped = model::step(file, &mut position, names, answer);
+        *run = words_of(&position);
+        number(stepped.map(|mask| {
+            // A step of an ended run alters nothing, the mask included.
+            if let Some(mask) = mask {
+                *senders = mask;
+            }
+        }))
+    }
+}
+
+fn number(answer: Result<(), model::Refusal>) -> u8 {
+    match answer {
+        Ok(()) => 0,
+        Err(model::Refusal(number)) => number,
+    }
+}
+
+fn words_of(run: &model::Run) -> RunWords {
+    [run.end, run.index, run.step, run.value, run.rounds, run.comparisons]
+}
+
+fn run_of(&[end, index, step, value, rounds, comparisons]: &RunWords) -> model::Run {
+    model::Run { end, index, step, value, rounds, comparisons }
+}
+
+/// The tuned plain Rust program; its multipartner rounds in the form that document 01 names, if asked.
+pub struct Plain {
+    pub nested: bool,
+}
+
+impl Engine for Plain {
+    fn check(&self, file: &[u8]) -> u8 {
+        plain::check(file)
+    }
+
+    fn read_address(&self, frame: &[u8], parts: &mut [u8; 5]) -> u8 {
+        plain::read_address(frame, parts)
+    }
+
+    fn write_address(&self, frame: &mut [u8], [epoch, name, file, operation, record]: [u8; 5]) -> u8 {
+        plain::write_address(frame, epoch, name, file, operation, record)
+    }
+
+    fn write_data(&self, frame: &mut [u8], [b0, b1, b2, b3]: [u8; 4]) -> u8 {
+        plain::write_data(frame, b0, b1, b2, b3)
+    }
+
+    fn round(&self, file: &mut [u8], frame: &[u8], answer: &mut [u8], senders: &mut u64) -> u8 {
+        if self.nested {
+            plain::round_in_nested_loops(file, frame, answer, senders)
+        } else {
+            plain::round(file, frame, answer, senders)
+        }
+    }
+
+    fn start(&self, names: &[u8], run: &mut RunWords) -> u8 {
+        plain::start(names, run)
+    }
+
+    fn step(
+        &self,
+        file: &mut [u8],
+        run: &mut RunWords,
+        names: &[u8],
+        answer: &mut [u8],
+        senders: &mut u64,
+    ) -> u8 {
+        plain::step(file, run, names, answer, senders)
+    }
+}
+
+/// The engine as it is linked.
+#[cfg(feature = "library")]
+pub struct Library;
+
+#[cfg(feature = "library")]
+impl Engine for Library {
+    fn check(&self, file: &[u8]) -> u8 {
+        ttpa::calls::check(file)
+    }
+
+    fn read_address(&self, frame: &[u8], parts: &mut [u8; 5]) -> u8 {
+        ttpa::calls::read_address(frame, parts)
+    }
+
+    fn write_address(&self, frame: &mut [u8], [epoch, name, file, operation, record]: [u8; 5]) -> u8 {
+        ttpa::calls::write_address(frame, epoch, name, file, operation, record)
+    }
+
+    fn write_data(&self, frame: &mut [u8], [b0, b1, b2, b3]: [u8; 4]) -> u8 {
+        ttpa::calls::write_data(frame, b0, b1, b2, b3)
+    }
+
+    fn round(&self, file: &mut [u8], frame: &[u8], answer: &mut [u8], senders: &mut u64) -> u8 {
+        ttpa::calls::round(file, frame, answer, senders)
+    }
+
+    fn start(&self, names: &[u8], run: &mut RunWords) -> u8 {
+        ttpa::calls::start(names, run)
+    }
+
+    fn step(
+        &self,
+        file: &mut [u8],
+        run: &mut RunWords,
+        names: &[u8],
+        answer: &mut [u8],
+        senders: &mut u64,
+    ) -> u8 {
+        ttpa::calls::step(file, run, names, answer, senders)
+    }
+}

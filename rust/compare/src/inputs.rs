@@ -1,0 +1,141 @@
+//! Random frames, buffers, lists of names and run positions.
+
+use crate::clusters::logical_name;
+use crate::engine::RunWords;
+use crate::random::Random;
+use model::{firework_of, Cluster, MSA, MSD};
+
+/// Rounds 0, 2, 3, 4, 6 and 7.
+pub const MULTIPARTNER: [u8; 6] = [0x78, 0xBA, 0x8B, 0x64, 0xA6, 0x97];
+
+pub fn answer_length(random: &mut Random) -> usize {
+    random.one_of(&[64, 64, 64, 64, 64, 64, 65, 70, 70, 0, 63])
+}
+
+/// The four bytes between firework and check, and the check.
+pub fn framed(firework: u8, bytes: [u8; 4]) -> Vec<u8> {
+    let check = bytes[0] ^ bytes[1] ^ bytes[2] ^ bytes[3];
+    vec![firework, bytes[0], bytes[1], bytes[2], bytes[3], check]
+}
+
+/// An address frame that speaks of the cluster, with any operation.
+pub fn address(random: &mut Random, cluster: &Cluster) -> Vec<u8> {
+    let (name, file) = address_target(random, cluster);
+    let record = if random.once_in(8) { random.byte() } else { random.below(6) as u8 };
+    framed(MSA, [random.byte(), name, file << 2 | random.below(4) as u8, record])
+}
+
+fn address_target(random: &mut Random, cluster: &Cluster) -> (u8, u8) {
+    let mut name = logical_name(random);
+    let any_file = random.below(64) as u8;
+    let mut file = random.one_of(&[0x08, 0x08, 0x3D, 0x10, any_file]);
+    if !cluster.slaves.is_empty() {
+        let slave = &cluster.slaves[random.below(cluster.slaves.len())];
+        if random.once_in(2) {
+            name = slave.logical_name().0;
+        }
+        if random.once_in(2) {
+            file = slave.files[random.below(slave.files.len())].number.0;
+        }
+    }
+    (name, file)
+}
+
+/// The data frame that fits what is pending.
+pub fn fitting_data(random: &mut Random, cluster: &Cluster) -> Vec<u8> {
+    if cluster.pending.flag && cluster.pending.pb2 & 3 == 1 {
+        let data = [random.byte(), random.byte(), logical_name(random), logical_name(random)];
+        framed(MSD, data)
+    } else {
+        vec![MSD]
+    }
+}
+
+/// A frame of any kind, whole or damaged.
+pub fn frame(random: &mut Random, cluster: &Cluster) -> Vec<u8> {
+    let mut frame = match random.below(12) {
+        0..=3 => address(random, cluster),
+        4..=7 => fitting_data(random, cluster),
+        8 | 9 => vec![random.one_of(&MULTIPARTNER)],
+        10 => framed(firework_of(random.below(8) as u8), [random.byte(), random.byte(), 0, 1]),
+        _ => {
+            let length = random.below(9);
+            random.bytes(length)
+        }
+    };
+    if random.once_in(8) {
+        damage(random, &mut frame);
+    }
+    frame
+}
+
+fn damage(random: &mut Random, frame: &mut Vec<u8>) {
+    match random.below(4) {
+        0 => frame.push(random.byte()),
+        1 => {
+            frame.pop();
+        }
+        2 if !frame.is_empty() => frame[0] = random.byte(),
+        _ if !frame.is_empty() => {
+            let place = random.below(frame.len());
+            frame[place] ^= 1 << random.below(8);
+        }
+        _ => {}
+    }
+}
+
+/// A list of distinct names 0x01 to 0xFE.
+pub fn good_names(random: &mut Random, most: usize) -> Vec<u8> {
+    let mut names = Vec::new();
+    for _ in 0..random.below(most + 1) {
+        let name = if random.once_in(2) { random.between(1, 12) } else { random.between(1, 0xFE) } as u8;
+        if !names.contains(&name) {
+            names.push(name);
+        }
+    }
+    names
+}
+
+/// A list of names, now and then with one that must not be there.
+pub fn names(random: &mut Random) -> Vec<u8> {
+    let mut names = match random.below(30) {
+        0 => (0x01..=0xFE).collect(),
+        1 => {
+            let length = random.below(400);
+            random.bytes(length)
+        }
+        _ => good_names(random, 20),
+    };
+    if random.once_in(8) && !names.is_empty() {
+        let place = random.below(names.len());
+        let other = random.below(names.len());
+        names[place] = random.one_of(&[0x00, 0xFF, names[other], names[other]]);
+    }
+    names
+}
+
+/// A stored position of any content, many of them good.
+pub fn position(random: &mut Random, names: &[u8]) -> RunWords {
+    let length = names.len() as u64;
+    let end = random.one_of(&[0, 0, 0, 0, 0, 0, 1, 2, 3, 256, u64::MAX]);
+    let index = match random.below(12) {
+        0 => length,
+        1 => length + 1,
+        2 => random.number(),
+        _ => random.number() % length.max(1),
+    };
+    let step = match random.below(12) {
+        0 => random.one_of(&[0, 1, 2, 3, 4, 195, 196, 197, 198, 199]),
+        1 => random.one_of(&[199, 200, 256, 1 << 40]),
+        2 => random.number(),
+        _ => random.number() % 200,
+    };
+    let mut count = || match random.below(12) {
+        0 => 999_999,
+        1 => 1_000_000,
+        2 => random.number(),
+        _ => random.number() % 1000,
+    };
+    let (rounds, comparisons) = (count(), count());
+    [end, index, step, random.number(), rounds, comparisons]
+}

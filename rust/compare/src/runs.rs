@@ -1,0 +1,139 @@
+//! Whole naming runs with permitted traffic in between, also held against the plain account and the closed
+//! figures.
+
+use crate::campaign::Campaign;
+use crate::case::Call;
+use crate::engine::RunWords;
+use crate::random::Random;
+use crate::{clusters, inputs};
+use model::{check, closed_figures, Account, Cluster, End, LogicalName, Slave};
+
+const NO_RUN: RunWords = [0; 6];
+
+/// One run on one file: the state that the calls hand on.
+struct WholeRun {
+    file: Vec<u8>,
+    names: Vec<u8>,
+    run: RunWords,
+    account: Account,
+}
+
+/// A run over a cluster of so many slaves; in one of three none has a name yet.
+pub fn whole_run(campaign: &mut Campaign, random: &mut Random, slaves: usize) {
+    let mut cluster = clusters::cluster_of(random, slaves);
+    if random.once_in(3) {
+        cluster.slaves.iter_mut().for_each(|slave| slave.set_logical_name(LogicalName::UNNAMED));
+    }
+    let names = inputs::good_names(random, slaves + 3);
+    let figures = closed_figures(&cluster, &names);
+    let started = campaign.call(&Call::Start { names: names.clone() });
+    let account = Account::start(&cluster, &names);
+    let mut whole = WholeRun { file: cluster.encode(), names, run: started.run.unwrap_or(NO_RUN), account };
+    let traffic = random.one_of(&[2, 4, 10, 50]);
+    while whole.run[0] == End::Running.number() {
+        if random.once_in(traffic) {
+            whole.other_calls(campaign, random);
+        }
+        whole.step(campaign, inputs_of_step(random));
+    }
+    // A step of an ended run alters nothing.
+    whole.step(campaign, 64);
+    campaign.ends[usize::from(figures.end == End::NamesUsedUp)] += 1;
+    let [end, .., rounds, comparisons] = whole.run;
+    if (end, rounds, comparisons) != (figures.end.number(), figures.rounds, figures.comparisons) {
+        whole.report(campaign, "the closed figures");
+    }
+    let left = whole.cluster();
+    let got_a_name = |(now, then): &(&Slave, &Slave)| then.is_unnamed() && !now.is_unnamed();
+    let named = left.slaves.iter().zip(&cluster.slaves).filter(got_a_name).count();
+    if named as u64 != figures.named {
+        whole.report(campaign, "the closed count of slaves named");
+    }
+}
+
+/// Now and then a buffer that is too short, which refuses the step.
+fn inputs_of_step(random: &mut Random) -> usize {
+    if random.once_in(30) {
+        63
+    } else {
+        random.one_of(&[64, 64, 64, 70])
+    }
+}
+
+impl WholeRun {
+    fn cluster(&self) -> Cluster {
+        check(&self.file).expect("a file that the last call left")
+    }
+
+    fn step(&mut self, campaign: &mut Campaign, answer_length: usize) {
+        let call =
+            Call::Step { file: self.file.clone(), names: self.names.clone(), run: self.run, answer_length };
+        let outcome = campaign.call(&call);
+        self.file = outcome.file.expect("a lent file");
+        self.run = outcome.run.expect("a lent run");
+        self.account.step(answer_length);
+        self.hold_against_account(campaign);
+    }
+
+    fn frame(&mut self, campaign: &mut Campaign, frame: Vec<u8>, answer_length: usize) {
+        let outcome = campaign.call(&Call::Round { file: self.file.clone(), frame, answer_length });
+        self.file = outcome.file.expect("a lent file");
+        self.hold_against_account(campaign);
+    }
+
+    /// A complete round that is no write to and no execute of 0x08, with refused calls anywhere.
+    fn other_calls(&mut self, campaign: &mut Campaign, random: &mut Random) {
+        self.refused(campaign, random);
+        if random.once_in(2) {
+            let firework = random.one_of(&inputs::MULTIPARTNER);
+            self.frame(campaign, vec![firework], 64);
+            return;
+        }
+        let address = inputs::address(random, &self.cluster());
+        if is_permitted(&address) {
+            self.frame(campaign, address, 64);
+            self.refused(campaign, random);
+            let data = inputs::fitting_data(random, &self.cluster());
+            self.frame(campaign, data, 65);
+        }
+    }
+
+    /// A call that some ground refuses.
+    fn refused(&mut self, campaign: &mut Campaign, random: &mut Random) {
+        match random.below(6) {
+            0 => self.step(campaign, 63),
+            1 => self.frame(campaign, inputs::framed(0x55, [1, 1, 3, 1]), 64),
+            2 => self.frame(campaign, vec![0x49, 0, 0, 0, 0, 1], 64),
+            3 => self.frame(campaign, vec![0x78], 0),
+            _ => {}
+        }
+    }
+
+    /// "every logical name, the end and both counts carried in the run"
+    fn hold_against_account(&self, campaign: &mut Campaign) {
+        let cluster = self.cluster();
+        let names = cluster.slaves.iter().map(|slave| slave.logical_name().0);
+        let account = &self.account;
+        let [end, .., rounds, comparisons] = self.run;
+        let counts_agree =
+            (end, rounds, comparisons) == (account.end().number(), account.rounds(), account.comparisons());
+        if !counts_agree || !names.eq(account.logical_names().iter().copied()) {
+            self.report(campaign, "the plain account");
+        }
+    }
+
+    fn report(&self, campaign: &mut Campaign, what: &str) {
+        let call =
+            Call::Step { file: self.file.clone(), names: self.names.clone(), run: self.run, answer_length: 64 };
+        campaign
+            .differ(&format!("{what} disagrees, after which the next call would be\n{call}"), "see the case");
+    }
+}
+
+/// The frame is accepted, and demand 3 permits its round.
+fn is_permitted(frame: &[u8]) -> bool {
+    let changes_naming = |address: &model::Address| {
+        address.file == model::FileNumber::CONFIGURATION && address.operation != model::Operation::Read
+    };
+    model::read_address(frame).is_ok_and(|address| !changes_naming(&address))
+}

@@ -1,0 +1,110 @@
+//! "Multipartner rounds": the round descriptor list of each slave, and what its entries do.
+
+use crate::round::{Bus, ANSWER_BYTES};
+use crate::{File, FileNumber, Slave};
+
+/// Operations of 002, table 4, as far as document 01 carries them out.
+#[derive(Clone, Copy, Debug, PartialEq, Eq)]
+enum EntryOperation {
+    Receive,
+    Send,
+    End,
+    /// Covers its slots and does nothing.
+    Idle,
+}
+
+#[derive(Clone, Copy, Debug)]
+struct Entry {
+    file: FileNumber,
+    align: usize,
+    record: usize,
+    operation: EntryOperation,
+    length: usize,
+    start: usize,
+}
+
+impl Entry {
+    fn of(record: &[u8]) -> Entry {
+        let operation = match record[2] / 16 {
+            0 | 2 | 4 => EntryOperation::Receive,
+            1 | 5 => EntryOperation::Send,
+            6 | 7 => EntryOperation::End,
+            _ => EntryOperation::Idle,
+        };
+        Entry {
+            file: FileNumber(record[0] / 4),
+            align: usize::from(record[0] % 4),
+            record: usize::from(record[1]),
+            operation,
+            length: usize::from(record[2] % 16) + 1,
+            start: usize::from(record[3] % 64),
+        }
+    }
+
+    fn covers(&self, slot: usize) -> bool {
+        (self.start..self.start + self.length).contains(&slot)
+    }
+
+    /// "The byte place is 4 × record + align + (slot − start)."
+    fn place(&self, slot: usize) -> usize {
+        4 * self.record + self.align + (slot - self.start)
+    }
+}
+
+/// "From record 1, each record is an entry"
+fn round_descriptor_list(file: &File) -> Vec<Entry> {
+    file.bytes
+        .chunks(4)
+        .skip(1)
+        .map(Entry::of)
+        .take_while(|entry| entry.operation != EntryOperation::End)
+        .collect()
+}
+
+/// "Round r runs file r of each slave not unnamed; others take no part."
+pub fn run(slaves: &mut [Slave], round: u8, bus: &mut Bus) {
+    let mut partners: Vec<(&mut Slave, Vec<Entry>)> = Vec::new();
+    for slave in slaves.iter_mut().filter(|slave| !slave.is_unnamed()) {
+        let list = slave.file(FileNumber(round)).map(round_descriptor_list).unwrap_or_default();
+        partners.push((slave, list));
+    }
+    for slot in 1..ANSWER_BYTES {
+        for (slave, list) in &partners {
+            send(slave, list, slot, bus);
+        }
+        if let Some(byte) = bus.heard(slot) {
+            for (slave, list) in &mut partners {
+                receive(slave, list, slot, byte);
+            }
+        }
+    }
+}
+
+/// "in each, the first entry before the end that covers it acts"
+fn acting(list: &[Entry], slot: usize, operation: EntryOperation) -> Option<&Entry> {
+    list.iter().find(|entry| entry.covers(slot)).filter(|entry| entry.operation == operation)
+}
+
+fn send(slave: &Slave, list: &[Entry], slot: usize, bus: &mut Bus) {
+    let Some(entry) = acting(list, slot, EntryOperation::Send) else {
+        return;
+    };
+    if let Some(&byte) = slave.file(entry.file).and_then(|file| file.bytes.get(entry.place(slot))) {
+        bus.send(slot, byte);
+    }
+}
+
+/// "a receive stores only in files 0x10 to 0x3C, outside record 0x00"
+fn receive(slave: &mut Slave, list: &[Entry], slot: usize, byte: u8) {
+    let Some(entry) = acting(list, slot, EntryOperation::Receive) else {
+        return;
+    };
+    let place = entry.place(slot);
+    let may_store = (0x10..=0x3C).contains(&entry.file.0) && place >= 4;
+    if !may_store {
+        return;
+    }
+    if let Some(there) = slave.file_mut(entry.file).and_then(|file| file.bytes.get_mut(place)) {
+        *there = byte;
+    }
+}

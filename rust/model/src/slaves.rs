@@ -1,0 +1,61 @@
+//! "What slaves do": read, write and execute of addressed slaves.
+
+use crate::frame::check_byte;
+use crate::round::Bus;
+use crate::{FileNumber, LogicalName, RecordNumber, Slave};
+
+const BAPTIZE: RecordNumber = RecordNumber(1);
+const COMPARE: RecordNumber = RecordNumber(2);
+
+/// "at 0xFF the unnamed, at 0x00 all others, else those of that logical name"
+fn is_addressed(slave: &Slave, name: LogicalName) -> bool {
+    if name == LogicalName::BROADCAST {
+        !slave.is_unnamed()
+    } else {
+        slave.logical_name() == name
+    }
+}
+
+/// "addressed slaves, never unnamed ones, that have the record send its four bytes in slots 1 to 4 and
+/// their exclusive or in slot 5"
+pub fn read(slaves: &[Slave], name: LogicalName, file: FileNumber, record: RecordNumber, bus: &mut Bus) {
+    for slave in slaves.iter().filter(|slave| is_addressed(slave, name) && !slave.is_unnamed()) {
+        let Some(&[a, b, c, d]) = slave.record(file, record) else {
+            continue;
+        };
+        for (slot, byte) in (1..).zip([a, b, c, d, check_byte([a, b, c, d])]) {
+            bus.send(slot, byte);
+        }
+    }
+}
+
+/// "addressed slaves that have the record replace all four bytes, except in 0x3D and in any record 0x00".
+/// Each slave is judged before it is changed, and no slave's change touches another.
+pub fn write(slaves: &mut [Slave], name: LogicalName, file: FileNumber, record: RecordNumber, data: [u8; 4]) {
+    if file == FileNumber::DOCUMENTATION || record == RecordNumber(0x00) {
+        return;
+    }
+    for slave in slaves.iter_mut().filter(|slave| is_addressed(slave, name)) {
+        if let Some(bytes) = slave.record_mut(file, record) {
+            bytes.copy_from_slice(&data);
+        }
+    }
+}
+
+pub fn execute(slaves: &mut [Slave], name: LogicalName, file: FileNumber, record: RecordNumber, bus: &mut Bus) {
+    if file != FileNumber::CONFIGURATION {
+        return;
+    }
+    let addressed = slaves.iter_mut().filter(|slave| is_addressed(slave, name));
+    match record {
+        COMPARE if name != LogicalName::BROADCAST => {
+            addressed.filter(|slave| slave.physical_name() >= slave.comparison_value()).for_each(|_| {
+                bus.send(1, 0x00);
+            })
+        }
+        BAPTIZE => addressed
+            .filter(|slave| slave.physical_name() == slave.comparison_value())
+            .for_each(|slave| slave.set_logical_name(slave.new_logical_name())),
+        _ => {}
+    }
+}

@@ -1,0 +1,144 @@
+//! The calls of document 01 as an engineer who cares for speed writes them: on the bytes in place, one
+//! walk over the file a call, no copy of it and no allocation. It is the measure for the engine's
+//! speed, and is itself compared with the model.
+//!
+//! Each call answers 0 or the document's number. A refusal alters nothing that was lent.
+
+#![forbid(unsafe_code)]
+
+mod frames;
+mod master_slave;
+mod multipartner;
+mod naming;
+mod nested;
+mod survey;
+
+pub use frames::{read_address, write_address, write_data};
+pub use naming::{start, step};
+
+use frames::{round_of, MSA, MSD};
+use master_slave::Pending;
+use survey::Survey;
+
+pub(crate) const ANSWER_BYTES: usize = 64;
+pub(crate) const UNNAMED: u8 = 0xFF;
+pub(crate) const CONFIGURATION: u8 = 0x08;
+pub(crate) const DOCUMENTATION: u8 = 0x3D;
+pub(crate) const EPOCH: usize = 8;
+
+pub fn check(file: &[u8]) -> u8 {
+    Survey::new().walk(file)
+}
+
+/// One frame on a file.
+pub fn round(file: &mut [u8], frame: &[u8], answer: &mut [u8], senders: &mut u64) -> u8 {
+    round_with(multipartner::run, file, frame, answer, senders)
+}
+
+/// The same, with multipartner rounds in the form that document 01 names.
+pub fn round_in_nested_loops(file: &mut [u8], frame: &[u8], answer: &mut [u8], senders: &mut u64) -> u8 {
+    round_with(nested::run, file, frame, answer, senders)
+}
+
+#[inline]
+fn round_with(
+    run_partners: impl Fn(&mut [u8], &Survey, u8, &mut [u8; ANSWER_BYTES]) -> u64,
+    file: &mut [u8],
+    frame: &[u8],
+    answer: &mut [u8],
+    senders: &mut u64,
+) -> u8 {
+    let mut survey = Survey::new();
+    let ground = survey.walk(file);
+    if ground != 0 {
+        return ground;
+    }
+    let Some(answer) = answer.first_chunk_mut::<ANSWER_BYTES>() else {
+        return 9;
+    };
+    let Some(&firework) = frame.first() else {
+        return 10;
+    };
+    match firework {
+        MSA => address_round(file, frame, answer, senders),
+        MSD => data_round(file, &survey, frame, answer, senders),
+        _ => {
+            let ground = partner_ground(frame);
+            if ground == 0 {
+                file[EPOCH] = file[EPOCH].wrapping_add(1);
+                *answer = silence(firework);
+                *senders = run_partners(file, &survey, round_of(firework).unwrap_or(0), answer);
+            }
+            ground
+        }
+    }
+}
+
+/// Grounds 10 and 11 of a frame that is neither MSA nor MSD.
+fn partner_ground(frame: &[u8]) -> u8 {
+    if round_of(frame[0]).is_none() {
+        10
+    } else if frame.len() != 1 {
+        11
+    } else {
+        0
+    }
+}
+
+fn address_round(file: &mut [u8], frame: &[u8], answer: &mut [u8; ANSWER_BYTES], senders: &mut u64) -> u8 {
+    let ground = frames::address_ground(frame);
+    if ground != 0 {
+        return ground;
+    }
+    file[EPOCH] = frame[1];
+    Pending { name: frame[2], pb2: frame[3], record: frame[4] }.store(file);
+    *answer = silence(MSA);
+    *senders = 0;
+    0
+}
+
+fn data_round(
+    file: &mut [u8],
+    survey: &Survey,
+    frame: &[u8],
+    answer: &mut [u8; ANSWER_BYTES],
+    senders: &mut u64,
+) -> u8 {
+    let pending = Pending::of(file);
+    let data = match pending {
+        Some(Pending { pb2, .. }) if pb2 & 3 == master_slave::WRITE => {
+            let ground = frames::data_ground(frame);
+            if ground != 0 {
+                return ground;
+            }
+            [frame[1], frame[2], frame[3], frame[4]]
+        }
+        _ if frame.len() != 1 => return 11,
+        _ => [0; 4],
+    };
+    file[EPOCH] = file[EPOCH].wrapping_add(1);
+    *answer = silence(MSD);
+    *senders = match pending {
+        Some(pending) => pending.carry_out(file, survey, data, answer),
+        None => 0,
+    };
+    0
+}
+
+/// The answer to a firework before anyone has sent.
+pub(crate) fn silence(firework: u8) -> [u8; ANSWER_BYTES] {
+    let mut answer = [0xFF; ANSWER_BYTES];
+    answer[0] = firework;
+    answer
+}
+
+/// Four bytes as one number. A place outside panics, so it is called for places of an accepted file only.
+pub(crate) fn u32_at(file: &[u8], place: usize) -> u32 {
+    let bytes: [u8; 4] = file[place..place + 4].try_into().expect("four bytes");
+    u32::from_be_bytes(bytes)
+}
+
+pub(crate) fn u64_at(file: &[u8], place: usize) -> u64 {
+    let bytes: [u8; 8] = file[place..place + 8].try_into().expect("eight bytes");
+    u64::from_be_bytes(bytes)
+}

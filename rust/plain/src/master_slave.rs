@@ -1,0 +1,158 @@
+//! The pending operation, and what addressed slaves do.
+
+use crate::survey::Survey;
+use crate::{u32_at, ANSWER_BYTES, CONFIGURATION, DOCUMENTATION, UNNAMED};
+
+pub const READ: u8 = 0;
+pub const WRITE: u8 = 1;
+pub const EXECUTE: u8 = 2;
+const FLAG: usize = 9;
+
+/// The operation that an MSD carries out, as the header holds it.
+#[derive(Clone, Copy)]
+pub struct Pending {
+    pub name: u8,
+    pub pb2: u8,
+    pub record: u8,
+}
+
+impl Pending {
+    pub fn of(file: &[u8]) -> Option<Pending> {
+        (file[FLAG] == 1).then_some(Pending { name: file[10], pb2: file[11], record: file[12] })
+    }
+
+    pub fn store(self, file: &mut [u8]) {
+        file[FLAG..FLAG + 4].copy_from_slice(&[1, self.name, self.pb2, self.record]);
+    }
+
+    /// Carries the operation out, puts what was sent into the answer and returns the mask.
+    pub fn carry_out(
+        self,
+        file: &mut [u8],
+        survey: &Survey,
+        data: [u8; 4],
+        answer: &mut [u8; ANSWER_BYTES],
+    ) -> u64 {
+        let number = self.pb2 >> 2;
+        match (self.pb2 & 3, number, self.record) {
+            (READ, _, _) => read(file, survey, self.name, number, self.record, answer),
+            (WRITE, _, _) => write(file, survey, self.name, number, self.record, data),
+            (EXECUTE, CONFIGURATION, 1) => baptize(file, survey, self.name),
+            (EXECUTE, CONFIGURATION, 2) => compare(file, survey, self.name, answer),
+            _ => 0,
+        }
+    }
+}
+
+#[inline]
+fn is_addressed(logical_name: u8, name: u8) -> bool {
+    logical_name == name || (name == 0 && logical_name != UNNAMED)
+}
+
+/// Unnamed slaves never answer, and no accepted read is addressed to 0x00. The records that every slave has
+/// are found without a search.
+pub fn read(
+    file: &[u8],
+    survey: &Survey,
+    name: u8,
+    number: u8,
+    record: u8,
+    answer: &mut [u8; ANSWER_BYTES],
+) -> u64 {
+    let offset = 4 * usize::from(record);
+    match (number, record) {
+        (_, _) if name == UNNAMED => 0,
+        (DOCUMENTATION, 0..=2) => {
+            read_at(file, survey, name, answer, |slave| Some(survey.documentation(slave) + offset))
+        }
+        (CONFIGURATION, 0..=3) => {
+            read_at(file, survey, name, answer, |slave| Some(survey.configuration(slave) + offset))
+        }
+        _ => read_at(file, survey, name, answer, |slave| survey.record(file, slave, number, record)),
+    }
+}
+
+#[inline]
+fn read_at(
+    file: &[u8],
+    survey: &Survey,
+    name: u8,
+    answer: &mut [u8; ANSWER_BYTES],
+    place_of: impl Fn(usize) -> Option<usize>,
+) -> u64 {
+    let mut senders = 0;
+    let mut bytes = u32::MAX;
+    let mut checks = u8::MAX;
+    for slave in survey.slaves() {
+        if survey.logical_name(file, slave) == name {
+            if let Some(place) = place_of(slave) {
+                let sent = u32_at(file, place);
+                let folded = sent ^ sent >> 16;
+                bytes &= sent;
+                checks &= (folded ^ folded >> 8) as u8;
+                senders = 0b11_1110;
+            }
+        }
+    }
+    answer[1..5].copy_from_slice(&bytes.to_be_bytes());
+    answer[5] = checks;
+    senders
+}
+
+pub fn write(file: &mut [u8], survey: &Survey, name: u8, number: u8, record: u8, data: [u8; 4]) -> u64 {
+    let offset = 4 * usize::from(record);
+    match (number, record) {
+        (DOCUMENTATION, _) | (_, 0) => {}
+        (CONFIGURATION, 1..=3) => {
+            write_at(file, survey, name, data, |_, slave| Some(survey.configuration(slave) + offset))
+        }
+        _ => write_at(file, survey, name, data, |file, slave| survey.record(file, slave, number, record)),
+    }
+    0
+}
+
+#[inline]
+fn write_at(
+    file: &mut [u8],
+    survey: &Survey,
+    name: u8,
+    data: [u8; 4],
+    place_of: impl Fn(&[u8], usize) -> Option<usize>,
+) {
+    for slave in survey.slaves() {
+        if is_addressed(survey.logical_name(file, slave), name) {
+            if let Some(place) = place_of(file, slave) {
+                file[place..place + 4].copy_from_slice(&data);
+            }
+        }
+    }
+}
+
+/// Execute of record 1 of 0x08.
+#[inline]
+pub fn baptize(file: &mut [u8], survey: &Survey, name: u8) -> u64 {
+    for slave in survey.slaves() {
+        if is_addressed(survey.logical_name(file, slave), name)
+            && survey.physical_name(file, slave) == survey.comparison_value(file, slave)
+        {
+            let configuration = survey.configuration(slave);
+            file[configuration + 7] = file[configuration + 6];
+        }
+    }
+    0
+}
+
+/// Execute of record 2 of 0x08. All who reply send 0x00, so one of them settles the answer.
+#[inline]
+pub fn compare(file: &[u8], survey: &Survey, name: u8, answer: &mut [u8; ANSWER_BYTES]) -> u64 {
+    let replies = |slave| {
+        survey.logical_name(file, slave) == name
+            && survey.physical_name(file, slave) >= survey.comparison_value(file, slave)
+    };
+    if name != 0 && survey.slaves().any(replies) {
+        answer[1] = 0;
+        0b10
+    } else {
+        0
+    }
+}

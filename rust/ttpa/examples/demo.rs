@@ -1,0 +1,130 @@
+//! `demo FILE`: commissioning a small cluster, as firmware or test software would do it.
+//!
+//! Loads a cluster file, checks it, reads a record of a named slave, names the unnamed slaves while other
+//! rounds go on in between, and prints what happened. c/demo.c does the same and prints the same.
+
+use std::process::ExitCode;
+use ttpa::{Address, End, Run, Senders, TtpaError, ANSWER_BYTES, FRAME_BYTES};
+
+const READ: u8 = 0;
+const DOCUMENTATION: u8 = 0x3D;
+const ROUND_2: [u8; 1] = [0xBA];
+const DATA_OF_A_READ: [u8; 1] = [0x49];
+const STEPS_BETWEEN_TRAFFIC: u64 = 50;
+
+/// The cluster file and what the last round answered.
+struct Cluster {
+    file: Vec<u8>,
+    answer: [u8; ANSWER_BYTES],
+    senders: Senders,
+}
+
+fn print_verdict<T>(what: &str, verdict: Result<T, TtpaError>) {
+    match verdict {
+        Ok(_) => println!("{what}: accepted"),
+        Err(error) => println!("{what}: refused {}", error.number()),
+    }
+}
+
+fn print_bytes(what: &str, bytes: &[u8]) {
+    let shown: String = bytes.iter().map(|byte| format!(" {byte:02X}")).collect();
+    println!("{what}:{shown}");
+}
+
+impl Cluster {
+    fn send(&mut self, frame: &[u8]) -> Result<(), TtpaError> {
+        self.senders = ttpa::round(&mut self.file, frame, &mut self.answer)?;
+        Ok(())
+    }
+
+    /// A complete master-slave round: the address frame, then the data frame, one byte for a read.
+    fn read_record(&mut self, name: u8, file: u8, record: u8) -> Result<(), TtpaError> {
+        let mut frame = [0; FRAME_BYTES];
+        ttpa::write_address(&mut frame, &Address { epoch: 1, name, file, operation: READ, record })?;
+        self.send(&frame)?;
+        self.send(&DATA_OF_A_READ)
+    }
+
+    /// Each slot in which someone sent, with its byte.
+    fn print_answer(&self) {
+        let slots = (1..ANSWER_BYTES).filter(|&slot| self.senders.sent_in(slot as u32));
+        let shown: String = slots.map(|slot| format!(" {slot}={:02X}", self.answer[slot])).collect();
+        println!("answer:{}", if shown.is_empty() { " silence" } else { &shown });
+    }
+
+    fn show_frames(&mut self) {
+        let mut frame = [0; FRAME_BYTES];
+        let mut address = Address { epoch: 2, name: 0x01, file: DOCUMENTATION, operation: READ, record: 1 };
+        print_verdict("write", ttpa::write_address(&mut frame, &address));
+        print_bytes("frame", &frame);
+        let read = ttpa::read_address(&frame);
+        print_verdict("read back", read);
+        if let Ok(Address { epoch, name, file, operation, record }) = read {
+            print_bytes("epoch, name, file, operation, record", &[epoch, name, file, operation, record]);
+        }
+        frame[5] ^= 1;
+        print_verdict("a wrong check byte", ttpa::read_address(&frame));
+        address.name = 0x00;
+        print_verdict("a read at 00", ttpa::write_address(&mut frame, &address));
+        print_verdict("a wrong check byte on the bus", self.send(&frame));
+    }
+
+    /// Rounds that others make meanwhile: a multipartner round and a read.
+    fn other_traffic(&mut self) -> Result<(), TtpaError> {
+        self.send(&ROUND_2)?;
+        self.read_record(0x01, DOCUMENTATION, 2)
+    }
+
+    fn name_slaves(&mut self, names: &[u8]) -> Result<(), TtpaError> {
+        let mut run = Run::start(names)?;
+        while run.end() == End::Running {
+            let before = run;
+            if run.rounds() % STEPS_BETWEEN_TRAFFIC == STEPS_BETWEEN_TRAFFIC - 1 {
+                self.other_traffic()?;
+            }
+            run.step(&mut self.file, names, &mut self.answer)?;
+            if run.index() != before.index() {
+                let name = names[before.index() as usize];
+                if before.next_round() == 0 {
+                    println!("{name:02X} is taken");
+                } else {
+                    println!("{name:02X} given to {:016X}", run.value());
+                }
+            }
+        }
+        let end = if run.end() == End::AllNamed { "all named" } else { "names used up" };
+        println!("{end}, rounds {}, comparisons {}", run.rounds(), run.comparisons());
+        Ok(())
+    }
+}
+
+fn main() -> ExitCode {
+    let Some(Ok(file)) = std::env::args().nth(1).map(std::fs::read) else {
+        eprintln!("usage: demo FILE");
+        return ExitCode::from(2);
+    };
+    let mut cluster = Cluster { file, answer: [0; ANSWER_BYTES], senders: Senders(0) };
+    print_verdict("a cut file", ttpa::check(&cluster.file[..cluster.file.len().saturating_sub(1)]));
+    let checked = ttpa::check(&cluster.file);
+    print_verdict("the file", checked);
+    if checked.is_err() {
+        return ExitCode::FAILURE;
+    }
+    cluster.show_frames();
+    print_verdict("read of 01", cluster.read_record(0x01, DOCUMENTATION, 2));
+    cluster.print_answer();
+    print_verdict("round 2 before naming", cluster.send(&ROUND_2));
+    cluster.print_answer();
+    print_verdict("names with a repeat", Run::start(&[0x01, 0x02, 0x01]));
+    print_verdict("naming", cluster.name_slaves(&[0x01, 0x02, 0x03, 0x04]));
+    for name in 0x02..=0x03 {
+        print_verdict("read", cluster.read_record(name, DOCUMENTATION, 2));
+        cluster.print_answer();
+    }
+    print_verdict("round 2 after naming", cluster.send(&ROUND_2));
+    cluster.print_answer();
+    let mut short = [0; ANSWER_BYTES - 1];
+    print_verdict("a short answer buffer", ttpa::round(&mut cluster.file, &ROUND_2, &mut short));
+    print_verdict("the file as it is now", ttpa::check(&cluster.file));
+    ExitCode::SUCCESS
+}

@@ -1,0 +1,109 @@
+//! The C calls one by one, with slices in place of pointers and lengths. Each answers 0 or document 01's
+//! number. The rest of the crate is built on these; they are public for callers who want to lend every
+//! buffer themselves.
+
+/// The words of a run position: end, index, step, value, rounds, comparisons.
+pub const RUN_WORDS: usize = 6;
+
+mod c {
+    extern "C" {
+        pub fn ttpa_check(file: *const u8, n: usize) -> u8;
+        pub fn ttpa_read_address(frame: *const u8, n: usize, parts: *mut u8) -> u8;
+        pub fn ttpa_write_address(
+            frame: *mut u8,
+            n: usize,
+            epoch: u8,
+            name: u8,
+            file: u8,
+            operation: u8,
+            record: u8,
+        ) -> u8;
+        pub fn ttpa_write_data(frame: *mut u8, n: usize, b0: u8, b1: u8, b2: u8, b3: u8) -> u8;
+        pub fn ttpa_round(
+            file: *mut u8,
+            n: usize,
+            frame: *const u8,
+            m: usize,
+            answer: *mut u8,
+            k: usize,
+            senders: *mut u64,
+        ) -> u8;
+        pub fn ttpa_start(names: *const u8, n: usize, run: *mut u64) -> u8;
+        pub fn ttpa_step(
+            file: *mut u8,
+            n: usize,
+            run: *mut u64,
+            names: *const u8,
+            m: usize,
+            answer: *mut u8,
+            k: usize,
+            senders: *mut u64,
+        ) -> u8;
+    }
+}
+
+// SAFETY, for every call below: each pointer comes from a reference and is lent with the length of its own
+// slice, or points to an array of the size the C signature states; mutable ones are exclusive, so no two
+// overlap. The engine keeps no pointer after it returns.
+
+/// Checks a file: 0, or 1 to 8.
+pub fn check(file: &[u8]) -> u8 {
+    unsafe { c::ttpa_check(file.as_ptr(), file.len()) }
+}
+
+/// Reads an address frame into epoch, name, file, operation and record: 0, or 10 to 14.
+pub fn read_address(frame: &[u8], parts: &mut [u8; 5]) -> u8 {
+    unsafe { c::ttpa_read_address(frame.as_ptr(), frame.len(), parts.as_mut_ptr()) }
+}
+
+/// Writes an address frame: 0, or 9, 13, 14 or 18.
+pub fn write_address(frame: &mut [u8], epoch: u8, name: u8, file: u8, operation: u8, record: u8) -> u8 {
+    unsafe { c::ttpa_write_address(frame.as_mut_ptr(), frame.len(), epoch, name, file, operation, record) }
+}
+
+/// Writes a data frame: 0, or 9.
+pub fn write_data(frame: &mut [u8], b0: u8, b1: u8, b2: u8, b3: u8) -> u8 {
+    unsafe { c::ttpa_write_data(frame.as_mut_ptr(), frame.len(), b0, b1, b2, b3) }
+}
+
+/// Carries out one frame on a file: 0, or 1 to 14.
+pub fn round(file: &mut [u8], frame: &[u8], answer: &mut [u8], senders: &mut u64) -> u8 {
+    unsafe {
+        c::ttpa_round(
+            file.as_mut_ptr(),
+            file.len(),
+            frame.as_ptr(),
+            frame.len(),
+            answer.as_mut_ptr(),
+            answer.len(),
+            senders,
+        )
+    }
+}
+
+/// Makes a fresh run over a list of names: 0, or 15 or 16.
+pub fn start(names: &[u8], run: &mut [u64; RUN_WORDS]) -> u8 {
+    unsafe { c::ttpa_start(names.as_ptr(), names.len(), run.as_mut_ptr()) }
+}
+
+/// Makes one naming step: 0, or 1 to 9 or 15 to 17. A step of an ended run alters nothing.
+pub fn step(
+    file: &mut [u8],
+    run: &mut [u64; RUN_WORDS],
+    names: &[u8],
+    answer: &mut [u8],
+    senders: &mut u64,
+) -> u8 {
+    unsafe {
+        c::ttpa_step(
+            file.as_mut_ptr(),
+            file.len(),
+            run.as_mut_ptr(),
+            names.as_ptr(),
+            names.len(),
+            answer.as_mut_ptr(),
+            answer.len(),
+            senders,
+        )
+    }
+}

@@ -1,0 +1,139 @@
+use core::fmt;
+
+/// Why a call turned something away: the grounds of document 01.
+#[derive(Clone, Copy, Debug, PartialEq, Eq)]
+#[non_exhaustive]
+pub enum TtpaError {
+    /// 1: the file is shorter than 16 or longer than 32,768 bytes.
+    FileSize,
+    /// 2: the mark is wrong.
+    Mark,
+    /// 3: the edition is not 1.
+    Edition,
+    /// 4: the length field is not the file's length.
+    LengthField,
+    /// 5: a header field is wrong.
+    Header,
+    /// 6: the layout is broken.
+    Layout,
+    /// 7: a slave lacks file 0x08 or 0x3D in the needed size.
+    NeededFile,
+    /// 8: two slaves have equal physical names.
+    EqualPhysicalNames,
+    /// 9: the buffer is too short.
+    ShortBuffer,
+    /// 10: the frame is empty or its first byte is no firework that fits here.
+    Firework,
+    /// 11: the frame's length does not fit its firework.
+    FrameLength,
+    /// 12: the check byte is wrong.
+    CheckByte,
+    /// 13: there is no such operation.
+    Operation,
+    /// 14: a read is addressed to 0x00.
+    BroadcastRead,
+    /// 15: a listed name is 0x00 or 0xFF.
+    ListedName,
+    /// 16: a listed name occurs twice.
+    RepeatedName,
+    /// 17: the stored run position is none.
+    Position,
+    /// 18: the file number is above 63.
+    FileNumber,
+    /// A number that this edition of the crate does not know.
+    Other(u8),
+}
+
+/// The variants in the order of their numbers, from 1.
+const NUMBERED: [TtpaError; 18] = [
+    TtpaError::FileSize,
+    TtpaError::Mark,
+    TtpaError::Edition,
+    TtpaError::LengthField,
+    TtpaError::Header,
+    TtpaError::Layout,
+    TtpaError::NeededFile,
+    TtpaError::EqualPhysicalNames,
+    TtpaError::ShortBuffer,
+    TtpaError::Firework,
+    TtpaError::FrameLength,
+    TtpaError::CheckByte,
+    TtpaError::Operation,
+    TtpaError::BroadcastRead,
+    TtpaError::ListedName,
+    TtpaError::RepeatedName,
+    TtpaError::Position,
+    TtpaError::FileNumber,
+];
+
+impl TtpaError {
+    /// The answer of a call: 0 is success.
+    pub(crate) fn of(number: u8) -> Result<(), TtpaError> {
+        match number {
+            0 => Ok(()),
+            1..=18 => Err(NUMBERED[usize::from(number) - 1]),
+            _ => Err(TtpaError::Other(number)),
+        }
+    }
+
+    /// Document 01's number.
+    pub fn number(self) -> u8 {
+        match self {
+            TtpaError::Other(number) => number,
+            _ => NUMBERED.iter().position(|&known| known == self).map_or(0, |place| place as u8 + 1),
+        }
+    }
+
+    fn text(self) -> &'static str {
+        match self {
+            TtpaError::FileSize => "the file is shorter than 16 or longer than 32,768 bytes",
+            TtpaError::Mark => "the mark is wrong",
+            TtpaError::Edition => "the edition is not 1",
+            TtpaError::LengthField => "the length field is not the file's length",
+            TtpaError::Header => "a header field is wrong",
+            TtpaError::Layout => "the layout is broken",
+            TtpaError::NeededFile => "a slave lacks file 0x08 or 0x3D in the needed size",
+            TtpaError::EqualPhysicalNames => "two slaves have equal physical names",
+            TtpaError::ShortBuffer => "the buffer is too short",
+            TtpaError::Firework => "the frame begins with no fitting firework",
+            TtpaError::FrameLength => "the frame's length does not fit its firework",
+            TtpaError::CheckByte => "the check byte is wrong",
+            TtpaError::Operation => "there is no such operation",
+            TtpaError::BroadcastRead => "a read is addressed to 0x00",
+            TtpaError::ListedName => "a listed name is 0x00 or 0xFF",
+            TtpaError::RepeatedName => "a listed name occurs twice",
+            TtpaError::Position => "the run position is none",
+            TtpaError::FileNumber => "the file number is above 63",
+            TtpaError::Other(_) => "an unknown ground",
+        }
+    }
+}
+
+impl fmt::Display for TtpaError {
+    fn fmt(&self, out: &mut fmt::Formatter) -> fmt::Result {
+        write!(out, "refused {}: {}", self.number(), self.text())
+    }
+}
+
+impl core::error::Error for TtpaError {}
+
+#[cfg(test)]
+mod tests {
+    use super::TtpaError;
+
+    #[test]
+    fn every_number_comes_back() {
+        assert_eq!(TtpaError::of(0), Ok(()));
+        for number in 1..=u8::MAX {
+            assert_eq!(TtpaError::of(number).map_err(TtpaError::number), Err(number));
+        }
+    }
+
+    #[test]
+    fn numbers_are_those_of_the_document() {
+        assert_eq!(TtpaError::EqualPhysicalNames.number(), 8);
+        assert_eq!(TtpaError::CheckByte.number(), 12);
+        assert_eq!(TtpaError::Position.number(), 17);
+        assert_eq!(TtpaError::Other(19).number(), 19);
+    }
+}

@@ -1,0 +1,90 @@
+//! The TTP/A cluster engine for Rust programs: check a cluster file, read and write frames, carry out
+//! rounds on the file, name its slaves.
+//!
+//! The engine keeps no state, never allocates and always returns. Everything it works on is lent to it for
+//! the time of one call. A call that refuses alters nothing it was lent.
+//!
+//! ```no_run
+//! let mut file = std::fs::read("plant.cluster").unwrap();
+//! ttpa::check(&file)?;
+//! let mut answer = [0; ttpa::ANSWER_BYTES];
+//! let names = [1, 2, 3];
+//! let mut run = ttpa::Run::start(&names)?;
+//! while run.end() == ttpa::End::Running {
+//!     run.step(&mut file, &names, &mut answer)?;
+//! }
+//! # Ok::<(), ttpa::TtpaError>(())
+//! ```
+
+#![no_std]
+#![deny(missing_docs)]
+
+pub mod calls;
+mod error;
+mod run;
+
+pub use error::TtpaError;
+pub use run::{End, Run};
+
+/// An answer buffer has at least this many bytes; a call writes exactly these.
+pub const ANSWER_BYTES: usize = 64;
+/// An address frame and a data frame have this many bytes.
+pub const FRAME_BYTES: usize = 6;
+
+/// What an address frame says.
+#[derive(Clone, Copy, Debug, PartialEq, Eq)]
+pub struct Address {
+    /// PB0.
+    pub epoch: u8,
+    /// The logical name addressed; 0xFF are the unnamed slaves, 0x00 all others.
+    pub name: u8,
+    /// The file number, 0 to 63.
+    pub file: u8,
+    /// 0 read, 1 write, 2 execute.
+    pub operation: u8,
+    /// The record number.
+    pub record: u8,
+}
+
+/// The slots in which someone sent.
+#[derive(Clone, Copy, Debug, PartialEq, Eq)]
+pub struct Senders(pub u64);
+
+impl Senders {
+    /// Whether someone sent in the slot.
+    pub fn sent_in(self, slot: u32) -> bool {
+        self.0.checked_shr(slot).unwrap_or(0) & 1 == 1
+    }
+}
+
+/// Accepts a cluster file, or refuses it by one of the numbers 1 to 8.
+pub fn check(file: &[u8]) -> Result<(), TtpaError> {
+    TtpaError::of(calls::check(file))
+}
+
+/// Reads an address frame; refused by 10 to 14.
+pub fn read_address(frame: &[u8]) -> Result<Address, TtpaError> {
+    let mut parts = [0; 5];
+    TtpaError::of(calls::read_address(frame, &mut parts))?;
+    let [epoch, name, file, operation, record] = parts;
+    Ok(Address { epoch, name, file, operation, record })
+}
+
+/// Writes an address frame into the first six bytes of the buffer; refused by 9, 13, 14 and 18.
+pub fn write_address(frame: &mut [u8], address: &Address) -> Result<(), TtpaError> {
+    let &Address { epoch, name, file, operation, record } = address;
+    TtpaError::of(calls::write_address(frame, epoch, name, file, operation, record))
+}
+
+/// Writes a data frame into the first six bytes of the buffer; refused by 9.
+pub fn write_data(frame: &mut [u8], [b0, b1, b2, b3]: [u8; 4]) -> Result<(), TtpaError> {
+    TtpaError::of(calls::write_data(frame, b0, b1, b2, b3))
+}
+
+/// Carries out one frame on a cluster file; refused by 1 to 14. The first 64 bytes of the answer become the
+/// firework and then each slot's byte, 0xFF where nobody sent.
+pub fn round(file: &mut [u8], frame: &[u8], answer: &mut [u8]) -> Result<Senders, TtpaError> {
+    let mut senders = 0;
+    TtpaError::of(calls::round(file, frame, answer, &mut senders))?;
+    Ok(Senders(senders))
+}

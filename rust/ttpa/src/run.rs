@@ -1,0 +1,84 @@
+use crate::calls::{self, RUN_WORDS};
+use crate::{Senders, TtpaError};
+
+/// How far a run is.
+#[derive(Clone, Copy, Debug, PartialEq, Eq)]
+pub enum End {
+    /// There are rounds to make.
+    Running,
+    /// No slave is unnamed.
+    AllNamed,
+    /// The list of names is finished.
+    NamesUsedUp,
+    /// A stored position with another mark; a step refuses it.
+    Unknown(u64),
+}
+
+/// A naming run: a position in the caller's list of names. It can be stored and taken up again; a position
+/// of any content is judged by the next step.
+#[derive(Clone, Copy, Debug, PartialEq, Eq)]
+pub struct Run {
+    words: [u64; RUN_WORDS],
+}
+
+impl Run {
+    /// A fresh run; refused by 15 and 16.
+    pub fn start(names: &[u8]) -> Result<Run, TtpaError> {
+        let mut words = [0; RUN_WORDS];
+        TtpaError::of(calls::start(names, &mut words))?;
+        Ok(Run { words })
+    }
+
+    /// One complete master-slave round; refused by 1 to 9 and 15 to 17. The answer becomes that to its data
+    /// frame. A step of an ended run alters nothing, and nobody sends.
+    pub fn step(&mut self, file: &mut [u8], names: &[u8], answer: &mut [u8]) -> Result<Senders, TtpaError> {
+        let mut senders = 0;
+        TtpaError::of(calls::step(file, &mut self.words, names, answer, &mut senders))?;
+        Ok(Senders(senders))
+    }
+
+    /// A stored position.
+    pub fn from_words(words: [u64; RUN_WORDS]) -> Run {
+        Run { words }
+    }
+
+    /// The position to be stored: end, index, step, value, rounds, comparisons.
+    pub fn words(&self) -> [u64; RUN_WORDS] {
+        self.words
+    }
+
+    /// Whether and how the run has ended.
+    pub fn end(&self) -> End {
+        match self.words[0] {
+            0 => End::Running,
+            1 => End::AllNamed,
+            2 => End::NamesUsedUp,
+            other => End::Unknown(other),
+        }
+    }
+
+    /// The place in the list of names.
+    pub fn index(&self) -> u64 {
+        self.words[1]
+    }
+
+    /// The place of the pass's next round.
+    pub fn next_round(&self) -> u64 {
+        self.words[2]
+    }
+
+    /// The comparison value so far; after a name is given, the physical name of its slave.
+    pub fn value(&self) -> u64 {
+        self.words[3]
+    }
+
+    /// Rounds made.
+    pub fn rounds(&self) -> u64 {
+        self.words[4]
+    }
+
+    /// Comparisons made.
+    pub fn comparisons(&self) -> u64 {
+        self.words[5]
+    }
+}
