@@ -1,11 +1,12 @@
 -- Numbers of several bytes at a place of a list: one law joins two of them, whatever their widths.
 -- Assumes nothing.
-use Prim.Native.Nat.{ℕ, _+_, _*_, _^_, _≤_, _<_}
+use Prim.Native.Nat.{ℕ, _+_, _*_, _%_, _^_, _≤_, _<_}
 use mathlib.Core.Path.{_≡_, sym, _∙_, subst}
 use mathlib.Core.List.{List, [], _∷_, _++_}
 use native.Mathlib.Omega.{arith}
 use lib.Arith.{digits-lt}
-use lib.Pow.{pow-add}
+use lib.Bits.{bitOr, or-shifted}
+use lib.Pow.{pow-add, shl-exact}
 use lib.ListN.{length, getD, drop, length-append, length-take, length-drop}
 use lib.Seq.{take-add, drop-drop, drop-cons}
 use Rattle.file.specs.Bytes.{numberOf, part, ByteAt, NumberAt}
@@ -46,3 +47,11 @@ number-join {l} {at} {m} {n} {a} {b} h p q =
       is = rw (part-add l at m n, number-append (part l at m) (part l (at + m) n), part-length l (at + m) n h, ← (p .is), ← (q .is));
       below = subst (λ (k : ℕ). a * 256 ^ n + b < k) (sym (pow-add 256 m n)) (digits-lt (p .below) (q .below));
     }
+
+-- the same of two numbers of one width, joined by a shift of k bits and or
+pub number-or : {l : List ℕ} {at : ℕ} (n k : ℕ) {a b : ℕ} → 2 ^ k ≡ 256 ^ n → k + k ≤ 64 → at + n + n ≤ length l → NumberAt l at n a → NumberAt l (at + n) n b →
+    NumberAt l at (n + n) (bitOr ((a * 2 ^ k) % 2 ^ 64) b)
+number-or n k {a} {b} same few h p q =
+    let high : a < 2 ^ k = rw same (p .below) in
+    let low : b < 2 ^ k = rw same (q .below) in
+    rw (shl-exact k k 64 high few, or-shifted a k b low, same) (number-join h p q)

@@ -1,4 +1,4 @@
-// Bytes and several-byte numbers of the file, most significant byte first.
+// Bytes and several-byte numbers of the file, most significant byte first. Shifts and or: the compiler makes one load of them.
 ghost use Prim.Native.Nat.{_+_, _≤_, _<_};
 ghost use lib.ListN.{length};
 ghost use Rattle.file.specs.Bytes.{ByteAt, NumberAt};
@@ -16,7 +16,9 @@ pub fn offset_at(file: &[u8], at: usize) -> usize
     requires { ⌜ at + 2 ≤ length (now file) ⌝ }
     ensures { λ r. ⌜ NumberAt (now (file .entry)) at 2 r ⌝ }
 {
-    byte_at(file, at) * 256 + byte_at(file, at + 1)
+    let high = byte_at(file, at);
+    let low = byte_at(file, at + 1);
+    (high << 8) | low
 }
 
 // The four-byte number at a place.
@@ -26,7 +28,7 @@ pub fn u32_at(file: &[u8], at: usize) -> u64
 {
     let high = offset_at(file, at);
     let low = offset_at(file, at + 2);
-    (high * 65536 + low) as u64
+    ((high << 16) | low) as u64
 }
 
 // The eight-byte number at a place.
@@ -36,5 +38,5 @@ pub fn u64_at(file: &[u8], at: usize) -> u64
 {
     let high = u32_at(file, at);
     let low = u32_at(file, at + 4);
-    high * 4294967296 + low
+    (high << 32) | low
 }

@@ -1,8 +1,9 @@
 -- `file::numbers::u32_at` meets its contract: two shorter numbers, joined.
 -- Assumes nothing.
-use borrow.Author.Needs.{needs}
+use mathlib.Core.Path.{refl}
 use native.Mathlib.Omega.{arith}
-use Rattle.file.proofs.NumberLaws.{number-join}
+use Rattle.file.proofs.NumberLaws.{number-or}
+use borrow.Author.Needs.{needs}
 use Rattle.file.proofs.numbers.u32_at.Statement.{statement}
 use Rattle.file.proofs.numbers.u32_at.Tie as tie
 
@@ -15,16 +16,8 @@ add-offset-at c = search needs
 offset-at-requires-2 : tie.Need-offset-at-requires-2
 offset-at-requires-2 c κs = search needs
 
-mul-result : tie.Need-mul-result
-mul-result c = omega arith
-
-add-result : tie.Need-add-result
-add-result c = omega arith
-
 returns : tie.Need-returns
-returns c = number-join (omega arith) (c .before .offset-at .ensures) (c .offset-at2 .ensures)
+returns c = number-or 2 16 refl (omega arith) (omega arith) (c .before .offset-at .ensures) (c .offset-at2 .ensures)
 
 pub u32-at-spec : {M : Type 1} → statement M
-u32-at-spec =
-    tie.close
-    (tie.spec offset-at-requires add-offset-at offset-at-requires-2 mul-result add-result returns)
+u32-at-spec = tie.close (tie.spec offset-at-requires add-offset-at offset-at-requires-2 returns)

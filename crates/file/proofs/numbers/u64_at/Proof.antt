@@ -1,8 +1,9 @@
 -- `file::numbers::u64_at` meets its contract: two shorter numbers, joined.
 -- Assumes nothing.
-use borrow.Author.Needs.{needs}
+use mathlib.Core.Path.{refl}
 use native.Mathlib.Omega.{arith}
-use Rattle.file.proofs.NumberLaws.{number-join}
+use Rattle.file.proofs.NumberLaws.{number-or}
+use borrow.Author.Needs.{needs}
 use Rattle.file.proofs.numbers.u64_at.Statement.{statement}
 use Rattle.file.proofs.numbers.u64_at.Tie as tie
 
@@ -15,15 +16,8 @@ add-u32-at c = search needs
 u32-at-requires-2 : tie.Need-u32-at-requires-2
 u32-at-requires-2 c κs = search needs
 
-mul-result : tie.Need-mul-result
-mul-result c = omega arith
-
-add-result : tie.Need-add-result
-add-result c = omega arith
-
 returns : tie.Need-returns
-returns c = number-join (omega arith) (c .before .u32-at .ensures) (c .u32-at2 .ensures)
+returns c = number-or 4 32 refl (omega arith) (omega arith) (c .before .u32-at .ensures) (c .u32-at2 .ensures)
 
 pub u64-at-spec : {M : Type 1} → statement M
-u64-at-spec =
-    tie.close (tie.spec u32-at-requires add-u32-at u32-at-requires-2 mul-result add-result returns)
+u64-at-spec = tie.close (tie.spec u32-at-requires add-u32-at u32-at-requires-2 returns)
