@@ -8,6 +8,7 @@ pub mod Mask
 pub mod Kept
 pub mod Untouched
 pub mod Rounds
+pub mod Replaced
 -- loops along the slaves of a master-slave round: their replies, and their changes
 pub mod Hearing
 pub mod Changing

@@ -88,15 +88,15 @@ after-other {n} {o} leaves bytes c = filesOf-map n (slaveAfter o bytes) (slaveAf
 
 -- ---- any round
 
-effect-other : (n : ℕ) → Unstored n → (c : Cluster) → Leaves n (pendingOperation c) → (round : Round) (frame : List ℕ) → filesOf n (effectOf c round frame .after .slaves) ≡ filesOf n (c .slaves)
+effect-other : (n : ℕ) → Unstored n → (c : Cluster) (round : Round) → (round ≡ msd → Leaves n (pendingOperation c)) → (frame : List ℕ) → filesOf n (effectOf c round frame .after .slaves) ≡ filesOf n (c .slaves)
 unfolding effectOf addressEffect withAddress withPending dataEffect multipartnerEffect epochRaised withEpoch
-effect-other n out c leaves (multipartner r) frame = below-other r (epochRaised c) slots n out
-effect-other n out c leaves msd frame = after-other leaves (between frame) (epochRaised c)
-effect-other n out c leaves msa frame = refl
-effect-other n out c leaves none frame = refl
+effect-other n out c (multipartner r) leaves frame = below-other r (epochRaised c) slots n out
+effect-other n out c msd leaves frame = after-other (leaves refl) (between frame) (epochRaised c)
+effect-other n out c msa leaves frame = refl
+effect-other n out c none leaves frame = refl
 
--- a frame on a cluster whose pending operation leaves file n, one outside 0x10 to 0x3C, leaves it in every slave; so every frame
--- leaves the configuration but the data part of a write to it or of an execute of it
-pub frame-other : (n : ℕ) → Unstored n → (c : Cluster) → Leaves n (pendingOperation c) → (frame : List ℕ) → filesOf n (frameOn c frame .after .slaves) ≡ filesOf n (c .slaves)
+-- a frame leaves file n, one outside 0x10 to 0x3C, in every slave, unless it is an MSD whose pending operation does not: so every
+-- frame leaves the configuration but the data part of a write to it or of an execute of it
+pub frame-other : (n : ℕ) → Unstored n → (c : Cluster) (frame : List ℕ) → (roundBy frame ≡ msd → Leaves n (pendingOperation c)) → filesOf n (frameOn c frame .after .slaves) ≡ filesOf n (c .slaves)
 unfolding frameOn
-frame-other n out c leaves frame = effect-other n out c leaves (roundBy frame) frame
+frame-other n out c frame leaves = effect-other n out c (roundBy frame) leaves frame
