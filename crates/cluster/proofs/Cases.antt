@@ -4,7 +4,7 @@
 use Prim.Native.Nat.{ℕ, _+_}
 use native.Mathlib.Omega.{arith}
 use mathlib.Core.Path.{_≡_, refl, sym, ap, _∙_}
-use mathlib.Core.List.{List, [], _∷_, append-nil}
+use mathlib.Core.List.{List, [], _∷_, _++_, append-nil}
 use mathlib.Core.Bool.{true}
 use lib.ListN.{getD}
 use lib.Dec.{eqb, leb}
@@ -88,6 +88,61 @@ pub m7 : (file buffer : List ℕ) → roundGround file dataRound buffer ≡ 0 �
     roundOn file dataRound buffer .0 ≡ carried 0
 m7 file buffer fits p s alone e less =
     round-mask file buffer fits p ∙ ap (λ (n : ℕ). carried n) (ap (λ (ss : List Slave). senderMask (sentTo (comparing unnamed) ss)) alone ∙ quiet-mask (sentTo (comparing unnamed) (s ∷ [])) (no-sender (comparing unnamed) s (m7-reply s e less)))
+
+-- ---- M6 and M7 among other slaves
+
+anyone-right : (xs ys : List ℕ) → anyone ys ≡ 1 → anyone (xs ++ ys) ≡ 1
+unfolding anyone
+anyone-right [] ys h = h
+anyone-right (x ∷ xs) ys h = refl
+
+anyone-neither : (xs ys : List ℕ) → anyone xs ≡ 0 → anyone ys ≡ 0 → anyone (xs ++ ys) ≡ 0
+unfolding anyone
+anyone-neither [] ys g h = h
+anyone-neither (x ∷ xs) ys g h = absurd (omega (arith, g))
+
+replies-among : (o : Operation) (s : Slave) (before after : List Slave) → replyTo o s ≡ 0x00 ∷ [] → anyone (sentTo o (before ++ s ∷ after) 1) ≡ 1
+unfolding sentTo inSlot anyone
+replies-among o s [] after e = rw e
+replies-among o s (x ∷ xs) after e = anyone-right (inSlot (replyTo o x) 1) (sentTo o (xs ++ s ∷ after) 1) (replies-among o s xs after e)
+
+one-slot : (name : ℕ) (x : Slave) (slot : ℕ) → (slot ≡ 1 → ⊥) → anyone (inSlot (replyTo (comparing name) x) slot) ≡ 0
+unfolding replyTo
+one-slot name x slot other =
+    byCase (answersCompare name x)
+    (λ t. rw t (inSlot-no (0x00 ∷ []) slot (λ h. omega arith)))
+    (λ t. rw t (inSlot-no [] slot (λ h. omega arith)))
+
+quiet-elsewhere : (name : ℕ) (ss : List Slave) (slot : ℕ) → (slot ≡ 1 → ⊥) → anyone (sentTo (comparing name) ss slot) ≡ 0
+unfolding sentTo anyone
+quiet-elsewhere name [] slot other = refl
+quiet-elsewhere name (x ∷ xs) slot other = anyone-neither (inSlot (replyTo (comparing name) x) slot) (sentTo (comparing name) xs slot) (one-slot name x slot other) (quiet-elsewhere name xs slot other)
+
+sender-among : (name : ℕ) (s : Slave) (before after : List Slave) → replyTo (comparing name) s ≡ 0x00 ∷ [] → (slot : ℕ) → anyone (sentTo (comparing name) (before ++ s ∷ after) slot) ≡ anyone (sendersTo 1 slot)
+sender-among name s before after e slot =
+    byCase (eqb slot 1)
+    (λ t. let is : slot ≡ 1 = eqb-true slot 1 t in rw is (replies-among (comparing name) s before after e ∙ sym (sendersTo-yes 1 1 (omega arith) (omega arith))))
+    (λ t. let other : slot ≡ 1 → ⊥ = eqb-false slot 1 t in quiet-elsewhere name (before ++ s ∷ after) slot other ∙ sym (sendersTo-no 1 slot (λ h. omega arith)))
+
+mask-among : (name : ℕ) (s : Slave) (before after : List Slave) → replyTo (comparing name) s ≡ 0x00 ∷ [] → senderMask (sentTo (comparing name) (before ++ s ∷ after)) ≡ 2
+unfolding senderMask sendersTo maskBelow anyone both
+mask-among name s before after e = mask-alike (sentTo (comparing name) (before ++ s ∷ after)) (sendersTo 1) slots (sender-among name s before after e)
+
+silent-among : (o : Operation) (s : Slave) (before after : List Slave) → replyTo o s ≡ [] → (slot : ℕ) → sentTo o (before ++ s ∷ after) slot ≡ sentTo o (before ++ after) slot
+unfolding sentTo
+silent-among o s [] after e slot = rw (e, inSlot-nil slot)
+silent-among o s (x ∷ xs) after e slot = rw (silent-among o s xs after e slot)
+
+-- M6 beside any other slaves: bit 1 and nothing else
+pub m6-among : (file buffer : List ℕ) → roundGround file dataRound buffer ≡ 0 → pendingOperation (decode file) ≡ comparing unnamed → (s : Slave) (before after : List Slave) → decode file .slaves ≡ before ++ s ∷ after → isUnnamed s ≡ true → physicalName s ≡ comparisonValue s →
+    roundOn file dataRound buffer .0 ≡ carried 2
+m6-among file buffer fits p s before after among e same =
+    round-mask file buffer fits p ∙ ap (λ (n : ℕ). carried n) (ap (λ (ss : List Slave). senderMask (sentTo (comparing unnamed) ss)) among ∙ mask-among unnamed s before after (m6-reply s e same))
+
+-- M7 beside any other slaves: the slots hold what the others send, as if the slave were not there
+pub m7-among : (s : Slave) (before after : List Slave) → isUnnamed s ≡ true → physicalName s + 1 ≡ comparisonValue s → (slot : ℕ) →
+    sentTo (comparing unnamed) (before ++ s ∷ after) slot ≡ sentTo (comparing unnamed) (before ++ after) slot
+m7-among s before after e less = silent-among (comparing unnamed) s before after (m7-reply s e less)
 
 -- ---- M8: "0xF0 and 0x3C give 0x30"
 

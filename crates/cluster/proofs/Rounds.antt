@@ -1,9 +1,9 @@
--- Laws of a round for the layers above: an accepted one leaves a legal cluster of the same shape and physical names, a refused one
--- leaves all as it was, and the answer to a file of unknown edition depends on its length and first three bytes alone.
+-- Laws of a round for the layers above: an accepted one leaves a legal cluster of the same shape and physical names and a file of the
+-- same length, a refused one leaves all as it was, and the answer to a file of unknown edition depends on its length and first three bytes alone.
 -- Assumes nothing.
 use Prim.Native.Nat.{ℕ, _≤_}
 use native.Mathlib.Omega.{arith}
-use mathlib.Core.Path.{_≡_, sym, _∙_}
+use mathlib.Core.Path.{_≡_, sym, ap, _∙_}
 use mathlib.Core.Logic.{_≢_}
 use mathlib.Core.List.{List}
 use mathlib.Core.Bool.{false}
@@ -22,6 +22,8 @@ use Rattle.file.specs.Places.{withEpoch, withPending}
 use Rattle.file.specs.Accepted.{Becomes}
 use Rattle.file.proofs.Order.{byCase, clash, first-none, both-true}
 use Rattle.file.proofs.Bytes.{byte-at}
+use Rattle.file.proofs.Sizes.{encodeAt-length}
+use Rattle.file.proofs.Shape.{shape-fileLength}
 use Rattle.file.proofs.Accepted.{legal-becomes, accepted-becomes}
 use Rattle.file.proofs.AcceptedFacts as AcceptedFacts
 use Rattle.file.proofs.Edition.{unknown-edition}
@@ -157,6 +159,17 @@ round-becomes file frame buffer fb rb e =
 
 pub round-kept : (file frame buffer : List ℕ) → Bytes frame → roundGround file frame buffer ≡ 0 → ClusterKept (decode file) (frameOn (decode file) frame .after)
 round-kept file frame buffer rb e = frame-kept (decode file) frame rb (round-facts file frame buffer e .fits)
+
+-- an accepted round leaves a file of the same length
+encode-length : (c d : Cluster) → ClusterKept c d → length (encode d) ≡ length (encode c)
+unfolding encode
+encode-length c d kept = encodeAt-length (omega arith) d ∙ sym (shape-fileLength offsetWidth (kept .shape)) ∙ sym (encodeAt-length (omega arith) c)
+
+pub round-length : (file frame buffer : List ℕ) → Bytes file → Bytes frame → roundGround file frame buffer ≡ 0 → length (roundOn file frame buffer .2) ≡ length file
+round-length file frame buffer fb rb e =
+    let old : Becomes file (decode file) = accepted-becomes file fb (round-facts file frame buffer e .accepted) in
+    let new : Becomes (roundOn file frame buffer .2) (frameOn (decode file) frame .after) = round-becomes file frame buffer fb rb e in
+    ap (λ (l : List ℕ). length l) (new .encoded) ∙ encode-length (decode file) (frameOn (decode file) frame .after) (round-kept file frame buffer rb e) ∙ sym (ap (λ (l : List ℕ). length l) (old .encoded))
 
 -- a file of unknown edition: answer and buffer are the same for two files of one length with the same first three bytes
 pub round-edition : (f g frame buffer : List ℕ) → length f ≡ length g → take 3 f ≡ take 3 g → (getD f editionPlace 0 ≡ 1 → ⊥) →

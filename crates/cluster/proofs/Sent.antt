@@ -4,22 +4,23 @@
 -- Assumes nothing.
 use Prim.Native.Nat.{ℕ, _+_, _*_, _≤_}
 use native.Mathlib.Omega.{arith}
-use mathlib.Core.Path.{_≡_, refl, sym, _∙_}
+use mathlib.Core.Path.{_≡_, refl, sym, ap, _∙_}
 use mathlib.Core.List.{List, [], _∷_}
 use mathlib.Core.Bool.{true}
 use lib.ListN.{length, getD, take}
+use lib.Dec.{eqb}
 use borrow.Author.Tests.{le-ltb}
 use Rattle.file.specs.Order.{firstOf}
 use Rattle.file.specs.Cluster.{Cluster}
 use Rattle.file.specs.Encode.{encode}
 use Rattle.file.specs.Decode.{decode}
 use Rattle.file.specs.Grounds.{fileGround}
-use Rattle.file.proofs.Order.{first-none}
+use Rattle.file.proofs.Order.{byCase, first-none}
 use Rattle.frame.specs.Fireworks.{msd, msa, dataFirework, addressFirework, roundOf, roundIn}
 use Rattle.frame.specs.Frames.{frameSize, frameOf, between, dataFrame}
 use Rattle.frame.specs.Check.{dataCheck}
 use Rattle.frame.specs.Reading.{parts, readGround, readAddress}
-use Rattle.frame.specs.Writing.{Writing, writeAddress}
+use Rattle.frame.specs.Writing.{Writing, writeFrame, dataGround, writeAddress, writeData}
 use Rattle.frame.proofs.Tests as Tests
 use Rattle.frame.proofs.RoundTrip.{written-reads}
 use Rattle.cluster.specs.Bus.{slots, senderMask, answerBytes, answerIn, nobody}
@@ -96,3 +97,16 @@ module _ (b₀ b₁ b₂ b₃ : ℕ) where
       let heard : answerIn buffer (answerBytes dataFirework (sentTo (writing name n r) (decode file .slaves))) ≡ answerIn buffer (answerBytes dataFirework nobody) = answer-alike buffer dataFirework (sentTo (writing name n r) (decode file .slaves)) nobody quiet in
       round-accepted file (dataFrame bytes) buffer (round-fits file (dataFrame bytes) buffer accepted long fits)
       ∙ rw (data-round, p, mask, data-first (dataFrame bytes) data-round, heard, between-data)
+
+  written-frame : (buffer : List ℕ) → writeData buffer bytes .0 ≡ Writing.written → take frameSize (writeData buffer bytes .1) ≡ dataFrame bytes
+  unfolding writeData writeFrame dataFrame frameOf
+  written-frame buffer written =
+      byCase (eqb (dataGround buffer) 0)
+      (λ p. rw p)
+      (λ p. let clash : _≡_ {A = ℕ} 0 1 = (let h = rw p at written in cc) in absurd (omega arith))
+
+  -- the six bytes that the data writer wrote, sent with a write pending
+  pub written-data-sent : (file buffer answer : List ℕ) (name n r : ℕ) → fileGround file ≡ 0 → slots ≤ length answer → pendingOperation (decode file) ≡ writing name n r → writeData buffer bytes .0 ≡ Writing.written →
+      roundOn file (take frameSize (writeData buffer bytes .1)) answer ≡ (carried 0, answerIn answer (answerBytes dataFirework nobody), encode (slavesAfter (writing name n r) bytes (epochRaised (decode file))))
+  written-data-sent file buffer answer name n r accepted long p written =
+      ap (λ (frame : List ℕ). roundOn file frame answer) (written-frame buffer written) ∙ data-sent file answer name n r accepted long p
