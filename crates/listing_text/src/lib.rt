@@ -1,0 +1,2 @@
+// The text of the listing program.
+mod put;
