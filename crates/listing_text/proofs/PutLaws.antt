@@ -27,6 +27,7 @@ puts-then {a} {b} {old} {at = at} p q =
       text = q .text ∙ rw (p .text, p .place) (sym (sets-append old at a b));
       place = let x = q .place in let y = p .place in rw (length-append a b) (omega arith);
       room = q .room ∙ p .room;
+      fits = let x = q .fits in let y = p .place in let z = p .room in rw (length-append a b) (omega arith);
     }
 
 -- ---- bytes
@@ -47,10 +48,10 @@ module _ {bytes old text : List ℕ} {at i : ℕ} (h : Copying bytes old at text
       let e : at + suc i ≡ suc (at + i) = omega arith in
       record { within = omega arith; room = length-set text (at + i) (getD bytes i 0) ∙ h .room; rest = rw (one, e) here }
 
-  pub copying-end : length bytes ≤ i → Puts bytes old at text (at + i)
-  copying-end past =
+  pub copying-end : at + length bytes ≤ length old → length bytes ≤ i → Puts bytes old at text (at + i)
+  copying-end fits past =
       let w = h .within in
-      record { text = rw (drop-of-length-le bytes past) at (h .rest); place = omega arith; room = h .room }
+      record { text = rw (drop-of-length-le bytes past) at (h .rest); place = omega arith; room = h .room; fits = fits }
 
 -- ---- hexadecimal digits
 
@@ -87,11 +88,11 @@ module _ {old text : List ℕ} {at digits value place left : ℕ} (h : Spelling 
           sets (set text place (digit (value / 2 ^ (4 * k) % 16))) (suc place) (hex k value) ≡ sets old at (hex digits value)
       opened k e = unfold hex in e
 
-  pub spelling-end : left ≤ 0 → Puts (hex digits value) old at text place
-  spelling-end past =
+  pub spelling-end : at + digits ≤ length old → left ≤ 0 → Puts (hex digits value) old at text place
+  spelling-end fits past =
       let z : left ≡ 0 = omega arith in
       let s = h .sum in
-      record { text = done z; place = rw (length-hex digits value) (omega arith); room = h .room }
+      record { text = done z; place = rw (length-hex digits value) (omega arith); room = h .room; fits = rw (length-hex digits value) fits }
     where
       done : left ≡ 0 → text ≡ sets old at (hex digits value)
       done z = unfold hex in rw z at (h .rest)
@@ -120,8 +121,8 @@ decimal-few zero n h = rw (decimal-small {n = n} (omega arith)) (omega arith)
 decimal-few (suc k) n h =
     byCase (ltb n 10) (λ e. rw (decimal-small {n = n} (ltb-true n 10 e)) (omega arith))
     (λ e.
-      let front : length (decimal (n / 10)) ≤ suc k = decimal-few k (n / 10) (tenth n (10 ^ suc k) (rw pow-suc at h)) in
-      rw (decimal-more {n = n} (ltb-false n 10 e), length-append) (omega arith))
+    let front : length (decimal (n / 10)) ≤ suc k = decimal-few k (n / 10) (tenth n (10 ^ suc k) (rw pow-suc at h)) in
+    rw (decimal-more {n = n} (ltb-false n 10 e), length-append) (omega arith))
   where
     tenth : (n m : ℕ) → n < m * 10 → n / 10 < m
     tenth n m h = omega arith

@@ -14,17 +14,22 @@ use Rattle.file.specs.Order.{firstOf, both}
 use Rattle.file.proofs.Order.{byCase}
 use Rattle.cluster.specs.Round.{Answer, carried, firstGround}
 use Rattle.cluster.proofs.Rounds.{firstGround-right}
-use Rattle.naming.specs.Run.{Position, running, runGrounds, Place, Place.poll, ask, giveName, giveHigh, giveLow, Place.baptize, least, bit, high, low, reply, placeOf, askOrGive, giveOf, moveOn, onward, nextName, endAllNamed, advance, lastStep}
+use Rattle.naming.specs.Run.{Position, running, fresh, runGrounds, Place, Place.poll, ask, giveName, giveHigh, giveLow, Place.baptize, least, bit, high, low, reply, placeOf, askOrGive, giveOf, moveOn, onward, nextName, endAllNamed, advance, lastStep}
 use Rattle.naming.specs.Step.{Stepping, refused, ended, made, stepGround, stepMade, stepOn, inSlotOne}
 use Rattle.naming.specs.Answers.{positionOf, steppedOf, runAfter}
 use Rattle.file.specs.declared.types.Refusal.{Refusal}
+use Rattle.file.specs.Grounds.{loadGround}
+use Rattle.file.specs.Answers.{verdictOf, checkedOf, loadVerdict}
+use Rattle.file.specs.Answers.{Verdict.accepted as acceptedFile, Verdict.refused as refusedFile}
+use Rattle.file.specs.declared.survey.FileAnswer.{FileAnswer}
+use Rattle.file.specs.declared.survey.FileAnswer.the-variants as verdicts
 use Rattle.naming.specs.declared.run.Stepped.{Stepped}
 use Rattle.naming.specs.declared.run.Stepped.the-variants as steps
 use Rattle.naming.specs.declared.position.RunPosition.{RunPosition}
 use Rattle.naming.proofs.RunLaws.{Runs, runs}
 use Rattle.naming.proofs.StepLaws.{step-refused, step-ended}
-use Rattle.listing_text.specs.Text.{hex, decimal, nameLine, space, newline, Puts}
-use Rattle.listing_text.specs.Listing.{allNames, namesFrom, nameCount, Tour, isMade, givesName, silently, withName, turn, turns}
+use Rattle.listing_text.specs.Text.{nameLine, totalsLine, refusedLine, Puts}
+use Rattle.listing_text.specs.Listing.{allNames, namesFrom, nameCount, Tour, isMade, givesName, silently, withName, turn, turns, mostTurns, startTour, wholeTour, withTotals, listing, fileListed, listed, textSize}
 use Rattle.listing_text.specs.Inner.{tourOf, Room, Toured, Moves, Tells}
 use Rattle.listing_text.specs.declared.tour.Touring.{Touring}
 use Rattle.listing_text.proofs.PutLaws.{length-hex, decimal-fits}
@@ -70,23 +75,23 @@ unfolding stepOn stepMade stepGround advance
 made-moved f buffer names p {a} {q} {new} {file} e =
     byCase (eqb (stepGround f p names buffer) 0)
     (λ t.
-      byCase (eqb (p .mark) running)
-      (λ m.
-        let ground : stepGround f p names buffer ≡ 0 = eqb-true _ _ t in
-        let is : (made a, q, new, file) ≡ stepMade f p names buffer = rw (t, m) at e in
-        record {
-          runs-on = runs names p (firstGround-right _ _ (firstGround-right _ _ ground)) (eqb-true _ _ m);
-          heard = _;
-          moved = ap (λ (x : Stepping × Position × List ℕ × List ℕ). x .1) is;
-        })
-      (λ m.
-        let is : (made a, q, new, file) ≡ (ended, p, buffer, f) = rw (t, m) at e in
-        let same : made a ≡ ended = ap (λ (x : Stepping × Position × List ℕ × List ℕ). x .0) is in
-        let z : _≡_ {A = ℕ} 0 1 = cc in absurd (omega arith)))
+    byCase (eqb (p .mark) running)
+    (λ m.
+    let ground : stepGround f p names buffer ≡ 0 = eqb-true _ _ t in
+    let is : (made a, q, new, file) ≡ stepMade f p names buffer = rw (t, m) at e in
+    record {
+      runs-on = runs names p (firstGround-right _ _ (firstGround-right _ _ ground)) (eqb-true _ _ m);
+      heard = _;
+      moved = ap (λ (x : Stepping × Position × List ℕ × List ℕ). x .1) is;
+    })
+    (λ m.
+    let is : (made a, q, new, file) ≡ (ended, p, buffer, f) = rw (t, m) at e in
+    let same : made a ≡ ended = ap (λ (x : Stepping × Position × List ℕ × List ℕ). x .0) is in
+    let z : _≡_ {A = ℕ} 0 1 = cc in absurd (omega arith)))
     (λ t.
-      let is : (made a, q, new, file) ≡ (refused (stepGround f p names buffer), p, buffer, f) = rw t at e in
-      let same : made a ≡ refused (stepGround f p names buffer) = ap (λ (x : Stepping × Position × List ℕ × List ℕ). x .0) is in
-      let z : _≡_ {A = ℕ} 0 1 = cc in absurd (omega arith))
+    let is : (made a, q, new, file) ≡ (refused (stepGround f p names buffer), p, buffer, f) = rw t at e in
+    let same : made a ≡ refused (stepGround f p names buffer) = ap (λ (x : Stepping × Position × List ℕ × List ℕ). x .0) is in
+    let z : _≡_ {A = ℕ} 0 1 = cc in absurd (omega arith))
 
 pub moves :
     (f buffer : List ℕ) (p : Position) {a : Answer} {q : Position} {new file : List ℕ} → (made a, q, new, file) ≡ stepOn f p allNames buffer → Moves p q
@@ -103,12 +108,12 @@ moves f buffer p {a} {q} e =
 
 -- ---- the text behind what was put
 
-module _ {bytes old new : List ℕ} {at next : ℕ} (h : Puts bytes old at new next) (fits : at + length bytes ≤ length old) where
-  front-length : length (take at old ++ bytes) ≡ next
-  front-length = rw (length-append, length-take-le at old (let f = fits in omega arith)) (sym (h .place))
+module _ {bytes old new : List ℕ} {at next : ℕ} (h : Puts bytes old at new next) where
+  pub front-length : length (take at old ++ bytes) ≡ next
+  front-length = rw (length-append, length-take-le at old (let f = h .fits in omega arith)) (sym (h .place))
 
-  apart : new ≡ (take at old ++ bytes) ++ drop next old
-  apart = rw (h .place) (h .text ∙ sets-eq bytes old at fits)
+  pub apart : new ≡ (take at old ++ bytes) ++ drop next old
+  apart = rw (h .place) (h .text ∙ sets-eq bytes old at (h .fits))
 
   pub puts-take : take next new ≡ take at old ++ bytes
   puts-take = rw apart (take-at (take at old ++ bytes) (drop next old) next front-length)
@@ -136,14 +141,14 @@ module _ {tour : Touring} {next : RunPosition} {old : List ℕ} (room : Room tou
       let y = m .further in
       record {
         toured = λ s file answer file′ answer′.
-          rw (ne-eqb (tour .run .step) lastStep n)
-          (record {
-            is = refl;
-            rest = refl;
-            onward = omega arith;
-            same = refl;
-            room = record { counted = omega arith; few = omega arith; within = room .within; long = room .long };
-          });
+            rw (ne-eqb (tour .run .step) lastStep n)
+            (record {
+              is = refl;
+              rest = refl;
+              onward = omega arith;
+              same = refl;
+              room = record { counted = omega arith; few = omega arith; most = room .most; within = room .within; long = room .long };
+            });
       }
 
   pub told-named :
@@ -160,22 +165,22 @@ module _ {tour : Touring} {next : RunPosition} {old : List ℕ} (room : Room tou
       let g = room .long in
       let i = m .inside in
       let up = m .named l in
-      let fits : tour .at + length (nameLine name (tour .run .value) comparisons) ≤ length old = omega arith in
       record {
         toured = λ s file answer file′ answer′.
-          rw (eq-eqb (tour .run .step) lastStep l)
-          (record {
-            is = rw (puts-take h fits, is, k, add-one);
-            rest = puts-drop h fits;
-            onward = let p = h .place in omega arith;
-            same = h .room;
-            room = record {
-              counted = omega arith;
-              few = omega arith;
-              within = let p = h .place in omega arith;
-              long = rw (h .room) g;
-            };
-          });
+            rw (eq-eqb (tour .run .step) lastStep l)
+            (record {
+              is = rw (puts-take h, is, k, add-one);
+              rest = puts-drop h;
+              onward = let p = h .place in omega arith;
+              same = h .room;
+              room = record {
+                counted = omega arith;
+                few = omega arith;
+                most = omega arith;
+                within = let p = h .place in omega arith;
+                long = rw (h .room) g;
+              };
+            });
       }
 
 -- ---- one step
@@ -311,3 +316,70 @@ module _ {wanted : Tour} {old : List ℕ} {at : ℕ} {tour : Touring} {left : �
           let y = t .onward in
           let e : after .at ≡ tour .at + (after .at - tour .at) = omega arith in
           rw (e, ← drop-drop (after .at - tour .at) (tour .at) text, ← drop-drop (after .at - tour .at) (tour .at) old, h .rest)
+
+-- ---- the whole listing
+
+pub start-room : (run : RunPosition) (text : List ℕ) → textSize ≤ length text → Room (record { run = run; begun = 0; given = 0; at = 0 }) (length text)
+start-room run text h = record { counted = omega arith; few = omega arith; most = omega arith; within = omega arith; long = h }
+
+pub totals-fit : {tour : Touring} {size : ℕ} → Room tour size → tour .at + 85 ≤ size
+totals-fit r =
+    let w = r .within in
+    let m = r .most in
+    let l = r .long in
+    omega arith
+
+verdict-refused : (g n : ℕ) → refusedFile n ≡ verdictOf g → g ≡ n
+unfolding verdictOf
+verdict-refused zero n e = let z : _≡_ {A = ℕ} 0 1 = cc in absurd (omega arith)
+verdict-refused (suc g) n e = cc
+
+verdict-some : (g n : ℕ) → refusedFile n ≡ verdictOf g → g ≡ 0 → ⊥
+unfolding verdictOf
+verdict-some zero n e = let z : _≡_ {A = ℕ} 0 1 = cc in absurd (omega arith)
+verdict-some (suc g) n e = λ z. omega arith
+
+verdict-accepted : (g : ℕ) → acceptedFile ≡ verdictOf g → g ≡ 0
+unfolding verdictOf
+verdict-accepted zero e = refl
+verdict-accepted (suc g) e = let z : _≡_ {A = ℕ} 0 1 = cc in absurd (omega arith)
+
+-- a text, its length, and the text that holds it in front
+in-front : (front old : List ℕ) {new : List ℕ} {r : ℕ} (f : List ℕ) → length front ≡ r → new ≡ front ++ drop r old →
+    _≡_ {A = ℕ × List ℕ × List ℕ} (r, new, f) (length front, front ++ drop (length front) old, f)
+in-front front old f e h = rw (e, h)
+
+pub listed-refused :
+    (f : List ℕ) {old new : List ℕ} {a : FileAnswer} {w : Refusal} {r : ℕ} → checkedOf a ≡ loadVerdict f → a ≡ verdicts.Refused w →
+    Puts (refusedLine (w .0)) old 0 new r → (r, new, f) ≡ listed f old
+unfolding checkedOf loadVerdict listed listing fileListed
+listed-refused f {old = old} {w = w} is e h =
+    let said : refusedFile (w .0) ≡ verdictOf (loadGround f) = rw e at is in
+    let ground : loadGround f ≡ w .0 = verdict-refused _ _ said in
+    let some : w .0 ≡ 0 → ⊥ = λ z. verdict-some _ _ said (ground ∙ z) in
+    rw (ground, ne-eqb (w .0) 0 some) (in-front (refusedLine (w .0)) old f (front-length h) (apart h))
+
+module _ (f : List ℕ) {old mid new answer file : List ℕ} {a : FileAnswer} {run : RunPosition} {done : Touring} {r : ℕ} (is : checkedOf a ≡ loadVerdict f) (e : a ≡ verdicts.Accepted) (fresh-run : positionOf run ≡ fresh allNames)
+    (t : Toured (turns mostTurns (tourOf (record { run = run; begun = 0; given = 0; at = 0 }) f (replicate 64 0) old)) old 0 done file answer mid)
+    (h : Puts (totalsLine (done .given) (done .run .comparisons) (done .run .rounds)) mid (done .at) new r) where
+  begins : tourOf (record { run = run; begun = 0; given = 0; at = 0 }) f (replicate 64 0) old ≡ startTour f
+  unfolding startTour
+  begins = rw fresh-run
+
+  whole : wholeTour f ≡ tourOf done file answer mid
+  unfolding wholeTour
+  whole = rw (← begins) (sym (t .is))
+
+  behind : drop r mid ≡ drop r old
+  behind =
+      let p = h .place in
+      let further : r ≡ done .at + (r - done .at) = omega arith in
+      rw (further, ← drop-drop (r - done .at) (done .at) mid, ← drop-drop (r - done .at) (done .at) old, t .rest)
+
+  accepted : loadGround f ≡ 0
+  unfolding checkedOf loadVerdict
+  accepted = verdict-accepted (loadGround f) (rw e at is)
+
+  pub listed-accepted : (r, new, file) ≡ listed f old
+  unfolding listed listing fileListed withTotals
+  listed-accepted = rw (eq-eqb (loadGround f) 0 accepted, whole) (in-front (take (done .at) mid ++ totalsLine (done .given) (done .run .comparisons) (done .run .rounds)) old file (front-length h) (rw behind at (apart h)))

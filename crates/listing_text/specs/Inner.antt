@@ -27,6 +27,7 @@ tourOf r file answer text =
 pub record Room (r : Touring) (size : ℕ) : Type 0 where
   pub counted : r .begun ≤ r .run .comparisons
   pub few : r .given ≤ r .run .index
+  pub most : r .given ≤ nameCount
   pub within : r .at ≤ 41 * r .given
   pub long : textSize ≤ size
 

@@ -1,6 +1,6 @@
 -- The listing's lines as bytes (document 01, "The listing program": "Fields: name, physical name, that pass's comparisons, in two and
 -- sixteen hex digits (capitals) and decimal, with one space between fields").
-use Prim.Native.Nat.{ℕ, zero, suc, _+_, _*_, _/_, _%_, _^_}
+use Prim.Native.Nat.{ℕ, zero, suc, _+_, _*_, _/_, _%_, _^_, _≤_}
 use mathlib.Core.List.{List, [], _∷_, _++_}
 use mathlib.Core.Bool.{cond}
 use mathlib.Core.Path.{_≡_}
@@ -62,3 +62,4 @@ pub record Puts (bytes old : List ℕ) (at : ℕ) (new : List ℕ) (next : ℕ) 
   pub text : new ≡ sets old at bytes
   pub place : next ≡ at + length bytes
   pub room : length new ≡ length old
+  pub fits : at + length bytes ≤ length old

@@ -72,13 +72,7 @@ fn told(names: &[u8], tour: Touring, next: RunPosition, text: &mut [u8]) -> Tour
 }
 
 // One step of the run.
-fn turn(
-    file: &mut [u8],
-    names: &[u8],
-    answer: &mut [u8],
-    tour: Touring,
-    text: &mut [u8],
-) -> Touring
+fn turn(file: &mut [u8], names: &[u8], answer: &mut [u8], tour: Touring, text: &mut [u8]) -> Touring
     requires { ⌜ (now names ≡ allNames) × Room tour (length (now text)) ⌝ }
     ensures { λ r. ⌜ Toured (Listing·turn (tourOf tour (now (file .entry)) (now (answer .entry)) (now (text .entry)))) (now (text .entry)) (tour .at) r (now (file .exit)) (now (answer .exit)) (now (text .exit)) ⌝ }
 {
@@ -116,4 +110,26 @@ fn all_turns(
         left = left - 1;
     }
     tour
+}
+
+// The listing of a cluster file, which is left as the run leaves it. The text's length.
+pub fn list(file: &mut [u8], text: &mut [u8]) -> usize
+    requires { ⌜ textSize ≤ length (now text) ⌝ }
+    ensures { λ r. ⌜ (r, now (text .exit), now (file .exit)) ≡ listed (now (file .entry)) (now (text .entry)) ⌝ }
+{
+    let verdict = check(file);
+    if let FileAnswer::Refused(why) = verdict {
+        return put_refused(text, 0, why.0);
+    }
+    let names = all_names();
+    let mut answer = [0u8; 64];
+    let start = Touring {
+        run: first_position(&names),
+        begun: 0,
+        given: 0,
+        at: 0,
+    };
+    let done = all_turns(file, &names, &mut answer, start, text);
+    let run = done.run;
+    put_totals(text, done.at, done.given, run.comparisons, run.rounds)
 }

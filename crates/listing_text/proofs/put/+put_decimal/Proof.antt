@@ -113,7 +113,7 @@ put-decimal-put-byte-requires-2 : (t : ℕ) → put-decimal-lts.Need-put-byte-re
   put-decimal-below t,
   put-decimal.Post,
 ) (put-decimal-at t) put-decimal.Post
-put-decimal-put-byte-requires-2 t c κs = 
+put-decimal-put-byte-requires-2 t c κs =
     let front = c .before .before .before .before .put-decimal .ensures in
     let few = tenth-fits (c .before .before .before .before .before .before .before .before .args .value) (c .before .before .before .before .before .before .before .before .fits .value .fits) in
     let same = front .room in

@@ -31,7 +31,7 @@ digit-requires : tie.Need-digit-requires Inv-loop μ-loop
 digit-requires c κs = search needs
 
 slice-write-text : tie.Need-slice-write-text Inv-loop μ-loop
-slice-write-text c = 
+slice-write-text c =
     let inv = c .before .before .loop .inv in
     let sum = inv .sum in
     let room = inv .room in
@@ -51,7 +51,7 @@ same-length : tie.Need-same-length Inv-loop μ-loop
 same-length c = c .before .loop .inv .room
 
 returns : tie.Need-returns Inv-loop μ-loop
-returns c = spelling-end (c .before .loop .inv) (c .loop-test .left)
+returns c = spelling-end (c .before .loop .inv) (c .before .before .before .pre .0) (c .loop-test .left)
 
 pub put-hex-spec : {M : Type 1} → statement M
 put-hex-spec =

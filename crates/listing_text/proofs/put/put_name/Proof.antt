@@ -11,20 +11,20 @@ put-hex-requires : tie.Need-put-hex-requires
 put-hex-requires c κs = search needs
 
 put-byte-requires : tie.Need-put-byte-requires
-put-byte-requires c κs = 
+put-byte-requires c κs =
     let e1 = c .before .before .before .put-hex .ensures in
     let room = c .before .before .before .before .before .before .pre in
     omega (arith, hex-place 2 _ e1, e1 .room)
 
 put-hex-requires-2 : tie.Need-put-hex-requires-2
-put-hex-requires-2 c κs = 
+put-hex-requires-2 c κs =
     let e1 = c .before .before .before .before .before .before .before .put-hex .ensures in
     let e2 = c .before .before .before .put-byte .ensures in
     let room = c .before .before .before .before .before .before .before .before .before .before .pre in
     (omega (arith, hex-place 2 _ e1, e1 .room, e2 .place, e2 .room), omega arith)
 
 put-byte-requires-2 : tie.Need-put-byte-requires-2
-put-byte-requires-2 c κs = 
+put-byte-requires-2 c κs =
     let e1 = c .before .before .before .before .before .before .before .before .before .before .before .put-hex .ensures in
     let e2 = c .before .before .before .before .before .before .before .put-byte .ensures in
     let e3 = c .before .before .before .put-hex2 .ensures in
@@ -32,7 +32,7 @@ put-byte-requires-2 c κs =
     omega (arith, hex-place 2 _ e1, e1 .room, e2 .place, e2 .room, hex-place 16 _ e3, e3 .room)
 
 put-decimal-requires : tie.Need-put-decimal-requires
-put-decimal-requires c κs = 
+put-decimal-requires c κs =
     let e1 = c .before .before .before .before .before .before .before .before .before .before .before .before .before .before .before .put-hex .ensures in
     let e2 = c .before .before .before .before .before .before .before .before .before .before .before .put-byte .ensures in
     let e3 = c .before .before .before .before .before .before .before .put-hex2 .ensures in
@@ -41,7 +41,7 @@ put-decimal-requires c κs =
     omega (arith, hex-place 2 _ e1, e1 .room, e2 .place, e2 .room, hex-place 16 _ e3, e3 .room, e4 .place, e4 .room)
 
 put-byte-requires-3 : tie.Need-put-byte-requires-3
-put-byte-requires-3 c κs = 
+put-byte-requires-3 c κs =
     let e1 = c .before .before .before .before .before .before .before .before .before .before .before .before .before .before .before .before .before .before .before .put-hex .ensures in
     let e2 = c .before .before .before .before .before .before .before .before .before .before .before .before .before .before .before .put-byte .ensures in
     let e3 = c .before .before .before .before .before .before .before .before .before .before .before .put-hex2 .ensures in

@@ -17,7 +17,7 @@ put-decimal-requires : tie.Need-put-decimal-requires
 put-decimal-requires c κs = search needs
 
 put-byte-requires : tie.Need-put-byte-requires
-put-byte-requires c κs = 
+put-byte-requires c κs =
     let e1 = c .before .before .before .before .before .before .before .put-bytes .ensures in
     let e2 = c .before .before .before .put-decimal .ensures in
     let room = c .before .before .before .before .before .before .before .before .before .before .before .pre in

@@ -20,14 +20,14 @@ slice-aggregate-put-bytes-2 : tie.Need-slice-aggregate-put-bytes-2
 slice-aggregate-put-bytes-2 c = search needs
 
 put-bytes-requires-2 : tie.Need-put-bytes-requires-2
-put-bytes-requires-2 c κs = 
+put-bytes-requires-2 c κs =
     let e1 = c .before .before .before .before .before .before .before .before .put-bytes .ensures in
     let e2 = c .before .before .before .before .put-decimal .ensures in
     let room = c .before .before .before .before .before .before .before .before .before .before .before .before .pre in
     omega (arith, e1 .place, e1 .room, decimal-place _ e2 (c .before .before .before .before .before .before .before .before .before .before .before .before .fits .given .fits), e2 .room)
 
 put-decimal-requires-2 : tie.Need-put-decimal-requires-2
-put-decimal-requires-2 c κs = 
+put-decimal-requires-2 c κs =
     let e1 = c .before .before .before .before .before .before .before .before .before .before .before .before .put-bytes .ensures in
     let e2 = c .before .before .before .before .before .before .before .before .put-decimal .ensures in
     let e3 = c .before .before .before .put-bytes2 .ensures in
@@ -38,7 +38,7 @@ slice-aggregate-put-bytes-3 : tie.Need-slice-aggregate-put-bytes-3
 slice-aggregate-put-bytes-3 c = search needs
 
 put-bytes-requires-3 : tie.Need-put-bytes-requires-3
-put-bytes-requires-3 c κs = 
+put-bytes-requires-3 c κs =
     let e1 = c .before .before .before .before .before .before .before .before .before .before .before .before .before .before .before .before .before .put-bytes .ensures in
     let e2 = c .before .before .before .before .before .before .before .before .before .before .before .before .before .put-decimal .ensures in
     let e3 = c .before .before .before .before .before .before .before .before .put-bytes2 .ensures in
@@ -47,7 +47,7 @@ put-bytes-requires-3 c κs =
     omega (arith, e1 .place, e1 .room, decimal-place _ e2 (c .before .before .before .before .before .before .before .before .before .before .before .before .before .before .before .before .before .before .before .before .before .fits .given .fits), e2 .room, e3 .place, e3 .room, decimal-place _ e4 (c .before .before .before .before .before .before .before .before .before .before .before .before .before .before .before .before .before .before .before .before .before .fits .comparisons .fits), e4 .room)
 
 put-decimal-requires-3 : tie.Need-put-decimal-requires-3
-put-decimal-requires-3 c κs = 
+put-decimal-requires-3 c κs =
     let e1 = c .before .before .before .before .before .before .before .before .before .before .before .before .before .before .before .before .before .before .before .before .before .put-bytes .ensures in
     let e2 = c .before .before .before .before .before .before .before .before .before .before .before .before .before .before .before .before .before .put-decimal .ensures in
     let e3 = c .before .before .before .before .before .before .before .before .before .before .before .before .put-bytes2 .ensures in
@@ -57,7 +57,7 @@ put-decimal-requires-3 c κs =
     omega (arith, e1 .place, e1 .room, decimal-place _ e2 (c .before .before .before .before .before .before .before .before .before .before .before .before .before .before .before .before .before .before .before .before .before .before .before .before .before .fits .given .fits), e2 .room, e3 .place, e3 .room, decimal-place _ e4 (c .before .before .before .before .before .before .before .before .before .before .before .before .before .before .before .before .before .before .before .before .before .before .before .before .before .fits .comparisons .fits), e4 .room, e5 .place, e5 .room)
 
 put-byte-requires : tie.Need-put-byte-requires
-put-byte-requires c κs = 
+put-byte-requires c κs =
     let e1 = c .before .before .before .before .before .before .before .before .before .before .before .before .before .before .before .before .before .before .before .before .before .before .before .before .before .put-bytes .ensures in
     let e2 = c .before .before .before .before .before .before .before .before .before .before .before .before .before .before .before .before .before .before .before .before .before .put-decimal .ensures in
     let e3 = c .before .before .before .before .before .before .before .before .before .before .before .before .before .before .before .before .put-bytes2 .ensures in

@@ -29,7 +29,7 @@ same-length : tie.Need-same-length
 same-length c = search needs
 
 returns-2 : tie.Need-returns-2
-returns-2 c = 
+returns-2 c =
     let start = c .before .before .before .before .before .before .before .before .before .before .before .before .before in
     let most = start .pre .2 .small in
     told-named (start .pre .1) (start .pre .2) (c .before .before .before .before .before .before .before .before .if1 .left) (ap (λ (l : List ℕ). getD l (start .args .tour .run .index) 0) (start .pre .0)) refl (omega arith) (c .before .before .before .put-name .ensures)

@@ -18,7 +18,7 @@ enum-known-stepped : tie.Need-enum-known-stepped
 enum-known-stepped c = search needs
 
 told-requires : tie.Need-told-requires
-told-requires c κs = 
+told-requires c κs =
     let start = c .before .before .before .before .before .before .before .before .before .before .before .before .before .before .before .before in
     (start .pre .0, start .pre .1, moves _ _ _ (step-makes _ _ _ (c .before .before .before .before .before .before .before .before .step .ensures) (start .pre .0) (c .before .before .stepped .given .1)))
 

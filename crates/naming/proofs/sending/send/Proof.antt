@@ -16,7 +16,7 @@ slice-aggregate-master-slave : tie.Need-slice-aggregate-master-slave
 slice-aggregate-master-slave c = search needs
 
 master-slave-requires : tie.Need-master-slave-requires
-master-slave-requires c κs = 
+master-slave-requires c κs =
     let start = c .before .before .before .before .before .before .before .before in
     (start .pre .0, start .pre .1, start .pre .2, pending-for _ (start .args .next) (c .before .before .before .before .read-epoch .ensures) (c .before .before .before .next-epoch .ensures) (start .pre .3), (λ _. omega arith), start .pre .4)
 
@@ -27,7 +27,7 @@ same-length-2 : tie.Need-same-length-2
 same-length-2 c = search needs
 
 returns : tie.Need-returns
-returns c = 
+returns c =
     let start = c .before .before .before .before .before .before .before .before .before .before .before .before .before in
     carried-for _ (start .args .next) (c .before .before .before .before .before .before .before .before .before .read-epoch .ensures) (c .before .before .before .before .before .before .before .before .next-epoch .ensures) _ (c .before .before .before .before .master-slave .ensures)
 
