@@ -383,3 +383,11 @@ module _ (f : List ℕ) {old mid new answer file : List ℕ} {a : FileAnswer} {r
   pub listed-accepted : (r, new, file) ≡ listed f old
   unfolding listed listing fileListed withTotals
   listed-accepted = rw (eq-eqb (loadGround f) 0 accepted, whole) (in-front (take (done .at) mid ++ totalsLine (done .given) (done .run .comparisons) (done .run .rounds)) old file (front-length h) (rw behind at (apart h)))
+
+-- the text holds the listing
+pub listed-fits : (f old : List ℕ) {r : ℕ} {new file : List ℕ} → (r, new, file) ≡ listed f old → r ≤ length new
+unfolding listed
+listed-fits f old e =
+    let is = ap (λ (x : ℕ × List ℕ × List ℕ). x .0) e in
+    let text = ap (λ (x : ℕ × List ℕ × List ℕ). x .1) e in
+    rw (is, text, length-append) (omega arith)
