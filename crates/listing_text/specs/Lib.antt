@@ -1,0 +1,4 @@
+-- What a reader must believe of the listing.
+pub mod Text
+pub mod Listing
+pub mod Inner
