@@ -15,7 +15,7 @@ use Rattle.file.specs.Bytes.{Byte, Bytes, All, none, both as also}
 use Rattle.file.specs.Order.{both}
 use Rattle.file.specs.Grounds.{fileGround}
 use Rattle.file.specs.Accepted.{Becomes}
-use Rattle.file.specs.Places.{withEpoch, withPending}
+use Rattle.file.specs.Places.{withPending}
 use Rattle.file.proofs.Order.{both-left, both-right, both-true}
 use Rattle.frame.specs.Fireworks.{Round, multipartner, msd, msa, roundOf, roundIn, dataFirework}
 use Rattle.frame.specs.Check.{addressCheck}
@@ -24,7 +24,7 @@ use Rattle.frame.specs.Grounds.{wrongLength, wrongCheck, noOperation, broadcast
 use Rattle.frame.proofs.Written.{address-bytes}
 use Rattle.cluster.specs.Slaves.{withAddress}
 use Rattle.cluster.specs.Grounds.{shortAnswer, roundBy, noFirework, writePending, lengthFor, wrongLengthOn, wrongCheckOn, noOperationOn, broadcastReadOn, frameGround}
-use Rattle.file.specs.Cluster.{Cluster, broadcast, documentation, readOperation, configuration, fileNumberOf, operationOf}
+use Rattle.file.specs.Cluster.{Cluster, broadcast, documentation, readOperation}
 use Rattle.file.specs.Decode.{decode}
 use Rattle.cluster.specs.Round.{carried, addressEffect, effectOf, frameOn, carriedBy, roundGround, roundOn}
 use Rattle.cluster.proofs.Rounds.{fits-none, round-accepted, round-becomes}

@@ -3,7 +3,7 @@
 -- Assumes nothing.
 use Prim.Native.Nat.{ℕ}
 use mathlib.Core.Path.{_≡_, refl, sym, _∙_}
-use mathlib.Core.List.{List, [], _∷_, _++_, map}
+use mathlib.Core.List.{List, [], _∷_, _++_, map, append-nil}
 use mathlib.Core.Bool.{true, false, cond}
 use Rattle.file.specs.Bytes.{Bytes, All, none, both as also}
 use Rattle.file.specs.Decode.{decode}
@@ -39,16 +39,11 @@ front-permitted names s p ds (also {a = c} {l = cs} b h) e =
     let rest : permitted names (callOn names s p c .0) (callOn names s p c .1) (cs ++ ds) ≡ true = both-right _ _ e in
     one-more (record { bytes = b; may = here }) (front-permitted names (callOn names s p c .0) (callOn names s p c .1) ds h rest)
 
--- all of it
+-- and all of it
 all-permitted :
     (names : List ℕ) (s : State) (p : Position) {cs : List Call} → All OfBytes cs → permitted names s p cs ≡ true →
     Permitted State (Allowed names) (callOn names) (s, p) cs
-unfolding permitted
-all-permitted names s p none e = all-made
-all-permitted names s p (also {a = c} {l = cs} b h) e =
-    let here : permittedCall names s p c ≡ true = both-left _ _ e in
-    let rest : permitted names (callOn names s p c .0) (callOn names s p c .1) cs ≡ true = both-right _ _ e in
-    one-more (record { bytes = b; may = here }) (all-permitted names (callOn names s p c .0) (callOn names s p c .1) h rest)
+all-permitted names s p {cs} h e = front-permitted names s p [] h (rw (append-nil cs) e)
 
 -- what the abstract theorem says of these calls
 module _ (file names : List ℕ) (b : Bytes file) (g : fileGround file ≡ 0) (n : Names names) where
