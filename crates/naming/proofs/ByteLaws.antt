@@ -58,13 +58,13 @@ module _ (names : List ℕ) (n : Names names) where
   unfolding runGrounds namesGrounds firstOf
   run-ground p fit = rw (n .fit, n .different, fit)
 
-  step-ground : (s : State) (p : Position) (buffer : List ℕ) → Good s → shortBuffer buffer ≡ false → unfitPosition names p ≡ false →
+  pub step-ground : (s : State) (p : Position) (buffer : List ℕ) → Good s → shortBuffer buffer ≡ false → unfitPosition names p ≡ false →
       stepGround (s .file) p names buffer ≡ 0
   unfolding stepGround shortBuffer shortAnswer firstOf
   step-ground s p buffer good long fit =
       firstGround-next (fileGround (s .file)) _ (good .accepted) ∙ rw long (firstGround-next 0 (firstOf (runGrounds names p)) refl ∙ run-ground p fit)
 
-  short-ground : (s : State) (p : Position) (buffer : List ℕ) → Good s → shortBuffer buffer ≡ true → stepGround (s .file) p names buffer ≡ 9
+  pub short-ground : (s : State) (p : Position) (buffer : List ℕ) → Good s → shortBuffer buffer ≡ true → stepGround (s .file) p names buffer ≡ 9
   unfolding stepGround shortBuffer shortAnswer firstOf
   short-ground s p buffer good short =
       firstGround-next (fileGround (s .file)) _ (good .accepted) ∙ rw short (firstGround-here 9 (firstOf (runGrounds names p)) (λ (z : 9 ≡ 0). omega arith))

@@ -4,16 +4,17 @@ use Prim.Native.Nat.{ℕ, _+_}
 use mathlib.Core.Path.{_≡_}
 use mathlib.Core.Bool.{true}
 use mathlib.Core.List.{List, [], _∷_}
-use lib.ListN.{getD}
+use lib.ListN.{getD, replicate}
 use Rattle.file.specs.Cluster.{Slave, unnamed, recordOf, physicalName, comparisonValue}
 use Rattle.file.specs.Decode.{decode}
+use Rattle.file.specs.Grounds.{fileGround}
 use Rattle.frame.specs.Fireworks.{dataFirework}
 use Rattle.frame.proofs.RoundTrip.{FrameCases, frame-cases}
 use Rattle.cluster.specs.Bus.{answerBytes, answerIn, nobody}
 use Rattle.cluster.specs.Slaves.{isUnnamed, reading, comparing, pendingOperation, answersRead}
 use Rattle.cluster.specs.Round.{carried, roundGround, roundOn}
 use Rattle.cluster.proofs.Cases as rounds
-use Rattle.naming.specs.Account.{accountOf, namesIn}
+use Rattle.naming.specs.Account.{step, accountOf, accountAfter, namesIn}
 use Rattle.naming.proofs.Examples.{slave, from, figures, m10File}
 use Rattle.naming.proofs.Examples as account
 
@@ -39,9 +40,11 @@ pub record MarkedCases : Type 0 where
   pub m9 :
       (file buffer : List ℕ) → roundGround file rounds.dataRound buffer ≡ 0 → (n r : ℕ) → pendingOperation (decode file) ≡ reading unnamed n r →
       (roundOn file rounds.dataRound buffer .0 ≡ carried 0) × (roundOn file rounds.dataRound buffer .1 ≡ answerIn buffer (answerBytes dataFirework nobody))
-  -- M10: "Of M10 the theorem shows the account's names and counts"
+  -- M10: "the 96-byte file" is accepted, and "Of M10 the theorem shows the account's names and counts", over names 0x01 to 0xFE and
+  -- 404 steps with a buffer of 64 bytes
+  pub m10-accepted : fileGround m10File ≡ 0
   pub m10 :
-      figures (account.rounds 404 (accountOf (namesIn (decode m10File)) (from 254 1))) ≡
+      figures (accountAfter (accountOf (namesIn (decode m10File)) (from 254 1)) (replicate 404 (step (replicate 64 0)))) ≡
       record {
         slaves = slave 0x0000000700000010 2 ∷ slave 0x00000007000000A0 1 ∷ [];
         end = 1;
@@ -51,4 +54,4 @@ pub record MarkedCases : Type 0 where
 
 pub marked-cases : MarkedCases
 marked-cases =
-    record { frames = frame-cases; m6 = rounds.m6; m7 = rounds.m7; m8 = rounds.m8; m9 = rounds.m9; m10 = account.m10 }
+    record { frames = frame-cases; m6 = rounds.m6; m7 = rounds.m7; m8 = rounds.m8; m9 = rounds.m9; m10-accepted = account.m10-accepted; m10 = account.m10 }

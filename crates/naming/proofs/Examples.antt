@@ -1,17 +1,18 @@
 -- Small cases of the definitions, computed.
 -- Assumes nothing.
 use Prim.Native.Nat.{ℕ, zero, suc}
-use mathlib.Core.Path.{_≡_, refl}
+use mathlib.Core.Path.{_≡_, refl, ap, _∙_}
+use mathlib.Core.Bool.{false}
 use mathlib.Core.List.{List, [], _∷_}
-use lib.ListN.{length}
-use Rattle.file.specs.Grounds.{isAmong}
-use Rattle.file.specs.Order.{either}
-use Rattle.file.specs.Bytes.{numberOf, bytesOf, part}
-use Rattle.file.specs.Cluster.{bytesAmong, bytesIn, physicalName, logicalName}
+use lib.ListN.{length, replicate}
+use Rattle.file.specs.Grounds.{isAmong, hasRepeat, fileGround, fileGroundAt, fileGrounds, wrongSize, wrongMark, wrongEdition, wrongLength, wrongHeader, wrongPending, brokenLayout, walkFile, tableEnd, walkSlaves, andThen, walkSlave, goodTableEntry, walkDirectory, goodEntry, endsAt, lacksNeeded, allHaveNeeded, hasNeeded, equalPhysicalNames}
+use Rattle.file.specs.Order.{firstOf, both, either}
+use Rattle.file.specs.Bytes.{numberOf, bytesOf, part, allZero}
+use Rattle.file.specs.Cluster.{bytesAmong, bytesIn, lastRecord, physicalName, logicalName}
 use Rattle.file.specs.Decode.{decode, decodeAt, slavesAt, slaveAt, filesAt, fileAt, fileSize, offsetAt}
 use Rattle.naming.specs.View.{sent, Sent, atUnnamed}
 use Rattle.naming.specs.Run.{Position, operationOf, operationAt, placeOf, askOrGive, questionOf, partOf, giveOf, tried}
-use Rattle.naming.specs.Account.{Named, namesOf, namesIn, Account, accountOf, comparisonsOf, comparisonsAfter, oneRound, pass, freePass, goOn, passDone, runEnds, give, falling, insert, unnamedAmong, namesHeld, endWith}
+use Rattle.naming.specs.Account.{Named, namesOf, namesIn, Account, step as stepWith, shortBuffer, accountCall, accountAfter, accountOf, comparisonsOf, comparisonsAfter, oneRound, pass, freePass, goOn, passDone, runEnds, give, falling, insert, unnamedAmong, namesHeld, endWith}
 
 -- n names from a on
 pub from : ℕ → ℕ → List ℕ
@@ -51,8 +52,23 @@ m10-length : length m10File ≡ 96
 unfolding m10File
 m10-length = refl
 
--- the names and counts of its account: "named 2 compares 131 rounds 404"
-pub m10 :
+pub m10-accepted : fileGround m10File ≡ 0
+unfolding m10File fileGround fileGroundAt fileGrounds firstOf both either wrongSize wrongMark wrongEdition wrongLength wrongHeader wrongPending allZero part numberOf offsetAt brokenLayout walkFile tableEnd walkSlaves andThen walkSlave goodTableEntry walkDirectory goodEntry fileSize endsAt lacksNeeded allHaveNeeded hasNeeded lastRecord decodeAt slavesAt slaveAt filesAt fileAt equalPhysicalNames hasRepeat isAmong physicalName bytesIn bytesAmong
+m10-accepted = refl
+
+-- steps with a buffer of 64 bytes or more make rounds
+step-round : (buffer : List ℕ) → shortBuffer buffer ≡ false → (a : Account) → accountCall a (stepWith buffer) ≡ oneRound a
+unfolding accountCall
+step-round buffer long a = rw long
+
+steps-rounds :
+    (buffer : List ℕ) → shortBuffer buffer ≡ false → (n : ℕ) (a : Account) → accountAfter a (replicate n (stepWith buffer)) ≡ rounds n a
+unfolding accountAfter rounds
+steps-rounds buffer long zero a = refl
+steps-rounds buffer long (suc n) a =
+    ap (λ (b : Account). accountAfter b (replicate n (stepWith buffer))) (step-round buffer long a) ∙ steps-rounds buffer long n (oneRound a)
+
+m10-rounds :
     figures (rounds 404 (accountOf (namesIn (decode m10File)) (from 254 1))) ≡
     record {
       slaves = slave 0x0000000700000010 2 ∷ slave 0x00000007000000A0 1 ∷ [];
@@ -61,7 +77,22 @@ pub m10 :
       comparisons = 131;
     }
 unfolding m10File decode decodeAt slavesAt slaveAt filesAt fileAt fileSize offsetAt part numberOf namesIn namesOf physicalName logicalName bytesIn bytesAmong figures rounds from slave comparisonsOf comparisonsAfter oneRound pass freePass goOn passDone runEnds give accountOf falling insert unnamedAmong namesHeld endWith isAmong either
-m10 = refl
+m10-rounds = refl
+
+long-buffer : shortBuffer (replicate 64 0) ≡ false
+unfolding shortBuffer
+long-buffer = refl
+
+-- the names and counts of its account after 404 steps: "named 2 compares 131 rounds 404"
+pub m10 :
+    figures (accountAfter (accountOf (namesIn (decode m10File)) (from 254 1)) (replicate 404 (stepWith (replicate 64 0)))) ≡
+    record {
+      slaves = slave 0x0000000700000010 2 ∷ slave 0x00000007000000A0 1 ∷ [];
+      end = 1;
+      rounds = 404;
+      comparisons = 131;
+    }
+m10 = ap figures (steps-rounds (replicate 64 0) long-buffer 404 (accountOf (namesIn (decode m10File)) (from 254 1))) ∙ m10-rounds
 
 -- names 5 and 7 for slaves of which one holds 5 and one, with physical name 0, is unnamed: "names used up" after 1 + 200 rounds
 small :

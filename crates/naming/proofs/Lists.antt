@@ -1,28 +1,39 @@
 -- The lists of calls that are permitted are many: every list of steps is, a permitted list goes on with any list that is permitted
--- where it ends, and so with any accepted round of others that does not change the configuration.
+-- where it ends, and so with any accepted round of others that does not change the configuration. On every accepted file there are
+-- such rounds, a multipartner frame and an address frame with its data frame: each fits behind every permitted list and before every
+-- list of steps.
 -- Assumes nothing.
-use Prim.Native.Nat.{ℕ}
+use Prim.Native.Nat.{ℕ, _≤_}
 use mathlib.Core.Path.{_≡_, refl, _∙_}
 use mathlib.Core.List.{List, [], _∷_, _++_}
 use mathlib.Core.Bool.{Bool, true, false, cond, not}
+use native.Mathlib.Omega.{arith}
 use lib.ListN.{getD}
 use lib.Dec.{eqb}
-use borrow.Author.Tests.{not-true}
-use Rattle.file.specs.Bytes.{All, none, both as also}
+use borrow.Author.Tests.{not-true, eq-eqb, ne-eqb}
+use Rattle.file.specs.Bytes.{Byte, Bytes, All, none, both as also}
+use Rattle.file.specs.Order.{both}
 use Rattle.file.specs.Grounds.{fileGround}
+use Rattle.file.specs.Accepted.{Becomes}
+use Rattle.file.specs.Places.{withPending}
 use Rattle.file.proofs.Order.{both-left, both-right, both-true}
-use Rattle.frame.specs.Fireworks.{Round, multipartner, msd, msa, roundOf, roundIn}
-use Rattle.frame.specs.Grounds.{wrongLength}
-use Rattle.cluster.specs.Grounds.{shortAnswer, roundBy, noFirework, lengthFor, wrongLengthOn, wrongCheckOn, noOperationOn, broadcastReadOn, frameGround}
-use Rattle.file.specs.Cluster.{Cluster}
+use Rattle.frame.specs.Fireworks.{Round, multipartner, msd, msa, roundOf, roundIn, dataFirework}
+use Rattle.frame.specs.Check.{addressCheck}
+use Rattle.frame.specs.Frames.{frameOf, pb2Of, addressBytes, addressFrame}
+use Rattle.frame.specs.Grounds.{wrongLength, wrongCheck, noOperation, broadcastRead}
+use Rattle.frame.proofs.Written.{address-bytes}
+use Rattle.cluster.specs.Slaves.{withAddress}
+use Rattle.cluster.specs.Grounds.{shortAnswer, roundBy, noFirework, writePending, lengthFor, wrongLengthOn, wrongCheckOn, noOperationOn, broadcastReadOn, frameGround}
+use Rattle.file.specs.Cluster.{Cluster, broadcast, documentation, readOperation}
 use Rattle.file.specs.Decode.{decode}
-use Rattle.cluster.specs.Round.{carried, carriedBy, roundGround, roundOn}
-use Rattle.cluster.proofs.Rounds.{fits-none, round-accepted}
-use Rattle.naming.specs.Run.{Position}
+use Rattle.cluster.specs.Round.{carried, addressEffect, effectOf, frameOn, carriedBy, roundGround, roundOn}
+use Rattle.cluster.proofs.Rounds.{fits-none, round-accepted, round-becomes}
+use Rattle.naming.specs.Run.{Position, fresh, startGround}
 use Rattle.naming.specs.Step.{stepGround}
-use Rattle.naming.specs.Account.{Call, step, frame}
-use Rattle.naming.specs.Demand.{State, halfwayAfter, callOn, changesConfiguration, permittedFrame, permittedCall, permitted, afterCalls}
+use Rattle.naming.specs.Account.{Call, step, frame, shortBuffer}
+use Rattle.naming.specs.Demand.{State, startOn, halfwayAfter, callOn, changesConfiguration, permittedFrame, permittedCall, permitted, afterCalls, OfBytes}
 use Rattle.naming.proofs.StepRound.{round-fits}
+use Rattle.naming.proofs.OverBytes.{demand-3, bytes-after}
 
 pub data IsStep : Call → Type 0 where
   is-step : {buffer : List ℕ} → IsStep (step buffer)
@@ -116,3 +127,132 @@ round-0-frame c =
 
 pub round-0-fits : (file buffer : List ℕ) → fileGround file ≡ 0 → shortAnswer buffer ≡ false → roundGround file (0x78 ∷ []) buffer ≡ 0
 round-0-fits file buffer g long = round-fits file (0x78 ∷ []) buffer g long (round-0-frame (decode file))
+
+-- and a read of 0x3D record 1 at a name other than 0x00, with the data frame behind it
+abbrev pub readFrame : ℕ → ℕ → List ℕ
+readFrame epoch name = addressFrame epoch name documentation readOperation 1
+
+module _ (epoch name : ℕ) where
+  read-round : roundBy (readFrame epoch name) ≡ msa
+  unfolding addressFrame frameOf roundBy roundOf roundIn
+  read-round = refl
+
+  read-keeps : changesConfiguration (getD (readFrame epoch name) 3 0) ≡ false
+  unfolding addressFrame addressBytes frameOf pb2Of changesConfiguration both
+  read-keeps = refl
+
+  read-check : (c : Cluster) → wrongCheckOn c msa (readFrame epoch name) ≡ false
+  unfolding wrongCheckOn wrongCheck addressFrame addressBytes frameOf
+  read-check c = let k = addressCheck (epoch ∷ name ∷ pb2Of documentation readOperation ∷ 1 ∷ []) in rw (eq-eqb k k refl)
+
+  read-frame : (c : Cluster) → (name ≡ broadcast → ⊥) → frameGround c (readFrame epoch name) ≡ 0
+  unfolding frameGround
+  read-frame c some =
+      rw read-round
+      (fits-none c msa (readFrame epoch name)
+      (record {
+        firework = unfold noFirework in refl;
+        size = unfold wrongLengthOn wrongLength lengthFor addressFrame addressBytes frameOf in refl;
+        check = read-check c;
+        operation = unfold noOperationOn noOperation addressFrame addressBytes frameOf pb2Of in refl;
+        broadcastRead = unfold broadcastReadOn broadcastRead addressFrame addressBytes frameOf pb2Of in rw (ne-eqb name broadcast some) (unfold both in refl);
+      }))
+
+  -- behind it no write is pending
+  read-pending : (c : Cluster) → writePending (frameOn c (readFrame epoch name) .after) ≡ false
+  unfolding frameOn
+  read-pending c =
+      rw read-round
+      (unfold effectOf addressEffect withAddress withPending writePending both addressFrame addressBytes frameOf pb2Of in refl)
+
+  data-round : roundBy (dataFirework ∷ []) ≡ msd
+  unfolding roundBy roundOf roundIn
+  data-round = refl
+
+  data-frame : (c : Cluster) → writePending c ≡ false → frameGround c (dataFirework ∷ []) ≡ 0
+  unfolding frameGround
+  data-frame c idle =
+      rw data-round
+      (fits-none c msd (dataFirework ∷ [])
+      (record {
+        firework = unfold noFirework in refl;
+        size = unfold wrongLengthOn wrongLength lengthFor in rw idle;
+        check = unfold wrongCheckOn both in rw idle;
+        operation = unfold noOperationOn in refl;
+        broadcastRead = unfold broadcastReadOn in refl;
+      }))
+
+  pub read-permitted :
+      (names : List ℕ) (s : State) (p : Position) (buffer buffer′ : List ℕ) → s .halfway ≡ false → Bytes (s .file) → fileGround (s .file) ≡ 0 →
+      Byte epoch → Byte name → (name ≡ broadcast → ⊥) → shortAnswer buffer ≡ false → shortAnswer buffer′ ≡ false →
+      permitted names s p (frame (readFrame epoch name) buffer ∷ frame (dataFirework ∷ []) buffer′ ∷ []) ≡ true
+  read-permitted names s p buffer buffer′ closed b g e n some long long′ =
+      round-permitted names s p (readFrame epoch name) buffer (dataFirework ∷ []) buffer′ closed first read-round read-keeps
+      (round-fits (roundOn (s .file) (readFrame epoch name) buffer .2) (dataFirework ∷ []) buffer′ (after .accepted) long′
+      (rw (after .decoded) (data-frame (frameOn (decode (s .file)) (readFrame epoch name) .after) (read-pending (decode (s .file))))))
+      data-round
+    where
+      first : roundGround (s .file) (readFrame epoch name) buffer ≡ 0
+      first = round-fits (s .file) (readFrame epoch name) buffer g long (read-frame (decode (s .file)) some)
+
+      of-bytes : Bytes (readFrame epoch name)
+      of-bytes =
+          let d : documentation ≤ 63 = omega arith in
+          let o : readOperation ≤ 3 = omega arith in
+          let r : Byte 1 = omega arith in
+          address-bytes epoch name documentation readOperation 1 e n d o r
+
+      after : Becomes (roundOn (s .file) (readFrame epoch name) buffer .2) (frameOn (decode (s .file)) (readFrame epoch name) .after)
+      after = round-becomes (s .file) (readFrame epoch name) buffer b of-bytes first
+
+-- ---- a permitted round fits between any two calls
+
+-- Behind a permitted list, a list that is permitted where it ends, and behind both any steps. Not any calls: a round that is put in
+-- may leave another operation pending, and with it a one-byte MSD further on, refused where a write is pending, is accepted: a lone
+-- MSD, which is no complete round.
+pub fits-between :
+    (names : List ℕ) (s : State) (p : Position) (cs rs : List Call) {ds : List Call} → permitted names s p cs ≡ true →
+    permitted names (afterCalls names s p cs .0) (afterCalls names s p cs .1) rs ≡ true → All IsStep ds →
+    permitted names s p (cs ++ (rs ++ ds)) ≡ true
+fits-between names s p cs rs {ds} e k steps =
+    permitted-append names s p cs (rs ++ ds) e
+    (permitted-append names (afterCalls names s p cs .0) (afterCalls names s p cs .1) rs ds k
+    (steps-permitted names (afterCalls names (afterCalls names s p cs .0) (afterCalls names s p cs .1) rs .0)
+    (afterCalls names (afterCalls names s p cs .0) (afterCalls names s p cs .1) rs .1)
+    (permitted-closed names (afterCalls names s p cs .0) (afterCalls names s p cs .1) rs k) steps))
+
+module _
+    (file : List ℕ) (b : Bytes file) (g : fileGround file ≡ 0) (names : List ℕ) (n : Bytes names) (accepted : startGround names ≡ 0)
+    (cs : List Call) (of-bytes : All OfBytes cs) (may : permitted names (startOn file) (fresh names) cs ≡ true) {ds : List Call}
+    (steps : All IsStep ds) where
+  -- where the calls end
+  abbrev s : State
+  s = afterCalls names (startOn file) (fresh names) cs .0
+
+  abbrev p : Position
+  p = afterCalls names (startOn file) (fresh names) cs .1
+
+  file-after : fileGround (s .file) ≡ 0
+  file-after = demand-3 file b g names n accepted cs of-bytes may .accepted
+
+  -- a multipartner round
+  pub round-between :
+      (buffer : List ℕ) → shortBuffer buffer ≡ false →
+      permitted names (startOn file) (fresh names) (cs ++ frame (0x78 ∷ []) buffer ∷ ds) ≡ true
+  round-between buffer long =
+      fits-between names (startOn file) (fresh names) cs (frame (0x78 ∷ []) buffer ∷ []) {ds = ds} may
+      (multipartner-permitted names s p (0x78 ∷ []) buffer 0 (permitted-closed names (startOn file) (fresh names) cs may)
+      (round-0-fits (s .file) buffer file-after (unfold shortBuffer shortAnswer in long)) round-0)
+      steps
+
+  -- a master-slave round: the two frames of a read
+  pub read-between :
+      (epoch name : ℕ) → Byte epoch → Byte name → (name ≡ broadcast → ⊥) → (buffer buffer′ : List ℕ) → shortBuffer buffer ≡ false →
+      shortBuffer buffer′ ≡ false →
+      permitted names (startOn file) (fresh names) (cs ++ frame (readFrame epoch name) buffer ∷ frame (dataFirework ∷ []) buffer′ ∷ ds) ≡ true
+  read-between epoch name e m some buffer buffer′ long long′ =
+      fits-between names (startOn file) (fresh names) cs (frame (readFrame epoch name) buffer ∷ frame (dataFirework ∷ []) buffer′ ∷ []) {ds = ds} may
+      (read-permitted epoch name names s p buffer buffer′ (permitted-closed names (startOn file) (fresh names) cs may)
+      (bytes-after file b g names n accepted cs of-bytes may) file-after e m some (unfold shortBuffer shortAnswer in long)
+      (unfold shortBuffer shortAnswer in long′))
+      steps

@@ -1,25 +1,26 @@
 -- Demand 3 over bytes, whole: for every accepted file, every accepted list of names and every list of permitted calls, from a fresh
--- run. And that the lists are many: every list of steps is permitted, and a permitted round fits between any two calls.
+-- run. And that it holds throughout such a list, after each of its calls: there too the file is accepted and no step meets ground 17.
 -- Assumes nothing.
 use Prim.Native.Nat.{ℕ}
 use mathlib.Core.Path.{_≡_, refl, sym, _∙_}
-use mathlib.Core.List.{List, [], _∷_, map}
-use mathlib.Core.Bool.{true, false}
+use mathlib.Core.List.{List, [], _∷_, _++_, map, append-nil}
+use mathlib.Core.Bool.{true, false, cond}
 use Rattle.file.specs.Bytes.{Bytes, All, none, both as also}
 use Rattle.file.specs.Decode.{decode}
 use Rattle.file.specs.Grounds.{fileGround}
 use Rattle.file.specs.Legal.{Legal}
-use Rattle.file.proofs.Order.{both-left, both-right, clash}
+use Rattle.file.proofs.Order.{byCase, both-left, both-right, clash}
 use Rattle.file.proofs.Accepted.{accepted-legal}
-use Rattle.naming.specs.Run.{Position, fresh, startGround}
-use Rattle.naming.specs.Account.{Call, namesIn, accountOf, accountAfter}
-use Rattle.naming.specs.Demand.{State, startOn, callOn, permittedCall, permitted, afterCalls, OfBytes, Demand}
+use Rattle.naming.specs.Run.{Position, fresh, startGround, unfitPosition}
+use Rattle.naming.specs.Step.{stepGround}
+use Rattle.naming.specs.Account.{Call, shortBuffer, namesIn, accountOf, accountAfter}
+use Rattle.naming.specs.Demand.{State, startOn, callOn, permittedCall, permitted, afterCalls, OfBytes, Demand, DemandThree}
 use Rattle.naming.proofs.Answers.{namedOf}
 use Rattle.naming.proofs.Start.{Names}
 use Rattle.naming.proofs.Abstract.{Permitted, all-made, one-more, runCalls}
 use Rattle.naming.proofs.Demand.{Holds, demand}
 use Rattle.naming.proofs.FromFile.{names-of-view, legal-slaves, legal-few, accepted-names}
-use Rattle.naming.proofs.ByteLaws.{Good, viewIn, Allowed, byte-laws}
+use Rattle.naming.proofs.ByteLaws.{Good, viewIn, Allowed, byte-laws, step-ground, short-ground}
 
 -- the walk along file and run is the abstract one
 same-calls : (names : List ℕ) (s : State) (p : Position) (cs : List Call) → runCalls State (callOn names) (s, p) cs ≡ afterCalls names s p cs
@@ -27,15 +28,22 @@ unfolding runCalls afterCalls
 same-calls names s p [] = refl
 same-calls names s p (c ∷ cs) = same-calls names (callOn names s p c .0) (callOn names s p c .1) cs
 
+-- so are the calls at the front of a permitted list: what comes behind them says nothing of them
+front-permitted :
+    (names : List ℕ) (s : State) (p : Position) {cs : List Call} (ds : List Call) → All OfBytes cs → permitted names s p (cs ++ ds) ≡ true →
+    Permitted State (Allowed names) (callOn names) (s, p) cs
+unfolding permitted
+front-permitted names s p ds none e = all-made
+front-permitted names s p ds (also {a = c} {l = cs} b h) e =
+    let here : permittedCall names s p c ≡ true = both-left _ _ e in
+    let rest : permitted names (callOn names s p c .0) (callOn names s p c .1) (cs ++ ds) ≡ true = both-right _ _ e in
+    one-more (record { bytes = b; may = here }) (front-permitted names (callOn names s p c .0) (callOn names s p c .1) ds h rest)
+
+-- and all of it
 all-permitted :
     (names : List ℕ) (s : State) (p : Position) {cs : List Call} → All OfBytes cs → permitted names s p cs ≡ true →
     Permitted State (Allowed names) (callOn names) (s, p) cs
-unfolding permitted
-all-permitted names s p none e = all-made
-all-permitted names s p (also {a = c} {l = cs} b h) e =
-    let here : permittedCall names s p c ≡ true = both-left _ _ e in
-    let rest : permitted names (callOn names s p c .0) (callOn names s p c .1) cs ≡ true = both-right _ _ e in
-    one-more (record { bytes = b; may = here }) (all-permitted names (callOn names s p c .0) (callOn names s p c .1) h rest)
+all-permitted names s p {cs} h e = front-permitted names s p [] h (rw (append-nil cs) e)
 
 -- what the abstract theorem says of these calls
 module _ (file names : List ℕ) (b : Bytes file) (g : fileGround file ≡ 0) (n : Names names) where
@@ -52,31 +60,58 @@ module _ (file names : List ℕ) (b : Bytes file) (g : fileGround file ≡ 0) (n
   start-seen = seen (record { file = file; halfway = false })
 
   holds :
-      (calls : List Call) → All OfBytes calls → permitted names (startOn file) (fresh names) calls ≡ true →
+      (calls : List Call) → Permitted State (Allowed names) (callOn names) (startOn file, fresh names) calls →
       Holds (namesIn (decode file)) names Good viewIn (afterCalls names (startOn file) (fresh names) calls)
       (accountAfter (accountOf (namesIn (decode file)) names) calls)
-  holds calls of-bytes may =
+  holds calls may =
       let legal : Legal (decode file) = accepted-legal file b g in
       let all = demand State names viewIn Good (Allowed names) (callOn names) (byte-laws names n) n (startOn file) start-good
-      (rw start-seen (legal-slaves (decode file) legal)) (rw start-seen (legal-few (decode file) legal)) calls
-      (all-permitted names (startOn file) (fresh names) of-bytes may) in
+      (rw start-seen (legal-slaves (decode file) legal)) (rw start-seen (legal-few (decode file) legal)) calls may in
       rw (start-seen, same-calls names (startOn file) (fresh names) calls) at all
 
+  -- a step's only ground is its buffer's
+  only-nine :
+      (s : State) (p : Position) → Good s → unfitPosition names p ≡ false → (buffer : List ℕ) →
+      stepGround (s .file) p names buffer ≡ cond (shortBuffer buffer) 9 0
+  only-nine s p good fit buffer =
+      byCase (shortBuffer buffer)
+      (λ t. rw t (short-ground names n s p buffer good t))
+      (λ f. rw f (step-ground names n s p buffer good f fit))
+
+  holds-demand :
+      (calls : List Call) → Permitted State (Allowed names) (callOn names) (startOn file, fresh names) calls →
+      Demand file names calls (afterCalls names (startOn file) (fresh names) calls .0 .file) (afterCalls names (startOn file) (fresh names) calls .1)
+  holds-demand calls may =
+      let h = holds calls may in
+      let now = seen (afterCalls names (startOn file) (fresh names) calls .0) in
+      record {
+        accepted = h .good .accepted;
+        logical = sym now ∙ h .agree .names;
+        end = h .agree .end;
+        rounds = h .agree .rounds;
+        comparisons = h .agree .comparisons;
+        fit = h .fit;
+        grounds = only-nine (afterCalls names (startOn file) (fresh names) calls .0) (afterCalls names (startOn file) (fresh names) calls .1) (h .good) (h .fit);
+        outcome = rw now at (h .outcome);
+      }
+
 -- For every accepted file, every accepted list of names and every list of permitted calls of bytes, from a fresh run.
-pub demand-3 :
-    (file names : List ℕ) → Bytes file → fileGround file ≡ 0 → Bytes names → startGround names ≡ 0 → (calls : List Call) → All OfBytes calls →
-    permitted names (startOn file) (fresh names) calls ≡ true →
-    Demand file names calls (afterCalls names (startOn file) (fresh names) calls .0 .file) (afterCalls names (startOn file) (fresh names) calls .1)
-demand-3 file names b g bytes accepted calls of-bytes may =
-    let n : Names names = accepted-names names bytes accepted in
-    let h = holds file names b g n calls of-bytes may in
-    let now = seen file names b g n (afterCalls names (startOn file) (fresh names) calls .0) in
-    record {
-      accepted = h .good .accepted;
-      logical = sym now ∙ h .agree .names;
-      end = h .agree .end;
-      rounds = h .agree .rounds;
-      comparisons = h .agree .comparisons;
-      fit = h .fit;
-      outcome = rw now at (h .outcome);
-    }
+pub demand-3 : DemandThree
+demand-3 file b g names bytes accepted calls of-bytes may =
+    holds-demand file names b g (accepted-names names bytes accepted) calls (all-permitted names (startOn file) (fresh names) of-bytes may)
+
+-- Throughout: after the calls at the front of a permitted list, wherever it is cut, also within a round of others.
+pub throughout :
+    (file : List ℕ) → Bytes file → fileGround file ≡ 0 → (names : List ℕ) → Bytes names → startGround names ≡ 0 → (cs ds : List Call) →
+    All OfBytes cs → permitted names (startOn file) (fresh names) (cs ++ ds) ≡ true →
+    Demand file names cs (afterCalls names (startOn file) (fresh names) cs .0 .file) (afterCalls names (startOn file) (fresh names) cs .1)
+throughout file b g names bytes accepted cs ds of-bytes may =
+    holds-demand file names b g (accepted-names names bytes accepted) cs (front-permitted names (startOn file) (fresh names) ds of-bytes may)
+
+-- the file after permitted calls is of bytes
+pub bytes-after :
+    (file : List ℕ) → Bytes file → fileGround file ≡ 0 → (names : List ℕ) → Bytes names → startGround names ≡ 0 → (calls : List Call) →
+    All OfBytes calls → permitted names (startOn file) (fresh names) calls ≡ true →
+    Bytes (afterCalls names (startOn file) (fresh names) calls .0 .file)
+bytes-after file b g names bytes accepted calls of-bytes may =
+    holds file names b g (accepted-names names bytes accepted) calls (all-permitted names (startOn file) (fresh names) of-bytes may) .good .bytes

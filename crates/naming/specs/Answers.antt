@@ -1,4 +1,5 @@
--- The code's types in the terms of the rules. No two values of one type are taken to the same.
+-- The code's types in the terms of the rules. No two values of one type are taken to the same; of a step's answers, which carry the
+-- run, `steppedOf` and `runAfter` together tell any two apart.
 use Prim.Native.Nat.{ℕ, _/_, _%_, _≤_, _<_}
 use mathlib.Core.Path.{_≡_}
 use mathlib.Core.List.{List, [], _∷_}

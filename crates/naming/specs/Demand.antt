@@ -6,7 +6,7 @@ use mathlib.Core.List.{List, [], _∷_}
 use mathlib.Core.Bool.{Bool, true, false, cond, not}
 use lib.ListN.{getD}
 use lib.Dec.{eqb}
-use Rattle.file.specs.Bytes.{Bytes}
+use Rattle.file.specs.Bytes.{Bytes, All}
 use Rattle.file.specs.Order.{both}
 use Rattle.file.specs.Cluster.{configuration, fileNumberOf, operationOf, readOperation}
 use Rattle.file.specs.Decode.{decode}
@@ -14,9 +14,9 @@ use Rattle.file.specs.Grounds.{fileGround}
 use Rattle.frame.specs.Fireworks.{Round, multipartner, msd, msa, none}
 use Rattle.cluster.specs.Grounds.{roundBy}
 use Rattle.cluster.specs.Round.{Answer, refused, carried, roundGround, roundOn}
-use Rattle.naming.specs.Run.{Position, unfitPosition}
+use Rattle.naming.specs.Run.{Position, fresh, startGround, unfitPosition}
 use Rattle.naming.specs.Step.{stepGround, stepOn}
-use Rattle.naming.specs.Account.{Call, step, frame, namesIn, accountOf, accountAfter, comparisonsOf}
+use Rattle.naming.specs.Account.{Call, step, frame, shortBuffer, namesIn, accountOf, accountAfter, comparisonsOf}
 use Rattle.naming.specs.Figures.{Outcome}
 
 -- the file as the last call left it, and whether a round of others is half done: its MSA accepted, its MSD still to come
@@ -82,7 +82,7 @@ pub data OfBytes : Call → Type 0 where
   of-frame : {bytes buffer : List ℕ} → Bytes bytes → OfBytes (frame bytes buffer)
 
 -- "Demand 3 compares every logical name, the end and both counts carried in the run with this account"; the file stays accepted,
--- ground 17 does not hold, and the closed figures
+-- ground 17 does not hold, a step that comes next meets no ground but 9, and the closed figures
 pub record Demand (file names : List ℕ) (calls : List Call) (now : List ℕ) (p : Position) : Type 0 where
   pub accepted : fileGround now ≡ 0
   pub logical : namesIn (decode now) ≡ accountAfter (accountOf (namesIn (decode file)) names) calls .slaves
@@ -90,4 +90,18 @@ pub record Demand (file names : List ℕ) (calls : List Call) (now : List ℕ) (
   pub rounds : p .rounds ≡ accountAfter (accountOf (namesIn (decode file)) names) calls .rounds
   pub comparisons : p .comparisons ≡ comparisonsOf (accountAfter (accountOf (namesIn (decode file)) names) calls)
   pub fit : unfitPosition names p ≡ false
+  pub grounds : (buffer : List ℕ) → stepGround now p names buffer ≡ cond (shortBuffer buffer) 9 0
   pub outcome : Outcome (namesIn (decode file)) names (namesIn (decode now)) (p .mark) (p .rounds) (p .comparisons)
+
+-- Demand 3: "It is one claim about the whole list of calls, not one for each."
+abbrev pub DemandThree : Type 0
+DemandThree =
+    -- "It starts from an accepted file"
+    (file : List ℕ) → Bytes file → fileGround file ≡ 0 →
+    -- "and list of names"
+    (names : List ℕ) → Bytes names → startGround names ≡ 0 →
+    -- "every list of steps, permitted rounds (complete ones, but no write to or execute of 0x08) and refused steps and frames", from
+    -- that file and "a fresh run"
+    (calls : List Call) → All OfBytes calls → permitted names (startOn file) (fresh names) calls ≡ true →
+    -- "after" it, file and run being "as the last call left" them
+    Demand file names calls (afterCalls names (startOn file) (fresh names) calls .0 .file) (afterCalls names (startOn file) (fresh names) calls .1)
