@@ -278,7 +278,7 @@ fn on_file(line: &[u8], names: &[u8], file: &mut [u8])
     };
     let mut buffer = [0xEEu8; 168];
     let fourth = numbers_of(line, 4);
-    let length = io::count(fourth[0] as isize, &buffer);
+    let length = io::count((fourth[0] % 256) as isize, &buffer);
     step_line(file, run, names, &mut buffer[..length]);
 }
 
