@@ -18,7 +18,6 @@ shared-slice-read-first c = search needs
 firework-of-requires : tie.Need-firework-of-requires
 firework-of-requires c κs = search needs
 
--- /work/wt-int/target/rlib/file.rlib/interface/lang/src/types.rt:22:32
 enum-told : tie.Need-enum-told
 enum-told c = search needs
 
