@@ -1,0 +1,2 @@
+-- What the test programs lean on.
+pub mod Fields
