@@ -1,4 +1,4 @@
-// Bytes and several-byte numbers of the file, most significant byte first. Shifts and or: the compiler makes one load of them.
+// Bytes and several-byte numbers of the file, most significant byte first.
 ghost use Prim.Native.Nat.{_+_, _≤_, _<_};
 ghost use lib.ListN.{length};
 ghost use Rattle.file.specs.Bytes.{ByteAt, NumberAt};
