@@ -1,6 +1,6 @@
 -- The numbers of the layout (document 01, "The cluster file": "Our own layout, edition 1."), each by w, the bytes of an offset: 2 in
--- edition 1. The number that it is in edition 1 stands in its comment, and `proofs/EditionOne.antt` computes them all. No other file
--- of specs/ spells out one of them.
+-- edition 1. The number that it is in edition 1 stands in its comment, and `proofs/EditionOne.antt` computes them all. The walk in
+-- `Grounds` steps through table entries and directory entries by the same numbers, written out there.
 use Prim.Native.Nat.{ℕ, _+_, _*_, _-_, _/_}
 
 -- the bytes of an offset in edition 1

@@ -1,5 +1,5 @@
 -- The number in a value of each of the three types that document 01 keeps apart: "A file number, a record number and a logical name
--- are never taken for one another". Contracts read a value through these, so that one of another type does not fit.
+-- are never taken for one another". A contract that reads a value through these takes none of another type.
 use Prim.Native.Nat.{ℕ}
 use Rattle.file.specs.declared.types.FileNumber.{FileNumber}
 use Rattle.file.specs.declared.types.RecordNumber.{RecordNumber}

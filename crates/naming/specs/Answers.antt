@@ -1,5 +1,5 @@
--- The code's types in the terms of the rules. No two values of one type are taken to the same; of a step's answers, which carry the
--- run, `steppedOf` and `runAfter` together tell any two apart.
+-- The code's types in the terms of the rules. No two values of one type are taken to the same, but for a round that carries no bytes
+-- (`Sends` says that they are 0); of a step's answers, which carry the run, `steppedOf` and `runAfter` together tell any two apart.
 use Prim.Native.Nat.{ℕ, _/_, _%_, _≤_, _<_}
 use mathlib.Core.Path.{_≡_}
 use mathlib.Core.List.{List, [], _∷_}
