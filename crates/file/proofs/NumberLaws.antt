@@ -6,7 +6,7 @@ use mathlib.Core.List.{List, [], _∷_, _++_}
 use native.Mathlib.Omega.{arith}
 use lib.Arith.{digits-lt}
 use lib.Bits.{bitOr, or-shifted}
-use lib.Pow.{pow-add, shl-exact}
+use lib.Pow.{pow-add, shl-exact, shl-lt}
 use lib.ListN.{length, getD, drop, length-append, length-take, length-drop}
 use lib.Seq.{take-add, drop-drop, drop-cons}
 use Rattle.file.specs.Bytes.{numberOf, part, ByteAt, NumberAt}
@@ -55,3 +55,45 @@ number-or n k {a} {b} same few h p q =
     let high : a < 2 ^ k = rw same (p .below) in
     let low : b < 2 ^ k = rw same (q .below) in
     rw (shl-exact k k 64 high few, or-shifted a k b low, same) (number-join h p q)
+
+-- the first m bytes of a number, shifted to where k bits follow
+pub record Shifted (l : List ℕ) (at m k x : ℕ) : Type 0 where
+  pub top : ℕ
+  pub number : NumberAt l at m top
+  pub is : x ≡ top * 2 ^ k
+
+pub shifted-first : {l : List ℕ} {at b : ℕ} (k : ℕ) → k ≤ 56 → at < length l → ByteAt l at b → Shifted l at 1 k ((b * 2 ^ k) % 2 ^ 64)
+shifted-first {b = b} k few h q = record { top = b; number = byte-number h q; is = shl-exact 8 k 64 (q .byte) (omega arith) }
+
+-- one byte more
+join-byte : (a b p : ℕ) → a * (256 * p) + b * p ≡ (a * 256 + b) * p
+join-byte a b p = omega arith
+
+pub shifted-next : {l : List ℕ} {at m b x : ℕ} (k : ℕ) → k ≤ 48 → at + m < length l → Shifted l at m (8 + k) x → ByteAt l (at + m) b → Shifted l at (m + 1) k (bitOr x ((b * 2 ^ k) % 2 ^ 64))
+shifted-next {l} {at} {m} {b} {x} k few h s q =
+    let p : 2 ^ (8 + k) ≡ 256 * 2 ^ k = pow-add 2 8 k in
+    let below : b * 2 ^ k < 2 ^ (8 + k) = shl-lt 8 k (q .byte) in
+    record {
+      top = s .top * 256 + b;
+      number = number-join (omega arith) (s .number) (byte-number h q);
+      is = rw (s .is, shl-exact 8 k 64 (q .byte) (omega arith), or-shifted (s .top) (8 + k) (b * 2 ^ k) below, p) (join-byte (s .top) b (2 ^ k));
+    }
+
+pub shifted-last : {l : List ℕ} {at m b x : ℕ} → at + m < length l → Shifted l at m 8 x → ByteAt l (at + m) b → NumberAt l at (m + 1) (bitOr x b)
+shifted-last {l} {at} {m} {b} {x} h s q =
+    rw (s .is, or-shifted (s .top) 8 b (q .byte)) (number-join (omega arith) (s .number) (byte-number h q))
+
+-- eight bytes, each shifted to its place
+pub eight-bytes : {l : List ℕ} {at b₀ b₁ b₂ b₃ b₄ b₅ b₆ b₇ : ℕ} → at + 8 ≤ length l →
+    ByteAt l at b₀ → ByteAt l (at + 1) b₁ → ByteAt l (at + 2) b₂ → ByteAt l (at + 3) b₃ → ByteAt l (at + 4) b₄ → ByteAt l (at + 5) b₅ → ByteAt l (at + 6) b₆ → ByteAt l (at + 7) b₇ →
+    NumberAt l at 8
+    (bitOr (bitOr (bitOr (bitOr (bitOr (bitOr (bitOr ((b₀ * 2 ^ 56) % 2 ^ 64) ((b₁ * 2 ^ 48) % 2 ^ 64)) ((b₂ * 2 ^ 40) % 2 ^ 64)) ((b₃ * 2 ^ 32) % 2 ^ 64)) ((b₄ * 2 ^ 24) % 2 ^ 64)) ((b₅ * 2 ^ 16) % 2 ^ 64)) ((b₆ * 2 ^ 8) % 2 ^ 64)) b₇)
+eight-bytes {l} {at} h p₀ p₁ p₂ p₃ p₄ p₅ p₆ p₇ =
+    let s₁ = shifted-first {l = l} {at = at} 56 (omega arith) (omega arith) p₀ in
+    let s₂ = shifted-next {l = l} {at = at} {m = 1} 48 (omega arith) (omega arith) s₁ p₁ in
+    let s₃ = shifted-next {l = l} {at = at} {m = 2} 40 (omega arith) (omega arith) s₂ p₂ in
+    let s₄ = shifted-next {l = l} {at = at} {m = 3} 32 (omega arith) (omega arith) s₃ p₃ in
+    let s₅ = shifted-next {l = l} {at = at} {m = 4} 24 (omega arith) (omega arith) s₄ p₄ in
+    let s₆ = shifted-next {l = l} {at = at} {m = 5} 16 (omega arith) (omega arith) s₅ p₅ in
+    let s₇ = shifted-next {l = l} {at = at} {m = 6} 8 (omega arith) (omega arith) s₆ p₆ in
+    shifted-last {l = l} {at = at} {m = 7} (omega arith) s₇ p₇
