@@ -22,8 +22,8 @@ use frame::firework::firework_of;
 // One frame of any bytes on a file that is known to be accepted, with the places that its survey handed back.
 pub fn one_frame(
     file: &mut [u8],
-    configurations: &[usize; 32],
-    documentations: &[usize; 32],
+    configurations: &[u16; 32],
+    documentations: &[u16; 32],
     count: usize,
     frame: &[u8],
     buffer: &mut [u8],

@@ -81,8 +81,8 @@ fn data_ground(file: &[u8], frame: &[u8]) -> u8
 // A data frame: the pending operation is carried out.
 pub fn take_data(
     file: &mut [u8],
-    configurations: &[usize; 32],
-    documentations: &[usize; 32],
+    configurations: &[u16; 32],
+    documentations: &[u16; 32],
     count: usize,
     frame: &[u8],
     buffer: &mut [u8],

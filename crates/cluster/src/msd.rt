@@ -82,7 +82,7 @@ pub fn raise_epoch(file: &mut [u8])
 
 fn read_round(
     file: &[u8],
-    configurations: &[usize; 32],
+    configurations: &[u16; 32],
     count: usize,
     name: LogicalName,
     number: FileNumber,
@@ -113,8 +113,8 @@ fn read_round(
 
 fn compare_round(
     file: &[u8],
-    configurations: &[usize; 32],
-    documentations: &[usize; 32],
+    configurations: &[u16; 32],
+    documentations: &[u16; 32],
     count: usize,
     name: LogicalName,
     buffer: &mut [u8],
@@ -152,7 +152,7 @@ fn may_write(number: FileNumber, record: RecordNumber) -> bool
 
 fn write_round(
     file: &mut [u8],
-    configurations: &[usize; 32],
+    configurations: &[u16; 32],
     count: usize,
     name: LogicalName,
     number: FileNumber,
@@ -174,8 +174,8 @@ fn write_round(
 
 fn baptize_round(
     file: &mut [u8],
-    configurations: &[usize; 32],
-    documentations: &[usize; 32],
+    configurations: &[u16; 32],
+    documentations: &[u16; 32],
     count: usize,
     name: LogicalName,
 )
@@ -192,8 +192,8 @@ fn baptize_round(
 // One data frame that fits: the pending operation carried out. The mask of the slots in which someone sent.
 pub fn carry_data(
     file: &mut [u8],
-    configurations: &[usize; 32],
-    documentations: &[usize; 32],
+    configurations: &[u16; 32],
+    documentations: &[u16; 32],
     count: usize,
     frame: &[u8],
     buffer: &mut [u8],

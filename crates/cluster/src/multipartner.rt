@@ -46,12 +46,7 @@ pub struct RoundFiles {
     pub entries: [usize; 32],
 }
 
-fn round_file(
-    file: &[u8],
-    configurations: &[usize; 32],
-    slave: usize,
-    round: FileNumber,
-) -> RoundFile
+fn round_file(file: &[u8], configurations: &[u16; 32], slave: usize, round: FileNumber) -> RoundFile
     requires { ⌜ Becomes (now file) (decode (now file)) × KeptAt (decode (now file)) configuration (now configurations) slave ⌝ }
     ensures { λ r. ⌜ RoundFileIs (decode (now (file .entry))) (round .0) slave (r .place) (r .entries) ⌝ }
 {
@@ -71,7 +66,7 @@ fn round_file(
 
 fn round_files(
     file: &[u8],
-    configurations: &[usize; 32],
+    configurations: &[u16; 32],
     count: usize,
     round: FileNumber,
 ) -> RoundFiles
@@ -216,7 +211,7 @@ fn store(file: &mut [u8], places: &[usize; 32], count: usize, byte: u8)
 // stores in a round file or in 0x08.
 fn run_slots(
     file: &mut [u8],
-    configurations: &[usize; 32],
+    configurations: &[u16; 32],
     count: usize,
     round: u8,
     firework: u8,
@@ -270,7 +265,7 @@ fn run_slots(
 // One multipartner frame: the round of that number. The mask of the slots in which someone sent.
 pub fn carry_multipartner(
     file: &mut [u8],
-    configurations: &[usize; 32],
+    configurations: &[u16; 32],
     count: usize,
     round: u8,
     firework: u8,

@@ -23,8 +23,8 @@ use frame::types::Operation;
 // The operation becomes pending and is carried out, with the data of the frame where it is a write. The mask of the data part.
 pub fn master_slave(
     file: &mut [u8],
-    configurations: &[usize; 32],
-    documentations: &[usize; 32],
+    configurations: &[u16; 32],
+    documentations: &[u16; 32],
     count: usize,
     epoch: u8,
     name: LogicalName,

@@ -63,7 +63,7 @@ fn is_compared(name: LogicalName, own: LogicalName) -> bool
 // Read: the slave's reply joined into the buffer; the last slot that someone has sent in.
 pub fn read_slave(
     file: &[u8],
-    configurations: &[usize; 32],
+    configurations: &[u16; 32],
     slave: usize,
     name: LogicalName,
     number: FileNumber,
@@ -89,8 +89,8 @@ pub fn read_slave(
 // Compare: the same, where the physical name is at least the comparison value.
 pub fn compare_slave(
     file: &[u8],
-    configurations: &[usize; 32],
-    documentations: &[usize; 32],
+    configurations: &[u16; 32],
+    documentations: &[u16; 32],
     slave: usize,
     name: LogicalName,
     buffer: &mut [u8],
@@ -114,7 +114,7 @@ pub fn compare_slave(
 // Write: an addressed slave that has the record replaces all four bytes, by those of the frame.
 pub fn write_slave(
     file: &mut [u8],
-    configurations: &[usize; 32],
+    configurations: &[u16; 32],
     slave: usize,
     name: LogicalName,
     number: FileNumber,
@@ -138,8 +138,8 @@ pub fn write_slave(
 // Execute of record 1: an addressed slave whose physical name is the comparison value takes its new logical name.
 pub fn baptize_slave(
     file: &mut [u8],
-    configurations: &[usize; 32],
-    documentations: &[usize; 32],
+    configurations: &[u16; 32],
+    documentations: &[u16; 32],
     slave: usize,
     name: LogicalName,
 )

@@ -13,7 +13,7 @@ use Rattle.file.specs.Layout.{entrySize}
 use Rattle.file.specs.Cluster.{configuration, documentation}
 use Rattle.file.specs.Decode.{offsetAt}
 use Rattle.file.specs.Grounds.{broken, to, andThen, goodTableEntry, walkDirectory, walkSlave, walkSlaves}
-use Rattle.file.specs.Checked.{statedIn, statedPlaces, walkOf, DirectoryWalked, SlaveWalked, SlavesWalked}
+use Rattle.file.specs.Checked.{statedPlace, statedIn, statedPlaces, walkOf, DirectoryWalked, Arrives, SlaveWalked, SlavesWalked}
 use Rattle.file.proofs.Order.{clash}
 use Rattle.file.proofs.Facts.{false-unless, TableEntryFacts, table-entry-facts, table-entry-yes, zeros-first, zeros-more, zeros-none}
 
@@ -51,24 +51,48 @@ slave-zero {f} {t} place {n} long k h =
 pub slave-past : {f : List ℕ} {t place n : ℕ} → ByteAt f (t + 2) n → length f < place + 4 * n → SlaveWalked f t place false 0 0 0
 slave-past k h = refused (λ g. omega (arith, g .within, k .is))
 
-pub slave-walks : {f : List ℕ} {t place n offset zero′ : ℕ} {good : Bool} {end conf doc : ℕ} → t + 4 ≤ length f → ByteAt f (t + 2) n → NumberAt f t 2 offset → offset ≡ place →
-    ByteAt f (t + 3) zero′ → zero′ ≡ 0 → place + 4 * n ≤ length f → DirectoryWalked f place n good end conf doc → SlaveWalked f t place good end conf doc
-unfolding statedIn offsetAt
-slave-walks {f} {t} {place} {n} {offset} {zero′} long count o here z none fits h =
-    let same : t + 3 ≡ t + 2 + 1 = omega arith in
-    let zero-there : getD f (t + 2 + 1) 0 ≡ 0 = rw (← same, ← (z .is)) none in
-    let facts : TableEntryFacts 2 f t place = record {
-      offset = sym (o .is) ∙ here;
-      zeros = zeros-more f (t + 2 + 1) 0 (omega arith) zero-there (zeros-none f (suc (t + 2 + 1)));
-      within = omega (arith, count .is);
-    } in
-    let there : numberOf (part f t 2) ≡ place = sym (o .is) ∙ here in
-    record {
-      walk = rw (slave-step 2 f t place (table-entry-yes 2 f t place facts), ← (count .is)) (h .walk);
-      config = λ e. rw (there, ← (count .is)) (h .config e);
-      document = λ e. rw (there, ← (count .is)) (h .document e);
-      within = h .within;
-    }
+module _ {f : List ℕ} {t place n offset zero′ : ℕ} {good : Bool} {end : ℕ} (long : t + 4 ≤ length f) (count : ByteAt f (t + 2) n) (o : NumberAt f t 2 offset) (here : offset ≡ place)
+    (z : ByteAt f (t + 3) zero′) (none : zero′ ≡ 0) (fits : place + 4 * n ≤ length f) (h : DirectoryWalked f place n good end) where
+  offset-there : offsetAt 2 f t ≡ place
+  unfolding offsetAt
+  offset-there = sym (o .is) ∙ here
+
+  directory : walkSlave 2 f t place ≡ walkOf good end
+  directory =
+      let same : t + 3 ≡ t + 2 + 1 = omega arith in
+      let zero-there : getD f (t + 2 + 1) 0 ≡ 0 = rw (← same, ← (z .is)) none in
+      let facts : TableEntryFacts 2 f t place = record {
+        offset = offset-there;
+        zeros = zeros-more f (t + 2 + 1) 0 (omega arith) zero-there (zeros-none f (suc (t + 2 + 1)));
+        within = omega (arith, count .is);
+      } in
+      slave-step 2 f t place (table-entry-yes 2 f t place facts) ∙ rw (← (count .is)) (sym (h .walk))
+
+  pub slave-breaks : good ≡ false → SlaveWalked f t place false 0 0 0
+  unfolding walkOf
+  slave-breaks e =
+      record {
+        walk = sym (rw e at directory);
+        config = λ q. clash q refl;
+        document = λ q. clash q refl;
+        within = λ q. clash q refl;
+      }
+
+  pub slave-walks : {conf doc : ℕ} → good ≡ true → conf ≡ statedPlace 2 f configuration 3 0 place n → doc ≡ statedPlace 2 f documentation 2 0 place n → SlaveWalked f t place true end conf doc
+  unfolding walkOf statedIn offsetAt
+  slave-walks e conf-is doc-is =
+      let there : numberOf (part f t 2) ≡ place = sym (o .is) ∙ here in
+      record {
+        walk = sym (rw e at directory);
+        config = λ _. rw (there, ← (count .is)) conf-is;
+        document = λ _. rw (there, ← (count .is)) doc-is;
+        within = λ _. h .within e;
+      }
+
+-- a good directory comes to an end
+pub directory-arrives : {f : List ℕ} {d k : ℕ} {good : Bool} {end : ℕ} → DirectoryWalked f d k good end → good ≡ true → Arrives f d k
+unfolding walkOf
+directory-arrives {end = end} h e = record { end = end; walk = sym (rw e at (h .walk)) }
 
 -- ---- all slaves
 

@@ -3,6 +3,7 @@
 use Prim.Native.Nat.{ℕ, zero, suc, _+_, _-_, _≤_, _<_}
 use mathlib.Core.Path.{_≡_, refl, sym, _∙_}
 use mathlib.Core.List.{List, [], _∷_}
+use mathlib.Core.Bool.{cond}
 use native.Mathlib.Omega.{arith}
 use borrow.Author.Tests.{eq-eqb, ne-eqb, eqb-true, eqb-false, leb-true, leb-false}
 use lib.ListN.{length, getD, length-append}
@@ -14,7 +15,7 @@ use Rattle.file.specs.Encode.{contents}
 use Rattle.file.specs.Decode.{offsetAt, fileSize, fileAt, filesAt}
 use Rattle.file.specs.Grounds.{to, walkDirectory}
 use Rattle.file.specs.Places.{placeAmong}
-use Rattle.file.specs.Checked.{keptPlace, statedPlace}
+use Rattle.file.specs.Checked.{states, statedPlace}
 use Rattle.file.proofs.Order.{byCase}
 use Rattle.file.proofs.Facts.{EntryFacts}
 use Rattle.file.proofs.Arrivals.{walk-took}
@@ -62,7 +63,7 @@ walk-skips w f n least kept d low place zero e l h = refl
 walk-skips w f n least kept d low place (suc k) e l h =
     let s = walk-took w f d low place k e h in
     let other : getD f d 0 ≡ n → ⊥ = λ q. omega (arith, s .facts .rising) in
-    let same = kept-other (getD f d 0) (getD f (d + 1) 0) n least (offsetAt w f (d + w)) kept other in
+    let same = kept-other f n least d (offsetAt w f (d + w)) kept other in
     rw (← same) (walk-skips w f n least kept (d + entrySize w) (suc (getD f d 0)) (place + fileSize (getD f (d + 1) 0)) k e (omega (arith, s .facts .rising)) (s .rest))
 
 -- what a directory states for file n with at least so many records: nothing, since it is not there or too short; or where it lies
@@ -89,13 +90,13 @@ stated-here w f n least kept d low place k xs facts is rest =
     let long = entry-length w f d low place facts in
     byCase (leb least r)
     (λ t.
-    let stay : place ≡ keptPlace (getD f d 0) r n least (offsetAt w f (d + w)) kept =
-    sym (facts .offset) ∙ kept-here (getD f d 0) r n least (offsetAt w f (d + w)) kept is (leb-true least r t) in
+    let stay : place ≡ cond (states f n least d) (offsetAt w f (d + w)) kept =
+    sym (facts .offset) ∙ kept-here f n least d (offsetAt w f (d + w)) kept is (leb-true least r t) in
     rw (rest, ← stay)
     (found r (rw (eq-eqb _ _ number)) (omega arith)
     (rw (eq-eqb _ _ number) (entry-bytes w f d low place facts)) (facts .within) (leb-true least r t)))
     (λ t.
-    let stay = kept-short (getD f d 0) r n least (offsetAt w f (d + w)) kept (leb-false least r t) in
+    let stay = kept-short f n least d (offsetAt w f (d + w)) kept (leb-false least r t) in
     let short : lastRecord (fileAt w f d .bytes) < least = rw (last-size r (fileAt w f d .bytes) long) (leb-false least r t) in
     rw (rest, ← stay) (lacking refl (rw (eq-eqb _ _ number) short)))
 
@@ -117,7 +118,7 @@ stated-file w f n least kept d low place (suc k) e some h =
     (λ any. walk-skips w f n least any (d + entrySize w) (suc (getD f d 0)) (place + fileSize r) k e (omega (arith, is)) (s .rest)))
     (λ t.
     let other = eqb-false (getD f d 0) n t in
-    let stay = kept-other (getD f d 0) r n least (offsetAt w f (d + w)) kept other in
+    let stay = kept-other f n least d (offsetAt w f (d + w)) kept other in
     rw (← stay)
     (stated-behind (fileAt w f d) (λ q. other (sym (entry-number w f d) ∙ q)) (entry-length w f d low place (s .facts))
     (stated-file w f n least kept (d + entrySize w) (suc (getD f d 0)) (place + fileSize r) k e some (s .rest))))

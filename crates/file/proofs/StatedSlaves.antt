@@ -67,7 +67,7 @@ part-part l p n a m h g =
     subst (λ (k : ℕ). part (part l p k) a m ≡ part l (p + a) m) split (part-inside l p a m (n - (a + m)) (omega arith))
 
 stated-name : {f : List ℕ} {place : ℕ} {s : Slave} {st : ℕ} → Stated f documentation 2 0 place (s .files) st → (0 ≡ st → ⊥) → (physicalName s ≡ nameAt f st) × NameStands f st
-unfolding physicalName bytesIn fileSize
+unfolding physicalName bytesIn fileSize nameAt
 stated-name {f} {place} {s} {st} (lacking z short) h = absurd (h (sym z))
 stated-name {f} {place} {s} {st} (found r is behind bytes within enough) h =
     (ap numberOf (rw bytes (part-part f st (4 * (r + 1)) 4 8 within (omega arith))), record { within = omega arith })

@@ -20,7 +20,7 @@ use Rattle.file.specs.Encode.{slavesPlace}
 use Rattle.file.specs.Places.{filePlaceAt, filePlace}
 use Rattle.file.specs.Accepted.{Placed}
 use Rattle.file.specs.Answers.{Verdict, accepted, refused, verdictOf}
-use Rattle.file.specs.Checked.{GoodHeader, HeaderChecked, statedPlaces, walkOf, SlavesWalked, WholeWalk, BodyWalked, slavesGround, nameAt, NameStands, NamesRead}
+use Rattle.file.specs.Checked.{GoodHeader, HeaderChecked, statedPlaces, walkOf, SlavesWalked, WholeWalk, BodyWalked, slavesGround, nameAt, NameStands}
 use Rattle.file.specs.Surveyed.{Surveyed}
 use Rattle.file.proofs.Order.{byCase, clash, either-right, either-false, either-false-left, either-false-right}
 use Rattle.file.proofs.Facts.{true-unless, size-facts, header-facts}
@@ -29,30 +29,6 @@ use Rattle.file.proofs.Arrivals.{broken-arrives, length-slavesAt}
 use Rattle.file.proofs.StatedSlaves.{needed-places, stated-names, stated-place}
 use Rattle.file.proofs.HeaderLaws.{after-header}
 use Rattle.file.proofs.Accepted.{accepted-becomes}
-
--- what the loop along the places keeps
-pub record Reading (f docs : List ℕ) (slave : ℕ) (names : List ℕ) : Type 0 where
-  pub room : length names ≡ 32
-  pub most : slave ≤ length docs
-  pub done : take slave names ≡ map (nameAt f) (take slave docs)
-
-pub reading-start : (f docs : List ℕ) {names : List ℕ} → length names ≡ 32 → Reading f docs 0 names
-reading-start f docs b = record { room = b; most = omega arith; done = refl }
-
-module _ {f docs : List ℕ} {slave : ℕ} {names : List ℕ} (h : Reading f docs slave names) where
-  pub reading-next : {n : ℕ} → length docs ≤ 32 → slave < length docs → NumberAt f (getD docs slave 0 + 4) 8 n → Reading f docs (slave + 1) (set names slave n)
-  reading-next {n} few more is =
-      let a : slave < length names = omega (arith, h .room) in
-      record {
-        room = rw length-set (h .room);
-        most = omega arith;
-        done = rw (add-one slave, take-suc-set names slave n a, take-suc docs slave 0 more, map-append, h .done, is .is);
-      }
-
-  pub reading-done : length docs ≤ slave → NamesRead f docs names
-  reading-done past =
-      let same : slave ≡ length docs = omega (arith, h .most) in
-      record { room = h .room; first = rw (same, take-length) at (h .done) }
 
 -- ---- ground 6 behind a good header
 
@@ -124,11 +100,6 @@ module _ {f : List ℕ} {n : ℕ} {good : Bool} {end : ℕ} {confs docs : List �
 
 -- ---- grounds 7 and 8
 
-stated-count : (w : ℕ) (f : List ℕ) (n least t k : ℕ) → length (statedPlaces w f n least t k) ≡ k
-unfolding statedPlaces
-stated-count w f n least t zero = refl
-stated-count w f n least t (suc k) = ap suc (stated-count w f n least (t + entrySize w) k)
-
 module _ {f confs docs : List ℕ} (h : WholeWalk f confs docs) where
   slaves-walk : walkSlaves 2 f 16 (16 + 4 * getD f 3 0) (getD f 3 0) ≡ to (length f)
   unfolding walkFile tableEnd
@@ -157,17 +128,13 @@ module _ {f confs docs : List ℕ} (h : WholeWalk f confs docs) where
   stand e =
       rw (h .document) (stated-names 2 f 16 (16 + 4 * getD f 3 0) (getD f 3 0) (length f) (omega arith) slaves-walk (rw (h .document) at e))
 
-  pub names-stand : {t : Bool} → t ≡ isAmong 0 docs → t ≡ false → (length docs ≤ 32) × All (NameStands f) docs
-  names-stand is e =
-      let few = header-sizes f (h .header) .2 in
-      let long : length docs ≡ getD f 3 0 = ap length (h .document) ∙ stated-count 2 f documentation 2 16 (getD f 3 0) in
-      (omega (arith, long, few), stand (sym is ∙ e) .1)
+  pub names-stand : {t : Bool} → t ≡ isAmong 0 docs → t ≡ false → All (NameStands f) docs
+  names-stand is e = stand (sym is ∙ e) .1
 
-  module _ {a b : Bool} (is₁ : a ≡ isAmong 0 confs) (no₁ : a ≡ false) (is₂ : b ≡ isAmong 0 docs) (no₂ : b ≡ false)
-      {names : List ℕ} (read : NamesRead f docs names) {t : Bool} (is : t ≡ hasRepeat (take (length docs) names)) where
+  module _ {a b : Bool} (is₁ : a ≡ isAmong 0 confs) (no₁ : a ≡ false) (is₂ : b ≡ isAmong 0 docs) (no₂ : b ≡ false) {t : Bool} (is : t ≡ hasRepeat (map (nameAt f) docs)) where
     repeats : equalPhysicalNames 2 f ≡ t
     unfolding equalPhysicalNames decodeAt
-    repeats = rw (stand (sym is₂ ∙ no₂) .0, ← (read .first)) (sym is)
+    repeats = rw (stand (sym is₂ ∙ no₂) .0) (sym is)
 
     lacks-none : lacksNeeded 2 f ≡ false
     lacks-none = lacks ∙ either-false (sym is₁ ∙ no₁) (sym is₂ ∙ no₂)

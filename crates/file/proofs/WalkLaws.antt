@@ -3,20 +3,19 @@
 use Prim.Native.Nat.{ℕ, zero, suc, _+_, _*_, _-_, _≤_, _<_}
 use mathlib.Core.Path.{_≡_, refl, sym, _∙_}
 use mathlib.Core.List.{List}
-use mathlib.Core.Bool.{Bool, true, false}
+use mathlib.Core.Bool.{Bool, true, false, cond}
 use native.Mathlib.Omega.{arith}
 use native.Mathlib.Numerals.{add-one}
-use borrow.Author.Tests.{eq-eqb, ne-eqb, le-leb, lt-leb}
+use borrow.Author.Tests.{eq-eqb, ne-eqb, le-leb, lt-leb, leb-true, eqb-true}
 use lib.ListN.{length, getD}
 use lib.Dec.{leb, eqb}
-use Rattle.file.specs.Bytes.{ByteAt, NumberAt}
-use Rattle.file.specs.Layout.{entrySize}
-use Rattle.file.specs.Cluster.{configuration, documentation}
+use Rattle.file.specs.Bytes.{allZero, part, ByteAt, NumberAt}
+use Rattle.file.specs.Layout.{entrySize, fillLength}
 use Rattle.file.specs.Decode.{offsetAt, fileSize}
-use Rattle.file.specs.Grounds.{broken, goodEntry, walkDirectory}
-use Rattle.file.specs.Checked.{keptPlace, statedPlace, walkOf, DirectoryWalked}
-use Rattle.file.proofs.Order.{clash, both-next, both-false-left, both-false-right}
-use Rattle.file.proofs.Facts.{false-unless, entry-facts, zeros-none}
+use Rattle.file.specs.Grounds.{Walk, broken, to, goodEntry, walkDirectory}
+use Rattle.file.specs.Checked.{states, statedPlace, nextEntry, fitsSoFar, walkOf, DirectoryWalked}
+use Rattle.file.proofs.Order.{byCase, clash, both-left, both-right, both-true, both-next, both-false-left, both-false-right}
+use Rattle.file.proofs.Facts.{false-unless, EntryFacts, entry-facts, entry-yes, zeros-none}
 
 -- ---- the definitions, an entry at a time
 
@@ -35,98 +34,184 @@ walk-step w f d low place (suc k) h e =
 
 pub stated-step : (w : ℕ) (f : List ℕ) (n least kept d k : ℕ) → 0 < k →
     statedPlace w f n least kept d k ≡
-    statedPlace w f n least (keptPlace (getD f d 0) (getD f (d + 1) 0) n least (offsetAt w f (d + w)) kept) (d + entrySize w) (k - 1)
+    statedPlace w f n least (cond (states f n least d) (offsetAt w f (d + w)) kept) (d + entrySize w) (k - 1)
 unfolding statedPlace
 stated-step w f n least kept d zero h = absurd (omega arith)
 stated-step w f n least kept d (suc k) h =
     let same : suc k - 1 ≡ k = omega arith in
     rw same
 
--- ---- the loop
+-- the same of the last entry
+pub stated-last : (w : ℕ) (f : List ℕ) (n least kept d k : ℕ) →
+    statedPlace w f n least kept d (suc k) ≡
+    cond (states f n least (d + entrySize w * k)) (offsetAt w f (d + entrySize w * k + w)) (statedPlace w f n least kept d k)
+unfolding statedPlace
+stated-last w f n least kept d zero =
+    let same : d + entrySize w * 0 ≡ d = omega arith in
+    rw same
+stated-last w f n least kept d (suc k) =
+    let same : d + entrySize w + entrySize w * k ≡ d + entrySize w * suc k = omega arith in
+    rw same at (stated-last w f n least (cond (states f n least d) (offsetAt w f (d + w)) kept) (d + entrySize w) k)
 
--- what the loop along the k entries of the directory at d keeps, with `left` entries to come
-pub record Walking (f : List ℕ) (d k entry left low place conf doc : ℕ) : Type 0 where
-  pub entries : entry + 4 * left ≤ length f
-  pub within : place ≤ length f
-  pub walk : walkDirectory 2 f entry low place left ≡ walkDirectory 2 f d 0 (d + 4 * k) k
-  pub config : statedPlace 2 f configuration 3 conf entry left ≡ statedPlace 2 f configuration 3 0 d k
-  pub document : statedPlace 2 f documentation 2 doc entry left ≡ statedPlace 2 f documentation 2 0 d k
+-- ---- a good entry in two parts
 
-pub walking-start : {f : List ℕ} {d k : ℕ} → d + 4 * k ≤ length f → Walking f d k d k 0 (d + 4 * k) 0 0
-walking-start h = record { entries = h; within = h; walk = refl; config = refl; document = refl }
+module _ (w : ℕ) (f : List ℕ) (d low place : ℕ) where
+  next-facts : nextEntry w f d low place ≡ true → fitsSoFar f (suc (getD f d 0)) (place + fileSize (getD f (d + 1) 0)) ≡ true → EntryFacts w f d low place
+  unfolding nextEntry fitsSoFar
+  next-facts e g =
+      let e₁ = both-right _ _ e in
+      let e₂ = both-right _ _ e₁ in
+      record {
+        rising = leb-true _ _ (both-left _ _ e);
+        number = omega (arith, leb-true (suc (getD f d 0)) 64 (both-left _ _ g));
+        records = leb-true _ _ (both-left _ _ e₁);
+        zeros = both-left _ _ e₂;
+        offset = eqb-true _ _ (both-right _ _ e₂);
+        within = leb-true _ _ (both-right _ _ g);
+      }
 
-module _ {f : List ℕ} {d k entry left low place conf doc : ℕ} (h : Walking f d k entry left low place conf doc) where
-  pub walking-stop : {t : Bool} → 0 < left → t ≡ goodEntry 2 f entry low place → t ≡ false → DirectoryWalked f d k false 0 0 0
+  pub next-of : EntryFacts w f d low place → nextEntry w f d low place ≡ true
+  unfolding nextEntry
+  next-of h =
+      both-true (le-leb _ _ (h .rising)) (both-true (le-leb _ _ (h .records)) (both-true (h .zeros) (eq-eqb _ _ (h .offset))))
+
+  fits-of : EntryFacts w f d low place → fitsSoFar f (suc (getD f d 0)) (place + fileSize (getD f (d + 1) 0)) ≡ true
+  unfolding fitsSoFar
+  fits-of h = both-true (le-leb (suc (getD f d 0)) 64 (omega (arith, h .number))) (le-leb _ _ (h .within))
+
+  -- an entry that may come next is good if what it leads to fits
+  pub good-next : nextEntry w f d low place ≡ true → goodEntry w f d low place ≡ fitsSoFar f (suc (getD f d 0)) (place + fileSize (getD f (d + 1) 0))
+  good-next e =
+      byCase (fitsSoFar f (suc (getD f d 0)) (place + fileSize (getD f (d + 1) 0)))
+      (λ t. entry-yes w f d low place (next-facts e t) ∙ sym t)
+      (λ t. false-unless (λ g. clash (fits-of (entry-facts w f d low place g)) t) ∙ sym t)
+
+  pub good-other : nextEntry w f d low place ≡ false → goodEntry w f d low place ≡ false
+  good-other e = false-unless (λ g. clash (next-of (entry-facts w f d low place g)) e)
+
+-- ---- the walk, its last tests made at the end
+
+-- a walk from where low and place fit, and broken where they do not
+unfoldable pub held : List ℕ → ℕ → ℕ → Walk → Walk
+held f low place walk = cond (fitsSoFar f low place) walk broken
+
+held-broken : (f : List ℕ) (low place : ℕ) → held f low place broken ≡ broken
+unfolding held
+held-broken f low place = byCase (fitsSoFar f low place) (λ e. rw e) (λ e. rw e)
+
+-- where a later one fits, so did each before it
+held-twice : (f : List ℕ) {low low′ place place′ : ℕ} (walk : Walk) → low ≤ low′ → place ≤ place′ → held f low place (held f low′ place′ walk) ≡ held f low′ place′ walk
+unfolding held fitsSoFar
+held-twice f {low} {low′} {place} {place′} walk a b =
+    byCase (fitsSoFar f low′ place′)
+    (λ e.
+    let p = leb-true low′ 64 (both-left _ _ e) in
+    let q = leb-true place′ (length f) (both-right _ _ e) in
+    let first : fitsSoFar f low place ≡ true = both-true (le-leb low 64 (omega arith)) (le-leb place (length f) (omega arith)) in
+    rw first)
+    (λ e. rw e (held-broken f low place))
+
+pub walk-next : (w : ℕ) (f : List ℕ) (d low place k : ℕ) → 0 < k → nextEntry w f d low place ≡ true →
+    walkDirectory w f d low place k ≡ held f (suc (getD f d 0)) (place + fileSize (getD f (d + 1) 0)) (walkDirectory w f (d + entrySize w) (suc (getD f d 0)) (place + fileSize (getD f (d + 1) 0)) (k - 1))
+unfolding held
+walk-next w f d low place k more e =
+    let good = good-next w f d low place e in
+    byCase (fitsSoFar f (suc (getD f d 0)) (place + fileSize (getD f (d + 1) 0)))
+    (λ t. rw t (walk-step w f d low place k more (good ∙ t)))
+    (λ t. rw t (walk-stop w f d low place k more (good ∙ t)))
+
+-- what the loop along the k entries of the directory at d keeps
+pub record Walking (f : List ℕ) (d k entry low place : ℕ) : Type 0 where
+  pub left : ℕ
+  pub at : entry + 4 * left ≡ d + 4 * k
+  pub small : place + 1024 * left ≤ 32768 + 1024 * k
+  pub walk : held f low place (walkDirectory 2 f entry low place left) ≡ walkDirectory 2 f d 0 (d + 4 * k) k
+
+pub walking-start : {f : List ℕ} {d k : ℕ} → d + 4 * k ≤ length f → length f ≤ 32768 → Walking f d k d 0 (d + 4 * k)
+unfolding held fitsSoFar
+walking-start {f} {d} {k} h most =
+    let all : fitsSoFar f 0 (d + 4 * k) ≡ true = both-true (le-leb 0 64 (omega arith)) (le-leb (d + 4 * k) (length f) h) in
+    record { left = k; at = refl; small = omega arith; walk = rw all }
+
+module _ {f : List ℕ} {d k entry low place : ℕ} (h : Walking f d k entry low place) where
+  some-left : entry < d + 4 * k → 0 < h .left
+  some-left more = omega (arith, h .at)
+
+  pub walking-stop : {t : Bool} → entry < d + 4 * k → t ≡ nextEntry 2 f entry low place → t ≡ false → DirectoryWalked f d k false 0
   unfolding walkOf
   walking-stop more is e =
+      let stopped = walk-stop 2 f entry low place (h .left) (some-left more) (good-other 2 f entry low place (sym is ∙ e)) in
       record {
-        walk = sym (walk-stop 2 f entry low place left more (sym is ∙ e)) ∙ h .walk;
-        config = λ t. clash t refl;
-        document = λ t. clash t refl;
+        walk = sym (held-broken f low place) ∙ (rw stopped at (h .walk));
         within = λ t. clash t refl;
       }
 
-  pub walking-done : left ≤ 0 → DirectoryWalked f d k true place conf doc
-  unfolding walkOf walkDirectory statedPlace
-  walking-done none =
-      let z : left ≡ 0 = omega arith in
-      record {
-        walk = rw z at (h .walk);
-        config = λ _. rw z at (h .config);
-        document = λ _. rw z at (h .document);
-        within = λ _. h .within;
-      }
+  pub walking-done : {t : Bool} → d + 4 * k ≤ entry → t ≡ fitsSoFar f low place → DirectoryWalked f d k t place
+  unfolding walkOf walkDirectory held fitsSoFar
+  walking-done {t} none is =
+      let z : h .left ≡ 0 = omega (arith, h .at) in
+      let ended : cond (fitsSoFar f low place) (to place) broken ≡ walkDirectory 2 f d 0 (d + 4 * k) k = rw z at (h .walk) in
+      byCase t
+      (λ e. record {
+        walk = rw e (rw (sym is ∙ e) at ended);
+        within = λ _. leb-true place (length f) (both-right _ _ (sym is ∙ e));
+      })
+      (λ e. record {
+        walk = rw e (rw (sym is ∙ e) at ended);
+        within = λ q. clash q e;
+      })
 
-  pub walking-next : {t : Bool} {number last conf′ doc′ : ℕ} → 0 < left → t ≡ goodEntry 2 f entry low place → t ≡ true →
-      ByteAt f entry number → ByteAt f (entry + 1) last →
-      conf′ ≡ keptPlace number last configuration 3 place conf → doc′ ≡ keptPlace number last documentation 2 place doc →
-      Walking f d k (entry + 4) (left - 1) (number + 1) (place + 4 * (last + 1)) conf′ doc′
-  unfolding fileSize
-  walking-next {number = number} {last = last} more is e a b conf-is doc-is =
-      let good = entry-facts 2 f entry low place (sym is ∙ e) in
+  pub walking-next : {t : Bool} {number last : ℕ} → entry < d + 4 * k → t ≡ nextEntry 2 f entry low place → t ≡ true →
+      ByteAt f entry number → ByteAt f (entry + 1) last → Walking f d k (entry + 4) (number + 1) (place + 4 * (last + 1))
+  unfolding fileSize nextEntry
+  walking-next {number = number} {last = last} more is e a b =
+      let some = some-left more in
+      let rising : low ≤ getD f entry 0 = leb-true _ _ (both-left _ _ (sym is ∙ e)) in
+      let rest = walkDirectory 2 f (entry + 4) (suc (getD f entry 0)) (place + 4 * (getD f (entry + 1) 0 + 1)) (h .left - 1) in
+      let twice = held-twice f {low = low} {low′ = suc (getD f entry 0)} {place = place} {place′ = place + 4 * (getD f (entry + 1) 0 + 1)} rest (omega arith) (omega arith) in
       record {
-        entries = omega (arith, h .entries);
-        within = omega (arith, good .within, b .is);
-        walk = rw (add-one number, a .is, b .is, ← (walk-step 2 f entry low place left more (sym is ∙ e))) (h .walk);
-        config = rw (conf-is, a .is, b .is, ← (good .offset), ← (stated-step 2 f configuration 3 conf entry left more)) (h .config);
-        document = rw (doc-is, a .is, b .is, ← (good .offset), ← (stated-step 2 f documentation 2 doc entry left more)) (h .document);
+        left = h .left - 1;
+        at = omega (arith, h .at);
+        small = omega (arith, h .small, b .byte);
+        walk = rw (add-one number, a .is, b .is, ← twice, ← (walk-next 2 f entry low place (h .left) some (sym is ∙ e))) (h .walk);
       }
 
 -- ---- the tests of an entry
 
-pub entry-low : {f : List ℕ} (d low place : ℕ) {n : ℕ} → ByteAt f d n → n < low → false ≡ goodEntry 2 f d low place
-entry-low {f} d low place k h = sym (false-unless (λ e. let g = entry-facts 2 f d low place e in omega (arith, g .rising, k .is)))
+pub next-low : {f : List ℕ} (d low place : ℕ) {n : ℕ} → ByteAt f d n → n < low → false ≡ nextEntry 2 f d low place
+unfolding nextEntry
+next-low {f} d low place k h = sym (both-false-left _ (lt-leb low (getD f d 0) (omega (arith, k .is))))
 
-pub entry-high : {f : List ℕ} (d low place : ℕ) {n : ℕ} → ByteAt f d n → 63 < n → false ≡ goodEntry 2 f d low place
-entry-high {f} d low place k h = sym (false-unless (λ e. let g = entry-facts 2 f d low place e in omega (arith, g .number, k .is)))
+pub next-empty : {f : List ℕ} (d low place : ℕ) {n : ℕ} → ByteAt f (d + 1) n → n < 1 → false ≡ nextEntry 2 f d low place
+unfolding nextEntry
+next-empty {f} d low place k h = sym (both-false-right (leb low (getD f d 0)) (both-false-left _ (lt-leb 1 (getD f (d + 1) 0) (omega (arith, k .is)))))
 
-pub entry-empty : {f : List ℕ} (d low place : ℕ) {n : ℕ} → ByteAt f (d + 1) n → n < 1 → false ≡ goodEntry 2 f d low place
-entry-empty {f} d low place k h = sym (false-unless (λ e. let g = entry-facts 2 f d low place e in omega (arith, g .records, k .is)))
-
-pub entry-elsewhere : {f : List ℕ} (d low place : ℕ) {n : ℕ} → NumberAt f (d + 2) 2 n → (n ≡ place → ⊥) → false ≡ goodEntry 2 f d low place
-unfolding offsetAt
-entry-elsewhere {f} d low place k h = sym (false-unless (λ e. h (k .is ∙ entry-facts 2 f d low place e .offset)))
-
-pub entry-last : {f : List ℕ} (d low place : ℕ) {number last offset : ℕ} → ByteAt f d number → ByteAt f (d + 1) last → low ≤ number → number ≤ 63 → 1 ≤ last →
-    NumberAt f (d + 2) 2 offset → offset ≡ place → leb (place + 4 * (last + 1)) (length f) ≡ goodEntry 2 f d low place
-unfolding goodEntry offsetAt fileSize
-entry-last {f} d low place {number} {last} {offset} a b rising most some o here =
+pub next-last : {f : List ℕ} (d low place : ℕ) {number last offset : ℕ} → ByteAt f d number → ByteAt f (d + 1) last → low ≤ number → 1 ≤ last →
+    NumberAt f (d + 2) 2 offset → eqb offset place ≡ nextEntry 2 f d low place
+unfolding nextEntry offsetAt
+next-last {f} d low place {number} {last} {offset} a b rising some o =
     let p₁ = le-leb low (getD f d 0) (omega (arith, a .is)) in
-    let p₂ = le-leb (getD f d 0) 63 (omega (arith, a .is)) in
-    let p₃ = le-leb 1 (getD f (d + 1) 0) (omega (arith, b .is)) in
-    let p₄ = eq-eqb _ _ (sym (o .is) ∙ here) in
-    rw (both-next _ p₁, both-next _ p₂, both-next _ p₃, both-next _ (zeros-none f (d + 2)), p₄, both-next _ refl, b .is)
+    let p₂ = le-leb 1 (getD f (d + 1) 0) (omega (arith, b .is)) in
+    rw (both-next _ p₁, both-next _ p₂, both-next _ (zeros-none f (d + 2)), o .is)
+
+pub fits-not : (f : List ℕ) (low place : ℕ) → 64 < low → false ≡ fitsSoFar f low place
+unfolding fitsSoFar
+fits-not f low place h = sym (both-false-left _ (lt-leb low 64 h))
+
+pub fits-last : (f : List ℕ) (low place : ℕ) → low ≤ 64 → leb place (length f) ≡ fitsSoFar f low place
+unfolding fitsSoFar
+fits-last f low place h = sym (both-next _ (le-leb low 64 h))
 
 -- ---- the place kept
 
-pub kept-other : (number last n least place kept : ℕ) → (number ≡ n → ⊥) → kept ≡ keptPlace number last n least place kept
-unfolding keptPlace
-kept-other number last n least place kept h = rw (both-false-left (leb least last) (ne-eqb number n h))
+pub kept-other : (f : List ℕ) (n least d place kept : ℕ) → (getD f d 0 ≡ n → ⊥) → kept ≡ cond (states f n least d) place kept
+unfolding states
+kept-other f n least d place kept h = rw (both-false-left (leb least (getD f (d + 1) 0)) (ne-eqb (getD f d 0) n h))
 
-pub kept-short : (number last n least place kept : ℕ) → last < least → kept ≡ keptPlace number last n least place kept
-unfolding keptPlace
-kept-short number last n least place kept h = rw (both-false-right (eqb number n) (lt-leb least last h))
+pub kept-short : (f : List ℕ) (n least d place kept : ℕ) → getD f (d + 1) 0 < least → kept ≡ cond (states f n least d) place kept
+unfolding states
+kept-short f n least d place kept h = rw (both-false-right (eqb (getD f d 0) n) (lt-leb least (getD f (d + 1) 0) h))
 
-pub kept-here : (number last n least place kept : ℕ) → number ≡ n → least ≤ last → place ≡ keptPlace number last n least place kept
-unfolding keptPlace
-kept-here number last n least place kept h l = rw (both-next (leb least last) (eq-eqb number n h), le-leb least last l)
+pub kept-here : (f : List ℕ) (n least d place kept : ℕ) → getD f d 0 ≡ n → least ≤ getD f (d + 1) 0 → place ≡ cond (states f n least d) place kept
+unfolding states
+kept-here f n least d place kept h l = rw (both-next (leb least (getD f (d + 1) 0)) (eq-eqb (getD f d 0) n h), le-leb least (getD f (d + 1) 0) l)

@@ -1,14 +1,14 @@
 -- What the checker's inner functions promise to one another.
 use Prim.Native.Nat.{ℕ, zero, suc, _+_, _*_, _≤_}
 use mathlib.Core.Path.{_≡_}
-use mathlib.Core.List.{List, [], _∷_, map}
+use mathlib.Core.List.{List, [], _∷_}
 use mathlib.Core.Bool.{Bool, true, false, cond}
 use lib.ListN.{length, getD, take}
 use lib.Dec.{eqb, leb}
 use Rattle.file.specs.Order.{firstOf, both}
-use Rattle.file.specs.Layout.{offsetWidth, countPlace, headerSize, entrySize, fileCountPlace, recordCountPlace, fileOffsetPlace, maxSlaves, neededConfiguration, neededDocumentation, recordSize}
+use Rattle.file.specs.Layout.{offsetWidth, countPlace, headerSize, entrySize, fileCountPlace, recordCountPlace, fileOffsetPlace, fillPlace, fillLength, maxSlaves, maxFileNumber, neededConfiguration, neededDocumentation, recordSize}
 use Rattle.file.specs.Cluster.{configuration, documentation}
-use Rattle.file.specs.Bytes.{numberOf, part}
+use Rattle.file.specs.Bytes.{numberOf, part, allZero}
 use Rattle.file.specs.Decode.{offsetAt, fileSize}
 use Rattle.file.specs.Accepted.{FoundFile, fileAt}
 use Rattle.file.specs.Grounds.{wrongSize, wrongMark, wrongEdition, wrongLength, wrongHeader, fileGround, Walk, broken, to, walkDirectory, walkSlave, walkSlaves, walkFile, brokenLayout, lacksNeeded, equalPhysicalNames}
@@ -28,27 +28,42 @@ pub record HeaderChecked (f : List ℕ) (n : ℕ) : Type 0 where
 
 -- ---- where the directories state 0x08 and 0x3D to lie
 
--- the place kept for file n with at least so many records, behind an entry of a directory
-unfoldable pub keptPlace : ℕ → ℕ → ℕ → ℕ → ℕ → ℕ → ℕ
-keptPlace number last n least place kept = cond (both (eqb number n) (leb least last)) place kept
+-- the directory entry at d states file n with at least so many records
+unfoldable pub states : List ℕ → ℕ → ℕ → ℕ → Bool
+states f n least d = both (eqb (getD f d 0) n) (leb least (getD f (d + recordCountPlace) 0))
 
--- the place that k directory entries from d on state for it
+-- the place that the last of k directory entries from d on states for it, else the one kept so far
 unfoldable pub statedPlace : ℕ → List ℕ → ℕ → ℕ → ℕ → ℕ → ℕ → ℕ
 statedPlace w f n least kept d zero = kept
 statedPlace w f n least kept d (suc k) =
-    statedPlace w f n least (keptPlace (getD f d 0) (getD f (d + recordCountPlace) 0) n least (offsetAt w f (d + fileOffsetPlace w)) kept) (d + entrySize w) k
+    statedPlace w f n least (cond (states f n least d) (offsetAt w f (d + fileOffsetPlace w)) kept) (d + entrySize w) k
 
 -- a walk as the code returns it
 unfoldable pub walkOf : Bool → ℕ → Walk
 walkOf true place = to place
 walkOf false place = broken
 
--- the walk of the k entries of the directory at d, and the places of 0x08 and 0x3D in the needed size, 0 where they are not there
-pub record DirectoryWalked (f : List ℕ) (d k : ℕ) (good : Bool) (end conf doc : ℕ) : Type 0 where
+-- a good entry in two parts. What an entry says of itself: its file number is low or more, it counts records, its zeros are zero
+-- and its offset is the place.
+unfoldable pub nextEntry : ℕ → List ℕ → ℕ → ℕ → ℕ → Bool
+nextEntry w f d low place =
+    both (leb low (getD f d 0))
+    (both (leb 1 (getD f (d + recordCountPlace) 0))
+    (both (allZero (part f (d + fillPlace) (fillLength w))) (eqb (offsetAt w f (d + fileOffsetPlace w)) place)))
+
+-- And what the last entry says for those before it: file numbers below low are file numbers, and the place is within the bytes.
+unfoldable pub fitsSoFar : List ℕ → ℕ → ℕ → Bool
+fitsSoFar f low place = both (leb low (suc maxFileNumber)) (leb place (length f))
+
+-- the walk of the k entries of the directory at d
+pub record DirectoryWalked (f : List ℕ) (d k : ℕ) (good : Bool) (end : ℕ) : Type 0 where
   pub walk : walkOf good end ≡ walkDirectory offsetWidth f d 0 (d + entrySize offsetWidth * k) k
-  pub config : good ≡ true → conf ≡ statedPlace offsetWidth f configuration neededConfiguration 0 d k
-  pub document : good ≡ true → doc ≡ statedPlace offsetWidth f documentation neededDocumentation 0 d k
   pub within : good ≡ true → end ≤ length f
+
+-- it comes to an end
+pub record Arrives (f : List ℕ) (d k : ℕ) : Type 0 where
+  pub end : ℕ
+  pub walk : walkDirectory offsetWidth f d 0 (d + entrySize offsetWidth * k) k ≡ to end
 
 -- the place that the slave of the table entry at t states for file n, and the places that n table entries state
 unfoldable pub statedIn : ℕ → List ℕ → ℕ → ℕ → ℕ → ℕ
@@ -58,7 +73,8 @@ unfoldable pub statedPlaces : ℕ → List ℕ → ℕ → ℕ → ℕ → ℕ �
 statedPlaces w f n least t zero = []
 statedPlaces w f n least t (suc k) = statedIn w f n least t ∷ statedPlaces w f n least (t + entrySize w) k
 
--- the same of the slave of the table entry at t, its directory at the place
+-- the walk of the slave of the table entry at t, its directory at the place, and where 0x08 and 0x3D lie in the needed size, 0 where
+-- they are not there
 pub record SlaveWalked (f : List ℕ) (t place : ℕ) (good : Bool) (end conf doc : ℕ) : Type 0 where
   pub walk : walkOf good end ≡ walkSlave offsetWidth f t place
   pub config : good ≡ true → conf ≡ statedIn offsetWidth f configuration neededConfiguration t
@@ -102,13 +118,8 @@ searchDirectory w f n d (suc k) =
 -- ---- the physical names at the stated places of 0x3D
 
 -- the number in the eight bytes behind record 0x00 of the file at a place
-abbrev pub nameAt : List ℕ → ℕ → ℕ
+unfoldable pub nameAt : List ℕ → ℕ → ℕ
 nameAt f p = numberOf (part f (p + recordSize) (2 * recordSize))
 
 pub record NameStands (f : List ℕ) (p : ℕ) : Type 0 where
   pub within : p + 3 * recordSize ≤ length f
-
--- the names at the places, in front of whatever else the array holds
-pub record NamesRead (f docs names : List ℕ) : Type 0 where
-  pub room : length names ≡ maxSlaves offsetWidth
-  pub first : take (length docs) names ≡ map (nameAt f) docs

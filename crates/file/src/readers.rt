@@ -42,28 +42,31 @@ pub fn slave_count(file: &[u8]) -> usize
 }
 
 // A slave's logical name, by the place of its 0x08.
-pub fn logical_name(file: &[u8], configurations: &[usize; 32], slave: usize) -> LogicalName
+pub fn logical_name(file: &[u8], configurations: &[u16; 32], slave: usize) -> LogicalName
     requires { ⌜ Becomes (now file) (decode (now file)) × KeptAt (decode (now file)) configuration (now configurations) slave ⌝ }
     ensures { λ r. ⌜ nameIn r ≡ logicalName (slaveOf (decode (now (file .entry))) slave) ⌝ }
 {
-    let at = configurations[slave] + 7;
+    let place = configurations[slave] as usize;
+    let at = place + 7;
     LogicalName::new(file[at])
 }
 
 // A slave's physical name, by the place of its 0x3D.
-pub fn physical_name(file: &[u8], documentations: &[usize; 32], slave: usize) -> u64
+pub fn physical_name(file: &[u8], documentations: &[u16; 32], slave: usize) -> u64
     requires { ⌜ Becomes (now file) (decode (now file)) × KeptAt (decode (now file)) documentation (now documentations) slave ⌝ }
     ensures { λ r. ⌜ r ≡ physicalName (slaveOf (decode (now (file .entry))) slave) ⌝ }
 {
-    u64_at(file, documentations[slave] + 4)
+    let place = documentations[slave] as usize;
+    u64_at(file, place + 4)
 }
 
 // A slave's comparison value, by the place of its 0x08.
-pub fn comparison_value(file: &[u8], configurations: &[usize; 32], slave: usize) -> u64
+pub fn comparison_value(file: &[u8], configurations: &[u16; 32], slave: usize) -> u64
     requires { ⌜ Becomes (now file) (decode (now file)) × KeptAt (decode (now file)) configuration (now configurations) slave ⌝ }
     ensures { λ r. ⌜ r ≡ comparisonValue (slaveOf (decode (now (file .entry))) slave) ⌝ }
 {
-    u64_at(file, configurations[slave] + 8)
+    let place = configurations[slave] as usize;
+    u64_at(file, place + 8)
 }
 
 // What a directory states for a file number.

@@ -1,16 +1,12 @@
 // The checker: grounds 1 to 8 in one walk, which hands back where each slave keeps 0x08 and 0x3D.
 ghost use mathlib.Core.Path.{_≡_};
-ghost use Prim.Native.Nat.{_≤_};
-ghost use lib.ListN.{length};
-ghost use Rattle.file.specs.Bytes.{All};
-ghost use Rattle.file.specs.Checked.{GoodHeader, BodyWalked, WholeWalk, slavesGround, NameStands, NamesRead};
+ghost use Rattle.file.specs.Grounds.{isAmong};
+ghost use Rattle.file.specs.Checked.{GoodHeader, BodyWalked, WholeWalk, slavesGround};
 ghost use Rattle.file.specs.Surveyed.{Surveyed};
 ghost use Rattle.file.specs.Answers.{Verdict, checkedOf, loadVerdict};
 use crate::header::header_ground;
+use crate::names::equal_names;
 use crate::numbers::byte_at;
-use crate::numbers::u64_at;
-use crate::repeats::has_repeat;
-use crate::repeats::is_among;
 use crate::types::Refusal;
 use crate::walk::SlavesWalk;
 use crate::walk::walk_slaves;
@@ -18,8 +14,8 @@ use crate::walk::walk_slaves;
 // How many slaves there are, and where each keeps 0x08 and 0x3D.
 pub struct Places {
     pub count: usize,
-    pub configuration: [usize; 32],
-    pub documentation: [usize; 32],
+    pub configuration: [u16; 32],
+    pub documentation: [u16; 32],
 }
 
 pub enum FileAnswer {
@@ -33,19 +29,18 @@ pub struct FileSurvey {
     pub places: Places,
 }
 
-// The number in the eight bytes behind record 0x00 of each file.
-fn physical_names(file: &[u8], documentation: &[usize]) -> [usize; 32]
-    requires { ⌜ (length (now documentation) ≤ 32) × All (NameStands (now file)) (now documentation) ⌝ }
-    ensures { λ r. ⌜ NamesRead (now (file .entry)) (now (documentation .entry)) r ⌝ }
+// Whether a slave lacks a file: its place is 0.
+fn is_missing(places: &[u16]) -> bool
+    ensures { λ r. ⌜ r ≡ isAmong 0 (now (places .entry)) ⌝ }
 {
-    let mut names = [0usize; 32];
     let mut slave = 0;
-    while slave < documentation.len() {
-        let at = documentation[slave] + 4;
-        names[slave] = u64_at(file, at) as usize;
+    while slave < places.len() {
+        if places[slave] == 0 {
+            return true;
+        }
         slave = slave + 1;
     }
-    names
+    false
 }
 
 fn refused(ground: Refusal) -> FileSurvey
@@ -55,8 +50,8 @@ fn refused(ground: Refusal) -> FileSurvey
         answer: FileAnswer::Refused(ground),
         places: Places {
             count: 0,
-            configuration: [0usize; 32],
-            documentation: [0usize; 32],
+            configuration: [0u16; 32],
+            documentation: [0u16; 32],
         },
     }
 }
@@ -71,8 +66,8 @@ fn walk_body(file: &[u8]) -> SlavesWalk
         return SlavesWalk {
             good: false,
             end: 0,
-            configuration: [0usize; 32],
-            documentation: [0usize; 32],
+            configuration: [0u16; 32],
+            documentation: [0u16; 32],
         };
     }
     let mut walk = walk_slaves(file, count);
@@ -83,19 +78,17 @@ fn walk_body(file: &[u8]) -> SlavesWalk
 }
 
 // Grounds 7 and 8, by the places that the directories of all slaves state.
-fn slaves_ground(file: &[u8], configuration: &[usize], documentation: &[usize]) -> u8
+fn slaves_ground(file: &[u8], configuration: &[u16], documentation: &[u16]) -> u8
     requires { ⌜ WholeWalk (now file) (now configuration) (now documentation) ⌝ }
     ensures { λ r. ⌜ r ≡ slavesGround (now (file .entry)) ⌝ }
 {
-    if is_among(0, configuration) {
+    if is_missing(configuration) {
         return Refusal::NEEDED_FILE.0;
     }
-    if is_among(0, documentation) {
+    if is_missing(documentation) {
         return Refusal::NEEDED_FILE.0;
     }
-    let names = physical_names(file, documentation);
-    let count = documentation.len();
-    if has_repeat(&names[..count]) {
+    if equal_names(file, documentation) {
         return Refusal::PHYSICAL_NAMES.0;
     }
     0

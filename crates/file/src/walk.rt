@@ -3,108 +3,128 @@ ghost use mathlib.Core.Path.{_≡_};
 ghost use Prim.Native.Nat.{_+_, _*_, _≤_, _<_};
 ghost use lib.ListN.{length};
 ghost use Rattle.file.specs.Bytes.{ByteAt};
-ghost use Rattle.file.specs.Grounds.{goodEntry};
-ghost use Rattle.file.specs.Checked.{keptPlace, DirectoryWalked, SlaveWalked, SlavesWalked};
+ghost use Rattle.file.specs.Checked.{nextEntry, fitsSoFar, states, statedPlace, Arrives, DirectoryWalked, SlaveWalked, SlavesWalked};
 use crate::numbers::byte_at;
 use crate::numbers::offset_at;
 
-// What the walk of a directory found: whether it is good, where its files end, and where 0x08 and 0x3D lie in the needed
-// size, 0 where they do not.
+// Whether a directory is good, and where its files end.
 pub struct DirectoryWalk {
     pub good: bool,
     pub end: usize,
-    pub configuration: usize,
-    pub documentation: usize,
 }
 
-const BROKEN: DirectoryWalk = DirectoryWalk {
+// Whether a directory entry may come next: its file number is low or more, it counts records, and its offset is the running place.
+fn is_next(file: &[u8], entry: usize, number: usize, last: usize, low: usize, place: usize) -> bool
+    requires { ⌜ (entry + 4 ≤ length (now file)) × (length (now file) ≤ 32768) × ByteAt (now file) entry number × ByteAt (now file) (entry + 1) last ⌝ }
+    ensures { λ r. ⌜ r ≡ nextEntry 2 (now (file .entry)) entry low place ⌝ }
+{
+    if number < low {
+        return false;
+    }
+    if last < 1 {
+        return false;
+    }
+    offset_at(file, entry + 2) == place
+}
+
+// Whether no file number was above 63 and no file ended behind the bytes: numbers and places rise, so the last ones speak for all.
+fn fits_so_far(file: &[u8], low: usize, place: usize) -> bool
+    ensures { λ r. ⌜ r ≡ fitsSoFar (now (file .entry)) low place ⌝ }
+{
+    if 64 < low {
+        return false;
+    }
+    place <= file.len()
+}
+
+// The directory at a place that the running place has come to, of count entries.
+fn walk_directory(file: &[u8], directory: usize, count: usize) -> DirectoryWalk
+    requires { ⌜ (directory + 4 * count ≤ length (now file)) × (length (now file) ≤ 32768) ⌝ }
+    ensures { λ r. ⌜ DirectoryWalked (now (file .entry)) directory count (r .good) (r .end) ⌝ }
+{
+    let end = directory + 4 * count;
+    let mut entry = directory;
+    let mut low = 0;
+    let mut place = end;
+    while entry < end {
+        let number = byte_at(file, entry);
+        let last = byte_at(file, entry + 1);
+        if !is_next(file, entry, number, last, low, place) {
+            return DirectoryWalk {
+                good: false,
+                end: 0,
+            };
+        }
+        low = number + 1;
+        place = place + 4 * (last + 1);
+        entry = entry + 4;
+    }
+    DirectoryWalk {
+        good: fits_so_far(file, low, place),
+        end: place,
+    }
+}
+
+// Whether a directory entry states the wanted file with enough records.
+fn is_stated(file: &[u8], entry: usize, wanted: u8, least: u8) -> bool
+    requires { ⌜ (entry + 4 ≤ length (now file)) × (length (now file) ≤ 32768) ⌝ }
+    ensures { λ r. ⌜ r ≡ states (now (file .entry)) wanted least entry ⌝ }
+{
+    if file[entry] != wanted {
+        return false;
+    }
+    least <= file[entry + 1]
+}
+
+// Where a walked directory states the wanted file to lie, 0 where it does not: found from the front, for a low file number.
+fn stated_from_front(file: &[u8], directory: usize, count: usize, wanted: u8, least: u8) -> u16
+    requires { ⌜ (directory + 4 * count ≤ length (now file)) × (length (now file) ≤ 32768) × Arrives (now file) directory count ⌝ }
+    ensures { λ r. ⌜ r ≡ statedPlace 2 (now (file .entry)) wanted least 0 directory count ⌝ }
+{
+    let end = directory + 4 * count;
+    let mut entry = directory;
+    while entry < end {
+        if is_stated(file, entry, wanted, least) {
+            return offset_at(file, entry + 2) as u16;
+        }
+        entry = entry + 4;
+    }
+    0
+}
+
+// The same from the back, for a high file number.
+fn stated_from_back(file: &[u8], directory: usize, count: usize, wanted: u8, least: u8) -> u16
+    requires { ⌜ (directory + 4 * count ≤ length (now file)) × (length (now file) ≤ 32768) ⌝ }
+    ensures { λ r. ⌜ r ≡ statedPlace 2 (now (file .entry)) wanted least 0 directory count ⌝ }
+{
+    let mut entry = directory + 4 * count;
+    while directory < entry {
+        entry = entry - 4;
+        if is_stated(file, entry, wanted, least) {
+            return offset_at(file, entry + 2) as u16;
+        }
+    }
+    0
+}
+
+// What the walk of a slave found: whether it is good, where its files end, and where 0x08 and 0x3D lie in the needed size, 0
+// where they do not.
+pub struct SlaveWalk {
+    pub good: bool,
+    pub end: usize,
+    pub configuration: u16,
+    pub documentation: u16,
+}
+
+const BROKEN: SlaveWalk = SlaveWalk {
     good: false,
     end: 0,
     configuration: 0,
     documentation: 0,
 };
 
-// Whether a directory entry is good, of which file number and record count were read.
-fn good_entry(
-    file: &[u8],
-    entry: usize,
-    number: usize,
-    last: usize,
-    low: usize,
-    place: usize,
-) -> bool
-    requires { ⌜ (entry + 4 ≤ length (now file)) × (length (now file) ≤ 32768) × (place ≤ 32768) × ByteAt (now file) entry number × ByteAt (now file) (entry + 1) last ⌝ }
-    ensures { λ r. ⌜ r ≡ goodEntry 2 (now (file .entry)) entry low place ⌝ }
-{
-    if number < low {
-        return false;
-    }
-    if 63 < number {
-        return false;
-    }
-    if last < 1 {
-        return false;
-    }
-    if offset_at(file, entry + 2) != place {
-        return false;
-    }
-    place + 4 * (last + 1) <= file.len()
-}
-
-// The place to keep for a file: its own, where it is the wanted one with enough records, else the one kept so far.
-fn kept_place(
-    number: usize,
-    last: usize,
-    wanted: usize,
-    least: usize,
-    place: usize,
-    kept: usize,
-) -> usize
-    ensures { λ r. ⌜ r ≡ keptPlace number last wanted least place kept ⌝ }
-{
-    if number != wanted {
-        return kept;
-    }
-    if last < least {
-        return kept;
-    }
-    place
-}
-
-// The directory at a place that the running place has come to, of count entries.
-fn walk_directory(file: &[u8], directory: usize, count: usize) -> DirectoryWalk
-    requires { ⌜ (directory + 4 * count ≤ length (now file)) × (length (now file) ≤ 32768) ⌝ }
-    ensures { λ r. ⌜ DirectoryWalked (now (file .entry)) directory count (r .good) (r .end) (r .configuration) (r .documentation) ⌝ }
-{
-    let mut entry = directory;
-    let mut left = count;
-    let mut low = 0;
-    let mut place = directory + 4 * count;
-    let mut configuration = 0;
-    let mut documentation = 0;
-    while 0 < left {
-        let number = byte_at(file, entry);
-        let last = byte_at(file, entry + 1);
-        if !good_entry(file, entry, number, last, low, place) {
-            return BROKEN;
-        }
-        configuration = kept_place(number, last, 0x08, 3, place, configuration);
-        documentation = kept_place(number, last, 0x3D, 2, place, documentation);
-        low = number + 1;
-        place = place + 4 * (last + 1);
-        entry = entry + 4;
-        left = left - 1;
-    }
-    DirectoryWalk {
-        good: true,
-        end: place,
-        configuration,
-        documentation,
-    }
-}
-
 // The slave of a table entry, its directory at the running place.
-fn walk_slave(file: &[u8], entry: usize, place: usize) -> DirectoryWalk
+fn walk_slave(file: &[u8], entry: usize, place: usize) -> SlaveWalk
     requires { ⌜ (entry + 4 ≤ length (now file)) × (length (now file) ≤ 32768) × (place ≤ 32768) ⌝ }
     ensures { λ r. ⌜ SlaveWalked (now (file .entry)) entry place (r .good) (r .end) (r .configuration) (r .documentation) ⌝ }
 {
@@ -118,23 +138,32 @@ fn walk_slave(file: &[u8], entry: usize, place: usize) -> DirectoryWalk
     if file.len() < place + 4 * count {
         return BROKEN;
     }
-    walk_directory(file, place, count)
+    let files = walk_directory(file, place, count);
+    if !files.good {
+        return BROKEN;
+    }
+    SlaveWalk {
+        good: true,
+        end: files.end,
+        configuration: stated_from_front(file, place, count, 0x08, 3),
+        documentation: stated_from_back(file, place, count, 0x3D, 2),
+    }
 }
 
 // What the walk of all slaves found.
 pub struct SlavesWalk {
     pub good: bool,
     pub end: usize,
-    pub configuration: [usize; 32],
-    pub documentation: [usize; 32],
+    pub configuration: [u16; 32],
+    pub documentation: [u16; 32],
 }
 
 pub fn walk_slaves(file: &[u8], count: usize) -> SlavesWalk
     requires { ⌜ (16 + 4 * count ≤ length (now file)) × (length (now file) ≤ 32768) × (count ≤ 32) ⌝ }
     ensures { λ r. ⌜ SlavesWalked (now (file .entry)) count (r .good) (r .end) (r .configuration) (r .documentation) ⌝ }
 {
-    let mut configuration = [0usize; 32];
-    let mut documentation = [0usize; 32];
+    let mut configuration = [0u16; 32];
+    let mut documentation = [0u16; 32];
     let mut entry = 16;
     let mut place = 16 + 4 * count;
     let mut slave = 0;

@@ -71,11 +71,11 @@ pub fn set_pending(
 }
 
 // A slave's new logical name becomes its logical name.
-pub fn take_new_name(file: &mut [u8], configurations: &[usize; 32], slave: usize)
+pub fn take_new_name(file: &mut [u8], configurations: &[u16; 32], slave: usize)
     requires { ⌜ Becomes (now file) (decode (now file)) × KeptAt (decode (now file)) configuration (now configurations) slave ⌝ }
     ensures { λ _. ⌜ Becomes (now (file .exit)) (putByte (decode (now (file .entry))) slave configuration (recordSize + 3) (newLogicalName (slaveOf (decode (now (file .entry))) slave))) ⌝ }
 {
-    let at = configurations[slave];
+    let at = configurations[slave] as usize;
     let name = file[at + 6];
     file[at + 7] = name;
 }

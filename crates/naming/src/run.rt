@@ -66,8 +66,8 @@ fn run_ground(names: &[u8], run: RunPosition) -> u8
 // A step of a running position, on an accepted file and with the places that its survey found.
 fn make_step(
     file: &mut [u8],
-    configurations: &[usize; 32],
-    documentations: &[usize; 32],
+    configurations: &[u16; 32],
+    documentations: &[u16; 32],
     count: usize,
     run: RunPosition,
     names: &[u8],

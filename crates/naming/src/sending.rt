@@ -184,8 +184,8 @@ fn next_epoch(epoch: u8) -> u8
 // The complete round on an accepted file. The mask of the slots in which someone sent.
 pub fn send(
     file: &mut [u8],
-    configurations: &[usize; 32],
-    documentations: &[usize; 32],
+    configurations: &[u16; 32],
+    documentations: &[u16; 32],
     count: usize,
     next: NextRound,
     buffer: &mut [u8],

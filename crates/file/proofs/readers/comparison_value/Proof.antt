@@ -1,16 +1,19 @@
 -- `file::readers::comparison_value` meets its contract: the number at the place is the cluster's.
 -- Assumes nothing.
 use native.Mathlib.Omega.{arith}
-use Rattle.file.proofs.ReaderLaws.{configuration-within, comparison-there}
+use Rattle.file.proofs.ReaderLaws.{length-limit, configuration-within, comparison-there}
 use borrow.Author.Needs.{needs}
 use Rattle.file.proofs.readers.comparison_value.Statement.{statement}
 use Rattle.file.proofs.readers.comparison_value.Tie as tie
 
-mul-u64-at : tie.Need-mul-u64-at
-mul-u64-at c = search needs
+mul-place : tie.Need-mul-place
+mul-place c = search needs
 
-element-copy-out-u64-at : tie.Need-element-copy-out-u64-at
-element-copy-out-u64-at c = search needs
+element-copy-out-place : tie.Need-element-copy-out-place
+element-copy-out-place c = search needs
+
+cast-place : tie.Need-cast-place
+cast-place c = omega (arith, configuration-within (c .before .before .pre .0) (c .before .before .pre .1), length-limit (c .before .before .pre .0))
 
 add-u64-at : tie.Need-add-u64-at
 add-u64-at c = omega (arith, configuration-within (c .before .before .pre .0) (c .before .before .pre .1))
@@ -23,4 +26,5 @@ returns c = comparison-there (c .before .before .before .pre .0) (c .before .bef
 
 pub comparison-value-spec : {M : Type 1} → statement M
 comparison-value-spec =
-    tie.close (tie.spec mul-u64-at element-copy-out-u64-at add-u64-at u64-at-requires returns)
+    tie.close
+    (tie.spec mul-place element-copy-out-place cast-place add-u64-at u64-at-requires returns)

@@ -2,16 +2,19 @@
 -- Assumes nothing.
 use mathlib.Core.Path.{_∙_}
 use native.Mathlib.Omega.{arith}
-use Rattle.file.proofs.ReaderLaws.{configuration-within, logical-there}
+use Rattle.file.proofs.ReaderLaws.{length-limit, configuration-within, logical-there}
 use borrow.Author.Needs.{needs}
 use Rattle.file.proofs.readers.logical_name.Statement.{statement}
 use Rattle.file.proofs.readers.logical_name.Tie as tie
 
-mul-at : tie.Need-mul-at
-mul-at c = search needs
+mul-place : tie.Need-mul-place
+mul-place c = search needs
 
-element-copy-out-at : tie.Need-element-copy-out-at
-element-copy-out-at c = search needs
+element-copy-out-place : tie.Need-element-copy-out-place
+element-copy-out-place c = search needs
+
+cast-place : tie.Need-cast-place
+cast-place c = omega (arith, configuration-within (c .before .before .pre .0) (c .before .before .pre .1), length-limit (c .before .before .pre .0))
 
 add-at : tie.Need-add-at
 add-at c = omega (arith, configuration-within (c .before .before .pre .0) (c .before .before .pre .1))
@@ -28,4 +31,11 @@ returns c = c .new .ensures ∙ logical-there (c .before .before .before .before
 pub logical-name-spec : {M : Type 1} → statement M
 logical-name-spec =
     tie.close
-    (tie.spec mul-at element-copy-out-at add-at shared-slice-read-new new-requires returns)
+    (tie.spec
+    mul-place
+    element-copy-out-place
+    cast-place
+    add-at
+    shared-slice-read-new
+    new-requires
+    returns)

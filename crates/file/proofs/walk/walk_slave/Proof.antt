@@ -1,6 +1,7 @@
 -- `file::walk::walk_slave` meets its contract: a law for each way.
 -- Assumes nothing.
-use Rattle.file.proofs.SlaveWalkLaws.{slave-elsewhere, slave-zero, slave-past, slave-walks}
+use borrow.Author.Tests.{not-true, not-false}
+use Rattle.file.proofs.SlaveWalkLaws.{slave-elsewhere, slave-zero, slave-past, slave-breaks, slave-walks, directory-arrives}
 use borrow.Author.Needs.{needs}
 use Rattle.file.proofs.walk.walk_slave.Statement.{statement}
 use Rattle.file.proofs.walk.walk_slave.Tie as tie
@@ -39,7 +40,16 @@ walk-directory-requires : tie.Need-walk-directory-requires
 walk-directory-requires c κs = search needs
 
 returns-4 : tie.Need-returns-4
-returns-4 c = search (needs, slave-walks)
+returns-4 c = search (needs, slave-breaks, not-true)
+
+stated-from-front-requires : tie.Need-stated-from-front-requires
+stated-from-front-requires c κs = search (needs, directory-arrives, not-false)
+
+stated-from-back-requires : tie.Need-stated-from-back-requires
+stated-from-back-requires c κs = search needs
+
+returns-5 : tie.Need-returns-5
+returns-5 c = search (needs, slave-walks, not-false)
 
 pub walk-slave-spec : {M : Type 1} → statement M
 walk-slave-spec =
@@ -56,4 +66,7 @@ walk-slave-spec =
     add-if3
     returns-3
     walk-directory-requires
-    returns-4)
+    returns-4
+    stated-from-front-requires
+    stated-from-back-requires
+    returns-5)

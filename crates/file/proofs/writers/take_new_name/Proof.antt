@@ -1,7 +1,7 @@
 -- `file::writers::take_new_name` meets its contract: a byte of the configuration is stored behind itself.
 -- Assumes nothing.
 use native.Mathlib.Omega.{arith}
-use Rattle.file.proofs.ReaderLaws.{configuration-within}
+use Rattle.file.proofs.ReaderLaws.{length-limit, configuration-within}
 use Rattle.file.proofs.StoreLaws.{becomes-named}
 use borrow.Author.Needs.{needs}
 use Rattle.file.proofs.writers.take_new_name.Statement.{statement}
@@ -12,6 +12,9 @@ mul-at c = search needs
 
 element-copy-out-at : tie.Need-element-copy-out-at
 element-copy-out-at c = search needs
+
+cast-at : tie.Need-cast-at
+cast-at c = omega (arith, configuration-within (c .before .pre .0) (c .before .pre .1), length-limit (c .before .pre .0))
 
 add-name : tie.Need-add-name
 add-name c = omega (arith, configuration-within (c .before .pre .0) (c .before .pre .1))
@@ -37,6 +40,7 @@ take-new-name-spec =
     (tie.spec
     mul-at
     element-copy-out-at
+    cast-at
     add-name
     slice-read-name
     add-file

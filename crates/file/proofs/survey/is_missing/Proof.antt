@@ -1,17 +1,17 @@
--- `file::repeats::is_among` meets its contract: what is left of the search is what the whole search gives.
+-- `file::survey::is_missing` meets its contract: what is left of the search is what the whole search gives.
 -- Assumes nothing.
 use Prim.Native.Nat.{_-_}
 use borrow.Author.Needs.{needs}
 use lib.ListN.{length}
-use Rattle.file.proofs.RepeatLaws.{Looking, looking-start, looking-here, looking-next, looking-end}
-use Rattle.file.proofs.repeats.is_among.Statement.{statement}
-use Rattle.file.proofs.repeats.is_among.Tie as tie
+use Rattle.file.proofs.LookingLaws.{Looking, looking-start, looking-here, looking-next, looking-end}
+use Rattle.file.proofs.survey.is_missing.Statement.{statement}
+use Rattle.file.proofs.survey.is_missing.Tie as tie
 
 abbrev Inv-loop : tie.InvT-loop
-Inv-loop number list i₀ i = Looking number list i
+Inv-loop places slave₀ slave = Looking 0 places slave
 
 abbrev μ-loop : tie.MeasureT-loop
-μ-loop number list i₀ i = length list - i
+μ-loop places slave₀ slave = length places - slave
 
 loop-holds : tie.Need-loop-holds Inv-loop μ-loop
 loop-holds c = looking-start _ _
@@ -25,8 +25,8 @@ shared-slice-read-if1 c = search needs
 returns : tie.Need-returns Inv-loop μ-loop
 returns c = looking-here (c .before .before .before .loop .inv) (c .before .before .loop-test .taken) (c .if1 .taken)
 
-add-i : tie.Need-add-i Inv-loop μ-loop
-add-i c = search needs
+add-slave : tie.Need-add-slave Inv-loop μ-loop
+add-slave c = search needs
 
 loop-less : tie.Need-loop-less Inv-loop μ-loop
 loop-less c = search needs
@@ -37,8 +37,8 @@ loop-again c = looking-next (c .before .before .before .loop .inv) (c .before .b
 returns-2 : tie.Need-returns-2 Inv-loop μ-loop
 returns-2 c = looking-end (c .before .loop .inv) (c .loop-test .left)
 
-pub is-among-spec : {M : Type 1} → statement M
-is-among-spec =
+pub is-missing-spec : {M : Type 1} → statement M
+is-missing-spec =
     tie.close
     (tie.spec
     Inv-loop
@@ -47,7 +47,7 @@ is-among-spec =
     mul-if1
     shared-slice-read-if1
     returns
-    add-i
+    add-slave
     loop-less
     loop-again
     returns-2)

@@ -1,0 +1,19 @@
+-- `file::names::is_named_again` meets its contract.
+-- Assumes nothing.
+use mathlib.Core.Path.{sym}
+use borrow.Author.Tests.{not-true}
+use borrow.Author.Needs.{needs}
+use Rattle.file.proofs.names.is_named_again.Statement.{statement}
+use Rattle.file.proofs.names.is_named_again.Tie as tie
+
+returns : tie.Need-returns
+returns c = sym (c .before .before .before .pre .1 (not-true _ (c .if1 .taken)))
+
+is-named-requires : tie.Need-is-named-requires
+is-named-requires c κs = search needs
+
+returns-2 : tie.Need-returns-2
+returns-2 c = search needs
+
+pub is-named-again-spec : {M : Type 1} → statement M
+is-named-again-spec = tie.close (tie.spec returns is-named-requires returns-2)

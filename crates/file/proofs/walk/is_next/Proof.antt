@@ -1,0 +1,24 @@
+-- `file::walk::is_next` meets its contract: a law for each way.
+-- Assumes nothing.
+use Rattle.file.proofs.WalkLaws.{next-low, next-empty, next-last}
+use borrow.Author.Needs.{needs}
+use Rattle.file.proofs.walk.is_next.Statement.{statement}
+use Rattle.file.proofs.walk.is_next.Tie as tie
+
+returns : tie.Need-returns
+returns c = search (needs, next-low)
+
+returns-2 : tie.Need-returns-2
+returns-2 c = search (needs, next-empty)
+
+add-offset-at : tie.Need-add-offset-at
+add-offset-at c = search needs
+
+offset-at-requires : tie.Need-offset-at-requires
+offset-at-requires c κs = search needs
+
+returns-3 : tie.Need-returns-3
+returns-3 c = search (needs, next-last)
+
+pub is-next-spec : {M : Type 1} → statement M
+is-next-spec = tie.close (tie.spec returns returns-2 add-offset-at offset-at-requires returns-3)

@@ -1,0 +1,70 @@
+-- `file::walk::stated_from_back` meets its contract: the entries before state what the whole directory states.
+-- Assumes nothing.
+use borrow.Author.Needs.{needs}
+use native.Mathlib.Omega.{arith}
+use Rattle.file.proofs.SeekLaws.{SeekingBack, back-start, back-done, back-next, back-here}
+use Rattle.file.proofs.walk.stated_from_back.Statement.{statement}
+use Rattle.file.proofs.walk.stated_from_back.Tie as tie
+
+abbrev Inv-loop : tie.InvT-loop
+Inv-loop file directory count wanted least entry₀ entry = SeekingBack file directory count wanted least entry
+
+abbrev μ-loop : tie.MeasureT-loop
+μ-loop file directory count wanted least entry₀ entry = entry
+
+mul-entry : tie.Need-mul-entry Inv-loop μ-loop
+mul-entry c = search needs
+
+add-entry : tie.Need-add-entry Inv-loop μ-loop
+add-entry c = search needs
+
+loop-holds : tie.Need-loop-holds Inv-loop μ-loop
+loop-holds c = back-start _ _
+
+sub-entry : tie.Need-sub-entry Inv-loop μ-loop
+sub-entry c = omega (arith, c .before .loop .inv .at)
+
+is-stated-requires : tie.Need-is-stated-requires Inv-loop μ-loop
+is-stated-requires c κs = (omega (arith, c .before .before .before .pre .0, c .before .loop .inv .at, c .before .loop .inv .most), c .before .before .before .pre .1)
+
+add-offset-at : tie.Need-add-offset-at Inv-loop μ-loop
+add-offset-at c = omega (arith, c .before .before .before .before .before .pre .0, c .before .before .before .before .before .pre .1, c .before .before .before .loop .inv .at, c .before .before .before .loop .inv .most)
+
+offset-at-requires : tie.Need-offset-at-requires Inv-loop μ-loop
+offset-at-requires c κs = omega (arith, c .before .before .before .before .before .pre .0, c .before .before .before .loop .inv .at, c .before .before .before .loop .inv .most)
+
+cast-result : tie.Need-cast-result Inv-loop μ-loop
+cast-result c = omega (arith, c .offset-at .ensures .below)
+
+returns : tie.Need-returns Inv-loop μ-loop
+returns c =
+    let found = c .before .before in
+    back-here (found .before .before .loop .inv) (found .before .loop-test .taken) (found .is-stated .ensures) (c .before .if1 .taken) (c .offset-at .ensures)
+
+loop-less : tie.Need-loop-less Inv-loop μ-loop
+loop-less c = omega arith
+
+loop-again : tie.Need-loop-again Inv-loop μ-loop
+loop-again c = back-next (c .before .before .before .loop .inv) (c .before .before .loop-test .taken) (c .before .is-stated .ensures) (c .if1 .left)
+
+returns-2 : tie.Need-returns-2 Inv-loop μ-loop
+returns-2 c = back-done (c .before .loop .inv) (c .loop-test .left)
+
+pub stated-from-back-spec : {M : Type 1} → statement M
+stated-from-back-spec =
+    tie.close
+    (tie.spec
+    Inv-loop
+    μ-loop
+    mul-entry
+    add-entry
+    loop-holds
+    sub-entry
+    is-stated-requires
+    add-offset-at
+    offset-at-requires
+    cast-result
+    returns
+    loop-less
+    loop-again
+    returns-2)
