@@ -111,6 +111,7 @@ fn read_round(
     last
 }
 
+// Who replies sends 0x00 in slot 1, and the byte stays 0x00 whoever replies too: the first reply settles the round.
 fn compare_round(
     file: &[u8],
     configurations: &[usize; 32],
@@ -135,6 +136,9 @@ fn compare_round(
             buffer,
             last,
         );
+        if last == 1 {
+            return 1;
+        }
         slave = slave + 1;
     }
     last
