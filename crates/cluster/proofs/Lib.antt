@@ -22,6 +22,7 @@ pub mod HearLaws
 pub mod SlotLaws
 -- the functions: one law for each way through a slave's part, a data part, and a frame
 pub mod SlaveLaws
+pub mod Settled
 pub mod DataLaws
 pub mod RoundNumbers
 pub mod FrameLaws

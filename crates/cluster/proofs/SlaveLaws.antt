@@ -13,17 +13,17 @@ use borrow.Author.Tests.{eq-eqb, ne-eqb, le-leb, lt-leb, not-true, not-false}
 use Rattle.file.specs.Bytes.{Byte, Bytes, All, part}
 use Rattle.file.specs.Order.{both}
 use Rattle.file.specs.Layout.{recordSize}
-use Rattle.file.specs.Cluster.{Slave, Cluster, hasRecord, recordOf, logicalName, physicalName, comparisonValue, newLogicalName, configuration, documentation, unnamed, broadcast}
+use Rattle.file.specs.Cluster.{Slave, Cluster, bytesIn, hasRecord, recordOf, logicalName, physicalName, comparisonValue, newLogicalName, configuration, documentation, unnamed, broadcast}
 use Rattle.file.specs.Encode.{encode}
 use Rattle.file.specs.Places.{noSlave, slaveOf, filePlace, putInSlave, withSlaves, putByte, putBytes}
-use Rattle.file.specs.Accepted.{Becomes, FoundRecord, recordAt, findRecord}
+use Rattle.file.specs.Accepted.{Becomes, KeptAt, FoundRecord, recordAt, findRecord}
 use Rattle.file.specs.Answers.{foundRecord}
 use Rattle.file.specs.declared.readers.RecordPlace.{RecordPlace}
 use Rattle.file.specs.declared.readers.RecordPlace.the-variants.{At, NoRecord}
 use Rattle.file.proofs.Order.{byCase, clash, both-true, both-left, both-next, both-false-left, both-false-right}
 use Rattle.file.proofs.Stores.{read-record}
 use Rattle.file.proofs.Puts.{putByte-slave-same, putByte-count, hasRecord-fits}
-use Rattle.file.proofs.ReaderLaws.{place-within}
+use Rattle.file.proofs.ReaderLaws.{configuration-room, documentation-room, place-within}
 use Rattle.file.proofs.StoreLaws.{becomes-record}
 use Rattle.frame.specs.Frames.{between}
 use Rattle.cluster.specs.Slaves.{addresses, addressed, isUnnamed, reading, writing, comparing, baptizing, answersRead, readReply, answersCompare, replyTo, mayWrite, takesWrite, takesName, named, replaced, slaveAfter}
@@ -95,6 +95,22 @@ found-room {f} {c} {s} {n} {r} h x =
 
 pub record-room : {f : List ℕ} (c : Cluster) (s n r : ℕ) {x : RecordPlace} {place : ℕ} → Becomes f c → foundRecord x ≡ findRecord c s n r → x ≡ At place → place + 4 ≤ length f
 record-room c s n r h e is = found-room h (found-facts c s n r e is)
+
+-- ---- a record that every slave has
+
+-- the place of a file with k records or more states where each of them lies
+needed-found : {c : Cluster} {n m : ℕ} {places : List ℕ} {s : ℕ} (k : ℕ) → n ≡ m → KeptAt c m places s → recordSize * k ≤ length (bytesIn (slaveOf c s) m) → {r : ℕ} → r < k → {x : RecordPlace} →
+    x ≡ At (getD places s 0 + recordSize * r) → foundRecord x ≡ findRecord c s n r
+unfolding foundRecord findRecord hasRecord
+needed-found {c} {n} {m} {places} {s} k same kept room {r} less e =
+    rw (e, same, le-leb (recordSize * r + recordSize) (length (bytesIn (slaveOf c s) m)) (omega arith), kept .place)
+
+module _ {f : List ℕ} {c : Cluster} (h : Becomes f c) {places : List ℕ} {s n r : ℕ} {x : RecordPlace} (is : x ≡ At (getD places s 0 + recordSize * r)) where
+  pub configuration-found : KeptAt c configuration places s → n ≡ configuration → r < 4 → foundRecord x ≡ findRecord c s n r
+  configuration-found kept same less = needed-found 4 same kept (configuration-room h s (kept .slave)) less is
+
+  pub documentation-found : KeptAt c documentation places s → n ≡ documentation → r < 3 → foundRecord x ≡ findRecord c s n r
+  documentation-found kept same less = needed-found 3 same kept (documentation-room h s (kept .slave)) less is
 
 -- ---- replies
 

@@ -83,13 +83,14 @@ pub fn raise_epoch(file: &mut [u8])
 fn read_round(
     file: &[u8],
     configurations: &[u16; 32],
+    documentations: &[u16; 32],
     count: usize,
     name: LogicalName,
     number: FileNumber,
     record: RecordNumber,
     buffer: &mut [u8],
 ) -> u64
-    requires { ⌜ Becomes (now file) (decode (now file)) × AllKept (decode (now file)) configuration (now configurations) count × (slots ≤ length (now buffer)) ⌝ }
+    requires { ⌜ Becomes (now file) (decode (now file)) × AllKept (decode (now file)) configuration (now configurations) count × AllKept (decode (now file)) documentation (now documentations) count × (slots ≤ length (now buffer)) ⌝ }
     ensures { λ r. ⌜ Heard (sentTo (reading (name .0) (number .0) («record» .0)) (decode (now (file .entry)) .slaves)) dataFirework (now (buffer .entry)) (now (buffer .exit)) r ⌝ }
 {
     silence(buffer, MSD);
@@ -99,6 +100,7 @@ fn read_round(
         last = read_slave(
             file,
             configurations,
+            documentations,
             slave,
             name,
             number,
@@ -111,6 +113,7 @@ fn read_round(
     last
 }
 
+// Who replies sends 0x00 in slot 1, and the byte stays 0x00 whoever replies too: the first reply settles the round.
 fn compare_round(
     file: &[u8],
     configurations: &[u16; 32],
@@ -135,6 +138,9 @@ fn compare_round(
             buffer,
             last,
         );
+        if last == 1 {
+            return 1;
+        }
         slave = slave + 1;
     }
     last
@@ -213,7 +219,16 @@ pub fn carry_data(
             0
         }
         Duty::Read => {
-            let last = read_round(file, configurations, count, name, number, record, buffer);
+            let last = read_round(
+                file,
+                configurations,
+                documentations,
+                count,
+                name,
+                number,
+                record,
+                buffer,
+            );
             mask_to(last)
         }
         Duty::Write => {

@@ -2,14 +2,18 @@
 ghost use mathlib.Core.Path.{_≡_};
 ghost use mathlib.Core.Bool.{true, not};
 ghost use mathlib.Core.List.{[]};
-ghost use Prim.Native.Nat.{_≤_, _<_};
-ghost use lib.ListN.{length};
+ghost use Prim.Native.Nat.{_+_, _*_, _≤_, _<_};
+ghost use lib.ListN.{length, getD};
 ghost use lib.Dec.{eqb};
 ghost use Rattle.file.specs.Order.{both};
+ghost use Rattle.file.specs.Layout.{recordSize};
 ghost use Rattle.file.specs.Cluster.{configuration, documentation, unnamed, broadcast};
 ghost use Rattle.file.specs.Decode.{decode};
 ghost use Rattle.file.specs.Places.{slaveOf};
-ghost use Rattle.file.specs.Accepted.{Becomes, KeptAt};
+ghost use Rattle.file.specs.Typed.{fileIn, recordIn};
+ghost use Rattle.file.specs.Accepted.{Becomes, KeptAt, findRecord};
+ghost use Rattle.file.specs.Answers.{foundRecord};
+ghost use Rattle.file.specs.declared.readers.RecordPlace.the-variants.{At};
 ghost use Rattle.frame.specs.Frames.{between};
 ghost use Rattle.cluster.specs.Bus.{slots};
 ghost use Rattle.cluster.specs.Slaves.{addresses, mayWrite, reading, writing, comparing, baptizing, replyTo, slaveAfter};
@@ -60,10 +64,59 @@ fn is_compared(name: LogicalName, own: LogicalName) -> bool
     is_addressed(name, own)
 }
 
+// Where a slave keeps a record that every slave has, by the place of its file.
+fn needed_place(places: &[u16; 32], slave: usize, record: RecordNumber) -> RecordPlace
+    requires { ⌜ (slave < 32) × (getD (now places) slave 0 ≤ 32768) ⌝ }
+    ensures { λ r. ⌜ r ≡ At (getD (now (places .entry)) slave 0 + recordSize * recordIn «record») ⌝ }
+{
+    let at = places[slave] as usize;
+    RecordPlace::At(at + 4 * (record.0 as usize))
+}
+
+// Where a slave keeps the record of a write: those of 0x08 that every slave has need no search. No write changes 0x3D.
+fn write_place(
+    file: &[u8],
+    configurations: &[u16; 32],
+    slave: usize,
+    number: FileNumber,
+    record: RecordNumber,
+) -> RecordPlace
+    requires { ⌜ Becomes (now file) (decode (now file)) × KeptAt (decode (now file)) configuration (now configurations) slave ⌝ }
+    ensures { λ r. ⌜ foundRecord r ≡ findRecord (decode (now (file .entry))) slave (fileIn number) (recordIn «record») ⌝ }
+{
+    if number.0 == 0x08 {
+        if record.0 < 4 {
+            return needed_place(configurations, slave, record);
+        }
+    }
+    find_record(file, slave, number, record)
+}
+
+// The same for a read: those of 0x3D that every slave has need none either.
+fn read_place(
+    file: &[u8],
+    configurations: &[u16; 32],
+    documentations: &[u16; 32],
+    slave: usize,
+    number: FileNumber,
+    record: RecordNumber,
+) -> RecordPlace
+    requires { ⌜ Becomes (now file) (decode (now file)) × KeptAt (decode (now file)) configuration (now configurations) slave × KeptAt (decode (now file)) documentation (now documentations) slave ⌝ }
+    ensures { λ r. ⌜ foundRecord r ≡ findRecord (decode (now (file .entry))) slave (fileIn number) (recordIn «record») ⌝ }
+{
+    if number.0 == 0x3D {
+        if record.0 < 3 {
+            return needed_place(documentations, slave, record);
+        }
+    }
+    write_place(file, configurations, slave, number, record)
+}
+
 // Read: the slave's reply joined into the buffer; the last slot that someone has sent in.
 pub fn read_slave(
     file: &[u8],
     configurations: &[u16; 32],
+    documentations: &[u16; 32],
     slave: usize,
     name: LogicalName,
     number: FileNumber,
@@ -71,14 +124,14 @@ pub fn read_slave(
     buffer: &mut [u8],
     last: u64,
 ) -> u64
-    requires { ⌜ Becomes (now file) (decode (now file)) × KeptAt (decode (now file)) configuration (now configurations) slave × (slots ≤ length (now buffer)) ⌝ }
+    requires { ⌜ Becomes (now file) (decode (now file)) × KeptAt (decode (now file)) configuration (now configurations) slave × KeptAt (decode (now file)) documentation (now documentations) slave × (slots ≤ length (now buffer)) ⌝ }
     ensures { λ r. ⌜ Turn (replyTo (reading (name .0) (number .0) («record» .0)) (slaveOf (decode (now (file .entry))) slave)) (now (buffer .entry)) (now (buffer .exit)) last r ⌝ }
 {
     let own = logical_name(file, configurations, slave);
     if !is_read(name, own) {
         return last;
     }
-    let found = find_record(file, slave, number, record);
+    let found = read_place(file, configurations, documentations, slave, number, record);
     let RecordPlace::At(place) = found else {
         return last;
     };
@@ -128,7 +181,7 @@ pub fn write_slave(
     if !is_addressed(name, own) {
         return;
     }
-    let found = find_record(file, slave, number, record);
+    let found = write_place(file, configurations, slave, number, record);
     let RecordPlace::At(place) = found else {
         return;
     };

@@ -49,7 +49,15 @@ module _ {l : List ℕ} {i : ℕ} (h : Reading l i) where
   unfolding unfitName
   reading-end past = rw (drop-of-length-le l past) at (h .left)
 
--- ---- ground 16, from the last name on: the names behind i are marked, and none of them occurs twice
+-- ---- ground 16
+
+pub few-once : (l : List ℕ) → length l < 2 → false ≡ hasRepeat l
+unfolding hasRepeat isAmong either
+few-once [] few = refl
+few-once (n ∷ []) few = refl
+few-once (n ∷ m ∷ ns) few = absurd (omega arith)
+
+-- from the last name on: the names behind i are marked, and none of them occurs twice
 
 pub record Marking (l : List ℕ) (seen : List Bool) (i : ℕ) : Type 0 where
   pub room : length seen ≡ 256

@@ -23,10 +23,13 @@ fn has_unfit(names: &[u8]) -> bool
     false
 }
 
-// Ground 16, from the last name to the first: a mark for each name behind this one.
+// Ground 16, from the last name to the first: a mark for each name behind this one. Fewer than two names need no marks.
 fn has_twice(names: &[u8]) -> bool
     ensures { λ r. ⌜ r ≡ hasRepeat (now (names .entry)) ⌝ }
 {
+    if names.len() < 2 {
+        return false;
+    }
     let mut seen = [false; 256];
     let mut i = names.len();
     while 0 < i {

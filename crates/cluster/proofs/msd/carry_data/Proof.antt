@@ -29,7 +29,7 @@ read-round-requires c κs =
     let known = c .before .before .before .before in
     let start = known .before .before .before .before .before .before .before .before .before .before .before .before .before in
     let raised = known .before .before .raise-epoch .ensures in
-    (becomes-decoded raised, all-raised raised (start .pre .1), start .pre .4)
+    (becomes-decoded raised, all-raised raised (start .pre .1), all-raised raised (start .pre .2), start .pre .4)
 
 mask-to-requires : tie.Need-mask-to-requires
 mask-to-requires c κs = search needs

@@ -12,11 +12,11 @@ use Rattle.cluster.proofs.msd.read_round.Statement.{statement}
 use Rattle.cluster.proofs.msd.read_round.Tie as tie
 
 abbrev Inv-loop : tie.InvT-loop
-Inv-loop file configurations count name number «record» buffer₀ last₀ slave₀ buffer last slave =
+Inv-loop file configurations documentations count name number «record» buffer₀ last₀ slave₀ buffer last slave =
     Hearing (reading (name .0) (number .0) («record» .0)) (decode file) dataFirework buffer₀ buffer slave last
 
 abbrev μ-loop : tie.MeasureT-loop
-μ-loop file configurations count name number «record» buffer₀ last₀ slave₀ buffer last slave = count - slave
+μ-loop file configurations documentations count name number «record» buffer₀ last₀ slave₀ buffer last slave = count - slave
 
 silence-requires : tie.Need-silence-requires Inv-loop μ-loop
 silence-requires c κs = search needs
@@ -24,13 +24,13 @@ silence-requires c κs = search needs
 loop-holds : tie.Need-loop-holds Inv-loop μ-loop
 loop-holds c =
     let start = c .before .before .before .before .before .before in
-    hearing-start _ _ (start .args .buffer .now) (start .pre .2) (c .before .before .silence .ensures)
+    hearing-start _ _ (start .args .buffer .now) (start .pre .3) (c .before .before .silence .ensures)
 
 read-slave-requires : tie.Need-read-slave-requires Inv-loop μ-loop
 read-slave-requires c κs =
     let start = c .before .before .before .before .before .before .before .before .before in
     let inside : c .before .before .loop .slave < length (decode (start .args .file .now) .slaves) = omega (arith, start .pre .1 .all, c .before .loop-test .taken) in
-    (start .pre .0, start .pre .1 .at _ inside, hearing-room (c .before .before .loop .inv))
+    (start .pre .0, start .pre .1 .at _ inside, start .pre .2 .at _ inside, hearing-room (c .before .before .loop .inv))
 
 add-slave : tie.Need-add-slave Inv-loop μ-loop
 add-slave c = omega arith
@@ -47,7 +47,7 @@ loop-again c =
 same-length : tie.Need-same-length Inv-loop μ-loop
 same-length c =
     let start = c .before .before .before .before .before .before .before .before in
-    hearing-length (c .before .loop .inv) (start .args .buffer .now) (start .pre .2) (c .before .before .before .before .silence .ensures)
+    hearing-length (c .before .loop .inv) (start .args .buffer .now) (start .pre .3) (c .before .before .before .before .silence .ensures)
 
 returns : tie.Need-returns Inv-loop μ-loop
 returns c =

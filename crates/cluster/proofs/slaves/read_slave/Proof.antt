@@ -14,8 +14,8 @@ is-read-requires c κs = search needs
 returns : tie.Need-returns
 returns c = search (needs, read-unaddressed)
 
-find-record-requires : tie.Need-find-record-requires
-find-record-requires c κs = search needs
+read-place-requires : tie.Need-read-place-requires
+read-place-requires c κs = search needs
 
 enum-known-found : tie.Need-enum-known-found
 enum-known-found c = search needs
@@ -42,7 +42,7 @@ read-slave-spec =
     logical-name-requires
     is-read-requires
     returns
-    find-record-requires
+    read-place-requires
     enum-known-found
     enum-told
     returns-2

@@ -22,8 +22,8 @@ same-length c = search needs
 returns : tie.Need-returns
 returns c = search (needs, write-unaddressed)
 
-find-record-requires : tie.Need-find-record-requires
-find-record-requires c κs = search needs
+write-place-requires : tie.Need-write-place-requires
+write-place-requires c κs = search needs
 
 enum-known-found : tie.Need-enum-known-found
 enum-known-found c = search needs
@@ -70,7 +70,7 @@ write-slave-spec =
     is-addressed-requires
     same-length
     returns
-    find-record-requires
+    write-place-requires
     enum-known-found
     enum-told
     same-length-2
