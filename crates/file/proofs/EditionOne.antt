@@ -2,7 +2,7 @@
 -- Assumes nothing.
 use Prim.Native.Nat.{ℕ}
 use mathlib.Core.Path.{_≡_, refl}
-use Rattle.file.specs.Layout.{offsetWidth, editionOf, lengthPlace, epochPlace, flagPlace, pendingNamePlace, pendingPB2Place, pendingPB3Place, zerosPlace, zerosLength, headerSize, entrySize, fileCountPlace, entryZeroPlace, fileOffsetPlace, maxSlaves, maxLength}
+use Rattle.file.specs.Layout.{offsetWidth, editionOf, lengthPlace, epochPlace, flagPlace, pendingNamePlace, pendingPB2Place, pendingPB3Place, zerosPlace, zerosLength, headerSize, entrySize, fileCountPlace, fileOffsetPlace, maxSlaves, maxLength}
 
 pub record EditionOne : Type 0 where
   pub edition : editionOf offsetWidth ≡ 1
@@ -17,7 +17,6 @@ pub record EditionOne : Type 0 where
   pub header : headerSize offsetWidth ≡ 16
   pub entry : entrySize offsetWidth ≡ 4
   pub countAt : fileCountPlace offsetWidth ≡ 2
-  pub zeroAt : entryZeroPlace offsetWidth ≡ 3
   pub offsetAt : fileOffsetPlace offsetWidth ≡ 2
   pub slaves : maxSlaves offsetWidth ≡ 32
   pub size : maxLength offsetWidth ≡ 32768
@@ -36,7 +35,6 @@ edition-one = record {
   header = refl;
   entry = refl;
   countAt = refl;
-  zeroAt = refl;
   offsetAt = refl;
   slaves = refl;
   size = refl;

@@ -1,8 +1,8 @@
 -- A search along a list of numbers, element by element.
 -- Assumes nothing.
-use Prim.Native.Nat.{ℕ, suc, _+_, _≤_, _<_}
+use Prim.Native.Nat.{ℕ, zero, suc, _+_, _≤_, _<_}
 use mathlib.Core.Path.{_≡_, refl, sym}
-use mathlib.Core.List.{List, _∷_}
+use mathlib.Core.List.{List, [], _∷_}
 use mathlib.Core.Bool.{true, false}
 use native.Mathlib.Omega.{arith}
 use native.Mathlib.Numerals.{add-one}
@@ -10,7 +10,8 @@ use borrow.Author.Tests.{eq-eqb, ne-eqb}
 use lib.ListN.{length, getD, drop, drop-of-length-le}
 use lib.Seq.{drop-cons}
 use Rattle.file.specs.Order.{either}
-use Rattle.file.specs.Grounds.{isAmong}
+use Rattle.file.specs.Grounds.{isAmong, hasRepeat}
+use Rattle.file.proofs.Order.{either-right}
 
 -- what is left of a search is what the whole search gives
 pub record Looking (n : ℕ) (l : List ℕ) (i : ℕ) : Type 0 where
@@ -36,3 +37,17 @@ module _ {n : ℕ} {l : List ℕ} {i : ℕ} (h : Looking n l i) where
   pub looking-end : length l ≤ i → false ≡ isAmong n l
   unfolding isAmong
   looking-end past = rw (drop-of-length-le l past) at (h .left)
+
+-- ---- a number that a list holds twice
+
+pub few-once : (l : List ℕ) → length l < 2 → false ≡ hasRepeat l
+unfolding hasRepeat isAmong either
+few-once [] few = refl
+few-once (n ∷ []) few = refl
+few-once (n ∷ m ∷ ns) few = absurd (omega arith)
+
+pub repeat-behind : (k : ℕ) (l : List ℕ) → hasRepeat (drop k l) ≡ true → hasRepeat l ≡ true
+unfolding hasRepeat
+repeat-behind zero l h = h
+repeat-behind (suc k) [] h = h
+repeat-behind (suc k) (n ∷ ns) h = either-right (isAmong n ns) (repeat-behind k ns h)

@@ -13,7 +13,7 @@ use Rattle.file.specs.Order.{either}
 use Rattle.file.specs.Bytes.{All, NumberAt}
 use Rattle.file.specs.Grounds.{isAmong, hasRepeat}
 use Rattle.file.specs.Checked.{nameAt, NameStands}
-use Rattle.file.proofs.LookingLaws.{Looking, looking-here, looking-next, looking-end}
+use Rattle.file.proofs.LookingLaws.{Looking, looking-here, looking-next, looking-end, few-once, repeat-behind}
 use Rattle.file.proofs.Order.{byCase, clash, either-left, either-right, either-next, either-false}
 
 -- ---- the names in order
@@ -36,6 +36,9 @@ stand-from : {f docs : List ℕ} (i : ℕ) → All (NameStands f) docs → All (
 stand-from zero h = h
 stand-from (suc i) All.none = All.none
 stand-from (suc i) (All.both p ps) = stand-from i ps
+
+pub few-names : (f docs : List ℕ) → length docs < 2 → false ≡ hasRepeat (map (nameAt f) docs)
+few-names f docs h = few-once (map (nameAt f) docs) (rw (length-names f docs) h)
 
 -- ---- a search among the names
 
@@ -71,12 +74,6 @@ marking-start l {seen} {i} long last =
       marks = λ n e. clash (rw none at e) refl;
       single = rw none;
     }
-
-repeat-behind : (k : ℕ) (l : List ℕ) → hasRepeat (drop k l) ≡ true → hasRepeat l ≡ true
-unfolding hasRepeat
-repeat-behind zero l h = h
-repeat-behind (suc k) [] h = h
-repeat-behind (suc k) (n ∷ ns) h = either-right (isAmong n ns) (repeat-behind k ns h)
 
 module _ {l : List ℕ} {seen : List Bool} {i : ℕ} (h : Marking l seen i) (more : 0 < i) {name : ℕ} (is : name ≡ getD l (i - 1) 0) where
   before : drop (i - 1) l ≡ name ∷ drop i l

@@ -6,7 +6,7 @@ use mathlib.Core.Bool.{Bool, true, false, cond}
 use lib.ListN.{length, getD, take}
 use lib.Dec.{eqb, leb}
 use Rattle.file.specs.Order.{firstOf, both}
-use Rattle.file.specs.Layout.{offsetWidth, countPlace, headerSize, entrySize, fileCountPlace, recordCountPlace, fileOffsetPlace, fillPlace, fillLength, maxSlaves, maxFileNumber, neededConfiguration, neededDocumentation, recordSize}
+use Rattle.file.specs.Layout.{offsetWidth, countPlace, headerSize, entrySize, fileCountPlace, recordCountPlace, fileOffsetPlace, fillPlace, fillLength, maxSlaves, maxFileNumber, minRecord, neededConfiguration, neededDocumentation, recordSize}
 use Rattle.file.specs.Cluster.{configuration, documentation}
 use Rattle.file.specs.Bytes.{numberOf, part, allZero}
 use Rattle.file.specs.Decode.{offsetAt, fileSize}
@@ -48,7 +48,7 @@ walkOf false place = broken
 unfoldable pub nextEntry : ℕ → List ℕ → ℕ → ℕ → ℕ → Bool
 nextEntry w f d low place =
     both (leb low (getD f d 0))
-    (both (leb 1 (getD f (d + recordCountPlace) 0))
+    (both (leb minRecord (getD f (d + recordCountPlace) 0))
     (both (allZero (part f (d + fillPlace) (fillLength w))) (eqb (offsetAt w f (d + fileOffsetPlace w)) place)))
 
 -- And what the last entry says for those before it: file numbers below low are file numbers, and the place is within the bytes.

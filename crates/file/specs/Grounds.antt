@@ -6,7 +6,7 @@ use lib.ListN.{length, getD}
 use lib.Dec.{eqb, leb, ltb}
 use Rattle.file.specs.Bytes.{part, allZero}
 use Rattle.file.specs.Order.{Ground, firstOf, both, either}
-use Rattle.file.specs.Layout.{offsetWidth, mark₀, mark₁, editionOf, editionPlace, countPlace, tablePlace, lengthPlace, flagPlace, pendingNamePlace, pendingPB2Place, zerosPlace, zerosLength, headerSize, entrySize, fillLength, maxSlaves, maxLength, maxFileNumber}
+use Rattle.file.specs.Layout.{offsetWidth, markPlace₀, markPlace₁, mark₀, mark₁, editionOf, editionPlace, countPlace, tablePlace, lengthPlace, flagPlace, pendingNamePlace, pendingPB2Place, zerosPlace, zerosLength, headerSize, entrySize, fillLength, fileCountPlace, recordCountPlace, fillPlace, fileOffsetPlace, maxSlaves, maxLength, maxFileNumber, minRecord, neededConfiguration, neededDocumentation}
 use Rattle.file.specs.Cluster.{Slave, bytesIn, lastRecord, configuration, documentation, physicalName, operationOf, noOperation, broadcastRead}
 use Rattle.file.specs.Decode.{offsetAt, fileSize, decodeAt}
 
@@ -18,7 +18,7 @@ wrongSize w f = either (ltb (length f) (headerSize w)) (ltb (maxLength w) (lengt
 
 -- 2. "The mark is wrong."
 unfoldable pub wrongMark : List ℕ → Bool
-wrongMark f = not (both (eqb (getD f 0 0) mark₀) (eqb (getD f 1 0) mark₁))
+wrongMark f = not (both (eqb (getD f markPlace₀ 0) mark₀) (eqb (getD f markPlace₁ 0) mark₁))
 
 -- 3. "The edition is not 1."
 unfoldable pub wrongEdition : ℕ → List ℕ → Bool
@@ -60,28 +60,28 @@ unfoldable pub goodEntry : ℕ → List ℕ → ℕ → ℕ → ℕ → Bool
 goodEntry w f d low place =
     both (leb low (getD f d 0))
     (both (leb (getD f d 0) maxFileNumber)
-    (both (leb 1 (getD f (d + 1) 0))
-    (both (allZero (part f (d + 2) (fillLength w)))
-    (both (eqb (offsetAt w f (d + w)) place) (leb (place + fileSize (getD f (d + 1) 0)) (length f))))))
+    (both (leb minRecord (getD f (d + recordCountPlace) 0))
+    (both (allZero (part f (d + fillPlace) (fillLength w)))
+    (both (eqb (offsetAt w f (d + fileOffsetPlace w)) place) (leb (place + fileSize (getD f (d + recordCountPlace) 0)) (length f))))))
 
 -- k directory entries from d on, file numbers from low on, the next file at the place
 unfoldable pub walkDirectory : ℕ → List ℕ → ℕ → ℕ → ℕ → ℕ → Walk
 walkDirectory w f d low place zero = to place
 walkDirectory w f d low place (suc k) =
-    let rest = walkDirectory w f (d + entrySize w) (suc (getD f d 0)) (place + fileSize (getD f (d + 1) 0)) k in
+    let rest = walkDirectory w f (d + entrySize w) (suc (getD f d 0)) (place + fileSize (getD f (d + recordCountPlace) 0)) k in
     cond (goodEntry w f d low place) rest broken
 
 -- the table entry at t is good: its offset is the place, its zeros are zero, and its directory ends within the bytes
 unfoldable pub goodTableEntry : ℕ → List ℕ → ℕ → ℕ → Bool
 goodTableEntry w f t place =
     both (eqb (offsetAt w f t) place)
-    (both (allZero (part f (t + w + 1) (suc (fillLength w))))
-    (leb (place + entrySize w * getD f (t + w) 0) (length f)))
+    (both (allZero (part f (t + fileCountPlace w + 1) (suc (fillLength w))))
+    (leb (place + entrySize w * getD f (t + fileCountPlace w) 0) (length f)))
 
 -- the slave of the table entry at t, its directory at the place
 unfoldable pub walkSlave : ℕ → List ℕ → ℕ → ℕ → Walk
 walkSlave w f t place =
-    let files = walkDirectory w f place 0 (place + entrySize w * getD f (t + w) 0) (getD f (t + w) 0) in
+    let files = walkDirectory w f place 0 (place + entrySize w * getD f (t + fileCountPlace w) 0) (getD f (t + fileCountPlace w) 0) in
     cond (goodTableEntry w f t place) files broken
 
 -- n slaves from the table entry at t on
@@ -110,7 +110,7 @@ brokenLayout w f = not (endsAt (walkFile w f) (length f))
 
 -- "Every slave has file 0x08 (configuration) with r at least 3 and file 0x3D (documentation, 000) with r at least 2."
 unfoldable pub hasNeeded : Slave → Bool
-hasNeeded s = both (leb 3 (lastRecord (bytesIn s configuration))) (leb 2 (lastRecord (bytesIn s documentation)))
+hasNeeded s = both (leb neededConfiguration (lastRecord (bytesIn s configuration))) (leb neededDocumentation (lastRecord (bytesIn s documentation)))
 
 unfoldable pub allHaveNeeded : List Slave → Bool
 allHaveNeeded [] = true

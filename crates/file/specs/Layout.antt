@@ -1,6 +1,5 @@
 -- The numbers of the layout (document 01, "The cluster file": "Our own layout, edition 1."), each by w, the bytes of an offset: 2 in
--- edition 1. The number that it is in edition 1 stands in its comment, and `proofs/EditionOne.antt` computes them all. The walk in
--- `Grounds` steps through table entries and directory entries by the same numbers, written out there.
+-- edition 1. The number that it is in edition 1 stands in its comment, and `proofs/EditionOne.antt` computes them all.
 use Prim.Native.Nat.{ℕ, _+_, _*_, _-_, _/_}
 
 -- the bytes of an offset in edition 1
@@ -82,12 +81,9 @@ entrySize w = 2 * w
 abbrev pub fillLength : ℕ → ℕ
 fillLength w = w - 2
 
--- "A table entry is 4 bytes: directory offset (2), file count (1), zero.": file count and zero, bytes 2 and 3 of the entry
+-- "A table entry is 4 bytes: directory offset (2), file count (1), zero.": the file count, byte 2 of the entry; the zero is behind it
 abbrev pub fileCountPlace : ℕ → ℕ
 fileCountPlace w = w
-
-abbrev pub entryZeroPlace : ℕ → ℕ
-entryZeroPlace w = w + 1
 
 -- "A directory entry is 4 bytes: file number .., record count r .., offset (2).": byte 0, byte 1, from byte 2 on
 abbrev pub recordCountPlace : ℕ

@@ -50,6 +50,9 @@ pub fn equal_names(file: &[u8], documentation: &[u16]) -> bool
     requires { ⌜ All (NameStands (now file)) (now documentation) ⌝ }
     ensures { λ r. ⌜ r ≡ hasRepeat (map (nameAt (now (file .entry))) (now (documentation .entry))) ⌝ }
 {
+    if documentation.len() < 2 {
+        return false;
+    }
     let mut seen = [false; 255];
     let mut slave = documentation.len();
     while 0 < slave {

@@ -13,6 +13,7 @@ use lib.Dec.{eqb}
 use Rattle.file.specs.Order.{firstOf, either}
 use Rattle.file.specs.Cluster.{unnamed, broadcast}
 use Rattle.file.specs.Grounds.{isAmong, hasRepeat}
+use Rattle.file.proofs.LookingLaws.{repeat-behind}
 use Rattle.file.proofs.Order.{byCase, either-left, either-right, either-next, either-false}
 use Rattle.naming.specs.Run.{Position, fresh, unfitName, namesGrounds, startGround, Starting, begun, startOver}
 
@@ -51,12 +52,6 @@ module _ {l : List ℕ} {i : ℕ} (h : Reading l i) where
 
 -- ---- ground 16
 
-pub few-once : (l : List ℕ) → length l < 2 → false ≡ hasRepeat l
-unfolding hasRepeat isAmong either
-few-once [] few = refl
-few-once (n ∷ []) few = refl
-few-once (n ∷ m ∷ ns) few = absurd (omega arith)
-
 -- from the last name on: the names behind i are marked, and none of them occurs twice
 
 pub record Marking (l : List ℕ) (seen : List Bool) (i : ℕ) : Type 0 where
@@ -74,12 +69,6 @@ marking-start l =
       marks = λ n h. getD-replicate 256 n false false h ∙ rw (drop-length l);
       single = rw (drop-length l);
     }
-
-repeat-behind : (k : ℕ) (l : List ℕ) → hasRepeat (drop k l) ≡ true → hasRepeat l ≡ true
-unfolding hasRepeat
-repeat-behind zero l h = h
-repeat-behind (suc k) [] h = h
-repeat-behind (suc k) (n ∷ ns) h = either-right (isAmong n ns) (repeat-behind k ns h)
 
 module _ {l : List ℕ} {seen : List Bool} {i : ℕ} (h : Marking l seen i) (more : 0 < i) (byte : getD l (i - 1) 0 < 256) where
   one-back : suc (i - 1) ≡ i

@@ -4,10 +4,11 @@ use mathlib.Core.Path.{refl, sym}
 use mathlib.Core.List.{map}
 use mathlib.Core.Bool.{false}
 use native.Mathlib.Omega.{arith}
+use borrow.Author.Needs.{needs}
 use denote.Ref.{now}
 use lib.ListN.{length-replicate}
 use Rattle.file.specs.Checked.{nameAt}
-use Rattle.file.proofs.NamesLaws.{length-names, Marking, marking-start, marking-end, stand-behind, marked-within, equal-new, equal-here, equal-next}
+use Rattle.file.proofs.NamesLaws.{length-names, few-names, Marking, marking-start, marking-end, stand-behind, marked-within, equal-new, equal-here, equal-next}
 use Rattle.file.proofs.names.equal_names.Statement.{statement}
 use Rattle.file.proofs.names.equal_names.Tie as tie
 
@@ -17,32 +18,35 @@ Inv-loop file documentation seen₀ slave₀ seen slave = Marking (map (nameAt f
 abbrev μ-loop : tie.MeasureT-loop
 μ-loop file documentation seen₀ slave₀ seen slave = slave
 
+returns : tie.Need-returns Inv-loop μ-loop
+returns c = search (needs, few-names)
+
 loop-holds : tie.Need-loop-holds Inv-loop μ-loop
 loop-holds c =
-    let start = c .before .before in
+    let start = c .before .before .before in
     marking-start (map (nameAt (now (start .args .file))) (now (start .args .documentation))) (length-replicate 255 false) (sym (length-names (now (start .args .file)) (now (start .args .documentation))))
 
 mul-behind : tie.Need-mul-behind Inv-loop μ-loop
 mul-behind c =
-    let start = c .before .before .before .before in
+    let start = c .before .before .before .before .before in
     let most = marked-within (now (start .args .file)) (now (start .args .documentation)) (c .before .loop .inv) in
     omega (arith, most)
 
 sub-behind : tie.Need-sub-behind Inv-loop μ-loop
 sub-behind c =
-    let start = c .before .before .before .before in
+    let start = c .before .before .before .before .before in
     let most = marked-within (now (start .args .file)) (now (start .args .documentation)) (c .before .loop .inv) in
     omega (arith, most)
 
 part-behind-start : tie.Need-part-behind-start Inv-loop μ-loop
 part-behind-start c =
-    let start = c .before .before .before .before in
+    let start = c .before .before .before .before .before in
     let most = marked-within (now (start .args .file)) (now (start .args .documentation)) (c .before .loop .inv) in
     omega (arith, most)
 
 part-behind-end : tie.Need-part-behind-end Inv-loop μ-loop
 part-behind-end c =
-    let start = c .before .before .before .before in
+    let start = c .before .before .before .before .before in
     let most = marked-within (now (start .args .file)) (now (start .args .documentation)) (c .before .loop .inv) in
     omega (arith, most)
 
@@ -51,7 +55,7 @@ sub-slave c = omega arith
 
 name-at-requires : tie.Need-name-at-requires Inv-loop μ-loop
 name-at-requires c κs =
-    let start = c .before .before .before .before .before in
+    let start = c .before .before .before .before .before .before in
     let most = marked-within (now (start .args .file)) (now (start .args .documentation)) (c .before .before .loop .inv) in
     (omega (arith, most, c .before .loop-test .taken), start .pre)
 
@@ -61,17 +65,17 @@ array-read-is-named-again c = omega (arith, c .before .before .before .loop .inv
 is-named-again-requires : tie.Need-is-named-again-requires Inv-loop μ-loop
 is-named-again-requires c κs =
     let turn = c .before .before in
-    let start = turn .before .before .before .before in
+    let start = turn .before .before .before .before .before in
     let file = now (start .args .file) in
     let documentation = now (start .args .documentation) in
     (stand-behind _ (marked-within file documentation (turn .before .loop .inv)) (start .pre), equal-new file documentation (turn .before .loop .inv) (turn .loop-test .taken) (c .name-at .ensures) refl)
 
-returns : tie.Need-returns Inv-loop μ-loop
-returns c =
+returns-2 : tie.Need-returns-2 Inv-loop μ-loop
+returns-2 c =
     let named = c .before .before in
     let turn = named .before .before in
-    let start = turn .before .before .before .before in
-    equal-here (now (start .args .file)) (now (start .args .documentation)) (turn .before .loop .inv) (turn .loop-test .taken) (named .name-at .ensures) (c .before .is-named-again .ensures) (c .if1 .taken)
+    let start = turn .before .before .before .before .before in
+    equal-here (now (start .args .file)) (now (start .args .documentation)) (turn .before .loop .inv) (turn .loop-test .taken) (named .name-at .ensures) (c .before .is-named-again .ensures) (c .if2 .taken)
 
 array-write-seen : tie.Need-array-write-seen Inv-loop μ-loop
 array-write-seen c = omega (arith, c .before .before .before .before .before .loop .inv .room)
@@ -83,11 +87,11 @@ loop-again : tie.Need-loop-again Inv-loop μ-loop
 loop-again c =
     let named = c .before .before in
     let turn = named .before .before in
-    let start = turn .before .before .before .before in
-    equal-next (now (start .args .file)) (now (start .args .documentation)) (turn .before .loop .inv) (turn .loop-test .taken) (named .name-at .ensures) (c .before .is-named-again .ensures) (c .if1 .left)
+    let start = turn .before .before .before .before .before in
+    equal-next (now (start .args .file)) (now (start .args .documentation)) (turn .before .loop .inv) (turn .loop-test .taken) (named .name-at .ensures) (c .before .is-named-again .ensures) (c .if2 .left)
 
-returns-2 : tie.Need-returns-2 Inv-loop μ-loop
-returns-2 c = marking-end (c .before .loop .inv) (c .loop-test .left)
+returns-3 : tie.Need-returns-3 Inv-loop μ-loop
+returns-3 c = marking-end (c .before .loop .inv) (c .loop-test .left)
 
 pub equal-names-spec : {M : Type 1} → statement M
 equal-names-spec =
@@ -95,6 +99,7 @@ equal-names-spec =
     (tie.spec
     Inv-loop
     μ-loop
+    returns
     loop-holds
     mul-behind
     sub-behind
@@ -104,8 +109,8 @@ equal-names-spec =
     name-at-requires
     array-read-is-named-again
     is-named-again-requires
-    returns
+    returns-2
     array-write-seen
     loop-less
     loop-again
-    returns-2)
+    returns-3)

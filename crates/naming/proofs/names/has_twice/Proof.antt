@@ -3,7 +3,8 @@
 use Prim.Native.Nat.{_-_}
 use native.Mathlib.Omega.{arith}
 use borrow.Author.Needs.{needs}
-use Rattle.naming.proofs.NameLaws.{few-once, Marking, marking-start, marking-here, marking-next, marking-end}
+use Rattle.file.proofs.LookingLaws.{few-once}
+use Rattle.naming.proofs.NameLaws.{Marking, marking-start, marking-here, marking-next, marking-end}
 use Rattle.naming.proofs.names.has_twice.Statement.{statement}
 use Rattle.naming.proofs.names.has_twice.Tie as tie
 
