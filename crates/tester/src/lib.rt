@@ -119,14 +119,14 @@ pub extern "C" fn ttpa_start(names: &[u8], run: &mut [u64; 6]) -> u8
     let started = start(names);
     match started {
         Started::Refused(why) => why.0,
-        Started::Fresh(position) => {
+        Started::Fresh(fresh) => {
             *run = [
-                position.end,
-                position.index,
-                position.step,
-                position.value,
-                position.rounds,
-                position.comparisons,
+                fresh.end,
+                fresh.index,
+                fresh.step,
+                fresh.value,
+                fresh.rounds,
+                fresh.comparisons,
             ];
             0
         }

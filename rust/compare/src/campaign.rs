@@ -9,6 +9,8 @@ use std::collections::BTreeMap;
 /// Cases that are printed before the rest is only counted.
 const MOST_PRINTED: u64 = 10;
 const MOST_SAMPLED_CHARACTERS: usize = 2_000;
+/// One in so many of the rounds asked for has to be a multipartner round that stores.
+const ROUNDS_FOR_A_STORE: usize = 80;
 
 /// How many calls of each kind.
 pub struct Amounts {
@@ -77,6 +79,8 @@ pub struct Campaign<'a> {
     answers: BTreeMap<(&'static str, u8), u64>,
     /// Accepted rounds in which someone sent, by firework.
     heard: BTreeMap<u8, u64>,
+    /// Multipartner rounds that altered the file beyond its epoch.
+    stored: u64,
     /// Whole runs that ended "all named", and "names used up".
     pub ends: [u64; 2],
     /// How many cases of each sort to print.
@@ -93,6 +97,7 @@ impl<'a> Campaign<'a> {
             failed: 0,
             answers: BTreeMap::new(),
             heard: BTreeMap::new(),
+            stored: 0,
             ends: [0; 2],
             sample: 0,
             sampled: BTreeMap::new(),
@@ -138,6 +143,7 @@ impl<'a> Campaign<'a> {
             runs::whole_run(self, &mut Random::from_seed(seed ^ 7 ^ (run as u64) << 8), slaves);
         }
         self.ends_reached();
+        self.stores_reached(amounts.rounds / ROUNDS_FOR_A_STORE);
         self.reached();
     }
 
@@ -225,9 +231,12 @@ impl<'a> Campaign<'a> {
 
     fn note(&mut self, call: &Call, expected: &Outcome) {
         *self.answers.entry((call.kind(), expected.number)).or_insert(0) += 1;
-        if let Call::Round { frame, .. } = call {
+        if let Call::Round { file, frame, .. } = call {
             if expected.mask() != 0 {
                 *self.heard.entry(frame[0]).or_insert(0) += 1;
+            }
+            if inputs::is_multipartner(frame) && expected.alters_beyond_epoch(file) {
+                self.stored += 1;
             }
         }
         self.print_sample(call, expected);
@@ -257,6 +266,14 @@ impl<'a> Campaign<'a> {
         println!("runs ended all named {all_named}, names used up {names_used_up}");
         if all_named == 0 || names_used_up == 0 {
             self.differ("runs ended in one way only", "inputs too tame");
+        }
+    }
+
+    /// Multipartner rounds must have stored what was sent, so many at least.
+    fn stores_reached(&mut self, least: usize) {
+        println!("multipartner rounds that stored: {}", self.stored);
+        if self.stored < least as u64 {
+            self.differ(&format!("fewer than {least} multipartner rounds stored"), "inputs too tame");
         }
     }
 

@@ -10,6 +10,8 @@ use std::fmt;
 pub const FILL: u8 = 0xEE;
 const SENDERS_BEFORE: u64 = 0xEEEE_EEEE_EEEE_EEEE;
 const RUN_BEFORE: RunWords = [SENDERS_BEFORE; 6];
+/// The place of the epoch in a file.
+const EPOCH: usize = 8;
 
 /// The arguments of a call.
 #[derive(Clone, Debug, PartialEq, Eq)]
@@ -39,6 +41,12 @@ impl Outcome {
     /// The mask, where the call set it.
     pub fn mask(&self) -> u64 {
         self.senders.filter(|&senders| senders != SENDERS_BEFORE).unwrap_or(0)
+    }
+
+    /// Whether the file is another than before, its epoch aside.
+    pub fn alters_beyond_epoch(&self, before: &[u8]) -> bool {
+        let after = self.file.as_deref().unwrap_or(before);
+        before.iter().zip(after).enumerate().any(|(place, (old, new))| place != EPOCH && old != new)
     }
 }
 

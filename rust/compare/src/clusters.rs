@@ -4,6 +4,9 @@ use crate::random::Random;
 use model::{Cluster, File, FileNumber, LogicalName, Pending, Slave, MOST_BYTES, MOST_SLAVES};
 
 const ROUND_FILES: [u8; 6] = [0, 2, 3, 4, 6, 7];
+/// The operations of an entry that receive, and those that send.
+const RECEIVES: [u8; 3] = [0, 2, 4];
+const SENDS: [u8; 2] = [1, 5];
 const HEADER_BYTES: usize = 16;
 
 /// A legal cluster of 0 to 32 slaves.
@@ -27,6 +30,11 @@ pub fn cluster_of(random: &mut Random, count: usize) -> Cluster {
         if !names.contains(&name) {
             names.push(name);
             slaves.push(slave(random, name, richness));
+        }
+    }
+    for round in ROUND_FILES {
+        if random.once_in(2) {
+            meet(random, &mut slaves, round);
         }
     }
     let cluster = Cluster { epoch: random.one_of(&[0, 1, 127, 254, 255]), pending: pending(random), slaves };
@@ -132,9 +140,73 @@ fn entry(random: &mut Random, numbers: &[u8]) -> [u8; 4] {
     let file = if random.once_in(6) { random.below(64) as u8 } else { random.one_of(numbers) };
     let record = if random.once_in(6) { random.byte() } else { random.below(4) as u8 };
     let operation = if random.once_in(4) { random.below(16) as u8 } else { random.one_of(&[0, 1, 1, 2, 4, 5]) };
+    let start = start_slot(random);
+    entry_of(random, file, record, operation, start)
+}
+
+fn start_slot(random: &mut Random) -> u8 {
+    if random.once_in(3) {
+        random.below(64) as u8
+    } else {
+        random.below(16) as u8
+    }
+}
+
+/// An entry with any alignment, length and multiplex field.
+fn entry_of(random: &mut Random, file: u8, record: u8, operation: u8, start: u8) -> [u8; 4] {
     let length = if random.once_in(3) { random.below(16) as u8 } else { random.below(4) as u8 };
-    let start = if random.once_in(3) { random.below(64) as u8 } else { random.below(16) as u8 };
     [file << 2 | random.below(4) as u8, record, operation << 4 | length, (random.below(4) as u8) << 6 | start]
+}
+
+/// Has two named slaves meet in a round, if there are two: from one slot on the first sends and the second
+/// receives where it may store. Entries before theirs may still cover the slots or end the list.
+fn meet(random: &mut Random, slaves: &mut [Slave], round: u8) {
+    let mut named: Vec<&mut Slave> = slaves.iter_mut().filter(|slave| !slave.is_unnamed()).collect();
+    if named.len() < 2 {
+        return;
+    }
+    let sender = named.swap_remove(random.below(named.len()));
+    let receiver = named.swap_remove(random.below(named.len()));
+    let start = start_slot(random);
+    let sent = random.one_of(&numbers_of(sender));
+    let stored = storing_file(random, receiver);
+    let (sends, receives) = (random.one_of(&SENDS), random.one_of(&RECEIVES));
+    take_part(random, sender, round, sent, sends, start);
+    take_part(random, receiver, round, stored, receives, start);
+}
+
+fn numbers_of(slave: &Slave) -> Vec<u8> {
+    slave.files.iter().map(|file| file.number.0).collect()
+}
+
+/// The number of a file in which a receive stores: one that the slave has, or a new one if it has none.
+fn storing_file(random: &mut Random, slave: &Slave) -> u8 {
+    let mut numbers = numbers_of(slave);
+    numbers.retain(|number| (0x10..=0x3C).contains(number));
+    if numbers.is_empty() {
+        numbers.push(random.between(0x10, 0x3C) as u8);
+    }
+    random.one_of(&numbers)
+}
+
+/// Puts an entry that acts on a record of the file into the slave's list for the round, in place of another.
+fn take_part(random: &mut Random, slave: &mut Slave, round: u8, file: u8, operation: u8, start: u8) {
+    let last_record = file_in(random, slave, file).last_record();
+    let record = random.between(0, last_record) as u8;
+    let entry = entry_of(random, file, record, operation, start);
+    let list = file_in(random, slave, round);
+    let place = 4 * random.between(1, list.last_record());
+    list.bytes[place..place + 4].copy_from_slice(&entry);
+}
+
+/// The slave's file of this number, added if it is not there.
+fn file_in<'a>(random: &mut Random, slave: &'a mut Slave, number: u8) -> &'a mut File {
+    let place = slave.files.partition_point(|file| file.number.0 < number);
+    if slave.file(FileNumber(number)).is_none() {
+        let added = file(random, number, slave.physical_name(), &numbers_of(slave));
+        slave.files.insert(place, added);
+    }
+    &mut slave.files[place]
 }
 
 /// A file of this many bytes, its last slave's files grown to reach it; 32 slaves of 64 files each if asked.

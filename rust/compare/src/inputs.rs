@@ -8,6 +8,11 @@ use model::{firework_of, Cluster, MSA, MSD};
 /// Rounds 0, 2, 3, 4, 6 and 7.
 pub const MULTIPARTNER: [u8; 6] = [0x78, 0xBA, 0x8B, 0x64, 0xA6, 0x97];
 
+/// A whole frame of a multipartner round.
+pub fn is_multipartner(frame: &[u8]) -> bool {
+    matches!(frame, [firework] if MULTIPARTNER.contains(firework))
+}
+
 pub fn answer_length(random: &mut Random) -> usize {
     random.one_of(&[64, 64, 64, 64, 64, 64, 65, 70, 70, 0, 63])
 }
