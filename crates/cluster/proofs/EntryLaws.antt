@@ -1,15 +1,15 @@
 -- Laws of the code's entries against those of the rules, one for each way through the functions on them.
 -- Assumes nothing.
-use Prim.Native.Nat.{ℕ, suc, _+_, _-_, _≤_, _<_}
+use Prim.Native.Nat.{ℕ, suc, _+_, _-_, _%_, _≤_, _<_}
 use native.Mathlib.Omega.{arith}
 use mathlib.Core.Path.{_≡_, refl, sym, ap, _∙_}
-use mathlib.Core.Bool.{Bool, true, false}
-use lib.Dec.{ltb, eqb}
-use borrow.Author.Tests.{lt-ltb, le-ltb, le-leb, lt-leb, ltb-true, ltb-false, eqb-true}
+use mathlib.Core.Bool.{Bool, true, false, not}
+use lib.Dec.{leb, ltb, eqb}
+use borrow.Author.Tests.{lt-ltb, le-ltb, le-leb, lt-leb, leb-true, ltb-true, ltb-false, eqb-true}
 use Rattle.file.specs.Order.{either}
-use Rattle.file.proofs.Order.{byCase, clash, both-false-left, both-next, either-false}
+use Rattle.file.proofs.Order.{byCase, clash, both-left, both-right, both-true, both-false-left, both-false-right, both-next, either-false}
 use Rattle.cluster.specs.Entries.{Entry, entryOf, receives, sends, ends, covers}
-use Rattle.cluster.specs.EntryForm.{codeOf, multiplexOf, multiplexIn, OperationIs, entryFrom, evaluated, Action, ending, sending, receiving, resting, actionBy, actionFrom}
+use Rattle.cluster.specs.EntryForm.{codeOf, multiplexOf, multiplexIn, OperationIs, entryFrom, evaluated, isPast, Action, ending, sending, receiving, resting, actionBy, actionFrom}
 use Rattle.cluster.specs.declared.entry.Entry as Code
 use Rattle.cluster.specs.declared.entry.EntryOperation.{EntryOperation}
 use Rattle.cluster.specs.declared.entry.EntryAction.{EntryAction}
@@ -105,6 +105,44 @@ covers-test start count slot h =
 pub covers-late : (e : Code.Entry) (slot : ℕ) → e .slot ≤ slot → ltb (slot - e .slot) (e .length) ≡ covers (entryFrom e) slot
 unfolding covers entryFrom
 covers-late e slot h = covers-test (e .slot) (e .length) slot h ∙ sym (both-next _ (le-leb _ _ h))
+
+-- ---- the entries that can be passed over
+
+-- an entry's last slot is small
+pub entry-short : (b₀ b₁ b₂ b₃ : ℕ) (e : Code.Entry) → entryFrom e ≡ evaluated (entryOf b₀ b₁ b₂ b₃) → e .slot + e .length ≤ 79
+unfolding entryFrom evaluated entryOf
+entry-short b₀ b₁ b₂ b₃ e is =
+    let start : e .slot ≡ b₃ % 64 = ap (λ (x : Entry). x .start) is in
+    let count : e .length ≡ b₂ % 16 + 1 = ap (λ (x : Entry). x .length) is in
+    omega arith
+
+module _ (e : Code.Entry) (slot : ℕ) where
+  pub past-not-yet : slot < e .slot + e .length → isPast (entryFrom e) slot ≡ false
+  unfolding isPast entryFrom
+  past-not-yet l = both-false-left _ (lt-leb _ _ l)
+
+  module _ {t : Bool} (end : t ≡ ends (entryFrom e .operation)) where
+    pub past-end : t ≡ true → isPast (entryFrom e) slot ≡ false
+    unfolding isPast entryFrom
+    past-end stop = both-false-right _ (ap not (sym end ∙ stop))
+
+    pub past-over : t ≡ false → e .slot + e .length ≤ slot → isPast (entryFrom e) slot ≡ true
+    unfolding isPast entryFrom
+    past-over goes l = both-true (le-leb _ _ l) (ap not (sym end ∙ goes))
+
+module _ (e : Entry) (slot : ℕ) (past : isPast e slot ≡ true) where
+  pub past-goes-on : ends (e .operation) ≡ false
+  unfolding isPast
+  past-goes-on =
+      byCase (ends (e .operation))
+      (λ t. clash (rw t at (both-right (leb (e .start + e .length) slot) (not (ends (e .operation))) past)) refl)
+      (λ t. t)
+
+  pub past-covers : (later : ℕ) → slot ≤ later → covers e later ≡ false
+  unfolding isPast covers
+  past-covers later l =
+      let over : e .start + e .length ≤ slot = leb-true _ _ (both-left _ _ past) in
+      both-false-right (leb (e .start) later) (le-ltb later (e .start + e .length) (omega arith))
 
 -- ---- who sends and who receives
 

@@ -12,11 +12,13 @@ pub mod Replaced
 -- loops along the slaves of a master-slave round: their replies, and their changes
 pub mod Hearing
 pub mod Changing
--- multipartner rounds: entries, a slave's turn, its round file, stores, the search for the acting entry, a slot's senders, the slots
+-- multipartner rounds: entries, a slave's turn, its round file, stores, the entries still to look at, the search for the acting
+-- entry, a slot's senders, the slots
 pub mod EntryLaws
 pub mod TurnLaws
 pub mod RoundFileLaws
 pub mod StoreLaws
+pub mod OpenLaws
 pub mod SearchLaws
 pub mod HearLaws
 pub mod SlotLaws

@@ -1,64 +1,27 @@
 -- The search of a slave's round file for the entry that acts in a slot: what the loop keeps, and one law for each way out of it.
 -- Assumes nothing.
-use Prim.Native.Nat.{ℕ, zero, suc, _+_, _*_, _-_, _/_, _%_, _≤_, _<_}
+use Prim.Native.Nat.{ℕ, suc, _+_, _-_, _%_, _≤_, _<_}
 use native.Mathlib.Omega.{arith}
 use mathlib.Core.Path.{_≡_, refl, sym, ap, _∙_}
 use mathlib.Core.List.{List}
 use mathlib.Core.Bool.{Bool, true, false}
 use lib.ListN.{length, getD}
-use lib.Dec.{eqb}
-use borrow.Author.Tests.{ne-eqb, leb-true}
-use Rattle.file.specs.Layout.{recordSize}
-use Rattle.file.specs.Cluster.{Slave, Cluster, bytesIn, lastRecord}
-use Rattle.file.specs.Places.{slaveOf, filePlace}
+use borrow.Author.Tests.{leb-true}
+use Rattle.file.specs.Cluster.{Slave, Cluster, bytesIn}
+use Rattle.file.specs.Places.{slaveOf}
 use Rattle.file.specs.Accepted.{Becomes}
 use Rattle.file.proofs.Order.{byCase, both-left}
-use Rattle.file.proofs.ReaderLaws.{byte-there, place-within}
 use Rattle.cluster.specs.Bus.{slots}
 use Rattle.cluster.specs.Slaves.{isUnnamed}
 use Rattle.cluster.specs.Entries.{Entry, entryOf, entryAt, ends, covers, Acting, none, acts, actingFrom, acting}
 use Rattle.cluster.specs.Multipartner.{sendPlace, storePlace, sendsFrom, storesAt, byteThere}
 use Rattle.cluster.specs.EntryForm.{entryFrom, evaluated, Reaches}
-use Rattle.cluster.specs.Slots.{entriesIn, RoundFileIs, placeIn, turnSends, turnStores, TurnIs}
+use Rattle.cluster.specs.Slots.{entriesIn, entryThere, placeIn, turnSends, turnStores, TurnIs}
 use Rattle.cluster.specs.declared.entry.Entry as Code
 use Rattle.cluster.specs.declared.multipartner.Turn.{Turn}
 use Rattle.cluster.specs.declared.multipartner.Turn.the-variants as Turns
 use Rattle.cluster.proofs.TurnLaws.{turn-evaluated}
-
--- ---- the first entry before the end that covers the slot, record by record
-
-module _ (rodl : List ℕ) (slot k : ℕ) where
-  acting-end : (n : ℕ) → 0 < n → ends (entryAt rodl k .operation) ≡ true → actingFrom rodl slot k n ≡ none
-  unfolding actingFrom
-  acting-end zero l e = absurd (omega arith)
-  acting-end (suc n) l e = rw e
-
-  acting-here : (n : ℕ) → 0 < n → ends (entryAt rodl k .operation) ≡ false → covers (entryAt rodl k) slot ≡ true → actingFrom rodl slot k n ≡ acts (entryAt rodl k)
-  unfolding actingFrom
-  acting-here zero l e q = absurd (omega arith)
-  acting-here (suc n) l e q = rw (e, q)
-
-  acting-next : (n : ℕ) → 0 < n → ends (entryAt rodl k .operation) ≡ false → covers (entryAt rodl k) slot ≡ false → actingFrom rodl slot k n ≡ actingFrom rodl slot (suc k) (n - 1)
-  unfolding actingFrom
-  acting-next zero l e q = absurd (omega arith)
-  acting-next (suc n) l e q = let same : suc n - 1 ≡ n = omega arith in rw (e, q, same)
-
-acting-none : (rodl : List ℕ) (slot k n : ℕ) → n ≡ 0 → actingFrom rodl slot k n ≡ none
-unfolding actingFrom
-acting-none rodl slot k n e = rw e
-
--- ---- the entries that a slave runs lie in its round file
-
-entries-room : (round : ℕ) (s : Slave) (k : ℕ) → 1 ≤ k → k ≤ entriesIn round s → recordSize * k + recordSize ≤ length (bytesIn s round)
-unfolding entriesIn lastRecord
-entries-room round s k some l =
-    byCase (isUnnamed s)
-    (λ t. let nought : k ≤ 0 = rw t at l in absurd (omega arith))
-    (λ t. let here : k ≤ length (bytesIn s round) / 4 - 1 = rw t at l in omega arith)
-
--- the entry that acts, by the entries that the slave runs
-unfoldable pub actor : ℕ → ℕ → Slave → Acting
-actor round slot s = actingFrom (bytesIn s round) slot 1 (entriesIn round s)
+use Rattle.cluster.proofs.OpenLaws.{acting-end, acting-here, acting-next, acting-none, actor, Rest, rest-within, rest-next, rest-entry, OpenAt}
 
 actor-sends : (round slot : ℕ) (s : Slave) → sendPlace s slot (actor round slot s) ≡ sendsFrom round slot s
 unfolding actor entriesIn actingFrom acting sendPlace sendsFrom
@@ -90,85 +53,44 @@ nobody-acts c s slot = record { sends = refl; stores = refl }
 -- ---- the loop
 
 -- it stands at record k, with so many left, and has found nothing yet
-pub record Searching (c : Cluster) (round slot s : ℕ) (turn : Turn) (left at : ℕ) : Type 0 where
+pub record Searching (c : Cluster) (round slot s : ℕ) (turn : Turn) (at end : ℕ) : Type 0 where
   pub k : ℕ
+  pub left : ℕ
   pub rests : turn ≡ Turns.Rests
-  pub some : 1 ≤ k
-  pub count : k + left ≡ suc (entriesIn round (slaveOf c s))
-  pub lies : 0 < left → at ≡ filePlace c s round + recordSize * k
+  pub rest : Rest c round s k left at end
   pub same : actingFrom (bytesIn (slaveOf c s) round) slot k left ≡ actor round slot (slaveOf c s)
 
-module _ {c : Cluster} {round s place n : ℕ} (is : RoundFileIs c round s place n) where
-  start-lies : 0 < n → place ≡ filePlace c s round
-  start-lies l = let some : eqb n 0 ≡ false = ne-eqb n 0 (λ e. omega arith) in rw some at (is .lies)
+pub searching-start : {c : Cluster} {round slot s at end : ℕ} → OpenAt c round slot s at end → Searching c round slot s Turns.Rests at end
+searching-start {slot = slot} o =
+    record { k = o .k; left = o .left; rests = refl; rest = o .rest; same = o .same slot (omega arith) }
 
-  pub searching-start : (slot : ℕ) → Searching c round slot s Turns.Rests n (place + 4)
-  unfolding actor
-  searching-start slot =
-      record {
-        k = 1;
-        rests = refl;
-        some = omega arith;
-        count = omega (arith, is .count);
-        lies = λ l. omega (arith, start-lies l);
-        same = rw (is .count);
-      }
-
-  -- a round file's place is small
-  pub start-small : {f : List ℕ} → Becomes f c → place ≤ length f
-  start-small {f} h =
-      byCase (eqb n 0)
-      (λ e. let nought : place ≡ 0 = rw e at (is .lies) in omega arith)
-      (λ e.
-      let some : 0 < n = positive (borrow.Author.Tests.eqb-false n 0 e) in
-      let room = entries-room round (slaveOf c s) 1 (omega arith) (omega (arith, is .count)) in
-      omega (arith, start-lies some, place-within h s round (omega arith)))
-    where
-      positive : {m : ℕ} → (m ≡ 0 → ⊥) → 0 < m
-      positive {m} other = omega arith
-
-module _ {f : List ℕ} {c : Cluster} {round slot s : ℕ} {turn : Turn} {left at : ℕ} (h : Becomes f c) (q : Searching c round slot s turn left at) (more : 0 < left) where
-  record-room : recordSize * q .k + recordSize ≤ length (bytesIn (slaveOf c s) round)
-  record-room = entries-room round (slaveOf c s) (q .k) (q .some) (omega (arith, q .count))
+module _ {f : List ℕ} {c : Cluster} {round slot s : ℕ} {turn : Turn} {at end : ℕ} (h : Becomes f c) (q : Searching c round slot s turn at end) (more : at < end) where
+  some-left : 0 < q .left
+  some-left = omega (arith, q .rest .span)
 
   pub entry-within : at + 4 ≤ length f
-  entry-within =
-      let room = record-room in
-      omega (arith, place-within h s round (omega arith), q .lies more)
-
-  byte-here : (j : ℕ) → j < 4 → {p : ℕ} → p ≡ at + j → getD f p 0 ≡ getD (bytesIn (slaveOf c s) round) (recordSize * q .k + j) 0
-  byte-here j l {p} e =
-      let room = record-room in
-      let there : p ≡ filePlace c s round + (recordSize * q .k + j) = omega (arith, q .lies more) in
-      rw there (byte-there h s round (recordSize * q .k + j) (omega arith))
-
-  -- the entry read there is record k of the round file
-  entry-there : {e : Entry} → e ≡ evaluated (entryOf (getD f at 0) (getD f (at + 1) 0) (getD f (at + 2) 0) (getD f (at + 3) 0)) → e ≡ evaluated (entryAt (bytesIn (slaveOf c s) round) (q .k))
-  unfolding entryAt
-  entry-there is =
-      let zeroth : getD f at 0 ≡ getD (bytesIn (slaveOf c s) round) (recordSize * q .k) 0 =
-      rw (← first (recordSize * q .k)) (byte-here 0 (omega arith) (omega arith))
-      in
-      rw (zeroth, byte-here 1 (omega arith) refl, byte-here 2 (omega arith) refl, byte-here 3 (omega arith) refl) at is
-    where
-      first : (m : ℕ) → m + 0 ≡ m
-      first m = omega arith
+  entry-within = let within = rest-within h (q .rest) in omega (arith, within .within, within .whole)
 
   module _ {e : Entry} (is : e ≡ evaluated (entryOf (getD f at 0) (getD f (at + 1) 0) (getD f (at + 2) 0) (getD f (at + 3) 0))) where
+    -- the entry read there is record k of the round file
+    entry-there : e ≡ evaluated (entryAt (bytesIn (slaveOf c s) round) (q .k))
+    unfolding entryThere
+    entry-there = is ∙ ap evaluated (rest-entry h (q .rest) some-left)
+
     ends-same : ends (e .operation) ≡ ends (entryAt (bytesIn (slaveOf c s) round) (q .k) .operation)
     unfolding evaluated
-    ends-same = ap (λ (x : Entry). ends (x .operation)) (entry-there is)
+    ends-same = ap (λ (x : Entry). ends (x .operation)) entry-there
 
     covers-same : covers e slot ≡ covers (entryAt (bytesIn (slaveOf c s) round) (q .k)) slot
     unfolding evaluated covers
-    covers-same = ap (λ (x : Entry). covers x slot) (entry-there is)
+    covers-same = ap (λ (x : Entry). covers x slot) entry-there
 
     -- the way out at the end entry
     pub searching-end : {t : Bool} → t ≡ ends (e .operation) → t ≡ true → Turned c round slot s turn
     searching-end end stop =
         rw (q .rests)
         (turned c round slot s none
-        (sym (q .same) ∙ acting-end (bytesIn (slaveOf c s) round) slot (q .k) left more (sym ends-same ∙ sym end ∙ stop))
+        (sym (q .same) ∙ acting-end (bytesIn (slaveOf c s) round) slot (q .k) (q .left) some-left (sym ends-same ∙ sym end ∙ stop))
         (nobody-acts c s slot))
 
     -- the way out at the covering entry
@@ -176,26 +98,26 @@ module _ {f : List ℕ} {c : Cluster} {round slot s : ℕ} {turn : Turn} {left a
         → Turned c round slot s turn
     searching-covers end goes cover inside does =
         turned c round slot s (acts (entryAt (bytesIn (slaveOf c s) round) (q .k)))
-        (sym (q .same) ∙ acting-here (bytesIn (slaveOf c s) round) slot (q .k) left more (sym ends-same ∙ sym end ∙ goes) (sym covers-same ∙ sym cover ∙ inside))
-        (turn-evaluated (entry-there is) does)
+        (sym (q .same) ∙ acting-here (bytesIn (slaveOf c s) round) slot (q .k) (q .left) some-left (sym ends-same ∙ sym end ∙ goes) (sym covers-same ∙ sym cover ∙ inside))
+        (turn-evaluated entry-there does)
 
-    pub searching-next : {t u : Bool} → t ≡ ends (e .operation) → t ≡ false → u ≡ covers e slot → u ≡ false → Searching c round slot s turn (left - 1) (at + 4)
+    pub searching-next : {t u : Bool} → t ≡ ends (e .operation) → t ≡ false → u ≡ covers e slot → u ≡ false → Searching c round slot s turn (at + 4) end
     searching-next end goes cover past =
+        let fewer : q .left ≡ suc (q .left - 1) = omega (arith, some-left) in
         record {
           k = suc (q .k);
+          left = q .left - 1;
           rests = q .rests;
-          some = omega arith;
-          count = omega (arith, q .count);
-          lies = λ l. omega (arith, q .lies more);
-          same = sym (acting-next (bytesIn (slaveOf c s) round) slot (q .k) left more (sym ends-same ∙ sym end ∙ goes) (sym covers-same ∙ sym cover ∙ past)) ∙ q .same;
+          rest = rest-next h (q .rest) fewer;
+          same = sym (acting-next (bytesIn (slaveOf c s) round) slot (q .k) fewer (sym ends-same ∙ sym end ∙ goes) (sym covers-same ∙ sym cover ∙ past)) ∙ q .same;
         }
 
 -- the way out past the last entry
-pub searching-done : {c : Cluster} {round slot s : ℕ} {turn : Turn} {left at : ℕ} → Searching c round slot s turn left at → left ≤ 0 → Turned c round slot s turn
-searching-done {c} {round} {slot} {s} {turn} {left} q over =
-    let nought : left ≡ 0 = omega arith in
+pub searching-done : {c : Cluster} {round slot s : ℕ} {turn : Turn} {at end : ℕ} → Searching c round slot s turn at end → end ≤ at → Turned c round slot s turn
+searching-done {c} {round} {slot} {s} {turn} q over =
+    let nought : q .left ≡ 0 = omega (arith, q .rest .span) in
     rw (q .rests)
-    (turned c round slot s none (sym (q .same) ∙ acting-none (bytesIn (slaveOf c s) round) slot (q .k) left nought) (nobody-acts c s slot))
+    (turned c round slot s none (sym (q .same) ∙ acting-none (bytesIn (slaveOf c s) round) slot (q .k) (q .left) nought) (nobody-acts c s slot))
 
 -- what `turn_of` asks of the covering entry
 pub covering-reaches : (b₀ b₁ b₂ b₃ : ℕ) {slot : ℕ} (e : Code.Entry) {t : Bool} → entryFrom e ≡ evaluated (entryOf b₀ b₁ b₂ b₃) → t ≡ covers (entryFrom e) slot → t ≡ true → slot < slots

@@ -1,6 +1,6 @@
 -- Slots 1 to 63, one after the other: what the loop over them keeps, and the round that it makes.
 -- Assumes nothing.
-use Prim.Native.Nat.{ℕ, zero, suc, _+_, _-_, _^_, _≤_, _<_}
+use Prim.Native.Nat.{ℕ, zero, suc, _+_, _^_, _≤_, _<_}
 use native.Mathlib.Omega.{arith}
 use native.Mathlib.Numerals.{add-one}
 use mathlib.Core.Path.{_≡_, refl, sym, ap, _∙_}
@@ -18,68 +18,93 @@ use Rattle.cluster.specs.Slaves.{isUnnamed, epochRaised}
 use Rattle.cluster.specs.Multipartner.{sentBy, sentIn, receivedIn, clusterBelow, sentDuring}
 use Rattle.cluster.specs.Round.{multipartnerEffect}
 use Rattle.cluster.specs.Carried.{Carried}
-use Rattle.cluster.specs.Slots.{slotsEffect, entriesIn, RoundFileIs, RoundFilesAre, storedBelow}
+use Rattle.cluster.specs.Slots.{slotsEffect, entriesIn, RoundFilesAre, storedBelow}
 use Rattle.cluster.proofs.Bus.{busByte-byte, mask-below, mask-next, mask-silent, Filled, filled-start, filled-next, filled-done}
 use Rattle.cluster.proofs.Kept.{kept-received}
 use Rattle.cluster.proofs.Untouched.{filesOf-slave, received-other}
 use Rattle.cluster.proofs.StoreLaws.{stored-length, receivedBy, received-all, stored-becomes}
+use Rattle.cluster.proofs.OpenLaws.{actor, Rest, OpenAt, OpenAll, open-start, open-later}
 use Rattle.cluster.proofs.HearLaws.{someone, someone-yes, someone-no, Hearing, heard-byte, heard-any, heard-aims}
 
 -- ---- the round files stay where and what they are
 
 module _ (c d : Cluster) (same : SameShape (c .slaves) (d .slaves)) (round : ℕ) where
-  file-kept : (s : ℕ) {place n : ℕ} → bytesIn (slaveOf d s) round ≡ bytesIn (slaveOf c s) round → bytesIn (slaveOf d s) configuration ≡ bytesIn (slaveOf c s) configuration
-      → RoundFileIs c round s place n → RoundFileIs d round s place n
-  unfolding entriesIn isUnnamed logicalName filePlace
-  file-kept s files names is =
-      record {
-        count = rw (files, names) (is .count);
-        lies = rw (← shape-filePlaceAt c d same 2 s round) (is .lies);
-      }
+  module _ (s : ℕ) (files : bytesIn (slaveOf d s) round ≡ bytesIn (slaveOf c s) round) (names : bytesIn (slaveOf d s) configuration ≡ bytesIn (slaveOf c s) configuration) where
+    entries-kept : entriesIn round (slaveOf d s) ≡ entriesIn round (slaveOf c s)
+    unfolding entriesIn isUnnamed logicalName
+    entries-kept = rw (files, names)
 
-  files-kept : {places entries : List ℕ} → ((s : ℕ) → bytesIn (slaveOf d s) round ≡ bytesIn (slaveOf c s) round) → ((s : ℕ) → bytesIn (slaveOf d s) configuration ≡ bytesIn (slaveOf c s) configuration)
-      → RoundFilesAre c round places entries → RoundFilesAre d round places entries
+    place-kept : filePlace d s round ≡ filePlace c s round
+    unfolding filePlace
+    place-kept = sym (shape-filePlaceAt c d same 2 s round)
+
+    rest-kept : {k left at end : ℕ} → Rest c round s k left at end → Rest d round s k left at end
+    rest-kept q =
+        record {
+          some = q .some;
+          count = rw entries-kept (q .count);
+          span = q .span;
+          lies = rw (entries-kept, place-kept) (q .lies);
+          none = rw entries-kept (q .none);
+        }
+
+    open-kept : {slot at end : ℕ} → OpenAt c round slot s at end → OpenAt d round slot s at end
+    unfolding actor
+    open-kept o =
+        record {
+          k = o .k;
+          left = o .left;
+          rest = rest-kept (o .rest);
+          same = λ later l. rw (files, entries-kept) (o .same later l);
+        }
+
+  files-kept : {slot : ℕ} {starts ends : List ℕ} → ((s : ℕ) → bytesIn (slaveOf d s) round ≡ bytesIn (slaveOf c s) round) → ((s : ℕ) → bytesIn (slaveOf d s) configuration ≡ bytesIn (slaveOf c s) configuration)
+      → OpenAll c round slot starts ends → OpenAll d round slot starts ends
   files-kept files names are =
       record {
-        placesRoom = are .placesRoom;
-        entriesRoom = are .entriesRoom;
-        file = λ s l. file-kept s (files s) (names s) (are .file s (omega (arith, shape-count same)));
+        startsRoom = are .startsRoom;
+        endsRoom = are .endsRoom;
+        file = λ s l. open-kept s (files s) (names s) (are .file s (omega (arith, shape-count same)));
       }
 
--- the file, the number of its slaves, and where they keep their round files
-pub record Ready (f : List ℕ) (round count : ℕ) (starts entries : List ℕ) : Type 0 where
+-- the file, the number of its slaves, and the entries that they still have to look at
+pub record Ready (f : List ℕ) (round count slot : ℕ) (starts ends : List ℕ) : Type 0 where
   pub becomes : Becomes f (decode f)
   pub low : round < 0x10
   pub all : count ≡ length (decode f .slaves)
-  pub files : RoundFilesAre (decode f) round starts entries
+  pub files : OpenAll (decode f) round slot starts ends
 
-ready-next : {f g : List ℕ} {round count : ℕ} {starts entries : List ℕ} (slot : ℕ) (sent : List ℕ) → Ready f round count starts entries → Becomes g (receivedIn round slot (decode f) sent)
-    → Ready g round count starts entries
-ready-next {f} {g} {round} {count} {starts} {entries} slot sent r h =
-    let c : Cluster = decode f in
-    let d : Cluster = receivedIn round slot c sent in
-    let shape : SameShape (c .slaves) (d .slaves) = kept-received round slot c sent .shape in
-    let files = filesOf-slave round c d (received-other round slot c sent round (λ l. absurd (above (r .low) l))) in
-    let names = filesOf-slave configuration c d (received-other round slot c sent configuration (λ l. omega (arith, l))) in
-    let are : RoundFilesAre d round starts entries = files-kept c d shape round files names (r .files) in
-    record {
-      becomes = becomes-decoded h;
-      low = r .low;
-      all = rw (h .decoded) (r .all ∙ shape-count shape);
-      files = rw (h .decoded) are;
-    }
-  where
-    above : {n : ℕ} → n < 0x10 → 0x10 ≤ n → ⊥
-    above p q = omega arith
+-- with what the slaves looked at in the slot
+module _ {f : List ℕ} {round count slot : ℕ} {starts ends after : List ℕ} (r : Ready f round count slot starts ends) (looked : OpenAll (decode f) round slot after ends) where
+  ready-same : Ready f round count (slot + 1) after ends
+  ready-same = record { becomes = r .becomes; low = r .low; all = r .all; files = open-later looked }
+
+  ready-next : {g : List ℕ} (sent : List ℕ) → Becomes g (receivedIn round slot (decode f) sent) → Ready g round count (slot + 1) after ends
+  ready-next {g} sent h =
+      let c : Cluster = decode f in
+      let d : Cluster = receivedIn round slot c sent in
+      let shape : SameShape (c .slaves) (d .slaves) = kept-received round slot c sent .shape in
+      let files = filesOf-slave round c d (received-other round slot c sent round (λ l. absurd (above (r .low) l))) in
+      let names = filesOf-slave configuration c d (received-other round slot c sent configuration (λ l. omega (arith, l))) in
+      let are : OpenAll d round (slot + 1) after ends = files-kept c d shape round files names (open-later looked) in
+      record {
+        becomes = becomes-decoded h;
+        low = r .low;
+        all = rw (h .decoded) (r .all ∙ shape-count shape);
+        files = rw (h .decoded) are;
+      }
+    where
+      above : {n : ℕ} → n < 0x10 → 0x10 ≤ n → ⊥
+      above p q = omega arith
 
 -- ---- the loop over the slots
 
 -- f₀ is the file at the start, old the buffer with the firework stored
-pub record Running (f₀ : List ℕ) (round firework count : ℕ) (starts entries old : List ℕ) (slot mask : ℕ) (buffer file : List ℕ) : Type 0 where
+pub record Running (f₀ : List ℕ) (round firework count : ℕ) (starts ends old : List ℕ) (slot mask : ℕ) (buffer file : List ℕ) : Type 0 where
   pub filled : Filled (sentDuring round (decode f₀)) firework old slot buffer
   pub counted : mask ≡ maskBelow (sentDuring round (decode f₀)) slot
   pub after : Becomes file (clusterBelow round (decode f₀) slot)
-  pub ready : Ready file round count starts entries
+  pub ready : Ready file round count slot starts ends
   pub size : length file ≡ length f₀
 
 start-mask : (r : Senders) → anyone (r 0) ≡ 0 → 0 ≡ maskBelow r 1
@@ -90,15 +115,15 @@ start-after : {f : List ℕ} (round : ℕ) (c : Cluster) → Becomes f c → Bec
 unfolding clusterBelow receivedIn sentIn
 start-after round c h = h
 
-pub running-start : {f : List ℕ} {round count : ℕ} {starts entries : List ℕ} (firework : ℕ) (old : List ℕ) → Becomes f (decode f) → round < 0x10 → count ≡ length (decode f .slaves)
-    → RoundFilesAre (decode f) round starts entries → slots ≤ length old → Running f round firework count starts entries (set old 0 firework) 1 0 (set old 0 firework) f
+pub running-start : {f : List ℕ} {round count : ℕ} {starts ends : List ℕ} (firework : ℕ) (old : List ℕ) → Becomes f (decode f) → round < 0x10 → count ≡ length (decode f .slaves)
+    → RoundFilesAre (decode f) round starts ends → slots ≤ length old → Running f round firework count starts ends (set old 0 firework) 1 0 (set old 0 firework) f
 unfolding sentDuring sentIn anyone
 running-start {f} {round} firework old h low all files long =
     record {
       filled = filled-start (sentDuring round (decode f)) firework old long;
       counted = start-mask (sentDuring round (decode f)) refl;
       after = start-after round (decode f) h;
-      ready = record { becomes = h; low = low; all = all; files = files };
+      ready = record { becomes = h; low = low; all = all; files = open-start 1 files };
       size = refl;
     }
 
@@ -120,7 +145,7 @@ below-next : (round : ℕ) (c : Cluster) (slot : ℕ) → clusterBelow round c (
 unfolding clusterBelow sentDuring
 below-next round c slot = rw add-one
 
-module _ {f₀ : List ℕ} {round firework count : ℕ} {starts entries old : List ℕ} {slot mask : ℕ} {buffer file : List ℕ} (h : Running f₀ round firework count starts entries old slot mask buffer file) where
+module _ {f₀ : List ℕ} {round firework count : ℕ} {starts ends old : List ℕ} {slot mask : ℕ} {buffer file : List ℕ} (h : Running f₀ round firework count starts ends old slot mask buffer file) where
   pub mask-small : mask < 2 ^ slot
   mask-small = rw (h .counted) (mask-below (sentDuring round (decode f₀)) slot)
 
@@ -133,12 +158,12 @@ module _ {f₀ : List ℕ} {round firework count : ℕ} {starts entries old : Li
   next-cluster : clusterBelow round (decode f₀) (slot + 1) ≡ receivedIn round slot (decode file) (sentBy round slot (decode file .slaves))
   next-cluster = below-next round (decode f₀) slot ∙ rw (← (h .after .decoded), now-sent)
 
-  module _ {n bus : ℕ} {heard : Bool} {stores : List ℕ} (more : slot < slots) (q : Hearing (decode file) round slot n bus heard stores) (left : length (decode file .slaves) ≤ n) where
+  module _ {n bus : ℕ} {heard : Bool} {stores after : List ℕ} (more : slot < slots) (looked : OpenAll (decode file) round slot after ends) (q : Hearing (decode file) round slot n bus heard stores) (left : length (decode file .slaves) ≤ n) where
     next-filled : Filled (sentDuring round (decode f₀)) firework old (slot + 1) (set buffer slot bus)
     next-filled = filled-next (h .filled) more (heard-byte q left ∙ ap busByte (sym now-sent))
 
     -- nobody sent
-    pub running-silent : {mask′ : ℕ} {file′ : List ℕ} → heard ≡ false → mask′ ≡ mask → file′ ≡ file → Running f₀ round firework count starts entries old (slot + 1) mask′ (set buffer slot bus) file′
+    pub running-silent : {mask′ : ℕ} {file′ : List ℕ} → heard ≡ false → mask′ ≡ mask → file′ ≡ file → Running f₀ round firework count after ends old (slot + 1) mask′ (set buffer slot bus) file′
     unfolding anyone
     running-silent {mask′} {file′} silent masked stays =
         let none : sentBy round slot (decode file .slaves) ≡ [] = someone-no (sentBy round slot (decode file .slaves)) (sym (heard-any q left) ∙ silent) in
@@ -148,12 +173,12 @@ module _ {f₀ : List ℕ} {round firework count : ℕ} {starts entries old : Li
           filled = next-filled;
           counted = rw masked (mask-silent (sentDuring round (decode f₀)) slot (h .counted) quiet);
           after = rw (stays, same) (h .ready .becomes);
-          ready = rw stays (h .ready);
+          ready = rw stays (ready-same (h .ready) looked);
           size = rw stays (h .size);
         }
 
     -- someone sent, and the receivers stored
-    pub running-heard : {mask′ : ℕ} {file′ : List ℕ} → heard ≡ true → mask′ ≡ 2 ^ slot + mask → file′ ≡ storedBelow file stores bus count → Running f₀ round firework count starts entries old (slot + 1) mask′ (set buffer slot bus) file′
+    pub running-heard : {mask′ : ℕ} {file′ : List ℕ} → heard ≡ true → mask′ ≡ 2 ^ slot + mask → file′ ≡ storedBelow file stores bus count → Running f₀ round firework count after ends old (slot + 1) mask′ (set buffer slot bus) file′
     running-heard {mask′} {file′} some masked stored =
         let all : List ℕ = sentBy round slot (decode file .slaves) in
         let loud : someone all ≡ true = sym (heard-any q left) ∙ some in
@@ -168,12 +193,12 @@ module _ {f₀ : List ℕ} {round firework count : ℕ} {starts entries old : Li
           filled = next-filled;
           counted = rw masked (mask-next (sentDuring round (decode f₀)) slot (h .counted) one);
           after = rw next-cluster holds;
-          ready = ready-next slot all (h .ready) holds;
+          ready = ready-next (h .ready) looked all holds;
           size = ap length stored ∙ stored-length file stores bus count ∙ h .size;
         }
 
-pub running-done : {f₀ : List ℕ} {round firework count : ℕ} {starts entries : List ℕ} (old : List ℕ) {slot mask : ℕ} {buffer file : List ℕ}
-    → Running f₀ round firework count starts entries (set old 0 firework) slot mask buffer file → slots ≤ slot → Carried (slotsEffect (decode f₀) round) firework old buffer mask file
+pub running-done : {f₀ : List ℕ} {round firework count : ℕ} {starts ends : List ℕ} (old : List ℕ) {slot mask : ℕ} {buffer file : List ℕ}
+    → Running f₀ round firework count starts ends (set old 0 firework) slot mask buffer file → slots ≤ slot → Carried (slotsEffect (decode f₀) round) firework old buffer mask file
 unfolding slotsEffect senderMask
 running-done old {slot} h left =
     let last : slot ≡ 64 = omega (arith, h .filled .most) in

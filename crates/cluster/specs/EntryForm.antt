@@ -1,9 +1,10 @@
 -- The code's entry in the terms of Entries.antt: each operation by its code of 002, table 4. A struct's entry keeps the multiplex
 -- field for the multiplexed operations alone, which alone evaluate it.
-use Prim.Native.Nat.{ℕ, _≤_, _<_}
+use Prim.Native.Nat.{ℕ, _+_, _≤_, _<_}
 use mathlib.Core.Path.{_≡_, refl}
-use mathlib.Core.Bool.{cond}
+use mathlib.Core.Bool.{Bool, not, cond}
 use lib.Dec.{leb}
+use Rattle.file.specs.Order.{both}
 use Rattle.cluster.specs.Bus.{slots}
 use Rattle.cluster.specs.Entries.{Entry, entryOf, receives, sends, ends}
 use Rattle.cluster.specs.declared.entry.Entry as Code
@@ -90,6 +91,10 @@ pub record Reaches (e : Code.Entry) (slot : ℕ) : Type 0 where
   pub align : e .address .align < 4
   pub begun : e .slot ≤ slot
   pub inRound : slot < slots
+
+-- an entry that can be passed over in a slot and in those behind it: it is no end, and covers none of them
+unfoldable pub isPast : Entry → ℕ → Bool
+isPast e slot = both (leb (e .start + e .length) slot) (not (ends (e .operation)))
 
 -- what a slave does for an entry that covers a slot, by its operation
 pub data Action : Type 0 where

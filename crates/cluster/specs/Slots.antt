@@ -1,15 +1,17 @@
 -- What the functions of a multipartner round promise to one another, in the terms of Multipartner.antt.
-use Prim.Native.Nat.{ℕ, zero, suc, _+_, _≤_, _<_}
+use Prim.Native.Nat.{ℕ, zero, suc, _+_, _*_, _-_, _%_, _≤_, _<_}
 use mathlib.Core.Path.{_≡_}
 use mathlib.Core.List.{List, [], _∷_}
 use mathlib.Core.Bool.{Bool, true, false, cond}
 use lib.ListN.{length, getD, set}
 use lib.Dec.{eqb}
+use Rattle.file.specs.Layout.{recordSize}
 use Rattle.file.specs.Cluster.{Slave, Cluster, bytesIn, lastRecord}
 use Rattle.file.specs.Places.{slaveOf, filePlace}
 use Rattle.cluster.specs.Bus.{slots}
 use Rattle.cluster.specs.Slaves.{isUnnamed}
-use Rattle.cluster.specs.Entries.{Entry, Acting, bytePlace}
+use Rattle.cluster.specs.Entries.{Entry, entryOf, Acting, bytePlace}
+use Rattle.cluster.specs.EntryForm.{isPast}
 use Rattle.cluster.specs.Multipartner.{Place, nowhere, byteOf, within, sendPlace, storePlace, byteThere, clusterBelow, sentDuring}
 use Rattle.cluster.specs.Round.{Effect}
 use Rattle.cluster.specs.declared.multipartner.BytePlace.{BytePlace}
@@ -27,16 +29,32 @@ slotsEffect c round = record { senders = sentDuring round c; after = clusterBelo
 unfoldable pub entriesIn : ℕ → Slave → ℕ
 entriesIn round s = cond (isUnnamed s) 0 (lastRecord (bytesIn s round))
 
--- where the slave at index s keeps them, 0 where it runs none
-pub record RoundFileIs (c : Cluster) (round s place entries : ℕ) : Type 0 where
-  pub count : entries ≡ entriesIn round (slaveOf c s)
-  pub lies : place ≡ cond (eqb entries 0) 0 (filePlace c s round)
+-- where those of the slave at index s begin and where they end: behind record 0x00, both 0 where it runs none
+pub record RoundFileIs (c : Cluster) (round s start end : ℕ) : Type 0 where
+  pub begins : start ≡ cond (eqb (entriesIn round (slaveOf c s)) 0) 0 (filePlace c s round + recordSize)
+  pub span : end ≡ start + recordSize * entriesIn round (slaveOf c s)
 
 -- the same of every slave, in front of whatever else the arrays hold
-pub record RoundFilesAre (c : Cluster) (round : ℕ) (places entries : List ℕ) : Type 0 where
-  pub placesRoom : length places ≡ 32
-  pub entriesRoom : length entries ≡ 32
-  pub file : (s : ℕ) → s < length (c .slaves) → RoundFileIs c round s (getD places s 0) (getD entries s 0)
+pub record RoundFilesAre (c : Cluster) (round : ℕ) (starts ends : List ℕ) : Type 0 where
+  pub startsRoom : length starts ≡ 32
+  pub endsRoom : length ends ≡ 32
+  pub file : (s : ℕ) → s < length (c .slaves) → RoundFileIs c round s (getD starts s 0) (getD ends s 0)
+
+-- the entry that begins at a place of the file
+unfoldable pub entryThere : List ℕ → ℕ → Entry
+entryThere f at = entryOf (getD f at 0) (getD f (at + 1) 0) (getD f (at + 2) 0) (getD f (at + 3) 0)
+
+-- from start to end the file has whole entries
+pub record EntriesWithin (f : List ℕ) (start end : ℕ) : Type 0 where
+  pub rising : start ≤ end
+  pub whole : (end - start) % recordSize ≡ 0
+  pub within : end ≤ length f
+
+-- of the n entries from a place of the file on, where the first begins that is not past in a slot; where they end, if all are
+unfoldable pub openFrom : List ℕ → ℕ → ℕ → ℕ → ℕ
+openFrom f slot at zero = at
+openFrom f slot at (suc n) =
+    let rest = openFrom f slot (at + recordSize) n in cond (isPast (entryThere f at) slot) rest at
 
 -- ---- the byte that a slot is about
 

@@ -1,8 +1,9 @@
 // Multipartner rounds: slots 1 to 63 over the slaves' round files.
 ghost use mathlib.Core.Path.{_≡_};
-ghost use Prim.Native.Nat.{_+_, _≤_, _<_};
+ghost use Prim.Native.Nat.{_+_, _-_, _/_, _≤_, _<_};
 ghost use lib.ListN.{length};
 ghost use Rattle.file.specs.Order.{either};
+ghost use Rattle.file.specs.Layout.{recordSize};
 ghost use Rattle.file.specs.Cluster.{configuration};
 ghost use Rattle.file.specs.Decode.{decode};
 ghost use Rattle.file.specs.Accepted.{Becomes, KeptAt};
@@ -12,7 +13,7 @@ ghost use Rattle.cluster.specs.Multipartner.{mayStore};
 ghost use Rattle.cluster.specs.EntryForm.{entryFrom, Reaches};
 ghost use Rattle.cluster.specs.Carried.{Carried, AllKept};
 ghost use Rattle.cluster.specs.Round.{multipartnerEffect};
-ghost use Rattle.cluster.specs.Slots.{slotsEffect, RoundFileIs, RoundFilesAre, findByte, foundByte, TurnIs, turnSends, turnStores, isSender, storedBelow, StoresWithin};
+ghost use Rattle.cluster.specs.Slots.{slotsEffect, RoundFileIs, RoundFilesAre, EntriesWithin, openFrom, findByte, foundByte, TurnIs, turnSends, turnStores, isSender, storedBelow, StoresWithin};
 use crate::answer::SLOTS;
 use crate::answer::with_sender;
 use crate::entry::Entry;
@@ -29,26 +30,23 @@ use file::readers::logical_name;
 use file::types::FileNumber;
 use file::types::LogicalName;
 
-// Where a slave keeps its round file, and how many entries it runs.
+// Where the entries that a slave runs begin, and where they end.
 pub struct RoundFile {
-    pub place: usize,
-    pub entries: usize,
+    pub start: usize,
+    pub end: usize,
 }
 
-const NO_ROUND_FILE: RoundFile = RoundFile {
-    place: 0,
-    entries: 0,
-};
+const NO_ROUND_FILE: RoundFile = RoundFile { start: 0, end: 0 };
 
 // The same of every slave.
 pub struct RoundFiles {
-    pub places: [usize; 32],
-    pub entries: [usize; 32],
+    pub starts: [usize; 32],
+    pub ends: [usize; 32],
 }
 
 fn round_file(file: &[u8], configurations: &[u16; 32], slave: usize, round: FileNumber) -> RoundFile
     requires { ⌜ Becomes (now file) (decode (now file)) × KeptAt (decode (now file)) configuration (now configurations) slave ⌝ }
-    ensures { λ r. ⌜ RoundFileIs (decode (now (file .entry))) (round .0) slave (r .place) (r .entries) ⌝ }
+    ensures { λ r. ⌜ RoundFileIs (decode (now (file .entry))) (round .0) slave (r .start) (r .end) ⌝ }
 {
     let name = logical_name(file, configurations, slave);
     if name.0 == LogicalName::UNNAMED.0 {
@@ -59,8 +57,8 @@ fn round_file(file: &[u8], configurations: &[u16; 32], slave: usize, round: File
         return NO_ROUND_FILE;
     };
     RoundFile {
-        place: bytes.place,
-        entries: bytes.size / 4 - 1,
+        start: bytes.place + 4,
+        end: bytes.place + bytes.size,
     }
 }
 
@@ -71,18 +69,38 @@ fn round_files(
     round: FileNumber,
 ) -> RoundFiles
     requires { ⌜ Becomes (now file) (decode (now file)) × AllKept (decode (now file)) configuration (now configurations) count ⌝ }
-    ensures { λ r. ⌜ RoundFilesAre (decode (now (file .entry))) (round .0) (r .places) (r .entries) ⌝ }
+    ensures { λ r. ⌜ RoundFilesAre (decode (now (file .entry))) (round .0) (r .starts) (r .ends) ⌝ }
 {
-    let mut places = [0usize; 32];
-    let mut entries = [0usize; 32];
+    let mut starts = [0usize; 32];
+    let mut ends = [0usize; 32];
     let mut slave = 0;
     while slave < count {
         let found = round_file(file, configurations, slave, round);
-        places[slave] = found.place;
-        entries[slave] = found.entries;
+        starts[slave] = found.start;
+        ends[slave] = found.end;
         slave = slave + 1;
     }
-    RoundFiles { places, entries }
+    RoundFiles { starts, ends }
+}
+
+// Where the search of a slot begins: at the first entry that covers this slot or one behind it, or ends the round. Slots rise, so
+// those in front of it never act again.
+fn open_from(file: &[u8], start: usize, end: usize, slot: usize) -> usize
+    requires { ⌜ EntriesWithin (now file) start end ⌝ }
+    ensures { λ r. ⌜ r ≡ openFrom (now (file .entry)) slot start ((end - start) / recordSize) ⌝ }
+{
+    let mut at = start;
+    while at < end {
+        let entry = entry_at(file, at);
+        if slot < entry.slot + entry.length {
+            return at;
+        }
+        if is_end(entry) {
+            return at;
+        }
+        at = at + 4;
+    }
+    at
 }
 
 // Where in the cluster file a byte lies.
@@ -207,8 +225,8 @@ fn store(file: &mut [u8], places: &[usize; 32], count: usize, byte: u8)
     }
 }
 
-// Slots 1 to 63 of a multipartner round. Where each slave keeps its round file is found once, before the first slot: no receive
-// stores in a round file or in 0x08.
+// Slots 1 to 63 of a multipartner round. Where each slave's entries lie is found once, before the first slot: no receive stores
+// in a round file or in 0x08. From slot to slot `starts` leaves out the entries that cannot act again.
 fn run_slots(
     file: &mut [u8],
     configurations: &[u16; 32],
@@ -221,8 +239,8 @@ fn run_slots(
     ensures { λ r. ⌜ Carried (slotsEffect (decode (now (file .entry))) round) firework (now (buffer .entry)) (now (buffer .exit)) r (now (file .exit)) ⌝ }
 {
     let files = round_files(file, configurations, count, FileNumber(round));
-    let starts = files.places;
-    let entries = files.entries;
+    let mut starts = files.starts;
+    let ends = files.ends;
     let mut mask = 0u64;
     buffer[0] = firework;
     let mut slot = 1;
@@ -233,9 +251,10 @@ fn run_slots(
         let mut slave = 0;
         'slaves: while slave < count {
             let mut turn = Turn::Rests;
-            let mut left = entries[slave];
-            let mut at = starts[slave] + 4;
-            'entries: while 0 < left {
+            let end = ends[slave];
+            let mut at = open_from(file, starts[slave], end, slot);
+            starts[slave] = at;
+            'entries: while at < end {
                 let entry = entry_at(file, at);
                 if is_end(entry) {
                     break 'entries;
@@ -245,7 +264,6 @@ fn run_slots(
                     break 'entries;
                 }
                 at = at + 4;
-                left = left - 1;
             }
             bus = bus_with(bus, turn);
             heard = heard_with(heard, turn);

@@ -9,12 +9,11 @@ use Rattle.cluster.proofs.multipartner.round_files.Statement.{statement
 use Rattle.cluster.proofs.multipartner.round_files.Tie as tie
 
 abbrev Inv-loop : tie.InvT-loop
-Inv-loop file configurations count round places₀ entries₀ slave₀ places entries slave =
-    Finding (decode file) (round .0) places entries slave
+Inv-loop file configurations count round starts₀ ends₀ slave₀ starts ends slave =
+    Finding (decode file) (round .0) starts ends slave
 
 abbrev μ-loop : tie.MeasureT-loop
-μ-loop file configurations count round places₀ entries₀ slave₀ places entries slave =
-    count - slave
+μ-loop file configurations count round starts₀ ends₀ slave₀ starts ends slave = count - slave
 
 loop-holds : tie.Need-loop-holds Inv-loop μ-loop
 loop-holds c = finding-start _ _ refl refl
@@ -24,17 +23,17 @@ round-file-requires c κs =
     let start = c .before .before .before in
     (start .pre .0, start .pre .1 .at (c .before .loop .slave) (omega (arith, start .pre .1 .all)))
 
-mul-places : tie.Need-mul-places Inv-loop μ-loop
-mul-places c = omega arith
+mul-starts : tie.Need-mul-starts Inv-loop μ-loop
+mul-starts c = omega arith
 
-array-write-places : tie.Need-array-write-places Inv-loop μ-loop
-array-write-places c = omega arith
+array-write-starts : tie.Need-array-write-starts Inv-loop μ-loop
+array-write-starts c = omega arith
 
-mul-entries : tie.Need-mul-entries Inv-loop μ-loop
-mul-entries c = omega arith
+mul-ends : tie.Need-mul-ends Inv-loop μ-loop
+mul-ends c = omega arith
 
-array-write-entries : tie.Need-array-write-entries Inv-loop μ-loop
-array-write-entries c = omega arith
+array-write-ends : tie.Need-array-write-ends Inv-loop μ-loop
+array-write-ends c = omega arith
 
 add-slave : tie.Need-add-slave Inv-loop μ-loop
 add-slave c = omega arith
@@ -58,10 +57,10 @@ round-files-spec =
     μ-loop
     loop-holds
     round-file-requires
-    mul-places
-    array-write-places
-    mul-entries
-    array-write-entries
+    mul-starts
+    array-write-starts
+    mul-ends
+    array-write-ends
     add-slave
     loop-less
     loop-again

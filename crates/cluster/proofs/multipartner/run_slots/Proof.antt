@@ -1,43 +1,45 @@
 -- `cluster::multipartner::run_slots` meets its contract. The invariants: of the slots `Running`, the round so far; of a slot's
--- slaves `Hearing`, what was sent and who stores where; of a slave's entries `Searching`, that the entry that acts is yet to come.
+-- slaves `Hearing`, what was sent and who stores where, and `OpenAll`, that no slave's acting entry was passed over; of a slave's
+-- entries `Searching`, that the entry that acts is yet to come.
 -- Assumes nothing.
-use Prim.Native.Nat.{_-_}
+use Prim.Native.Nat.{_-_, _<_}
 use native.Mathlib.Omega.{arith}
 use mathlib.Core.Path.{refl, _∙_}
 use mathlib.Core.Logic.{⊎-elim}
-use lib.ListN.{length-set}
+use lib.ListN.{length, getD, length-set}
 use borrow.Author.Needs.{needs}
 use Rattle.file.specs.Decode.{decode}
 use Rattle.file.proofs.ReaderLaws.{length-limit}
 use Rattle.cluster.proofs.Bus.{filled-length}
-use Rattle.cluster.proofs.SearchLaws.{Searching, Turned, turned-same, searching-start, start-small, entry-within, searching-end, searching-covers, searching-next, searching-done, covering-reaches}
+use Rattle.cluster.proofs.OpenLaws.{OpenAt, OpenAll, open-within, open-next, open-set}
+use Rattle.cluster.proofs.SearchLaws.{Searching, Turned, turned-same, searching-start, entry-within, searching-end, searching-covers, searching-next, searching-done, covering-reaches}
 use Rattle.cluster.proofs.HearLaws.{Hearing, hearing-start, hearing-next, aims-within}
 use Rattle.cluster.proofs.SlotLaws.{Running, running-start, mask-small, running-silent, running-heard, running-done}
 use Rattle.cluster.proofs.multipartner.run_slots.Statement.{statement}
 use Rattle.cluster.proofs.multipartner.run_slots.Tie as tie
 
 abbrev Inv-entries : tie.InvT-entries
-Inv-entries file configurations count round firework buffer starts entries mask slot bus heard stores slave turn₀ left₀ at₀ turn left at =
-    Searching (decode file) round slot slave turn left at
+Inv-entries file configurations count round firework buffer starts ends mask slot bus heard stores slave turn₀ end at₀ turn at =
+    Searching (decode file) round slot slave turn at end
 
 abbrev μ-entries : tie.MeasureT-entries
-μ-entries file configurations count round firework buffer starts entries mask slot bus heard stores slave turn₀ left₀ at₀ turn left at =
-    left
+μ-entries file configurations count round firework buffer starts ends mask slot bus heard stores slave turn₀ end at₀ turn at =
+    end - at
 
 abbrev Inv-slaves : tie.InvT-slaves
-Inv-slaves file configurations count round firework buffer starts entries mask slot bus₀ heard₀ stores₀ slave₀ bus heard stores slave =
-    Hearing (decode file) round slot slave bus heard stores
+Inv-slaves file configurations count round firework buffer starts₀ ends mask slot bus₀ heard₀ stores₀ slave₀ starts bus heard stores slave =
+    Hearing (decode file) round slot slave bus heard stores × OpenAll (decode file) round slot starts ends
 
 abbrev μ-slaves : tie.MeasureT-slaves
-μ-slaves file configurations count round firework buffer starts entries mask slot bus₀ heard₀ stores₀ slave₀ bus heard stores slave =
+μ-slaves file configurations count round firework buffer starts₀ ends mask slot bus₀ heard₀ stores₀ slave₀ starts bus heard stores slave =
     count - slave
 
 abbrev Inv-slots : tie.InvT-slots
-Inv-slots file₀ configurations count round firework buffer₀ starts entries mask₀ slot₀ file buffer mask slot =
-    Running file₀ round firework count starts entries buffer₀ slot mask buffer file
+Inv-slots file₀ configurations count round firework buffer₀ starts₀ ends mask₀ slot₀ file buffer starts mask slot =
+    Running file₀ round firework count starts ends buffer₀ slot mask buffer file
 
 abbrev μ-slots : tie.MeasureT-slots
-μ-slots file₀ configurations count round firework buffer₀ starts entries mask₀ slot₀ file buffer mask slot =
+μ-slots file₀ configurations count round firework buffer₀ starts₀ ends mask₀ slot₀ file buffer starts mask slot =
     64 - slot
 
 round-files-requires :
@@ -56,35 +58,49 @@ slots-holds c =
     running-start _ (start .args .buffer .now) (start .pre .0) (start .pre .2) (start .pre .1 .all) (c .before .before .round-files .ensures) (start .pre .3)
 
 slaves-holds : tie.Need-slaves-holds Inv-entries μ-entries Inv-slaves μ-slaves Inv-slots μ-slots
-slaves-holds c = hearing-start _ _ _ refl
+slaves-holds c = (hearing-start _ _ _ refl, c .before .slots .inv .ready .files)
 
-mul-left : tie.Need-mul-left Inv-entries μ-entries Inv-slaves μ-slaves Inv-slots μ-slots
-mul-left c = omega arith
+mul-end : tie.Need-mul-end Inv-entries μ-entries Inv-slaves μ-slaves Inv-slots μ-slots
+mul-end c = omega arith
 
-array-read-left :
-    tie.Need-array-read-left Inv-entries μ-entries Inv-slaves μ-slaves Inv-slots μ-slots
-array-read-left c = omega arith
+array-read-end :
+    tie.Need-array-read-end Inv-entries μ-entries Inv-slaves μ-slaves Inv-slots μ-slots
+array-read-end c = omega arith
 
-mul-at : tie.Need-mul-at Inv-entries μ-entries Inv-slaves μ-slaves Inv-slots μ-slots
-mul-at c = omega arith
+mul-open-from : tie.Need-mul-open-from Inv-entries μ-entries Inv-slaves μ-slaves Inv-slots μ-slots
+mul-open-from c = omega arith
 
-array-read-at : tie.Need-array-read-at Inv-entries μ-entries Inv-slaves μ-slaves Inv-slots μ-slots
-array-read-at c = omega arith
+array-read-open-from :
+    tie.Need-array-read-open-from Inv-entries μ-entries Inv-slaves μ-slaves Inv-slots μ-slots
+array-read-open-from c = omega arith
 
-add-at : tie.Need-add-at Inv-entries μ-entries Inv-slaves μ-slaves Inv-slots μ-slots
-add-at c =
+-- what is known of the slave's entries
+entries-open : (c : tie.In-slaves Inv-entries μ-entries Inv-slaves μ-slaves Inv-slots μ-slots) →
+    OpenAt (decode (c .before .before .before .slots .file)) (c .before .before .before .before .before .before .before .before .before .before .args .round) (c .before .before .before .slots .slot) (c .before .slaves .slave) (getD (c .before .slaves .starts) (c .before .slaves .slave) 0) (getD (c .before .before .before .before .before .before .round-files .result .ends) (c .before .slaves .slave) 0)
+entries-open c =
     let ready = c .before .before .before .slots .inv .ready in
-    omega (arith, start-small (ready .files .file (c .before .slaves .slave) (omega (arith, ready .all))) (ready .becomes), length-limit (ready .becomes))
+    c .before .slaves .inv .1 .file (c .before .slaves .slave) (omega (arith, ready .all, c .slaves-test .taken))
+
+open-from-requires :
+    tie.Need-open-from-requires Inv-entries μ-entries Inv-slaves μ-slaves Inv-slots μ-slots
+open-from-requires c κs = open-within (c .before .before .before .before .slots .inv .ready .becomes) (entries-open (c .before))
+
+mul-starts : tie.Need-mul-starts Inv-entries μ-entries Inv-slaves μ-slaves Inv-slots μ-slots
+mul-starts c = omega arith
+
+array-write-starts :
+    tie.Need-array-write-starts Inv-entries μ-entries Inv-slaves μ-slaves Inv-slots μ-slots
+array-write-starts c = omega arith
 
 entries-holds : tie.Need-entries-holds Inv-entries μ-entries Inv-slaves μ-slaves Inv-slots μ-slots
 entries-holds c =
-    let ready = c .before .before .before .slots .inv .ready in
-    searching-start (ready .files .file (c .before .slaves .slave) (omega (arith, ready .all))) _
+    let slave = c .before .before in
+    searching-start (open-next (slave .before .before .before .slots .inv .ready .becomes) (entries-open slave) (c .open-from .ensures))
 
 entry-at-requires :
     tie.Need-entry-at-requires Inv-entries μ-entries Inv-slaves μ-slaves Inv-slots μ-slots
 entry-at-requires c κs =
-    entry-within (c .before .before .before .before .before .before .slots .inv .ready .becomes) (c .before .before .entries .inv) (c .before .entries-test .taken)
+    entry-within (c .before .before .before .before .before .before .before .before .slots .inv .ready .becomes) (c .before .before .entries .inv) (c .before .entries-test .taken)
 
 is-end-requires :
     tie.Need-is-end-requires Inv-entries μ-entries Inv-slaves μ-slaves Inv-slots μ-slots
@@ -99,18 +115,15 @@ turn-of-requires :
 turn-of-requires c κs =
     let cover = c .before .before in
     let read = cover .before .before .before in
-    let slave = read .before .before .before .before .before in
+    let slave = read .before .before .before .before .before .before in
     let slot = slave .before .before in
-    (slot .slots .inv .ready .becomes, omega (arith, slot .slots .inv .ready .all, read .before .before .before .before .slaves-test .taken), covering-reaches _ _ _ _ _ (read .entry-at .ensures) (cover .is-covering .ensures) (c .before .if2 .taken) (slave .before .slots-test .taken))
+    (slot .before .slots .inv .ready .becomes, omega (arith, slot .before .slots .inv .ready .all, slave .slaves-test .taken), covering-reaches _ _ _ _ _ (read .entry-at .ensures) (cover .is-covering .ensures) (c .before .if2 .taken) (slot .slots-test .taken))
 
-add-at-2 : tie.Need-add-at-2 Inv-entries μ-entries Inv-slaves μ-slaves Inv-slots μ-slots
-add-at-2 c =
+add-at : tie.Need-add-at Inv-entries μ-entries Inv-slaves μ-slaves Inv-slots μ-slots
+add-at c =
     let turn = c .before .before .before .before .before .before in
-    let ready = turn .before .before .before .before .before .slots .inv .ready in
+    let ready = turn .before .before .before .before .before .before .before .slots .inv .ready in
     omega (arith, entry-within (ready .becomes) (turn .before .entries .inv) (turn .entries-test .taken), length-limit (ready .becomes))
-
-sub-left : tie.Need-sub-left Inv-entries μ-entries Inv-slaves μ-slaves Inv-slots μ-slots
-sub-left c = omega arith
 
 entries-less : tie.Need-entries-less Inv-entries μ-entries Inv-slaves μ-slaves Inv-slots μ-slots
 entries-less c = omega arith
@@ -121,14 +134,14 @@ entries-again c =
     let end = cover .before .before in
     let read = end .before in
     let turn = read .before .before in
-    searching-next (turn .before .before .before .before .before .slots .inv .ready .becomes) (turn .before .entries .inv) (turn .entries-test .taken) (read .entry-at .ensures) (end .is-end .ensures) (cover .before .if1 .left) (cover .is-covering .ensures) (c .if2 .left)
+    searching-next (turn .before .before .before .before .before .before .before .slots .inv .ready .becomes) (turn .before .entries .inv) (turn .entries-test .taken) (read .entry-at .ensures) (end .is-end .ensures) (cover .before .if1 .left) (cover .is-covering .ensures) (c .if2 .left)
 
 -- the three ways out of the search meet here
 turned : (c : tie.Left-entries Inv-entries μ-entries Inv-slaves μ-slaves Inv-slots μ-slots) →
-    Turned (decode (c .before .before .before .before .before .slots .file)) (c .before .before .before .before .before .before .before .before .before .before .before .before .args .round) (c .before .before .before .before .before .slots .slot) (c .before .before .before .slaves .slave) (c .entries-test .turn)
+    Turned (decode (c .before .before .before .before .before .before .before .slots .file)) (c .before .before .before .before .before .before .before .before .before .before .before .before .before .before .args .round) (c .before .before .before .before .before .before .before .slots .slot) (c .before .before .before .before .before .slaves .slave) (c .entries-test .turn)
 turned c =
     let search = c .before .entries .inv in
-    let accepted = c .before .before .before .before .before .slots .inv .ready .becomes in
+    let accepted = c .before .before .before .before .before .before .before .slots .inv .ready .becomes in
     ⊎-elim
     (λ w. turned-same (w .1) (searching-done search (w .0 .left)))
     (λ w.
@@ -166,9 +179,12 @@ slaves-less c = omega arith
 slaves-again : tie.Need-slaves-again Inv-entries μ-entries Inv-slaves μ-slaves Inv-slots μ-slots
 slaves-again c =
     let out = c .before .before .before in
-    let slave = out .before .before in
+    let opened = out .before .before in
+    let slave = opened .before .before in
     let ready = slave .before .before .before .slots .inv .ready in
-    hearing-next (slave .before .slaves .inv) (omega (arith, ready .all, slave .slaves-test .taken)) (turned out) (ready .becomes .legal .count) (c .before .before .bus-with .ensures) (c .before .heard-with .ensures) (c .store-place .ensures)
+    let before = slave .before .slaves .inv in
+    let few : slave .before .slaves .slave < length (decode (slave .before .before .before .slots .file) .slaves) = omega (arith, ready .all, slave .slaves-test .taken) in
+    (hearing-next (before .0) few (turned out) (ready .becomes .legal .count) (c .before .before .bus-with .ensures) (c .before .heard-with .ensures) (c .store-place .ensures), open-set (before .1) (slave .before .slaves .slave) (omega (arith, few, ready .becomes .legal .count)) (open-next (ready .becomes) (entries-open slave) (opened .open-from .ensures)))
 
 with-sender-requires :
     tie.Need-with-sender-requires Inv-entries μ-entries Inv-slaves μ-slaves Inv-slots μ-slots
@@ -179,7 +195,7 @@ store-requires :
 store-requires c κs =
     let heard = c .before .before .before .before in
     let ready = heard .before .before .before .slots .inv .ready in
-    aims-within (ready .becomes) (ready .all) (heard .before .slaves .inv) (omega (arith, ready .all, heard .slaves-test .left))
+    aims-within (ready .becomes) (ready .all) (heard .before .slaves .inv .0) (omega (arith, ready .all, heard .slaves-test .left))
 
 slice-write-buffer-2 :
     tie.Need-slice-write-buffer-2 Inv-entries μ-entries Inv-slaves μ-slaves Inv-slots μ-slots
@@ -199,8 +215,8 @@ slots-again c =
     let slot = heard .before .before in
     let run = slot .before .slots .inv in
     ⊎-elim
-    (λ w. running-heard run (slot .slots-test .taken) (heard .before .slaves .inv) (omega (arith, run .ready .all, heard .slaves-test .left)) (w .0 .taken) (w .8 ∙ w .1 .ensures) (w .7 ∙ w .4 .ensures))
-    (λ w. running-silent run (slot .slots-test .taken) (heard .before .slaves .inv) (omega (arith, run .ready .all, heard .slaves-test .left)) (w .0 .left) (w .2) (w .1))
+    (λ w. running-heard run (slot .slots-test .taken) (heard .before .slaves .inv .1) (heard .before .slaves .inv .0) (omega (arith, run .ready .all, heard .slaves-test .left)) (w .0 .taken) (w .8 ∙ w .1 .ensures) (w .7 ∙ w .4 .ensures))
+    (λ w. running-silent run (slot .slots-test .taken) (heard .before .slaves .inv .1) (heard .before .slaves .inv .0) (omega (arith, run .ready .all, heard .slaves-test .left)) (w .0 .left) (w .2) (w .1))
     (c .if3 .came)
 
 same-length : tie.Need-same-length Inv-entries μ-entries Inv-slaves μ-slaves Inv-slots μ-slots
@@ -226,18 +242,19 @@ run-slots-spec =
     slice-write-buffer
     slots-holds
     slaves-holds
-    mul-left
-    array-read-left
-    mul-at
-    array-read-at
-    add-at
+    mul-end
+    array-read-end
+    mul-open-from
+    array-read-open-from
+    open-from-requires
+    mul-starts
+    array-write-starts
     entries-holds
     entry-at-requires
     is-end-requires
     is-covering-requires
     turn-of-requires
-    add-at-2
-    sub-left
+    add-at
     entries-less
     entries-again
     bus-with-requires

@@ -1,0 +1,71 @@
+-- `cluster::multipartner::open_from` meets its contract. The invariant is `Opening`: the same is found from here as from the start.
+-- Assumes nothing.
+use Prim.Native.Nat.{_-_}
+use native.Mathlib.Omega.{arith}
+use borrow.Author.Needs.{needs}
+use Rattle.cluster.proofs.EntryLaws.{entry-short, past-not-yet, past-end, past-over}
+use Rattle.cluster.proofs.OpenLaws.{Opening, opening-start, opening-within, opening-next, opening-here, opening-done}
+use Rattle.cluster.proofs.multipartner.open_from.Statement.{statement}
+use Rattle.cluster.proofs.multipartner.open_from.Tie as tie
+
+abbrev Inv-loop : tie.InvT-loop
+Inv-loop file start end slot at₀ at = Opening file slot start end at
+
+abbrev μ-loop : tie.MeasureT-loop
+μ-loop file start end slot at₀ at = end - at
+
+loop-holds : tie.Need-loop-holds Inv-loop μ-loop
+loop-holds c = opening-start _ (c .before .pre)
+
+entry-at-requires : tie.Need-entry-at-requires Inv-loop μ-loop
+entry-at-requires c κs = opening-within (c .before .loop .inv) (c .loop-test .taken)
+
+add-if1 : tie.Need-add-if1 Inv-loop μ-loop
+add-if1 c = omega (arith, entry-short _ _ _ _ _ (c .before .entry-at .ensures))
+
+returns : tie.Need-returns Inv-loop μ-loop
+returns c =
+    let read = c .before .before in
+    opening-here (read .before .before .loop .inv) (read .before .loop-test .taken) (read .entry-at .ensures) (past-not-yet _ _ (c .if1 .taken))
+
+is-end-requires : tie.Need-is-end-requires Inv-loop μ-loop
+is-end-requires c κs = search needs
+
+returns-2 : tie.Need-returns-2 Inv-loop μ-loop
+returns-2 c =
+    let read = c .before .before .before .before in
+    opening-here (read .before .before .loop .inv) (read .before .loop-test .taken) (read .entry-at .ensures) (past-end _ _ (c .before .is-end .ensures) (c .if2 .taken))
+
+add-at : tie.Need-add-at Inv-loop μ-loop
+add-at c =
+    let turn = c .before .before .before .before .before in
+    omega (arith, opening-within (turn .before .loop .inv) (turn .loop-test .taken))
+
+loop-less : tie.Need-loop-less Inv-loop μ-loop
+loop-less c = omega arith
+
+loop-again : tie.Need-loop-again Inv-loop μ-loop
+loop-again c =
+    let past = c .before .before in
+    let read = past .before .before in
+    opening-next (read .before .before .loop .inv) (read .before .loop-test .taken) (read .entry-at .ensures) (past-over _ _ (c .before .is-end .ensures) (c .if2 .left) (past .if1 .left))
+
+returns-3 : tie.Need-returns-3 Inv-loop μ-loop
+returns-3 c = opening-done (c .before .loop .inv) (c .loop-test .left)
+
+pub open-from-spec : {M : Type 1} → statement M
+open-from-spec =
+    tie.close
+    (tie.spec
+    Inv-loop
+    μ-loop
+    loop-holds
+    entry-at-requires
+    add-if1
+    returns
+    is-end-requires
+    returns-2
+    add-at
+    loop-less
+    loop-again
+    returns-3)
