@@ -109,26 +109,26 @@ covers-late e slot h = covers-test (e .slot) (e .length) slot h ∙ sym (both-ne
 -- ---- the entries that can be passed over
 
 -- an entry's last slot is small
-pub entry-short : (b₀ b₁ b₂ b₃ : ℕ) (e : Code.Entry) → entryFrom e ≡ evaluated (entryOf b₀ b₁ b₂ b₃) → e .slot + e .length ≤ 79
+pub entry-short : (b₀ b₁ b₂ b₃ : ℕ) (e : Code.Entry) → entryFrom e ≡ evaluated (entryOf b₀ b₁ b₂ b₃) → (1 ≤ e .length) × (e .slot + e .length ≤ 79)
 unfolding entryFrom evaluated entryOf
 entry-short b₀ b₁ b₂ b₃ e is =
     let start : e .slot ≡ b₃ % 64 = ap (λ (x : Entry). x .start) is in
     let count : e .length ≡ b₂ % 16 + 1 = ap (λ (x : Entry). x .length) is in
-    omega arith
+    (omega arith, omega arith)
 
-module _ (e : Code.Entry) (slot : ℕ) where
-  pub past-not-yet : slot < e .slot + e .length → isPast (entryFrom e) slot ≡ false
+module _ (e : Code.Entry) (slot : ℕ) (some : 1 ≤ e .length) where
+  pub past-not-yet : slot ≤ e .slot + (e .length - 1) → isPast (entryFrom e) slot ≡ false
   unfolding isPast entryFrom
-  past-not-yet l = both-false-left _ (lt-leb _ _ l)
+  past-not-yet l = both-false-left _ (lt-leb _ _ (omega arith))
 
   module _ {t : Bool} (end : t ≡ ends (entryFrom e .operation)) where
     pub past-end : t ≡ true → isPast (entryFrom e) slot ≡ false
     unfolding isPast entryFrom
     past-end stop = both-false-right _ (ap not (sym end ∙ stop))
 
-    pub past-over : t ≡ false → e .slot + e .length ≤ slot → isPast (entryFrom e) slot ≡ true
+    pub past-over : t ≡ false → e .slot + (e .length - 1) < slot → isPast (entryFrom e) slot ≡ true
     unfolding isPast entryFrom
-    past-over goes l = both-true (le-leb _ _ l) (ap not (sym end ∙ goes))
+    past-over goes l = both-true (le-leb _ _ (omega arith)) (ap not (sym end ∙ goes))
 
 module _ (e : Entry) (slot : ℕ) (past : isPast e slot ≡ true) where
   pub past-goes-on : ends (e .operation) ≡ false

@@ -92,7 +92,7 @@ fn open_from(file: &[u8], start: usize, end: usize, slot: usize) -> usize
     let mut at = start;
     while at < end {
         let entry = entry_at(file, at);
-        if slot < entry.slot + entry.length {
+        if slot <= entry.slot + (entry.length - 1) {
             return at;
         }
         if is_end(entry) {

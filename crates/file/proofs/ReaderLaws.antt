@@ -123,29 +123,34 @@ search-next w f n d (suc k) h e =
     rw (ne-eqb (getD f d 0) n e, same)
 
 -- what the loop along a directory keeps
-pub record Searching (f : List ℕ) (n d k entry left : ℕ) : Type 0 where
-  pub entries : entry + 4 * left ≤ length f
+pub record Searching (f : List ℕ) (n d k entry : ℕ) : Type 0 where
+  pub left : ℕ
+  pub at : entry + 4 * left ≡ d + 4 * k
   pub same : searchDirectory 2 f n entry left ≡ searchDirectory 2 f n d k
 
-pub searching-start : {f : List ℕ} {d k : ℕ} (n : ℕ) → d + 4 * k ≤ length f → Searching f n d k d k
-searching-start n h = record { entries = h; same = refl }
+pub searching-start : {f : List ℕ} (d k n : ℕ) → Searching f n d k d
+searching-start d k n = record { left = k; at = refl; same = refl }
 
-module _ {f : List ℕ} {n d k entry left b : ℕ} (h : Searching f n d k entry left) (more : 0 < left) (is : ByteAt f entry b) where
+module _ {f : List ℕ} {n d k entry b : ℕ} (h : Searching f n d k entry) (more : entry < d + 4 * k) (is : ByteAt f entry b) where
+  some-left : 0 < h .left
+  some-left = omega (arith, h .at)
+
   pub searching-here : {last place : ℕ} → b ≡ n → ByteAt f (entry + 1) last → NumberAt f (entry + 2) 2 place → fileAt place (4 * (last + 1)) ≡ searchDirectory 2 f n d k
   unfolding offsetAt fileSize
-  searching-here here l p = rw (l .is, p .is) (sym (search-here 2 f n entry left more (sym (is .is) ∙ here)) ∙ h .same)
+  searching-here here l p = rw (l .is, p .is) (sym (search-here 2 f n entry (h .left) some-left (sym (is .is) ∙ here)) ∙ h .same)
 
-  pub searching-next : (b ≡ n → ⊥) → Searching f n d k (entry + 4) (left - 1)
+  pub searching-next : (b ≡ n → ⊥) → Searching f n d k (entry + 4)
   searching-next other =
       record {
-        entries = omega (arith, h .entries);
-        same = sym (search-next 2 f n entry left more (λ q. other (is .is ∙ q))) ∙ h .same;
+        left = h .left - 1;
+        at = omega (arith, h .at);
+        same = sym (search-next 2 f n entry (h .left) some-left (λ q. other (is .is ∙ q))) ∙ h .same;
       }
 
-pub searching-done : {f : List ℕ} {n d k entry left : ℕ} → Searching f n d k entry left → left ≤ 0 → FoundFile.missing ≡ searchDirectory 2 f n d k
+pub searching-done : {f : List ℕ} {n d k entry : ℕ} → Searching f n d k entry → d + 4 * k ≤ entry → FoundFile.missing ≡ searchDirectory 2 f n d k
 unfolding searchDirectory
-searching-done {left = left} h none =
-    let z : left ≡ 0 = omega arith in
+searching-done h none =
+    let z : h .left ≡ 0 = omega (arith, h .at) in
     rw z at (h .same)
 
 -- ---- a directory that was walked states each of its files

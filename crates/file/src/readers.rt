@@ -74,19 +74,16 @@ fn search_directory(file: &[u8], directory: usize, count: usize, number: usize) 
     requires { ⌜ (directory + 4 * count ≤ length (now file)) × (length (now file) ≤ 32768) ⌝ }
     ensures { λ r. ⌜ foundFile r ≡ searchDirectory 2 (now (file .entry)) number directory count ⌝ }
 {
+    let end = directory + 4 * count;
     let mut entry = directory;
-    let mut left = count;
-    while 0 < left {
+    while entry < end {
         if byte_at(file, entry) == number {
             let last = byte_at(file, entry + 1);
             let place = offset_at(file, entry + 2);
-            return FilePlace::Bytes(FileBytes {
-                place,
-                size: 4 * (last + 1),
-            });
+            let size = 4 * (last + 1);
+            return FilePlace::Bytes(FileBytes { place, size });
         }
         entry = entry + 4;
-        left = left - 1;
     }
     FilePlace::NoFile
 }

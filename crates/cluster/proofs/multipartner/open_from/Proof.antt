@@ -20,13 +20,16 @@ loop-holds c = opening-start _ (c .before .pre)
 entry-at-requires : tie.Need-entry-at-requires Inv-loop μ-loop
 entry-at-requires c κs = opening-within (c .before .loop .inv) (c .loop-test .taken)
 
+sub-if1 : tie.Need-sub-if1 Inv-loop μ-loop
+sub-if1 c = omega (arith, entry-short _ _ _ _ _ (c .before .entry-at .ensures) .0)
+
 add-if1 : tie.Need-add-if1 Inv-loop μ-loop
-add-if1 c = omega (arith, entry-short _ _ _ _ _ (c .before .entry-at .ensures))
+add-if1 c = omega (arith, entry-short _ _ _ _ _ (c .before .entry-at .ensures) .1)
 
 returns : tie.Need-returns Inv-loop μ-loop
 returns c =
     let read = c .before .before in
-    opening-here (read .before .before .loop .inv) (read .before .loop-test .taken) (read .entry-at .ensures) (past-not-yet _ _ (c .if1 .taken))
+    opening-here (read .before .before .loop .inv) (read .before .loop-test .taken) (read .entry-at .ensures) (past-not-yet _ _ (entry-short _ _ _ _ _ (read .entry-at .ensures) .0) (c .if1 .taken))
 
 is-end-requires : tie.Need-is-end-requires Inv-loop μ-loop
 is-end-requires c κs = search needs
@@ -34,7 +37,7 @@ is-end-requires c κs = search needs
 returns-2 : tie.Need-returns-2 Inv-loop μ-loop
 returns-2 c =
     let read = c .before .before .before .before in
-    opening-here (read .before .before .loop .inv) (read .before .loop-test .taken) (read .entry-at .ensures) (past-end _ _ (c .before .is-end .ensures) (c .if2 .taken))
+    opening-here (read .before .before .loop .inv) (read .before .loop-test .taken) (read .entry-at .ensures) (past-end _ _ (entry-short _ _ _ _ _ (read .entry-at .ensures) .0) (c .before .is-end .ensures) (c .if2 .taken))
 
 add-at : tie.Need-add-at Inv-loop μ-loop
 add-at c =
@@ -48,7 +51,7 @@ loop-again : tie.Need-loop-again Inv-loop μ-loop
 loop-again c =
     let past = c .before .before in
     let read = past .before .before in
-    opening-next (read .before .before .loop .inv) (read .before .loop-test .taken) (read .entry-at .ensures) (past-over _ _ (c .before .is-end .ensures) (c .if2 .left) (past .if1 .left))
+    opening-next (read .before .before .loop .inv) (read .before .loop-test .taken) (read .entry-at .ensures) (past-over _ _ (entry-short _ _ _ _ _ (read .entry-at .ensures) .0) (c .before .is-end .ensures) (c .if2 .left) (past .if1 .left))
 
 returns-3 : tie.Need-returns-3 Inv-loop μ-loop
 returns-3 c = opening-done (c .before .loop .inv) (c .loop-test .left)
@@ -61,6 +64,7 @@ open-from-spec =
     μ-loop
     loop-holds
     entry-at-requires
+    sub-if1
     add-if1
     returns
     is-end-requires

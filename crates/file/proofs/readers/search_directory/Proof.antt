@@ -1,5 +1,6 @@
 -- `file::readers::search_directory` meets its contract: what is left of the search is what the whole search gives.
 -- Assumes nothing.
+use Prim.Native.Nat.{_-_}
 use borrow.Author.Needs.{needs}
 use native.Mathlib.Omega.{arith}
 use Rattle.file.specs.Answers.{foundFile}
@@ -8,13 +9,19 @@ use Rattle.file.proofs.readers.search_directory.Statement.{statement}
 use Rattle.file.proofs.readers.search_directory.Tie as tie
 
 abbrev Inv-loop : tie.InvT-loop
-Inv-loop file directory count number entry₀ left₀ entry left = Searching file number directory count entry left
+Inv-loop file directory count number end entry₀ entry = Searching file number directory count entry
 
 abbrev μ-loop : tie.MeasureT-loop
-μ-loop file directory count number entry₀ left₀ entry left = left
+μ-loop file directory count number end entry₀ entry = end - entry
+
+mul-end : tie.Need-mul-end Inv-loop μ-loop
+mul-end c = search needs
+
+add-end : tie.Need-add-end Inv-loop μ-loop
+add-end c = search needs
 
 loop-holds : tie.Need-loop-holds Inv-loop μ-loop
-loop-holds c = search (needs, searching-start)
+loop-holds c = searching-start _ _ _
 
 byte-at-requires : tie.Need-byte-at-requires Inv-loop μ-loop
 byte-at-requires c κs = omega arith
@@ -31,11 +38,11 @@ add-offset-at c = omega arith
 offset-at-requires : tie.Need-offset-at-requires Inv-loop μ-loop
 offset-at-requires c κs = omega arith
 
-add-t11 : tie.Need-add-t11 Inv-loop μ-loop
-add-t11 c = omega arith
+add-size : tie.Need-add-size Inv-loop μ-loop
+add-size c = omega arith
 
-mul-t12 : tie.Need-mul-t12 Inv-loop μ-loop
-mul-t12 c = omega arith
+mul-size : tie.Need-mul-size Inv-loop μ-loop
+mul-size c = omega arith
 
 returns : tie.Need-returns Inv-loop μ-loop
 unfolding foundFile
@@ -45,9 +52,6 @@ returns c =
 
 add-entry : tie.Need-add-entry Inv-loop μ-loop
 add-entry c = omega arith
-
-sub-left : tie.Need-sub-left Inv-loop μ-loop
-sub-left c = omega arith
 
 loop-less : tie.Need-loop-less Inv-loop μ-loop
 loop-less c = omega arith
@@ -65,17 +69,18 @@ search-directory-spec =
     (tie.spec
     Inv-loop
     μ-loop
+    mul-end
+    add-end
     loop-holds
     byte-at-requires
     add-byte-at
     byte-at-requires-2
     add-offset-at
     offset-at-requires
-    add-t11
-    mul-t12
+    add-size
+    mul-size
     returns
     add-entry
-    sub-left
     loop-less
     loop-again
     returns-2)
