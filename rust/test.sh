@@ -121,6 +121,15 @@ rust_example() {
     fi
 }
 
+# The README shows, as a block that is set in, what a program prints.
+readme_shows() {
+    if [[ $'\n'$(sed -n 's/^    //p' README.md)$'\n' == *$'\n'"$(cat "$1")"$'\n'* ]]; then
+        pass 1
+    else
+        fail "README does not show $1"
+    fi
+}
+
 # The tests of all crates, the wrapper's among them; each test counts.
 cargo_tests() {
     if ! (cd rust && cargo test --offline --release -j1 --workspace --no-fail-fast) >"$work/tests" 2>&1; then
@@ -150,6 +159,8 @@ require
 listing_program
 c_program
 rust_example
+readme_shows c/expected.txt
+readme_shows crates/listing/stdout
 cargo_tests
 comparison "$@"
 finish
