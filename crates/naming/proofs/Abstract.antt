@@ -142,7 +142,7 @@ sendable-at {value = value} (inner at-high) i = let k : value / half < half = om
 sendable-at {value = value} (inner at-low) i = let k : value % half < half = omega arith in of-low k
 sendable-at at-baptize i = of-baptize
 
-tie-sendable : {names : List ℕ} {vs : List SlaveView} {p : Position} {a : Account} → Tie names vs p a → p .mark ≡ running → Sendable (operationOf names p)
+pub tie-sendable : {names : List ℕ} {vs : List SlaveView} {p : Position} {a : Account} → Tie names vs p a → p .mark ≡ running → Sendable (operationOf names p)
 tie-sendable (going i) m = rw (operation-here i) (sendable-at (i .legal) i)
 tie-sendable (over o) m = absurd (omega (arith, o .some))
 

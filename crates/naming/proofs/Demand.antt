@@ -40,7 +40,7 @@ given-count [] ns = omega arith
 given-count (p ∷ ps) [] = omega arith
 given-count (p ∷ ps) (n ∷ ns) = ap suc (given-count ps ns) ∙ sym (suc-min-suc (length ps) (length ns))
 
-unnamed-most : (ss : List Named) → length (unnamedAmong ss) ≤ length ss
+pub unnamed-most : (ss : List Named) → length (unnamedAmong ss) ≤ length ss
 unfolding unnamedAmong
 unnamed-most [] = omega arith
 unnamed-most (s ∷ ss) =
@@ -50,7 +50,7 @@ unnamed-most (s ∷ ss) =
 
 module _ (slaves : List Named) (names : List ℕ) where
   -- its rounds, its comparisons and the names it comes to
-  rounds-whole : due (namesHeld slaves) names (falling (unnamedAmong slaves)) ≡ roundsFor slaves names
+  pub rounds-whole : due (namesHeld slaves) names (falling (unnamedAmong slaves)) ≡ roundsFor slaves names
   unfolding roundsFor
   rounds-whole = due-rounds (namesHeld slaves) names (falling (unnamedAmong slaves)) ∙ rw (length-falling (unnamedAmong slaves))
 
@@ -60,13 +60,13 @@ module _ (slaves : List Named) (names : List ℕ) where
   comparisons-whole = due-comparisons (namesHeld slaves) names (falling (unnamedAmong slaves)) ∙ rw (length-falling (unnamedAmong slaves))
 
   -- the tally that it keeps
-  tally-start : Slaves slaves → Names names → Tally (roundsFor slaves names) (comparisonsFor slaves names) (namesAfter slaves names) (accountOf slaves names)
+  pub tally-start : Slaves slaves → Names names → Tally (roundsFor slaves names) (comparisonsFor slaves names) (namesAfter slaves names) (accountOf slaves names)
   unfolding accountOf finally namesAfter
   tally-start s n =
       next-pass _ _ _ names (falling (unnamedAmong slaves)) slaves (namesHeld slaves) 0 0
       (zero-add _ ∙ rounds-whole) (zero-add _ ∙ comparisons-whole) refl (start-facts slaves names s n .falls)
 
-  rounds-few : Names names → namingRounds * length slaves + endingRounds + 256 < countLimit →
+  pub rounds-few : Names names → namingRounds * length slaves + endingRounds + 256 < countLimit →
       roundsFor slaves names < countLimit
   rounds-few n few =
       let l : length names ≤ 256 = distinct-length 256 (no-repeat names (n .different)) (n .bytes) in
@@ -78,7 +78,7 @@ module _ (slaves : List Named) (names : List ℕ) where
         unnamed-most slaves,
       )
 
-  comparisons-few : namingRounds * length slaves + endingRounds + 256 < countLimit →
+  pub comparisons-few : namingRounds * length slaves + endingRounds + 256 < countLimit →
       comparisonsFor slaves names + namingComparisons < countLimit
   comparisons-few few =
       omega (

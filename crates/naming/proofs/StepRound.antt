@@ -45,7 +45,7 @@ round-fits file frame buffer good long fits =
     nine b e = first-next (record { number = 9; holds = b }) [] e ∙ first-end
 
 -- the buffer of an accepted frame stays as long
-buffer-long : (e : Effect) (firework : ℕ) (buffer : List ℕ) → shortAnswer buffer ≡ false → shortAnswer (bufferBy e firework buffer) ≡ false
+pub buffer-long : (e : Effect) (firework : ℕ) (buffer : List ℕ) → shortAnswer buffer ≡ false → shortAnswer (bufferBy e firework buffer) ≡ false
 unfolding shortAnswer bufferBy
 buffer-long e firework buffer long =
     let l : slots ≤ length buffer = ltb-false (length buffer) slots long in

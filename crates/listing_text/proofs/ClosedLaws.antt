@@ -1,0 +1,306 @@
+-- The listing of an accepted file in closed form: the run ends within the steps that the listing makes, each line has the name, the
+-- physical name of the slave that takes it and 65 comparisons, and the totals are the closed figures. The file is left with the names
+-- that the run gives.
+-- Assumes nothing.
+use Prim.Native.Nat.{ℕ, zero, suc, _+_, _-_, _*_, _≤_, _<_}
+use mathlib.Core.Path.{_≡_, refl, sym, ap, _∙_}
+use mathlib.Core.List.{List, [], _∷_, _++_, append-nil, append-assoc}
+use mathlib.Core.Bool.{true, false, cond}
+use native.Mathlib.Omega.{arith}
+use native.Mathlib.Nat.{zero-add}
+use lib.ListN.{length, getD, drop, length-map}
+use lib.Seq.{getD-drop}
+use lib.Dec.{eqb}
+use borrow.Author.Tests.{eq-eqb, ne-eqb, eqb-true, eqb-false}
+use Rattle.file.specs.Bytes.{Bytes}
+use Rattle.file.specs.Decode.{decode}
+use Rattle.file.specs.Grounds.{fileGround, loadGround}
+use Rattle.file.specs.Legal.{Legal}
+use Rattle.file.proofs.Accepted.{accepted-legal}
+use Rattle.file.proofs.Order.{byCase, clash, both-true, both-false-right}
+use Rattle.cluster.specs.Grounds.{shortAnswer}
+use Rattle.naming.specs.View.{SlaveView, sent}
+use Rattle.naming.specs.Run.{Position, running, fresh, Place, operationOf, countLimit, lastStep}
+use Rattle.naming.specs.Step.{Stepping, stepGround, stepOn, roundSent}
+use Rattle.naming.specs.Account.{Named, Account, step, shortBuffer, namesOf, namesIn, accountOf, accountCall, accountAfter, oneRound, notYet, comparisonsOf, comparisonsAfter, falling, unnamedAmong, namesHeld, namingRounds, namingComparisons, endingRounds}
+use Rattle.naming.specs.Figures.{roundsFor, comparisonsFor, namesAfter}
+use Rattle.naming.specs.Demand.{State, startOn, callOn, permittedCall, of-step}
+use Rattle.naming.proofs.Places.{LegalPlace, inner, at-baptize, step-lt}
+use Rattle.naming.proofs.Search.{cleared-none}
+use Rattle.naming.proofs.Simulation.{Found, At, Tie, going, over, fresh-at}
+use Rattle.naming.proofs.Closed.{due-bound}
+use Rattle.naming.proofs.Sorted.{length-falling}
+use Rattle.naming.proofs.Start.{Slaves, start-facts}
+use Rattle.naming.proofs.Abstract.{Between, all-made, one-more, runCalls, all-calls, stays-fit, tie-agree, tie-sendable, tally-running, tally-ended}
+use Rattle.naming.proofs.Demand.{unnamed-most, rounds-whole, tally-start, rounds-few, comparisons-few}
+use Rattle.naming.proofs.FromFile.{names-of-view, legal-slaves, legal-few}
+use Rattle.naming.proofs.StepRound.{buffer-long, round-is}
+use Rattle.naming.proofs.ByteLaws.{Good, viewIn, Allowed, byte-laws, step-ground}
+use Rattle.naming.proofs.StepLaws.{step-made}
+use Rattle.listing_text.specs.Text.{nameLine, totalsLine}
+use Rattle.listing_text.specs.Listing.{allNames, Tour, isMade, givesName, silently, withName, turn, turns, mostTurns, startTour, wholeTour, withTotals, listing, fileListed}
+use Rattle.listing_text.specs.Closed.{lines, namesGiven, closedListing}
+use Rattle.listing_text.proofs.TourLaws.{length-names}
+use Rattle.listing_text.proofs.GivingLaws.{names-accepted, toGive, NoneGiven, OneGiven, Gives, none-given, one-given, RoundMade, nothing-left, account-round}
+
+-- ---- where the run is, by the account
+
+-- the place of the pass, the names left, and before the last round of a pass the value, which is the greatest waiting name
+record Here (names : List ℕ) (p : Position) (a : Account) : Type 0 where
+  place : p .step ≡ a .k
+  left : drop (p .index) names ≡ a .left
+  found : p .step ≡ lastStep → p .value ≡ getD (a .waiting) 0 0
+
+greatest : (value : ℕ) (ws : List ℕ) → Found 0 value ws → value ≡ getD ws 0 0
+greatest value [] f = absurd f
+greatest value (p ∷ ps) f = f ∙ cleared-none p
+
+last-found :
+    {names : List ℕ} {vs : List SlaveView} {l : Place} {index step value rounds comparisons n done : ℕ} {ns ws held : List ℕ} {slaves : List Named} →
+    LegalPlace l → At names vs l index step value rounds comparisons n ns ws slaves held done → step ≡ lastStep → value ≡ getD ws 0 0
+last-found (inner h) i e = absurd (omega (arith, step-lt h, i .place))
+last-found {value = value} {ws = ws} at-baptize i e = greatest value ws (i .known .1)
+
+tie-here : {names : List ℕ} {vs : List SlaveView} {p : Position} {a : Account} → Tie names vs p a → p .mark ≡ running → Here names p a
+tie-here (going i) m = record { place = refl; left = i .here; found = last-found (i .legal) i }
+tie-here (over o) m = absurd (omega (arith, o .some))
+
+first-left : (names : List ℕ) (index : ℕ) {left : List ℕ} → drop index names ≡ left → getD names index 0 ≡ getD left 0 0
+first-left names index e =
+    let z : index + 0 ≡ index = omega arith in
+    rw (← z, ← getD-drop index names 0 0, e)
+
+-- ---- one step
+
+-- file and run beside an account, over the names of the listing and with the closed figures of the slaves at the start
+abbrev Tied : List Named → List ℕ → Position → Account → Type 0
+Tied slaves file p a =
+    Between State allNames viewIn Good (roundsFor slaves allNames) (comparisonsFor slaves allNames) (namesAfter slaves allNames) (startOn file, p) a
+
+-- a tour beside an account: the lines so far and those of the names still to be given are the lines of all names given
+record Beside (slaves : List Named) (t : Tour) (a : Account) : Type 0 where
+  tied : Tied slaves (t .file) (t .run) a
+  long : shortBuffer (t .buffer) ≡ false
+  begun : t .begun ≡ a .done
+  told : t .lines ++ lines (toGive a) ≡ lines (namesGiven slaves)
+  counted : t .given + length (toGive a) ≡ length (namesGiven slaves)
+  spent : (a .end ≡ notYet → ⊥) → toGive a ≡ []
+
+-- what a step of a running tour leaves
+record Steps (slaves : List Named) (s : Stepping × Position × List ℕ × List ℕ) (b : Account) : Type 0 where
+  is-made : isMade (s .0) ≡ true
+  tied : Tied slaves (s .3) (s .1) b
+  long : shortBuffer (s .2) ≡ false
+
+-- the tour behind a step
+abbrev tourBehind : Tour → Stepping × Position × List ℕ × List ℕ → Tour
+tourBehind t s = cond (givesName (s .0) (t .run)) (withName t s) (silently t s)
+
+module _ (slaves : List Named) (few : namingRounds * length slaves + endingRounds + 256 < countLimit) where
+  module _
+      (file : List ℕ) (p : Position) (buffer : List ℕ) {a : Account} (h : Tied slaves file p a) (long : shortBuffer buffer ≡ false)
+      (m : p .mark ≡ running) where
+    ground : stepGround file p allNames buffer ≡ 0
+    unfolding startOn
+    ground =
+        step-ground allNames names-accepted (startOn file) p buffer (h .good) long
+        (stays-fit State allNames viewIn Good (Allowed allNames) (callOn allNames) (byte-laws allNames names-accepted) _ _ _
+        (rounds-few slaves allNames names-accepted few) (comparisons-few slaves allNames few) (startOn file, p) a h)
+
+    allowed : Allowed allNames (startOn file) p (step buffer)
+    unfolding permittedCall startOn
+    allowed = record { bytes = of-step; may = rw ground }
+
+    tied-on : Tied slaves (stepOn file p allNames buffer .3) (stepOn file p allNames buffer .1) (oneRound a)
+    unfolding runCalls accountAfter accountCall callOn startOn
+    tied-on =
+        rw long at
+        (all-calls State allNames viewIn Good (Allowed allNames) (callOn allNames) (byte-laws allNames names-accepted) _ _ _
+        (rounds-few slaves allNames names-accepted few) (comparisons-few slaves allNames few) (startOn file, p) a
+        (step buffer ∷ []) h (one-more allowed all-made))
+
+    long-on : shortBuffer (roundSent file (sent (operationOf allNames p)) buffer .1) ≡ false
+    unfolding startOn shortBuffer shortAnswer
+    long-on =
+        rw (round-is file buffer (h .good .bytes) (h .good .accepted) long (tie-sendable (h .tie) m))
+        (buffer-long _ _ buffer long)
+
+    steps : Steps slaves (stepOn file p allNames buffer) (oneRound a)
+    steps =
+        let e = step-made file p allNames buffer ground m in
+        record { is-made = rw e (unfold isMade in refl); tied = tied-on; long = rw e long-on }
+
+  module _
+      {t : Tour} {a b : Account} (h : Beside slaves t a) (here : Here allNames (t .run) a) (r : RoundMade a b)
+      {s : Stepping × Position × List ℕ × List ℕ} (st : Steps slaves s b) where
+    -- no line
+    told-silently : NoneGiven a b → Beside slaves (tourBehind t s) b
+    unfolding givesName silently
+    told-silently g =
+        let no : t .run .step ≡ lastStep → ⊥ = λ l. g .within (sym (here .place) ∙ l) in
+        rw (both-false-right (isMade (s .0)) (ne-eqb (t .run .step) lastStep no))
+        (record {
+          tied = st .tied;
+          long = st .long;
+          begun = h .begun ∙ sym (g .compared);
+          told = rw (g .same) (h .told);
+          counted = rw (g .same) (h .counted);
+          spent = r .spent;
+        })
+
+    -- between passes the comparisons are those of the passes done
+    all-compared : b .k ≡ 0 → s .1 .comparisons ≡ b .done
+    unfolding comparisonsOf comparisonsAfter
+    all-compared z = tie-agree (st .tied .tie) .comparisons ∙ rw z (omega arith)
+
+    -- the line is that of the name given
+    line : OneGiven a b →
+        nameLine (getD allNames (t .run .index) 0) (t .run .value) (s .1 .comparisons - t .begun) ++ lines (toGive b) ≡ lines (toGive a)
+    unfolding lines
+    line g =
+        let c : s .1 .comparisons - t .begun ≡ namingComparisons = omega (arith, all-compared (g .over), g .compared, h .begun) in
+        rw (first-left allNames (t .run .index) (here .left), here .found (here .place ∙ g .last), c, g .next)
+
+    told-named : OneGiven a b → Beside slaves (tourBehind t s) b
+    unfolding givesName withName
+    told-named g =
+        rw (both-true (st .is-made) (eq-eqb (t .run .step) lastStep (here .place ∙ g .last)))
+        (record {
+          tied = st .tied;
+          long = st .long;
+          begun = all-compared (g .over);
+          told = append-assoc (t .lines) _ (lines (toGive b)) ∙ ap (λ (x : List ℕ). t .lines ++ x) (line g) ∙ h .told;
+          counted = omega (arith, h .counted, ap length (g .next));
+          spent = r .spent;
+        })
+
+    told-round : Gives a b → Beside slaves (tourBehind t s) b
+    told-round (none-given g) = told-silently g
+    told-round (one-given g) = told-named g
+
+  turn-beside : {t : Tour} {a : Account} → Beside slaves t a → t .run .mark ≡ running → RoundMade a (oneRound a) → Beside slaves (turn t) (oneRound a)
+  unfolding turn
+  turn-beside {t} h m r =
+      told-round h (tie-here (h .tied .tie) m) r (steps (t .file) (t .run) (t .buffer) (h .tied) (h .long) m) (r .gives)
+
+-- ---- all steps
+
+-- what the tour comes to
+record Complete (slaves : List Named) (t : Tour) : Type 0 where
+  ended : t .run .mark ≡ running → ⊥
+  told : t .lines ≡ lines (namesGiven slaves)
+  counted : t .given ≡ length (namesGiven slaves)
+  compared : t .run .comparisons ≡ comparisonsFor slaves allNames
+  rounds : t .run .rounds ≡ roundsFor slaves allNames
+  named : namesIn (decode (t .file)) ≡ namesAfter slaves allNames
+
+module _ (slaves : List Named) (few : namingRounds * length slaves + endingRounds + 256 < countLimit) where
+  complete : {t : Tour} {a : Account} → Beside slaves t a → (t .run .mark ≡ running → ⊥) → Complete slaves t
+  unfolding comparisonsOf viewIn startOn lines
+  complete {t} {a} h n =
+      let g = tie-agree (h .tied .tie) in
+      let over : a .end ≡ notYet → ⊥ = λ e. n (g .end ∙ e) in
+      let d = tally-ended (h .tied .tally) over in
+      let none : toGive a ≡ [] = h .spent over in
+      record {
+        ended = n;
+        told = sym (append-nil (t .lines)) ∙ ap (λ (x : List Named). t .lines ++ lines x) (sym none) ∙ h .told;
+        counted = omega (arith, h .counted, ap length none);
+        compared = g .comparisons ∙ d .comparisons;
+        rounds = g .rounds ∙ d .all;
+        named = sym (names-of-view (decode (t .file))) ∙ g .names ∙ d .names;
+      }
+
+  -- as many steps as rounds are due suffice
+  all-turns : (n : ℕ) (t : Tour) (a : Account) → Beside slaves t a → roundsFor slaves allNames ≤ a .rounds + n → Complete slaves (turns n t)
+  unfolding turns
+  all-turns zero t a h e =
+      complete h (λ m. let s = tally-running (h .tied .tally) (sym (tie-agree (h .tied .tie) .end) ∙ m) .rounds in omega arith)
+  all-turns (suc n) t a h e =
+      byCase (eqb (t .run .mark) running)
+      (λ y.
+      let m : t .run .mark ≡ running = eqb-true _ _ y in
+      let r = account-round (h .tied .tally) (sym (tie-agree (h .tied .tie) .end) ∙ m) in
+      rw y (all-turns n (turn t) (oneRound a) (turn-beside slaves few h m r) (omega (arith, r .rounds))))
+      (λ y. rw y (complete h (eqb-false _ _ y)))
+
+-- ---- the whole listing
+
+module _ (file : List ℕ) (b : Bytes file) (g : fileGround file ≡ 0) where
+  abbrev slaves : List Named
+  slaves = namesIn (decode file)
+
+  legal : Legal (decode file)
+  legal = accepted-legal file b g
+
+  start-tied : Tied slaves file (fresh allNames) (accountOf slaves allNames)
+  unfolding startOn viewIn accountOf
+  start-tied =
+      let s : Slaves slaves = legal-slaves (decode file) legal in
+      record {
+        good = record { bytes = b; accepted = g; apart = λ h. clash h refl };
+        tie =
+            fresh-at (viewIn (startOn file)) allNames (falling (unnamedAmong slaves)) slaves (namesHeld slaves)
+            (start-facts slaves allNames s names-accepted) (names-of-view (decode file));
+        tally = tally-start slaves allNames s names-accepted;
+      }
+
+  start-beside : Beside slaves (startTour file) (accountOf slaves allNames)
+  unfolding startTour accountOf toGive namesGiven lines shortBuffer
+  start-beside =
+      record {
+        tied = start-tied;
+        long = refl;
+        begun = refl;
+        told = refl;
+        counted = zero-add _;
+        spent = nothing-left (falling (unnamedAmong slaves)) (namesHeld slaves) allNames;
+      }
+
+  -- a file has at most 32 slaves, so 200 rounds for each, 4 that end the run and one for each of 254 names are enough
+  rounds-most : roundsFor slaves allNames ≤ mostTurns
+  unfolding namesIn
+  rounds-most =
+      let m : length (decode file .slaves) ≤ 32 = legal .count in
+      omega (
+        arith,
+        sym (rounds-whole slaves allNames),
+        due-bound (namesHeld slaves) allNames (falling (unnamedAmong slaves)),
+        length-falling (unnamedAmong slaves),
+        unnamed-most slaves,
+        length-map (decode file .slaves) namesOf,
+        length-names,
+      )
+
+  whole-tour : Complete slaves (wholeTour file)
+  unfolding wholeTour
+  whole-tour =
+      all-turns slaves (legal-few (decode file) legal) mostTurns (startTour file) (accountOf slaves allNames) start-beside
+      (omega (arith, rounds-most))
+
+-- lines and totals
+same-text :
+    {l m : List ℕ} {given given′ comparisons comparisons′ rounds rounds′ : ℕ} → l ≡ m → given ≡ given′ → comparisons ≡ comparisons′ →
+    rounds ≡ rounds′ → l ++ totalsLine given comparisons rounds ≡ m ++ totalsLine given′ comparisons′ rounds′
+same-text l g c r = rw (l, g, c, r)
+
+accepted-test : (file : List ℕ) → fileGround file ≡ 0 → eqb (loadGround file) 0 ≡ true
+unfolding loadGround
+accepted-test file g = eq-eqb (fileGround file) 0 g
+
+-- The listing of every accepted file.
+pub listing-closed : (file : List ℕ) → Bytes file → fileGround file ≡ 0 → listing file ≡ closedListing (namesIn (decode file))
+unfolding listing withTotals closedListing
+listing-closed file b g =
+    let t = whole-tour file b g in
+    rw (accepted-test file g) (same-text (t .told) (t .counted) (t .compared) (t .rounds))
+
+-- The steps that the listing makes at most suffice: the run has ended.
+pub listing-ended : (file : List ℕ) → Bytes file → fileGround file ≡ 0 → wholeTour file .run .mark ≡ running → ⊥
+listing-ended file b g = whole-tour file b g .ended
+
+-- The slaves' names in the file that the listing leaves.
+pub listing-names :
+    (file : List ℕ) → Bytes file → fileGround file ≡ 0 → namesIn (decode (fileListed file)) ≡ namesAfter (namesIn (decode file)) allNames
+unfolding fileListed
+listing-names file b g = rw (accepted-test file g) (whole-tour file b g .named)
