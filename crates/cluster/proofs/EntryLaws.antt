@@ -119,7 +119,7 @@ entry-short b₀ b₁ b₂ b₃ e is =
 module _ (e : Code.Entry) (slot : ℕ) (some : 1 ≤ e .length) where
   pub past-not-yet : slot ≤ e .slot + (e .length - 1) → isPast (entryFrom e) slot ≡ false
   unfolding isPast entryFrom
-  past-not-yet l = both-false-left _ (lt-leb _ _ (omega arith))
+  past-not-yet l = both-false-left _ (lt-leb (e .slot + e .length) slot (omega arith))
 
   module _ {t : Bool} (end : t ≡ ends (entryFrom e .operation)) where
     pub past-end : t ≡ true → isPast (entryFrom e) slot ≡ false
@@ -128,7 +128,7 @@ module _ (e : Code.Entry) (slot : ℕ) (some : 1 ≤ e .length) where
 
     pub past-over : t ≡ false → e .slot + (e .length - 1) < slot → isPast (entryFrom e) slot ≡ true
     unfolding isPast entryFrom
-    past-over goes l = both-true (le-leb _ _ (omega arith)) (ap not (sym end ∙ goes))
+    past-over goes l = both-true (le-leb (e .slot + e .length) slot (omega arith)) (ap not (sym end ∙ goes))
 
 module _ (e : Entry) (slot : ℕ) (past : isPast e slot ≡ true) where
   pub past-goes-on : ends (e .operation) ≡ false
