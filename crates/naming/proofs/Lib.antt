@@ -25,4 +25,5 @@ pub mod NameLaws
 pub mod SendLaws
 pub mod RunLaws
 pub mod StepCode
+pub mod Witnesses
 pub mod Cases
