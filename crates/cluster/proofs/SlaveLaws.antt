@@ -12,7 +12,7 @@ use lib.Dec.{eqb, leb}
 use borrow.Author.Tests.{eq-eqb, ne-eqb, le-leb, lt-leb, not-true, not-false}
 use Rattle.file.specs.Bytes.{Byte, Bytes, All, part}
 use Rattle.file.specs.Order.{both}
-use Rattle.file.specs.Layout.{recordSize}
+use Rattle.file.specs.Layout.{recordSize, neededConfiguration, neededDocumentation}
 use Rattle.file.specs.Cluster.{Slave, Cluster, bytesIn, hasRecord, recordOf, logicalName, physicalName, comparisonValue, newLogicalName, configuration, documentation, unnamed, broadcast}
 use Rattle.file.specs.Encode.{encode}
 use Rattle.file.specs.Places.{noSlave, slaveOf, filePlace, putInSlave, withSlaves, putByte, putBytes}
@@ -99,18 +99,18 @@ record-room c s n r h e is = found-room h (found-facts c s n r e is)
 -- ---- a record that every slave has
 
 -- the place of a file with k records or more states where each of them lies
-needed-found : {c : Cluster} {n m : ℕ} {places : List ℕ} {s : ℕ} (k : ℕ) → n ≡ m → KeptAt c m places s → recordSize * k ≤ length (bytesIn (slaveOf c s) m) → {r : ℕ} → r < k → {x : RecordPlace} →
+needed-found : {c : Cluster} {n m : ℕ} {places : List ℕ} {s : ℕ} (k : ℕ) → n ≡ m → KeptAt c m places s → recordSize * suc k ≤ length (bytesIn (slaveOf c s) m) → {r : ℕ} → r ≤ k → {x : RecordPlace} →
     x ≡ At (getD places s 0 + recordSize * r) → foundRecord x ≡ findRecord c s n r
 unfolding foundRecord findRecord hasRecord
 needed-found {c} {n} {m} {places} {s} k same kept room {r} less e =
     rw (e, same, le-leb (recordSize * r + recordSize) (length (bytesIn (slaveOf c s) m)) (omega arith), kept .place)
 
 module _ {f : List ℕ} {c : Cluster} (h : Becomes f c) {places : List ℕ} {s n r : ℕ} {x : RecordPlace} (is : x ≡ At (getD places s 0 + recordSize * r)) where
-  pub configuration-found : KeptAt c configuration places s → n ≡ configuration → r < 4 → foundRecord x ≡ findRecord c s n r
-  configuration-found kept same less = needed-found 4 same kept (configuration-room h s (kept .slave)) less is
+  pub configuration-found : KeptAt c configuration places s → n ≡ configuration → r ≤ neededConfiguration → foundRecord x ≡ findRecord c s n r
+  configuration-found kept same less = needed-found neededConfiguration same kept (configuration-room h s (kept .slave)) less is
 
-  pub documentation-found : KeptAt c documentation places s → n ≡ documentation → r < 3 → foundRecord x ≡ findRecord c s n r
-  documentation-found kept same less = needed-found 3 same kept (documentation-room h s (kept .slave)) less is
+  pub documentation-found : KeptAt c documentation places s → n ≡ documentation → r ≤ neededDocumentation → foundRecord x ≡ findRecord c s n r
+  documentation-found kept same less = needed-found neededDocumentation same kept (documentation-room h s (kept .slave)) less is
 
 -- ---- replies
 

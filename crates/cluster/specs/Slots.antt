@@ -5,7 +5,7 @@ use mathlib.Core.List.{List, [], _∷_}
 use mathlib.Core.Bool.{Bool, true, false, cond}
 use lib.ListN.{length, getD, set}
 use lib.Dec.{eqb}
-use Rattle.file.specs.Layout.{recordSize}
+use Rattle.file.specs.Layout.{offsetWidth, maxSlaves, recordSize}
 use Rattle.file.specs.Cluster.{Slave, Cluster, bytesIn, lastRecord}
 use Rattle.file.specs.Places.{slaveOf, filePlace}
 use Rattle.cluster.specs.Bus.{slots}
@@ -36,8 +36,8 @@ pub record RoundFileIs (c : Cluster) (round s start end : ℕ) : Type 0 where
 
 -- the same of every slave, in front of whatever else the arrays hold
 pub record RoundFilesAre (c : Cluster) (round : ℕ) (starts ends : List ℕ) : Type 0 where
-  pub startsRoom : length starts ≡ 32
-  pub endsRoom : length ends ≡ 32
+  pub startsRoom : length starts ≡ maxSlaves offsetWidth
+  pub endsRoom : length ends ≡ maxSlaves offsetWidth
   pub file : (s : ℕ) → s < length (c .slaves) → RoundFileIs c round s (getD starts s 0) (getD ends s 0)
 
 -- the entry that begins at a place of the file
@@ -107,5 +107,5 @@ storedBelow f places b (suc n) =
 
 -- every place lies in the file, 0 too
 pub record StoresWithin (f places : List ℕ) (count : ℕ) : Type 0 where
-  pub few : count ≤ 32
+  pub few : count ≤ maxSlaves offsetWidth
   pub within : (s : ℕ) → s < count → getD places s 0 < length f

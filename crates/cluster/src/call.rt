@@ -16,14 +16,15 @@ use crate::multipartner::carry_multipartner;
 use file::survey::FileAnswer;
 use file::survey::survey;
 use file::types::Refusal;
+use file::types::SlavePlaces;
 use frame::firework::Firework;
 use frame::firework::firework_of;
 
 // One frame of any bytes on a file that is known to be accepted, with the places that its survey handed back.
 pub fn one_frame(
     file: &mut [u8],
-    configurations: &[u16; 32],
-    documentations: &[u16; 32],
+    configurations: &SlavePlaces,
+    documentations: &SlavePlaces,
     count: usize,
     frame: &[u8],
     buffer: &mut [u8],

@@ -14,6 +14,7 @@ use crate::answer::RoundAnswer;
 use crate::answer::silence;
 use crate::msd::carry_data;
 use file::types::Refusal;
+use file::types::SlavePlaces;
 use file::writers::read_pending;
 use file::writers::set_epoch;
 use file::writers::set_pending;
@@ -81,8 +82,8 @@ fn data_ground(file: &[u8], frame: &[u8]) -> u8
 // A data frame: the pending operation is carried out.
 pub fn take_data(
     file: &mut [u8],
-    configurations: &[u16; 32],
-    documentations: &[u16; 32],
+    configurations: &SlavePlaces,
+    documentations: &SlavePlaces,
     count: usize,
     frame: &[u8],
     buffer: &mut [u8],

@@ -5,6 +5,7 @@ ghost use mathlib.Core.List.{[]};
 ghost use Prim.Native.Nat.{_≤_, _<_};
 ghost use lib.ListN.{length};
 ghost use Rattle.file.specs.Cluster.{configuration, documentation};
+ghost use Rattle.file.specs.Typed.{fileIn, recordIn, nameIn};
 ghost use Rattle.file.specs.Decode.{decode};
 ghost use Rattle.file.specs.Accepted.{Becomes};
 ghost use Rattle.frame.specs.Fireworks.{dataFirework};
@@ -24,6 +25,7 @@ use crate::slaves::write_slave;
 use file::types::FileNumber;
 use file::types::LogicalName;
 use file::types::RecordNumber;
+use file::types::SlavePlaces;
 use file::writers::Pending;
 use file::writers::read_epoch;
 use file::writers::read_pending;
@@ -41,7 +43,7 @@ pub enum Duty {
 }
 
 fn duty_of(pending: Pending) -> Duty
-    ensures { λ r. ⌜ dutyOf r (pending .name .0) (pending .number .0) (pending .«record» .0) ≡ dutyIn (pending .flag) (pending .name .0) (pending .number .0) (pending .operation) (pending .«record» .0) ⌝ }
+    ensures { λ r. ⌜ dutyOf r (nameIn (pending .name)) (fileIn (pending .number)) (recordIn (pending .«record»)) ≡ dutyIn (pending .flag) (nameIn (pending .name)) (fileIn (pending .number)) (pending .operation) (recordIn (pending .«record»)) ⌝ }
 {
     if pending.flag != 1 {
         return Duty::Nothing;
@@ -82,8 +84,8 @@ pub fn raise_epoch(file: &mut [u8])
 
 fn read_round(
     file: &[u8],
-    configurations: &[u16; 32],
-    documentations: &[u16; 32],
+    configurations: &SlavePlaces,
+    documentations: &SlavePlaces,
     count: usize,
     name: LogicalName,
     number: FileNumber,
@@ -91,7 +93,7 @@ fn read_round(
     buffer: &mut [u8],
 ) -> u64
     requires { ⌜ Becomes (now file) (decode (now file)) × AllKept (decode (now file)) configuration (now configurations) count × AllKept (decode (now file)) documentation (now documentations) count × (slots ≤ length (now buffer)) ⌝ }
-    ensures { λ r. ⌜ Heard (sentTo (reading (name .0) (number .0) («record» .0)) (decode (now (file .entry)) .slaves)) dataFirework (now (buffer .entry)) (now (buffer .exit)) r ⌝ }
+    ensures { λ r. ⌜ Heard (sentTo (reading (nameIn name) (fileIn number) (recordIn «record»)) (decode (now (file .entry)) .slaves)) dataFirework (now (buffer .entry)) (now (buffer .exit)) r ⌝ }
 {
     silence(buffer, MSD);
     let mut last = 0u64;
@@ -116,14 +118,14 @@ fn read_round(
 // Who replies sends 0x00 in slot 1, and the byte stays 0x00 whoever replies too: the first reply settles the round.
 fn compare_round(
     file: &[u8],
-    configurations: &[u16; 32],
-    documentations: &[u16; 32],
+    configurations: &SlavePlaces,
+    documentations: &SlavePlaces,
     count: usize,
     name: LogicalName,
     buffer: &mut [u8],
 ) -> u64
     requires { ⌜ Becomes (now file) (decode (now file)) × AllKept (decode (now file)) configuration (now configurations) count × AllKept (decode (now file)) documentation (now documentations) count × (slots ≤ length (now buffer)) ⌝ }
-    ensures { λ r. ⌜ Heard (sentTo (comparing (name .0)) (decode (now (file .entry)) .slaves)) dataFirework (now (buffer .entry)) (now (buffer .exit)) r ⌝ }
+    ensures { λ r. ⌜ Heard (sentTo (comparing (nameIn name)) (decode (now (file .entry)) .slaves)) dataFirework (now (buffer .entry)) (now (buffer .exit)) r ⌝ }
 {
     silence(buffer, MSD);
     let mut last = 0u64;
@@ -148,7 +150,7 @@ fn compare_round(
 
 // Whether a write may change the record: not in 0x3D, and no record 0x00.
 fn may_write(number: FileNumber, record: RecordNumber) -> bool
-    ensures { λ r. ⌜ r ≡ mayWrite (number .0) («record» .0) ⌝ }
+    ensures { λ r. ⌜ r ≡ mayWrite (fileIn number) (recordIn «record») ⌝ }
 {
     if number.0 == 0x3D {
         return false;
@@ -158,7 +160,7 @@ fn may_write(number: FileNumber, record: RecordNumber) -> bool
 
 fn write_round(
     file: &mut [u8],
-    configurations: &[u16; 32],
+    configurations: &SlavePlaces,
     count: usize,
     name: LogicalName,
     number: FileNumber,
@@ -166,7 +168,7 @@ fn write_round(
     frame: &[u8],
 )
     requires { ⌜ Becomes (now file) (decode (now file)) × AllKept (decode (now file)) configuration (now configurations) count × (4 < length (now frame)) ⌝ }
-    ensures { λ _. ⌜ Becomes (now (file .exit)) (slavesAfter (writing (name .0) (number .0) («record» .0)) (between (now (frame .entry))) (decode (now (file .entry)))) ⌝ }
+    ensures { λ _. ⌜ Becomes (now (file .exit)) (slavesAfter (writing (nameIn name) (fileIn number) (recordIn «record»)) (between (now (frame .entry))) (decode (now (file .entry)))) ⌝ }
 {
     if !may_write(number, record) {
         return;
@@ -180,13 +182,13 @@ fn write_round(
 
 fn baptize_round(
     file: &mut [u8],
-    configurations: &[u16; 32],
-    documentations: &[u16; 32],
+    configurations: &SlavePlaces,
+    documentations: &SlavePlaces,
     count: usize,
     name: LogicalName,
 )
     requires { ⌜ Becomes (now file) (decode (now file)) × AllKept (decode (now file)) configuration (now configurations) count × AllKept (decode (now file)) documentation (now documentations) count ⌝ }
-    ensures { λ _. ⌜ Becomes (now (file .exit)) (slavesAfter (baptizing (name .0)) [] (decode (now (file .entry)))) ⌝ }
+    ensures { λ _. ⌜ Becomes (now (file .exit)) (slavesAfter (baptizing (nameIn name)) [] (decode (now (file .entry)))) ⌝ }
 {
     let mut slave = 0;
     while slave < count {
@@ -198,8 +200,8 @@ fn baptize_round(
 // One data frame that fits: the pending operation carried out. The mask of the slots in which someone sent.
 pub fn carry_data(
     file: &mut [u8],
-    configurations: &[u16; 32],
-    documentations: &[u16; 32],
+    configurations: &SlavePlaces,
+    documentations: &SlavePlaces,
     count: usize,
     frame: &[u8],
     buffer: &mut [u8],

@@ -3,6 +3,7 @@ ghost use mathlib.Core.Path.{_≡_};
 ghost use Prim.Native.Nat.{_+_, _-_, _/_, _≤_, _<_};
 ghost use lib.ListN.{length};
 ghost use Rattle.file.specs.Order.{either};
+ghost use Rattle.file.specs.Typed.{fileIn};
 ghost use Rattle.file.specs.Layout.{recordSize};
 ghost use Rattle.file.specs.Cluster.{configuration};
 ghost use Rattle.file.specs.Decode.{decode};
@@ -29,6 +30,8 @@ use file::readers::find_file;
 use file::readers::logical_name;
 use file::types::FileNumber;
 use file::types::LogicalName;
+use file::types::MOST_SLAVES;
+use file::types::SlavePlaces;
 
 // Where the entries that a slave runs begin, and where they end.
 pub struct RoundFile {
@@ -40,13 +43,18 @@ const NO_ROUND_FILE: RoundFile = RoundFile { start: 0, end: 0 };
 
 // The same of every slave.
 pub struct RoundFiles {
-    pub starts: [usize; 32],
-    pub ends: [usize; 32],
+    pub starts: [usize; MOST_SLAVES],
+    pub ends: [usize; MOST_SLAVES],
 }
 
-fn round_file(file: &[u8], configurations: &[u16; 32], slave: usize, round: FileNumber) -> RoundFile
+fn round_file(
+    file: &[u8],
+    configurations: &SlavePlaces,
+    slave: usize,
+    round: FileNumber,
+) -> RoundFile
     requires { ⌜ Becomes (now file) (decode (now file)) × KeptAt (decode (now file)) configuration (now configurations) slave ⌝ }
-    ensures { λ r. ⌜ RoundFileIs (decode (now (file .entry))) (round .0) slave (r .start) (r .end) ⌝ }
+    ensures { λ r. ⌜ RoundFileIs (decode (now (file .entry))) (fileIn round) slave (r .start) (r .end) ⌝ }
 {
     let name = logical_name(file, configurations, slave);
     if name.0 == LogicalName::UNNAMED.0 {
@@ -64,15 +72,15 @@ fn round_file(file: &[u8], configurations: &[u16; 32], slave: usize, round: File
 
 fn round_files(
     file: &[u8],
-    configurations: &[u16; 32],
+    configurations: &SlavePlaces,
     count: usize,
     round: FileNumber,
 ) -> RoundFiles
     requires { ⌜ Becomes (now file) (decode (now file)) × AllKept (decode (now file)) configuration (now configurations) count ⌝ }
-    ensures { λ r. ⌜ RoundFilesAre (decode (now (file .entry))) (round .0) (r .starts) (r .ends) ⌝ }
+    ensures { λ r. ⌜ RoundFilesAre (decode (now (file .entry))) (fileIn round) (r .starts) (r .ends) ⌝ }
 {
-    let mut starts = [0usize; 32];
-    let mut ends = [0usize; 32];
+    let mut starts = [0usize; MOST_SLAVES];
+    let mut ends = [0usize; MOST_SLAVES];
     let mut slave = 0;
     while slave < count {
         let found = round_file(file, configurations, slave, round);
@@ -211,7 +219,7 @@ fn store_place(turn: Turn) -> usize
 }
 
 // The slot's byte stored by every slave that receives it.
-fn store(file: &mut [u8], places: &[usize; 32], count: usize, byte: u8)
+fn store(file: &mut [u8], places: &[usize; MOST_SLAVES], count: usize, byte: u8)
     requires { ⌜ StoresWithin (now file) (now places) count ⌝ }
     ensures { λ _. ⌜ now (file .exit) ≡ storedBelow (now (file .entry)) (now (places .entry)) byte count ⌝ }
 {
@@ -229,7 +237,7 @@ fn store(file: &mut [u8], places: &[usize; 32], count: usize, byte: u8)
 // in a round file or in 0x08. From slot to slot `starts` leaves out the entries that cannot act again.
 fn run_slots(
     file: &mut [u8],
-    configurations: &[u16; 32],
+    configurations: &SlavePlaces,
     count: usize,
     round: u8,
     firework: u8,
@@ -247,7 +255,7 @@ fn run_slots(
     'slots: while slot < SLOTS {
         let mut bus = 0xFFu8;
         let mut heard = false;
-        let mut stores = [0usize; 32];
+        let mut stores = [0usize; MOST_SLAVES];
         let mut slave = 0;
         'slaves: while slave < count {
             let mut turn = Turn::Rests;
@@ -283,7 +291,7 @@ fn run_slots(
 // One multipartner frame: the round of that number. The mask of the slots in which someone sent.
 pub fn carry_multipartner(
     file: &mut [u8],
-    configurations: &[u16; 32],
+    configurations: &SlavePlaces,
     count: usize,
     round: u8,
     firework: u8,

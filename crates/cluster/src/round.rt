@@ -3,6 +3,7 @@ ghost use mathlib.Core.Path.{_≡_};
 ghost use Prim.Native.Nat.{_+_, _*_, _≤_, _<_};
 ghost use lib.ListN.{length};
 ghost use Rattle.file.specs.Cluster.{configuration, documentation, operationOf, writeOperation};
+ghost use Rattle.file.specs.Typed.{fileIn, recordIn, nameIn};
 ghost use Rattle.file.specs.Decode.{decode};
 ghost use Rattle.file.specs.Legal.{LegalPending};
 ghost use Rattle.file.specs.Accepted.{Becomes};
@@ -16,6 +17,7 @@ use crate::msd::carry_data;
 use file::types::FileNumber;
 use file::types::LogicalName;
 use file::types::RecordNumber;
+use file::types::SlavePlaces;
 use file::writers::set_epoch;
 use file::writers::set_pending;
 use frame::types::Operation;
@@ -23,8 +25,8 @@ use frame::types::Operation;
 // The operation becomes pending and is carried out, with the data of the frame where it is a write. The mask of the data part.
 pub fn master_slave(
     file: &mut [u8],
-    configurations: &[u16; 32],
-    documentations: &[u16; 32],
+    configurations: &SlavePlaces,
+    documentations: &SlavePlaces,
     count: usize,
     epoch: u8,
     name: LogicalName,
@@ -34,8 +36,8 @@ pub fn master_slave(
     frame: &[u8],
     buffer: &mut [u8],
 ) -> u64
-    requires { ⌜ Becomes (now file) (decode (now file)) × AllKept (decode (now file)) configuration (now configurations) count × AllKept (decode (now file)) documentation (now documentations) count × LegalPending (withAddress (decode (now file)) epoch (name .0) (4 * number .0 + operation .0) («record» .0)) × (operationOf (4 * number .0 + operation .0) ≡ writeOperation → 4 < length (now frame)) × (slots ≤ length (now buffer)) ⌝ }
-    ensures { λ r. ⌜ Carried (dataEffect (withAddress (decode (now (file .entry))) epoch (name .0) (4 * number .0 + operation .0) («record» .0)) (between (now (frame .entry)))) dataFirework (now (buffer .entry)) (now (buffer .exit)) r (now (file .exit)) ⌝ }
+    requires { ⌜ Becomes (now file) (decode (now file)) × AllKept (decode (now file)) configuration (now configurations) count × AllKept (decode (now file)) documentation (now documentations) count × LegalPending (withAddress (decode (now file)) epoch (nameIn name) (4 * fileIn number + operation .0) (recordIn «record»)) × (operationOf (4 * fileIn number + operation .0) ≡ writeOperation → 4 < length (now frame)) × (slots ≤ length (now buffer)) ⌝ }
+    ensures { λ r. ⌜ Carried (dataEffect (withAddress (decode (now (file .entry))) epoch (nameIn name) (4 * fileIn number + operation .0) (recordIn «record»)) (between (now (frame .entry)))) dataFirework (now (buffer .entry)) (now (buffer .exit)) r (now (file .exit)) ⌝ }
 {
     set_epoch(file, epoch);
     set_pending(file, name, number, operation.0, record);

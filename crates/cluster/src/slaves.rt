@@ -6,11 +6,11 @@ ghost use Prim.Native.Nat.{_+_, _*_, _≤_, _<_};
 ghost use lib.ListN.{length, getD};
 ghost use lib.Dec.{eqb};
 ghost use Rattle.file.specs.Order.{both};
-ghost use Rattle.file.specs.Layout.{recordSize};
+ghost use Rattle.file.specs.Layout.{offsetWidth, maxSlaves, maxLength, recordSize};
 ghost use Rattle.file.specs.Cluster.{configuration, documentation, unnamed, broadcast};
 ghost use Rattle.file.specs.Decode.{decode};
 ghost use Rattle.file.specs.Places.{slaveOf};
-ghost use Rattle.file.specs.Typed.{fileIn, recordIn};
+ghost use Rattle.file.specs.Typed.{fileIn, recordIn, nameIn};
 ghost use Rattle.file.specs.Accepted.{Becomes, KeptAt, findRecord};
 ghost use Rattle.file.specs.Answers.{foundRecord};
 ghost use Rattle.file.specs.declared.readers.RecordPlace.the-variants.{At};
@@ -27,13 +27,16 @@ use file::readers::logical_name;
 use file::readers::physical_name;
 use file::types::FileNumber;
 use file::types::LogicalName;
+use file::types::NEEDED_CONFIGURATION;
+use file::types::NEEDED_DOCUMENTATION;
 use file::types::RecordNumber;
+use file::types::SlavePlaces;
 use file::writers::store_record;
 use file::writers::take_new_name;
 
 // Whether a slave with its own logical name is addressed.
 fn is_addressed(name: LogicalName, own: LogicalName) -> bool
-    ensures { λ r. ⌜ r ≡ addresses (name .0) (own .0) ⌝ }
+    ensures { λ r. ⌜ r ≡ addresses (nameIn name) (nameIn own) ⌝ }
 {
     if name.0 == LogicalName::UNNAMED.0 {
         return own.0 == LogicalName::UNNAMED.0;
@@ -46,7 +49,7 @@ fn is_addressed(name: LogicalName, own: LogicalName) -> bool
 
 // The same for a read: never an unnamed slave.
 fn is_read(name: LogicalName, own: LogicalName) -> bool
-    ensures { λ r. ⌜ r ≡ both (addresses (name .0) (own .0)) (not (eqb (own .0) unnamed)) ⌝ }
+    ensures { λ r. ⌜ r ≡ both (addresses (nameIn name) (nameIn own)) (not (eqb (nameIn own) unnamed)) ⌝ }
 {
     if !is_addressed(name, own) {
         return false;
@@ -56,7 +59,7 @@ fn is_read(name: LogicalName, own: LogicalName) -> bool
 
 // The same for a compare: none at broadcast.
 fn is_compared(name: LogicalName, own: LogicalName) -> bool
-    ensures { λ r. ⌜ r ≡ both (not (eqb (name .0) broadcast)) (addresses (name .0) (own .0)) ⌝ }
+    ensures { λ r. ⌜ r ≡ both (not (eqb (nameIn name) broadcast)) (addresses (nameIn name) (nameIn own)) ⌝ }
 {
     if name.0 == LogicalName::BROADCAST.0 {
         return false;
@@ -65,8 +68,8 @@ fn is_compared(name: LogicalName, own: LogicalName) -> bool
 }
 
 // Where a slave keeps a record that every slave has, by the place of its file.
-fn needed_place(places: &[u16; 32], slave: usize, record: RecordNumber) -> RecordPlace
-    requires { ⌜ (slave < 32) × (getD (now places) slave 0 ≤ 32768) ⌝ }
+fn needed_place(places: &SlavePlaces, slave: usize, record: RecordNumber) -> RecordPlace
+    requires { ⌜ (slave < maxSlaves offsetWidth) × (getD (now places) slave 0 ≤ maxLength offsetWidth) ⌝ }
     ensures { λ r. ⌜ r ≡ At (getD (now (places .entry)) slave 0 + recordSize * recordIn «record») ⌝ }
 {
     let at = places[slave] as usize;
@@ -76,7 +79,7 @@ fn needed_place(places: &[u16; 32], slave: usize, record: RecordNumber) -> Recor
 // Where a slave keeps the record of a write: those of 0x08 that every slave has need no search. No write changes 0x3D.
 fn write_place(
     file: &[u8],
-    configurations: &[u16; 32],
+    configurations: &SlavePlaces,
     slave: usize,
     number: FileNumber,
     record: RecordNumber,
@@ -85,7 +88,7 @@ fn write_place(
     ensures { λ r. ⌜ foundRecord r ≡ findRecord (decode (now (file .entry))) slave (fileIn number) (recordIn «record») ⌝ }
 {
     if number.0 == 0x08 {
-        if record.0 < 4 {
+        if record.0 <= NEEDED_CONFIGURATION {
             return needed_place(configurations, slave, record);
         }
     }
@@ -95,8 +98,8 @@ fn write_place(
 // The same for a read: those of 0x3D that every slave has need none either.
 fn read_place(
     file: &[u8],
-    configurations: &[u16; 32],
-    documentations: &[u16; 32],
+    configurations: &SlavePlaces,
+    documentations: &SlavePlaces,
     slave: usize,
     number: FileNumber,
     record: RecordNumber,
@@ -105,7 +108,7 @@ fn read_place(
     ensures { λ r. ⌜ foundRecord r ≡ findRecord (decode (now (file .entry))) slave (fileIn number) (recordIn «record») ⌝ }
 {
     if number.0 == 0x3D {
-        if record.0 < 3 {
+        if record.0 <= NEEDED_DOCUMENTATION {
             return needed_place(documentations, slave, record);
         }
     }
@@ -115,8 +118,8 @@ fn read_place(
 // Read: the slave's reply joined into the buffer; the last slot that someone has sent in.
 pub fn read_slave(
     file: &[u8],
-    configurations: &[u16; 32],
-    documentations: &[u16; 32],
+    configurations: &SlavePlaces,
+    documentations: &SlavePlaces,
     slave: usize,
     name: LogicalName,
     number: FileNumber,
@@ -125,7 +128,7 @@ pub fn read_slave(
     last: u64,
 ) -> u64
     requires { ⌜ Becomes (now file) (decode (now file)) × KeptAt (decode (now file)) configuration (now configurations) slave × KeptAt (decode (now file)) documentation (now documentations) slave × (slots ≤ length (now buffer)) ⌝ }
-    ensures { λ r. ⌜ Turn (replyTo (reading (name .0) (number .0) («record» .0)) (slaveOf (decode (now (file .entry))) slave)) (now (buffer .entry)) (now (buffer .exit)) last r ⌝ }
+    ensures { λ r. ⌜ Turn (replyTo (reading (nameIn name) (fileIn number) (recordIn «record»)) (slaveOf (decode (now (file .entry))) slave)) (now (buffer .entry)) (now (buffer .exit)) last r ⌝ }
 {
     let own = logical_name(file, configurations, slave);
     if !is_read(name, own) {
@@ -142,15 +145,15 @@ pub fn read_slave(
 // Compare: the same, where the physical name is at least the comparison value.
 pub fn compare_slave(
     file: &[u8],
-    configurations: &[u16; 32],
-    documentations: &[u16; 32],
+    configurations: &SlavePlaces,
+    documentations: &SlavePlaces,
     slave: usize,
     name: LogicalName,
     buffer: &mut [u8],
     last: u64,
 ) -> u64
     requires { ⌜ Becomes (now file) (decode (now file)) × KeptAt (decode (now file)) configuration (now configurations) slave × KeptAt (decode (now file)) documentation (now documentations) slave × (slots ≤ length (now buffer)) ⌝ }
-    ensures { λ r. ⌜ Turn (replyTo (comparing (name .0)) (slaveOf (decode (now (file .entry))) slave)) (now (buffer .entry)) (now (buffer .exit)) last r ⌝ }
+    ensures { λ r. ⌜ Turn (replyTo (comparing (nameIn name)) (slaveOf (decode (now (file .entry))) slave)) (now (buffer .entry)) (now (buffer .exit)) last r ⌝ }
 {
     let own = logical_name(file, configurations, slave);
     if !is_compared(name, own) {
@@ -167,15 +170,15 @@ pub fn compare_slave(
 // Write: an addressed slave that has the record replaces all four bytes, by those of the frame.
 pub fn write_slave(
     file: &mut [u8],
-    configurations: &[u16; 32],
+    configurations: &SlavePlaces,
     slave: usize,
     name: LogicalName,
     number: FileNumber,
     record: RecordNumber,
     frame: &[u8],
 )
-    requires { ⌜ Becomes (now file) (decode (now file)) × KeptAt (decode (now file)) configuration (now configurations) slave × (mayWrite (number .0) («record» .0) ≡ true) × (4 < length (now frame)) ⌝ }
-    ensures { λ _. ⌜ Becomes (now (file .exit)) (withSlave (decode (now (file .entry))) slave (slaveAfter (writing (name .0) (number .0) («record» .0)) (between (now (frame .entry))) (slaveOf (decode (now (file .entry))) slave))) ⌝ }
+    requires { ⌜ Becomes (now file) (decode (now file)) × KeptAt (decode (now file)) configuration (now configurations) slave × (mayWrite (fileIn number) (recordIn «record») ≡ true) × (4 < length (now frame)) ⌝ }
+    ensures { λ _. ⌜ Becomes (now (file .exit)) (withSlave (decode (now (file .entry))) slave (slaveAfter (writing (nameIn name) (fileIn number) (recordIn «record»)) (between (now (frame .entry))) (slaveOf (decode (now (file .entry))) slave))) ⌝ }
 {
     let own = logical_name(file, configurations, slave);
     if !is_addressed(name, own) {
@@ -191,13 +194,13 @@ pub fn write_slave(
 // Execute of record 1: an addressed slave whose physical name is the comparison value takes its new logical name.
 pub fn baptize_slave(
     file: &mut [u8],
-    configurations: &[u16; 32],
-    documentations: &[u16; 32],
+    configurations: &SlavePlaces,
+    documentations: &SlavePlaces,
     slave: usize,
     name: LogicalName,
 )
     requires { ⌜ Becomes (now file) (decode (now file)) × KeptAt (decode (now file)) configuration (now configurations) slave × KeptAt (decode (now file)) documentation (now documentations) slave ⌝ }
-    ensures { λ _. ⌜ Becomes (now (file .exit)) (withSlave (decode (now (file .entry))) slave (slaveAfter (baptizing (name .0)) [] (slaveOf (decode (now (file .entry))) slave))) ⌝ }
+    ensures { λ _. ⌜ Becomes (now (file .exit)) (withSlave (decode (now (file .entry))) slave (slaveAfter (baptizing (nameIn name)) [] (slaveOf (decode (now (file .entry))) slave))) ⌝ }
 {
     let own = logical_name(file, configurations, slave);
     if !is_addressed(name, own) {

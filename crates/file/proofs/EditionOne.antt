@@ -2,7 +2,7 @@
 -- Assumes nothing.
 use Prim.Native.Nat.{ℕ}
 use mathlib.Core.Path.{_≡_, refl}
-use Rattle.file.specs.Layout.{offsetWidth, editionOf, lengthPlace, epochPlace, flagPlace, pendingNamePlace, pendingPB2Place, pendingPB3Place, zerosPlace, zerosLength, headerSize, entrySize, fileCountPlace, fileOffsetPlace, maxSlaves, maxLength}
+use Rattle.file.specs.Layout.{offsetWidth, editionOf, lengthPlace, epochPlace, flagPlace, pendingNamePlace, pendingPB2Place, pendingPB3Place, zerosPlace, zerosLength, headerSize, entrySize, fillLength, fileCountPlace, fileOffsetPlace, maxSlaves, maxLength}
 
 pub record EditionOne : Type 0 where
   pub edition : editionOf offsetWidth ≡ 1
@@ -16,6 +16,7 @@ pub record EditionOne : Type 0 where
   pub zeros : zerosLength offsetWidth ≡ 3
   pub header : headerSize offsetWidth ≡ 16
   pub entry : entrySize offsetWidth ≡ 4
+  pub fill : fillLength offsetWidth ≡ 0
   pub countAt : fileCountPlace offsetWidth ≡ 2
   pub offsetAt : fileOffsetPlace offsetWidth ≡ 2
   pub slaves : maxSlaves offsetWidth ≡ 32
@@ -34,6 +35,7 @@ edition-one = record {
   zeros = refl;
   header = refl;
   entry = refl;
+  fill = refl;
   countAt = refl;
   offsetAt = refl;
   slaves = refl;

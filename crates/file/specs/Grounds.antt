@@ -54,8 +54,8 @@ unfoldable pub andThen : Walk → (ℕ → Walk) → Walk
 andThen broken k = broken
 andThen (to place) k = k place
 
--- the directory entry at d is good: its file number is low or more and at most 63, it has 1 to 255 records, its offset is the
--- place, and its file ends within the bytes
+-- the directory entry at d is good: its file number is low or more and at most 63, its r is 1 or more (and, a byte, at most 255),
+-- its offset is the place, and its file ends within the bytes
 unfoldable pub goodEntry : ℕ → List ℕ → ℕ → ℕ → ℕ → Bool
 goodEntry w f d low place =
     both (leb low (getD f d 0))

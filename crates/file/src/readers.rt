@@ -15,6 +15,7 @@ use crate::numbers::u64_at;
 use crate::types::FileNumber;
 use crate::types::LogicalName;
 use crate::types::RecordNumber;
+use crate::types::SlavePlaces;
 
 // Where a slave keeps a file, and how many bytes it has.
 pub struct FileBytes {
@@ -42,7 +43,7 @@ pub fn slave_count(file: &[u8]) -> usize
 }
 
 // A slave's logical name, by the place of its 0x08.
-pub fn logical_name(file: &[u8], configurations: &[u16; 32], slave: usize) -> LogicalName
+pub fn logical_name(file: &[u8], configurations: &SlavePlaces, slave: usize) -> LogicalName
     requires { ⌜ Becomes (now file) (decode (now file)) × KeptAt (decode (now file)) configuration (now configurations) slave ⌝ }
     ensures { λ r. ⌜ nameIn r ≡ logicalName (slaveOf (decode (now (file .entry))) slave) ⌝ }
 {
@@ -52,7 +53,7 @@ pub fn logical_name(file: &[u8], configurations: &[u16; 32], slave: usize) -> Lo
 }
 
 // A slave's physical name, by the place of its 0x3D.
-pub fn physical_name(file: &[u8], documentations: &[u16; 32], slave: usize) -> u64
+pub fn physical_name(file: &[u8], documentations: &SlavePlaces, slave: usize) -> u64
     requires { ⌜ Becomes (now file) (decode (now file)) × KeptAt (decode (now file)) documentation (now documentations) slave ⌝ }
     ensures { λ r. ⌜ r ≡ physicalName (slaveOf (decode (now (file .entry))) slave) ⌝ }
 {
@@ -61,7 +62,7 @@ pub fn physical_name(file: &[u8], documentations: &[u16; 32], slave: usize) -> u
 }
 
 // A slave's comparison value, by the place of its 0x08.
-pub fn comparison_value(file: &[u8], configurations: &[u16; 32], slave: usize) -> u64
+pub fn comparison_value(file: &[u8], configurations: &SlavePlaces, slave: usize) -> u64
     requires { ⌜ Becomes (now file) (decode (now file)) × KeptAt (decode (now file)) configuration (now configurations) slave ⌝ }
     ensures { λ r. ⌜ r ≡ comparisonValue (slaveOf (decode (now (file .entry))) slave) ⌝ }
 {

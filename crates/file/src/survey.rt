@@ -7,15 +7,17 @@ ghost use Rattle.file.specs.Answers.{Verdict, checkedOf, loadVerdict};
 use crate::header::header_ground;
 use crate::names::equal_names;
 use crate::numbers::byte_at;
+use crate::types::MOST_SLAVES;
 use crate::types::Refusal;
+use crate::types::SlavePlaces;
 use crate::walk::SlavesWalk;
 use crate::walk::walk_slaves;
 
 // How many slaves there are, and where each keeps 0x08 and 0x3D.
 pub struct Places {
     pub count: usize,
-    pub configuration: [u16; 32],
-    pub documentation: [u16; 32],
+    pub configuration: SlavePlaces,
+    pub documentation: SlavePlaces,
 }
 
 pub enum FileAnswer {
@@ -50,8 +52,8 @@ fn refused(ground: Refusal) -> FileSurvey
         answer: FileAnswer::Refused(ground),
         places: Places {
             count: 0,
-            configuration: [0u16; 32],
-            documentation: [0u16; 32],
+            configuration: [0u16; MOST_SLAVES],
+            documentation: [0u16; MOST_SLAVES],
         },
     }
 }
@@ -66,8 +68,8 @@ fn walk_body(file: &[u8]) -> SlavesWalk
         return SlavesWalk {
             good: false,
             end: 0,
-            configuration: [0u16; 32],
-            documentation: [0u16; 32],
+            configuration: [0u16; MOST_SLAVES],
+            documentation: [0u16; MOST_SLAVES],
         };
     }
     let mut walk = walk_slaves(file, count);

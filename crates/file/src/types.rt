@@ -1,8 +1,6 @@
-// "A file number, a record number and a logical name are never taken for one another" (document 01): a type for each. And the
-// refusals.
+// "A file number, a record number and a logical name are never taken for one another" (document 01): a type for each. The refusals.
+// And the layout's numbers that the layers above need.
 ghost use mathlib.Core.Path.{_≡_};
-ghost use lib.Dec.{eqb};
-ghost use Rattle.file.specs.Cluster.{unnamed, broadcast};
 ghost use Rattle.file.specs.Typed.{nameIn};
 
 pub struct FileNumber(pub u8);
@@ -21,18 +19,6 @@ impl LogicalName {
         ensures { λ r. ⌜ nameIn r ≡ name ⌝ }
     {
         LogicalName(name)
-    }
-
-    pub fn is_unnamed(self) -> bool
-        ensures { λ r. ⌜ r ≡ eqb (nameIn self) unnamed ⌝ }
-    {
-        self.0 == LogicalName::UNNAMED.0
-    }
-
-    pub fn is_broadcast(self) -> bool
-        ensures { λ r. ⌜ r ≡ eqb (nameIn self) broadcast ⌝ }
-    {
-        self.0 == LogicalName::BROADCAST.0
     }
 }
 
@@ -76,3 +62,13 @@ impl Refusal {
 
     pub const FILE_NUMBER: Refusal = Refusal(18);
 }
+
+// "the slave count, 0 to 32", and a place for each slave that a file may have, in the order of the slave table.
+pub const MOST_SLAVES: usize = 32;
+
+pub type SlavePlaces = [u16; MOST_SLAVES];
+
+// "file 0x08 (configuration) with r at least 3 and file 0x3D (documentation, 000) with r at least 2".
+pub const NEEDED_CONFIGURATION: u8 = 3;
+
+pub const NEEDED_DOCUMENTATION: u8 = 2;

@@ -6,6 +6,10 @@ ghost use Rattle.file.specs.Bytes.{ByteAt};
 ghost use Rattle.file.specs.Checked.{nextEntry, fitsSoFar, states, statedPlace, Arrives, DirectoryWalked, SlaveWalked, SlavesWalked};
 use crate::numbers::byte_at;
 use crate::numbers::offset_at;
+use crate::types::MOST_SLAVES;
+use crate::types::NEEDED_CONFIGURATION;
+use crate::types::NEEDED_DOCUMENTATION;
+use crate::types::SlavePlaces;
 
 // Whether a directory is good, and where its files end.
 pub struct DirectoryWalk {
@@ -145,8 +149,8 @@ fn walk_slave(file: &[u8], entry: usize, place: usize) -> SlaveWalk
     SlaveWalk {
         good: true,
         end: files.end,
-        configuration: stated_from_front(file, place, count, 0x08, 3),
-        documentation: stated_from_back(file, place, count, 0x3D, 2),
+        configuration: stated_from_front(file, place, count, 0x08, NEEDED_CONFIGURATION),
+        documentation: stated_from_back(file, place, count, 0x3D, NEEDED_DOCUMENTATION),
     }
 }
 
@@ -154,16 +158,16 @@ fn walk_slave(file: &[u8], entry: usize, place: usize) -> SlaveWalk
 pub struct SlavesWalk {
     pub good: bool,
     pub end: usize,
-    pub configuration: [u16; 32],
-    pub documentation: [u16; 32],
+    pub configuration: SlavePlaces,
+    pub documentation: SlavePlaces,
 }
 
 pub fn walk_slaves(file: &[u8], count: usize) -> SlavesWalk
     requires { ⌜ (16 + 4 * count ≤ length (now file)) × (length (now file) ≤ 32768) × (count ≤ 32) ⌝ }
     ensures { λ r. ⌜ SlavesWalked (now (file .entry)) count (r .good) (r .end) (r .configuration) (r .documentation) ⌝ }
 {
-    let mut configuration = [0u16; 32];
-    let mut documentation = [0u16; 32];
+    let mut configuration = [0u16; MOST_SLAVES];
+    let mut documentation = [0u16; MOST_SLAVES];
     let mut entry = 16;
     let mut place = 16 + 4 * count;
     let mut slave = 0;

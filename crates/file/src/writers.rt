@@ -6,6 +6,7 @@ ghost use Prim.Native.Nat.{_+_, _*_, _≤_};
 ghost use lib.ListN.{length};
 ghost use lib.Seq.{sets};
 ghost use Rattle.file.specs.Layout.{recordSize};
+ghost use Rattle.file.specs.Typed.{fileIn, recordIn, nameIn};
 ghost use Rattle.file.specs.Cluster.{configuration, newLogicalName};
 ghost use Rattle.file.specs.Decode.{decode};
 ghost use Rattle.file.specs.Legal.{LegalPending};
@@ -14,6 +15,7 @@ ghost use Rattle.file.specs.Accepted.{Becomes, KeptAt, PendingIs};
 use crate::types::FileNumber;
 use crate::types::LogicalName;
 use crate::types::RecordNumber;
+use crate::types::SlavePlaces;
 
 pub fn read_epoch(file: &[u8]) -> u8
     requires { ⌜ Becomes (now file) (decode (now file)) ⌝ }
@@ -33,7 +35,7 @@ pub struct Pending {
 
 pub fn read_pending(file: &[u8]) -> Pending
     requires { ⌜ Becomes (now file) (decode (now file)) ⌝ }
-    ensures { λ r. ⌜ PendingIs (decode (now (file .entry))) (r .flag) (r .name .0) (r .number .0) (r .operation) (r .«record» .0) ⌝ }
+    ensures { λ r. ⌜ PendingIs (decode (now (file .entry))) (r .flag) (nameIn (r .name)) (fileIn (r .number)) (r .operation) (recordIn (r .«record»)) ⌝ }
 {
     let pb2 = file[11];
     Pending {
@@ -60,8 +62,8 @@ pub fn set_pending(
     operation: u8,
     record: RecordNumber,
 )
-    requires { ⌜ Becomes (now file) (decode (now file)) × LegalPending (withPending (decode (now file)) 1 (name .0) (4 * number .0 + operation) («record» .0)) ⌝ }
-    ensures { λ _. ⌜ Becomes (now (file .exit)) (withPending (decode (now (file .entry))) 1 (name .0) (4 * number .0 + operation) («record» .0)) ⌝ }
+    requires { ⌜ Becomes (now file) (decode (now file)) × LegalPending (withPending (decode (now file)) 1 (nameIn name) (4 * fileIn number + operation) (recordIn «record»)) ⌝ }
+    ensures { λ _. ⌜ Becomes (now (file .exit)) (withPending (decode (now (file .entry))) 1 (nameIn name) (4 * fileIn number + operation) (recordIn «record»)) ⌝ }
 {
     let pb2 = 4 * number.0 + operation;
     file[9] = 1;
@@ -71,7 +73,7 @@ pub fn set_pending(
 }
 
 // A slave's new logical name becomes its logical name.
-pub fn take_new_name(file: &mut [u8], configurations: &[u16; 32], slave: usize)
+pub fn take_new_name(file: &mut [u8], configurations: &SlavePlaces, slave: usize)
     requires { ⌜ Becomes (now file) (decode (now file)) × KeptAt (decode (now file)) configuration (now configurations) slave ⌝ }
     ensures { λ _. ⌜ Becomes (now (file .exit)) (putByte (decode (now (file .entry))) slave configuration (recordSize + 3) (newLogicalName (slaveOf (decode (now (file .entry))) slave))) ⌝ }
 {

@@ -20,6 +20,7 @@ use file::survey::FileAnswer;
 use file::survey::survey;
 use file::types::FileNumber;
 use file::types::RecordNumber;
+use file::types::SlavePlaces;
 
 fn file_place(file: &[u8], slave: usize, number: u8)
     requires { ⌜ Becomes (now file) (decode (now file)) × (slave < length (decode (now file) .slaves)) ⌝ }
@@ -72,7 +73,7 @@ fn places(file: &[u8], slave: usize)
     record_place(file, slave, 0x3F, 255);
 }
 
-fn slave_line(file: &[u8], configurations: &[u16; 32], documentations: &[u16; 32], slave: usize)
+fn slave_line(file: &[u8], configurations: &SlavePlaces, documentations: &SlavePlaces, slave: usize)
     requires { ⌜ Becomes (now file) (decode (now file)) × KeptAt (decode (now file)) configuration (now configurations) slave × KeptAt (decode (now file)) documentation (now documentations) slave ⌝ }
 {
     text(b"slave");
@@ -88,7 +89,7 @@ fn slave_line(file: &[u8], configurations: &[u16; 32], documentations: &[u16; 32
     places(file, slave);
 }
 
-fn slaves(file: &[u8], configurations: &[u16; 32], documentations: &[u16; 32], count: usize)
+fn slaves(file: &[u8], configurations: &SlavePlaces, documentations: &SlavePlaces, count: usize)
     requires { ⌜ Becomes (now file) (decode (now file)) × Placed (decode (now file)) count (now configurations) (now documentations) ⌝ }
 {
     let mut slave = 0;

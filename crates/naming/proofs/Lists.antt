@@ -205,7 +205,7 @@ module _ (epoch name : ℕ) where
       after : Becomes (roundOn (s .file) (readFrame epoch name) buffer .2) (frameOn (decode (s .file)) (readFrame epoch name) .after)
       after = round-becomes (s .file) (readFrame epoch name) buffer b of-bytes first
 
--- ---- a permitted round fits between any two calls
+-- ---- a permitted round fits behind any permitted list of calls and in front of any steps
 
 -- Behind a permitted list, a list that is permitted where it ends, and behind both any steps. Not any calls: a round that is put in
 -- may leave another operation pending, and with it a one-byte MSD further on, refused where a write is pending, is accepted: a lone

@@ -25,6 +25,7 @@ use file::survey::FileAnswer;
 use file::survey::survey;
 use file::types::LogicalName;
 use file::types::Refusal;
+use file::types::SlavePlaces;
 
 pub enum Started {
     Refused(Refusal),
@@ -66,8 +67,8 @@ fn run_ground(names: &[u8], run: RunPosition) -> u8
 // A step of a running position, on an accepted file and with the places that its survey found.
 fn make_step(
     file: &mut [u8],
-    configurations: &[u16; 32],
-    documentations: &[u16; 32],
+    configurations: &SlavePlaces,
+    documentations: &SlavePlaces,
     count: usize,
     run: RunPosition,
     names: &[u8],

@@ -4,6 +4,7 @@ ghost use mathlib.Core.List.{[], _∷_};
 ghost use Prim.Native.Nat.{_≤_, _<_, _/_, _%_};
 ghost use lib.ListN.{length};
 ghost use Rattle.file.specs.Bytes.{bytesOf};
+ghost use Rattle.file.specs.Typed.{recordIn, nameIn};
 ghost use Rattle.file.specs.Cluster.{configuration, documentation, writeOperation, executeOperation};
 ghost use Rattle.file.specs.Decode.{decode};
 ghost use Rattle.file.specs.Legal.{LegalPending};
@@ -25,6 +26,7 @@ use cluster::round::master_slave;
 use file::types::FileNumber;
 use file::types::LogicalName;
 use file::types::RecordNumber;
+use file::types::SlavePlaces;
 use file::writers::read_epoch;
 use frame::firework::MSD;
 use frame::types::Operation;
@@ -47,7 +49,7 @@ const DOCUMENTATION: FileNumber = FileNumber(0x3D);
 
 // The read that finds out whether a name is taken.
 fn poll_round(name: LogicalName) -> NextRound
-    ensures { λ r. ⌜ Sends r (sent (poll (name .0))) ⌝ }
+    ensures { λ r. ⌜ Sends r (sent (poll (nameIn name))) ⌝ }
 {
     NextRound {
         name,
@@ -63,7 +65,7 @@ fn poll_round(name: LogicalName) -> NextRound
 
 // A write to a record of 0x08 of the unnamed slaves.
 fn write_round(record: RecordNumber, b0: u8, b1: u8, b2: u8, b3: u8) -> NextRound
-    ensures { λ r. ⌜ Sends r (atUnnamed writeOperation («record» .0) (b0 ∷ b1 ∷ b2 ∷ b3 ∷ [])) ⌝ }
+    ensures { λ r. ⌜ Sends r (atUnnamed writeOperation (recordIn «record») (b0 ∷ b1 ∷ b2 ∷ b3 ∷ [])) ⌝ }
 {
     NextRound {
         name: LogicalName::UNNAMED,
@@ -80,7 +82,7 @@ fn write_round(record: RecordNumber, b0: u8, b1: u8, b2: u8, b3: u8) -> NextRoun
 // The same with the four bytes of a number.
 fn half_round(record: RecordNumber, value: u64) -> NextRound
     requires { ⌜ value < half ⌝ }
-    ensures { λ r. ⌜ Sends r (atUnnamed writeOperation («record» .0) (bytesOf 4 value)) ⌝ }
+    ensures { λ r. ⌜ Sends r (atUnnamed writeOperation (recordIn «record») (bytesOf 4 value)) ⌝ }
 {
     let b0 = (value / 16777216) as u8;
     let b1 = (value % 16777216 / 65536) as u8;
@@ -103,7 +105,7 @@ fn low_round(value: u64) -> NextRound
 
 // An execute of a record of 0x08 of the unnamed slaves.
 fn execute_round(record: RecordNumber) -> NextRound
-    ensures { λ r. ⌜ Sends r (atUnnamed executeOperation («record» .0) []) ⌝ }
+    ensures { λ r. ⌜ Sends r (atUnnamed executeOperation (recordIn «record») []) ⌝ }
 {
     NextRound {
         name: LogicalName::UNNAMED,
@@ -132,7 +134,7 @@ fn compare_round(part: u64, value: u64) -> NextRound
 
 // A round of the four that give a name.
 fn give_round(place: u64, name: LogicalName, value: u64) -> NextRound
-    ensures { λ r. ⌜ Sends r (sent (operationAt (giveOf place) (name .0) value)) ⌝ }
+    ensures { λ r. ⌜ Sends r (sent (operationAt (giveOf place) (nameIn name) value)) ⌝ }
 {
     if place == 0 {
         return write_round(RecordNumber(1), 0, 0, name.0, LogicalName::UNNAMED.0);
@@ -149,7 +151,7 @@ fn give_round(place: u64, name: LogicalName, value: u64) -> NextRound
 // The round at a step of a pass, for a name and the value so far.
 pub fn round_at(step: u64, name: LogicalName, value: u64) -> NextRound
     requires { ⌜ step ≤ lastStep ⌝ }
-    ensures { λ r. ⌜ Sends r (sent (operationAt (placeOf step) (name .0) value)) ⌝ }
+    ensures { λ r. ⌜ Sends r (sent (operationAt (placeOf step) (nameIn name) value)) ⌝ }
 {
     if step == POLL {
         return poll_round(name);
@@ -184,8 +186,8 @@ fn next_epoch(epoch: u8) -> u8
 // The complete round on an accepted file. The mask of the slots in which someone sent.
 pub fn send(
     file: &mut [u8],
-    configurations: &[u16; 32],
-    documentations: &[u16; 32],
+    configurations: &SlavePlaces,
+    documentations: &SlavePlaces,
     count: usize,
     next: NextRound,
     buffer: &mut [u8],
