@@ -1,4 +1,4 @@
-// The checker: grounds 1 to 8 in one walk, which hands back where each slave keeps 0x08 and 0x3D.
+// The checker: grounds 1 to 8, with where each slave keeps 0x08 and 0x3D.
 ghost use mathlib.Core.Path.{_≡_};
 ghost use Rattle.file.specs.Grounds.{isAmong};
 ghost use Rattle.file.specs.Checked.{GoodHeader, BodyWalked, WholeWalk, slavesGround};

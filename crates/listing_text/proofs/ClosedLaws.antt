@@ -8,14 +8,17 @@ use mathlib.Core.List.{List, [], _∷_, _++_, append-nil, append-assoc}
 use mathlib.Core.Bool.{true, false, cond}
 use native.Mathlib.Omega.{arith}
 use native.Mathlib.Nat.{zero-add}
-use lib.ListN.{length, getD, drop, length-map}
+use lib.ListN.{length, getD, take, drop, length-map}
 use lib.Seq.{getD-drop}
 use lib.Dec.{eqb}
 use borrow.Author.Tests.{eq-eqb, ne-eqb, eqb-true, eqb-false}
 use Rattle.file.specs.Bytes.{Bytes}
 use Rattle.file.specs.Decode.{decode}
+use Rattle.file.specs.Layout.{offsetWidth, editionPlace}
 use Rattle.file.specs.Grounds.{fileGround, loadGround}
 use Rattle.file.specs.Legal.{Legal}
+use Rattle.file.proofs.AcceptedFacts.{accepted}
+use Rattle.file.proofs.Edition.{unknown-edition}
 use Rattle.file.proofs.Accepted.{accepted-legal}
 use Rattle.file.proofs.Order.{byCase, clash, both-true, both-false-right}
 use Rattle.cluster.specs.Grounds.{shortAnswer}
@@ -37,7 +40,7 @@ use Rattle.naming.proofs.FromFile.{names-of-view, legal-slaves, legal-few}
 use Rattle.naming.proofs.StepRound.{buffer-long, round-is}
 use Rattle.naming.proofs.ByteLaws.{Good, viewIn, Allowed, byte-laws, step-ground}
 use Rattle.naming.proofs.StepLaws.{step-made}
-use Rattle.listing_text.specs.Text.{nameLine, totalsLine}
+use Rattle.listing_text.specs.Text.{nameLine, totalsLine, refusedLine}
 use Rattle.listing_text.specs.Listing.{allNames, Tour, isMade, givesName, silently, withName, turn, turns, mostTurns, startTour, wholeTour, withTotals, listing, fileListed}
 use Rattle.listing_text.specs.Closed.{lines, namesGiven, closedListing}
 use Rattle.listing_text.proofs.TourLaws.{length-names}
@@ -304,3 +307,26 @@ pub listing-names :
     (file : List ℕ) → Bytes file → fileGround file ≡ 0 → namesIn (decode (fileListed file)) ≡ namesAfter (namesIn (decode file)) allNames
 unfolding fileListed
 listing-names file b g = rw (accepted-test file g) (whole-tour file b g .named)
+
+-- ---- files that are refused
+
+refused-test : (file : List ℕ) → (fileGround file ≡ 0 → ⊥) → eqb (loadGround file) 0 ≡ false
+unfolding loadGround
+refused-test file some = ne-eqb (fileGround file) 0 some
+
+-- A refused file gives only its number, and is left as it was.
+pub listing-refused : (file : List ℕ) → (fileGround file ≡ 0 → ⊥) → (listing file ≡ refusedLine (fileGround file)) × (fileListed file ≡ file)
+unfolding listing fileListed loadGround
+listing-refused file some = let e = refused-test file some in (rw e, rw e)
+
+accepted-edition : (file : List ℕ) → fileGround file ≡ 0 → getD file editionPlace 0 ≡ 1
+unfolding fileGround
+accepted-edition file e = accepted offsetWidth file .0 e .edition
+
+-- An unknown edition is refused before any offset is followed: the listing depends on nothing but length and the first three bytes.
+pub unknown-edition-listed :
+    (f g : List ℕ) → length f ≡ length g → take 3 f ≡ take 3 g → (getD f editionPlace 0 ≡ 1 → ⊥) → listing f ≡ listing g
+unknown-edition-listed f g long front other =
+    let same = unknown-edition f g long front other in
+    let none : fileGround f ≡ 0 → ⊥ = λ e. other (accepted-edition f e) in
+    listing-refused f none .0 ∙ ap refusedLine same ∙ sym (listing-refused g (λ e. none (same ∙ e)) .0)
