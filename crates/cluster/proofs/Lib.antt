@@ -33,3 +33,5 @@ pub mod Cases
 pub mod Sent
 pub mod RoundCall
 pub mod FrameCall
+-- the answers are told apart
+pub mod Distinct

@@ -27,3 +27,5 @@ pub mod RunLaws
 pub mod StepCode
 pub mod Witnesses
 pub mod Cases
+-- the answers are told apart
+pub mod Distinct

@@ -1,0 +1,56 @@
+-- No two answers of a call are taken to the same: the maps of `specs/Answers.antt` can be undone, of a step's answers together with
+-- the run behind it.
+-- Assumes nothing.
+use mathlib.Core.Path.{_≡_, refl, sym, _∙_, ap}
+use Rattle.cluster.specs.Round.{Answer.refused as refusedRound, carried}
+use Rattle.naming.specs.Run.{Position, Starting, begun}
+use Rattle.naming.specs.Run.{Starting.refused as refusedStart}
+use Rattle.naming.specs.Step.{Stepping, ended, made}
+use Rattle.naming.specs.Step.{Stepping.refused as refusedStep}
+use Rattle.naming.specs.Answers.{positionOf, startedOf, steppedOf, runAfter}
+use Rattle.naming.specs.declared.position.RunPosition.{RunPosition}
+use Rattle.naming.specs.declared.run.Started.{Started}
+use Rattle.naming.specs.declared.run.Started.the-variants as starts
+use Rattle.naming.specs.declared.run.Stepped.{Stepped}
+use Rattle.naming.specs.declared.run.Stepped.the-variants as steps
+
+run : Position → RunPosition
+run p =
+    record {
+      end = p .mark;
+      index = p .index;
+      step = p .step;
+      value = p .value;
+      rounds = p .rounds;
+      comparisons = p .comparisons;
+    }
+
+start : Starting → Started
+start (refusedStart n) = starts.Refused (record { 0 = n })
+start (begun p) = starts.Fresh (run p)
+
+start-back : (a : Started) → start (startedOf a) ≡ a
+unfolding start startedOf run
+start-back (starts.Refused why) = refl
+start-back (starts.Fresh p) = refl
+
+pub starts-distinct : (a b : Started) → startedOf a ≡ startedOf b → a ≡ b
+starts-distinct a b h = sym (start-back a) ∙ (ap start h ∙ start-back b)
+
+stepped : Stepping × Position → Stepped
+stepped (refusedStep n, p) = steps.Refused (record { 0 = n })
+stepped (ended, p) = steps.Ended
+stepped (made (refusedRound n), p) = steps.Ended
+stepped (made (carried mask), p) = steps.Made mask (run p)
+
+stepped-back : (p : Position) (a : Stepped) → stepped (steppedOf a, runAfter p a) ≡ a
+unfolding stepped steppedOf runAfter run
+stepped-back p (steps.Refused why) = refl
+stepped-back p steps.Ended = refl
+stepped-back p (steps.Made mask q) = refl
+
+pub steps-distinct : (p : Position) (a b : Stepped) → steppedOf a ≡ steppedOf b → runAfter p a ≡ runAfter p b → a ≡ b
+steps-distinct p a b h g = sym (stepped-back p a) ∙ (alike ∙ stepped-back p b)
+  where
+    alike : stepped (steppedOf a, runAfter p a) ≡ stepped (steppedOf b, runAfter p b)
+    alike = rw (h, g)
