@@ -21,7 +21,7 @@ pub fn offset_at(file: &[u8], at: usize) -> usize
     (high << 8) | low
 }
 
-// The eight-byte number at a place. One sum of eight shifted bytes is compiled to one load; two halves are not.
+// The eight-byte number at a place. Eight shifted bytes joined in one row are compiled to one load; two halves of four are not.
 pub fn u64_at(file: &[u8], at: usize) -> u64
     requires { ⌜ at + 8 ≤ length (now file) ⌝ }
     ensures { λ r. ⌜ NumberAt (now (file .entry)) at 8 r ⌝ }
