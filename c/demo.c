@@ -5,20 +5,14 @@
  * prints the same. */
 #include <inttypes.h>
 #include <stdio.h>
-#include <string.h>
 
 #include "ttpa.h"
 
-#define MOST_BYTES 32768
-#define READ 0
-#define DOCUMENTATION 0x3D
-#define ROUND_2 0xBA
-#define MSD 0x49
 #define STEPS_BETWEEN_TRAFFIC 50
 
 /* The cluster file and what the last round answered. One byte more than a file may have, so that a longer
  * one is seen and refused. */
-static uint8_t cluster[MOST_BYTES + 1];
+static uint8_t cluster[TTPA_FILE_BYTES + 1];
 static size_t length;
 static uint8_t answer[TTPA_ANSWER_BYTES];
 static uint64_t senders;
@@ -36,10 +30,10 @@ static int load(const char *path)
 
 static void print_verdict(const char *what, uint8_t number)
 {
-    if (number == 0) {
+    if (number == TTPA_ACCEPTED) {
         printf("%s: accepted\n", what);
     } else {
-        printf("%s: refused %u\n", what, (unsigned)number);
+        printf("%s: refused %u: %s\n", what, (unsigned)number, ttpa_refusal_text(number));
     }
 }
 
@@ -72,13 +66,13 @@ static uint8_t send(const uint8_t *frame, size_t bytes)
 /* A complete master-slave round: the address frame, then the data frame, which is one byte for a read. */
 static uint8_t read_record(uint8_t name, uint8_t file, uint8_t record)
 {
-    static const uint8_t data[1] = {MSD};
+    static const uint8_t data[1] = {TTPA_FIREWORK_MSD};
     uint8_t frame[TTPA_FRAME_BYTES];
-    uint8_t number = ttpa_write_address(frame, sizeof frame, 1, name, file, READ, record);
-    if (number == 0) {
+    uint8_t number = ttpa_write_address(frame, sizeof frame, 1, name, file, TTPA_OPERATION_READ, record);
+    if (number == TTPA_ACCEPTED) {
         number = send(frame, sizeof frame);
     }
-    if (number == 0) {
+    if (number == TTPA_ACCEPTED) {
         number = send(data, sizeof data);
     }
     return number;
@@ -87,49 +81,52 @@ static uint8_t read_record(uint8_t name, uint8_t file, uint8_t record)
 static void show_frames(void)
 {
     uint8_t frame[TTPA_FRAME_BYTES];
-    uint8_t parts[5];
-    print_verdict("write", ttpa_write_address(frame, sizeof frame, 2, 0x01, DOCUMENTATION, READ, 1));
+    uint8_t parts[TTPA_ADDRESS_PARTS];
+    print_verdict("write", ttpa_write_address(frame, sizeof frame, 2, 0x01, TTPA_FILE_DOCUMENTATION,
+                                              TTPA_OPERATION_READ, 1));
     print_bytes("frame", frame, sizeof frame);
     print_verdict("read back", ttpa_read_address(frame, sizeof frame, parts));
     print_bytes("epoch, name, file, operation, record", parts, sizeof parts);
     frame[5] ^= 1;
     print_verdict("a wrong check byte", ttpa_read_address(frame, sizeof frame, parts));
-    print_verdict("a read at 00", ttpa_write_address(frame, sizeof frame, 2, 0x00, DOCUMENTATION, READ, 1));
+    print_verdict("a read at 00", ttpa_write_address(frame, sizeof frame, 2, TTPA_NAME_BROADCAST,
+                                                     TTPA_FILE_DOCUMENTATION, TTPA_OPERATION_READ, 1));
     print_verdict("a wrong check byte on the bus", send(frame, sizeof frame));
 }
 
 /* Rounds that others make meanwhile: a multipartner round and a read. */
 static uint8_t other_traffic(void)
 {
-    static const uint8_t round[1] = {ROUND_2};
+    static const uint8_t round[1] = {TTPA_FIREWORK_ROUND_2};
     uint8_t number = send(round, sizeof round);
-    return number != 0 ? number : read_record(0x01, DOCUMENTATION, 2);
+    return number != TTPA_ACCEPTED ? number : read_record(0x01, TTPA_FILE_DOCUMENTATION, 2);
 }
 
 static uint8_t name_slaves(const uint8_t *names, size_t count)
 {
     uint64_t run[TTPA_RUN_WORDS];
     uint8_t number = ttpa_start(names, count, run);
-    while (number == 0 && run[0] == TTPA_RUNNING) {
-        uint64_t index = run[1];
-        uint64_t step = run[2];
-        if (run[4] % STEPS_BETWEEN_TRAFFIC == STEPS_BETWEEN_TRAFFIC - 1) {
+    while (number == TTPA_ACCEPTED && run[TTPA_RUN_END] == TTPA_RUNNING) {
+        uint64_t index = run[TTPA_RUN_INDEX];
+        uint64_t step = run[TTPA_RUN_STEP];
+        if (run[TTPA_RUN_ROUNDS] % STEPS_BETWEEN_TRAFFIC == STEPS_BETWEEN_TRAFFIC - 1) {
             number = other_traffic();
         }
-        if (number == 0) {
+        if (number == TTPA_ACCEPTED) {
             number = ttpa_step(cluster, length, run, names, count, answer, sizeof answer, &senders);
         }
-        if (number == 0 && run[1] != index) {
+        if (number == TTPA_ACCEPTED && run[TTPA_RUN_INDEX] != index) {
             if (step == 0) {
                 printf("%02X is taken\n", (unsigned)names[index]);
             } else {
-                printf("%02X given to %016" PRIX64 "\n", (unsigned)names[index], run[3]);
+                printf("%02X given to %016" PRIX64 "\n", (unsigned)names[index], run[TTPA_RUN_VALUE]);
             }
         }
     }
-    if (number == 0) {
+    if (number == TTPA_ACCEPTED) {
         printf("%s, rounds %" PRIu64 ", comparisons %" PRIu64 "\n",
-               run[0] == TTPA_ALL_NAMED ? "all named" : "names used up", run[4], run[5]);
+               run[TTPA_RUN_END] == TTPA_ALL_NAMED ? "all named" : "names used up",
+               run[TTPA_RUN_ROUNDS], run[TTPA_RUN_COMPARISONS]);
     }
     return number;
 }
@@ -138,7 +135,7 @@ int main(int count, char **arguments)
 {
     static const uint8_t names[] = {0x01, 0x02, 0x03, 0x04};
     static const uint8_t bad_names[] = {0x01, 0x02, 0x01};
-    static const uint8_t round[1] = {ROUND_2};
+    static const uint8_t round[1] = {TTPA_FIREWORK_ROUND_2};
     uint64_t run[TTPA_RUN_WORDS];
 
     if (count != 2 || !load(arguments[1])) {
@@ -148,11 +145,11 @@ int main(int count, char **arguments)
     print_verdict("a cut file", ttpa_check(cluster, length > 0 ? length - 1 : 0));
     uint8_t number = ttpa_check(cluster, length);
     print_verdict("the file", number);
-    if (number != 0) {
+    if (number != TTPA_ACCEPTED) {
         return 1;
     }
     show_frames();
-    number = read_record(0x01, DOCUMENTATION, 2);
+    number = read_record(0x01, TTPA_FILE_DOCUMENTATION, 2);
     print_verdict("read of 01", number);
     print_answer("answer");
     number = send(round, sizeof round);
@@ -162,15 +159,15 @@ int main(int count, char **arguments)
     number = name_slaves(names, sizeof names);
     print_verdict("naming", number);
     for (uint8_t name = 0x02; name <= 0x03; name++) {
-        number = read_record(name, DOCUMENTATION, 2);
+        number = read_record(name, TTPA_FILE_DOCUMENTATION, 2);
         print_verdict("read", number);
         print_answer("answer");
     }
     number = send(round, sizeof round);
     print_verdict("round 2 after naming", number);
     print_answer("answer");
-    print_verdict("a short answer buffer",
-                  ttpa_round(cluster, length, round, sizeof round, answer, 63, &senders));
+    print_verdict("a short answer buffer", ttpa_round(cluster, length, round, sizeof round, answer,
+                                                      TTPA_ANSWER_BYTES - 1, &senders));
     print_verdict("the file as it is now", ttpa_check(cluster, length));
     return 0;
 }

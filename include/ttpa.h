@@ -1,17 +1,22 @@
-/* The TTP/A cluster engine: check a cluster file, read and write frames, carry out rounds on the file and
- * name its slaves.
+/* The TTP/A cluster engine for C and C++: check a cluster file, read and write frames, carry out rounds on
+ * the file and name its slaves. The words and rules are those of document 01, the scope document.
  *
- * Every call returns 0 or a number of document 01, which says why it turned something away. A refusal
- * alters nothing that was lent. Every pointer stays the caller's: a call uses it until it returns, keeps
- * none, and reads or writes no byte outside the length given with it. No call keeps state, allocates or
- * blocks, and every call returns, whatever the bytes hold. A pointer with length 0 is not followed; any
- * other pointer must be valid for its length, and memory that a call writes must not overlap other memory
- * of the same call. Calls on different memory may run at the same time.
+ * Numbers. Every call returns 0 or the number of the ground on which it refused, see enum ttpa_refusal. The
+ * comment of a call gives its numbers in the order in which it checks them; the first that holds is
+ * returned. A refused call alters nothing that was lent.
  *
- * The numbers: 1 file size, 2 mark, 3 edition, 4 length field, 5 header, 6 layout, 7 file 0x08 or 0x3D
- * missing or too small, 8 equal physical names, 9 buffer too short, 10 no firework, 11 frame length,
- * 12 check byte, 13 operation, 14 read addressed to 0x00, 15 listed name 0x00 or 0xFF, 16 listed name
- * twice, 17 run position, 18 file number above 63. Each call checks its own in rising order. */
+ * Memory. All memory is the caller's, lent until the call returns; no pointer is kept. No byte is read or
+ * written outside the length that is given with a pointer.
+ * - NULL: a pointer with length 0 is not followed and may be NULL. With any other length it points to that
+ *   many bytes. parts, run and senders have no length and are never NULL, not in a refused call either.
+ * - Alignment: run and senders as uint64_t has it, so not inside a packed structure; all others none.
+ * - Overlap: what a call may write (each pointer without const) overlaps nothing else of the same call.
+ * The calls keep no state, allocate nothing, never wait and always return, whatever the bytes hold. Calls on
+ * different memory may run at the same time.
+ *
+ * The library. libttpa.a is for x86-64 alone, which is all that today's toolchain makes. It follows the
+ * System V calling convention, uses SSE2 registers and the 128 bytes below the stack pointer (the red zone),
+ * and needs at most memcpy, memmove and memset from the program that it is linked into. */
 #ifndef TTPA_H
 #define TTPA_H
 
@@ -22,53 +27,187 @@
 extern "C" {
 #endif
 
-/* The words of a run position: end mark, index, step, value, rounds, comparisons. */
+/* The version of this header and of the library made from the same sources. The archive does not carry it:
+ * keep the two together. */
+#define TTPA_VERSION_MAJOR 0
+#define TTPA_VERSION_MINOR 1
+#define TTPA_VERSION_PATCH 0
+
+/* What the library takes: code and constants of all calls, and the most stack that a call uses, with its
+ * return address and arguments. No other memory. Both are measured, and rounded up. */
+#define TTPA_CODE_BYTES 7168
+#define TTPA_STACK_BYTES 2560
+
+/* What the calls return: 0, or the number of document 01 for the ground on which something was refused. */
+enum ttpa_refusal {
+    TTPA_ACCEPTED = 0,
+    /* a cluster file: 1 to 8 */
+    TTPA_REFUSED_FILE_SIZE = 1,
+    TTPA_REFUSED_MARK = 2,
+    TTPA_REFUSED_EDITION = 3,
+    TTPA_REFUSED_LENGTH_FIELD = 4,
+    TTPA_REFUSED_HEADER = 5,
+    TTPA_REFUSED_LAYOUT = 6,
+    TTPA_REFUSED_NEEDED_FILE = 7,
+    TTPA_REFUSED_EQUAL_PHYSICAL_NAMES = 8,
+    /* a buffer to be written */
+    TTPA_REFUSED_SHORT_BUFFER = 9,
+    /* a frame: 10 to 14, and 18 below */
+    TTPA_REFUSED_FIREWORK = 10,
+    TTPA_REFUSED_FRAME_LENGTH = 11,
+    TTPA_REFUSED_CHECK_BYTE = 12,
+    TTPA_REFUSED_OPERATION = 13,
+    TTPA_REFUSED_BROADCAST_READ = 14,
+    /* a list of names, and a run over it */
+    TTPA_REFUSED_LISTED_NAME = 15,
+    TTPA_REFUSED_REPEATED_NAME = 16,
+    TTPA_REFUSED_POSITION = 17,
+    /* a file number handed to the writer of address frames */
+    TTPA_REFUSED_FILE_NUMBER = 18
+};
+
+/* What a returned number means, for an installer's screen: English, ASCII, without a full stop, never NULL.
+ * A program that does not call it does not contain the texts. */
+static inline const char *ttpa_refusal_text(uint8_t number)
+{
+    switch (number) {
+    case TTPA_ACCEPTED:
+        return "accepted";
+    case TTPA_REFUSED_FILE_SIZE:
+        return "the cluster file is shorter than 16 or longer than 32,768 bytes";
+    case TTPA_REFUSED_MARK:
+        return "the file is no cluster file: it does not begin with the mark 0x54 0x41";
+    case TTPA_REFUSED_EDITION:
+        return "the cluster file's edition, byte 2 of its header, is not 1";
+    case TTPA_REFUSED_LENGTH_FIELD:
+        return "the cluster file is not as long as its header says";
+    case TTPA_REFUSED_HEADER:
+        return "the cluster file's header has a wrong count, table offset, pending operation or zero byte";
+    case TTPA_REFUSED_LAYOUT:
+        return "the cluster file's slave table, a slave's directory or the file's end breaks the layout";
+    case TTPA_REFUSED_NEEDED_FILE:
+        return "a slave lacks file 0x08 (configuration) with record 3 or 0x3D (documentation) with record 2";
+    case TTPA_REFUSED_EQUAL_PHYSICAL_NAMES:
+        return "two slaves have the same physical name";
+    case TTPA_REFUSED_SHORT_BUFFER:
+        return "the buffer is too short: 64 bytes are needed for an answer, 6 for a frame";
+    case TTPA_REFUSED_FIREWORK:
+        return "the frame is empty or begins with no firework; an address frame begins with 0x55";
+    case TTPA_REFUSED_FRAME_LENGTH:
+        return "the frame's length does not fit its firework: 6 for an address or written data, else 1";
+    case TTPA_REFUSED_CHECK_BYTE:
+        return "the frame's check byte does not fit the four bytes before it";
+    case TTPA_REFUSED_OPERATION:
+        return "the address frame's operation is none of read, write and execute";
+    case TTPA_REFUSED_BROADCAST_READ:
+        return "a read is addressed to all slaves, logical name 0x00";
+    case TTPA_REFUSED_LISTED_NAME:
+        return "the list of names has 0x00 (broadcast) or 0xFF (unnamed), which a naming run does not give";
+    case TTPA_REFUSED_REPEATED_NAME:
+        return "the list of names has a name twice";
+    case TTPA_REFUSED_POSITION:
+        return "the stored naming run is damaged or belongs to another list of names";
+    case TTPA_REFUSED_FILE_NUMBER:
+        return "the file number for an address frame is above 63";
+    default:
+        return "refused on a ground that this version has no text for";
+    }
+}
+
+/* The most bytes that a cluster file has. */
+#define TTPA_FILE_BYTES 32768
+
+/* The bytes of an address frame and of a data frame with data, and those of the answer to a frame. */
+#define TTPA_FRAME_BYTES 6
+#define TTPA_ANSWER_BYTES 64
+
+/* The fireworks: a frame's first byte tells its round. MSA opens an address frame, MSD the data frame after
+ * it, which has 6 bytes for a write and else this byte alone. The others are the multipartner rounds, whose
+ * frame is this byte alone. */
+#define TTPA_FIREWORK_ROUND_0 0x78
+#define TTPA_FIREWORK_MSD 0x49
+#define TTPA_FIREWORK_ROUND_2 0xBA
+#define TTPA_FIREWORK_ROUND_3 0x8B
+#define TTPA_FIREWORK_ROUND_4 0x64
+#define TTPA_FIREWORK_MSA 0x55
+#define TTPA_FIREWORK_ROUND_6 0xA6
+#define TTPA_FIREWORK_ROUND_7 0x97
+
+/* The parts of an address frame, by their place in parts. */
+#define TTPA_PART_EPOCH 0
+#define TTPA_PART_NAME 1
+#define TTPA_PART_FILE 2
+#define TTPA_PART_OPERATION 3
+#define TTPA_PART_RECORD 4
+#define TTPA_ADDRESS_PARTS 5
+
+/* The operations of an address frame. */
+#define TTPA_OPERATION_READ 0
+#define TTPA_OPERATION_WRITE 1
+#define TTPA_OPERATION_EXECUTE 2
+
+/* The logical names that address many: 0x00 all slaves but the unnamed, 0xFF the unnamed. */
+#define TTPA_NAME_BROADCAST 0x00
+#define TTPA_NAME_UNNAMED 0xFF
+
+/* The files that every slave has. */
+#define TTPA_FILE_CONFIGURATION 0x08
+#define TTPA_FILE_DOCUMENTATION 0x3D
+
+/* The words of a naming run, by their place in run. A run may be stored, together with its list of names,
+ * and taken up later, by another program too: it is six numbers of 64 bits, and in which byte order they are
+ * stored is the caller's matter. 17 refuses an end mark above 2 and words outside their limits; other words are
+ * carried on as they stand, so a store that may be damaged needs a check of its own. */
+#define TTPA_RUN_END 0         /* an end mark, see below */
+#define TTPA_RUN_INDEX 1       /* place in the list of the name that is next */
+#define TTPA_RUN_STEP 2        /* place of the next round among those for this name, 0 to 199 */
+#define TTPA_RUN_VALUE 3       /* the physical name looked for, as far as found; whole when a name is given */
+#define TTPA_RUN_ROUNDS 4      /* rounds made in the whole run */
+#define TTPA_RUN_COMPARISONS 5 /* comparisons made in the whole run */
 #define TTPA_RUN_WORDS 6
 
-/* The end marks, run[0]. */
+/* The end marks. */
 #define TTPA_RUNNING 0
 #define TTPA_ALL_NAMED 1
 #define TTPA_NAMES_USED_UP 2
 
-/* The bytes of an answer, and of an address or data frame. */
-#define TTPA_ANSWER_BYTES 64
-#define TTPA_FRAME_BYTES 6
-
-/* Checks a cluster file of n bytes: 0, or 1 to 8. Only reads. Keeps no state, never allocates, always
- * returns. */
+/* Checks a cluster file of n bytes.
+ * Refuses by 1, 2, 3, 4, 5, 6, 7, 8 in this order. Writes nothing. */
 uint8_t ttpa_check(const uint8_t *file, size_t n);
 
-/* Reads an address frame of n bytes into parts: epoch, name, file, operation, record. 0, or 10 to 14. The
- * caller owns both; parts is written on 0 only. Keeps no state, never allocates, always returns. */
-uint8_t ttpa_read_address(const uint8_t *frame, size_t n, uint8_t parts[5]);
+/* Reads an address frame of n bytes into parts.
+ * Refuses by 10, 11, 12, 13, 14 in this order. On 0 all of parts is written. */
+uint8_t ttpa_read_address(const uint8_t *frame, size_t n, uint8_t parts[TTPA_ADDRESS_PARTS]);
 
-/* Writes an address frame into the first 6 of the n bytes and leaves the rest: 0, or 9, 13, 14 or 18.
- * Operation 0 is read, 1 write, 2 execute. The caller owns the buffer; it is written on 0 only. Keeps no
- * state, never allocates, always returns. */
+/* Writes an address frame into the first 6 of the n bytes at frame.
+ * Refuses by 9, 13, 14, 18 in this order. On 0 these 6 bytes are written, and no other. */
 uint8_t ttpa_write_address(uint8_t *frame, size_t n, uint8_t epoch, uint8_t name, uint8_t file,
                            uint8_t operation, uint8_t record);
 
-/* Writes a data frame into the first 6 of the n bytes and leaves the rest: 0, or 9. The caller owns the
- * buffer; it is written on 0 only. Keeps no state, never allocates, always returns. */
+/* Writes a data frame with the four bytes given into the first 6 of the n bytes at frame.
+ * Refuses by 9. On 0 these 6 bytes are written, and no other. */
 uint8_t ttpa_write_data(uint8_t *frame, size_t n, uint8_t b0, uint8_t b1, uint8_t b2, uint8_t b3);
 
-/* Carries out one frame of m bytes on the cluster file of n bytes: 0, or 1 to 14. On 0 the file is as the
- * round leaves it, the first 64 of the k bytes of answer are the firework and each slot's byte (0xFF where
- * nobody sent), and bit s of *senders is set exactly when someone sent in slot s. The caller owns all
- * four; a refusal leaves file, answer and *senders. Keeps no state, never allocates, always returns. */
+/* Carries out one frame of m bytes on the cluster file of n bytes; answer has k bytes.
+ * Refuses by 1, 2, 3, 4, 5, 6, 7, 8, 9, 10, 11, 12, 13, 14 in this order. On 0 the file is as the round
+ * leaves it, the first 64 bytes of answer, and no other, are the firework and then the byte of each slot 1
+ * to 63 (0xFF where nobody sent), and bit s of *senders is set exactly when a slave sent in slot s. */
 uint8_t ttpa_round(uint8_t *file, size_t n, const uint8_t *frame, size_t m, uint8_t *answer, size_t k,
                    uint64_t *senders);
 
-/* Makes a fresh naming run over the list of n names: 0, or 15 or 16. The caller owns names and run; run is
- * written on 0 only, and may be stored and taken up later. Keeps no state, never allocates, always
- * returns. */
+/* Makes a fresh naming run over the list of n names; over an empty list it has ended already.
+ * Refuses by 15, 16 in this order. On 0 all of run is written. */
 uint8_t ttpa_start(const uint8_t *names, size_t n, uint64_t run[TTPA_RUN_WORDS]);
 
-/* Makes the run's next step, one complete master-slave round on the cluster file of n bytes, over the
- * unchanged list of m names: 0, or 1 to 9 or 15 to 17. On 0 file and run have moved on, the first 64 of
- * the k bytes of answer are the answer to the step's data frame and *senders is its mask; a step of an
- * ended run returns 0 and alters nothing, *senders included. The caller owns all five; a refusal leaves
- * file, run, answer and *senders. Keeps no state, never allocates, always returns. */
+/* Makes the run's next round, an address frame and a data frame, on the cluster file of n bytes, over the
+ * same list of m names as at the start; answer has k bytes. Between two steps other rounds may be made on
+ * the file: multipartner rounds, and address frames each with its data frame, but no write to and no execute
+ * of file 0x08.
+ * Refuses by 1, 2, 3, 4, 5, 6, 7, 8, 9, 15, 16, 17 in this order. On 0 file and run have moved on, and
+ * answer and *senders are those of the data frame, as ttpa_round has them. In a run from ttpa_start: if the
+ * index has risen, the name before it is done: it was taken already if the step was 0 before the call, else
+ * the slave whose physical name is the value has it now. A step of an ended run returns 0 and alters
+ * nothing. */
 uint8_t ttpa_step(uint8_t *file, size_t n, uint64_t run[TTPA_RUN_WORDS], const uint8_t *names, size_t m,
                   uint8_t *answer, size_t k, uint64_t *senders);
 

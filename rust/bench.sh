@@ -2,7 +2,7 @@
 # Instructions of each workload, counted by callgrind: k and 2k times, the difference divided by k.
 #
 #   rust/bench.sh              plain Rust alone
-#   rust/bench.sh library      the library beside it, with ratios (TTPA_LIB_DIR: the folder of libtester.a)
+#   rust/bench.sh library      the library beside it, with ratios (TTPA_LIB_DIR: the folder of libttpa.a)
 #   rust/bench.sh [library] growth    how check, rounds and naming grow
 #
 # The column nested is plain Rust with the form that document 01 names for multipartner rounds: loops over

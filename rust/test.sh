@@ -1,9 +1,10 @@
 #!/usr/bin/env bash
-# Builds and runs everything around the engine's archive: the C program and the Rust example against their
+# Builds and runs everything around the engine's archive: the C programs and the Rust example against their
 # expected output, the tests of the Rust crates, and the comparison of the library with the model. Before
-# that, the listing program on inputs of many lengths.
+# that, the listing program on inputs of many lengths and on vectors. What was counted is left in target/counts
+# for .ci/least.
 #
-#   rust/test.sh [--long]      TTPA_LIB_DIR: the folder of libtester.a, default target/staticlib
+#   rust/test.sh [--long]      TTPA_LIB_DIR: the folder of libttpa.a, default target/staticlib
 #                              TTPA_BIN_DIR: the folder of the program listing, default target/bin
 #
 # The last line is 'N passed, M failed'; the status is 1 if something failed.
@@ -12,8 +13,12 @@ cd "$(dirname "$0")/.." || exit 1
 export TTPA_LIB_DIR=${TTPA_LIB_DIR:-$PWD/target/staticlib}
 listing=${TTPA_BIN_DIR:-$PWD/target/bin}/listing
 cc=${CC:-cc}
+cxx=${CXX:-c++}
 passed=0
 failed=0
+vectors=(rust/model/tests/data/*.txt)
+counts=$PWD/target/counts
+mkdir -p target && : >"$counts" || exit 1
 work=$(mktemp -d) || exit 1
 trap 'rm -rf "$work"' EXIT
 
@@ -23,6 +28,9 @@ fail() {
     echo "failed: $1"
     failed=$((failed + 1))
 }
+
+# A number for .ci/least: what was counted, its name, how many.
+counted() { echo "$1 $2 $3" >>"$counts"; }
 
 finish() {
     echo "$passed passed, $failed failed"
@@ -34,7 +42,9 @@ finish() {
 require() {
     command -v cargo >/dev/null || fail "missing: cargo"
     command -v "$cc" >/dev/null || fail "missing: C compiler ($cc)"
-    [ -f "$TTPA_LIB_DIR/libtester.a" ] || fail "missing: $TTPA_LIB_DIR/libtester.a"
+    command -v "$cxx" >/dev/null || fail "missing: C++ compiler ($cxx)"
+    command -v nm >/dev/null && command -v size >/dev/null || fail "missing: nm and size"
+    [ -f "$TTPA_LIB_DIR/libttpa.a" ] || fail "missing: $TTPA_LIB_DIR/libttpa.a"
     [ -x "$listing" ] || fail "missing: $listing"
     [ "$failed" -eq 0 ] || finish
 }
@@ -103,13 +113,111 @@ listing_program() {
     expect_output "listing: 200,000 bytes" "$refused" "$listing" < <(head -c 200000 "$input")
 }
 
+# The 'list' lines of the vectors through the listing program; ' / ' stands for the end of a line.
+listing_vectors() {
+    local file kind bytes expected made
+    for file in "${vectors[@]}"; do
+        made=0
+        while read -r kind bytes _ expected; do
+            if [ "$kind" != list ]; then continue; fi
+            made=$((made + 1))
+            printf '%s\n' "${expected// \/ /$'\n'}" >"$work/listed"
+            expect_output "listing: $file, list $made" "$work/listed" "$listing" < <(hex "${bytes#-}")
+        done <"$file"
+        if [ "$made" -ne 0 ]; then counted calls "listing/${file##*/}/list" "$made"; fi
+    done
+}
+
 c_program() {
-    if "$cc" -std=c11 -O2 -Wall -Wextra -Wpedantic -Werror -Iinclude c/demo.c "$TTPA_LIB_DIR/libtester.a" \
+    if "$cc" -std=c11 -O2 -Wall -Wextra -Wpedantic -Werror -Iinclude c/demo.c "$TTPA_LIB_DIR/libttpa.a" \
         -o "$work/demo"; then
         expect_output "C program" c/expected.txt "$work/demo" c/demo.cluster
     else
         fail "C program: does not build"
     fi
+}
+
+strict=(-Wall -Wextra -Wpedantic -Werror -Iinclude)
+
+# The bytes of those sections of an object or archive whose names begin with one of the words.
+section_bytes() { size -A "$1" | awk -v words="^[.]($2)" '$1 ~ words { sum += $2 } END { print sum + 0 }'; }
+
+# The header in one language, given with its compiler: its constants, its prototypes and every call; and that a source
+# which only includes it has no code and no data of it.
+header_program() {
+    local language=$1
+    shift
+    if "$@" -O2 "${strict[@]}" c/header.c -x none "$TTPA_LIB_DIR/libttpa.a" -o "$work/header"; then
+        expect_output "header as $language" c/header.txt "$work/header"
+    else
+        fail "header as $language: does not build"
+    fi
+    if "$@" -O0 "${strict[@]}" -c - -o "$work/alone.o" <<<'#include "ttpa.h"' &&
+        [ "$(section_bytes "$work/alone.o" 'text|rodata|data|bss')" -eq 0 ]; then
+        pass 1
+    else
+        fail "header as $language: included alone, it adds to the program"
+    fi
+}
+
+# c/header.c holds every constant and prototype of the header, except the sizes and the version, which are held here;
+# and the header has every call of the archive.
+header_whole() {
+    local held=$work/held calls=$work/calls
+    {
+        sed -nE 's/^(VALUE|PROTOTYPE)\((\w+), .*/\2/p' c/header.c
+        printf '%s\n' TTPA_H TTPA_{CODE,STACK}_BYTES TTPA_VERSION_{MAJOR,MINOR,PATCH}
+    } | sort >"$held"
+    { nm -g --defined-only "$TTPA_LIB_DIR/libttpa.a" | awk '$2 == "T" { print $3 }' && echo ttpa_refusal_text; } | sort >"$calls"
+    if diff "$held" <(grep -oE 'TTPA_[A-Z0-9_]+|ttpa_[a-z_]+\(' include/ttpa.h | tr -d '(' | sort -u) &&
+        diff "$calls" <(grep ttpa "$held"); then
+        pass 1
+    else
+        fail "header: a name is not held by c/header.c, or a call is not in the header"
+    fi
+}
+
+header_version() {
+    local version
+    version=$(sed -n 's/^#define TTPA_VERSION_[A-Z]* //p' include/ttpa.h | paste -sd.)
+    if grep -qxF "version = \"$version\"" rust/Cargo.toml; then
+        pass 1
+    else
+        fail "header: version $version is not that of rust/Cargo.toml"
+    fi
+}
+
+# What the header says of the archive: no memory of its own, and no other function needed than these three.
+archive_needs() {
+    local needed
+    needed=$(nm -u "$TTPA_LIB_DIR/libttpa.a" | awk '$1 == "U" && $2 !~ /^mem(cpy|move|set)$/')
+    if [ -z "$needed" ] && [ "$(section_bytes "$TTPA_LIB_DIR/libttpa.a" 'data|bss|tdata|tbss')" -eq 0 ]; then
+        pass 1
+    else
+        fail "archive: it has memory of its own, or needs:$needed"
+    fi
+}
+
+# A number of bytes that the header states covers what was measured, which is at least three quarters of it.
+stated() {
+    local name=$1 measured=$2 stated
+    stated=$(sed -nE "s/^#define $name ([0-9]+)\$/\1/p" include/ttpa.h)
+    echo "$name: ${measured:-nothing} measured, ${stated:-nothing} stated"
+    if [ -n "$measured" ] && [ -n "$stated" ] && [ "$measured" -le "$stated" ] && [ $((4 * measured)) -ge $((3 * stated)) ]; then
+        pass 1
+    else
+        fail "header: $name"
+    fi
+}
+
+sizes() {
+    local deepest=
+    if "$cc" -std=c11 -O2 "${strict[@]}" c/stack.c "$TTPA_LIB_DIR/libttpa.a" -o "$work/stack" &&
+        timeout 60 "$work/stack" >"$work/depths"; then
+        deepest=$(sed -n 's/^deepest //p' "$work/depths")
+    fi
+    stated TTPA_STACK_BYTES "$deepest"
+    stated TTPA_CODE_BYTES "$(section_bytes "$TTPA_LIB_DIR/libttpa.a" 'text|rodata')"
 }
 
 rust_example() {
@@ -141,23 +249,50 @@ cargo_tests() {
     if [ "$count" -eq 0 ]; then
         fail "cargo test: no test ran"
     fi
+    counted tests cargo "$count"
     pass "$count"
 }
 
-# The library against the model; the program prints its own count of calls.
-comparison() {
-    if cargo_quiet build -p compare --features library &&
-        timeout 1800 "${CARGO_TARGET_DIR:-rust/target}/release/compare" "$@" &&
-        timeout 60 "${CARGO_TARGET_DIR:-rust/target}/release/compare" --cases rust/model/tests/data/cases.txt; then
-        pass 2
-    else
-        fail "comparison of library and model"
+compare=${CARGO_TARGET_DIR:-rust/target}/release/compare
+
+# A run of the comparison, which says itself what it ran against and how many calls of each kind it made.
+compared() {
+    local source=$1 engine kind made
+    shift
+    if ! timeout 1800 "$compare" "$@" >"$work/compared"; then
+        cat "$work/compared"
+        fail "comparison, $source"
+        return
     fi
+    cat "$work/compared"
+    engine=$(sed -n 's/^engine //p' "$work/compared")
+    while read -r kind made; do counted calls "$engine/$source/$kind" "$made"; done \
+        < <(sed -n 's/^made //p' "$work/compared")
+    if [ "$engine" = library ]; then pass 1; else fail "comparison, $source: ran against $engine, not the library"; fi
+}
+
+# The library against the model, and against the vectors. The program holds the names of the C calls that it was linked with.
+comparison() {
+    local file
+    if ! cargo_quiet build -p compare --features library; then
+        fail "comparison: does not build"
+        return
+    fi
+    counted calls library/linked "$(grep -aow 'ttpa_[a-z_]*' "$compare" | sort -u | wc -l)"
+    compared random "$@"
+    for file in "${vectors[@]}"; do compared "${file##*/}" --cases "$file"; done
 }
 
 require
 listing_program
+listing_vectors
 c_program
+header_program C "$cc" -std=c11 -x c
+header_program C++ "$cxx" -std=c++17 -x c++
+header_whole
+header_version
+archive_needs
+sizes
 rust_example
 readme_shows c/expected.txt
 readme_shows crates/listing/stdout

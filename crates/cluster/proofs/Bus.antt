@@ -12,12 +12,12 @@ use lib.Bits.{bitAnd, bitOr, and-le-l, or-shifted-r}
 use lib.Pow.{pow-pos, pow-add, high, shl-exact}
 use lib.Dec.{ltb, leb}
 use borrow.Author.Tests.{ltb-true, ltb-false, le-leb, lt-leb, leb-true}
-use Rattle.file.specs.Bytes.{Byte, part}
+use Rattle.file.specs.Rules.Bytes.{Byte, part}
 use Rattle.file.proofs.Order.{byCase, both-true, both-next, both-false-left}
-use Rattle.cluster.specs.Bus.{Senders, joined, busByte, anyone, maskBelow, slots, senderMask, slotBytes, answerBytes, answerIn, nobody}
-use Rattle.frame.specs.Check.{dataCheck}
-use Rattle.cluster.specs.Slaves.{readReply}
-use Rattle.cluster.specs.Carried.{said, sendersTo}
+use Rattle.cluster.specs.Rules.Bus.{Senders, joined, busByte, anyone, maskBelow, slots, senderMask, slotBytes, answerBytes, answerIn, nobody}
+use Rattle.frame.specs.Rules.Check.{dataCheck}
+use Rattle.cluster.specs.Rules.Slaves.{readReply}
+use Rattle.cluster.specs.Inner.Carried.{said, sendersTo}
 
 -- ---- one slot
 

@@ -9,17 +9,18 @@ use mathlib.Core.Bool.{true}
 use lib.ListN.{getD}
 use lib.Dec.{eqb, leb}
 use borrow.Author.Tests.{eqb-true, eqb-false, le-leb, lt-leb}
-use Rattle.file.specs.Order.{both}
-use Rattle.file.specs.Cluster.{Slave, Cluster, recordOf, logicalName, physicalName, comparisonValue, unnamed}
-use Rattle.file.specs.Decode.{decode}
+use Rattle.file.specs.Rules.Order.{both}
+use Rattle.file.specs.Rules.Results.{done}
+use Rattle.file.specs.Rules.Cluster.{Slave, Cluster, recordOf, logicalName, physicalName, comparisonValue, unnamed}
+use Rattle.file.specs.Rules.Decode.{decode}
 use Rattle.file.proofs.Order.{byCase}
-use Rattle.frame.specs.Fireworks.{dataFirework, roundOf, roundIn}
-use Rattle.cluster.specs.Bus.{Senders, joined, busByte, anyone, slots, maskBelow, senderMask, slotBytes, answerBytes, answerIn, nobody}
-use Rattle.cluster.specs.Slaves.{addressed, addresses, isUnnamed, Operation, reading, comparing, pendingOperation, answersRead, readReply, answersCompare, replyTo, inSlot, sentTo}
-use Rattle.cluster.specs.Grounds.{roundBy}
-use Rattle.cluster.specs.Round.{carried, dataEffect, effectOf, frameOn, carriedBy, bufferBy, roundGround, roundOn}
+use Rattle.frame.specs.Rules.Fireworks.{dataFirework, roundOf, roundIn}
+use Rattle.cluster.specs.Rules.Bus.{Senders, joined, busByte, anyone, slots, maskBelow, senderMask, slotBytes, answerBytes, answerIn, nobody}
+use Rattle.cluster.specs.Rules.Slaves.{addressed, addresses, isUnnamed, Duty, reading, comparing, pendingDuty, answersRead, readReply, answersCompare, replyTo, inSlot, sentTo}
+use Rattle.cluster.specs.Rules.Grounds.{roundBy}
+use Rattle.cluster.specs.Rules.Round.{dataEffect, effectOf, frameOn, carriedBy, bufferBy, roundGround, roundOn}
 use Rattle.cluster.proofs.Bus.{mask-alike, mask-nobody, answer-alike, sendersTo-yes, sendersTo-no}
-use Rattle.cluster.specs.Carried.{sendersTo}
+use Rattle.cluster.specs.Inner.Carried.{sendersTo}
 use Rattle.cluster.proofs.Hearing.{inSlot-yes, inSlot-no, inSlot-nil}
 use Rattle.cluster.proofs.DataLaws.{sent-nothing}
 use Rattle.cluster.proofs.Rounds.{round-accepted}
@@ -29,14 +30,14 @@ abbrev pub dataRound : List ℕ
 dataRound = dataFirework ∷ []
 
 -- who sends, by the pending operation
-senders-are : (c : Cluster) {o : Operation} → pendingOperation c ≡ o → frameOn c dataRound .senders ≡ sentTo o (c .slaves)
+senders-are : (c : Cluster) {o : Duty} → pendingDuty c ≡ o → frameOn c dataRound .senders ≡ sentTo o (c .slaves)
 unfolding frameOn effectOf dataEffect roundBy roundOf roundIn
 senders-are c p = rw p
 
-module _ (file buffer : List ℕ) (fits : roundGround file dataRound buffer ≡ 0) {o : Operation} (p : pendingOperation (decode file) ≡ o) where
-  pub round-mask : roundOn file dataRound buffer .0 ≡ carried (senderMask (sentTo o (decode file .slaves)))
+module _ (file buffer : List ℕ) (fits : roundGround file dataRound buffer ≡ 0) {o : Duty} (p : pendingDuty (decode file) ≡ o) where
+  pub round-mask : roundOn file dataRound buffer .0 ≡ done (senderMask (sentTo o (decode file .slaves)))
   unfolding carriedBy
-  round-mask = rw (round-accepted file dataRound buffer fits) (ap (λ (r : Senders). carried (senderMask r)) (senders-are (decode file) p))
+  round-mask = rw (round-accepted file dataRound buffer fits) (ap (λ (r : Senders). done (senderMask r)) (senders-are (decode file) p))
 
   pub round-buffer : roundOn file dataRound buffer .1 ≡ answerIn buffer (answerBytes dataFirework (sentTo o (decode file .slaves)))
   unfolding bufferBy
@@ -63,31 +64,31 @@ pub quiet-mask : (r : Senders) → ((slot : ℕ) → r slot ≡ nobody slot) →
 unfolding senderMask
 quiet-mask r quiet = mask-alike r nobody slots (λ s. ap anyone (quiet s)) ∙ sym mask-nobody
 
-one-sender : (o : Operation) (s : Slave) → replyTo o s ≡ 0x00 ∷ [] → (slot : ℕ) → anyone (sentTo o (s ∷ []) slot) ≡ anyone (sendersTo 1 slot)
+one-sender : (o : Duty) (s : Slave) → replyTo o s ≡ 0x00 ∷ [] → (slot : ℕ) → anyone (sentTo o (s ∷ []) slot) ≡ anyone (sendersTo 1 slot)
 unfolding sentTo
 one-sender o s e slot =
     byCase (eqb slot 1)
     (λ t. let is : slot ≡ 1 = eqb-true slot 1 t in rw (e, append-nil, is) (inSlot-yes (0x00 ∷ []) 1 (omega arith) (omega arith) ∙ sym (sendersTo-yes 1 1 (omega arith) (omega arith))))
     (λ t. let other : slot ≡ 1 → ⊥ = eqb-false slot 1 t in rw (e, append-nil) (inSlot-no (0x00 ∷ []) slot (λ h. omega arith) ∙ sym (sendersTo-no 1 slot (λ h. omega arith))))
 
-one-mask : (o : Operation) (s : Slave) → replyTo o s ≡ 0x00 ∷ [] → senderMask (sentTo o (s ∷ [])) ≡ 2
+one-mask : (o : Duty) (s : Slave) → replyTo o s ≡ 0x00 ∷ [] → senderMask (sentTo o (s ∷ [])) ≡ 2
 unfolding senderMask sendersTo maskBelow anyone both
 one-mask o s e = mask-alike (sentTo o (s ∷ [])) (sendersTo 1) slots (one-sender o s e)
 
-no-sender : (o : Operation) (s : Slave) → replyTo o s ≡ [] → (slot : ℕ) → sentTo o (s ∷ []) slot ≡ nobody slot
+no-sender : (o : Duty) (s : Slave) → replyTo o s ≡ [] → (slot : ℕ) → sentTo o (s ∷ []) slot ≡ nobody slot
 unfolding sentTo nobody
 no-sender o s e slot = rw (e, inSlot-nil slot)
 
 -- the same of a slave alone on the bus, for every physical name: bit 1 and nothing else, or nothing
-pub m6 : (file buffer : List ℕ) → roundGround file dataRound buffer ≡ 0 → pendingOperation (decode file) ≡ comparing unnamed → (s : Slave) → decode file .slaves ≡ s ∷ [] → isUnnamed s ≡ true → physicalName s ≡ comparisonValue s →
-    roundOn file dataRound buffer .0 ≡ carried 2
+pub m6 : (file buffer : List ℕ) → roundGround file dataRound buffer ≡ 0 → pendingDuty (decode file) ≡ comparing unnamed → (s : Slave) → decode file .slaves ≡ s ∷ [] → isUnnamed s ≡ true → physicalName s ≡ comparisonValue s →
+    roundOn file dataRound buffer .0 ≡ done 2
 m6 file buffer fits p s alone e same =
-    round-mask file buffer fits p ∙ ap (λ (n : ℕ). carried n) (ap (λ (ss : List Slave). senderMask (sentTo (comparing unnamed) ss)) alone ∙ one-mask (comparing unnamed) s (m6-reply s e same))
+    round-mask file buffer fits p ∙ ap (λ (n : ℕ). done n) (ap (λ (ss : List Slave). senderMask (sentTo (comparing unnamed) ss)) alone ∙ one-mask (comparing unnamed) s (m6-reply s e same))
 
-pub m7 : (file buffer : List ℕ) → roundGround file dataRound buffer ≡ 0 → pendingOperation (decode file) ≡ comparing unnamed → (s : Slave) → decode file .slaves ≡ s ∷ [] → isUnnamed s ≡ true → physicalName s + 1 ≡ comparisonValue s →
-    roundOn file dataRound buffer .0 ≡ carried 0
+pub m7 : (file buffer : List ℕ) → roundGround file dataRound buffer ≡ 0 → pendingDuty (decode file) ≡ comparing unnamed → (s : Slave) → decode file .slaves ≡ s ∷ [] → isUnnamed s ≡ true → physicalName s + 1 ≡ comparisonValue s →
+    roundOn file dataRound buffer .0 ≡ done 0
 m7 file buffer fits p s alone e less =
-    round-mask file buffer fits p ∙ ap (λ (n : ℕ). carried n) (ap (λ (ss : List Slave). senderMask (sentTo (comparing unnamed) ss)) alone ∙ quiet-mask (sentTo (comparing unnamed) (s ∷ [])) (no-sender (comparing unnamed) s (m7-reply s e less)))
+    round-mask file buffer fits p ∙ ap (λ (n : ℕ). done n) (ap (λ (ss : List Slave). senderMask (sentTo (comparing unnamed) ss)) alone ∙ quiet-mask (sentTo (comparing unnamed) (s ∷ [])) (no-sender (comparing unnamed) s (m7-reply s e less)))
 
 -- ---- M6 and M7 among other slaves
 
@@ -101,7 +102,7 @@ unfolding anyone
 anyone-neither [] ys g h = h
 anyone-neither (x ∷ xs) ys g h = absurd (omega (arith, g))
 
-replies-among : (o : Operation) (s : Slave) (before after : List Slave) → replyTo o s ≡ 0x00 ∷ [] → anyone (sentTo o (before ++ s ∷ after) 1) ≡ 1
+replies-among : (o : Duty) (s : Slave) (before after : List Slave) → replyTo o s ≡ 0x00 ∷ [] → anyone (sentTo o (before ++ s ∷ after) 1) ≡ 1
 unfolding sentTo inSlot anyone
 replies-among o s [] after e = rw e
 replies-among o s (x ∷ xs) after e = anyone-right (inSlot (replyTo o x) 1) (sentTo o (xs ++ s ∷ after) 1) (replies-among o s xs after e)
@@ -128,16 +129,16 @@ mask-among : (name : ℕ) (s : Slave) (before after : List Slave) → replyTo (c
 unfolding senderMask sendersTo maskBelow anyone both
 mask-among name s before after e = mask-alike (sentTo (comparing name) (before ++ s ∷ after)) (sendersTo 1) slots (sender-among name s before after e)
 
-silent-among : (o : Operation) (s : Slave) (before after : List Slave) → replyTo o s ≡ [] → (slot : ℕ) → sentTo o (before ++ s ∷ after) slot ≡ sentTo o (before ++ after) slot
+silent-among : (o : Duty) (s : Slave) (before after : List Slave) → replyTo o s ≡ [] → (slot : ℕ) → sentTo o (before ++ s ∷ after) slot ≡ sentTo o (before ++ after) slot
 unfolding sentTo
 silent-among o s [] after e slot = rw (e, inSlot-nil slot)
 silent-among o s (x ∷ xs) after e slot = rw (silent-among o s xs after e slot)
 
 -- M6 beside any other slaves: bit 1 and nothing else
-pub m6-among : (file buffer : List ℕ) → roundGround file dataRound buffer ≡ 0 → pendingOperation (decode file) ≡ comparing unnamed → (s : Slave) (before after : List Slave) → decode file .slaves ≡ before ++ s ∷ after → isUnnamed s ≡ true → physicalName s ≡ comparisonValue s →
-    roundOn file dataRound buffer .0 ≡ carried 2
+pub m6-among : (file buffer : List ℕ) → roundGround file dataRound buffer ≡ 0 → pendingDuty (decode file) ≡ comparing unnamed → (s : Slave) (before after : List Slave) → decode file .slaves ≡ before ++ s ∷ after → isUnnamed s ≡ true → physicalName s ≡ comparisonValue s →
+    roundOn file dataRound buffer .0 ≡ done 2
 m6-among file buffer fits p s before after among e same =
-    round-mask file buffer fits p ∙ ap (λ (n : ℕ). carried n) (ap (λ (ss : List Slave). senderMask (sentTo (comparing unnamed) ss)) among ∙ mask-among unnamed s before after (m6-reply s e same))
+    round-mask file buffer fits p ∙ ap (λ (n : ℕ). done n) (ap (λ (ss : List Slave). senderMask (sentTo (comparing unnamed) ss)) among ∙ mask-among unnamed s before after (m6-reply s e same))
 
 -- M7 beside any other slaves: the slots hold what the others send, as if the slave were not there
 pub m7-among : (s : Slave) (before after : List Slave) → isUnnamed s ≡ true → physicalName s + 1 ≡ comparisonValue s → (slot : ℕ) →
@@ -151,7 +152,7 @@ unfolding busByte joined
 m8-byte = refl
 
 -- two slaves that answer a read, their records beginning with these bytes: slot 1 holds 0x30
-pub m8 : (file buffer : List ℕ) → roundGround file dataRound buffer ≡ 0 → (name n r : ℕ) → pendingOperation (decode file) ≡ reading name n r → (s t : Slave) → decode file .slaves ≡ s ∷ t ∷ [] → answersRead name n r s ≡ true → answersRead name n r t ≡ true →
+pub m8 : (file buffer : List ℕ) → roundGround file dataRound buffer ≡ 0 → (name n r : ℕ) → pendingDuty (decode file) ≡ reading name n r → (s t : Slave) → decode file .slaves ≡ s ∷ t ∷ [] → answersRead name n r s ≡ true → answersRead name n r t ≡ true →
     {bs cs : List ℕ} → recordOf s n r ≡ 0xF0 ∷ bs → recordOf t n r ≡ 0x3C ∷ cs → getD (roundOn file dataRound buffer .1) 1 0 ≡ 0x30
 unfolding answerIn answerBytes slotBytes sentTo inSlot replyTo readReply
 m8 file buffer fits name n r p s t two a b e f =
@@ -163,9 +164,9 @@ pub m9-reply : (n r : ℕ) (s : Slave) → replyTo (reading unnamed n r) s ≡ [
 unfolding replyTo answersRead addressed addresses isUnnamed both
 m9-reply n r s = byCase (eqb (logicalName s) unnamed) (λ e. rw e) (λ e. rw e)
 
-pub m9 : (file buffer : List ℕ) → roundGround file dataRound buffer ≡ 0 → (n r : ℕ) → pendingOperation (decode file) ≡ reading unnamed n r →
-    (roundOn file dataRound buffer .0 ≡ carried 0) × (roundOn file dataRound buffer .1 ≡ answerIn buffer (answerBytes dataFirework nobody))
+pub m9 : (file buffer : List ℕ) → roundGround file dataRound buffer ≡ 0 → (n r : ℕ) → pendingDuty (decode file) ≡ reading unnamed n r →
+    (roundOn file dataRound buffer .0 ≡ done 0) × (roundOn file dataRound buffer .1 ≡ answerIn buffer (answerBytes dataFirework nobody))
 unfolding nobody
 m9 file buffer fits n r p =
     let quiet : (slot : ℕ) → sentTo (reading unnamed n r) (decode file .slaves) slot ≡ nobody slot = sent-nothing (reading unnamed n r) (m9-reply n r) (decode file .slaves) in
-    (round-mask file buffer fits p ∙ ap (λ (k : ℕ). carried k) (quiet-mask (sentTo (reading unnamed n r) (decode file .slaves)) quiet), round-buffer file buffer fits p ∙ answer-alike buffer dataFirework (sentTo (reading unnamed n r) (decode file .slaves)) nobody quiet)
+    (round-mask file buffer fits p ∙ ap (λ (k : ℕ). done k) (quiet-mask (sentTo (reading unnamed n r) (decode file .slaves)) quiet), round-buffer file buffer fits p ∙ answer-alike buffer dataFirework (sentTo (reading unnamed n r) (decode file .slaves)) nobody quiet)

@@ -1,4 +1,4 @@
--- The slaves changed one after the other: what a loop along the slaves keeps of the file, and one law for a turn.
+-- The slaves changed one after the other: what a loop along the slaves keeps of the file, and one law for each slave.
 -- Assumes nothing.
 use Prim.Native.Nat.{ℕ, zero, suc, _+_, _≤_, _<_}
 use native.Mathlib.Omega.{arith}
@@ -7,14 +7,14 @@ use mathlib.Core.Path.{_≡_, refl, sym, ap, _∙_, subst}
 use mathlib.Core.List.{List, [], _∷_, _++_, map, append-nil}
 use lib.ListN.{length, getD, set, take, drop, length-map, drop-of-length-le}
 use lib.Seq.{take-suc, drop-cons, take-all, length-take-le, getD-at, set-at, append-snoc}
-use Rattle.file.specs.Layout.{offsetWidth}
-use Rattle.file.specs.Cluster.{Slave, Cluster, configuration, documentation}
-use Rattle.file.specs.Decode.{decode}
-use Rattle.file.specs.Places.{noSlave, slaveOf, filePlace, withSlaves, SameShape, noSlaves, sameSlave}
-use Rattle.file.specs.Accepted.{Becomes, Placed, KeptAt}
-use Rattle.file.proofs.Shape.{shape-refl, shape-count, shape-filePlaceAt}
-use Rattle.file.proofs.ReaderLaws.{becomes-decoded, placed-configuration, placed-documentation}
-use Rattle.cluster.specs.Carried.{AllKept, withSlave}
+use Rattle.file.specs.Rules.Cluster.{Slave, Cluster}
+use Rattle.file.specs.Rules.Decode.{decode}
+use Rattle.file.specs.Inner.Places.{noSlave, slaveOf, SameShape, noSlaves, sameSlave}
+use Rattle.file.specs.Rules.Changes.{withSlaves}
+use Rattle.file.specs.Inner.Accepted.{Becomes, AcceptedFile, slaveCount, Placed}
+use Rattle.file.proofs.Shape.{shape-refl}
+use Rattle.file.proofs.Surveyed.{kept-count, placed-kept}
+use Rattle.cluster.specs.Inner.Carried.{withSlave}
 use Rattle.cluster.proofs.Kept.{SlaveKept}
 
 -- the slaves below an index changed
@@ -51,68 +51,53 @@ changed-shape f keeps ss zero = shape-refl ss
 changed-shape f keeps [] (suc i) = noSlaves
 changed-shape f keeps (s ∷ ss) (suc i) = sameSlave (keeps s .files) (changed-shape f keeps ss i)
 
--- a place of a cluster is that of every one of the same shape
-pub kept-shape : {c d : Cluster} {n : ℕ} {places : List ℕ} {s : ℕ} → SameShape (c .slaves) (d .slaves) → KeptAt c n places s → KeptAt d n places s
-unfolding filePlace
-kept-shape {c} {d} {n} {places} {s} same k =
-    record { slave = rw (← shape-count same) (k .slave); place = k .place ∙ shape-filePlaceAt c d same offsetWidth s n }
-
-pub all-shape : {c d : Cluster} {n : ℕ} {places : List ℕ} {count : ℕ} → SameShape (c .slaves) (d .slaves) → AllKept c n places count → AllKept d n places count
-all-shape {c} {d} same k =
-    record {
-      all = k .all ∙ shape-count same;
-      at = λ s inside. kept-shape {c = c} {d = d} same (k .at s (rw (shape-count same) inside));
-    }
-
-pub all-decoded : {f : List ℕ} {c : Cluster} {n : ℕ} {places : List ℕ} {count : ℕ} → Becomes f c → AllKept c n places count → AllKept (decode f) n places count
-all-decoded {n = n} {places} {count} h k = subst (λ (d : Cluster). AllKept d n places count) (sym (h .decoded)) k
-
 -- ---- the loop
 
-pub record Changing (f : Slave → Slave) (c : Cluster) (i : ℕ) (file : List ℕ) : Type 0 where
-  pub most : i ≤ length (c .slaves)
-  pub becomes : Becomes file (withSlaves c (changedBelow f (c .slaves) i))
+-- the first i slaves of f₀ are changed
+pub record Changing (g : Slave → Slave) (f₀ : List ℕ) (i : ℕ) (file : List ℕ) : Type 0 where
+  pub keeps : (s : Slave) → SlaveKept s (g s)
+  pub most : i ≤ slaveCount f₀
+  pub becomes : Becomes file (withSlaves (decode f₀) (changedBelow g (decode f₀ .slaves) i))
+  pub size : length file ≡ length f₀
 
-pub changing-start : (f : Slave → Slave) (c : Cluster) {file : List ℕ} → Becomes file c → Changing f c 0 file
+pub changing-start : (g : Slave → Slave) → ((s : Slave) → SlaveKept s (g s)) → {f₀ : List ℕ} → AcceptedFile f₀ → Changing g f₀ 0 f₀
 unfolding changedBelow withSlaves
-changing-start f c h = record { most = omega arith; becomes = h }
+changing-start g keeps h = record { keeps = keeps; most = omega arith; becomes = h; size = refl }
 
-module _ {f : Slave → Slave} {c : Cluster} {i : ℕ} {file : List ℕ} (h : Changing f c i file) where
-  pub changing-decoded : Becomes file (decode file)
-  changing-decoded = becomes-decoded (h .becomes)
-
-  pub changing-kept : ((s : Slave) → SlaveKept s (f s)) → {n : ℕ} {places : List ℕ} {count : ℕ} → AllKept c n places count → i < count → KeptAt (decode file) n places i
+module _ {g : Slave → Slave} {f₀ : List ℕ} {i : ℕ} {file : List ℕ} (h : Changing g f₀ i file) where
+  shape : SameShape (decode f₀ .slaves) (withSlaves (decode f₀) (changedBelow g (decode f₀ .slaves) i) .slaves)
   unfolding withSlaves
-  changing-kept keeps {n} {places} k more =
-      let inside : i < length (c .slaves) = omega (arith, k .all) in
-      let there : KeptAt (withSlaves c (changedBelow f (c .slaves) i)) n places i =
-      kept-shape {c = c} {d = withSlaves c (changedBelow f (c .slaves) i)} (changed-shape f keeps (c .slaves) i) (k .at i inside)
-      in
-      subst (λ (d : Cluster). KeptAt d n places i) (sym (h .becomes .decoded)) there
+  shape = changed-shape g (h .keeps) (decode f₀ .slaves) i
 
-  pub changing-next : i < length (c .slaves) → {file′ : List ℕ} → Becomes file′ (withSlave (decode file) i (f (slaveOf (decode file) i))) → Changing f c (i + 1) file′
-  unfolding withSlaves withSlave slaveOf
-  changing-next more {file′} new =
-      let d : Cluster = withSlaves c (changedBelow f (c .slaves) i) in
-      let there : Becomes file′ (withSlave d i (f (slaveOf d i))) = subst (λ (e : Cluster). Becomes file′ (withSlave e i (f (slaveOf e i)))) (h .becomes .decoded) new in
-      let here : getD (changedBelow f (c .slaves) i) i noSlave ≡ getD (c .slaves) i noSlave = changed-here f (c .slaves) i more in
-      let stored : set (changedBelow f (c .slaves) i) i (f (getD (changedBelow f (c .slaves) i) i noSlave)) ≡ changedBelow f (c .slaves) (i + 1) =
-      ap (λ (x : Slave). set (changedBelow f (c .slaves) i) i (f x)) here ∙ changed-next f (c .slaves) i more
-      in
-      record { most = omega arith; becomes = subst (λ (ss : List Slave). Becomes file′ (withSlaves c ss)) stored there }
+  pub changing-placed : {places : List ℕ} → Placed f₀ places → Placed file places
+  changing-placed p = placed-kept p (h .becomes) shape
 
-  pub changing-done : length (c .slaves) ≤ i → Becomes file (withSlaves c (map f (c .slaves)))
-  unfolding changedBelow
-  changing-done all =
-      let e : i ≡ length (c .slaves) = omega (arith, h .most) in
-      let whole : changedBelow f (c .slaves) i ≡ map f (c .slaves) =
-      rw (take-all i (c .slaves) all, drop-of-length-le (c .slaves) all, append-nil)
-      in
-      subst (λ (ss : List Slave). Becomes file (withSlaves c ss)) whole (h .becomes)
+  module _ {count : ℕ} (all : count ≡ slaveCount f₀) where
+    module _ (more : i < count) where
+      pub changing-there : i < slaveCount file
+      changing-there = omega (arith, kept-count f₀ (h .becomes) shape)
 
--- the places that a survey hands back
-pub placed-configurations : {c : Cluster} {count : ℕ} {a b : List ℕ} → Placed c count a b → AllKept c configuration a count
-placed-configurations p = record { all = p .all; at = λ s inside. placed-configuration s p inside }
+      pub changing-next : {new : List ℕ} → Becomes new (withSlave (decode file) i (g (slaveOf (decode file) i))) → length new ≡ length file → Changing g f₀ (i + 1) new
+      unfolding withSlaves withSlave slaveOf
+      changing-next {new} becomes size =
+          let c : Cluster = decode f₀ in
+          let d : Cluster = withSlaves c (changedBelow g (c .slaves) i) in
+          let inside : i < length (c .slaves) = omega (arith, all) in
+          let there : Becomes new (withSlave d i (g (slaveOf d i))) = subst (λ (e : Cluster). Becomes new (withSlave e i (g (slaveOf e i)))) (h .becomes .decoded) becomes in
+          let here : getD (changedBelow g (c .slaves) i) i noSlave ≡ getD (c .slaves) i noSlave = changed-here g (c .slaves) i inside in
+          let stored : set (changedBelow g (c .slaves) i) i (g (getD (changedBelow g (c .slaves) i) i noSlave)) ≡ changedBelow g (c .slaves) (i + 1) =
+          ap (λ (x : Slave). set (changedBelow g (c .slaves) i) i (g x)) here ∙ changed-next g (c .slaves) i inside
+          in
+          record {
+            keeps = h .keeps;
+            most = omega arith;
+            becomes = subst (λ (ss : List Slave). Becomes new (withSlaves c ss)) stored there;
+            size = size ∙ h .size;
+          }
 
-pub placed-documentations : {c : Cluster} {count : ℕ} {a b : List ℕ} → Placed c count a b → AllKept c documentation b count
-placed-documentations p = record { all = p .all; at = λ s inside. placed-documentation s p inside }
+    pub changing-done : count ≤ i → Becomes file (withSlaves (decode f₀) (map g (decode f₀ .slaves)))
+    unfolding changedBelow
+    changing-done over =
+        let ss : List Slave = decode f₀ .slaves in
+        let whole : changedBelow g ss i ≡ map g ss = (let passed : length ss ≤ i = omega arith in rw (take-all i ss passed, drop-of-length-le ss passed, append-nil)) in
+        subst (λ (l : List Slave). Becomes file (withSlaves (decode f₀) l)) whole (h .becomes)

@@ -1,97 +1,104 @@
--- The data part of a master-slave round: the duty, the epoch, and what each duty's round comes to.
+-- The data part of a master-slave round: the duty, the epoch, and what each duty comes to.
 -- Assumes nothing.
-use Prim.Native.Nat.{ℕ, _+_, _%_}
+use Prim.Native.Nat.{ℕ, _+_}
 use native.Mathlib.Omega.{arith}
 use mathlib.Core.Path.{_≡_, refl, sym, ap, _∙_, subst}
 use mathlib.Core.List.{List, [], _∷_, map}
-use mathlib.Core.Bool.{Bool, true, false, not}
+use mathlib.Core.Bool.{Bool, true, false, cond, not}
 use lib.Dec.{eqb}
 use borrow.Author.Tests.{eq-eqb, ne-eqb, not-true, not-false}
-use Rattle.file.specs.Bytes.{Byte}
-use Rattle.file.specs.Order.{both}
-use Rattle.file.specs.Cluster.{Slave, Cluster, configuration, documentation, operationOf, fileNumberOf, readOperation, writeOperation, executeOperation}
-use Rattle.file.specs.Decode.{decode}
-use Rattle.file.specs.Places.{withSlaves, withEpoch}
-use Rattle.file.specs.Accepted.{Becomes, PendingIs}
+use Rattle.file.specs.Rules.Bytes.{Byte}
+use Rattle.file.specs.Rules.Order.{both}
+use Rattle.file.specs.Rules.Layout.{pendingFlag, namesRecord, comparisonHighRecord}
+use Rattle.file.specs.Rules.Cluster.{Slave, Cluster, configuration, documentation, operationOf, fileNumberOf, readOperation, writeOperation, executeOperation}
+use Rattle.file.specs.Rules.Decode.{decode}
+use Rattle.file.specs.Rules.Changes.{withSlaves, withEpoch}
+use Rattle.file.specs.Inner.Typed.{fileIn, recordIn, nameIn}
+use Rattle.file.specs.Inner.Accepted.{Becomes, Placed, PendingIs}
 use Rattle.file.proofs.Order.{byCase, clash, both-true, both-false-left, both-false-right}
-use Rattle.cluster.specs.declared.msd.Duty.{Duty}
-use Rattle.cluster.specs.declared.msd.Duty.the-variants as duties
-use Rattle.cluster.specs.Bus.{senderMask, answerBytes, answerIn, nobody}
-use Rattle.cluster.specs.Slaves.{Operation, nothing, reading, writing, comparing, baptizing, executionOf, operationIn, pendingOperation, nextEpoch, epochRaised, mayWrite, takesWrite, replyTo, sentTo, slaveAfter, slavesAfter}
-use Rattle.cluster.specs.Grounds.{writePending}
-use Rattle.cluster.specs.Round.{dataEffect}
-use Rattle.cluster.specs.Carried.{sendersTo, Heard, Carried, AllKept}
-use Rattle.cluster.specs.Answers.{dutyOf, dutyIn}
-use Rattle.frame.specs.Fireworks.{dataFirework}
+use Rattle.file.proofs.Surveyed.{placed-kept}
+use Rattle.frame.specs.Rules.Fireworks.{dataFirework}
+use Rattle.cluster.specs.declared.types.RecordAddress.{RecordAddress}
+use Rattle.cluster.specs.declared.duty.Duty.{Duty as CodeDuty}
+use Rattle.cluster.specs.declared.duty.Duty.the-variants as duties
+use Rattle.cluster.specs.Rules.Bus.{senderMask, answerBytes, answerIn, nobody}
+use Rattle.cluster.specs.Rules.Slaves.{Duty, nothing, reading, writing, comparing, baptizing, executionOf, dutyBy, pendingDuty, nextEpoch, epochRaised, headerRecord, mayWrite, takesWrite, replyTo, sentTo, slaveAfter, slavesAfter}
+use Rattle.cluster.specs.Rules.Grounds.{writePending}
+use Rattle.cluster.specs.Rules.Round.{dataEffect}
+use Rattle.cluster.specs.Inner.Carried.{sendersTo, Heard, Carried}
+use Rattle.cluster.specs.Inner.Duties.{readingAt, writingAt, executionAt, dutyAt, dutyFor, dutyEffect}
 use Rattle.cluster.proofs.Bus.{counting-start, counting-done}
 use Rattle.cluster.proofs.Hearing.{heard-nobody, heard-mask, inSlot-nil}
-use Rattle.cluster.proofs.Changing.{all-shape, all-decoded}
 use Rattle.cluster.proofs.Kept.{kept-raised}
 
 -- ---- the duty: one law for each way
 
-module _ {flag : ℕ} (name n : ℕ) (operation r : ℕ) where
-  pub duty-idle : (flag ≡ 1 → ⊥) → dutyOf duties.Nothing name n r ≡ dutyIn flag name n operation r
-  unfolding dutyOf dutyIn
-  duty-idle h = rw (ne-eqb flag 1 h)
+module _ {operation : ℕ} (a : RecordAddress) where
+  pub duty-read : operation ≡ readOperation → readingAt a ≡ dutyFor operation a
+  unfolding dutyFor
+  duty-read e = rw (eq-eqb operation readOperation e)
 
-  module _ (waits : flag ≡ 1) where
-    pub duty-read : operation ≡ readOperation → dutyOf duties.Read name n r ≡ dutyIn flag name n operation r
-    unfolding dutyOf dutyIn
-    duty-read e = rw (eq-eqb flag 1 waits, eq-eqb operation readOperation e)
+  module _ (unread : operation ≡ readOperation → ⊥) where
+    pub duty-write : operation ≡ writeOperation → writingAt a ≡ dutyFor operation a
+    unfolding dutyFor
+    duty-write e = rw (ne-eqb operation readOperation unread, eq-eqb operation writeOperation e)
 
-    module _ (unread : operation ≡ readOperation → ⊥) where
-      pub duty-write : operation ≡ writeOperation → dutyOf duties.Write name n r ≡ dutyIn flag name n operation r
-      unfolding dutyOf dutyIn
-      duty-write e = rw (eq-eqb flag 1 waits, ne-eqb operation readOperation unread, eq-eqb operation writeOperation e)
+    module _ (unwritten : operation ≡ writeOperation → ⊥) where
+      pub duty-none : (operation ≡ executeOperation → ⊥) → nothing ≡ dutyFor operation a
+      unfolding dutyFor
+      duty-none h = rw (ne-eqb operation readOperation unread, ne-eqb operation writeOperation unwritten, ne-eqb operation executeOperation h)
 
-      module _ (unwritten : operation ≡ writeOperation → ⊥) where
-        pub duty-none : (operation ≡ executeOperation → ⊥) → dutyOf duties.Nothing name n r ≡ dutyIn flag name n operation r
-        unfolding dutyOf dutyIn
-        duty-none h = rw (eq-eqb flag 1 waits, ne-eqb operation readOperation unread, ne-eqb operation writeOperation unwritten, ne-eqb operation executeOperation h)
+      pub duty-execution : {o : Duty} → operation ≡ executeOperation → o ≡ executionAt a → o ≡ dutyFor operation a
+      unfolding dutyFor
+      duty-execution h e = e ∙ rw (ne-eqb operation readOperation unread, ne-eqb operation writeOperation unwritten, eq-eqb operation executeOperation h)
 
-        module _ (execute : operation ≡ executeOperation) where
-          executes : dutyIn flag name n operation r ≡ executionOf name n r
-          unfolding dutyIn
-          executes = rw (eq-eqb flag 1 waits, ne-eqb operation readOperation unread, ne-eqb operation writeOperation unwritten, eq-eqb operation executeOperation execute)
+pub pending-nothing : (c : Cluster) {flag name n operation r : ℕ} → PendingIs c flag name n operation r → (flag ≡ pendingFlag → ⊥) → nothing ≡ pendingDuty c
+unfolding pendingDuty
+pending-nothing c p h = rw (ne-eqb (c .flag) pendingFlag (λ e. h (p .flagIs ∙ e)))
 
-          pub duty-elsewhere : (n ≡ configuration → ⊥) → dutyOf duties.Nothing name n r ≡ dutyIn flag name n operation r
-          unfolding dutyOf executionOf
-          duty-elsewhere h = sym (executes ∙ rw (ne-eqb n configuration h))
+pub pending-for : (c : Cluster) (a : RecordAddress) {flag operation : ℕ} {o : Duty} → PendingIs c flag (nameIn (a .name)) (fileIn (a .number)) operation (recordIn (a .«record»)) → flag ≡ pendingFlag → o ≡ dutyFor operation a → o ≡ pendingDuty c
+unfolding pendingDuty dutyBy dutyFor
+pending-for c a p waits e = e ∙ rw (eq-eqb (c .flag) pendingFlag (sym (p .flagIs) ∙ waits), p .nameIs, p .fileIs, p .operationIs, p .recordIs)
 
-          pub duty-compare : n ≡ configuration → r ≡ 2 → dutyOf duties.Compare name n r ≡ dutyIn flag name n operation r
-          unfolding dutyOf executionOf
-          duty-compare h e = sym (executes ∙ rw (eq-eqb n configuration h, eq-eqb r 2 e))
+module _ (name : ℕ) {n : ℕ} (r : ℕ) where
+  pub execution-elsewhere : (n ≡ configuration → ⊥) → nothing ≡ executionOf name n r
+  unfolding executionOf
+  execution-elsewhere h = rw (ne-eqb n configuration h)
 
-          pub duty-baptize : n ≡ configuration → (r ≡ 2 → ⊥) → r ≡ 1 → dutyOf duties.Baptize name n r ≡ dutyIn flag name n operation r
-          unfolding dutyOf executionOf
-          duty-baptize h two e = sym (executes ∙ rw (eq-eqb n configuration h, ne-eqb r 2 two, eq-eqb r 1 e))
+  module _ (here : n ≡ configuration) where
+    pub execution-compare : r ≡ comparisonHighRecord → comparing name ≡ executionOf name n r
+    unfolding executionOf
+    execution-compare e = rw (eq-eqb n configuration here, eq-eqb r comparisonHighRecord e)
 
-          pub duty-other : n ≡ configuration → (r ≡ 2 → ⊥) → (r ≡ 1 → ⊥) → dutyOf duties.Nothing name n r ≡ dutyIn flag name n operation r
-          unfolding dutyOf executionOf
-          duty-other h two one = sym (executes ∙ rw (eq-eqb n configuration h, ne-eqb r 2 two, ne-eqb r 1 one))
+    pub execution-baptize : (r ≡ comparisonHighRecord → ⊥) → r ≡ namesRecord → baptizing name ≡ executionOf name n r
+    unfolding executionOf
+    execution-baptize two e = rw (eq-eqb n configuration here, ne-eqb r comparisonHighRecord two, eq-eqb r namesRecord e)
+
+    pub execution-other : (r ≡ comparisonHighRecord → ⊥) → (r ≡ namesRecord → ⊥) → nothing ≡ executionOf name n r
+    unfolding executionOf
+    execution-other two one = rw (eq-eqb n configuration here, ne-eqb r comparisonHighRecord two, ne-eqb r namesRecord one)
 
 -- ---- the epoch
 
-pub raised-to-zero : {f : List ℕ} (c : Cluster) {e : ℕ} → e ≡ c .epoch → e ≡ 255 → Becomes f (withEpoch c 0) → Becomes f (epochRaised c)
-unfolding epochRaised nextEpoch
-raised-to-zero {f} c {e} is last h =
-    let next : 0 ≡ (c .epoch + 1) % 256 = omega arith in
-    subst (λ (n : ℕ). Becomes f (withEpoch c n)) next h
+pub epoch-last : {e : ℕ} → e ≡ 255 → 0 ≡ nextEpoch e
+unfolding nextEpoch
+epoch-last last = omega arith
 
-pub raised-by-one : {f : List ℕ} (c : Cluster) {e : ℕ} → e ≡ c .epoch → Byte e → (e ≡ 255 → ⊥) → Becomes f (withEpoch c (e + 1)) → Becomes f (epochRaised c)
-unfolding epochRaised nextEpoch
-raised-by-one {f} c {e} is byte last h =
-    let next : e + 1 ≡ (c .epoch + 1) % 256 = omega arith in
-    subst (λ (n : ℕ). Becomes f (withEpoch c n)) next h
+pub epoch-next : {e : ℕ} → Byte e → (e ≡ 255 → ⊥) → e + 1 ≡ nextEpoch e
+unfolding nextEpoch
+epoch-next byte other = omega arith
+
+pub raised : {f : List ℕ} (c : Cluster) {e n : ℕ} → e ≡ c .epoch → n ≡ nextEpoch e → Becomes f (withEpoch c n) → Becomes f (epochRaised c)
+unfolding epochRaised
+raised {f} c is next h = subst (λ (n : ℕ). Becomes f (withEpoch c n)) (next ∙ ap nextEpoch is) h
 
 -- ---- what may be written
 
 pub no-documentation : {n : ℕ} (r : ℕ) → n ≡ documentation → false ≡ mayWrite n r
 unfolding mayWrite
-no-documentation {n} r e = sym (both-false-left (not (eqb r 0)) (ap not (eq-eqb n documentation e)))
+no-documentation {n} r e = sym (both-false-left (not (eqb r headerRecord)) (ap not (eq-eqb n documentation e)))
 
-pub no-header : {n : ℕ} (r : ℕ) → (n ≡ documentation → ⊥) → not (eqb r 0) ≡ mayWrite n r
+pub no-header : {n : ℕ} (r : ℕ) → (n ≡ documentation → ⊥) → not (eqb r headerRecord) ≡ mayWrite n r
 unfolding mayWrite both
 no-header {n} r h = rw (ne-eqb n documentation h)
 
@@ -103,7 +110,7 @@ map-same : (f : Slave → Slave) → ((s : Slave) → f s ≡ s) → (ss : List 
 map-same f same [] = refl
 map-same f same (s ∷ ss) = rw (same s, map-same f same ss)
 
-pub after-same : (o : Operation) (bytes : List ℕ) (c : Cluster) → ((s : Slave) → slaveAfter o bytes s ≡ s) → slavesAfter o bytes c ≡ c
+pub after-same : (o : Duty) (bytes : List ℕ) (c : Cluster) → ((s : Slave) → slaveAfter o bytes s ≡ s) → slavesAfter o bytes c ≡ c
 unfolding slavesAfter withSlaves
 after-same o bytes c same = rw (map-same (slaveAfter o bytes) same (c .slaves))
 
@@ -115,18 +122,9 @@ pub write-forbidden : {f : List ℕ} {c : Cluster} (name n r : ℕ) {t : Bool} (
 write-forbidden {f} {c} name n r {t} bytes h is no′ =
     subst (λ (d : Cluster). Becomes f d) (sym (after-same (writing name n r) bytes c (λ s. unwritable name n r bytes s (sym is ∙ not-true t no′)))) h
 
--- ---- the whole
+-- ---- who has a write pending
 
-raised-slaves : (c : Cluster) → epochRaised c .slaves ≡ c .slaves
-unfolding epochRaised withEpoch
-raised-slaves c = refl
-
-pub pending-duty : {c : Cluster} {flag name n operation r : ℕ} (d : Duty) → PendingIs c flag name n operation r → dutyOf d name n r ≡ dutyIn flag name n operation r → pendingOperation c ≡ dutyOf d name n r
-unfolding pendingOperation operationIn dutyIn
-pending-duty d p e = sym (e ∙ rw (p .waits, p .named, p .file, p .does, p .place))
-
--- a write is pending where the duty is one
-isWriting : Operation → Bool
+isWriting : Duty → Bool
 isWriting nothing = false
 isWriting (reading name n r) = false
 isWriting (writing name n r) = true
@@ -137,50 +135,30 @@ execution-writes-not : (name n r : ℕ) → isWriting (executionOf name n r) ≡
 unfolding executionOf isWriting
 execution-writes-not name n r =
     byCase (eqb n configuration)
-    (λ e. byCase (eqb r 2) (λ t. rw (e, t)) (λ t. byCase (eqb r 1) (λ o. rw (e, t, o)) (λ o. rw (e, t, o))))
+    (λ e. byCase (eqb r comparisonHighRecord) (λ t. rw (e, t)) (λ t. byCase (eqb r namesRecord) (λ o. rw (e, t, o)) (λ o. rw (e, t, o))))
     (λ e. rw e)
 
-writes-only : (flag name n operation r : ℕ) → isWriting (dutyIn flag name n operation r) ≡ true → both (eqb flag 1) (eqb operation writeOperation) ≡ true
-unfolding dutyIn isWriting
-writes-only flag name n operation r w =
-    byCase (eqb flag 1)
-    (λ waits. byCase (eqb operation readOperation)
-    (λ e. clash (rw (waits, e) at w) refl)
-    (λ e. byCase (eqb operation writeOperation)
-    (λ t. both-true waits t)
-    (λ t. byCase (eqb operation executeOperation)
-    (λ x. clash (rw (waits, e, t, x) at w) (execution-writes-not name n r))
-    (λ x. clash (rw (waits, e, t, x) at w) refl))))
-    (λ idle. clash (rw idle at w) refl)
+duty-writes : (name pb2 pb3 : ℕ) → isWriting (dutyBy name pb2 pb3) ≡ true → eqb (operationOf pb2) writeOperation ≡ true
+unfolding dutyBy isWriting
+duty-writes name pb2 pb3 w =
+    byCase (eqb (operationOf pb2) readOperation)
+    (λ e. clash (rw e at w) refl)
+    (λ e. byCase (eqb (operationOf pb2) writeOperation)
+    (λ t. t)
+    (λ t. byCase (eqb (operationOf pb2) executeOperation)
+    (λ x. clash (rw (e, t, x) at w) (execution-writes-not name (fileNumberOf pb2) pb3))
+    (λ x. clash (rw (e, t, x) at w) refl)))
 
-pub duty-writes : (c : Cluster) {flag name n operation r : ℕ} (d : Duty) → PendingIs c flag name n operation r → dutyOf d name n r ≡ dutyIn flag name n operation r → d ≡ duties.Write → writePending c ≡ true
-unfolding writePending dutyOf isWriting
-duty-writes c {flag} {name} {n} {operation} {r} d p e is =
-    let w : isWriting (dutyIn flag name n operation r) ≡ true = rw (← e, is) in
-    rw (← (p .waits), ← (p .does)) (writes-only flag name n operation r w)
-
-pub pending-writes : (c : Cluster) {name n r : ℕ} → pendingOperation c ≡ writing name n r → writePending c ≡ true
-unfolding writePending pendingOperation operationIn dutyIn isWriting
+pub pending-writes : (c : Cluster) {name n r : ℕ} → pendingDuty c ≡ writing name n r → writePending c ≡ true
+unfolding writePending pendingDuty isWriting
 pending-writes c p =
-    writes-only (c .flag) (c .pendingName) (fileNumberOf (c .pendingPB2)) (operationOf (c .pendingPB2)) (c .pendingPB3) (ap isWriting p)
-
--- ---- the file with the epoch raised
-
-pub all-raised : {f : List ℕ} {c : Cluster} {n : ℕ} {places : List ℕ} {count : ℕ} → Becomes f (epochRaised c) → AllKept c n places count → AllKept (decode f) n places count
-all-raised {c = c} h k = all-decoded h (all-shape {c = c} {d = epochRaised c} (kept-raised c .shape) k)
-
-raised-heard : {f : List ℕ} (c : Cluster) (o : Operation) {firework : ℕ} {old new : List ℕ} {last : ℕ} → Becomes f (epochRaised c) → Heard (sentTo o (decode f .slaves)) firework old new last → Heard (sentTo o (c .slaves)) firework old new last
-raised-heard c o {firework} {old} {new} {last} h heard =
-    subst (λ (ss : List Slave). Heard (sentTo o ss) firework old new last) (ap (λ (d : Cluster). d .slaves) (h .decoded) ∙ raised-slaves c) heard
+    byCase (eqb (c .flag) pendingFlag)
+    (λ waits. both-true waits (duty-writes (c .pendingName) (c .pendingPB2) (c .pendingPB3) (ap isWriting (rw waits at p))))
+    (λ idle. clash refl (sym (ap isWriting (rw idle at p))))
 
 -- ---- what each duty comes to
 
-carried-by : (c : Cluster) (bytes : List ℕ) {o : Operation} {firework : ℕ} {old new f : List ℕ} {last mask : ℕ} → pendingOperation c ≡ o → Becomes f (slavesAfter o bytes (epochRaised c)) → Heard (sentTo o (c .slaves)) firework old new last → mask ≡ senderMask (sendersTo last) →
-    Carried (dataEffect c bytes) firework old new mask f
-unfolding dataEffect
-carried-by c bytes p b h m = record { senders = rw p (heard-mask h m); buffer = rw p (h .buffer); becomes = rw p b }
-
-pub sent-nothing : (o : Operation) → ((s : Slave) → replyTo o s ≡ []) → (ss : List Slave) (slot : ℕ) → sentTo o ss slot ≡ []
+pub sent-nothing : (o : Duty) → ((s : Slave) → replyTo o s ≡ []) → (ss : List Slave) (slot : ℕ) → sentTo o ss slot ≡ []
 unfolding sentTo
 sent-nothing o quiet [] slot = refl
 sent-nothing o quiet (s ∷ ss) slot = rw (quiet s, inSlot-nil slot, sent-nothing o quiet ss slot)
@@ -189,36 +167,55 @@ no-mask : 0 ≡ senderMask (sendersTo 0)
 unfolding senderMask
 no-mask = counting-done (counting-start 0) (omega arith) (omega arith)
 
-module _ (c : Cluster) {flag name n operation r : ℕ} (p : PendingIs c flag name n operation r) (d : Duty) (duty : dutyOf d name n r ≡ dutyIn flag name n operation r) (bytes : List ℕ) {f : List ℕ} (raised : Becomes f (epochRaised c)) where
-  pending-is : {e : Duty} → d ≡ e → pendingOperation c ≡ dutyOf e name n r
-  pending-is {e} is = pending-duty d p duty ∙ ap (λ (x : Duty). dutyOf x name n r) is
+-- a duty that changes no slave, and one in which nobody sends
+done-sending : (o : Duty) {f : List ℕ} {c : Cluster} (bytes : List ℕ) {old new : List ℕ} {last mask : ℕ} → Becomes f c → ((s : Slave) → slaveAfter o bytes s ≡ s) → Heard (sentTo o (c .slaves)) dataFirework old new last → mask ≡ senderMask (sendersTo last) →
+    Carried (dutyEffect o bytes c) dataFirework old new mask f
+unfolding dutyEffect
+done-sending o {f} {c} bytes h same heard m =
+    record {
+      senders = heard-mask heard m;
+      buffer = heard .buffer;
+      becomes = subst (λ (d : Cluster). Becomes f d) (sym (after-same o bytes c same)) h;
+    }
 
-  pub carried-nothing : {old new : List ℕ} → d ≡ duties.Nothing → new ≡ answerIn old (answerBytes dataFirework nobody) → Carried (dataEffect c bytes) dataFirework old new 0 f
-  unfolding dutyOf replyTo slaveAfter
-  carried-nothing is b =
-      carried-by c bytes (pending-is is) (subst (λ (x : Cluster). Becomes f x) (sym (after-same nothing bytes (epochRaised c) (λ s. refl))) raised)
-      (heard-nobody (sentTo nothing (c .slaves)) (sent-nothing nothing (λ s. refl) (c .slaves)) b) no-mask
+done-silently : (o : Duty) {f : List ℕ} (c : Cluster) (bytes : List ℕ) {old new : List ℕ} → ((s : Slave) → replyTo o s ≡ []) → Becomes f (slavesAfter o bytes c) → new ≡ answerIn old (answerBytes dataFirework nobody) →
+    Carried (dutyEffect o bytes c) dataFirework old new 0 f
+unfolding dutyEffect
+done-silently o c bytes quiet after b =
+    let heard = heard-nobody (sentTo o (c .slaves)) (sent-nothing o quiet (c .slaves)) b in
+    record { senders = heard-mask heard no-mask; buffer = heard .buffer; becomes = after }
 
-  pub carried-read : {old new : List ℕ} {last mask : ℕ} → d ≡ duties.Read → Heard (sentTo (reading name n r) (decode f .slaves)) dataFirework old new last → mask ≡ senderMask (sendersTo last) → Carried (dataEffect c bytes) dataFirework old new mask f
-  unfolding dutyOf slaveAfter
-  carried-read is h m =
-      carried-by c bytes (pending-is is) (subst (λ (x : Cluster). Becomes f x) (sym (after-same (reading name n r) bytes (epochRaised c) (λ s. refl))) raised)
-      (raised-heard c (reading name n r) raised h) m
+module _ (c : Cluster) (d : CodeDuty) (a : RecordAddress) (bytes : List ℕ) {old new : List ℕ} where
+  effect-is : {e : CodeDuty} {file : List ℕ} {mask : ℕ} → d ≡ e → Carried (dutyEffect (dutyAt e a) bytes c) dataFirework old new mask file → Carried (dutyEffect (dutyAt d a) bytes c) dataFirework old new mask file
+  effect-is {file = file} {mask} is k = subst (λ (e : CodeDuty). Carried (dutyEffect (dutyAt e a) bytes c) dataFirework old new mask file) (sym is) k
 
-  pub carried-compare : {old new : List ℕ} {last mask : ℕ} → d ≡ duties.Compare → Heard (sentTo (comparing name) (decode f .slaves)) dataFirework old new last → mask ≡ senderMask (sendersTo last) → Carried (dataEffect c bytes) dataFirework old new mask f
-  unfolding dutyOf slaveAfter
-  carried-compare is h m =
-      carried-by c bytes (pending-is is) (subst (λ (x : Cluster). Becomes f x) (sym (after-same (comparing name) bytes (epochRaised c) (λ s. refl))) raised)
-      (raised-heard c (comparing name) raised h) m
+  pub nothing-done : {f : List ℕ} → d ≡ duties.Nothing → Becomes f c → new ≡ answerIn old (answerBytes dataFirework nobody) → Carried (dutyEffect (dutyAt d a) bytes c) dataFirework old new 0 f
+  unfolding dutyAt slaveAfter replyTo
+  nothing-done {f} is h b =
+      effect-is is (done-silently nothing c bytes (λ s. refl) (subst (λ (x : Cluster). Becomes f x) (sym (after-same nothing bytes c (λ s. refl))) h) b)
 
-  pub carried-write : {old new f′ : List ℕ} → d ≡ duties.Write → new ≡ answerIn old (answerBytes dataFirework nobody) → Becomes f′ (slavesAfter (writing name n r) bytes (decode f)) → Carried (dataEffect c bytes) dataFirework old new 0 f′
-  unfolding dutyOf replyTo
-  carried-write {f′ = f′} is b h =
-      carried-by c bytes (pending-is is) (subst (λ (x : Cluster). Becomes f′ (slavesAfter (writing name n r) bytes x)) (raised .decoded) h)
-      (heard-nobody (sentTo (writing name n r) (c .slaves)) (sent-nothing (writing name n r) (λ s. refl) (c .slaves)) b) no-mask
+  pub read-done : {f : List ℕ} {last mask : ℕ} → d ≡ duties.Read → Becomes f c → Heard (sentTo (readingAt a) (c .slaves)) dataFirework old new last → mask ≡ senderMask (sendersTo last) → Carried (dutyEffect (dutyAt d a) bytes c) dataFirework old new mask f
+  unfolding dutyAt slaveAfter
+  read-done is h heard m = effect-is is (done-sending (readingAt a) bytes h (λ s. refl) heard m)
 
-  pub carried-baptize : {old new f′ : List ℕ} → d ≡ duties.Baptize → new ≡ answerIn old (answerBytes dataFirework nobody) → Becomes f′ (slavesAfter (baptizing name) [] (decode f)) → Carried (dataEffect c bytes) dataFirework old new 0 f′
-  unfolding dutyOf replyTo slavesAfter slaveAfter
-  carried-baptize {f′ = f′} is b h =
-      carried-by c bytes (pending-is is) (subst (λ (x : Cluster). Becomes f′ (slavesAfter (baptizing name) [] x)) (raised .decoded) h)
-      (heard-nobody (sentTo (baptizing name) (c .slaves)) (sent-nothing (baptizing name) (λ s. refl) (c .slaves)) b) no-mask
+  pub compare-done : {f : List ℕ} {last mask : ℕ} → d ≡ duties.Compare → Becomes f c → Heard (sentTo (comparing (nameIn (a .name))) (c .slaves)) dataFirework old new last → mask ≡ senderMask (sendersTo last) → Carried (dutyEffect (dutyAt d a) bytes c) dataFirework old new mask f
+  unfolding dutyAt slaveAfter
+  compare-done is h heard m = effect-is is (done-sending (comparing (nameIn (a .name))) bytes h (λ s. refl) heard m)
+
+  pub write-done : {file : List ℕ} → d ≡ duties.Write → new ≡ answerIn old (answerBytes dataFirework nobody) → Becomes file (slavesAfter (writingAt a) bytes c) → Carried (dutyEffect (dutyAt d a) bytes c) dataFirework old new 0 file
+  unfolding dutyAt replyTo
+  write-done is b after = effect-is is (done-silently (writingAt a) c bytes (λ s. refl) after b)
+
+  pub baptize-done : {file : List ℕ} → d ≡ duties.Baptize → new ≡ answerIn old (answerBytes dataFirework nobody) → Becomes file (slavesAfter (baptizing (nameIn (a .name))) [] c) → Carried (dutyEffect (dutyAt d a) bytes c) dataFirework old new 0 file
+  unfolding dutyAt replyTo slavesAfter slaveAfter
+  baptize-done is b after = effect-is is (done-silently (baptizing (nameIn (a .name))) c bytes (λ s. refl) after b)
+
+-- ---- the file with the epoch raised
+
+pub raised-placed : {f g places : List ℕ} → Placed f places → Becomes g (epochRaised (decode f)) → Placed g places
+raised-placed {f} p h = placed-kept p h (kept-raised (decode f) .shape)
+
+pub raised-done : {f : List ℕ} (c : Cluster) {o : Duty} (bytes : List ℕ) {firework : ℕ} {old new : List ℕ} {mask : ℕ} {file : List ℕ} → o ≡ pendingDuty c → Becomes f (epochRaised c) → Carried (dutyEffect o bytes (decode f)) firework old new mask file →
+    Carried (dataEffect c bytes) firework old new mask file
+unfolding dataEffect dutyEffect epochRaised withEpoch
+raised-done c bytes is h k = let there = rw (is, h .decoded) at k in record { senders = there .senders; buffer = there .buffer; becomes = there .becomes }

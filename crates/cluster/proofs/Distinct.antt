@@ -1,14 +1,15 @@
--- No two answers to a frame are taken to the same: the map of `specs/Answers.antt` can be undone.
+-- No two answers to a frame are taken to the same: the map of `specs/Inner/Answers.antt` can be undone.
 -- Assumes nothing.
 use mathlib.Core.Path.{_≡_, refl, sym, _∙_, ap}
-use Rattle.cluster.specs.Round.{Answer, refused, carried}
-use Rattle.cluster.specs.Answers.{answerOf}
+use Rattle.file.specs.Rules.Results.{refused, done}
+use Rattle.cluster.specs.Rules.Round.{Answer}
+use Rattle.cluster.specs.Inner.Answers.{answerOf}
 use Rattle.cluster.specs.declared.answer.RoundAnswer.{RoundAnswer}
 use Rattle.cluster.specs.declared.answer.RoundAnswer.the-variants as answers
 
 answer : Answer → RoundAnswer
 answer (refused n) = answers.Refused (record { 0 = n })
-answer (carried mask) = answers.Carried mask
+answer (done mask) = answers.Carried mask
 
 answer-back : (a : RoundAnswer) → answer (answerOf a) ≡ a
 unfolding answer answerOf

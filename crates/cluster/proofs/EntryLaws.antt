@@ -3,13 +3,15 @@
 use Prim.Native.Nat.{ℕ, suc, _+_, _-_, _%_, _≤_, _<_}
 use native.Mathlib.Omega.{arith}
 use mathlib.Core.Path.{_≡_, refl, sym, ap, _∙_}
+use mathlib.Core.List.{List}
 use mathlib.Core.Bool.{Bool, true, false, not}
+use lib.ListN.{getD}
 use lib.Dec.{leb, ltb, eqb}
 use borrow.Author.Tests.{lt-ltb, le-ltb, le-leb, lt-leb, leb-true, ltb-true, ltb-false, eqb-true}
-use Rattle.file.specs.Order.{either}
+use Rattle.file.specs.Rules.Order.{either}
 use Rattle.file.proofs.Order.{byCase, clash, both-left, both-right, both-true, both-false-left, both-false-right, both-next, either-false}
-use Rattle.cluster.specs.Entries.{Entry, entryOf, receives, sends, ends, covers}
-use Rattle.cluster.specs.EntryForm.{codeOf, multiplexOf, multiplexIn, OperationIs, entryFrom, evaluated, isPast, Action, ending, sending, receiving, resting, actionBy, actionFrom}
+use Rattle.cluster.specs.Rules.Entries.{Entry, lengthValues, startValues, entryOf, entryThere, receives, sends, ends, covers}
+use Rattle.cluster.specs.Inner.EntryForm.{codeOf, multiplexOf, multiplexIn, OperationIs, entryFrom, evaluated, isPast, Action, ending, sending, receiving, resting, actionBy, actionFrom}
 use Rattle.cluster.specs.declared.entry.Entry as Code
 use Rattle.cluster.specs.declared.entry.EntryOperation.{EntryOperation}
 use Rattle.cluster.specs.declared.entry.EntryAction.{EntryAction}
@@ -109,17 +111,21 @@ covers-late e slot h = covers-test (e .slot) (e .length) slot h ∙ sym (both-ne
 -- ---- the entries that can be passed over
 
 -- an entry's last slot is small
-pub entry-short : (b₀ b₁ b₂ b₃ : ℕ) (e : Code.Entry) → entryFrom e ≡ evaluated (entryOf b₀ b₁ b₂ b₃) → (1 ≤ e .length) × (e .slot + e .length ≤ 79)
-unfolding entryFrom evaluated entryOf
-entry-short b₀ b₁ b₂ b₃ e is =
-    let start : e .slot ≡ b₃ % 64 = ap (λ (x : Entry). x .start) is in
-    let count : e .length ≡ b₂ % 16 + 1 = ap (λ (x : Entry). x .length) is in
-    (omega arith, omega arith)
+pub record Short (e : Code.Entry) : Type 0 where
+  pub some : 1 ≤ e .length
+  pub few : e .slot + e .length < startValues + lengthValues
 
-module _ (e : Code.Entry) (slot : ℕ) (some : 1 ≤ e .length) where
+pub entry-short : (f : List ℕ) (at : ℕ) (e : Code.Entry) → entryFrom e ≡ evaluated (entryThere f at) → Short e
+unfolding entryFrom evaluated entryThere entryOf
+entry-short f at e is =
+    let start : e .slot ≡ getD f (at + 3) 0 % startValues = ap (λ (x : Entry). x .start) is in
+    let count : e .length ≡ getD f (at + 2) 0 % lengthValues + 1 = ap (λ (x : Entry). x .length) is in
+    record { some = omega arith; few = omega arith }
+
+module _ (e : Code.Entry) (slot : ℕ) (short : Short e) where
   pub past-not-yet : slot ≤ e .slot + (e .length - 1) → isPast (entryFrom e) slot ≡ false
   unfolding isPast entryFrom
-  past-not-yet l = both-false-left _ (lt-leb (e .slot + e .length) slot (omega arith))
+  past-not-yet l = both-false-left _ (lt-leb (e .slot + e .length) slot (omega (arith, short .some)))
 
   module _ {t : Bool} (end : t ≡ ends (entryFrom e .operation)) where
     pub past-end : t ≡ true → isPast (entryFrom e) slot ≡ false
@@ -128,7 +134,7 @@ module _ (e : Code.Entry) (slot : ℕ) (some : 1 ≤ e .length) where
 
     pub past-over : t ≡ false → e .slot + (e .length - 1) < slot → isPast (entryFrom e) slot ≡ true
     unfolding isPast entryFrom
-    past-over goes l = both-true (le-leb (e .slot + e .length) slot (omega arith)) (ap not (sym end ∙ goes))
+    past-over goes l = both-true (le-leb (e .slot + e .length) slot (omega (arith, short .some))) (ap not (sym end ∙ goes))
 
 module _ (e : Entry) (slot : ℕ) (past : isPast e slot ≡ true) where
   pub past-goes-on : ends (e .operation) ≡ false

@@ -3,58 +3,62 @@
 use Prim.Native.Nat.{ℕ, _≤_, _<_}
 use mathlib.Core.Path.{_≡_, refl, sym, _∙_, subst}
 use mathlib.Core.List.{List, [], _∷_}
-use mathlib.Core.Bool.{true, false, not}
 use native.Mathlib.Omega.{arith}
 use borrow.Author.Tests.{eq-eqb, ne-eqb}
 use lib.ListN.{length, getD}
-use Rattle.file.specs.Order.{firstOf}
-use Rattle.file.specs.Cluster.{Cluster}
-use Rattle.file.specs.Grounds.{fileGround}
-use Rattle.file.specs.Accepted.{Becomes}
-use Rattle.file.specs.Answers.{Verdict, verdictOf, checkedOf}
+use Rattle.file.specs.Rules.Order.{firstOf}
+use Rattle.file.specs.Rules.Refusals.{bufferRefusal, fireworkRefusal, frameLengthRefusal}
+use Rattle.file.specs.Rules.Results.{refused, done}
+use Rattle.file.specs.Rules.Cluster.{Cluster}
+use Rattle.file.specs.Rules.Decode.{decode}
+use Rattle.file.specs.Inner.Accepted.{Becomes}
+use Rattle.file.specs.Inner.Surveyed.{Surveyed}
+use Rattle.file.specs.Inner.Answers.{checkedOf}
 use Rattle.file.specs.declared.survey.FileAnswer.{FileAnswer}
 use Rattle.file.specs.declared.survey.FileAnswer.the-variants as answers
 use Rattle.file.specs.declared.types.Refusal.{Refusal}
-use Rattle.file.proofs.Verdicts.{no-ground, that-ground}
-use Rattle.frame.specs.Fireworks.{Round, multipartner, msd, msa, roundOf}
-use Rattle.frame.specs.Grounds.{wrongLength}
-use Rattle.frame.specs.Answers.{fireworkRound}
+use Rattle.file.proofs.Surveyed.{survey-accepted, survey-becomes, survey-refused}
+use Rattle.frame.specs.Rules.Fireworks.{Round, multipartner, msd, msa, roundOf}
+use Rattle.frame.specs.Rules.Frames.{fireworkPlace}
+use Rattle.frame.specs.Rules.Grounds.{wrongFrameLength}
+use Rattle.frame.specs.Inner.Answers.{fireworkRound}
 use Rattle.frame.specs.declared.firework.Firework.{Firework}
 use Rattle.frame.specs.declared.firework.Firework.the-variants as fireworks
-use Rattle.cluster.specs.Bus.{slots}
-use Rattle.cluster.specs.Grounds.{roundBy, noFirework, lengthFor, wrongLengthOn, wrongCheckOn, noOperationOn, broadcastReadOn, groundsOn, frameGround}
-use Rattle.cluster.specs.Round.{Effect, refused, carried, multipartnerEffect, effectOf, frameOn, roundOn}
-use Rattle.cluster.specs.Carried.{Carried, Exchanged}
+use Rattle.cluster.specs.Rules.Bus.{slots}
+use Rattle.cluster.specs.Rules.Multipartner.{firstStored}
+use Rattle.cluster.specs.Rules.Grounds.{roundBy, noFirework, fireworkSize, lengthFor, wrongLengthOn, wrongCheckOn, noOperationOn, broadcastReadOn, groundsOn, frameGround}
+use Rattle.cluster.specs.Rules.Round.{Effect, Answer, multipartnerEffect, effectOf, frameOn, roundOn}
+use Rattle.cluster.specs.Inner.Carried.{Carried, Exchanged}
 use Rattle.cluster.proofs.FrameLaws.{exchange-refused, exchange-carried}
 use Rattle.cluster.proofs.RoundNumbers.{multipartner-low}
-use Rattle.cluster.proofs.RoundCall.{file-refused}
+use Rattle.cluster.proofs.RoundCall.{file-refused, buffer-refused, exchanged-round}
 
 -- ---- the firework of a frame
 
-round-by : (frame : List ℕ) → (length frame ≡ 0 → ⊥) → roundBy frame ≡ roundOf (getD frame 0 0)
+round-by : (frame : List ℕ) → (length frame ≡ 0 → ⊥) → roundBy frame ≡ roundOf (getD frame fireworkPlace 0)
 unfolding roundBy
 round-by [] some = absurd (some refl)
 round-by (b ∷ bs) some = refl
 
-no-round-ground : (c : Cluster) (frame : List ℕ) → roundBy frame ≡ Round.none → 10 ≡ frameGround c frame
+no-round-ground : (c : Cluster) (frame : List ℕ) → roundBy frame ≡ Round.noRound → fireworkRefusal ≡ frameGround c frame
 unfolding frameGround groundsOn firstOf noFirework
 no-round-ground c frame e = rw e
 
-empty-round : (frame : List ℕ) → length frame ≡ 0 → roundBy frame ≡ Round.none
+empty-round : (frame : List ℕ) → length frame ≡ 0 → roundBy frame ≡ Round.noRound
 unfolding roundBy
 empty-round [] z = refl
 empty-round (b ∷ bs) z = absurd (omega arith)
 
-pub frame-empty : (c : Cluster) (frame buffer : List ℕ) {f : List ℕ} → Becomes f c → length frame ≡ 0 → Exchanged c frame buffer buffer (refused 10) f
+pub frame-empty : (c : Cluster) (frame buffer : List ℕ) {f : List ℕ} → Becomes f c → length frame ≡ 0 → Exchanged c frame buffer buffer (refused fireworkRefusal) f
 frame-empty c frame buffer h z = exchange-refused c frame buffer h (no-round-ground c frame (empty-round frame z)) (λ e. omega arith)
 
-module _ (c : Cluster) (frame : List ℕ) (w : Firework) (some : length frame ≡ 0 → ⊥) (is : fireworkRound w ≡ roundOf (getD frame 0 0)) where
+module _ (frame : List ℕ) (w : Firework) (some : length frame ≡ 0 → ⊥) (is : fireworkRound w ≡ roundOf (getD frame fireworkPlace 0)) where
   the-round : roundBy frame ≡ fireworkRound w
   the-round = round-by frame some ∙ sym is
 
-  pub frame-none : (buffer : List ℕ) {f : List ℕ} → w ≡ fireworks.None → Becomes f c → Exchanged c frame buffer buffer (refused 10) f
+  pub frame-none : (c : Cluster) (buffer : List ℕ) {f : List ℕ} → w ≡ fireworks.None → Becomes f c → Exchanged c frame buffer buffer (refused fireworkRefusal) f
   unfolding fireworkRound
-  frame-none buffer e h = exchange-refused c frame buffer h (no-round-ground c frame (rw e at the-round)) (λ z. omega arith)
+  frame-none c buffer e h = exchange-refused c frame buffer h (no-round-ground c frame (rw e at the-round)) (λ z. omega arith)
 
   pub frame-address : w ≡ fireworks.Address → roundBy frame ≡ msa
   unfolding fireworkRound
@@ -69,32 +73,29 @@ module _ (c : Cluster) (frame : List ℕ) (w : Firework) (some : length frame �
     unfolding fireworkRound
     round-is = rw e at the-round
 
-    pub round-low : r < 0x10
-    round-low = multipartner-low (getD frame 0 0) (sym (round-by frame some) ∙ round-is)
+    pub round-low : r < firstStored
+    round-low = multipartner-low (getD frame fireworkPlace 0) (sym (round-by frame some) ∙ round-is)
 
-    pub frame-long : (buffer : List ℕ) {f : List ℕ} → Becomes f c → (length frame ≡ 1 → ⊥) → Exchanged c frame buffer buffer (refused 11) f
-    unfolding frameGround groundsOn firstOf noFirework wrongLengthOn lengthFor wrongLength
-    frame-long buffer h other = exchange-refused c frame buffer h (rw (round-is, ne-eqb (length frame) 1 other)) (λ z. omega arith)
+    pub frame-long : (c : Cluster) (buffer : List ℕ) {f : List ℕ} → Becomes f c → (length frame ≡ fireworkSize → ⊥) → Exchanged c frame buffer buffer (refused frameLengthRefusal) f
+    unfolding frameGround groundsOn firstOf noFirework wrongLengthOn lengthFor wrongFrameLength
+    frame-long c buffer h other = exchange-refused c frame buffer h (rw (round-is, ne-eqb (length frame) fireworkSize other)) (λ z. omega arith)
 
-    pub frame-carried : (old : List ℕ) {new : List ℕ} {mask : ℕ} {f : List ℕ} → length frame ≡ 1 → Carried (multipartnerEffect c r) (getD frame 0 0) old new mask f → Exchanged c frame old new (carried mask) f
-    unfolding frameGround groundsOn firstOf noFirework wrongLengthOn lengthFor wrongLength wrongCheckOn noOperationOn broadcastReadOn frameOn effectOf
-    frame-carried old {new} {mask} {f} one k =
-        let fits : frameGround c frame ≡ 0 = rw (round-is, eq-eqb (length frame) 1 one) in
+    pub frame-carried : (c : Cluster) (old : List ℕ) {new : List ℕ} {mask : ℕ} {f : List ℕ} → length frame ≡ fireworkSize → Carried (multipartnerEffect c r) (getD frame fireworkPlace 0) old new mask f → Exchanged c frame old new (done mask) f
+    unfolding frameGround groundsOn firstOf noFirework wrongLengthOn lengthFor wrongFrameLength wrongCheckOn noOperationOn broadcastReadOn frameOn effectOf
+    frame-carried c old {new} {mask} {f} one k =
+        let fits : frameGround c frame ≡ 0 = rw (round-is, eq-eqb (length frame) fireworkSize one) in
         let effect : frameOn c frame ≡ multipartnerEffect c r = rw round-is in
-        exchange-carried c frame old fits (subst (λ (x : Effect). Carried x (getD frame 0 0) old new mask f) (sym effect) k)
+        exchange-carried c frame old fits (subst (λ (x : Effect). Carried x (getD frame fireworkPlace 0) old new mask f) (sym effect) k)
 
--- ---- the answer of the survey
+-- ---- the call from outside, by the answer of the survey
 
-pub survey-accepted : (file : List ℕ) {a : FileAnswer} → checkedOf a ≡ verdictOf (fileGround file) → a ≡ answers.Accepted → fileGround file ≡ 0
-unfolding checkedOf
-survey-accepted file is e = no-ground (fileGround file) (rw e at is)
+module _ (frame buffer : List ℕ) {file places : List ℕ} {a : FileAnswer} (s : Surveyed file (checkedOf a) places) where
+  pub call-refused : {why : Refusal} → a ≡ answers.Refused why → (refused (why .0), buffer, file) ≡ roundOn file frame buffer
+  call-refused e = let ground = survey-refused s e in file-refused file frame buffer (ground .0) (ground .1)
 
-pub survey-verdict : {a : FileAnswer} → a ≡ answers.Accepted → checkedOf a ≡ Verdict.accepted
-unfolding checkedOf
-survey-verdict e = rw e
+  module _ (yes : a ≡ answers.Accepted) where
+    pub call-short : length buffer < slots → (refused bufferRefusal, buffer, file) ≡ roundOn file frame buffer
+    call-short short = buffer-refused file frame buffer (survey-accepted s yes) short
 
-pub survey-refused : (file frame buffer : List ℕ) {a : FileAnswer} {why : Refusal} → checkedOf a ≡ verdictOf (fileGround file) → a ≡ answers.Refused why → (refused (why .0), buffer, file) ≡ roundOn file frame buffer
-unfolding checkedOf
-survey-refused file frame buffer {why = why} is e =
-    let ground = that-ground (why .0) (fileGround file) (rw e at is) in
-    file-refused file frame buffer (ground .0) (ground .1)
+    pub call-made : {new : List ℕ} {answer : Answer} {after : List ℕ} → slots ≤ length buffer → Exchanged (decode file) frame buffer new answer after → (answer, new, after) ≡ roundOn file frame buffer
+    call-made long x = exchanged-round file frame (survey-becomes s yes) long x

@@ -1,6 +1,6 @@
 -- One master-slave frame on an accepted file: its grounds, and what each way out comes to.
 -- Assumes nothing.
-use Prim.Native.Nat.{ℕ, _+_, _*_, _/_, _%_, _<_}
+use Prim.Native.Nat.{ℕ}
 use native.Mathlib.Omega.{arith}
 use mathlib.Core.Path.{_≡_, refl, sym, ap, _∙_, subst}
 use mathlib.Core.List.{List, [], _∷_}
@@ -8,35 +8,48 @@ use mathlib.Core.Bool.{Bool, true, false, cond, not}
 use lib.ListN.{length, getD}
 use lib.Dec.{eqb}
 use borrow.Author.Tests.{eq-eqb, ne-eqb, eqb-true, not-true, not-false}
-use Rattle.file.specs.Bytes.{Byte, All, none, both}
-use Rattle.file.specs.Order as Order
-use Rattle.file.specs.Cluster.{Cluster, operationOf, fileNumberOf, writeOperation}
-use Rattle.file.specs.Decode.{decode}
-use Rattle.file.specs.Legal.{LegalPending}
-use Rattle.file.specs.Places.{withEpoch, withPending}
-use Rattle.file.specs.Accepted.{Becomes, PendingIs}
-use Rattle.file.proofs.Order.{byCase, clash, both-right, both-false-left, both-next}
-use Rattle.frame.specs.Fireworks.{Round, multipartner, msd, msa, dataFirework, addressFirework, fireworks, roundIn, roundOf}
-use Rattle.frame.specs.Check.{dataCheck}
-use Rattle.frame.specs.Frames.{frameSize, between}
-use Rattle.frame.specs.Grounds.{wrongLength, wrongCheck, broadcastRead, noAddress}
-use Rattle.frame.specs.Reading.{Reading, parts, readGround, partsOf, readAddress}
-use Rattle.frame.specs.Answers.{readingOf}
-use Rattle.frame.specs.declared.types.AddressReading.{AddressReading}
-use Rattle.frame.specs.declared.types.AddressReading.the-variants as readings
-use Rattle.frame.specs.declared.types.Operation.{Operation as FrameOperation}
+use mir.Val.{Fits as FitsIn}
+use mir.Syntax.{w8}
+use Rattle.file.specs.Rules.Bytes.{Byte, All, allEmpty, allNext}
+use Rattle.file.specs.Rules.Order as Order
+use Rattle.file.specs.Rules.Refusals.{frameLengthRefusal, checkRefusal}
+use Rattle.file.specs.Rules.Results.{refused, done, resultOf}
+use Rattle.file.specs.Rules.Layout.{pendingFlag}
+use Rattle.file.specs.Rules.Cluster.{Cluster, pb2Of, operationOf, fileNumberOf, writeOperation}
+use Rattle.file.specs.Rules.Decode.{decode}
+use Rattle.file.specs.Rules.Legal.{LegalPending}
+use Rattle.file.specs.Rules.Changes.{withEpoch, withPending}
+use Rattle.file.specs.Inner.Typed.{fileIn, recordIn, nameIn, operationIn}
+use Rattle.file.specs.Inner.Accepted.{Becomes, Placed, PendingIs}
 use Rattle.file.specs.declared.types.Refusal.{Refusal}
 use Rattle.file.specs.declared.types.LogicalName.{LogicalName}
 use Rattle.file.specs.declared.types.FileNumber.{FileNumber}
 use Rattle.file.specs.declared.types.RecordNumber.{RecordNumber}
-use Rattle.frame.proofs.Tests as Tests
-use Rattle.cluster.specs.Bus.{answerBytes, answerIn, nobody}
-use Rattle.cluster.specs.Slaves.{withAddress}
-use Rattle.cluster.specs.Grounds.{roundBy, noFirework, writePending, lengthFor, wrongLengthOn, wrongCheckOn, noOperationOn, broadcastReadOn, groundsOn, frameGround}
-use Rattle.cluster.specs.Round.{Effect, refused, carried, addressEffect, dataEffect, effectOf, frameOn, carriedBy, bufferBy, exchange}
-use Rattle.cluster.specs.Carried.{AllKept, Carried, Exchanged}
+use Rattle.file.specs.declared.types.Operation.{Operation}
+use Rattle.file.proofs.Order.{byCase, both-false-left, both-next}
+use Rattle.file.proofs.Results.{result-done, result-refused, no-ground, same-value, that-ground}
 use Rattle.file.proofs.Shape.{shape-refl}
-use Rattle.cluster.proofs.Changing.{all-shape, all-decoded}
+use Rattle.file.proofs.Surveyed.{placed-kept}
+use Rattle.frame.specs.Rules.Fireworks.{Round, multipartner, msd, msa, dataFirework, addressFirework, fireworks, roundIn, roundOf}
+use Rattle.frame.specs.Rules.Check.{dataCheck}
+use Rattle.frame.specs.Rules.Frames.{frameSize, pb0Place, pb1Place, pb2Place, pb3Place, checkPlace, between}
+use Rattle.frame.specs.Rules.Grounds.{wrongFrameLength, wrongCheck, broadcastRead, noAddress}
+use Rattle.frame.specs.Rules.Reading.{Parts, parts, readGround, partsOf, readAddress}
+use Rattle.frame.specs.Inner.Answers.{readingOf}
+use Rattle.frame.specs.declared.types.AddressReading.{AddressReading}
+use Rattle.frame.specs.declared.types.AddressReading.the-variants as addressReadings
+use Rattle.frame.proofs.Tests as Tests
+use Rattle.cluster.specs.declared.types.DataBytes.{DataBytes}
+use Rattle.cluster.specs.declared.msd.DataReading.{DataReading}
+use Rattle.cluster.specs.declared.msd.DataReading.the-variants as readings
+use Rattle.cluster.specs.Rules.Bus.{answerBytes, answerIn, nobody}
+use Rattle.cluster.specs.Rules.Slaves.{withAddress}
+use Rattle.cluster.specs.Rules.Grounds.{roundBy, noFirework, writePending, fireworkSize, lengthFor, wrongLengthOn, wrongCheckOn, noOperationOn, broadcastReadOn, groundsOn, frameGround}
+use Rattle.cluster.specs.Rules.Round.{Effect, addressEffect, dataEffect, effectOf, frameOn, carriedBy, bufferBy}
+use Rattle.cluster.specs.Inner.Carried.{exchange}
+use Rattle.cluster.specs.Inner.Carried.{Carried, Exchanged}
+use Rattle.cluster.specs.Inner.Duties.{dataIn}
+use Rattle.cluster.specs.Inner.Answers.{dataRead}
 use Rattle.cluster.proofs.Bus.{mask-nobody}
 use Rattle.cluster.proofs.Rounds.{Fits, fits-facts, address-pending}
 
@@ -48,11 +61,11 @@ exchange-refused c frame b {g} h e n =
     let no′ : eqb (frameGround c frame) 0 ≡ false = ne-eqb (frameGround c frame) 0 (λ z. n (e ∙ z)) in
     record { answers = rw no′ (ap refused e); buffer = rw no′; becomes = rw no′ h }
 
-pub exchange-carried : (c : Cluster) (frame : List ℕ) {f : List ℕ} (old : List ℕ) {new : List ℕ} {mask : ℕ} → frameGround c frame ≡ 0 → Carried (frameOn c frame) (getD frame 0 0) old new mask f → Exchanged c frame old new (carried mask) f
+pub exchange-carried : (c : Cluster) (frame : List ℕ) {f : List ℕ} (old : List ℕ) {new : List ℕ} {mask : ℕ} → frameGround c frame ≡ 0 → Carried (frameOn c frame) (getD frame 0 0) old new mask f → Exchanged c frame old new (done mask) f
 unfolding exchange carriedBy bufferBy
 exchange-carried c frame old z k =
     let yes′ : eqb (frameGround c frame) 0 ≡ true = eq-eqb (frameGround c frame) 0 z in
-    record { answers = rw yes′ (ap carried (k .senders)); buffer = rw yes′ (k .buffer); becomes = rw yes′ (k .becomes) }
+    record { answers = rw yes′ (ap done (k .senders)); buffer = rw yes′ (k .buffer); becomes = rw yes′ (k .becomes) }
 
 -- ---- the firework of a round
 
@@ -60,27 +73,27 @@ kindOf : Round → ℕ
 kindOf (multipartner r) = 0
 kindOf msd = 1
 kindOf msa = 2
-kindOf Round.none = 3
+kindOf Round.noRound = 3
 
-only-in : (x : Round) (firework : ℕ) (es : List (ℕ × Round)) (b : ℕ) → (Round.none ≡ x → ⊥) → All (λ (e : ℕ × Round). e .1 ≡ x → e .0 ≡ firework) es → roundIn es b ≡ x → b ≡ firework
+only-in : (x : Round) (firework : ℕ) (es : List (ℕ × Round)) (b : ℕ) → (Round.noRound ≡ x → ⊥) → All (λ (e : ℕ × Round). e .1 ≡ x → e .0 ≡ firework) es → roundIn es b ≡ x → b ≡ firework
 unfolding roundIn
-only-in x firework [] b some none h = absurd (some h)
-only-in x firework (e ∷ es) b some (both p r) h =
+only-in x firework [] b some allEmpty h = absurd (some h)
+only-in x firework (e ∷ es) b some (allNext p r) h =
     byCase (eqb b (e .0))
     (λ t. eqb-true b (e .0) t ∙ p (rw t at h))
     (λ t. only-in x firework es b some r (rw t at h))
 
-first-of : (frame : List ℕ) (x : Round) → (Round.none ≡ x → ⊥) → roundBy frame ≡ x → roundOf (getD frame 0 0) ≡ x
+first-of : (frame : List ℕ) (x : Round) → (Round.noRound ≡ x → ⊥) → roundBy frame ≡ x → roundOf (getD frame 0 0) ≡ x
 unfolding roundBy
 first-of [] x some h = absurd (some h)
 first-of (b ∷ bs) x some h = h
 
-pub not-empty : (frame : List ℕ) (x : Round) → (Round.none ≡ x → ⊥) → roundBy frame ≡ x → length frame ≡ 0 → ⊥
+pub not-empty : (frame : List ℕ) (x : Round) → (Round.noRound ≡ x → ⊥) → roundBy frame ≡ x → length frame ≡ 0 → ⊥
 unfolding roundBy
 not-empty [] x some h z = some h
 not-empty (b ∷ bs) x some h z = omega arith
 
-never-msa : Round.none ≡ msa → ⊥
+never-msa : Round.noRound ≡ msa → ⊥
 unfolding kindOf
 never-msa e = omega (arith, ap kindOf e)
 
@@ -88,74 +101,98 @@ pub data-first : (frame : List ℕ) → roundBy frame ≡ msd → getD frame 0 0
 unfolding roundOf kindOf
 data-first frame h =
     only-in msd dataFirework fireworks (getD frame 0 0) (λ e. omega (arith, ap kindOf e))
-    (both (λ e. absurd (omega (arith, ap kindOf e))) (both (λ _. refl) (both (λ e. absurd (omega (arith, ap kindOf e))) (both (λ e. absurd (omega (arith, ap kindOf e))) (both (λ e. absurd (omega (arith, ap kindOf e))) (both (λ e. absurd (omega (arith, ap kindOf e))) (both (λ e. absurd (omega (arith, ap kindOf e))) (both (λ e. absurd (omega (arith, ap kindOf e))) none))))))))
+    (allNext (λ e. absurd (omega (arith, ap kindOf e))) (allNext (λ _. refl) (allNext (λ e. absurd (omega (arith, ap kindOf e))) (allNext (λ e. absurd (omega (arith, ap kindOf e))) (allNext (λ e. absurd (omega (arith, ap kindOf e))) (allNext (λ e. absurd (omega (arith, ap kindOf e))) (allNext (λ e. absurd (omega (arith, ap kindOf e))) (allNext (λ e. absurd (omega (arith, ap kindOf e))) allEmpty))))))))
     (first-of frame msd (λ e. omega (arith, ap kindOf e)) h)
 
 pub address-first : (frame : List ℕ) → roundBy frame ≡ msa → getD frame 0 0 ≡ addressFirework
 unfolding roundOf kindOf
 address-first frame h =
     only-in msa addressFirework fireworks (getD frame 0 0) (λ e. omega (arith, ap kindOf e))
-    (both (λ e. absurd (omega (arith, ap kindOf e))) (both (λ e. absurd (omega (arith, ap kindOf e))) (both (λ e. absurd (omega (arith, ap kindOf e))) (both (λ e. absurd (omega (arith, ap kindOf e))) (both (λ e. absurd (omega (arith, ap kindOf e))) (both (λ _. refl) (both (λ e. absurd (omega (arith, ap kindOf e))) (both (λ e. absurd (omega (arith, ap kindOf e))) none))))))))
+    (allNext (λ e. absurd (omega (arith, ap kindOf e))) (allNext (λ e. absurd (omega (arith, ap kindOf e))) (allNext (λ e. absurd (omega (arith, ap kindOf e))) (allNext (λ e. absurd (omega (arith, ap kindOf e))) (allNext (λ e. absurd (omega (arith, ap kindOf e))) (allNext (λ _. refl) (allNext (λ e. absurd (omega (arith, ap kindOf e))) (allNext (λ e. absurd (omega (arith, ap kindOf e))) allEmpty))))))))
     (first-of frame msa (λ e. omega (arith, ap kindOf e)) h)
 
 -- ---- a data frame
 
-pub pending-idle : (c : Cluster) {flag name n operation r : ℕ} → PendingIs c flag name n operation r → (flag ≡ 1 → ⊥) → false ≡ writePending c
+pub pending-idle : (c : Cluster) {flag name n operation r : ℕ} → PendingIs c flag name n operation r → (flag ≡ pendingFlag → ⊥) → false ≡ writePending c
 unfolding writePending
-pending-idle c {flag} p h = sym (both-false-left (eqb (operationOf (c .pendingPB2)) writeOperation) (ne-eqb (c .flag) 1 (λ e. h (p .waits ∙ e))))
+pending-idle c {flag} p h = sym (both-false-left (eqb (operationOf (c .pendingPB2)) writeOperation) (ne-eqb (c .flag) pendingFlag (λ e. h (p .flagIs ∙ e))))
 
-pub pending-write : (c : Cluster) {flag name n operation r : ℕ} → PendingIs c flag name n operation r → flag ≡ 1 → eqb operation writeOperation ≡ writePending c
+pub pending-write : (c : Cluster) {flag name n operation r : ℕ} → PendingIs c flag name n operation r → flag ≡ pendingFlag → eqb operation writeOperation ≡ writePending c
 unfolding writePending
 pending-write c {operation = operation} p h =
-    ap (λ (o : ℕ). eqb o writeOperation) (p .does) ∙ sym (both-next (eqb (operationOf (c .pendingPB2)) writeOperation) (eq-eqb (c .flag) 1 (sym (p .waits) ∙ h)))
+    ap (λ (o : ℕ). eqb o writeOperation) (p .operationIs) ∙ sym (both-next (eqb (operationOf (c .pendingPB2)) writeOperation) (eq-eqb (c .flag) pendingFlag (sym (p .flagIs) ∙ h)))
 
-data-ground : (c : Cluster) (frame : List ℕ) → roundBy frame ≡ msd → frameGround c frame ≡ cond (wrongLength (cond (writePending c) frameSize 1) frame) 11 (cond (Order.both (writePending c) (wrongCheck dataCheck frame)) 12 0)
+nothing-between : (frame : List ℕ) → length frame ≡ fireworkSize → 0 ∷ 0 ∷ 0 ∷ 0 ∷ [] ≡ between frame
+nothing-between [] e = absurd (omega arith)
+nothing-between (b ∷ []) e = refl
+nothing-between (b ∷ d ∷ l) e = absurd (omega arith)
+
+data-ground : (c : Cluster) (frame : List ℕ) → roundBy frame ≡ msd → frameGround c frame ≡ cond (wrongFrameLength (cond (writePending c) frameSize fireworkSize) frame) frameLengthRefusal (cond (Order.both (writePending c) (wrongCheck dataCheck frame)) checkRefusal 0)
 unfolding frameGround groundsOn Order.firstOf noFirework wrongLengthOn lengthFor wrongCheckOn noOperationOn broadcastReadOn
 data-ground c frame h = rw h
+
+read-refused : (c : Cluster) (frame : List ℕ) {n : ℕ} → (n ≡ 0 → ⊥) → frameGround c frame ≡ n → refused n ≡ resultOf (frameGround c frame) (between frame)
+read-refused c frame some is = rw is (result-refused (between frame) some)
+
+read-done : (c : Cluster) (frame bytes : List ℕ) → frameGround c frame ≡ 0 → bytes ≡ between frame → done bytes ≡ resultOf (frameGround c frame) (between frame)
+read-done c frame bytes none is = rw (← is) (sym (result-done none))
 
 module _ (c : Cluster) (frame : List ℕ) (isData : roundBy frame ≡ msd) {t : Bool} (test : t ≡ writePending c) where
   module _ (idle : not t ≡ true) where
     unpending : writePending c ≡ false
     unpending = sym test ∙ not-true t idle
 
-    pub data-not-one : (length frame ≡ 1 → ⊥) → 11 ≡ frameGround c frame
-    unfolding wrongLength
-    data-not-one h = sym (data-ground c frame isData ∙ rw (unpending, ne-eqb (length frame) 1 h))
+    pub data-not-one : (length frame ≡ fireworkSize → ⊥) → refused frameLengthRefusal ≡ resultOf (frameGround c frame) (between frame)
+    unfolding wrongFrameLength
+    data-not-one h = read-refused c frame (λ z. omega (arith, z)) (data-ground c frame isData ∙ rw (unpending, ne-eqb (length frame) fireworkSize h))
 
-    pub data-one : length frame ≡ 1 → 0 ≡ frameGround c frame
-    unfolding wrongLength Order.both
-    data-one h = sym (data-ground c frame isData ∙ rw (unpending, eq-eqb (length frame) 1 h))
+    pub data-one : length frame ≡ fireworkSize → done (0 ∷ 0 ∷ 0 ∷ 0 ∷ []) ≡ resultOf (frameGround c frame) (between frame)
+    unfolding wrongFrameLength Order.both
+    data-one h = read-done c frame _ (data-ground c frame isData ∙ rw (unpending, eq-eqb (length frame) fireworkSize h)) (nothing-between frame h)
 
   module _ (waits : not t ≡ false) where
     pending : writePending c ≡ true
     pending = sym test ∙ not-false t waits
 
-    pub data-not-six : (length frame ≡ frameSize → ⊥) → 11 ≡ frameGround c frame
-    unfolding wrongLength
-    data-not-six h = sym (data-ground c frame isData ∙ rw (pending, ne-eqb (length frame) frameSize h))
+    pub data-not-six : (length frame ≡ frameSize → ⊥) → refused frameLengthRefusal ≡ resultOf (frameGround c frame) (between frame)
+    unfolding wrongFrameLength
+    data-not-six h = read-refused c frame (λ z. omega (arith, z)) (data-ground c frame isData ∙ rw (pending, ne-eqb (length frame) frameSize h))
 
-    pub data-wrong : {check : ℕ} → length frame ≡ frameSize → check ≡ dataCheck (between frame) → (getD frame 5 0 ≡ check → ⊥) → 12 ≡ frameGround c frame
-    unfolding wrongLength wrongCheck Order.both
-    data-wrong h e n = sym (data-ground c frame isData ∙ rw (pending, eq-eqb (length frame) frameSize h, ne-eqb (getD frame 5 0) (dataCheck (between frame)) (λ q. n (q ∙ sym e))))
+    pub data-wrong : {check : ℕ} → length frame ≡ frameSize → check ≡ dataCheck (between frame) → (getD frame checkPlace 0 ≡ check → ⊥) → refused checkRefusal ≡ resultOf (frameGround c frame) (between frame)
+    unfolding wrongFrameLength wrongCheck Order.both
+    data-wrong h e n =
+        read-refused c frame (λ z. omega (arith, z))
+        (data-ground c frame isData ∙ rw (pending, eq-eqb (length frame) frameSize h, ne-eqb (getD frame checkPlace 0) (dataCheck (between frame)) (λ q. n (q ∙ sym e))))
 
-    pub data-right : {check : ℕ} → length frame ≡ frameSize → check ≡ dataCheck (between frame) → getD frame 5 0 ≡ check → 0 ≡ frameGround c frame
-    unfolding wrongLength wrongCheck Order.both
-    data-right h e n = sym (data-ground c frame isData ∙ rw (pending, eq-eqb (length frame) frameSize h, eq-eqb (getD frame 5 0) (dataCheck (between frame)) (n ∙ e)))
+    pub data-fits : {check : ℕ} → length frame ≡ frameSize → check ≡ dataCheck (between frame) → getD frame checkPlace 0 ≡ check → frameGround c frame ≡ 0
+    unfolding wrongFrameLength wrongCheck Order.both
+    data-fits h e n = data-ground c frame isData ∙ rw (pending, eq-eqb (length frame) frameSize h, eq-eqb (getD frame checkPlace 0) (dataCheck (between frame)) (n ∙ e))
 
-pub data-long : (c : Cluster) (frame : List ℕ) → roundBy frame ≡ msd → frameGround c frame ≡ 0 → writePending c ≡ true → 4 < length frame
-unfolding wrongLength
-data-long c frame isData z w =
-    let g : _≡_ {A = ℕ} (cond (not (eqb (length frame) frameSize)) 11 (cond (Order.both true (wrongCheck dataCheck frame)) 12 0)) 0 = rw w at (sym (data-ground c frame isData) ∙ z) in
-    byCase (eqb (length frame) frameSize)
-    (λ e. omega (arith, eqb-true (length frame) frameSize e))
-    (λ e. let bad : _≡_ {A = ℕ} 11 0 = rw e at g in absurd (omega (arith, bad)))
+    pub data-right : {check : ℕ} → length frame ≡ frameSize → check ≡ dataCheck (between frame) → getD frame checkPlace 0 ≡ check → done (between frame) ≡ resultOf (frameGround c frame) (between frame)
+    data-right h e n = read-done c frame (between frame) (data-fits h e n) refl
 
-pub exchange-data : (c : Cluster) (frame : List ℕ) {f : List ℕ} (old : List ℕ) {new : List ℕ} {mask : ℕ} → roundBy frame ≡ msd → frameGround c frame ≡ 0 → Carried (dataEffect c (between frame)) dataFirework old new mask f → Exchanged c frame old new (carried mask) f
+-- ---- a data frame that was read
+
+pub exchange-data : (c : Cluster) (frame : List ℕ) {f : List ℕ} (old : List ℕ) {new : List ℕ} {mask : ℕ} → roundBy frame ≡ msd → frameGround c frame ≡ 0 → Carried (dataEffect c (between frame)) dataFirework old new mask f → Exchanged c frame old new (done mask) f
 unfolding frameOn effectOf
 exchange-data c frame {f} old {new} {mask} isData z k =
     let effect : frameOn c frame ≡ dataEffect c (between frame) = rw isData in
     let there : Carried (frameOn c frame) dataFirework old new mask f = subst (λ (e : Effect). Carried e dataFirework old new mask f) (sym effect) k in
     exchange-carried c frame old z (subst (λ (b : ℕ). Carried (frameOn c frame) b old new mask f) (sym (data-first frame isData)) there)
+
+pub data-refused : (c : Cluster) (frame : List ℕ) {f : List ℕ} (b : List ℕ) {x : DataReading} {why : Refusal} → Becomes f c → dataRead x ≡ resultOf (frameGround c frame) (between frame) → x ≡ readings.Refused why → Exchanged c frame b b (refused (why .0)) f
+unfolding dataRead
+data-refused c frame b {why = why} h e is =
+    let ground = that-ground (between frame) (why .0) (frameGround c frame) (rw is at e) in
+    exchange-refused c frame b h (ground .0) (ground .1)
+
+pub data-taken : (c : Cluster) (frame : List ℕ) {f : List ℕ} (old : List ℕ) {new : List ℕ} {mask : ℕ} {x : DataReading} {bytes : DataBytes} → roundBy frame ≡ msd → dataRead x ≡ resultOf (frameGround c frame) (between frame) → x ≡ readings.Data bytes →
+    Carried (dataEffect c (dataIn bytes)) dataFirework old new mask f → Exchanged c frame old new (done mask) f
+unfolding dataRead
+data-taken c frame {f} old {new} {mask} {bytes = bytes} isData e is k =
+    let there : done (dataIn bytes) ≡ resultOf (frameGround c frame) (between frame) = rw is at e in
+    let same : dataIn bytes ≡ between frame = same-value (between frame) (frameGround c frame) there in
+    exchange-data c frame old isData (no-ground (between frame) (frameGround c frame) there) (subst (λ (l : List ℕ). Carried (dataEffect c l) dataFirework old new mask f) same k)
 
 -- ---- an address frame
 
@@ -167,90 +204,77 @@ address-ground c frame h =
     rw (h, first)
 
 -- what was read of a frame
-pub record Parts (frame : List ℕ) (epoch name number operation «record» : ℕ) : Type 0 where
+pub record PartsAre (frame : List ℕ) (epoch name number operation «record» : ℕ) : Type 0 where
   pub ground : readGround frame ≡ 0
-  pub pb0 : epoch ≡ getD frame 1 0
-  pub pb1 : name ≡ getD frame 2 0
-  pub pb2 : 4 * number + operation ≡ getD frame 3 0
-  pub pb3 : «record» ≡ getD frame 4 0
+  pub pb0 : epoch ≡ getD frame pb0Place 0
+  pub pb1 : name ≡ getD frame pb1Place 0
+  pub pb2 : pb2Of number operation ≡ getD frame pb2Place 0
+  pub pb3 : «record» ≡ getD frame pb3Place 0
 
-parts-refused : {P : Type 0} {e n m o r g : ℕ} → parts e n m o r ≡ Reading.refused g → P
-parts-refused h = let z : _≡_ {A = ℕ} 0 1 = cc in absurd (omega arith)
-
-pub parts-facts : (frame : List ℕ) {e n m o r : ℕ} → parts e n m o r ≡ readAddress frame → Parts frame e n m o r
-unfolding readAddress partsOf
+pub parts-facts : (frame : List ℕ) {e n m o r : ℕ} → done (parts e n m o r) ≡ readAddress frame → PartsAre frame e n m o r
+unfolding readAddress partsOf pb2Of
 parts-facts frame {e} {n} {m} {o} {r} h =
-    byCase (eqb (readGround frame) 0)
-    (λ t.
-    let g : parts e n m o r ≡ parts (getD frame 1 0) (getD frame 2 0) (fileNumberOf (getD frame 3 0)) (operationOf (getD frame 3 0)) (getD frame 4 0) = rw t at h in
-    let file : m ≡ getD frame 3 0 / 4 = cc in
-    let operation : o ≡ getD frame 3 0 % 4 = cc in
-    record { ground = eqb-true (readGround frame) 0 t; pb0 = cc; pb1 = cc; pb2 = omega (arith, file, operation); pb3 = cc })
-    (λ t. parts-refused (rw t at h))
+    let same : parts e n m o r ≡ partsOf frame = same-value (partsOf frame) (readGround frame) h in
+    let file : m ≡ fileNumberOf (getD frame pb2Place 0) = ap (λ (p : Parts). p .file) same in
+    let operation : o ≡ operationOf (getD frame pb2Place 0) = ap (λ (p : Parts). p .operation) same in
+    record {
+      ground = no-ground (partsOf frame) (readGround frame) h;
+      pb0 = ap (λ (p : Parts). p .epoch) same;
+      pb1 = ap (λ (p : Parts). p .name) same;
+      pb2 = omega (arith, file, operation);
+      pb3 = ap (λ (p : Parts). p .«record») same;
+    }
 
-refused-facts : (frame : List ℕ) {g : ℕ} → Reading.refused g ≡ readAddress frame → (g ≡ readGround frame) × (g ≡ 0 → ⊥)
-unfolding readAddress partsOf
-refused-facts frame {g} h =
-    byCase (eqb (readGround frame) 0)
-    (λ t. parts-refused (sym (rw t at h)))
-    (λ t.
-    let same : Reading.refused g ≡ Reading.refused (readGround frame) = rw t at h in
-    let e : g ≡ readGround frame = cc in
-    (e, λ z. clash (eq-eqb (readGround frame) 0 (sym e ∙ z)) t))
-
-pub address-refused : (c : Cluster) (frame : List ℕ) {f : List ℕ} (b : List ℕ) {x : AddressReading} {why : Refusal} → Becomes f c → roundBy frame ≡ msa → readingOf x ≡ readAddress frame → x ≡ readings.Refused why → Exchanged c frame b b (refused (why .0)) f
-unfolding readingOf
+pub address-refused : (c : Cluster) (frame : List ℕ) {f : List ℕ} (b : List ℕ) {x : AddressReading} {why : Refusal} → Becomes f c → roundBy frame ≡ msa → readingOf x ≡ readAddress frame → x ≡ addressReadings.Refused why → Exchanged c frame b b (refused (why .0)) f
+unfolding readingOf readAddress
 address-refused c frame b {x} {why} h isAddress e is =
-    let facts = refused-facts frame (rw is at e) in
-    exchange-refused c frame b h (facts .0 ∙ sym (address-ground c frame isAddress)) (facts .1)
+    let ground = that-ground (partsOf frame) (why .0) (readGround frame) (rw is at e) in
+    exchange-refused c frame b h (ground .0 ∙ sym (address-ground c frame isAddress)) (ground .1)
 
-module _ (c : Cluster) (frame : List ℕ) {x : AddressReading} {epoch : ℕ} {name : LogicalName} {number : FileNumber} {operation : FrameOperation} {record′ : RecordNumber} (isAddress : roundBy frame ≡ msa) (e : readingOf x ≡ readAddress frame) (is : x ≡ readings.Address epoch name number operation record′) where
-  taken : Parts frame epoch (name .0) (number .0) (operation .0) (record′ .0)
+module _ (c : Cluster) (frame : List ℕ) {x : AddressReading} {epoch : ℕ} {name : LogicalName} {number : FileNumber} {operation : Operation} {record′ : RecordNumber} (isAddress : roundBy frame ≡ msa) (e : readingOf x ≡ readAddress frame) (is : x ≡ addressReadings.Address epoch name number operation record′) where
+  taken : PartsAre frame epoch (nameIn name) (fileIn number) (operationIn operation) (recordIn record′)
   unfolding readingOf
   taken = parts-facts frame (rw is at e)
 
   fits : frameGround c frame ≡ 0
   fits = address-ground c frame isAddress ∙ taken .ground
 
-  pub address-legal : ((k : ℕ) → Byte (getD frame k 0)) → {f : List ℕ} → Becomes f (withEpoch c epoch) → LegalPending (withPending (decode f) 1 (name .0) (4 * number .0 + operation .0) (record′ .0))
-  unfolding frameGround noOperationOn broadcastReadOn
-  address-legal byte {f} h =
+  pub address-legal : ((i : ℕ) → FitsIn w8 (getD frame i 0)) → LegalPending (withAddress c epoch (nameIn name) (pb2Of (fileIn number) (operationIn operation)) (recordIn record′))
+  unfolding frameGround noOperationOn broadcastReadOn withAddress
+  address-legal fit =
+      let byte : (i : ℕ) → Byte (getD frame i 0) = λ i. omega (arith, fit i) in
       let facts : Fits c (roundBy frame) frame = fits-facts c (roundBy frame) frame fits in
       let facts′ : Fits c msa frame = subst (λ (x : Round). Fits c x frame) isAddress facts in
-      rw (h .decoded, taken .pb0, taken .pb1, taken .pb2, taken .pb3)
+      rw (taken .pb0, taken .pb1, taken .pb2, taken .pb3)
       (address-pending c (getD frame 1 0) (getD frame 2 0) (getD frame 3 0) (getD frame 4 0) (byte 1) (byte 2) (byte 3) (byte 4) (facts′ .operation) (facts′ .broadcastRead))
 
-  pub address-taken : {f f′ old new : List ℕ} → Becomes f (withEpoch c epoch) → Becomes f′ (withPending (decode f) 1 (name .0) (4 * number .0 + operation .0) (record′ .0)) → new ≡ answerIn old (answerBytes addressFirework nobody) → Exchanged c frame old new (carried 0) f′
-  unfolding frameOn effectOf addressEffect withAddress
-  address-taken {f} {f′} {old} {new} h h′ stored =
+  pub address-taken : {f old new : List ℕ} → Becomes f (withAddress c epoch (nameIn name) (pb2Of (fileIn number) (operationIn operation)) (recordIn record′)) → new ≡ answerIn old (answerBytes addressFirework nobody) → Exchanged c frame old new (done 0) f
+  unfolding frameOn effectOf addressEffect
+  address-taken {f} {old} {new} h stored =
       let effect : frameOn c frame ≡ addressEffect c frame = rw isAddress in
-      let after : Becomes f′ (addressEffect c frame .after) = rw (← (taken .pb0), ← (taken .pb1), ← (taken .pb2), ← (taken .pb3), ← (h .decoded)) h′ in
-      let carry : Carried (addressEffect c frame) addressFirework old new 0 f′ = record { senders = mask-nobody; buffer = stored; becomes = after } in
-      let there : Carried (frameOn c frame) addressFirework old new 0 f′ = subst (λ (y : Effect). Carried y addressFirework old new 0 f′) (sym effect) carry in
-      exchange-carried c frame old fits (subst (λ (b : ℕ). Carried (frameOn c frame) b old new 0 f′) (sym (address-first frame isAddress)) there)
+      let after : Becomes f (addressEffect c frame .after) = rw (← (taken .pb0), ← (taken .pb1), ← (taken .pb2), ← (taken .pb3)) h in
+      let carry : Carried (addressEffect c frame) addressFirework old new 0 f = record { senders = mask-nobody; buffer = stored; becomes = after } in
+      let there : Carried (frameOn c frame) addressFirework old new 0 f = subst (λ (y : Effect). Carried y addressFirework old new 0 f) (sym effect) carry in
+      exchange-carried c frame old fits (subst (λ (b : ℕ). Carried (frameOn c frame) b old new 0 f) (sym (address-first frame isAddress)) there)
 
--- ---- an address and then its data
+-- ---- an operation that becomes pending
 
-module _ (c : Cluster) (epoch name pb2 pb3 : ℕ) {f : List ℕ} (raised : Becomes f (withEpoch c epoch)) where
-  pub pending-legal : LegalPending (withAddress c epoch name pb2 pb3) → LegalPending (withPending (decode f) 1 name pb2 pb3)
+module _ {f : List ℕ} (c : Cluster) (epoch name pb2 pb3 : ℕ) (raised : Becomes f (withEpoch c epoch)) where
+  pub pending-legal : LegalPending (withAddress c epoch name pb2 pb3) → LegalPending (withPending (decode f) pendingFlag name pb2 pb3)
   unfolding withAddress
   pending-legal p = rw (raised .decoded) p
 
-  module _ {g : List ℕ} (stored : Becomes g (withPending (decode f) 1 name pb2 pb3)) where
-    pub becomes-address : Becomes g (withAddress c epoch name pb2 pb3)
-    unfolding withAddress
-    becomes-address = subst (λ (d : Cluster). Becomes g (withPending d 1 name pb2 pb3)) (raised .decoded) stored
+  pub becomes-pending : {g : List ℕ} → Becomes g (withPending (decode f) pendingFlag name pb2 pb3) → Becomes g (withAddress c epoch name pb2 pb3)
+  unfolding withAddress
+  becomes-pending stored = rw (raised .decoded) at stored
 
-    pub address-all : {n : ℕ} {places : List ℕ} {count : ℕ} → AllKept c n places count → AllKept (decode g) n places count
-    unfolding withAddress withPending withEpoch
-    address-all k = all-decoded becomes-address (all-shape {c = c} {d = withAddress c epoch name pb2 pb3} (shape-refl (c .slaves)) k)
+-- ---- a complete round: its address and then its data
 
-    pub address-writes : writePending (decode g) ≡ true → operationOf pb2 ≡ writeOperation
-    unfolding withAddress withPending writePending
-    address-writes w =
-        let there : writePending (withAddress c epoch name pb2 pb3) ≡ true = subst (λ (d : Cluster). writePending d ≡ true) (becomes-address .decoded) w in
-        eqb-true (operationOf pb2) writeOperation (both-right _ _ there)
+module _ (f : List ℕ) {g : List ℕ} (epoch name pb2 pb3 : ℕ) (h : Becomes g (withAddress (decode f) epoch name pb2 pb3)) where
+  pub address-placed : {places : List ℕ} → Placed f places → Placed g places
+  unfolding withAddress withPending withEpoch
+  address-placed p = placed-kept p h (shape-refl (decode f .slaves))
 
-    pub address-carried : (bytes : List ℕ) {old new file : List ℕ} {mask : ℕ} → Carried (dataEffect (decode g) bytes) dataFirework old new mask file → Carried (dataEffect (withAddress c epoch name pb2 pb3) bytes) dataFirework old new mask file
-    address-carried bytes {old} {new} {file} {mask} k =
-        subst (λ (d : Cluster). Carried (dataEffect d bytes) dataFirework old new mask file) (becomes-address .decoded) k
+  pub address-carried : (bytes : List ℕ) {old new file : List ℕ} {mask : ℕ} → Carried (dataEffect (decode g) bytes) dataFirework old new mask file → Carried (dataEffect (withAddress (decode f) epoch name pb2 pb3) bytes) dataFirework old new mask file
+  address-carried bytes {old} {new} {file} {mask} k =
+      subst (λ (d : Cluster). Carried (dataEffect d bytes) dataFirework old new mask file) (h .decoded) k

@@ -11,20 +11,20 @@ use lib.Seq.{take-all, getD-set-same, getD-set-other}
 use lib.Dec.{eqb}
 use lib.Bits.{bitAnd}
 use borrow.Author.Tests.{eqb-true, eqb-false}
-use Rattle.file.specs.Order.{either}
-use Rattle.file.specs.Cluster.{Slave, Cluster}
-use Rattle.file.specs.Decode.{decode}
-use Rattle.file.specs.Places.{noSlave, slaveOf}
-use Rattle.file.specs.Accepted.{Becomes}
+use Rattle.file.specs.Rules.Order.{either}
+use Rattle.file.specs.Rules.Cluster.{Slave, Cluster}
+use Rattle.file.specs.Rules.Decode.{decode}
+use Rattle.file.specs.Inner.Places.{noSlave, slaveOf}
+use Rattle.file.specs.Inner.Accepted.{Becomes}
 use Rattle.file.proofs.Order.{byCase}
 use Rattle.file.proofs.ReaderLaws.{place-within, header-within}
-use Rattle.cluster.specs.Bus.{joined, busByte, anyone}
-use Rattle.cluster.specs.Multipartner.{Place, sendsFrom, storesAt, byteThere, sentBy}
-use Rattle.cluster.specs.Slots.{placeIn, turnSends, turnStores, isSender, StoresWithin}
-use Rattle.cluster.specs.declared.multipartner.Turn.{Turn}
-use Rattle.cluster.specs.declared.multipartner.Turn.the-variants as Turns
+use Rattle.cluster.specs.Rules.Bus.{joined, busByte, anyone}
+use Rattle.cluster.specs.Rules.Multipartner.{SlaveByte, sendsFrom, storesAt, byteThere, sentBy}
+use Rattle.cluster.specs.Inner.Slots.{mostSlaves, placeIn, actSends, actStores, isSender, StoresWithin}
+use Rattle.cluster.specs.declared.multipartner.SlotAct.{SlotAct}
+use Rattle.cluster.specs.declared.multipartner.SlotAct.the-variants as Acts
 use Rattle.cluster.proofs.StoreLaws.{Lands, stays, lands, storesAt-lands}
-use Rattle.cluster.proofs.SearchLaws.{Turned}
+use Rattle.cluster.proofs.SearchLaws.{RoundActIs}
 
 -- ---- the bytes sent, with one more slave
 
@@ -60,12 +60,12 @@ unfolding someone
 someone-no [] e = refl
 someone-no (b ∷ bs) e = absurd (mathlib.Core.Bool.true≢false e)
 
-someone-next : (sent : List ℕ) (turn : Turn) → someone (sent ++ turnSends turn) ≡ either (someone sent) (isSender turn)
-unfolding someone turnSends isSender either
-someone-next [] (Turns.Sends b) = refl
-someone-next [] (Turns.Stores p) = refl
-someone-next [] Turns.Rests = refl
-someone-next (x ∷ xs) turn = refl
+someone-next : (sent : List ℕ) (act : SlotAct) → someone (sent ++ actSends act) ≡ either (someone sent) (isSender act)
+unfolding someone actSends isSender either
+someone-next [] (Acts.Sends b) = refl
+someone-next [] (Acts.Stores p) = refl
+someone-next [] Acts.Rests = refl
+someone-next (x ∷ xs) act = refl
 
 -- ---- the loop over the slaves
 
@@ -73,27 +73,27 @@ pub record Hearing (c : Cluster) (round slot n bus : ℕ) (heard : Bool) (stores
   pub most : n ≤ length (c .slaves)
   pub byte : bus ≡ busByte (sentBy round slot (take n (c .slaves)))
   pub any : heard ≡ someone (sentBy round slot (take n (c .slaves)))
-  pub room : length stores ≡ 32
+  pub room : length stores ≡ mostSlaves
   pub aims : (s : ℕ) → s < n → getD stores s 0 ≡ placeIn c s (storesAt round slot (slaveOf c s))
 
-pub hearing-start : (c : Cluster) (round slot : ℕ) {stores : List ℕ} → length stores ≡ 32 → Hearing c round slot 0 255 false stores
+pub hearing-start : (c : Cluster) (round slot : ℕ) {stores : List ℕ} → length stores ≡ mostSlaves → Hearing c round slot 0 255 false stores
 unfolding busByte joined sentBy someone
 hearing-start c round slot room =
     record { most = omega arith; byte = refl; any = refl; room = room; aims = λ s l. absurd (omega arith) }
 
 module _ {c : Cluster} {round slot n bus : ℕ} {heard : Bool} {stores : List ℕ} (h : Hearing c round slot n bus heard stores) where
-  module _ {turn : Turn} (more : n < length (c .slaves)) (does : Turned c round slot n turn) where
-    sent-turn : sentBy round slot (take (n + 1) (c .slaves)) ≡ sentBy round slot (take n (c .slaves)) ++ turnSends turn
+  module _ {act : SlotAct} (more : n < length (c .slaves)) (does : RoundActIs c round slot n act) where
+    sent-act : sentBy round slot (take (n + 1) (c .slaves)) ≡ sentBy round slot (take n (c .slaves)) ++ actSends act
     unfolding slaveOf
-    sent-turn = rw (add-one, does .sends) (sent-next round slot (c .slaves) n more)
+    sent-act = rw (add-one, does .sends) (sent-next round slot (c .slaves) n more)
 
-    pub hearing-next : {bus′ place : ℕ} {heard′ : Bool} → length (c .slaves) ≤ 32 → bus′ ≡ joined bus (turnSends turn) → heard′ ≡ either heard (isSender turn) → place ≡ turnStores turn
+    pub hearing-next : {bus′ place : ℕ} {heard′ : Bool} → length (c .slaves) ≤ mostSlaves → bus′ ≡ joined bus (actSends act) → heard′ ≡ either heard (isSender act) → place ≡ actStores act
         → Hearing c round slot (n + 1) bus′ heard′ (set stores n place)
     hearing-next {place = place} few byte any at =
         record {
           most = omega arith;
-          byte = byte ∙ ap (λ (x : ℕ). joined x (turnSends turn)) (h .byte) ∙ sym (ap busByte sent-turn ∙ busByte-append (sentBy round slot (take n (c .slaves))) (turnSends turn));
-          any = any ∙ ap (λ (x : Bool). either x (isSender turn)) (h .any) ∙ sym (ap someone sent-turn ∙ someone-next (sentBy round slot (take n (c .slaves))) turn);
+          byte = byte ∙ ap (λ (x : ℕ). joined x (actSends act)) (h .byte) ∙ sym (ap busByte sent-act ∙ busByte-append (sentBy round slot (take n (c .slaves))) (actSends act));
+          any = any ∙ ap (λ (x : Bool). either x (isSender act)) (h .any) ∙ sym (ap someone sent-act ∙ someone-next (sentBy round slot (take n (c .slaves))) act);
           room = length-set stores n place ∙ h .room;
           aims = λ s l. byCase (eqb s n)
               (λ e. let same : s ≡ n = eqb-true s n e in rw (same, getD-set-same stores n place 0 (omega (arith, h .room))) (at ∙ does .stores))
@@ -115,7 +115,7 @@ module _ {c : Cluster} {round slot n bus : ℕ} {heard : Bool} {stores : List �
 
 -- ---- the receivers' places lie within the file
 
-land-within : {f : List ℕ} {c : Cluster} (s : ℕ) {p : Place} → Becomes f c → 0 < length f → Lands (slaveOf c s) p → placeIn c s p < length f
+land-within : {f : List ℕ} {c : Cluster} (s : ℕ) {p : SlaveByte} → Becomes f c → 0 < length f → Lands (slaveOf c s) p → placeIn c s p < length f
 unfolding placeIn
 land-within s h long stays = long
 land-within s h long (lands {n = m} {k} low high place inside) = omega (arith, place-within h s m (omega arith))

@@ -1,5 +1,5 @@
 -- The replies of all slaves, one slave after the other: what a loop along the slaves keeps of buffer and slots, and one law for a
--- turn.
+-- slave.
 -- Assumes nothing.
 use Prim.Native.Nat.{ℕ, zero, suc, _+_, _≤_, _<_}
 use native.Mathlib.Omega.{arith}
@@ -12,30 +12,30 @@ use lib.ListN.{length, getD, take, drop, length-append, length-take, length-drop
 use lib.Seq.{take-suc, take-all, drop-at, drop-nil}
 use lib.Dec.{leb, ltb}
 use borrow.Author.Tests.{leb-true, leb-false, ltb-true, ltb-false}
-use Rattle.file.specs.Bytes.{part}
-use Rattle.file.specs.Cluster.{Slave, Cluster, hasRecord, recordOf}
-use Rattle.file.specs.Places.{noSlave, slaveOf}
+use Rattle.file.specs.Rules.Bytes.{part}
+use Rattle.file.specs.Rules.Cluster.{Slave, Cluster, hasRecord, recordOf}
+use Rattle.file.specs.Inner.Places.{noSlave, slaveOf}
 use Rattle.file.proofs.Order.{byCase, both-right}
 use Rattle.file.proofs.Puts.{hasRecord-fits}
-use Rattle.cluster.specs.Bus.{Senders, anyone, slots, senderMask, answerBytes, answerIn, nobody}
-use Rattle.cluster.specs.Slaves.{Operation, nothing, reading, writing, comparing, baptizing, answersRead, readReply, answersCompare, replyTo, inSlot, sentTo}
-use Rattle.cluster.specs.Carried.{sendersTo, said, Heard, reachOf, Turn}
+use Rattle.cluster.specs.Rules.Bus.{Senders, anyone, slots, senderMask, answerBytes, answerIn, nobody}
+use Rattle.cluster.specs.Rules.Slaves.{Duty, nothing, reading, writing, comparing, baptizing, answersRead, readReply, answersCompare, replyTo, inSlot, sentTo}
+use Rattle.cluster.specs.Inner.Carried.{sendersTo, said, Heard, reachOf, Replied}
 use Rattle.cluster.proofs.Bus.{answerBytes-length, answer-length, answer-alike, answer-said, sendersTo-yes, sendersTo-no, mask-alike}
 
 -- ---- the rule, slave by slave
 
-sentTo-append : (o : Operation) (ss ts : List Slave) (slot : ℕ) → sentTo o (ss ++ ts) slot ≡ sentTo o ss slot ++ sentTo o ts slot
+sentTo-append : (o : Duty) (ss ts : List Slave) (slot : ℕ) → sentTo o (ss ++ ts) slot ≡ sentTo o ss slot ++ sentTo o ts slot
 unfolding sentTo
 sentTo-append o [] ts slot = refl
 sentTo-append o (s ∷ ss) ts slot = rw (sentTo-append o ss ts slot) (sym (append-assoc (inSlot (replyTo o s) slot) (sentTo o ss slot) (sentTo o ts slot)))
 
-pub sentTo-next : (o : Operation) (ss : List Slave) (i slot : ℕ) → i < length ss → sentTo o (take (suc i) ss) slot ≡ sentTo o (take i ss) slot ++ inSlot (replyTo o (getD ss i noSlave)) slot
+pub sentTo-next : (o : Duty) (ss : List Slave) (i slot : ℕ) → i < length ss → sentTo o (take (suc i) ss) slot ≡ sentTo o (take i ss) slot ++ inSlot (replyTo o (getD ss i noSlave)) slot
 unfolding sentTo
 sentTo-next o ss i slot h =
     rw (take-suc ss i noSlave h) (sentTo-append o (take i ss) (getD ss i noSlave ∷ []) slot ∙ ap (λ (l : List ℕ). sentTo o (take i ss) slot ++ l) (append-nil (inSlot (replyTo o (getD ss i noSlave)) slot)))
 
 -- every reply is empty or of one length
-unfoldable pub sizeOf : Operation → ℕ
+unfoldable pub sizeOf : Duty → ℕ
 sizeOf nothing = 0
 sizeOf (reading name n r) = 5
 sizeOf (writing name n r) = 0
@@ -46,7 +46,7 @@ pub recordOf-length : (s : Slave) (n r : ℕ) → hasRecord s n r ≡ true → l
 unfolding recordOf part
 recordOf-length s n r has = simp (length-take, length-drop) (omega (arith, hasRecord-fits s n r has))
 
-pub reply-size : (o : Operation) (s : Slave) → (replyTo o s ≡ []) ⊎ (length (replyTo o s) ≡ sizeOf o)
+pub reply-size : (o : Duty) (s : Slave) → (replyTo o s ≡ []) ⊎ (length (replyTo o s) ≡ sizeOf o)
 unfolding replyTo sizeOf readReply answersRead
 reply-size nothing s = inl refl
 reply-size (reading name n r) s =
@@ -57,7 +57,7 @@ reply-size (writing name n r) s = inl refl
 reply-size (comparing name) s = byCase (answersCompare name s) (λ e. inr (rw e)) (λ e. inl (rw e))
 reply-size (baptizing name) s = inl refl
 
-pub size-few : (o : Operation) → sizeOf o < 64
+pub size-few : (o : Duty) → sizeOf o < 64
 unfolding sizeOf
 size-few nothing = omega arith
 size-few (reading name n r) = omega arith
@@ -151,29 +151,32 @@ unfolding answerIn
 answer-again old firework r bytes =
     ap (λ (l : List ℕ). bytes ++ l) (drop-at (answerBytes firework r) (drop slots old) slots (answerBytes-length firework r))
 
-pub record Hearing (o : Operation) (c : Cluster) (firework : ℕ) (old new : List ℕ) (i last : ℕ) : Type 0 where
+pub record Hearing (o : Duty) (c : Cluster) (firework : ℕ) (old new : List ℕ) (i last : ℕ) : Type 0 where
+  pub some : 0 < sizeOf o
   pub most : i ≤ length (c .slaves)
   pub long : slots ≤ length old
   pub bound : last ≤ sizeOf o
   pub heard : Heard (sentTo o (take i (c .slaves))) firework old new last
 
-pub hearing-start : (o : Operation) (c : Cluster) {firework : ℕ} (old : List ℕ) {new : List ℕ} → slots ≤ length old → new ≡ answerIn old (answerBytes firework nobody) → Hearing o c firework new new 0 0
+pub hearing-start : (o : Duty) (c : Cluster) {firework : ℕ} (old : List ℕ) {new : List ℕ} → 0 < sizeOf o → slots ≤ length old → new ≡ answerIn old (answerBytes firework nobody) → Hearing o c firework new new 0 0
 unfolding sentTo
-hearing-start o c {firework} old {new} long e =
+hearing-start o c {firework} old {new} some long e =
     record {
+      some = some;
       most = omega arith;
       long = rw e (rw (answer-length old firework nobody long) long);
       bound = omega arith;
       heard = heard-nobody (sentTo o []) (λ slot. refl) (e ∙ sym (rw e (answer-again old firework nobody (answerBytes firework nobody))));
     }
 
-module _ {o : Operation} {c : Cluster} {firework : ℕ} {old new : List ℕ} {i last : ℕ} (h : Hearing o c firework old new i last) where
+module _ {o : Duty} {c : Cluster} {firework : ℕ} {old new : List ℕ} {i last : ℕ} (h : Hearing o c firework old new i last) where
   pub hearing-room : slots ≤ length new
   hearing-room = rw (h .heard .buffer) (rw (answer-length old firework (sentTo o (take i (c .slaves))) (h .long)) (h .long))
 
-  pub hearing-next : {new′ : List ℕ} {next : ℕ} → 0 < sizeOf o → i < length (c .slaves) → Turn (replyTo o (slaveOf c i)) new new′ last next → Hearing o c firework old new′ (i + 1) next
+  pub hearing-next : {count : ℕ} → count ≡ length (c .slaves) → i < count → {new′ : List ℕ} {next : ℕ} → Replied (replyTo o (slaveOf c i)) new new′ last next → Hearing o c firework old new′ (i + 1) next
   unfolding slaveOf said reachOf
-  hearing-next {new′} {next} some more t =
+  hearing-next all within {new′} {next} t =
+      let more : i < length (c .slaves) = omega arith in
       ⊎-elim
       (λ (quiet : replyTo o (getD (c .slaves) i noSlave) ≡ []).
       let stay : next ≡ last = rw quiet at (t .reach) in
@@ -181,6 +184,7 @@ module _ {o : Operation} {c : Cluster} {firework : ℕ} {old new : List ℕ} {i 
       λ slot. rw (add-one i, sentTo-next o (c .slaves) i slot more, quiet, inSlot-nil slot, append-nil)
       in
       record {
+        some = h .some;
         most = omega arith;
         long = h .long;
         bound = rw stay (h .bound);
@@ -188,8 +192,9 @@ module _ {o : Operation} {c : Cluster} {firework : ℕ} {old new : List ℕ} {i 
       })
       (λ (full : length (replyTo o (getD (c .slaves) i noSlave)) ≡ sizeOf o).
       let reply : List ℕ = replyTo o (getD (c .slaves) i noSlave) in
-      let reached : next ≡ length reply = t .reach ∙ reach-some last reply (omega arith) in
+      let reached : next ≡ length reply = t .reach ∙ reach-some last reply (omega (arith, h .some)) in
       record {
+        some = h .some;
         most = omega arith;
         long = h .long;
         bound = omega arith;
@@ -201,9 +206,9 @@ module _ {o : Operation} {c : Cluster} {firework : ℕ} {old new : List ℕ} {i 
       reach-some l [] p = absurd (omega arith)
       reach-some l (b ∷ bs) p = refl
 
-  pub hearing-done : (entry : List ℕ) → old ≡ answerIn entry (answerBytes firework nobody) → length (c .slaves) ≤ i → Heard (sentTo o (c .slaves)) firework entry new last
-  hearing-done entry e all =
-      let whole : take i (c .slaves) ≡ c .slaves = take-all i (c .slaves) all in
+  pub hearing-done : (entry : List ℕ) → old ≡ answerIn entry (answerBytes firework nobody) → {count : ℕ} → count ≡ length (c .slaves) → count ≤ i → Heard (sentTo o (c .slaves)) firework entry new last
+  hearing-done entry e all over =
+      let whole : take i (c .slaves) ≡ c .slaves = take-all i (c .slaves) (omega arith) in
       let r : Senders = sentTo o (take i (c .slaves)) in
       let heard : Heard r firework entry new last =
       record {
@@ -220,6 +225,6 @@ unfolding senderMask
 heard-mask {r} {last = last} h e = e ∙ mask-alike (sendersTo last) r slots (λ s. sym (h .reach s))
 
 -- the buffer keeps its length
-pub hearing-length : {o : Operation} {c : Cluster} {firework : ℕ} {old new : List ℕ} {i last : ℕ} → Hearing o c firework old new i last → (entry : List ℕ) → slots ≤ length entry → old ≡ answerIn entry (answerBytes firework nobody) → length new ≡ length entry
+pub hearing-length : {o : Duty} {c : Cluster} {firework : ℕ} {old new : List ℕ} {i last : ℕ} → Hearing o c firework old new i last → (entry : List ℕ) → slots ≤ length entry → old ≡ answerIn entry (answerBytes firework nobody) → length new ≡ length entry
 hearing-length {o} {c} {firework} {old} {new} {i} h entry long e =
     ap length (h .heard .buffer) ∙ answer-length old firework (sentTo o (take i (c .slaves))) (h .long) ∙ ap length e ∙ answer-length entry firework nobody long

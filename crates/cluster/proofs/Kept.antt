@@ -1,6 +1,6 @@
 -- What a round keeps: the slaves' shape, their physical names, and that the cluster is legal; and the files that it leaves alone.
 -- Assumes nothing.
-use Prim.Native.Nat.{ℕ, zero, suc, _+_, _*_, _≤_, _<_}
+use Prim.Native.Nat.{ℕ, zero, suc, _*_, _≤_, _<_}
 use native.Mathlib.Omega.{arith}
 use mathlib.Core.Path.{_≡_, refl, _∙_}
 use mathlib.Core.Logic.{_≢_}
@@ -8,21 +8,22 @@ use mathlib.Core.List.{List, [], _∷_, map}
 use mathlib.Core.Bool.{true, not}
 use lib.Dec.{eqb}
 use borrow.Author.Tests.{leb-true, not-true, eq-eqb}
-use Rattle.file.specs.Bytes.{Byte, Bytes, All, none, both}
-use Rattle.file.specs.Order as Order
-use Rattle.file.specs.Layout.{offsetWidth, recordSize}
-use Rattle.file.specs.Cluster.{File, Slave, Cluster, bytesAmong, bytesIn, configuration, documentation, physicalName, newLogicalName}
-use Rattle.file.specs.Legal.{LegalFile, LegalSlave, LegalPending, Legal}
-use Rattle.file.specs.Places.{putInSlave, withSlaves, withEpoch, withPending, SameFiles, SameShape, noSlaves, sameSlave}
+use Rattle.file.specs.Rules.Bytes.{Byte, Bytes, All, allEmpty, allNext}
+use Rattle.file.specs.Rules.Order as Order
+use Rattle.file.specs.Rules.Layout.{recordSize, newLogicalNamePlace, logicalNamePlace}
+use Rattle.file.specs.Rules.Cluster.{File, Slave, Cluster, bytesAmong, bytesIn, configuration, documentation, physicalName, newLogicalName}
+use Rattle.file.specs.Rules.Legal.{LegalFile, LegalSlave, LegalPending, Legal}
+use Rattle.file.specs.Rules.Changes.{putInSlave, withSlaves, withEpoch, withPending}
+use Rattle.file.specs.Inner.Places.{SameFiles, SameShape, noSlaves, sameSlave}
 use Rattle.file.proofs.Order.{byCase, clash, both-left, both-right}
 use Rattle.file.proofs.Shape.{files-refl, files-trans, shape-refl, shape-trans, shape-count, shape-fileLength, slave-put}
 use Rattle.file.proofs.Puts.{inSlave-other, inSlave-physicalName}
 use Rattle.file.proofs.Kept.{slave-legal, legal-withEpoch, legal-withPending}
 use Rattle.file.proofs.Bytes.{byte-at}
-use Rattle.cluster.specs.Bus.{busByte}
-use Rattle.cluster.specs.Slaves.{nextEpoch, epochRaised, isUnnamed, Operation, nothing, reading, writing, comparing, baptizing, mayWrite, takesWrite, takesName, named, replaced, slaveAfter, slavesAfter}
-use Rattle.cluster.specs.Entries.{Entry, Acting, acts, acting, bytePlace, receives}
-use Rattle.cluster.specs.Multipartner.{Place, nowhere, byteOf, within, mayStore, storePlace, storesAt, storedThere, receivedIn, sentIn, clusterBelow}
+use Rattle.cluster.specs.Rules.Bus.{busByte}
+use Rattle.cluster.specs.Rules.Slaves.{nextEpoch, epochRaised, isUnnamed, Duty, nothing, reading, writing, comparing, baptizing, mayWrite, takesWrite, takesName, named, replaced, slaveAfter, slavesAfter}
+use Rattle.cluster.specs.Rules.Entries.{Entry, Acting, acts, acting, bytePlace, receives}
+use Rattle.cluster.specs.Rules.Multipartner.{SlaveByte, nowhere, byteOf, within, mayStore, storePlace, storesAt, storedThere, receivedIn, sentIn, clusterBelow}
 use Rattle.cluster.proofs.Bus.{busByte-byte}
 
 -- ---- a slave
@@ -49,15 +50,15 @@ slave-kept s n k b differ byte =
 
 pub replaced-kept : (s : Slave) (n k : ℕ) {bs : List ℕ} → n ≢ documentation → Bytes bs → SlaveKept s (replaced s n k bs)
 unfolding replaced
-replaced-kept s n k differ none = slave-refl s
-replaced-kept s n k differ (both {a = b} p r) =
+replaced-kept s n k differ allEmpty = slave-refl s
+replaced-kept s n k differ (allNext {a = b} p r) =
     slave-trans (slave-kept s n k b differ (λ _. p)) (replaced-kept (putInSlave s n k b) n (suc k) differ r)
 
 -- the bytes of a legal slave's files are bytes
 among-bytes : {xs : List File} (n : ℕ) → All LegalFile xs → Bytes (bytesAmong xs n)
 unfolding bytesAmong
-among-bytes n none = none
-among-bytes n (both {a = x} p r) = byCase (eqb (x .number) n) (λ e. rw e (p .bytes)) (λ e. rw e (among-bytes n r))
+among-bytes n allEmpty = allEmpty
+among-bytes n (allNext {a = x} p r) = byCase (eqb (x .number) n) (λ e. rw e (p .bytes)) (λ e. rw e (among-bytes n r))
 
 pub slave-bytes : {s : Slave} (n : ℕ) → LegalSlave s → Bytes (bytesIn s n)
 unfolding bytesIn
@@ -65,12 +66,12 @@ slave-bytes n l = among-bytes n (l .files)
 
 pub newLogicalName-byte : {s : Slave} → LegalSlave s → Byte (newLogicalName s)
 unfolding newLogicalName
-newLogicalName-byte l = byte-at (slave-bytes configuration l) (recordSize + 2)
+newLogicalName-byte l = byte-at (slave-bytes configuration l) (newLogicalNamePlace)
 
 pub named-kept : (s : Slave) → SlaveKept s (named s)
 unfolding named
 named-kept s =
-    slave-kept s configuration (recordSize + 3) (newLogicalName s) (λ e. omega (arith, e)) (λ l. newLogicalName-byte l)
+    slave-kept s configuration (logicalNamePlace) (newLogicalName s) (λ e. omega (arith, e)) (λ l. newLogicalName-byte l)
 
 -- a write is never one of the documentation
 pub takesWrite-file : (name n r : ℕ) (s : Slave) → takesWrite name n r s ≡ true → n ≢ documentation
@@ -79,7 +80,7 @@ takesWrite-file name n r s e same =
     let test : not (eqb n documentation) ≡ true = both-left _ _ (both-right _ _ (both-right _ _ e)) in
     clash (eq-eqb n documentation same) (not-true _ test)
 
-pub slaveAfter-kept : (o : Operation) {bs : List ℕ} → Bytes bs → (s : Slave) → SlaveKept s (slaveAfter o bs s)
+pub slaveAfter-kept : (o : Duty) {bs : List ℕ} → Bytes bs → (s : Slave) → SlaveKept s (slaveAfter o bs s)
 unfolding slaveAfter
 slaveAfter-kept nothing bytes s = slave-refl s
 slaveAfter-kept (reading name n r) bytes s = slave-refl s
@@ -98,7 +99,7 @@ pub record Storable (n k : ℕ) : Type 0 where
   pub high : n ≤ 0x3C
   pub place : recordSize ≤ k
 
-pub data Stores : Place → Type 0 where
+pub data Stores : SlaveByte → Type 0 where
   stays : Stores nowhere
   here : {n k : ℕ} → Storable n k → Stores (byteOf n k)
 
@@ -113,7 +114,7 @@ mayStore-facts e slot t =
 
 storePlace-stores : (s : Slave) (slot : ℕ) (a : Acting) → Stores (storePlace s slot a)
 unfolding storePlace
-storePlace-stores s slot Acting.none = stays
+storePlace-stores s slot Acting.noEntry = stays
 storePlace-stores s slot (acts e) =
     byCase (Order.both (receives (e .operation)) (Order.both (mayStore e slot) (within s e slot)))
     (λ t. rw t (here (mayStore-facts e slot (both-left _ _ (both-right _ _ t)))))
@@ -124,13 +125,13 @@ unfolding storesAt
 storesAt-stores round slot s =
     byCase (isUnnamed s) (λ t. rw t stays) (λ t. rw t (storePlace-stores s slot (acting (bytesIn s round) slot)))
 
-pub stored-kept : (s : Slave) (b : ℕ) {p : Place} → Byte b → Stores p → SlaveKept s (storedThere s p b)
+pub stored-kept : (s : Slave) (b : ℕ) {p : SlaveByte} → Byte b → Stores p → SlaveKept s (storedThere s p b)
 unfolding storedThere
 stored-kept s b byte stays = slave-refl s
 stored-kept s b byte (here {n} {k} h) = slave-kept s n k b (λ e. omega (arith, e, h .high)) (λ _. byte)
 
 -- files outside 0x10 to 0x3C stay
-pub stored-other : (s : Slave) (b : ℕ) {p : Place} → Stores p → (n : ℕ) → (0x10 ≤ n → 0x3C < n) → bytesIn (storedThere s p b) n ≡ bytesIn s n
+pub stored-other : (s : Slave) (b : ℕ) {p : SlaveByte} → Stores p → (n : ℕ) → (0x10 ≤ n → 0x3C < n) → bytesIn (storedThere s p b) n ≡ bytesIn s n
 unfolding storedThere
 stored-other s b stays n out = refl
 stored-other s b (here {n = m} {k} h) n out = inSlave-other m k b s n (λ e. omega (arith, h .low, h .high, out (omega (arith, h .low, e)), e))
@@ -159,8 +160,8 @@ module _ (f : Slave → Slave) (keeps : (s : Slave) → SlaveKept s (f s)) where
   map-names (s ∷ ss) = rw (keeps s .name, map-names ss)
 
   map-legal : {ss : List Slave} → All LegalSlave ss → All LegalSlave (map f ss)
-  map-legal none = none
-  map-legal (both {a = s} p r) = both (keeps s .legal p) (map-legal r)
+  map-legal allEmpty = allEmpty
+  map-legal (allNext {a = s} p r) = allNext (keeps s .legal p) (map-legal r)
 
   pub kept-map : (c : Cluster) → ClusterKept c (withSlaves c (map f (c .slaves)))
   unfolding withSlaves
@@ -173,7 +174,7 @@ module _ (f : Slave → Slave) (keeps : (s : Slave) → SlaveKept s (f s)) where
           pending = pending-slaves c (map f (c .slaves)) (l .pending);
           slaves = map-legal (l .slaves);
           names = rw (map-names (c .slaves)) (l .names);
-          size = rw (← shape-fileLength offsetWidth (map-shape (c .slaves))) (l .size);
+          size = rw (← shape-fileLength _ (map-shape (c .slaves))) (l .size);
         };
       }
     where
@@ -207,7 +208,7 @@ unfolding withPending
 kept-pending c flag name pb2 pb3 p =
     record { shape = shape-refl (c .slaves); names = refl; legal = λ l. legal-withPending c flag name pb2 pb3 p l }
 
-pub kept-after : (o : Operation) {bs : List ℕ} → Bytes bs → (c : Cluster) → ClusterKept c (slavesAfter o bs c)
+pub kept-after : (o : Duty) {bs : List ℕ} → Bytes bs → (c : Cluster) → ClusterKept c (slavesAfter o bs c)
 unfolding slavesAfter
 kept-after o {bs} bytes c = kept-map (slaveAfter o bs) (slaveAfter-kept o bytes) c
 

@@ -12,10 +12,11 @@ pub mod Replaced
 -- loops along the slaves of a master-slave round: their replies, and their changes
 pub mod Hearing
 pub mod Changing
--- multipartner rounds: entries, a slave's turn, its round file, stores, the entries still to look at, the search for the acting
+-- multipartner rounds: entries, a slave's act, its round file, stores, the entries still to look at, the search for the acting
 -- entry, a slot's senders, the slots
 pub mod EntryLaws
-pub mod TurnLaws
+pub mod EntryExamples
+pub mod SlotActLaws
 pub mod RoundFileLaws
 pub mod StoreLaws
 pub mod OpenLaws
@@ -30,8 +31,8 @@ pub mod RoundNumbers
 pub mod FrameLaws
 -- the document's cases, frames that the writers wrote, and the ways of the round call
 pub mod Cases
-pub mod Sent
 pub mod RoundCall
+pub mod Sent
 pub mod FrameCall
 -- the answers are told apart
 pub mod Distinct

@@ -5,13 +5,13 @@ use native.Mathlib.Omega.{arith}
 use mathlib.Core.Path.{_≡_, refl, sym, ap, _∙_}
 use mathlib.Core.Logic.{_≢_, _↔_}
 use mathlib.Core.List.{List, [], _∷_}
-use Rattle.file.specs.Cluster.{Slave, Cluster}
-use Rattle.frame.specs.Fireworks.{Round, multipartner, msd, msa, none}
-use Rattle.cluster.specs.Bus.{Senders, anyone, slots, senderMask, nobody}
-use Rattle.cluster.specs.Slaves.{Operation, inSlot, sentTo, pendingOperation}
-use Rattle.cluster.specs.Multipartner.{sentIn, sentDuring}
-use Rattle.cluster.specs.Grounds.{roundBy}
-use Rattle.cluster.specs.Round.{addressEffect, dataEffect, multipartnerEffect, effectOf, frameOn}
+use Rattle.file.specs.Rules.Cluster.{Slave, Cluster}
+use Rattle.frame.specs.Rules.Fireworks.{Round, multipartner, msd, msa, noRound}
+use Rattle.cluster.specs.Rules.Bus.{Senders, anyone, slots, senderMask, nobody}
+use Rattle.cluster.specs.Rules.Slaves.{Duty, inSlot, sentTo, pendingDuty}
+use Rattle.cluster.specs.Rules.Multipartner.{sentIn, sentDuring}
+use Rattle.cluster.specs.Rules.Grounds.{roundBy}
+use Rattle.cluster.specs.Rules.Round.{addressEffect, dataEffect, multipartnerEffect, effectOf, frameOn}
 use Rattle.cluster.proofs.Bus.{mask-below, mask-bit}
 
 pub mask-64 : (r : Senders) → senderMask r < 2 ^ 64
@@ -31,7 +31,7 @@ pub sender-set : (r : Senders) (s : ℕ) → s < slots → (senderMask r / 2 ^ s
 sender-set r s h = (λ e. anyone-some (r s) .0 (sym (sender-bit r s h) ∙ e), λ n. sender-bit r s h ∙ anyone-some (r s) .1 n)
 
 -- nobody sends in slot 0, in any round
-sentTo-zero : (o : Operation) (ss : List Slave) → sentTo o ss 0 ≡ []
+sentTo-zero : (o : Duty) (ss : List Slave) → sentTo o ss 0 ≡ []
 unfolding sentTo inSlot
 sentTo-zero o [] = refl
 sentTo-zero o (s ∷ ss) = sentTo-zero o ss
@@ -39,9 +39,9 @@ sentTo-zero o (s ∷ ss) = sentTo-zero o ss
 senders-zero : (c : Cluster) (round : Round) (frame : List ℕ) → effectOf c round frame .senders 0 ≡ []
 unfolding effectOf addressEffect dataEffect multipartnerEffect sentDuring sentIn nobody
 senders-zero c (multipartner r) frame = refl
-senders-zero c msd frame = sentTo-zero (pendingOperation c) (c .slaves)
+senders-zero c msd frame = sentTo-zero (pendingDuty c) (c .slaves)
 senders-zero c msa frame = refl
-senders-zero c none frame = refl
+senders-zero c noRound frame = refl
 
 pub bit-zero : (c : Cluster) (frame : List ℕ) → senderMask (frameOn c frame .senders) % 2 ≡ 0
 unfolding frameOn anyone

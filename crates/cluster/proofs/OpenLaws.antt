@@ -10,22 +10,22 @@ use lib.ListN.{length, getD, set, length-set}
 use lib.Seq.{getD-set-same, getD-set-other}
 use lib.Dec.{eqb}
 use borrow.Author.Tests.{eq-eqb, ne-eqb, eqb-true, eqb-false}
-use Rattle.file.specs.Layout.{recordSize}
-use Rattle.file.specs.Cluster.{Slave, Cluster, bytesIn, lastRecord}
-use Rattle.file.specs.Places.{slaveOf, filePlace}
-use Rattle.file.specs.Accepted.{Becomes}
+use Rattle.file.specs.Rules.Layout.{recordSize}
+use Rattle.file.specs.Rules.Cluster.{Slave, Cluster, bytesIn, lastRecord}
+use Rattle.file.specs.Inner.Places.{slaveOf, filePlace}
+use Rattle.file.specs.Inner.Accepted.{Becomes}
 use Rattle.file.proofs.Order.{byCase}
 use Rattle.file.proofs.ReaderLaws.{byte-there, place-within}
-use Rattle.cluster.specs.Slaves.{isUnnamed}
-use Rattle.cluster.specs.Entries.{Entry, entryOf, entryAt, ends, covers, Acting, none, acts, actingFrom}
-use Rattle.cluster.specs.EntryForm.{evaluated, isPast}
-use Rattle.cluster.specs.Slots.{entriesIn, RoundFileIs, RoundFilesAre, entryThere, EntriesWithin, openFrom}
+use Rattle.cluster.specs.Rules.Slaves.{isUnnamed}
+use Rattle.cluster.specs.Rules.Entries.{Entry, entryThere, entryAt, ends, covers, Acting, noEntry, acts, actingFrom}
+use Rattle.cluster.specs.Inner.EntryForm.{evaluated, isPast}
+use Rattle.cluster.specs.Inner.Slots.{mostSlaves, entriesIn, RoundFileIs, RoundFilesAre, EntriesWithin, openFrom}
 use Rattle.cluster.proofs.EntryLaws.{past-goes-on, past-covers}
 
 -- ---- the first entry before the end that covers the slot, record by record
 
 module _ (rodl : List ℕ) (slot k : ℕ) where
-  pub acting-end : (n : ℕ) → 0 < n → ends (entryAt rodl k .operation) ≡ true → actingFrom rodl slot k n ≡ none
+  pub acting-end : (n : ℕ) → 0 < n → ends (entryAt rodl k .operation) ≡ true → actingFrom rodl slot k n ≡ noEntry
   unfolding actingFrom
   acting-end zero l e = absurd (omega arith)
   acting-end (suc n) l e = rw e
@@ -39,7 +39,7 @@ module _ (rodl : List ℕ) (slot k : ℕ) where
   unfolding actingFrom
   acting-next more e q = rw (more, e, q)
 
-pub acting-none : (rodl : List ℕ) (slot k n : ℕ) → n ≡ 0 → actingFrom rodl slot k n ≡ none
+pub acting-none : (rodl : List ℕ) (slot k n : ℕ) → n ≡ 0 → actingFrom rodl slot k n ≡ noEntry
 unfolding actingFrom
 acting-none rodl slot k n e = rw e
 
@@ -64,7 +64,7 @@ pub record Rest (c : Cluster) (round s k left at end : ℕ) : Type 0 where
   pub count : k + left ≡ suc (entriesIn round (slaveOf c s))
   pub span : end ≡ at + recordSize * left
   pub lies : 0 < entriesIn round (slaveOf c s) → at ≡ filePlace c s round + recordSize * k
-  pub none : entriesIn round (slaveOf c s) ≡ 0 → at ≡ 0
+  pub runsNone : entriesIn round (slaveOf c s) ≡ 0 → at ≡ 0
 
 rest-start : {c : Cluster} {round s start end : ℕ} → RoundFileIs c round s start end → Rest c round s 1 (entriesIn round (slaveOf c s)) start end
 rest-start {c} {round} {s} {start} is =
@@ -76,14 +76,14 @@ rest-start {c} {round} {s} {start} is =
           let many : eqb (entriesIn round (slaveOf c s)) 0 ≡ false = ne-eqb (entriesIn round (slaveOf c s)) 0 (λ e. omega arith) in
           let here : start ≡ filePlace c s round + recordSize = rw many at (is .begins) in
           omega arith;
-      none = λ e. rw (eq-eqb (entriesIn round (slaveOf c s)) 0 e) at (is .begins);
+      runsNone = λ e. rw (eq-eqb (entriesIn round (slaveOf c s)) 0 e) at (is .begins);
     }
 
 module _ {f : List ℕ} {c : Cluster} {round s k left at end : ℕ} (h : Becomes f c) (q : Rest c round s k left at end) where
   rest-end : end ≤ length f
   rest-end =
       byCase (eqb (entriesIn round (slaveOf c s)) 0)
-      (λ e. omega (arith, q .span, q .count, q .some, q .none (eqb-true (entriesIn round (slaveOf c s)) 0 e), eqb-true (entriesIn round (slaveOf c s)) 0 e))
+      (λ e. omega (arith, q .span, q .count, q .some, q .runsNone (eqb-true (entriesIn round (slaveOf c s)) 0 e), eqb-true (entriesIn round (slaveOf c s)) 0 e))
       (λ e.
       let many = positive (eqb-false (entriesIn round (slaveOf c s)) 0 e) in
       let room = entries-room round (slaveOf c s) (entriesIn round (slaveOf c s)) many (omega arith) in
@@ -107,7 +107,7 @@ module _ {f : List ℕ} {c : Cluster} {round s k left at end : ℕ} (h : Becomes
         count = omega (arith, q .count);
         span = omega (arith, q .span);
         lies = λ l. omega (arith, q .lies l);
-        none = λ e. absurd (omega (arith, q .count, q .some));
+        runsNone = λ e. absurd (omega (arith, q .count, q .some));
       }
 
   module _ (more : 0 < left) where
@@ -169,7 +169,7 @@ module _ {f : List ℕ} {slot start end at : ℕ} (q : Opening f slot start end 
     another : (end - at) / recordSize ≡ suc ((end - (at + 4)) / recordSize)
     another = omega (arith, q .entries .whole)
 
-    module _ {e : Entry} (is : e ≡ evaluated (entryOf (getD f at 0) (getD f (at + 1) 0) (getD f (at + 2) 0) (getD f (at + 3) 0))) where
+    module _ {e : Entry} (is : e ≡ evaluated (entryThere f at)) where
       past-there : isPast (entryThere f at) slot ≡ isPast e slot
       unfolding evaluated isPast entryThere
       past-there = sym (ap (λ (x : Entry). isPast x slot) is)
@@ -225,8 +225,8 @@ module _ {f : List ℕ} {c : Cluster} {round slot s start end : ℕ} (h : Become
 
 -- the same of every slave
 pub record OpenAll (c : Cluster) (round slot : ℕ) (starts ends : List ℕ) : Type 0 where
-  pub startsRoom : length starts ≡ 32
-  pub endsRoom : length ends ≡ 32
+  pub startsRoom : length starts ≡ mostSlaves
+  pub endsRoom : length ends ≡ mostSlaves
   pub file : (s : ℕ) → s < length (c .slaves) → OpenAt c round slot s (getD starts s 0) (getD ends s 0)
 
 pub open-start : {c : Cluster} {round : ℕ} (slot : ℕ) {starts ends : List ℕ} → RoundFilesAre c round starts ends → OpenAll c round slot starts ends
@@ -246,7 +246,7 @@ open-start {c} {round} slot are =
 
 module _ {c : Cluster} {round slot : ℕ} {starts ends : List ℕ} (o : OpenAll c round slot starts ends) where
   -- one slave's entries are looked at
-  pub open-set : (n : ℕ) {at : ℕ} → n < 32 → OpenAt c round slot n at (getD ends n 0) → OpenAll c round slot (set starts n at) ends
+  pub open-set : (n : ℕ) {at : ℕ} → n < mostSlaves → OpenAt c round slot n at (getD ends n 0) → OpenAll c round slot (set starts n at) ends
   open-set n {at} few now =
       record {
         startsRoom = length-set starts n at ∙ o .startsRoom;

@@ -1,26 +1,26 @@
 -- What a write leaves in a slave: exactly its four bytes in the record, every other record and file as it was; a slave that does not
 -- take the write is as it was.
 -- Assumes nothing.
-use Prim.Native.Nat.{ℕ, suc, _+_, _*_, _≤_, _<_}
+use Prim.Native.Nat.{ℕ, suc, _+_, _*_, _≤_}
 use native.Mathlib.Omega.{arith}
-use mathlib.Core.Path.{_≡_, refl, _∙_}
+use mathlib.Core.Path.{_≡_, refl}
 use mathlib.Core.Logic.{_≢_}
 use mathlib.Core.List.{List, [], _∷_, _++_, append-assoc}
 use mathlib.Core.Bool.{true, false}
 use lib.ListN.{length, take, drop}
 use lib.Seq.{sets, sets-eq, length-take-le, drop-at, take-append-seam}
-use Rattle.file.specs.Layout.{recordSize}
-use Rattle.file.specs.Bytes.{part}
-use Rattle.file.specs.Cluster.{Slave, bytesIn, recordOf}
+use Rattle.file.specs.Rules.Layout.{recordSize}
+use Rattle.file.specs.Rules.Bytes.{part}
+use Rattle.file.specs.Rules.Cluster.{Slave, bytesIn, recordOf}
 use Rattle.file.proofs.Order.{both-left, both-right}
 use Rattle.file.proofs.Puts.{inSlave-same, part-sets, hasRecord-fits}
-use Rattle.cluster.specs.Slaves.{writing, replaced, takesWrite, slaveAfter}
+use Rattle.cluster.specs.Rules.Slaves.{writing, replaced, takesWrite, slaveAfter}
 use Rattle.cluster.proofs.Untouched.{replaced-other}
 
 replaced-sets : (s : Slave) (n k : ℕ) (bs : List ℕ) → bytesIn (replaced s n k bs) n ≡ sets (bytesIn s n) k bs
 unfolding replaced
 replaced-sets s n k [] = refl
-replaced-sets s n k (b ∷ bs) = rw (replaced-sets (Rattle.file.specs.Places.putInSlave s n k b) n (suc k) bs, inSlave-same n k b s)
+replaced-sets s n k (b ∷ bs) = rw (replaced-sets (Rattle.file.specs.Rules.Changes.putInSlave s n k b) n (suc k) bs, inSlave-same n k b s)
 
 sets-part : (l : List ℕ) (k : ℕ) (bs : List ℕ) → k + length bs ≤ length l → part (sets l k bs) k (length bs) ≡ bs
 unfolding part

@@ -5,39 +5,38 @@ use mathlib.Core.Path.{_≡_, sym, _∙_}
 use mathlib.Core.List.{List}
 use lib.ListN.{length, getD}
 use lib.Dec.{eqb}
-use borrow.Author.Tests.{le-ltb, lt-ltb, eqb-true, eqb-false}
+use borrow.Author.Tests.{eqb-true, eqb-false}
 use native.Mathlib.Omega.{arith}
-use Rattle.file.specs.Order.{firstOf}
-use Rattle.file.specs.Encode.{encode}
-use Rattle.file.specs.Decode.{decode}
-use Rattle.file.specs.Grounds.{fileGround}
-use Rattle.file.specs.Accepted.{Becomes}
+use Rattle.file.specs.Rules.Refusals.{bufferRefusal}
+use Rattle.file.specs.Rules.Results.{refused}
+use Rattle.file.specs.Rules.Encode.{encode}
+use Rattle.file.specs.Rules.Decode.{decode}
+use Rattle.file.specs.Rules.Grounds.{fileGround}
+use Rattle.file.specs.Inner.Accepted.{Becomes}
 use Rattle.file.proofs.Order.{byCase}
-use Rattle.cluster.specs.Bus.{slots}
-use Rattle.cluster.specs.Grounds.{shortAnswer, frameGround}
-use Rattle.cluster.specs.Round.{Answer, refused, frameOn, carriedBy, bufferBy, exchange, roundGround, roundOn}
-use Rattle.cluster.specs.Carried.{Exchanged}
-use Rattle.cluster.proofs.Rounds.{round-refused, round-accepted, firstGround-next, firstGround-here}
+use Rattle.cluster.specs.Rules.Bus.{slots}
+use Rattle.cluster.specs.Rules.Grounds.{frameGround}
+use Rattle.cluster.specs.Rules.Round.{Answer, frameOn, carriedBy, bufferBy, roundGrounds, roundGround, roundOn}
+use Rattle.cluster.specs.Inner.Carried.{exchange}
+use Rattle.cluster.specs.Inner.Carried.{Exchanged}
+use Rattle.cluster.proofs.Rounds.{file-decides, buffer-decides, others-decide, round-refused, round-accepted}
 
 pub file-refused : (file frame buffer : List ℕ) {n : ℕ} → n ≡ fileGround file → (n ≡ 0 → ⊥) → (refused n, buffer, file) ≡ roundOn file frame buffer
-unfolding roundGround
+unfolding roundGround roundGrounds
 file-refused file frame buffer {n} e some =
-    let here : roundGround file frame buffer ≡ fileGround file = firstGround-here _ _ (λ z. some (e ∙ z)) in
+    let here : roundGround file frame buffer ≡ fileGround file = file-decides file buffer _ (λ z. some (e ∙ z)) in
     sym (round-refused file frame buffer (λ z. some (e ∙ sym here ∙ z)) ∙ rw (here, e))
 
-pub buffer-refused : (file frame buffer : List ℕ) → fileGround file ≡ 0 → length buffer < slots → (refused 9, buffer, file) ≡ roundOn file frame buffer
-unfolding roundGround shortAnswer firstOf
+pub buffer-refused : (file frame buffer : List ℕ) → fileGround file ≡ 0 → length buffer < slots → (refused bufferRefusal, buffer, file) ≡ roundOn file frame buffer
+unfolding roundGround roundGrounds
 buffer-refused file frame buffer accepted short =
-    let here : roundGround file frame buffer ≡ 9 =
-    firstGround-next _ _ accepted ∙ rw (lt-ltb (length buffer) slots short) (firstGround-here 9 _ (λ z. omega (arith, z)))
-    in
-    sym (round-refused file frame buffer (λ z. let bad : _≡_ {A = ℕ} 9 0 = sym here ∙ z in omega (arith, bad)) ∙ rw here)
+    let here : roundGround file frame buffer ≡ bufferRefusal = buffer-decides file buffer _ accepted short in
+    sym (round-refused file frame buffer (λ z. let bad : _≡_ {A = ℕ} bufferRefusal 0 = sym here ∙ z in omega (arith, bad)) ∙ rw here)
 
 -- the ground of an accepted file with a buffer of 64 bytes is its frame's
-frame-decides : (file frame buffer : List ℕ) → fileGround file ≡ 0 → slots ≤ length buffer → roundGround file frame buffer ≡ frameGround (decode file) frame
-unfolding roundGround shortAnswer firstOf
-frame-decides file frame buffer accepted long =
-    firstGround-next _ _ accepted ∙ firstGround-next _ _ (rw (le-ltb (length buffer) slots long))
+pub frame-decides : (file frame buffer : List ℕ) → fileGround file ≡ 0 → slots ≤ length buffer → roundGround file frame buffer ≡ frameGround (decode file) frame
+unfolding roundGround roundGrounds frameGround
+frame-decides file frame buffer accepted long = others-decide file buffer _ accepted long
 
 pub exchanged-round : (file frame : List ℕ) {old new : List ℕ} {answer : Answer} {file′ : List ℕ} → Becomes file (decode file) → slots ≤ length old → Exchanged (decode file) frame old new answer file′ → (answer, new, file′) ≡ roundOn file frame old
 unfolding exchange

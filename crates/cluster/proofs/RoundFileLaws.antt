@@ -9,20 +9,24 @@ use lib.ListN.{length, getD, set, length-set}
 use lib.Seq.{getD-set-same, getD-set-other}
 use lib.Dec.{eqb}
 use borrow.Author.Tests.{eq-eqb, ne-eqb, eqb-true, eqb-false}
-use Rattle.file.specs.Bytes.{All, none, both}
-use Rattle.file.specs.Layout.{recordSize}
-use Rattle.file.specs.Cluster.{File, Cluster, bytesAmong, bytesIn, lastRecord, logicalName}
-use Rattle.file.specs.Legal.{LegalFile}
-use Rattle.file.specs.Places.{slaveOf}
-use Rattle.file.specs.Accepted.{Becomes, findFile}
-use Rattle.file.specs.Answers.{foundFile}
+use Rattle.file.specs.Rules.Bytes.{All, allEmpty, allNext}
+use Rattle.file.specs.Rules.Layout.{recordSize}
+use Rattle.file.specs.Rules.Cluster.{File, Cluster, bytesAmong, bytesIn, lastRecord, logicalName, unnamed}
+use Rattle.file.specs.Rules.Legal.{LegalFile}
+use Rattle.file.specs.Inner.Places.{slaveOf}
+use Rattle.file.specs.Rules.Decode.{decode}
+use Rattle.file.specs.Inner.Accepted.{Becomes, AcceptedFile, slaveCount, findFile}
+use Rattle.file.specs.Inner.Answers.{foundFile}
+use mir.Val.{Fits}
+use mir.Syntax.{w64}
+use Rattle.file.specs.declared.readers.FileBytes.{FileBytes}
 use Rattle.file.specs.declared.readers.FilePlace.{FilePlace}
 use Rattle.file.specs.declared.readers.FilePlace.the-variants.{Bytes, NoFile}
 use Rattle.file.proofs.Order.{byCase}
-use Rattle.file.proofs.ReaderLaws.{slave-legal, place-within}
-use Rattle.cluster.specs.Slaves.{isUnnamed}
-use Rattle.cluster.specs.Slots.{entriesIn, RoundFileIs, RoundFilesAre}
-use Rattle.cluster.proofs.TurnLaws.{Found, found-facts, missing-empty}
+use Rattle.file.proofs.ReaderLaws.{slave-legal, length-limit, place-within, becomes-decoded}
+use Rattle.cluster.specs.Rules.Slaves.{isUnnamed}
+use Rattle.cluster.specs.Inner.Slots.{mostSlaves, entriesIn, RoundFileIs, RoundFilesAre}
+use Rattle.cluster.proofs.SlotActLaws.{Found, found-facts, missing-empty}
 
 -- ---- one slave
 
@@ -33,8 +37,8 @@ pub record Records (bs : List ℕ) : Type 0 where
 
 among-records : {xs : List File} (n : ℕ) → All LegalFile xs → 0 < length (bytesAmong xs n) → Records (bytesAmong xs n)
 unfolding bytesAmong
-among-records n none some = absurd (omega arith)
-among-records n (both {a = x} p r) some =
+among-records n allEmpty some = absurd (omega arith)
+among-records n (allNext {a = x} p r) some =
     byCase (eqb (x .number) n)
     (λ e. rw e (record { some = p .some; whole = p .whole }))
     (λ e. rw e (among-records n r (rw e at some)))
@@ -47,13 +51,13 @@ no-file : (c : Cluster) (round s : ℕ) → entriesIn round (slaveOf c s) ≡ 0 
 no-file c round s e = record { begins = rw e; span = rw e }
 
 module _ (c : Cluster) (round s : ℕ) where
-  pub round-unnamed : {name : ℕ} → name ≡ logicalName (slaveOf c s) → name ≡ 255 → RoundFileIs c round s 0 0
+  pub round-unnamed : {name : ℕ} → name ≡ logicalName (slaveOf c s) → name ≡ unnamed → RoundFileIs c round s 0 0
   unfolding entriesIn isUnnamed
-  round-unnamed own is = no-file c round s (rw (eq-eqb (logicalName (slaveOf c s)) 255 (sym own ∙ is)))
+  round-unnamed own is = no-file c round s (rw (eq-eqb (logicalName (slaveOf c s)) unnamed (sym own ∙ is)))
 
-  named-runs : {name : ℕ} → name ≡ logicalName (slaveOf c s) → (name ≡ 255 → ⊥) → entriesIn round (slaveOf c s) ≡ lastRecord (bytesIn (slaveOf c s) round)
+  named-runs : {name : ℕ} → name ≡ logicalName (slaveOf c s) → (name ≡ unnamed → ⊥) → entriesIn round (slaveOf c s) ≡ lastRecord (bytesIn (slaveOf c s) round)
   unfolding entriesIn isUnnamed
-  named-runs own named = rw (ne-eqb (logicalName (slaveOf c s)) 255 (λ e. named (own ∙ e)))
+  named-runs own named = rw (ne-eqb (logicalName (slaveOf c s)) unnamed (λ e. named (own ∙ e)))
 
   module _ {r : FilePlace} (is : foundFile r ≡ findFile c s round) where
     pub round-missing : r ≡ NoFile → RoundFileIs c round s 0 0
@@ -62,54 +66,60 @@ module _ (c : Cluster) (round s : ℕ) where
         let empty = missing-empty c s round (rw q at is) in
         no-file c round s (byCase (isUnnamed (slaveOf c s)) (λ t. rw t) (λ t. rw (t, empty)))
 
-    module _ {place size : ℕ} (q : r ≡ Bytes (record { place = place; size = size })) where
-      round-facts : Found c s round place size
+    module _ {b : FileBytes} (q : r ≡ Bytes b) where
+      round-facts : Found c s round (b .place) (b .size)
       unfolding foundFile
       round-facts = found-facts c s round (rw q at is)
 
-      pub round-within : {f : List ℕ} → Becomes f c → place + size ≤ length f
-      round-within h =
-          let fact = round-facts in
-          omega (arith, fact .lies, fact .has, place-within h s round (rw (fact .has) at (fact .some)))
+      module _ {f : List ℕ} (h : Becomes f c) where
+        round-within : b .place + b .size ≤ length f
+        round-within =
+            let fact = round-facts in
+            omega (arith, fact .lies, fact .has, place-within h s round (rw (fact .has) at (fact .some)))
 
-      round-records : {f : List ℕ} → Becomes f c → s < length (c .slaves) → Records (bytesIn (slaveOf c s) round)
-      round-records h l = file-records s round h l (rw (round-facts .has) at (round-facts .some))
+        pub end-fits : Fits w64 (b .place + b .size)
+        end-fits = omega (arith, round-within, length-limit (becomes-decoded h))
 
-      pub round-long : {f : List ℕ} → Becomes f c → s < length (c .slaves) → 8 ≤ size
-      round-long h l = let records = round-records h l in omega (arith, records .some, records .whole, round-facts .has)
+        module _ (there : s < length (c .slaves)) where
+          round-records : Records (bytesIn (slaveOf c s) round)
+          round-records = file-records s round h there (rw (round-facts .has) at (round-facts .some))
 
-      pub round-found : {f : List ℕ} {name : ℕ} → Becomes f c → s < length (c .slaves) → name ≡ logicalName (slaveOf c s) → (name ≡ 255 → ⊥) → RoundFileIs c round s (place + 4) (place + size)
-      round-found h l own named =
-          let fact = round-facts in
-          let records = round-records h l in
-          let runs = named-runs own named in
-          let some : eqb (entriesIn round (slaveOf c s)) 0 ≡ false = ne-eqb (entriesIn round (slaveOf c s)) 0 (λ e. omega (arith, records .some)) in
-          record {
-            begins = rw some (ap (λ (x : ℕ). x + 4) (fact .lies));
-            span = omega (arith, records .whole, fact .has, runs);
-          }
+          pub start-fits : Fits w64 (b .place + recordSize)
+          start-fits =
+              let records = round-records in
+              omega (arith, records .some, records .whole, round-facts .has, round-within, length-limit (becomes-decoded h))
+
+          pub round-found : {name : ℕ} → name ≡ logicalName (slaveOf c s) → (name ≡ unnamed → ⊥) → RoundFileIs c round s (b .place + recordSize) (b .place + b .size)
+          round-found own named =
+              let fact = round-facts in
+              let records = round-records in
+              let runs = named-runs own named in
+              let some : eqb (entriesIn round (slaveOf c s)) 0 ≡ false = ne-eqb (entriesIn round (slaveOf c s)) 0 (λ e. omega (arith, records .some)) in
+              record {
+                begins = rw some (ap (λ (x : ℕ). x + recordSize) (fact .lies));
+                span = omega (arith, records .whole, fact .has, runs);
+              }
 
 -- ---- every slave
 
-pub few-slaves : {f : List ℕ} {c : Cluster} → Becomes f c → length (c .slaves) ≤ 32
-few-slaves h = h .legal .count
-
 -- what the loop over the slaves keeps
-pub record Finding (c : Cluster) (round : ℕ) (starts ends : List ℕ) (n : ℕ) : Type 0 where
-  pub most : n ≤ length (c .slaves)
-  pub startsRoom : length starts ≡ 32
-  pub endsRoom : length ends ≡ 32
-  pub file : (s : ℕ) → s < n → RoundFileIs c round s (getD starts s 0) (getD ends s 0)
+pub record Finding (f : List ℕ) (round : ℕ) (starts ends : List ℕ) (n : ℕ) : Type 0 where
+  pub becomes : AcceptedFile f
+  pub most : n ≤ slaveCount f
+  pub startsRoom : length starts ≡ mostSlaves
+  pub endsRoom : length ends ≡ mostSlaves
+  pub file : (s : ℕ) → s < n → RoundFileIs (decode f) round s (getD starts s 0) (getD ends s 0)
 
-pub finding-start : (c : Cluster) (round : ℕ) {starts ends : List ℕ} → length starts ≡ 32 → length ends ≡ 32 → Finding c round starts ends 0
-finding-start c round p e =
-    record { most = omega arith; startsRoom = p; endsRoom = e; file = λ s l. absurd (omega arith) }
+pub finding-start : {f : List ℕ} (round : ℕ) {starts ends : List ℕ} → AcceptedFile f → length starts ≡ mostSlaves → length ends ≡ mostSlaves → Finding f round starts ends 0
+finding-start round h p e =
+    record { becomes = h; most = omega arith; startsRoom = p; endsRoom = e; file = λ s l. absurd (omega arith) }
 
-module _ {c : Cluster} {round : ℕ} {starts ends : List ℕ} {n : ℕ} (h : Finding c round starts ends n) where
-  pub finding-next : {start end : ℕ} → n < length (c .slaves) → length (c .slaves) ≤ 32 → RoundFileIs c round n start end
-      → Finding c round (set starts n start) (set ends n end) (n + 1)
-  finding-next {start} {end} more few is =
+module _ {f : List ℕ} {round : ℕ} {starts ends : List ℕ} {n : ℕ} (h : Finding f round starts ends n) {count : ℕ} (all : count ≡ slaveCount f) where
+  pub finding-next : {start end : ℕ} → n < count → RoundFileIs (decode f) round n start end → Finding f round (set starts n start) (set ends n end) (n + 1)
+  finding-next {start} {end} more is =
+      let few : n < mostSlaves = omega (arith, h .becomes .legal .count) in
       record {
+        becomes = h .becomes;
         most = omega arith;
         startsRoom = length-set starts n start ∙ h .startsRoom;
         endsRoom = length-set ends n end ∙ h .endsRoom;
@@ -125,8 +135,8 @@ module _ {c : Cluster} {round : ℕ} {starts ends : List ℕ} {n : ℕ} (h : Fin
       below : (s : ℕ) → s < n + 1 → (s ≡ n → ⊥) → s < n
       below s l other = omega arith
 
-  pub finding-done : length (c .slaves) ≤ n → RoundFilesAre c round starts ends
-  finding-done left =
+  pub finding-done : count ≤ n → RoundFilesAre (decode f) round starts ends
+  finding-done over =
       record {
         startsRoom = h .startsRoom;
         endsRoom = h .endsRoom;

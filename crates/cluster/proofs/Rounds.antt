@@ -1,39 +1,41 @@
 -- Laws of a round for the layers above: an accepted one leaves a legal cluster of the same shape and physical names and a file of the
 -- same length, a refused one leaves all as it was, and the answer to a file of unknown edition depends on its length and first three bytes alone.
 -- Assumes nothing.
-use Prim.Native.Nat.{ℕ, _≤_}
+use Prim.Native.Nat.{ℕ, _≤_, _<_}
 use native.Mathlib.Omega.{arith}
 use mathlib.Core.Path.{_≡_, sym, ap, _∙_}
 use mathlib.Core.Logic.{_≢_}
-use mathlib.Core.List.{List}
+use mathlib.Core.List.{List, _∷_, _++_}
 use mathlib.Core.Bool.{false}
 use lib.ListN.{length, getD, take}
-use lib.Dec.{eqb}
-use borrow.Author.Tests.{eqb-true, eq-eqb, ne-eqb, leb-false, ltb-false}
-use Rattle.file.specs.Bytes.{Byte, Bytes, All}
-use Rattle.file.specs.Order.{firstOf, both}
-use Rattle.file.specs.Layout.{offsetWidth, editionPlace}
-use Rattle.file.specs.Cluster.{Cluster, operationOf}
-use Rattle.file.specs.Encode.{encode}
-use Rattle.file.specs.Decode.{decode}
-use Rattle.file.specs.Grounds.{fileGround}
-use Rattle.file.specs.Legal.{LegalPending}
-use Rattle.file.specs.Places.{withEpoch, withPending}
-use Rattle.file.specs.Accepted.{Becomes}
-use Rattle.file.proofs.Order.{byCase, clash, first-none, both-true}
+use borrow.Author.Tests.{eq-eqb, ne-eqb, lt-ltb, le-ltb, ltb-false}
+use Rattle.file.specs.Rules.Bytes.{Byte, Bytes, All}
+use Rattle.file.specs.Rules.Order.{Ground, firstOf}
+use Rattle.file.specs.Rules.Refusals.{bufferRefusal}
+use Rattle.file.specs.Rules.Results.{refused}
+use Rattle.file.specs.Rules.Layout.{editionPlace, pendingFlag}
+use Rattle.file.specs.Rules.Cluster.{Cluster, operationOf, executeOperation}
+use Rattle.file.specs.Rules.Encode.{encode}
+use Rattle.file.specs.Rules.Decode.{decode}
+use Rattle.file.specs.Rules.Grounds.{fileGrounds, fileGround}
+use Rattle.file.specs.Rules.Legal.{LegalPending}
+use Rattle.file.specs.Rules.Changes.{withEpoch, withPending}
+use Rattle.file.specs.Inner.Accepted.{Becomes}
+use Rattle.file.proofs.Order.{clash, first-none, first-next, both-true, joined-next, joined-here, joined-left, joined-right}
+use Rattle.file.proofs.Results.{file-first, file-numbered}
 use Rattle.file.proofs.Bytes.{byte-at}
 use Rattle.file.proofs.Sizes.{encodeAt-length}
 use Rattle.file.proofs.Shape.{shape-fileLength}
 use Rattle.file.proofs.Accepted.{legal-becomes, accepted-becomes}
 use Rattle.file.proofs.AcceptedFacts as AcceptedFacts
 use Rattle.file.proofs.Edition.{unknown-edition}
-use Rattle.frame.specs.Fireworks.{Round, multipartner, msd, msa, none}
-use Rattle.frame.specs.Frames.{between}
-use Rattle.frame.specs.Grounds.{noOperation, broadcastRead}
-use Rattle.cluster.specs.Bus.{slots}
-use Rattle.cluster.specs.Slaves.{withAddress, epochRaised, pendingOperation}
-use Rattle.cluster.specs.Grounds.{shortAnswer, roundBy, noFirework, wrongLengthOn, wrongCheckOn, noOperationOn, broadcastReadOn, groundsOn, frameGround}
-use Rattle.cluster.specs.Round.{refused, addressEffect, dataEffect, multipartnerEffect, effectOf, frameOn, carriedBy, bufferBy, firstGround, roundGround, roundOn}
+use Rattle.frame.specs.Rules.Fireworks.{Round, multipartner, msd, msa, noRound}
+use Rattle.frame.specs.Rules.Frames.{between}
+use Rattle.frame.specs.Rules.Grounds.{noOperation, broadcastRead}
+use Rattle.cluster.specs.Rules.Bus.{slots}
+use Rattle.cluster.specs.Rules.Slaves.{withAddress, epochRaised, pendingDuty}
+use Rattle.cluster.specs.Rules.Grounds.{shortAnswer, roundBy, noFirework, wrongLengthOn, wrongCheckOn, noOperationOn, broadcastReadOn, groundsOn, frameGround}
+use Rattle.cluster.specs.Rules.Round.{addressEffect, dataEffect, multipartnerEffect, effectOf, frameOn, carriedBy, bufferBy, roundGrounds, roundGround, roundOn}
 use Rattle.cluster.proofs.Kept.{ClusterKept, kept-refl, kept-trans, kept-epoch, kept-raised, kept-pending, kept-after, kept-below}
 
 -- ---- the grounds of a frame that is accepted
@@ -62,7 +64,7 @@ fits-none c round frame f = rw (f .firework, f .size, f .check, f .operation, f 
 -- ---- what an accepted frame keeps
 
 pub address-pending : (c : Cluster) (pb0 pb1 pb2 pb3 : ℕ) → Byte pb0 → Byte pb1 → Byte pb2 → Byte pb3 → noOperation (operationOf pb2) ≡ false → broadcastRead (operationOf pb2) pb1 ≡ false →
-    LegalPending (withPending (withEpoch c pb0) 1 pb1 pb2 pb3)
+    LegalPending (withPending (withEpoch c pb0) pendingFlag pb1 pb2 pb3)
 unfolding withPending withEpoch noOperation broadcastRead
 address-pending c pb0 pb1 pb2 pb3 b0 b1 b2 b3 op read =
     record {
@@ -71,7 +73,7 @@ address-pending c pb0 pb1 pb2 pb3 b0 b1 b2 b3 op read =
       name = b1;
       pb2 = b2;
       pb3 = b3;
-      operation = λ _ three. omega (arith, leb-false 3 (operationOf pb2) op, three);
+      operation = λ _ three. omega (arith, ltb-false executeOperation (operationOf pb2) op, three);
       broadcastRead = λ _ isRead isAll. clash (both-true (eq-eqb _ _ isRead) (eq-eqb _ _ isAll)) read;
     }
 
@@ -80,18 +82,18 @@ pub address-kept : (c : Cluster) (pb0 pb1 pb2 pb3 : ℕ) → Byte pb0 → Byte p
 unfolding withAddress
 address-kept c pb0 pb1 pb2 pb3 b0 b1 b2 b3 op read =
     kept-trans (kept-epoch c pb0 b0)
-    (kept-pending (withEpoch c pb0) 1 pb1 pb2 pb3 (address-pending c pb0 pb1 pb2 pb3 b0 b1 b2 b3 op read))
+    (kept-pending (withEpoch c pb0) pendingFlag pb1 pb2 pb3 (address-pending c pb0 pb1 pb2 pb3 b0 b1 b2 b3 op read))
 
 pub data-kept : (c : Cluster) {bytes : List ℕ} → Bytes bytes → ClusterKept c (dataEffect c bytes .after)
 unfolding dataEffect
-data-kept c bs = kept-trans (kept-raised c) (kept-after (pendingOperation c) bs (epochRaised c))
+data-kept c bs = kept-trans (kept-raised c) (kept-after (pendingDuty c) bs (epochRaised c))
 
 pub multipartner-kept : (c : Cluster) (r : ℕ) → ClusterKept c (multipartnerEffect c r .after)
 unfolding multipartnerEffect
 multipartner-kept c r = kept-trans (kept-raised c) (kept-below r (epochRaised c) slots)
 
 between-bytes : {frame : List ℕ} → Bytes frame → Bytes (between frame)
-between-bytes bs = All.both (byte-at bs 1) (All.both (byte-at bs 2) (All.both (byte-at bs 3) (All.both (byte-at bs 4) All.none)))
+between-bytes bs = All.allNext (byte-at bs 1) (All.allNext (byte-at bs 2) (All.allNext (byte-at bs 3) (All.allNext (byte-at bs 4) All.allEmpty)))
 
 effect-kept : (c : Cluster) (round : Round) (frame : List ℕ) → Bytes frame → Fits c round frame → ClusterKept c (effectOf c round frame .after)
 unfolding effectOf addressEffect noOperationOn broadcastReadOn
@@ -100,29 +102,50 @@ effect-kept c msd frame bs f = data-kept c (between-bytes bs)
 effect-kept c msa frame bs f =
     address-kept c (getD frame 1 0) (getD frame 2 0) (getD frame 3 0) (getD frame 4 0)
     (byte-at bs 1) (byte-at bs 2) (byte-at bs 3) (byte-at bs 4) (f .operation) (f .broadcastRead)
-effect-kept c none frame bs f = kept-refl c
+effect-kept c noRound frame bs f = kept-refl c
 
 pub frame-kept : (c : Cluster) (frame : List ℕ) → Bytes frame → frameGround c frame ≡ 0 → ClusterKept c (frameOn c frame .after)
 unfolding frameOn frameGround
 frame-kept c frame bs e = effect-kept c (roundBy frame) frame bs (fits-facts c (roundBy frame) frame e)
 
+-- ---- "Checked in this order": the file's grounds, the buffer's, and then those of the call
+
+module _ (file buffer : List ℕ) (others : List Ground) where
+  abbrev inOrder : List Ground
+  inOrder = fileGrounds file ++ record { number = bufferRefusal; holds = shortAnswer buffer } ∷ others
+
+  -- the first of them is the file's; or else the buffer's; or else one of the call's
+  pub file-decides : fileGround file ≢ 0 → firstOf inOrder ≡ fileGround file
+  file-decides some = joined-here (fileGrounds file) _ (file-numbered file) (λ z. some (sym (file-first file) ∙ z)) ∙ file-first file
+
+  after-file : fileGround file ≡ 0 → firstOf inOrder ≡ firstOf (record { number = bufferRefusal; holds = shortAnswer buffer } ∷ others)
+  after-file accepted = joined-next (fileGrounds file) _ (file-numbered file) (file-first file ∙ accepted)
+
+  pub buffer-decides : fileGround file ≡ 0 → length buffer < slots → firstOf inOrder ≡ bufferRefusal
+  unfolding shortAnswer firstOf
+  buffer-decides accepted short = after-file accepted ∙ rw (lt-ltb (length buffer) slots short)
+
+  pub others-decide : fileGround file ≡ 0 → slots ≤ length buffer → firstOf inOrder ≡ firstOf others
+  unfolding shortAnswer
+  others-decide accepted long = after-file accepted ∙ first-next _ others (le-ltb (length buffer) slots long)
+
+  -- none of them
+  pub record NoGround : Type 0 where
+    pub accepted : fileGround file ≡ 0
+    pub long : slots ≤ length buffer
+    pub rest : firstOf others ≡ 0
+
+  pub none-holds : firstOf inOrder ≡ 0 → NoGround
+  unfolding shortAnswer
+  none-holds e =
+      let tail = first-none 8 _ _ (joined-right (fileGrounds file) _ (file-numbered file) e) in
+      record {
+        accepted = sym (file-first file) ∙ joined-left (fileGrounds file) _ (file-numbered file) e;
+        long = ltb-false _ _ (tail .0);
+        rest = tail .1;
+      }
+
 -- ---- the round call
-
-pub firstGround-left : (n m : ℕ) → firstGround n m ≡ 0 → n ≡ 0
-unfolding firstGround
-firstGround-left n m e = byCase (eqb n 0) (λ t. eqb-true n 0 t) (λ t. rw t at e)
-
-pub firstGround-right : (n m : ℕ) → firstGround n m ≡ 0 → m ≡ 0
-unfolding firstGround
-firstGround-right n m e = byCase (eqb n 0) (λ t. rw t at e) (λ t. let z : n ≡ 0 = rw t at e in clash (eq-eqb n 0 z) t)
-
-pub firstGround-next : (n m : ℕ) → n ≡ 0 → firstGround n m ≡ m
-unfolding firstGround
-firstGround-next n m z = rw (eq-eqb n 0 z)
-
-pub firstGround-here : (n m : ℕ) → n ≢ 0 → firstGround n m ≡ n
-unfolding firstGround
-firstGround-here n m h = rw (ne-eqb n 0 h)
 
 -- a refused round returns its number and leaves all as it was
 pub round-refused : (file frame buffer : List ℕ) → roundGround file frame buffer ≢ 0 → roundOn file frame buffer ≡ (refused (roundGround file frame buffer), buffer, file)
@@ -141,14 +164,10 @@ pub record RoundFits (file frame buffer : List ℕ) : Type 0 where
   pub fits : frameGround (decode file) frame ≡ 0
 
 pub round-facts : (file frame buffer : List ℕ) → roundGround file frame buffer ≡ 0 → RoundFits file frame buffer
-unfolding roundGround shortAnswer
+unfolding roundGround roundGrounds frameGround
 round-facts file frame buffer e =
-    let rest = firstGround-right _ _ e in
-    record {
-      accepted = firstGround-left _ _ e;
-      long = ltb-false _ _ (first-none 8 _ _ (firstGround-left _ _ rest) .0);
-      fits = firstGround-right _ _ rest;
-    }
+    let none = none-holds file buffer (groundsOn (decode file) (roundBy frame) frame) e in
+    record { accepted = none .accepted; long = none .long; fits = none .rest }
 
 -- an accepted round leaves an accepted file, which holds the rules' cluster: legal, of the same shape and physical names
 pub round-becomes : (file frame buffer : List ℕ) → Bytes file → Bytes frame → roundGround file frame buffer ≡ 0 → Becomes (roundOn file frame buffer .2) (frameOn (decode file) frame .after)
@@ -163,7 +182,7 @@ round-kept file frame buffer rb e = frame-kept (decode file) frame rb (round-fac
 -- an accepted round leaves a file of the same length
 encode-length : (c d : Cluster) → ClusterKept c d → length (encode d) ≡ length (encode c)
 unfolding encode
-encode-length c d kept = encodeAt-length (omega arith) d ∙ sym (shape-fileLength offsetWidth (kept .shape)) ∙ sym (encodeAt-length (omega arith) c)
+encode-length c d kept = encodeAt-length (omega arith) d ∙ sym (shape-fileLength _ (kept .shape)) ∙ sym (encodeAt-length (omega arith) c)
 
 pub round-length : (file frame buffer : List ℕ) → Bytes file → Bytes frame → roundGround file frame buffer ≡ 0 → length (roundOn file frame buffer .2) ≡ length file
 round-length file frame buffer fb rb e =
@@ -174,13 +193,13 @@ round-length file frame buffer fb rb e =
 -- a file of unknown edition: answer and buffer are the same for two files of one length with the same first three bytes
 pub round-edition : (f g frame buffer : List ℕ) → length f ≡ length g → take 3 f ≡ take 3 g → (getD f editionPlace 0 ≡ 1 → ⊥) →
     (roundOn f frame buffer .0 ≡ roundOn g frame buffer .0) × (roundOn f frame buffer .1 ≡ roundOn g frame buffer .1)
-unfolding roundGround fileGround
+unfolding roundGround roundGrounds fileGround
 round-edition f g frame buffer long front other =
-    let refused-f : fileGround f ≢ 0 = λ z. other (AcceptedFacts.accepted offsetWidth f .0 z .edition) in
+    let refused-f : fileGround f ≢ 0 = λ z. other (AcceptedFacts.accepted _ f .0 z .edition) in
     let same : fileGround f ≡ fileGround g = unknown-edition f g long front other in
-    let here-f : roundGround f frame buffer ≡ fileGround f = firstGround-here _ _ refused-f in
+    let here-f : roundGround f frame buffer ≡ fileGround f = file-decides f buffer _ refused-f in
     let refused-g : fileGround g ≢ 0 = λ z. refused-f (same ∙ z) in
-    let here-g : roundGround g frame buffer ≡ fileGround g = firstGround-here _ _ refused-g in
+    let here-g : roundGround g frame buffer ≡ fileGround g = file-decides g buffer _ refused-g in
     let left = round-refused f frame buffer (λ z. refused-f (sym here-f ∙ z)) in
     let right = round-refused g frame buffer (λ z. refused-g (sym here-g ∙ z)) in
     (rw (left, right, here-f, here-g, same), rw (left, right))

@@ -2,42 +2,41 @@
 -- file, operation and record pending; a data frame, with a write pending, puts exactly its four bytes into each addressed slave that
 -- may store them, and changes nothing else but the epoch.
 -- Assumes nothing.
-use Prim.Native.Nat.{ℕ, _+_, _*_, _≤_}
+use Prim.Native.Nat.{ℕ, _≤_}
 use native.Mathlib.Omega.{arith}
 use mathlib.Core.Path.{_≡_, refl, sym, ap, _∙_}
 use mathlib.Core.List.{List, [], _∷_}
 use mathlib.Core.Bool.{true}
 use lib.ListN.{length, getD, take}
-use lib.Dec.{eqb}
-use borrow.Author.Tests.{le-ltb}
-use Rattle.file.specs.Order.{firstOf}
-use Rattle.file.specs.Cluster.{Cluster}
-use Rattle.file.specs.Encode.{encode}
-use Rattle.file.specs.Decode.{decode}
-use Rattle.file.specs.Grounds.{fileGround}
-use Rattle.file.proofs.Order.{byCase, first-none}
-use Rattle.frame.specs.Fireworks.{msd, msa, dataFirework, addressFirework, roundOf, roundIn}
-use Rattle.frame.specs.Frames.{frameSize, frameOf, between, dataFrame}
-use Rattle.frame.specs.Check.{dataCheck}
-use Rattle.frame.specs.Reading.{parts, readGround, readAddress}
-use Rattle.frame.specs.Writing.{Writing, writeFrame, dataGround, writeAddress, writeData}
+use Rattle.file.specs.Rules.Results.{done}
+use Rattle.file.specs.Rules.Cluster.{Cluster, pb2Of}
+use Rattle.file.specs.Rules.Encode.{encode}
+use Rattle.file.specs.Rules.Decode.{decode}
+use Rattle.file.specs.Rules.Grounds.{fileGround}
+use borrow.Author.Tests.{eq-eqb}
+use Rattle.file.proofs.Order.{first-none}
+use Rattle.file.proofs.Results.{no-ground}
+use Rattle.frame.specs.Rules.Fireworks.{msd, msa, dataFirework, addressFirework, roundOf, roundIn}
+use Rattle.frame.specs.Rules.Frames.{frameSize, frameOf, between, dataFrame}
+use Rattle.frame.specs.Rules.Check.{dataCheck}
+use Rattle.frame.specs.Rules.Reading.{parts, readGround, readAddress}
+use Rattle.frame.specs.Rules.Writing.{writeFrame, dataGround, writeAddress, writeData}
 use Rattle.frame.proofs.Tests as Tests
 use Rattle.frame.proofs.RoundTrip.{written-reads}
-use Rattle.cluster.specs.Bus.{slots, senderMask, answerBytes, answerIn, nobody}
-use Rattle.cluster.specs.Slaves.{withAddress, epochRaised, writing, pendingOperation, sentTo, slavesAfter, replyTo}
-use Rattle.cluster.specs.Grounds.{shortAnswer, roundBy, writePending, frameGround}
-use Rattle.cluster.specs.Round.{carried, addressEffect, dataEffect, effectOf, frameOn, carriedBy, bufferBy, roundGround, roundOn}
+use Rattle.cluster.specs.Rules.Bus.{slots, senderMask, answerBytes, answerIn, nobody}
+use Rattle.cluster.specs.Rules.Slaves.{withAddress, epochRaised, writing, pendingDuty, sentTo, slavesAfter, replyTo}
+use Rattle.cluster.specs.Rules.Grounds.{roundBy, writePending, frameGround}
+use Rattle.cluster.specs.Rules.Round.{addressEffect, dataEffect, effectOf, frameOn, carriedBy, bufferBy, roundGround, roundOn}
 use Rattle.cluster.proofs.Bus.{mask-nobody, answer-alike}
 use Rattle.cluster.proofs.DataLaws.{sent-nothing, pending-writes}
 use Rattle.cluster.proofs.Cases.{quiet-mask}
-use Rattle.cluster.proofs.Rounds.{round-accepted, firstGround-next}
-use Rattle.cluster.proofs.FrameLaws.{address-ground, data-first, data-right, Parts, parts-facts}
+use Rattle.cluster.proofs.Rounds.{round-accepted}
+use Rattle.cluster.proofs.RoundCall.{frame-decides}
+use Rattle.cluster.proofs.FrameLaws.{address-ground, data-first, data-fits, PartsAre, parts-facts}
 
 -- an accepted file, a buffer of 64 bytes and a frame that fits
 pub round-fits : (file frame buffer : List ℕ) → fileGround file ≡ 0 → slots ≤ length buffer → frameGround (decode file) frame ≡ 0 → roundGround file frame buffer ≡ 0
-unfolding roundGround shortAnswer firstOf
-round-fits file frame buffer accepted long fits =
-    firstGround-next _ _ accepted ∙ firstGround-next _ _ (rw (le-ltb (length buffer) slots long)) ∙ fits
+round-fits file frame buffer accepted long fits = frame-decides file frame buffer accepted long ∙ fits
 
 -- ---- an address frame
 
@@ -47,11 +46,11 @@ address-round [] e = absurd (omega (arith, e))
 address-round (b ∷ bs) e = rw e
 
 -- a frame that the reader takes apart, sent
-pub address-sent : (file frame buffer : List ℕ) (epoch name number operation «record» : ℕ) → fileGround file ≡ 0 → slots ≤ length buffer → parts epoch name number operation «record» ≡ readAddress frame →
-    roundOn file frame buffer ≡ (carried 0, answerIn buffer (answerBytes addressFirework nobody), encode (withAddress (decode file) epoch name (4 * number + operation) «record»))
+pub address-sent : (file frame buffer : List ℕ) (epoch name number operation «record» : ℕ) → fileGround file ≡ 0 → slots ≤ length buffer → done (parts epoch name number operation «record») ≡ readAddress frame →
+    roundOn file frame buffer ≡ (done 0, answerIn buffer (answerBytes addressFirework nobody), encode (withAddress (decode file) epoch name (pb2Of number operation) «record»))
 unfolding readGround frameOn effectOf addressEffect carriedBy bufferBy
 address-sent file frame buffer epoch name number operation «record» accepted long reads =
-    let facts : Parts frame epoch name number operation «record» = parts-facts frame reads in
+    let facts : PartsAre frame epoch name number operation «record» = parts-facts frame reads in
     let first : getD frame 0 0 ≡ addressFirework = Tests.address-first frame (first-none 9 _ _ (facts .ground) .0) in
     let isAddress : roundBy frame ≡ msa = address-round frame first in
     let fits : frameGround (decode file) frame ≡ 0 = address-ground (decode file) frame isAddress ∙ facts .ground in
@@ -59,8 +58,8 @@ address-sent file frame buffer epoch name number operation «record» accepted l
     ∙ rw (isAddress, first, ← mask-nobody, facts .pb0, facts .pb1, facts .pb2, facts .pb3)
 
 -- the six bytes that the address writer wrote, sent
-pub written-address-sent : (file buffer answer : List ℕ) (epoch name number operation «record» : ℕ) → fileGround file ≡ 0 → slots ≤ length answer → writeAddress buffer epoch name number operation «record» .0 ≡ Writing.written →
-    roundOn file (take frameSize (writeAddress buffer epoch name number operation «record» .1)) answer ≡ (carried 0, answerIn answer (answerBytes addressFirework nobody), encode (withAddress (decode file) epoch name (4 * number + operation) «record»))
+pub written-address-sent : (file buffer answer : List ℕ) (epoch name number operation «record» : ℕ) → fileGround file ≡ 0 → slots ≤ length answer → writeAddress buffer epoch name number operation «record» .0 ≡ done tt →
+    roundOn file (take frameSize (writeAddress buffer epoch name number operation «record» .1)) answer ≡ (done 0, answerIn answer (answerBytes addressFirework nobody), encode (withAddress (decode file) epoch name (pb2Of number operation) «record»))
 written-address-sent file buffer answer epoch name number operation «record» accepted long written =
     address-sent file (take frameSize (writeAddress buffer epoch name number operation «record» .1)) answer epoch name number operation «record» accepted long (sym (written-reads buffer epoch name number operation «record» written))
 
@@ -82,31 +81,28 @@ module _ (b₀ b₁ b₂ b₃ : ℕ) where
   unfolding dataFrame frameOf
   between-data = refl
 
-  data-fits : (c : Cluster) → writePending c ≡ true → frameGround c (dataFrame bytes) ≡ 0
+  frame-fits : (c : Cluster) → writePending c ≡ true → frameGround c (dataFrame bytes) ≡ 0
   unfolding dataFrame frameOf
-  data-fits c w = sym (data-right c (dataFrame bytes) data-round (sym w) refl {check = dataCheck bytes} refl refl refl)
+  frame-fits c w = data-fits c (dataFrame bytes) data-round (sym w) refl {check = dataCheck bytes} refl refl refl
 
   -- the frame that the data writer writes for these bytes, sent with a write pending
-  pub data-sent : (file buffer : List ℕ) (name n r : ℕ) → fileGround file ≡ 0 → slots ≤ length buffer → pendingOperation (decode file) ≡ writing name n r →
-      roundOn file (dataFrame bytes) buffer ≡ (carried 0, answerIn buffer (answerBytes dataFirework nobody), encode (slavesAfter (writing name n r) bytes (epochRaised (decode file))))
+  pub data-sent : (file buffer : List ℕ) (name n r : ℕ) → fileGround file ≡ 0 → slots ≤ length buffer → pendingDuty (decode file) ≡ writing name n r →
+      roundOn file (dataFrame bytes) buffer ≡ (done 0, answerIn buffer (answerBytes dataFirework nobody), encode (slavesAfter (writing name n r) bytes (epochRaised (decode file))))
   unfolding frameOn effectOf dataEffect carriedBy bufferBy
   data-sent file buffer name n r accepted long p =
       let quiet : (slot : ℕ) → sentTo (writing name n r) (decode file .slaves) slot ≡ nobody slot = nobody-sends name n r (decode file) in
-      let fits : frameGround (decode file) (dataFrame bytes) ≡ 0 = data-fits (decode file) (pending-writes (decode file) p) in
+      let fits : frameGround (decode file) (dataFrame bytes) ≡ 0 = frame-fits (decode file) (pending-writes (decode file) p) in
       let mask : senderMask (sentTo (writing name n r) (decode file .slaves)) ≡ 0 = quiet-mask (sentTo (writing name n r) (decode file .slaves)) quiet in
       let heard : answerIn buffer (answerBytes dataFirework (sentTo (writing name n r) (decode file .slaves))) ≡ answerIn buffer (answerBytes dataFirework nobody) = answer-alike buffer dataFirework (sentTo (writing name n r) (decode file .slaves)) nobody quiet in
       round-accepted file (dataFrame bytes) buffer (round-fits file (dataFrame bytes) buffer accepted long fits)
       ∙ rw (data-round, p, mask, data-first (dataFrame bytes) data-round, heard, between-data)
 
-  written-frame : (buffer : List ℕ) → writeData buffer bytes .0 ≡ Writing.written → take frameSize (writeData buffer bytes .1) ≡ dataFrame bytes
+  written-frame : (buffer : List ℕ) → writeData buffer bytes .0 ≡ done tt → take frameSize (writeData buffer bytes .1) ≡ dataFrame bytes
   unfolding writeData writeFrame dataFrame frameOf
-  written-frame buffer written =
-      byCase (eqb (dataGround buffer) 0)
-      (λ p. rw p)
-      (λ p. let clash : _≡_ {A = ℕ} 0 1 = (let h = rw p at written in cc) in absurd (omega arith))
+  written-frame buffer written = rw (eq-eqb (dataGround buffer) 0 (no-ground tt (dataGround buffer) (sym written)))
 
   -- the six bytes that the data writer wrote, sent with a write pending
-  pub written-data-sent : (file buffer answer : List ℕ) (name n r : ℕ) → fileGround file ≡ 0 → slots ≤ length answer → pendingOperation (decode file) ≡ writing name n r → writeData buffer bytes .0 ≡ Writing.written →
-      roundOn file (take frameSize (writeData buffer bytes .1)) answer ≡ (carried 0, answerIn answer (answerBytes dataFirework nobody), encode (slavesAfter (writing name n r) bytes (epochRaised (decode file))))
+  pub written-data-sent : (file buffer answer : List ℕ) (name n r : ℕ) → fileGround file ≡ 0 → slots ≤ length answer → pendingDuty (decode file) ≡ writing name n r → writeData buffer bytes .0 ≡ done tt →
+      roundOn file (take frameSize (writeData buffer bytes .1)) answer ≡ (done 0, answerIn answer (answerBytes dataFirework nobody), encode (slavesAfter (writing name n r) bytes (epochRaised (decode file))))
   written-data-sent file buffer answer name n r accepted long p written =
       ap (λ (frame : List ℕ). roundOn file frame answer) (written-frame buffer written) ∙ data-sent file answer name n r accepted long p

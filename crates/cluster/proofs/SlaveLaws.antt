@@ -6,29 +6,33 @@ use mathlib.Core.Path.{_≡_, refl, sym, ap, _∙_, subst}
 use mathlib.Core.Logic.{_≢_}
 use mathlib.Core.List.{List, [], _∷_}
 use mathlib.Core.Bool.{Bool, true, false, cond, not}
-use lib.ListN.{length, getD, set, length-append}
+use lib.ListN.{length, set, length-append}
 use lib.Seq.{set-getD, set-set, sets}
 use lib.Dec.{eqb, leb}
-use borrow.Author.Tests.{eq-eqb, ne-eqb, le-leb, lt-leb, not-true, not-false}
-use Rattle.file.specs.Bytes.{Byte, Bytes, All, part}
-use Rattle.file.specs.Order.{both}
-use Rattle.file.specs.Layout.{recordSize, neededConfiguration, neededDocumentation}
-use Rattle.file.specs.Cluster.{Slave, Cluster, bytesIn, hasRecord, recordOf, logicalName, physicalName, comparisonValue, newLogicalName, configuration, documentation, unnamed, broadcast}
-use Rattle.file.specs.Encode.{encode}
-use Rattle.file.specs.Places.{noSlave, slaveOf, filePlace, putInSlave, withSlaves, putByte, putBytes}
-use Rattle.file.specs.Accepted.{Becomes, KeptAt, FoundRecord, recordAt, findRecord}
-use Rattle.file.specs.Answers.{foundRecord}
+use borrow.Author.Tests.{eqb-true, eq-eqb, ne-eqb, le-leb, lt-leb, not-true, not-false}
+use mir.Val.{Fits}
+use mir.Syntax.{w8}
+use Rattle.file.specs.Rules.Bytes.{Bytes, allEmpty, allNext, part}
+use Rattle.file.specs.Rules.Order.{both}
+use Rattle.file.specs.Rules.Layout.{recordSize, logicalNamePlace}
+use Rattle.file.specs.Rules.Cluster.{Slave, Cluster, hasRecord, recordOf, logicalName, physicalName, comparisonValue, newLogicalName, configuration, documentation, unnamed, broadcast}
+use Rattle.file.specs.Rules.Encode.{encode}
+use Rattle.file.specs.Inner.Places.{noSlave, slaveOf, filePlace, putByte, putBytes}
+use Rattle.file.specs.Rules.Changes.{putInSlave, withSlaves}
+use Rattle.file.specs.Inner.Accepted.{Becomes, FoundRecord, recordAt, findRecord}
+use Rattle.file.specs.Inner.Answers.{foundRecord}
 use Rattle.file.specs.declared.readers.RecordPlace.{RecordPlace}
 use Rattle.file.specs.declared.readers.RecordPlace.the-variants.{At, NoRecord}
 use Rattle.file.proofs.Order.{byCase, clash, both-true, both-left, both-next, both-false-left, both-false-right}
 use Rattle.file.proofs.Stores.{read-record}
 use Rattle.file.proofs.Puts.{putByte-slave-same, putByte-count, hasRecord-fits}
-use Rattle.file.proofs.ReaderLaws.{configuration-room, documentation-room, place-within}
+use Rattle.file.proofs.ReaderLaws.{place-within}
 use Rattle.file.proofs.StoreLaws.{becomes-record}
-use Rattle.frame.specs.Frames.{between}
-use Rattle.cluster.specs.Slaves.{addresses, addressed, isUnnamed, reading, writing, comparing, baptizing, answersRead, readReply, answersCompare, replyTo, mayWrite, takesWrite, takesName, named, replaced, slaveAfter}
+use Rattle.cluster.specs.Rules.Slaves.{addresses, addressed, isUnnamed, reading, writing, comparing, baptizing, answersRead, readReply, answersCompare, replyTo, mayWrite, takesWrite, takesName, named, replaced, slaveAfter}
 use Rattle.cluster.proofs.Hearing.{recordOf-length}
-use Rattle.cluster.specs.Carried.{said, reachOf, Turn, withSlave}
+use Rattle.cluster.specs.Inner.Carried.{said, reachOf, Replied, withSlave}
+use Rattle.cluster.specs.Inner.Duties.{dataIn, DataPut}
+use Rattle.cluster.specs.declared.types.DataBytes.{DataBytes}
 
 -- ---- who is addressed
 
@@ -51,17 +55,29 @@ at-broadcast-none {name} b e = sym (both-false-left b (ap not (eq-eqb name broad
 pub not-broadcast : {name : ℕ} {r b : Bool} → r ≡ b → (name ≡ broadcast → ⊥) → r ≡ both (not (eqb name broadcast)) b
 not-broadcast {name} {r} {b} e n = e ∙ sym (both-next b (ap not (ne-eqb name broadcast n)))
 
--- a test behind another: the first fails, or it passes and the second decides
-pub first-fails : {t a : Bool} (b : Bool) → t ≡ a → not t ≡ true → false ≡ both a b
-first-fails {t} {a} b e n = sym (both-false-left b (sym e ∙ not-true t n))
+-- a read of an unnamed slave, at broadcast, and at any other name
+pub read-unnamed : (name : ℕ) {own : ℕ} → own ≡ unnamed → false ≡ both (addresses name own) (not (eqb own unnamed))
+read-unnamed name {own} e = sym (both-false-right (addresses name own) (ap not (eq-eqb own unnamed e)))
 
-pub second-decides : {t a : Bool} (b : Bool) → t ≡ a → not t ≡ false → b ≡ both a b
-unfolding both
-second-decides {t} {a} b e n = go t e n
-  where
-    go : (x : Bool) → x ≡ a → not x ≡ false → b ≡ cond a b false
-    go true q m = rw (← q)
-    go false q m = clash refl m
+module _ (name : ℕ) {own : ℕ} (named : own ≡ unnamed → ⊥) where
+  read-as : both (addresses name own) (not (eqb own unnamed)) ≡ addresses name own
+  unfolding both
+  read-as = rw (ne-eqb own unnamed named) (go (addresses name own))
+    where
+      go : (b : Bool) → cond b true false ≡ b
+      go true = refl
+      go false = refl
+
+  pub read-broadcast : name ≡ broadcast → true ≡ both (addresses name own) (not (eqb own unnamed))
+  unfolding addresses
+  read-broadcast e = sym (read-as ∙ rw (e, ne-eqb own unnamed named))
+
+  pub read-named : (name ≡ broadcast → ⊥) → eqb own name ≡ both (addresses name own) (not (eqb own unnamed))
+  unfolding addresses
+  read-named other =
+      sym (read-as ∙ byCase (eqb name unnamed)
+      (λ e. rw e (ap (λ (n : ℕ). eqb own n) (sym (eqb-true name unnamed e))))
+      (λ e. rw (e, ne-eqb name broadcast other)))
 
 -- ---- a record that was looked for
 
@@ -72,13 +88,13 @@ pub record Found (c : Cluster) (s n r place : ℕ) : Type 0 where
 at-injective : {p q : ℕ} → recordAt p ≡ recordAt q → p ≡ q
 at-injective e = cc
 
-never-at : {A : Type 0} {p : ℕ} → recordAt p ≡ FoundRecord.missing → A
+never-at : {A : Type 0} {p : ℕ} → recordAt p ≡ FoundRecord.noRecord → A
 never-at e = let z : _≡_ {A = ℕ} 0 1 = cc in absurd (omega arith)
 
 pub found-facts : (c : Cluster) (s n r : ℕ) {x : RecordPlace} {place : ℕ} → foundRecord x ≡ findRecord c s n r → x ≡ At place → Found c s n r place
 unfolding foundRecord findRecord
 found-facts c s n r {x} {place} e is =
-    let g : recordAt place ≡ cond (hasRecord (slaveOf c s) n r) (recordAt (filePlace c s n + recordSize * r)) FoundRecord.missing = rw is at e in
+    let g : recordAt place ≡ cond (hasRecord (slaveOf c s) n r) (recordAt (filePlace c s n + recordSize * r)) FoundRecord.noRecord = rw is at e in
     byCase (hasRecord (slaveOf c s) n r)
     (λ t. record { has = t; at = at-injective (rw t at g) })
     (λ t. never-at (rw t at g))
@@ -86,7 +102,7 @@ found-facts c s n r {x} {place} e is =
 pub missing-facts : (c : Cluster) (s n r : ℕ) {x : RecordPlace} → foundRecord x ≡ findRecord c s n r → x ≡ NoRecord → hasRecord (slaveOf c s) n r ≡ false
 unfolding foundRecord findRecord
 missing-facts c s n r {x} e is =
-    let g : FoundRecord.missing ≡ cond (hasRecord (slaveOf c s) n r) (recordAt (filePlace c s n + recordSize * r)) FoundRecord.missing = rw is at e in
+    let g : FoundRecord.noRecord ≡ cond (hasRecord (slaveOf c s) n r) (recordAt (filePlace c s n + recordSize * r)) FoundRecord.noRecord = rw is at e in
     byCase (hasRecord (slaveOf c s) n r) (λ t. never-at (sym (rw t at g))) (λ t. t)
 
 pub found-room : {f : List ℕ} {c : Cluster} {s n r place : ℕ} → Becomes f c → Found c s n r place → place + 4 ≤ length f
@@ -96,31 +112,15 @@ found-room {f} {c} {s} {n} {r} h x =
 pub record-room : {f : List ℕ} (c : Cluster) (s n r : ℕ) {x : RecordPlace} {place : ℕ} → Becomes f c → foundRecord x ≡ findRecord c s n r → x ≡ At place → place + 4 ≤ length f
 record-room c s n r h e is = found-room h (found-facts c s n r e is)
 
--- ---- a record that every slave has
-
--- the place of a file with k records or more states where each of them lies
-needed-found : {c : Cluster} {n m : ℕ} {places : List ℕ} {s : ℕ} (k : ℕ) → n ≡ m → KeptAt c m places s → recordSize * suc k ≤ length (bytesIn (slaveOf c s) m) → {r : ℕ} → r ≤ k → {x : RecordPlace} →
-    x ≡ At (getD places s 0 + recordSize * r) → foundRecord x ≡ findRecord c s n r
-unfolding foundRecord findRecord hasRecord
-needed-found {c} {n} {m} {places} {s} k same kept room {r} less e =
-    rw (e, same, le-leb (recordSize * r + recordSize) (length (bytesIn (slaveOf c s) m)) (omega arith), kept .place)
-
-module _ {f : List ℕ} {c : Cluster} (h : Becomes f c) {places : List ℕ} {s n r : ℕ} {x : RecordPlace} (is : x ≡ At (getD places s 0 + recordSize * r)) where
-  pub configuration-found : KeptAt c configuration places s → n ≡ configuration → r ≤ neededConfiguration → foundRecord x ≡ findRecord c s n r
-  configuration-found kept same less = needed-found neededConfiguration same kept (configuration-room h s (kept .slave)) less is
-
-  pub documentation-found : KeptAt c documentation places s → n ≡ documentation → r ≤ neededDocumentation → foundRecord x ≡ findRecord c s n r
-  documentation-found kept same less = needed-found neededDocumentation same kept (documentation-room h s (kept .slave)) less is
-
 -- ---- replies
 
-pub turn-quiet : {reply : List ℕ} (b : List ℕ) (last : ℕ) → reply ≡ [] → Turn reply b b last last
+pub reply-quiet : {reply : List ℕ} (b : List ℕ) (last : ℕ) → reply ≡ [] → Replied reply b b last last
 unfolding said reachOf
-turn-quiet b last e = record { buffer = rw e; reach = rw e }
+reply-quiet b last e = record { buffer = rw e; reach = rw e }
 
-pub turn-full : {reply b new : List ℕ} (last : ℕ) {k : ℕ} → new ≡ said b 1 reply → length reply ≡ suc k → Turn reply b new last (suc k)
+pub reply-full : {reply b new : List ℕ} (last : ℕ) {k : ℕ} → new ≡ said b 1 reply → length reply ≡ suc k → Replied reply b new last (suc k)
 unfolding reachOf
-turn-full {reply} last {k} e size = record { buffer = e; reach = go reply size }
+reply-full {reply} last {k} e size = record { buffer = e; reach = go reply size }
   where
     go : (l : List ℕ) → length l ≡ suc k → suc k ≡ reachOf last l
     go [] p = absurd (omega arith)
@@ -150,19 +150,19 @@ readReply-length l e = rw (length-append, e)
 -- ---- the ways of a read
 
 module _ {f : List ℕ} {c : Cluster} (h : Becomes f c) (s name n r : ℕ) {own : ℕ} {t : Bool} (named′ : own ≡ logicalName (slaveOf c s)) (test : t ≡ both (addresses name own) (not (eqb own unnamed))) (b : List ℕ) (last : ℕ) where
-  pub read-unaddressed : not t ≡ true → Turn (replyTo (reading name n r) (slaveOf c s)) b b last last
+  pub read-unaddressed : not t ≡ true → Replied (replyTo (reading name n r) (slaveOf c s)) b b last last
   read-unaddressed no′ =
-      turn-quiet b last
+      reply-quiet b last
       (reply-unread name n r (slaveOf c s)
       (answersRead-as name n r (slaveOf c s) named′ ∙ both-false-left (hasRecord (slaveOf c s) n r) (sym test ∙ not-true t no′)))
 
-  pub read-missing : {x : RecordPlace} → foundRecord x ≡ findRecord c s n r → x ≡ NoRecord → Turn (replyTo (reading name n r) (slaveOf c s)) b b last last
+  pub read-missing : {x : RecordPlace} → foundRecord x ≡ findRecord c s n r → x ≡ NoRecord → Replied (replyTo (reading name n r) (slaveOf c s)) b b last last
   read-missing e is =
-      turn-quiet b last
+      reply-quiet b last
       (reply-unread name n r (slaveOf c s)
       (answersRead-as name n r (slaveOf c s) named′ ∙ both-false-right (both (addresses name own) (not (eqb own unnamed))) (missing-facts c s n r e is)))
 
-  pub read-found : not t ≡ false → {x : RecordPlace} {place : ℕ} {new : List ℕ} → foundRecord x ≡ findRecord c s n r → x ≡ At place → new ≡ said b 1 (readReply (part f place 4)) → Turn (replyTo (reading name n r) (slaveOf c s)) b new last 5
+  pub read-found : not t ≡ false → {x : RecordPlace} {place : ℕ} {new : List ℕ} → foundRecord x ≡ findRecord c s n r → x ≡ At place → new ≡ said b 1 (readReply (part f place 4)) → Replied (replyTo (reading name n r) (slaveOf c s)) b new last 5
   unfolding encode filePlace
   read-found yes′ {x} {place} e is stored =
       let found : Found c s n r place = found-facts c s n r e is in
@@ -173,7 +173,7 @@ module _ {f : List ℕ} {c : Cluster} (h : Becomes f c) (s name n r : ℕ) {own 
       ap (λ (l : List ℕ). part l place 4) (h .encoded) ∙ ap (λ (p : ℕ). part (encode c) p 4) (found .at) ∙ read-record (omega arith) s n c r (found .has)
       in
       let reply : replyTo (reading name n r) (slaveOf c s) ≡ readReply (recordOf (slaveOf c s) n r) = reply-read name n r (slaveOf c s) answers in
-      turn-full last (stored ∙ ap (λ (l : List ℕ). said b 1 (readReply l)) bytes ∙ ap (λ (l : List ℕ). said b 1 l) (sym reply)) (ap length reply ∙ readReply-length (recordOf (slaveOf c s) n r) (recordOf-length (slaveOf c s) n r (found .has)))
+      reply-full last (stored ∙ ap (λ (l : List ℕ). said b 1 (readReply l)) bytes ∙ ap (λ (l : List ℕ). said b 1 l) (sym reply)) (ap length reply ∙ readReply-length (recordOf (slaveOf c s) n r) (recordOf-length (slaveOf c s) n r (found .has)))
 
 -- ---- the ways of a compare
 
@@ -190,25 +190,25 @@ unfolding answersCompare addressed
 answersCompare-as name s {own} e = rw e (both-assoc (not (eqb name broadcast)) (addresses name (logicalName s)) (leb (comparisonValue s) (physicalName s)))
 
 module _ (c : Cluster) (s name : ℕ) {own : ℕ} {t : Bool} (named′ : own ≡ logicalName (slaveOf c s)) (test : t ≡ both (not (eqb name broadcast)) (addresses name own)) (b : List ℕ) (last : ℕ) where
-  pub compare-unaddressed : not t ≡ true → Turn (replyTo (comparing name) (slaveOf c s)) b b last last
+  pub compare-unaddressed : not t ≡ true → Replied (replyTo (comparing name) (slaveOf c s)) b b last last
   compare-unaddressed no′ =
-      turn-quiet b last
+      reply-quiet b last
       (reply-uncompared name (slaveOf c s)
       (answersCompare-as name (slaveOf c s) named′ ∙ both-false-left (leb (comparisonValue (slaveOf c s)) (physicalName (slaveOf c s))) (sym test ∙ not-true t no′)))
 
-  pub compare-below : {value physical : ℕ} → value ≡ comparisonValue (slaveOf c s) → physical ≡ physicalName (slaveOf c s) → physical < value → Turn (replyTo (comparing name) (slaveOf c s)) b b last last
+  pub compare-below : {value physical : ℕ} → value ≡ comparisonValue (slaveOf c s) → physical ≡ physicalName (slaveOf c s) → physical < value → Replied (replyTo (comparing name) (slaveOf c s)) b b last last
   compare-below v p less =
-      turn-quiet b last
+      reply-quiet b last
       (reply-uncompared name (slaveOf c s)
       (answersCompare-as name (slaveOf c s) named′ ∙ both-false-right (both (not (eqb name broadcast)) (addresses name own)) (lt-leb (comparisonValue (slaveOf c s)) (physicalName (slaveOf c s)) (omega arith))))
 
-  pub compare-answers : not t ≡ false → {value physical : ℕ} {new : List ℕ} → value ≡ comparisonValue (slaveOf c s) → physical ≡ physicalName (slaveOf c s) → value ≤ physical → new ≡ said b 1 (0 ∷ []) → Turn (replyTo (comparing name) (slaveOf c s)) b new last 1
+  pub compare-answers : not t ≡ false → {value physical : ℕ} {new : List ℕ} → value ≡ comparisonValue (slaveOf c s) → physical ≡ physicalName (slaveOf c s) → value ≤ physical → new ≡ said b 1 (0 ∷ []) → Replied (replyTo (comparing name) (slaveOf c s)) b new last 1
   compare-answers yes′ v p least stored =
       let reply : replyTo (comparing name) (slaveOf c s) ≡ 0 ∷ [] =
       reply-compare name (slaveOf c s)
       (answersCompare-as name (slaveOf c s) named′ ∙ both-true (sym test ∙ not-false t yes′) (le-leb (comparisonValue (slaveOf c s)) (physicalName (slaveOf c s)) (omega arith)))
       in
-      turn-full last (stored ∙ ap (λ (l : List ℕ). said b 1 l) (sym reply)) (ap length reply)
+      reply-full last (stored ∙ ap (λ (l : List ℕ). said b 1 l) (sym reply)) (ap length reply)
 
 -- ---- a slave replaced
 
@@ -241,6 +241,10 @@ putBytes-replaced c s n k (b ∷ bs) inside =
 
 -- ---- the ways of a write
 
+pub data-bytes : (d : DataBytes) → Fits w8 (d .b0) → Fits w8 (d .b1) → Fits w8 (d .b2) → Fits w8 (d .b3) → Bytes (dataIn d)
+data-bytes d f₀ f₁ f₂ f₃ =
+    allNext {a = d .b0} (omega arith) (allNext {a = d .b1} (omega arith) (allNext {a = d .b2} (omega arith) (allNext {a = d .b3} (omega arith) allEmpty)))
+
 after-unwritten : (name n r : ℕ) (bytes : List ℕ) (s : Slave) → takesWrite name n r s ≡ false → slaveAfter (writing name n r) bytes s ≡ s
 unfolding slaveAfter
 after-unwritten name n r bytes s e = rw e
@@ -257,9 +261,6 @@ pub mayWrite-file : (n r : ℕ) → mayWrite n r ≡ true → n ≢ documentatio
 unfolding mayWrite
 mayWrite-file n r e same = clash (eq-eqb n documentation same) (not-true _ (both-left _ _ e))
 
-pub between-bytes : (frame : List ℕ) → ((k : ℕ) → Byte (getD frame k 0)) → Bytes (between frame)
-between-bytes frame k = All.both (k 1) (All.both (k 2) (All.both (k 3) (All.both (k 4) All.none)))
-
 module _ {f : List ℕ} {c : Cluster} (h : Becomes f c) (s name n r : ℕ) {own : ℕ} {t : Bool} (named′ : own ≡ logicalName (slaveOf c s)) (test : t ≡ addresses name own) (bytes : List ℕ) where
   pub write-unaddressed : not t ≡ true → Becomes f (withSlave c s (slaveAfter (writing name n r) bytes (slaveOf c s)))
   write-unaddressed no′ =
@@ -273,15 +274,15 @@ module _ {f : List ℕ} {c : Cluster} (h : Becomes f c) (s name n r : ℕ) {own 
       (after-unwritten name n r bytes (slaveOf c s)
       (takesWrite-as name n r (slaveOf c s) named′ ∙ both-false-right (addresses name own) (both-false-left (mayWrite n r) (missing-facts c s n r e is))))
 
-  pub write-found : not t ≡ false → mayWrite n r ≡ true → Bytes bytes → length bytes ≡ 4 → s < length (c .slaves) → {x : RecordPlace} {place : ℕ} {new : List ℕ} → foundRecord x ≡ findRecord c s n r → x ≡ At place → new ≡ sets f place bytes →
+  pub write-found : not t ≡ false → mayWrite n r ≡ true → length bytes ≡ 4 → s < length (c .slaves) → {x : RecordPlace} {place : ℕ} {new : List ℕ} → foundRecord x ≡ findRecord c s n r → x ≡ At place → DataPut f new place bytes →
       Becomes new (withSlave c s (slaveAfter (writing name n r) bytes (slaveOf c s)))
-  write-found yes′ may bs four inside {place = place} {new} e is stored =
+  write-found yes′ may four inside {place = place} {new} e is put =
       let found : Found c s n r place = found-facts c s n r e is in
       let takes : takesWrite name n r (slaveOf c s) ≡ true =
       takesWrite-as name n r (slaveOf c s) named′ ∙ both-true (sym test ∙ not-false t yes′) (both-true (found .has) may)
       in
-      let there : new ≡ sets f (filePlace c s n + recordSize * r) bytes = stored ∙ ap (λ (p : ℕ). sets f p bytes) (found .at) in
-      let becomes : Becomes new (putBytes c s n (recordSize * r) bytes) = rw there (becomes-record h s n r (mayWrite-file n r may) bs four (found .has)) in
+      let there : new ≡ sets f (filePlace c s n + recordSize * r) bytes = put .stored ∙ ap (λ (p : ℕ). sets f p bytes) (found .at) in
+      let becomes : Becomes new (putBytes c s n (recordSize * r) bytes) = rw there (becomes-record h s n r (mayWrite-file n r may) (put .all) four (found .has)) in
       let after : putBytes c s n (recordSize * r) bytes ≡ withSlave c s (slaveAfter (writing name n r) bytes (slaveOf c s)) =
       putBytes-replaced c s n (recordSize * r) bytes inside ∙ ap (λ (y : Slave). withSlave c s y) (sym (after-written name n r bytes (slaveOf c s) takes))
       in
@@ -314,14 +315,14 @@ module _ {f : List ℕ} {c : Cluster} (h : Becomes f c) (s name : ℕ) {own : �
       (after-unnamed name bytes (slaveOf c s)
       (takesName-as name (slaveOf c s) named′ ∙ both-false-right (addresses name own) (ne-eqb (physicalName (slaveOf c s)) (comparisonValue (slaveOf c s)) (λ e. differ (p ∙ e ∙ sym v)))))
 
-  pub baptize-takes : not t ≡ false → {value physical : ℕ} {new : List ℕ} → value ≡ comparisonValue (slaveOf c s) → physical ≡ physicalName (slaveOf c s) → physical ≡ value → Becomes new (putByte c s configuration (recordSize + 3) (newLogicalName (slaveOf c s))) →
+  pub baptize-takes : not t ≡ false → {value physical : ℕ} {new : List ℕ} → value ≡ comparisonValue (slaveOf c s) → physical ≡ physicalName (slaveOf c s) → physical ≡ value → Becomes new (putByte c s configuration (logicalNamePlace) (newLogicalName (slaveOf c s))) →
       Becomes new (withSlave c s (slaveAfter (baptizing name) bytes (slaveOf c s)))
   unfolding named
   baptize-takes yes′ {new = new} v p same becomes =
       let takes : takesName name (slaveOf c s) ≡ true =
       takesName-as name (slaveOf c s) named′ ∙ both-true (sym test ∙ not-false t yes′) (eq-eqb (physicalName (slaveOf c s)) (comparisonValue (slaveOf c s)) (sym p ∙ same ∙ v))
       in
-      let after : putByte c s configuration (recordSize + 3) (newLogicalName (slaveOf c s)) ≡ withSlave c s (slaveAfter (baptizing name) bytes (slaveOf c s)) =
-      putByte-replaced c s configuration (recordSize + 3) (newLogicalName (slaveOf c s)) ∙ ap (λ (y : Slave). withSlave c s y) (sym (after-named name bytes (slaveOf c s) takes))
+      let after : putByte c s configuration (logicalNamePlace) (newLogicalName (slaveOf c s)) ≡ withSlave c s (slaveAfter (baptizing name) bytes (slaveOf c s)) =
+      putByte-replaced c s configuration (logicalNamePlace) (newLogicalName (slaveOf c s)) ∙ ap (λ (y : Slave). withSlave c s y) (sym (after-named name bytes (slaveOf c s) takes))
       in
       subst (λ (d : Cluster). Becomes new d) after becomes

@@ -1,30 +1,35 @@
 -- Slots 1 to 63, one after the other: what the loop over them keeps, and the round that it makes.
 -- Assumes nothing.
-use Prim.Native.Nat.{ℕ, zero, suc, _+_, _^_, _≤_, _<_}
+use Prim.Native.Nat.{ℕ, zero, suc, _+_, _-_, _/_, _^_, _≤_, _<_}
 use native.Mathlib.Omega.{arith}
 use native.Mathlib.Numerals.{add-one}
 use mathlib.Core.Path.{_≡_, refl, sym, ap, _∙_}
 use mathlib.Core.List.{List, [], _∷_}
 use mathlib.Core.Bool.{Bool, true, false}
-use lib.ListN.{length, set}
-use Rattle.file.specs.Cluster.{Cluster, bytesIn, logicalName, configuration}
-use Rattle.file.specs.Decode.{decode}
-use Rattle.file.specs.Places.{slaveOf, filePlace, SameShape}
-use Rattle.file.specs.Accepted.{Becomes}
+use lib.ListN.{length, getD, set}
+use Rattle.file.specs.Rules.Order.{either}
+use Rattle.file.specs.Rules.Layout.{recordSize}
+use Rattle.file.specs.Rules.Cluster.{Cluster, bytesIn, logicalName, configuration}
+use Rattle.file.specs.Rules.Decode.{decode}
+use Rattle.file.specs.Inner.Places.{slaveOf, filePlace, SameShape}
+use Rattle.file.specs.Inner.Accepted.{Becomes}
 use Rattle.file.proofs.Shape.{shape-count, shape-filePlaceAt}
 use Rattle.file.proofs.ReaderLaws.{becomes-decoded}
-use Rattle.cluster.specs.Bus.{Senders, busByte, anyone, maskBelow, slots, senderMask}
-use Rattle.cluster.specs.Slaves.{isUnnamed, epochRaised}
-use Rattle.cluster.specs.Multipartner.{sentBy, sentIn, receivedIn, clusterBelow, sentDuring}
-use Rattle.cluster.specs.Round.{multipartnerEffect}
-use Rattle.cluster.specs.Carried.{Carried}
-use Rattle.cluster.specs.Slots.{slotsEffect, entriesIn, RoundFilesAre, storedBelow}
-use Rattle.cluster.proofs.Bus.{busByte-byte, mask-below, mask-next, mask-silent, Filled, filled-start, filled-next, filled-done}
+use Rattle.cluster.specs.Rules.Bus.{Senders, joined, busByte, anyone, maskBelow, slots, senderMask}
+use Rattle.cluster.specs.Rules.Slaves.{isUnnamed, epochRaised}
+use Rattle.cluster.specs.Rules.Multipartner.{sentBy, sentIn, receivedIn, clusterBelow, sentDuring}
+use Rattle.cluster.specs.Rules.Round.{multipartnerEffect}
+use Rattle.cluster.specs.Inner.Carried.{Carried}
+use Rattle.cluster.specs.Inner.Slots.{slotsEffect, mostSlaves, entriesIn, RoundFilesAre, EntriesWithin, openFrom, actSends, actStores, isSender, storedBelow, StoresWithin}
+use Rattle.cluster.specs.declared.multipartner.SlotAct.{SlotAct}
+use Rattle.cluster.specs.declared.multipartner.SlotAct.the-variants as Acts
+use Rattle.cluster.proofs.Bus.{busByte-byte, mask-below, mask-next, mask-silent, Filled, filled-length, filled-start, filled-next, filled-done}
 use Rattle.cluster.proofs.Kept.{kept-received}
 use Rattle.cluster.proofs.Untouched.{filesOf-slave, received-other}
 use Rattle.cluster.proofs.StoreLaws.{stored-length, receivedBy, received-all, stored-becomes}
-use Rattle.cluster.proofs.OpenLaws.{actor, Rest, OpenAt, OpenAll, open-start, open-later}
-use Rattle.cluster.proofs.HearLaws.{someone, someone-yes, someone-no, Hearing, heard-byte, heard-any, heard-aims}
+use Rattle.cluster.proofs.OpenLaws.{actor, Rest, OpenAt, OpenAll, open-start, open-within, open-next, open-set, open-later}
+use Rattle.cluster.proofs.SearchLaws.{RoundActIs, Searching, searching-start}
+use Rattle.cluster.proofs.HearLaws.{someone, someone-yes, someone-no, Hearing, hearing-start, hearing-next, heard-byte, heard-any, heard-aims, aims-within}
 
 -- ---- the round files stay where and what they are
 
@@ -36,7 +41,7 @@ module _ (c d : Cluster) (same : SameShape (c .slaves) (d .slaves)) (round : ℕ
 
     place-kept : filePlace d s round ≡ filePlace c s round
     unfolding filePlace
-    place-kept = sym (shape-filePlaceAt c d same 2 s round)
+    place-kept = sym (shape-filePlaceAt c d same _ s round)
 
     rest-kept : {k left at end : ℕ} → Rest c round s k left at end → Rest d round s k left at end
     rest-kept q =
@@ -45,7 +50,7 @@ module _ (c d : Cluster) (same : SameShape (c .slaves) (d .slaves)) (round : ℕ
           count = rw entries-kept (q .count);
           span = q .span;
           lies = rw (entries-kept, place-kept) (q .lies);
-          none = rw entries-kept (q .none);
+          runsNone = rw entries-kept (q .runsNone);
         }
 
     open-kept : {slot at end : ℕ} → OpenAt c round slot s at end → OpenAt d round slot s at end
@@ -74,19 +79,19 @@ pub record Ready (f : List ℕ) (round count slot : ℕ) (starts ends : List ℕ
   pub all : count ≡ length (decode f .slaves)
   pub files : OpenAll (decode f) round slot starts ends
 
--- with what the slaves looked at in the slot
-module _ {f : List ℕ} {round count slot : ℕ} {starts ends after : List ℕ} (r : Ready f round count slot starts ends) (looked : OpenAll (decode f) round slot after ends) where
-  ready-same : Ready f round count (slot + 1) after ends
-  ready-same = record { becomes = r .becomes; low = r .low; all = r .all; files = open-later looked }
+-- in the next slot, with nothing stored, and with what the slaves stored
+module _ {f : List ℕ} {round count slot : ℕ} {starts ends : List ℕ} (r : Ready f round count slot starts ends) where
+  ready-same : Ready f round count (slot + 1) starts ends
+  ready-same = record { becomes = r .becomes; low = r .low; all = r .all; files = open-later (r .files) }
 
-  ready-next : {g : List ℕ} (sent : List ℕ) → Becomes g (receivedIn round slot (decode f) sent) → Ready g round count (slot + 1) after ends
+  ready-next : {g : List ℕ} (sent : List ℕ) → Becomes g (receivedIn round slot (decode f) sent) → Ready g round count (slot + 1) starts ends
   ready-next {g} sent h =
       let c : Cluster = decode f in
       let d : Cluster = receivedIn round slot c sent in
       let shape : SameShape (c .slaves) (d .slaves) = kept-received round slot c sent .shape in
       let files = filesOf-slave round c d (received-other round slot c sent round (λ l. absurd (above (r .low) l))) in
       let names = filesOf-slave configuration c d (received-other round slot c sent configuration (λ l. omega (arith, l))) in
-      let are : OpenAll d round (slot + 1) after ends = files-kept c d shape round files names (open-later looked) in
+      let are : OpenAll d round (slot + 1) starts ends = files-kept c d shape round files names (open-later (r .files)) in
       record {
         becomes = becomes-decoded h;
         low = r .low;
@@ -97,15 +102,58 @@ module _ {f : List ℕ} {round count slot : ℕ} {starts ends after : List ℕ} 
       above : {n : ℕ} → n < 0x10 → 0x10 ≤ n → ⊥
       above p q = omega arith
 
+-- ---- the loop over a slot's slaves
+
+-- the first n slaves are heard, and the entries that each still has to look at are known
+pub record SlotHeard (f : List ℕ) (round count slot n bus : ℕ) (heard : Bool) (starts ends stores : List ℕ) : Type 0 where
+  pub ready : Ready f round count slot starts ends
+  pub hearing : Hearing (decode f) round slot n bus heard stores
+
+pub heard-none : {f : List ℕ} {round count slot : ℕ} {starts ends stores : List ℕ} → Ready f round count slot starts ends → length stores ≡ mostSlaves → SlotHeard f round count slot 0 255 false starts ends stores
+heard-none {f} {round} {slot = slot} r room = record { ready = r; hearing = hearing-start (decode f) round slot room }
+
+module _ {f : List ℕ} {round count slot n bus : ℕ} {heard : Bool} {starts ends stores : List ℕ} (h : SlotHeard f round count slot n bus heard starts ends stores) where
+  module _ (more : n < count) where
+    there : n < length (decode f .slaves)
+    there = omega (arith, h .ready .all)
+
+    open-there : OpenAt (decode f) round slot n (getD starts n 0) (getD ends n 0)
+    open-there = h .ready .files .file n there
+
+    -- what `open_from` asks
+    pub slave-entries : EntriesWithin f (getD starts n 0) (getD ends n 0)
+    slave-entries = open-within (h .ready .becomes) open-there
+
+    module _ {at : ℕ} (opened : at ≡ openFrom f slot (getD starts n 0) ((getD ends n 0 - getD starts n 0) / recordSize)) where
+      open-from-there : OpenAt (decode f) round slot n at (getD ends n 0)
+      open-from-there = open-next (h .ready .becomes) open-there opened
+
+      pub slave-search : slot < slots → Searching f round slot n Acts.Rests at (getD ends n 0)
+      slave-search few = searching-start (h .ready .becomes) there few open-from-there
+
+      pub heard-next : {act : SlotAct} {bus′ place : ℕ} {heard′ : Bool} → RoundActIs (decode f) round slot n act → bus′ ≡ joined bus (actSends act) → heard′ ≡ either heard (isSender act) → place ≡ actStores act
+          → SlotHeard f round count slot (n + 1) bus′ heard′ (set starts n at) ends (set stores n place)
+      heard-next does byte any aim =
+          let r = h .ready in
+          record {
+            ready = record { becomes = r .becomes; low = r .low; all = r .all; files = open-set (r .files) n (omega (arith, there, r .becomes .legal .count)) open-from-there };
+            hearing = hearing-next (h .hearing) there does (r .becomes .legal .count) byte any aim;
+          }
+
+  -- what `store` asks
+  pub stores-within : count ≤ n → StoresWithin f stores count
+  stores-within over = aims-within (h .ready .becomes) (h .ready .all) (h .hearing) (omega (arith, h .ready .all))
+
 -- ---- the loop over the slots
 
 -- f₀ is the file at the start, old the buffer with the firework stored
-pub record Running (f₀ : List ℕ) (round firework count : ℕ) (starts ends old : List ℕ) (slot mask : ℕ) (buffer file : List ℕ) : Type 0 where
+pub record Running (f₀ : List ℕ) (round firework count : ℕ) (starts ends stores old : List ℕ) (slot mask : ℕ) (buffer file : List ℕ) : Type 0 where
   pub filled : Filled (sentDuring round (decode f₀)) firework old slot buffer
   pub counted : mask ≡ maskBelow (sentDuring round (decode f₀)) slot
   pub after : Becomes file (clusterBelow round (decode f₀) slot)
   pub ready : Ready file round count slot starts ends
   pub size : length file ≡ length f₀
+  pub room : length stores ≡ mostSlaves
 
 start-mask : (r : Senders) → anyone (r 0) ≡ 0 → 0 ≡ maskBelow r 1
 unfolding maskBelow
@@ -115,16 +163,17 @@ start-after : {f : List ℕ} (round : ℕ) (c : Cluster) → Becomes f c → Bec
 unfolding clusterBelow receivedIn sentIn
 start-after round c h = h
 
-pub running-start : {f : List ℕ} {round count : ℕ} {starts ends : List ℕ} (firework : ℕ) (old : List ℕ) → Becomes f (decode f) → round < 0x10 → count ≡ length (decode f .slaves)
-    → RoundFilesAre (decode f) round starts ends → slots ≤ length old → Running f round firework count starts ends (set old 0 firework) 1 0 (set old 0 firework) f
+pub running-start : {f : List ℕ} {round count : ℕ} {starts ends stores : List ℕ} (firework : ℕ) (old : List ℕ) → Becomes f (decode f) → round < 0x10 → count ≡ length (decode f .slaves)
+    → RoundFilesAre (decode f) round starts ends → slots ≤ length old → length stores ≡ mostSlaves → Running f round firework count starts ends stores (set old 0 firework) 1 0 (set old 0 firework) f
 unfolding sentDuring sentIn anyone
-running-start {f} {round} firework old h low all files long =
+running-start {f} {round} firework old h low all files long room =
     record {
       filled = filled-start (sentDuring round (decode f)) firework old long;
       counted = start-mask (sentDuring round (decode f)) refl;
       after = start-after round (decode f) h;
       ready = record { becomes = h; low = low; all = all; files = open-start 1 files };
       size = refl;
+      room = room;
     }
 
 slot-sent : (round slot : ℕ) (c : Cluster) → 1 ≤ slot → sentIn round slot c ≡ sentBy round slot (c .slaves)
@@ -145,9 +194,12 @@ below-next : (round : ℕ) (c : Cluster) (slot : ℕ) → clusterBelow round c (
 unfolding clusterBelow sentDuring
 below-next round c slot = rw add-one
 
-module _ {f₀ : List ℕ} {round firework count : ℕ} {starts ends old : List ℕ} {slot mask : ℕ} {buffer file : List ℕ} (h : Running f₀ round firework count starts ends old slot mask buffer file) where
+module _ {f₀ : List ℕ} {round firework count : ℕ} {starts ends stores₀ old : List ℕ} {slot mask : ℕ} {buffer file : List ℕ} (h : Running f₀ round firework count starts ends stores₀ old slot mask buffer file) where
   pub mask-small : mask < 2 ^ slot
   mask-small = rw (h .counted) (mask-below (sentDuring round (decode f₀)) slot)
+
+  pub slot-fits : slot < slots → slot < length buffer
+  slot-fits more = omega (arith, filled-length (h .filled), h .filled .long)
 
   -- what is sent in the slot, by the file as it is now
   now-sent : sentDuring round (decode f₀) slot ≡ sentBy round slot (decode file .slaves)
@@ -158,12 +210,18 @@ module _ {f₀ : List ℕ} {round firework count : ℕ} {starts ends old : List 
   next-cluster : clusterBelow round (decode f₀) (slot + 1) ≡ receivedIn round slot (decode file) (sentBy round slot (decode file .slaves))
   next-cluster = below-next round (decode f₀) slot ∙ rw (← (h .after .decoded), now-sent)
 
-  module _ {n bus : ℕ} {heard : Bool} {stores after : List ℕ} (more : slot < slots) (looked : OpenAll (decode file) round slot after ends) (q : Hearing (decode file) round slot n bus heard stores) (left : length (decode file .slaves) ≤ n) where
+  module _ {n bus : ℕ} {heard : Bool} {stores after : List ℕ} (more : slot < slots) (heardAll : SlotHeard file round count slot n bus heard after ends stores) (over : count ≤ n) where
+    q : Hearing (decode file) round slot n bus heard stores
+    q = heardAll .hearing
+
+    left : length (decode file .slaves) ≤ n
+    left = omega (arith, heardAll .ready .all)
+
     next-filled : Filled (sentDuring round (decode f₀)) firework old (slot + 1) (set buffer slot bus)
     next-filled = filled-next (h .filled) more (heard-byte q left ∙ ap busByte (sym now-sent))
 
     -- nobody sent
-    pub running-silent : {mask′ : ℕ} {file′ : List ℕ} → heard ≡ false → mask′ ≡ mask → file′ ≡ file → Running f₀ round firework count after ends old (slot + 1) mask′ (set buffer slot bus) file′
+    pub running-silent : {mask′ : ℕ} {file′ : List ℕ} → heard ≡ false → mask′ ≡ mask → file′ ≡ file → Running f₀ round firework count after ends stores old (slot + 1) mask′ (set buffer slot bus) file′
     unfolding anyone
     running-silent {mask′} {file′} silent masked stays =
         let none : sentBy round slot (decode file .slaves) ≡ [] = someone-no (sentBy round slot (decode file .slaves)) (sym (heard-any q left) ∙ silent) in
@@ -173,12 +231,13 @@ module _ {f₀ : List ℕ} {round firework count : ℕ} {starts ends old : List 
           filled = next-filled;
           counted = rw masked (mask-silent (sentDuring round (decode f₀)) slot (h .counted) quiet);
           after = rw (stays, same) (h .ready .becomes);
-          ready = rw stays (ready-same (h .ready) looked);
+          ready = rw stays (ready-same (heardAll .ready));
           size = rw stays (h .size);
+          room = q .room;
         }
 
     -- someone sent, and the receivers stored
-    pub running-heard : {mask′ : ℕ} {file′ : List ℕ} → heard ≡ true → mask′ ≡ 2 ^ slot + mask → file′ ≡ storedBelow file stores bus count → Running f₀ round firework count after ends old (slot + 1) mask′ (set buffer slot bus) file′
+    pub running-heard : {mask′ : ℕ} {file′ : List ℕ} → heard ≡ true → mask′ ≡ 2 ^ slot + mask → file′ ≡ storedBelow file stores bus count → Running f₀ round firework count after ends stores old (slot + 1) mask′ (set buffer slot bus) file′
     running-heard {mask′} {file′} some masked stored =
         let all : List ℕ = sentBy round slot (decode file .slaves) in
         let loud : someone all ≡ true = sym (heard-any q left) ∙ some in
@@ -193,12 +252,13 @@ module _ {f₀ : List ℕ} {round firework count : ℕ} {starts ends old : List 
           filled = next-filled;
           counted = rw masked (mask-next (sentDuring round (decode f₀)) slot (h .counted) one);
           after = rw next-cluster holds;
-          ready = ready-next (h .ready) looked all holds;
+          ready = ready-next (heardAll .ready) all holds;
           size = ap length stored ∙ stored-length file stores bus count ∙ h .size;
+          room = q .room;
         }
 
-pub running-done : {f₀ : List ℕ} {round firework count : ℕ} {starts ends : List ℕ} (old : List ℕ) {slot mask : ℕ} {buffer file : List ℕ}
-    → Running f₀ round firework count starts ends (set old 0 firework) slot mask buffer file → slots ≤ slot → Carried (slotsEffect (decode f₀) round) firework old buffer mask file
+pub running-done : {f₀ : List ℕ} {round firework count : ℕ} {starts ends stores : List ℕ} (old : List ℕ) {slot mask : ℕ} {buffer file : List ℕ}
+    → Running f₀ round firework count starts ends stores (set old 0 firework) slot mask buffer file → slots ≤ slot → Carried (slotsEffect (decode f₀) round) firework old buffer mask file
 unfolding slotsEffect senderMask
 running-done old {slot} h left =
     let last : slot ≡ 64 = omega (arith, h .filled .most) in

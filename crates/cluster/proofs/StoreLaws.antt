@@ -10,23 +10,24 @@ use mathlib.Core.Bool.{true, cond}
 use lib.ListN.{length, getD, set, length-set}
 use lib.Dec.{eqb}
 use borrow.Author.Tests.{eq-eqb, ne-eqb, ltb-true}
-use Rattle.file.specs.Bytes.{Byte}
-use Rattle.file.specs.Order as Order
-use Rattle.file.specs.Layout.{recordSize}
-use Rattle.file.specs.Cluster.{Slave, Cluster, bytesIn, documentation}
-use Rattle.file.specs.Encode.{encode}
-use Rattle.file.specs.Legal.{Legal}
-use Rattle.file.specs.Places.{noSlave, slaveOf, filePlace, putInSlave, withSlaves, putByte, SameShape, noSlaves, sameSlave}
-use Rattle.file.specs.Accepted.{Becomes}
+use Rattle.file.specs.Rules.Bytes.{Byte}
+use Rattle.file.specs.Rules.Order as Order
+use Rattle.file.specs.Rules.Layout.{recordSize}
+use Rattle.file.specs.Rules.Cluster.{Slave, Cluster, bytesIn, documentation}
+use Rattle.file.specs.Rules.Encode.{encode}
+use Rattle.file.specs.Rules.Legal.{Legal}
+use Rattle.file.specs.Inner.Places.{noSlave, slaveOf, filePlace, putByte, SameShape, noSlaves, sameSlave}
+use Rattle.file.specs.Rules.Changes.{putInSlave, withSlaves}
+use Rattle.file.specs.Inner.Accepted.{Becomes}
 use Rattle.file.proofs.Order.{byCase, both-left, both-right}
 use Rattle.file.proofs.Shape.{shape-refl, shape-filePlaceAt}
 use Rattle.file.proofs.Stores.{store-byte}
 use Rattle.file.proofs.Kept.{legal-putByte}
 use Rattle.file.proofs.Accepted.{legal-becomes}
-use Rattle.cluster.specs.Slaves.{isUnnamed}
-use Rattle.cluster.specs.Entries.{Entry, Acting, acts, acting, bytePlace, receives}
-use Rattle.cluster.specs.Multipartner.{Place, nowhere, byteOf, within, mayStore, storePlace, storesAt, storedThere}
-use Rattle.cluster.specs.Slots.{placeIn, storedBelow}
+use Rattle.cluster.specs.Rules.Slaves.{isUnnamed}
+use Rattle.cluster.specs.Rules.Entries.{Entry, Acting, acts, acting, bytePlace, receives}
+use Rattle.cluster.specs.Rules.Multipartner.{SlaveByte, nowhere, byteOf, within, mayStore, storePlace, storesAt, storedThere}
+use Rattle.cluster.specs.Inner.Slots.{placeIn, storedBelow}
 use Rattle.cluster.proofs.Kept.{SlaveKept, storesAt-stores, stored-kept}
 
 -- ---- the loop
@@ -66,7 +67,7 @@ module _ {f places : List ℕ} {b count n : ℕ} {g : List ℕ} (h : Storing f p
 
 -- ---- where a receive stores lies within the slave's file
 
-pub data Lands (s : Slave) : Place → Type 0 where
+pub data Lands (s : Slave) : SlaveByte → Type 0 where
   stays : Lands s nowhere
   lands : {n k : ℕ} → 0x10 ≤ n → n ≤ 0x3C → recordSize ≤ k → k < length (bytesIn s n) → Lands s (byteOf n k)
 
@@ -81,7 +82,7 @@ may-land s e slot may inside =
 
 store-lands : (s : Slave) (slot : ℕ) (a : Acting) → Lands s (storePlace s slot a)
 unfolding storePlace
-store-lands s slot Acting.none = stays
+store-lands s slot Acting.noEntry = stays
 store-lands s slot (acts e) =
     byCase (Order.both (receives (e .operation)) (Order.both (mayStore e slot) (within s e slot)))
     (λ t. let rest = both-right _ _ t in rw t (may-land s e slot (both-left _ _ rest) (both-right _ _ rest)))
@@ -157,7 +158,7 @@ module _ (c : Cluster) (round slot b : ℕ) (byte : Byte b) where
 
   received-place : (n s m : ℕ) → filePlace (receivedBy c round slot b n) s m ≡ filePlace c s m
   unfolding filePlace
-  received-place n s m = sym (shape-filePlaceAt c (receivedBy c round slot b n) (received-shape n) 2 s m)
+  received-place n s m = sym (shape-filePlaceAt c (receivedBy c round slot b n) (received-shape n) _ s m)
 
   received-slave : (n : ℕ) → slaveOf (receivedBy c round slot b n) n ≡ slaveOf c n
   unfolding slaveOf receivedBy withSlaves
@@ -198,7 +199,7 @@ module _ (c : Cluster) (round slot b : ℕ) (byte : Byte b) where
         in
         rw stored (legal-becomes (receivedBy c round slot b (suc n)) legal)
 
-    store-next : {f : List ℕ} (p : Place) (n : ℕ) → n < length (c .slaves) → Lands (slaveOf c n) p → storesAt round slot (slaveOf c n) ≡ p → Becomes f (receivedBy c round slot b n)
+    store-next : {f : List ℕ} (p : SlaveByte) (n : ℕ) → n < length (c .slaves) → Lands (slaveOf c n) p → storesAt round slot (slaveOf c n) ≡ p → Becomes f (receivedBy c round slot b n)
         → Becomes (cond (eqb (placeIn c n p) 0) f (set f (placeIn c n p) b)) (receivedBy c round slot b (suc n))
     unfolding placeIn
     store-next p n l stays at h = rw (← keep-next n at) h

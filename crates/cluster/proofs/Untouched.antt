@@ -6,18 +6,19 @@ use mathlib.Core.Path.{_≡_, refl, sym, ap, _∙_}
 use mathlib.Core.Logic.{_≢_}
 use mathlib.Core.List.{List, [], _∷_, map}
 use lib.ListN.{getD, List·getD-map}
-use Rattle.file.specs.Layout.{recordSize}
-use Rattle.file.specs.Cluster.{Slave, Cluster, bytesIn, configuration, newLogicalName}
-use Rattle.file.specs.Places.{noSlave, slaveOf, putInSlave, withSlaves, withEpoch, withPending}
+use Rattle.file.specs.Rules.Layout.{recordSize}
+use Rattle.file.specs.Rules.Cluster.{Slave, Cluster, bytesIn, configuration, newLogicalName}
+use Rattle.file.specs.Inner.Places.{noSlave, slaveOf}
+use Rattle.file.specs.Rules.Changes.{putInSlave, withSlaves, withEpoch, withPending}
 use Rattle.file.proofs.Order.{byCase}
 use Rattle.file.proofs.Puts.{inSlave-other}
-use Rattle.frame.specs.Fireworks.{Round, multipartner, msd, msa, none}
-use Rattle.frame.specs.Frames.{between}
-use Rattle.cluster.specs.Bus.{busByte, slots}
-use Rattle.cluster.specs.Slaves.{withAddress, epochRaised, Operation, nothing, reading, writing, comparing, baptizing, pendingOperation, takesWrite, takesName, named, replaced, slaveAfter, slavesAfter}
-use Rattle.cluster.specs.Multipartner.{storesAt, storedThere, receivedIn, sentIn, clusterBelow}
-use Rattle.cluster.specs.Grounds.{roundBy}
-use Rattle.cluster.specs.Round.{addressEffect, dataEffect, multipartnerEffect, effectOf, frameOn}
+use Rattle.frame.specs.Rules.Fireworks.{Round, multipartner, msd, msa, noRound}
+use Rattle.frame.specs.Rules.Frames.{between}
+use Rattle.cluster.specs.Rules.Bus.{busByte, slots}
+use Rattle.cluster.specs.Rules.Slaves.{withAddress, epochRaised, Duty, nothing, reading, writing, comparing, baptizing, pendingDuty, takesWrite, takesName, named, replaced, slaveAfter, slavesAfter}
+use Rattle.cluster.specs.Rules.Multipartner.{storesAt, storedThere, receivedIn, sentIn, clusterBelow}
+use Rattle.cluster.specs.Rules.Grounds.{roundBy}
+use Rattle.cluster.specs.Rules.Round.{addressEffect, dataEffect, multipartnerEffect, effectOf, frameOn}
 use Rattle.cluster.proofs.Kept.{storesAt-stores, stored-other}
 
 -- the bytes of file n, slave by slave
@@ -59,7 +60,7 @@ below-other round c (suc k) n out =
 -- ---- the data part of a master-slave round
 
 -- the operation changes no byte of file n
-pub data Leaves (n : ℕ) : Operation → Type 0 where
+pub data Leaves (n : ℕ) : Duty → Type 0 where
   by-nothing : Leaves n nothing
   by-read : {name m r : ℕ} → Leaves n (reading name m r)
   by-write : {name m r : ℕ} → n ≢ m → Leaves n (writing name m r)
@@ -72,7 +73,7 @@ replaced-other s m k [] n differ = refl
 replaced-other s m k (b ∷ bs) n differ =
     replaced-other (putInSlave s m k b) m (suc k) bs n differ ∙ inSlave-other m k b s n differ
 
-pub slaveAfter-other : {n : ℕ} {o : Operation} → Leaves n o → (bytes : List ℕ) (s : Slave) → bytesIn (slaveAfter o bytes s) n ≡ bytesIn s n
+pub slaveAfter-other : {n : ℕ} {o : Duty} → Leaves n o → (bytes : List ℕ) (s : Slave) → bytesIn (slaveAfter o bytes s) n ≡ bytesIn s n
 unfolding slaveAfter named
 slaveAfter-other by-nothing bytes s = refl
 slaveAfter-other by-read bytes s = refl
@@ -82,21 +83,21 @@ slaveAfter-other by-compare bytes s = refl
 slaveAfter-other {n} (by-baptize {name} differ) bytes s =
     byCase (takesName name s) (λ e. rw e (inSlave-other configuration (recordSize + 3) (newLogicalName s) s n differ)) (λ e. rw e)
 
-pub after-other : {n : ℕ} {o : Operation} → Leaves n o → (bytes : List ℕ) (c : Cluster) → filesOf n (slavesAfter o bytes c .slaves) ≡ filesOf n (c .slaves)
+pub after-other : {n : ℕ} {o : Duty} → Leaves n o → (bytes : List ℕ) (c : Cluster) → filesOf n (slavesAfter o bytes c .slaves) ≡ filesOf n (c .slaves)
 unfolding slavesAfter withSlaves
 after-other {n} {o} leaves bytes c = filesOf-map n (slaveAfter o bytes) (slaveAfter-other leaves bytes) (c .slaves)
 
 -- ---- any round
 
-effect-other : (n : ℕ) → Unstored n → (c : Cluster) (round : Round) → (round ≡ msd → Leaves n (pendingOperation c)) → (frame : List ℕ) → filesOf n (effectOf c round frame .after .slaves) ≡ filesOf n (c .slaves)
+effect-other : (n : ℕ) → Unstored n → (c : Cluster) (round : Round) → (round ≡ msd → Leaves n (pendingDuty c)) → (frame : List ℕ) → filesOf n (effectOf c round frame .after .slaves) ≡ filesOf n (c .slaves)
 unfolding effectOf addressEffect withAddress withPending dataEffect multipartnerEffect epochRaised withEpoch
 effect-other n out c (multipartner r) leaves frame = below-other r (epochRaised c) slots n out
 effect-other n out c msd leaves frame = after-other (leaves refl) (between frame) (epochRaised c)
 effect-other n out c msa leaves frame = refl
-effect-other n out c none leaves frame = refl
+effect-other n out c noRound leaves frame = refl
 
 -- a frame leaves file n, one outside 0x10 to 0x3C, in every slave, unless it is an MSD whose pending operation does not: so every
 -- frame leaves the configuration but the data part of a write to it or of an execute of it
-pub frame-other : (n : ℕ) → Unstored n → (c : Cluster) (frame : List ℕ) → (roundBy frame ≡ msd → Leaves n (pendingOperation c)) → filesOf n (frameOn c frame .after .slaves) ≡ filesOf n (c .slaves)
+pub frame-other : (n : ℕ) → Unstored n → (c : Cluster) (frame : List ℕ) → (roundBy frame ≡ msd → Leaves n (pendingDuty c)) → filesOf n (frameOn c frame .after .slaves) ≡ filesOf n (c .slaves)
 unfolding frameOn
 frame-other n out c frame leaves = effect-other n out c (roundBy frame) leaves frame

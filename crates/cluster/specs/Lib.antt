@@ -1,11 +1,4 @@
--- What a reader must believe of a round on a cluster, in document 01's order; then the code's answers in these terms.
-pub mod Bus
-pub mod Slaves
-pub mod Entries
-pub mod Multipartner
-pub mod Grounds
-pub mod Round
-pub mod Carried
-pub mod EntryForm
-pub mod Slots
-pub mod Answers
+-- Rules: what a reader must believe of a round on a cluster. Inner: words of the contracts between functions and maps of the code's
+-- types.
+pub mod Rules
+pub mod Inner

@@ -1,9 +1,11 @@
 // A round file's entries, the round descriptor list of 002.
 ghost use mathlib.Core.Path.{_≡_};
 ghost use Prim.Native.Nat.{_+_, _≤_, _<_};
-ghost use lib.ListN.{length, getD};
-ghost use Rattle.cluster.specs.Entries.{entryOf, ends, covers, bytePlace};
-ghost use Rattle.cluster.specs.EntryForm.{OperationIs, codeOf, entryFrom, evaluated, Reaches, actionBy, actionFrom};
+ghost use lib.ListN.{length};
+ghost use Rattle.file.specs.Rules.Layout.{recordSize};
+ghost use Rattle.cluster.specs.Rules.Entries.{entryOf, entryThere, ends, covers, bytePlace};
+ghost use Rattle.cluster.specs.Inner.EntryForm.{operationCodes, OperationIs, codeOf, entryFrom, evaluated, Reaches, actionBy, actionFrom};
+use file::layout::RECORD_SIZE;
 use file::types::FileNumber;
 use file::types::RecordNumber;
 
@@ -27,7 +29,7 @@ pub enum EntryOperation {
     SendMux8High(u8),
 }
 
-// Where an entry's first byte lies: in a record, align bytes behind its start.
+// Where an entry's first byte lies: in a record, align bytes after its start.
 pub struct EntryAddress {
     pub file: FileNumber,
     pub record: RecordNumber,
@@ -42,29 +44,68 @@ pub struct Entry {
     pub slot: usize,
 }
 
-fn operation_of(code: u8, multiplex: u8) -> EntryOperation
-    requires { ⌜ code < 16 ⌝ }
+// The codes of 002, table 4.
+const RECEIVE: u8 = 0;
+
+const SEND: u8 = 1;
+
+const RECEIVE_SYNC: u8 = 2;
+
+const EXECUTE: u8 = 3;
+
+const RECEIVE_SPEEDUP: u8 = 4;
+
+const SEND_SPEEDUP: u8 = 5;
+
+const END_OF_ROUND: u8 = 6;
+
+const EXECUTE_AND_END: u8 = 7;
+
+const RECEIVE_MUX_4: u8 = 8;
+
+const SEND_MUX_4: u8 = 9;
+
+const RECEIVE_MUX_8: u8 = 10;
+
+const SEND_MUX_8: u8 = 11;
+
+const RECEIVE_SPEEDUP_MUX_4: u8 = 12;
+
+const SEND_SPEEDUP_MUX_4: u8 = 13;
+
+const RECEIVE_MUX_8_HIGH: u8 = 14;
+
+// The one code that is left is 15, SendMux8High.
+fn entry_operation(code: u8, multiplex: u8) -> EntryOperation
+    requires { ⌜ code < operationCodes ⌝ }
     ensures { λ r. ⌜ OperationIs r code multiplex ⌝ }
 {
     match code {
-        0 => EntryOperation::Receive,
-        1 => EntryOperation::Send,
-        2 => EntryOperation::ReceiveSync,
-        3 => EntryOperation::Execute,
-        4 => EntryOperation::ReceiveSpeedup,
-        5 => EntryOperation::SendSpeedup,
-        6 => EntryOperation::EndOfRound,
-        7 => EntryOperation::ExecuteAndEnd,
-        8 => EntryOperation::ReceiveMux4(multiplex),
-        9 => EntryOperation::SendMux4(multiplex),
-        10 => EntryOperation::ReceiveMux8(multiplex),
-        11 => EntryOperation::SendMux8(multiplex),
-        12 => EntryOperation::ReceiveSpeedupMux4(multiplex),
-        13 => EntryOperation::SendSpeedupMux4(multiplex),
-        14 => EntryOperation::ReceiveMux8High(multiplex),
+        RECEIVE => EntryOperation::Receive,
+        SEND => EntryOperation::Send,
+        RECEIVE_SYNC => EntryOperation::ReceiveSync,
+        EXECUTE => EntryOperation::Execute,
+        RECEIVE_SPEEDUP => EntryOperation::ReceiveSpeedup,
+        SEND_SPEEDUP => EntryOperation::SendSpeedup,
+        END_OF_ROUND => EntryOperation::EndOfRound,
+        EXECUTE_AND_END => EntryOperation::ExecuteAndEnd,
+        RECEIVE_MUX_4 => EntryOperation::ReceiveMux4(multiplex),
+        SEND_MUX_4 => EntryOperation::SendMux4(multiplex),
+        RECEIVE_MUX_8 => EntryOperation::ReceiveMux8(multiplex),
+        SEND_MUX_8 => EntryOperation::SendMux8(multiplex),
+        RECEIVE_SPEEDUP_MUX_4 => EntryOperation::ReceiveSpeedupMux4(multiplex),
+        SEND_SPEEDUP_MUX_4 => EntryOperation::SendSpeedupMux4(multiplex),
+        RECEIVE_MUX_8_HIGH => EntryOperation::ReceiveMux8High(multiplex),
         _ => EntryOperation::SendMux8High(multiplex),
     }
 }
+
+// How many values the low bits of an entry's bytes 0, 2 and 3 have.
+const ALIGN_VALUES: u8 = 4;
+
+const LENGTH_VALUES: u8 = 16;
+
+const START_VALUES: u8 = 64;
 
 // The entry of a record's four bytes.
 pub fn entry_of(b0: u8, b1: u8, b2: u8, b3: u8) -> Entry
@@ -72,20 +113,20 @@ pub fn entry_of(b0: u8, b1: u8, b2: u8, b3: u8) -> Entry
 {
     Entry {
         address: EntryAddress {
-            file: FileNumber(b0 / 4),
+            file: FileNumber(b0 / ALIGN_VALUES),
             record: RecordNumber(b1),
-            align: (b0 % 4) as usize,
+            align: (b0 % ALIGN_VALUES) as usize,
         },
-        operation: operation_of(b2 / 16, b3 / 64),
-        length: (b2 % 16) as usize + 1,
-        slot: (b3 % 64) as usize,
+        operation: entry_operation(b2 / LENGTH_VALUES, b3 / START_VALUES),
+        length: (b2 % LENGTH_VALUES) as usize + 1,
+        slot: (b3 % START_VALUES) as usize,
     }
 }
 
 // The entry at a place of the file.
 pub fn entry_at(file: &[u8], at: usize) -> Entry
-    requires { ⌜ at + 4 ≤ length (now file) ⌝ }
-    ensures { λ r. ⌜ entryFrom r ≡ evaluated (entryOf (getD (now (file .entry)) at 0) (getD (now (file .entry)) (at + 1) 0) (getD (now (file .entry)) (at + 2) 0) (getD (now (file .entry)) (at + 3) 0)) ⌝ }
+    requires { ⌜ at + recordSize ≤ length (now file) ⌝ }
+    ensures { λ r. ⌜ entryFrom r ≡ evaluated (entryThere (now (file .entry)) at) ⌝ }
 {
     entry_of(file[at], file[at + 1], file[at + 2], file[at + 3])
 }
@@ -94,7 +135,7 @@ pub fn entry_at(file: &[u8], at: usize) -> Entry
 pub enum EntryAction {
     Receives,
     Sends,
-    // The entry and those behind it cover no slot.
+    // The entry and those after it cover no slot.
     Ends,
     Rests,
 }
@@ -150,5 +191,5 @@ pub fn byte_place(entry: Entry, slot: usize) -> usize
     ensures { λ r. ⌜ r ≡ bytePlace (entryFrom entry) slot ⌝ }
 {
     let record = entry.address.record.0 as usize;
-    4 * record + entry.address.align + (slot - entry.slot)
+    RECORD_SIZE * record + entry.address.align + (slot - entry.slot)
 }

@@ -2,19 +2,22 @@
 ghost use mathlib.Core.Path.{_≡_};
 ghost use Prim.Native.Nat.{_+_, _-_, _/_, _≤_, _<_};
 ghost use lib.ListN.{length};
-ghost use Rattle.file.specs.Order.{either};
-ghost use Rattle.file.specs.Typed.{fileIn};
-ghost use Rattle.file.specs.Layout.{recordSize};
-ghost use Rattle.file.specs.Cluster.{configuration};
-ghost use Rattle.file.specs.Decode.{decode};
-ghost use Rattle.file.specs.Accepted.{Becomes, KeptAt};
-ghost use Rattle.cluster.specs.Bus.{slots, joined};
-ghost use Rattle.cluster.specs.Entries.{Acting};
-ghost use Rattle.cluster.specs.Multipartner.{mayStore};
-ghost use Rattle.cluster.specs.EntryForm.{entryFrom, Reaches};
-ghost use Rattle.cluster.specs.Carried.{Carried, AllKept};
-ghost use Rattle.cluster.specs.Round.{multipartnerEffect};
-ghost use Rattle.cluster.specs.Slots.{slotsEffect, RoundFileIs, RoundFilesAre, EntriesWithin, openFrom, findByte, foundByte, TurnIs, turnSends, turnStores, isSender, storedBelow, StoresWithin};
+ghost use Rattle.file.specs.Rules.Order.{either};
+ghost use Rattle.file.specs.Inner.Typed.{fileIn};
+ghost use Rattle.file.specs.Rules.Layout.{recordSize};
+ghost use Rattle.file.specs.Rules.Decode.{decode};
+ghost use Rattle.file.specs.Inner.Accepted.{AcceptedFile, slaveCount, Placed};
+ghost use Rattle.cluster.specs.Rules.Bus.{slots, joined};
+ghost use Rattle.cluster.specs.Rules.Entries.{Acting};
+ghost use Rattle.cluster.specs.Rules.Multipartner.{firstStored, mayStore};
+ghost use Rattle.cluster.specs.Inner.EntryForm.{entryFrom, Reaches};
+ghost use Rattle.cluster.specs.Inner.Carried.{Carried};
+ghost use Rattle.cluster.specs.Rules.Round.{multipartnerEffect};
+ghost use Rattle.cluster.specs.Inner.Slots.{slotsEffect, RoundFileIs, RoundFilesAre, EntriesWithin, openFrom, findByte, foundByte, SlotActIs, actSends, actStores, isSender, storedBelow, StoresWithin};
+use crate::answer::FIREWORK_SLOT;
+use crate::answer::FIRST_SLOT;
+use crate::answer::NOBODY;
+use crate::answer::SILENT_BYTE;
 use crate::answer::SLOTS;
 use crate::answer::with_sender;
 use crate::entry::Entry;
@@ -24,10 +27,12 @@ use crate::entry::byte_place;
 use crate::entry::entry_at;
 use crate::entry::is_covering;
 use crate::entry::is_end;
-use crate::msd::raise_epoch;
+use crate::epoch::raise_epoch;
+use file::layout::RECORD_SIZE;
 use file::readers::FilePlace;
 use file::readers::find_file;
 use file::readers::logical_name;
+use file::readers::slave_count;
 use file::types::FileNumber;
 use file::types::LogicalName;
 use file::types::MOST_SLAVES;
@@ -47,16 +52,11 @@ pub struct RoundFiles {
     pub ends: [usize; MOST_SLAVES],
 }
 
-fn round_file(
-    file: &[u8],
-    configurations: &SlavePlaces,
-    slave: usize,
-    round: FileNumber,
-) -> RoundFile
-    requires { ⌜ Becomes (now file) (decode (now file)) × KeptAt (decode (now file)) configuration (now configurations) slave ⌝ }
+fn round_file(file: &[u8], places: &SlavePlaces, slave: usize, round: FileNumber) -> RoundFile
+    requires { ⌜ Placed (now file) (now places) × (slave < slaveCount (now file)) ⌝ }
     ensures { λ r. ⌜ RoundFileIs (decode (now (file .entry))) (fileIn round) slave (r .start) (r .end) ⌝ }
 {
-    let name = logical_name(file, configurations, slave);
+    let name = logical_name(file, places, slave);
     if name.0 == LogicalName::UNNAMED.0 {
         return NO_ROUND_FILE;
     }
@@ -65,25 +65,21 @@ fn round_file(
         return NO_ROUND_FILE;
     };
     RoundFile {
-        start: bytes.place + 4,
+        start: bytes.place + RECORD_SIZE,
         end: bytes.place + bytes.size,
     }
 }
 
-fn round_files(
-    file: &[u8],
-    configurations: &SlavePlaces,
-    count: usize,
-    round: FileNumber,
-) -> RoundFiles
-    requires { ⌜ Becomes (now file) (decode (now file)) × AllKept (decode (now file)) configuration (now configurations) count ⌝ }
+fn round_files(file: &[u8], places: &SlavePlaces, round: FileNumber) -> RoundFiles
+    requires { ⌜ Placed (now file) (now places) ⌝ }
     ensures { λ r. ⌜ RoundFilesAre (decode (now (file .entry))) (fileIn round) (r .starts) (r .ends) ⌝ }
 {
     let mut starts = [0usize; MOST_SLAVES];
     let mut ends = [0usize; MOST_SLAVES];
+    let count = slave_count(file);
     let mut slave = 0;
     while slave < count {
-        let found = round_file(file, configurations, slave, round);
+        let found = round_file(file, places, slave, round);
         starts[slave] = found.start;
         ends[slave] = found.end;
         slave = slave + 1;
@@ -91,7 +87,7 @@ fn round_files(
     RoundFiles { starts, ends }
 }
 
-// Where the search of a slot begins: at the first entry that covers this slot or one behind it, or ends the round. Slots rise, so
+// Where the search of a slot begins: at the first entry that covers this slot or a later one, or ends the round. Slots rise, so
 // those in front of it never act again.
 fn open_from(file: &[u8], start: usize, end: usize, slot: usize) -> usize
     requires { ⌜ EntriesWithin (now file) start end ⌝ }
@@ -106,7 +102,7 @@ fn open_from(file: &[u8], start: usize, end: usize, slot: usize) -> usize
         if is_end(entry) {
             return at;
         }
-        at = at + 4;
+        at = at + RECORD_SIZE;
     }
     at
 }
@@ -119,7 +115,7 @@ pub enum BytePlace {
 
 // The byte that a slot is about, for an entry that covers it.
 fn find_byte(file: &[u8], slave: usize, entry: Entry, slot: usize) -> BytePlace
-    requires { ⌜ Becomes (now file) (decode (now file)) × (slave < length (decode (now file) .slaves)) × Reaches entry slot ⌝ }
+    requires { ⌜ AcceptedFile (now file) × (slave < slaveCount (now file)) × Reaches entry slot ⌝ }
     ensures { λ r. ⌜ foundByte r ≡ findByte (decode (now (file .entry))) slave (entryFrom entry) slot ⌝ }
 {
     let number = entry.address.file;
@@ -134,99 +130,105 @@ fn find_byte(file: &[u8], slave: usize, entry: Entry, slot: usize) -> BytePlace
     BytePlace::At(bytes.place + byte)
 }
 
-// A receive stores only in files 0x10 to 0x3C, outside record 0x00.
+// "a receive stores only in files 0x10 to 0x3C, outside record 0x00".
+const FIRST_STORED: FileNumber = FileNumber(0x10);
+
+const LAST_STORED: FileNumber = FileNumber(0x3C);
+
 fn may_store(entry: Entry, slot: usize) -> bool
     requires { ⌜ Reaches entry slot ⌝ }
     ensures { λ r. ⌜ r ≡ mayStore (entryFrom entry) slot ⌝ }
 {
-    if entry.address.file.0 < 0x10 {
+    if entry.address.file.0 < FIRST_STORED.0 {
         return false;
     }
-    if 0x3C < entry.address.file.0 {
+    if LAST_STORED.0 < entry.address.file.0 {
         return false;
     }
-    4 <= byte_place(entry, slot)
+    RECORD_SIZE <= byte_place(entry, slot)
 }
 
 // What a slave does in a slot: it sends a byte, stores the slot's byte at a place of the file, or neither.
-pub enum Turn {
+pub enum SlotAct {
     Sends(u8),
     Stores(usize),
     Rests,
 }
 
 // What the acting entry makes a slave do.
-fn turn_of(file: &[u8], slave: usize, entry: Entry, slot: usize) -> Turn
-    requires { ⌜ Becomes (now file) (decode (now file)) × (slave < length (decode (now file) .slaves)) × Reaches entry slot ⌝ }
-    ensures { λ r. ⌜ TurnIs (decode (now (file .entry))) slave slot (Acting.acts (entryFrom entry)) r ⌝ }
+fn slot_act(file: &[u8], slave: usize, entry: Entry, slot: usize) -> SlotAct
+    requires { ⌜ AcceptedFile (now file) × (slave < slaveCount (now file)) × Reaches entry slot ⌝ }
+    ensures { λ r. ⌜ SlotActIs (decode (now (file .entry))) slave slot (Acting.acts (entryFrom entry)) r ⌝ }
 {
     let operation = entry.operation;
     let action = action_of(operation);
     match action {
         EntryAction::Receives => {
             if !may_store(entry, slot) {
-                return Turn::Rests;
+                return SlotAct::Rests;
             }
             let found = find_byte(file, slave, entry, slot);
             match found {
-                BytePlace::At(place) => Turn::Stores(place),
-                BytePlace::Outside => Turn::Rests,
+                BytePlace::At(place) => SlotAct::Stores(place),
+                BytePlace::Outside => SlotAct::Rests,
             }
         }
         EntryAction::Sends => {
             let found = find_byte(file, slave, entry, slot);
             match found {
-                BytePlace::At(place) => Turn::Sends(file[place]),
-                BytePlace::Outside => Turn::Rests,
+                BytePlace::At(place) => SlotAct::Sends(file[place]),
+                BytePlace::Outside => SlotAct::Rests,
             }
         }
-        EntryAction::Ends => Turn::Rests,
-        EntryAction::Rests => Turn::Rests,
+        EntryAction::Ends => SlotAct::Rests,
+        EntryAction::Rests => SlotAct::Rests,
     }
 }
 
 // The bus byte with what a slave sends.
-fn bus_with(bus: u8, turn: Turn) -> u8
-    ensures { λ r. ⌜ r ≡ joined bus (turnSends turn) ⌝ }
+fn bus_with(bus: u8, act: SlotAct) -> u8
+    ensures { λ r. ⌜ r ≡ joined bus (actSends act) ⌝ }
 {
-    match turn {
-        Turn::Sends(byte) => bus & byte,
-        Turn::Stores(_) => bus,
-        Turn::Rests => bus,
+    match act {
+        SlotAct::Sends(byte) => bus & byte,
+        SlotAct::Stores(_) => bus,
+        SlotAct::Rests => bus,
     }
 }
 
 // Whether someone sent, with what a slave does.
-fn heard_with(heard: bool, turn: Turn) -> bool
-    ensures { λ r. ⌜ r ≡ either heard (isSender turn) ⌝ }
+fn heard_with(heard: bool, act: SlotAct) -> bool
+    ensures { λ r. ⌜ r ≡ either heard (isSender act) ⌝ }
 {
-    match turn {
-        Turn::Sends(_) => true,
-        Turn::Stores(_) => heard,
-        Turn::Rests => heard,
+    match act {
+        SlotAct::Sends(_) => true,
+        SlotAct::Stores(_) => heard,
+        SlotAct::Rests => heard,
     }
 }
 
-// Where a slave stores, or 0, where no file lies.
-fn store_place(turn: Turn) -> usize
-    ensures { λ r. ⌜ r ≡ turnStores turn ⌝ }
+// Where a slave stores, or that it does not: at the file's first byte no slave's file lies.
+const NO_PLACE: usize = 0;
+
+fn store_place(act: SlotAct) -> usize
+    ensures { λ r. ⌜ r ≡ actStores act ⌝ }
 {
-    match turn {
-        Turn::Sends(_) => 0,
-        Turn::Stores(place) => place,
-        Turn::Rests => 0,
+    match act {
+        SlotAct::Sends(_) => NO_PLACE,
+        SlotAct::Stores(place) => place,
+        SlotAct::Rests => NO_PLACE,
     }
 }
 
 // The slot's byte stored by every slave that receives it.
-fn store(file: &mut [u8], places: &[usize; MOST_SLAVES], count: usize, byte: u8)
-    requires { ⌜ StoresWithin (now file) (now places) count ⌝ }
-    ensures { λ _. ⌜ now (file .exit) ≡ storedBelow (now (file .entry)) (now (places .entry)) byte count ⌝ }
+fn store(file: &mut [u8], stores: &[usize; MOST_SLAVES], count: usize, byte: u8)
+    requires { ⌜ StoresWithin (now file) (now stores) count ⌝ }
+    ensures { λ _. ⌜ now (file .exit) ≡ storedBelow (now (file .entry)) (now (stores .entry)) byte count ⌝ }
 {
     let mut slave = 0;
     while slave < count {
-        let place = places[slave];
-        if place != 0 {
+        let place = stores[slave];
+        if place != NO_PLACE {
             file[place] = byte;
         }
         slave = slave + 1;
@@ -237,28 +239,28 @@ fn store(file: &mut [u8], places: &[usize; MOST_SLAVES], count: usize, byte: u8)
 // in a round file or in 0x08. From slot to slot `starts` leaves out the entries that cannot act again.
 fn run_slots(
     file: &mut [u8],
-    configurations: &SlavePlaces,
-    count: usize,
+    places: &SlavePlaces,
     round: u8,
     firework: u8,
     buffer: &mut [u8],
 ) -> u64
-    requires { ⌜ Becomes (now file) (decode (now file)) × AllKept (decode (now file)) configuration (now configurations) count × (round < 0x10) × (slots ≤ length (now buffer)) ⌝ }
+    requires { ⌜ Placed (now file) (now places) × (round < firstStored) × (slots ≤ length (now buffer)) ⌝ }
     ensures { λ r. ⌜ Carried (slotsEffect (decode (now (file .entry))) round) firework (now (buffer .entry)) (now (buffer .exit)) r (now (file .exit)) ⌝ }
 {
-    let files = round_files(file, configurations, count, FileNumber(round));
+    let count = slave_count(file);
+    let files = round_files(file, places, FileNumber(round));
     let mut starts = files.starts;
     let ends = files.ends;
-    let mut mask = 0u64;
-    buffer[0] = firework;
-    let mut slot = 1;
+    let mut stores = [NO_PLACE; MOST_SLAVES];
+    let mut mask = NOBODY;
+    buffer[FIREWORK_SLOT] = firework;
+    let mut slot = FIRST_SLOT;
     'slots: while slot < SLOTS {
-        let mut bus = 0xFFu8;
+        let mut bus = SILENT_BYTE;
         let mut heard = false;
-        let mut stores = [0usize; MOST_SLAVES];
         let mut slave = 0;
         'slaves: while slave < count {
-            let mut turn = Turn::Rests;
+            let mut act = SlotAct::Rests;
             let end = ends[slave];
             let mut at = open_from(file, starts[slave], end, slot);
             starts[slave] = at;
@@ -268,14 +270,14 @@ fn run_slots(
                     break 'entries;
                 }
                 if is_covering(entry, slot) {
-                    turn = turn_of(file, slave, entry, slot);
+                    act = slot_act(file, slave, entry, slot);
                     break 'entries;
                 }
-                at = at + 4;
+                at = at + RECORD_SIZE;
             }
-            bus = bus_with(bus, turn);
-            heard = heard_with(heard, turn);
-            stores[slave] = store_place(turn);
+            bus = bus_with(bus, act);
+            heard = heard_with(heard, act);
+            stores[slave] = store_place(act);
             slave = slave + 1;
         }
         if heard {
@@ -291,15 +293,14 @@ fn run_slots(
 // One multipartner frame: the round of that number. The mask of the slots in which someone sent.
 pub fn carry_multipartner(
     file: &mut [u8],
-    configurations: &SlavePlaces,
-    count: usize,
+    places: &SlavePlaces,
     round: u8,
     firework: u8,
     buffer: &mut [u8],
 ) -> u64
-    requires { ⌜ Becomes (now file) (decode (now file)) × AllKept (decode (now file)) configuration (now configurations) count × (round < 0x10) × (slots ≤ length (now buffer)) ⌝ }
+    requires { ⌜ Placed (now file) (now places) × (round < firstStored) × (slots ≤ length (now buffer)) ⌝ }
     ensures { λ r. ⌜ Carried (multipartnerEffect (decode (now (file .entry))) round) firework (now (buffer .entry)) (now (buffer .exit)) r (now (file .exit)) ⌝ }
 {
     raise_epoch(file);
-    run_slots(file, configurations, count, round, firework, buffer)
+    run_slots(file, places, round, firework, buffer)
 }

@@ -1,45 +1,71 @@
-// A whole master-slave round on a file that is known to be accepted: its address and then its data.
+// One frame on a cluster file: grounds 10 to 14 on an accepted file, and the call from outside, which checks the file first.
 ghost use mathlib.Core.Path.{_≡_};
-ghost use Prim.Native.Nat.{_+_, _*_, _≤_, _<_};
+ghost use Prim.Native.Nat.{_≤_};
 ghost use lib.ListN.{length};
-ghost use Rattle.file.specs.Cluster.{configuration, documentation, operationOf, writeOperation};
-ghost use Rattle.file.specs.Typed.{fileIn, recordIn, nameIn};
-ghost use Rattle.file.specs.Decode.{decode};
-ghost use Rattle.file.specs.Legal.{LegalPending};
-ghost use Rattle.file.specs.Accepted.{Becomes};
-ghost use Rattle.frame.specs.Fireworks.{dataFirework};
-ghost use Rattle.frame.specs.Frames.{between};
-ghost use Rattle.cluster.specs.Bus.{slots};
-ghost use Rattle.cluster.specs.Slaves.{withAddress};
-ghost use Rattle.cluster.specs.Round.{dataEffect};
-ghost use Rattle.cluster.specs.Carried.{AllKept, Carried};
-use crate::msd::carry_data;
-use file::types::FileNumber;
-use file::types::LogicalName;
-use file::types::RecordNumber;
+ghost use Rattle.file.specs.Rules.Decode.{decode};
+ghost use Rattle.file.specs.Inner.Accepted.{Placed};
+ghost use Rattle.cluster.specs.Rules.Bus.{slots};
+ghost use Rattle.cluster.specs.Rules.Round.{roundOn};
+ghost use Rattle.cluster.specs.Inner.Carried.{Exchanged};
+ghost use Rattle.cluster.specs.Inner.Answers.{answerOf};
+use crate::answer::RoundAnswer;
+use crate::answer::SLOTS;
+use crate::msa::take_address;
+use crate::msd::FIREWORK_SIZE;
+use crate::msd::take_data;
+use crate::multipartner::carry_multipartner;
+use file::survey::FileAnswer;
+use file::survey::survey;
+use file::types::PLACES;
+use file::types::Refusal;
 use file::types::SlavePlaces;
-use file::writers::set_epoch;
-use file::writers::set_pending;
-use frame::types::Operation;
+use frame::firework::Firework;
+use frame::firework::firework_of;
+use frame::frames::FIREWORK_PLACE;
 
-// The operation becomes pending and is carried out, with the data of the frame where it is a write. The mask of the data part.
-pub fn master_slave(
+// One frame of any bytes on a file that is known to be accepted, with the places that its survey handed back.
+pub fn one_frame(
     file: &mut [u8],
-    configurations: &SlavePlaces,
-    documentations: &SlavePlaces,
-    count: usize,
-    epoch: u8,
-    name: LogicalName,
-    number: FileNumber,
-    operation: Operation,
-    record: RecordNumber,
+    places: &SlavePlaces,
     frame: &[u8],
     buffer: &mut [u8],
-) -> u64
-    requires { ⌜ Becomes (now file) (decode (now file)) × AllKept (decode (now file)) configuration (now configurations) count × AllKept (decode (now file)) documentation (now documentations) count × LegalPending (withAddress (decode (now file)) epoch (nameIn name) (4 * fileIn number + operation .0) (recordIn «record»)) × (operationOf (4 * fileIn number + operation .0) ≡ writeOperation → 4 < length (now frame)) × (slots ≤ length (now buffer)) ⌝ }
-    ensures { λ r. ⌜ Carried (dataEffect (withAddress (decode (now (file .entry))) epoch (nameIn name) (4 * fileIn number + operation .0) (recordIn «record»)) (between (now (frame .entry)))) dataFirework (now (buffer .entry)) (now (buffer .exit)) r (now (file .exit)) ⌝ }
+) -> RoundAnswer
+    requires { ⌜ Placed (now file) (now places) × (slots ≤ length (now buffer)) ⌝ }
+    ensures { λ r. ⌜ Exchanged (decode (now (file .entry))) (now (frame .entry)) (now (buffer .entry)) (now (buffer .exit)) (answerOf r) (now (file .exit)) ⌝ }
 {
-    set_epoch(file, epoch);
-    set_pending(file, name, number, operation.0, record);
-    carry_data(file, configurations, documentations, count, frame, buffer)
+    if frame.len() == 0 {
+        return RoundAnswer::Refused(Refusal::FIREWORK);
+    }
+    let first = frame[FIREWORK_PLACE];
+    let firework = firework_of(first);
+    match firework {
+        Firework::None => RoundAnswer::Refused(Refusal::FIREWORK),
+        Firework::Address => take_address(file, frame, buffer),
+        Firework::Data => take_data(file, places, frame, buffer),
+        Firework::Multipartner(round) => {
+            if frame.len() != FIREWORK_SIZE {
+                return RoundAnswer::Refused(Refusal::FRAME_LENGTH);
+            }
+            let mask = carry_multipartner(file, places, round, first, buffer);
+            RoundAnswer::Carried(mask)
+        }
+    }
+}
+
+// One frame on a file: refused by its number, with nothing altered, or carried out, with the mask of the slots in which someone
+// sent.
+pub fn round(file: &mut [u8], frame: &[u8], buffer: &mut [u8]) -> RoundAnswer
+    ensures { λ r. ⌜ (answerOf r, now (buffer .exit), now (file .exit)) ≡ roundOn (now (file .entry)) (now (frame .entry)) (now (buffer .entry)) ⌝ }
+{
+    let mut places = [0u16; PLACES];
+    let surveyed = survey(file, &mut places);
+    match surveyed {
+        FileAnswer::Refused(why) => RoundAnswer::Refused(why),
+        FileAnswer::Accepted => {
+            if buffer.len() < SLOTS {
+                return RoundAnswer::Refused(Refusal::BUFFER);
+            }
+            one_frame(file, &places, frame, buffer)
+        }
+    }
 }

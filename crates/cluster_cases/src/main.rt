@@ -1,146 +1,68 @@
-// Frames on cluster files against vectors of an independent model. A line of the input is `round FILE FRAME LENGTH`, the bytes in
-// hexadecimal digits, - where there are none, and the answer buffer's length in two decimal digits; the buffer holds EE throughout.
-// Behind the line stand the number of the answer, 0 where the frame is carried out, the mask, the file and the buffer afterwards.
-// A line that begins with # names a group.
-ghost use Prim.Native.Nat.{_≤_, _<_};
-ghost use lib.ListN.{length};
-ghost use Rattle.io.specs.Counts.{Counts};
+// Frames on cluster files against vectors of an independent model. A line of the input is `round FILE FRAME LENGTH`, LENGTH
+// that of the answer buffer, which holds EE throughout. After it stand the number of the answer, 0 where the frame is carried
+// out, the mask, the file and the buffer afterwards.
+use case_input::fields::after;
+use case_input::fields::bytes_at;
+use case_input::fields::count_at;
+use case_input::fields::input_buffer;
+use case_input::fields::is;
+use case_input::fields::line;
+use case_input::show;
+use case_input::show::text;
 use cluster::answer::RoundAnswer;
-use cluster::call::round;
-use libc::STDOUT_FILENO;
+use cluster::round::round;
 
-fn digit(c: u8) -> u8
-    ensures { λ r. ⌜ r < 16 ⌝ }
-{
-    match c {
-        b'0'..=b'9' => c - b'0',
-        b'a'..=b'f' => c - b'a' + 10,
-        _ => 0,
-    }
-}
+// The most bytes that a file, a frame and an answer buffer have here.
+const FILE: usize = 2048;
 
-fn byte(high: u8, low: u8) -> u8 {
-    digit(high) * 16 + digit(low)
-}
+const FRAME: usize = 64;
 
-// The number in the last two decimal digits of a line.
-fn last_number(line: &[u8]) -> usize
-    ensures { λ r. ⌜ r < 168 ⌝ }
-{
-    if line.len() < 2 {
-        return 0;
-    }
-    let tens = digit(line[line.len() - 2]) as usize;
-    let ones = digit(line[line.len() - 1]) as usize;
-    10 * tens + ones
-}
-
-fn lesser(a: usize, b: usize) -> usize
-    ensures { λ r. ⌜ (r ≤ a) × (r ≤ b) ⌝ }
-{
-    if a < b {
-        return a;
-    }
-    b
-}
-
-// Where the field ends that begins at a place of the line.
-fn field_end(line: &[u8], start: usize) -> usize
-    requires { ⌜ start ≤ length (now line) ⌝ }
-    ensures { λ r. ⌜ (start ≤ r) × (r ≤ length (now (line .entry))) ⌝ }
-{
-    let mut i = start;
-    while i < line.len() {
-        if line[i] == b' ' {
-            return i;
-        }
-        i += 1;
-    }
-    i
-}
-
-// Puts the bytes of a field at the start of a buffer, and answers how many.
-fn read_bytes(field: &[u8], out: &mut [u8]) -> usize
-    ensures { λ r. ⌜ Counts r (now (out .exit)) ⌝ }
-{
-    let whole = lesser(field.len() / 2, out.len());
-    let mut i = 0;
-    while i < whole {
-        out[i] = byte(field[2 * i], field[2 * i + 1]);
-        i += 1;
-    }
-    i
-}
-
-fn text(s: &[u8]) {
-    io::write_all(STDOUT_FILENO, s);
-}
-
-fn hex(n: u8) {
-    io::print_hex(STDOUT_FILENO, n as u64, 2);
-}
-
-fn bytes(s: &[u8]) {
-    text(b" ");
-    if s.len() == 0 {
-        text(b"-");
-    }
-    let mut i = 0;
-    while i < s.len() {
-        hex(s[i]);
-        i += 1;
-    }
-}
+const BUFFER: usize = 168;
 
 fn answered(number: u8, mask: u64) {
-    text(b" = ");
-    io::print_decimal(STDOUT_FILENO, number as u64);
-    text(b" ");
-    io::print_hex(STDOUT_FILENO, mask, 16);
+    text(b" =");
+    show::number(number as u64);
+    show::word(mask);
 }
 
-fn run(file: &mut [u8], frame: &[u8], buffer: &mut [u8]) {
+fn carry(file: &mut [u8], frame: &[u8], buffer: &mut [u8]) {
     let answer = round(file, frame, buffer);
     match answer {
         RoundAnswer::Refused(why) => answered(why.0, 0),
         RoundAnswer::Carried(mask) => answered(0, mask),
     }
-    bytes(file);
-    bytes(buffer);
+    show::bytes(file);
+    show::bytes(buffer);
 }
 
-fn case(line: &[u8]) {
-    let start = lesser(6, line.len());
-    let end = field_end(line, start);
-    let next = lesser(end + 1, line.len());
-    let last = field_end(line, next);
-    let mut file = [0u8; 2048];
-    let mut frame = [0u8; 2048];
-    let mut buffer = [0xEEu8; 168];
-    let size = read_bytes(&line[start..end], &mut file);
-    let sent = read_bytes(&line[next..last], &mut frame);
-    let length = io::count(last_number(line) as isize, &buffer);
-    run(&mut file[..size], &frame[..sent], &mut buffer[..length]);
+fn round_case(case: &[u8]) {
+    let mut file = [0u8; FILE];
+    let mut frame = [0u8; FRAME];
+    let mut buffer = [0xEEu8; BUFFER];
+    let size = bytes_at(case, 1, &mut file);
+    let sent = bytes_at(case, 2, &mut frame);
+    let length = count_at(case, 3, &buffer);
+    carry(&mut file[..size], &frame[..sent], &mut buffer[..length]);
 }
 
-fn lines(input: &[u8]) {
-    let mut start = 0;
-    let mut i = 0;
-    while i < input.len() {
-        if input[i] == b'\n' {
-            text(&input[start..i]);
-            if input[start] != b'#' {
-                case(&input[start..i]);
-            }
-            text(b"\n");
-            start = i + 1;
-        }
-        i += 1;
+fn run(case: &[u8]) {
+    text(case);
+    if is(case, b"round") {
+        round_case(case);
+    }
+    text(b"\n");
+}
+
+fn cases(input: &[u8]) {
+    let mut at = 0;
+    while at < input.len() {
+        run(line(input, at));
+        at = after(input, at);
     }
 }
 
 fn main() {
-    let mut input = io::large_buffer();
+    let mut input = input_buffer();
     let n = io::read_full(0, &mut input);
-    lines(&input[..n]);
+    cases(&input[..n]);
 }

@@ -2,18 +2,18 @@
 -- each other between legal clusters and accepted files.
 -- Assumes nothing.
 use Prim.Native.Nat.{ℕ}
-use mathlib.Core.Path.{_≡_, refl, sym, _∙_, ap, subst}
+use mathlib.Core.Path.{_≡_, refl, sym, subst}
 use mathlib.Core.Logic.{_↔_}
 use mathlib.Core.List.{List}
-use Rattle.file.specs.Bytes.{Bytes}
-use Rattle.file.specs.Cluster.{Cluster}
-use Rattle.file.specs.Encode.{encode}
-use Rattle.file.specs.Decode.{decode}
-use Rattle.file.specs.Legal.{Legal}
-use Rattle.file.specs.Grounds.{fileGround, loadGround}
-use Rattle.file.specs.Answers.{Verdict, verdictOf, loadVerdict}
-use Rattle.file.specs.Accepted.{Becomes}
-use Rattle.file.proofs.Verdicts.{verdict-zero, no-ground}
+use Rattle.file.specs.Rules.Bytes.{Bytes}
+use Rattle.file.specs.Rules.Cluster.{Cluster}
+use Rattle.file.specs.Rules.Encode.{encode}
+use Rattle.file.specs.Rules.Decode.{decode}
+use Rattle.file.specs.Rules.Legal.{Legal}
+use Rattle.file.specs.Rules.Results.{done}
+use Rattle.file.specs.Rules.Grounds.{fileGround, loadGround, loadVerdict}
+use Rattle.file.specs.Inner.Accepted.{Becomes}
+use Rattle.file.proofs.Results.{result-done, no-ground}
 use Rattle.file.proofs.Width.{edition1}
 use Rattle.file.proofs.RoundTrip
 
@@ -58,9 +58,9 @@ accepted-becomes f b g =
     record { accepted = g; decoded = refl; encoded = sym (encode-decode f b g); legal = accepted-legal f b g }
 
 -- the same of the checker's call
-pub load-accepts : (f : List ℕ) → Bytes f → (loadVerdict f ≡ Verdict.accepted) ↔ ((c : Cluster) × Legal c × (f ≡ encode c))
+pub load-accepts : (f : List ℕ) → Bytes f → (loadVerdict f ≡ done tt) ↔ ((c : Cluster) × Legal c × (f ≡ encode c))
 unfolding loadVerdict loadGround
 load-accepts f b = (
-  λ v. accepted-exactly f b .0 (no-ground (fileGround f) (sym v)),
-  λ legal. ap verdictOf (accepted-exactly f b .1 legal) ∙ verdict-zero,
+  λ v. accepted-exactly f b .0 (no-ground tt (fileGround f) (sym v)),
+  λ legal. result-done (accepted-exactly f b .1 legal),
 )

@@ -10,14 +10,14 @@ use lib.ListN.{length, getD}
 use lib.Dec.{eqb}
 use native.Mathlib.Omega.{arith}
 use borrow.Author.Tests.{leb-true, le-leb, ltb-false, le-ltb, eqb-true, eqb-false, eq-eqb, ne-eqb, not-false}
-use Rattle.file.specs.Bytes.{All}
-use Rattle.file.specs.Order.{both, either}
-use Rattle.file.specs.Layout.{editionOf, editionPlace, lengthPlace}
-use Rattle.file.specs.Cluster.{Slave, bytesIn, lastRecord, configuration, documentation, physicalName, operationOf, readOperation, broadcast, noOperation}
-use Rattle.file.specs.Cluster
-use Rattle.file.specs.Decode.{offsetAt, decodeAt}
-use Rattle.file.specs.Legal.{Distinct}
-use Rattle.file.specs.Grounds.{wrongPending, Walk, walkFile, endsAt, brokenLayout, hasNeeded, allHaveNeeded, lacksNeeded, isAmong, hasRepeat, equalPhysicalNames, fileGrounds, fileGroundAt}
+use Rattle.file.specs.Rules.Bytes.{All}
+use Rattle.file.specs.Rules.Order.{both, either}
+use Rattle.file.specs.Rules.Layout.{editionOf, editionPlace, lengthPlace}
+use Rattle.file.specs.Rules.Cluster.{Slave, bytesIn, lastRecord, configuration, documentation, physicalName, operationOf, readOperation, broadcast, noOperation}
+use Rattle.file.specs.Rules.Cluster
+use Rattle.file.specs.Rules.Decode.{offsetAt, decodeAt}
+use Rattle.file.specs.Rules.Legal.{Distinct}
+use Rattle.file.specs.Rules.Grounds.{wrongPending, Walk, walkFile, endsAt, brokenLayout, hasNeeded, allHaveNeeded, lacksNeeded, isAmong, hasRepeat, equalPhysicalNames, fileGroundsAt, fileGroundAt}
 use Rattle.file.proofs.Facts.{not-yes, no-operation, some-operation, SizeFacts, size-facts, size-yes, MarkFacts, mark-facts, mark-yes, edition-facts, edition-yes, length-facts, length-yes, HeaderFacts, header-facts, header-yes}
 use Rattle.file.proofs.Order.{clash, both-left, both-right, both-true, both-unless, both-false-next, either-false, either-false-left, either-false-right, first-none, first-next, first-end}
 
@@ -81,13 +81,13 @@ needed s = (
 
 all-needed : (ss : List Slave) → allHaveNeeded ss ≡ true → All Needed ss
 unfolding allHaveNeeded
-all-needed [] p = All.none
-all-needed (s ∷ ss) p = All.both (needed s .0 (both-left _ _ p)) (all-needed ss (both-right _ _ p))
+all-needed [] p = All.allEmpty
+all-needed (s ∷ ss) p = All.allNext (needed s .0 (both-left _ _ p)) (all-needed ss (both-right _ _ p))
 
 needed-all : {ss : List Slave} → All Needed ss → allHaveNeeded ss ≡ true
 unfolding allHaveNeeded
-needed-all All.none = refl
-needed-all (All.both n ns) = both-true (needed _ .1 n) (needed-all ns)
+needed-all All.allEmpty = refl
+needed-all (All.allNext n ns) = both-true (needed _ .1 n) (needed-all ns)
 
 pub all-have-needed : (w : ℕ) (f : List ℕ) → (lacksNeeded w f ≡ false) ↔ All Needed (decodeAt w f .slaves)
 unfolding lacksNeeded
@@ -97,13 +97,13 @@ all-have-needed w f = (λ p. all-needed _ (not-false _ p), λ n. not-yes (needed
 
 not-among : (n : ℕ) (ms : List ℕ) → isAmong n ms ≡ false → All (λ m. n ≡ m → ⊥) ms
 unfolding isAmong
-not-among n [] p = All.none
-not-among n (m ∷ ms) p = All.both (eqb-false n m (either-false-left _ _ p)) (not-among n ms (either-false-right _ _ p))
+not-among n [] p = All.allEmpty
+not-among n (m ∷ ms) p = All.allNext (eqb-false n m (either-false-left _ _ p)) (not-among n ms (either-false-right _ _ p))
 
 among-not : (n : ℕ) {ms : List ℕ} → All (λ m. n ≡ m → ⊥) ms → isAmong n ms ≡ false
 unfolding isAmong
-among-not n All.none = refl
-among-not n (All.both p q) = either-false (ne-eqb n _ p) (among-not n q)
+among-not n All.allEmpty = refl
+among-not n (All.allNext p q) = either-false (ne-eqb n _ p) (among-not n q)
 
 pub no-repeat : (ns : List ℕ) → hasRepeat ns ≡ false → Distinct ns
 unfolding hasRepeat
@@ -132,7 +132,7 @@ pub record Accepted (w : ℕ) (f : List ℕ) : Type 0 where
   pub names : Distinct (map physicalName (decodeAt w f .slaves))
 
 pub accepted : (w : ℕ) (f : List ℕ) → (fileGroundAt w f ≡ 0) ↔ Accepted w f
-unfolding fileGroundAt fileGrounds
+unfolding fileGroundAt fileGroundsAt
 accepted w f = (
   λ p.
       let (size, p₁) = first-none 0 _ _ p in

@@ -7,9 +7,9 @@ use mathlib.Core.List.{List}
 use mathlib.Core.Bool.{Bool, true, false, cond}
 use native.Mathlib.Omega.{arith}
 use lib.ListN.{length, getD}
-use Rattle.file.specs.Layout.{entrySize}
-use Rattle.file.specs.Decode.{fileSize, filesAt, slavesAt}
-use Rattle.file.specs.Grounds.{Walk, andThen, goodEntry, walkDirectory, goodTableEntry, walkSlave, walkSlaves}
+use Rattle.file.specs.Rules.Layout.{entrySize}
+use Rattle.file.specs.Rules.Decode.{fileSize, filesAt, slavesAt}
+use Rattle.file.specs.Rules.Grounds.{Walk, andThen, goodEntry, walkDirectory, goodTableEntry, walkSlave, walkSlaves}
 use Rattle.file.proofs.Facts.{EntryFacts, entry-facts, TableEntryFacts, table-entry-facts}
 
 pub broken-arrives : {P : Type 0} {e : ℕ} → Walk.broken ≡ Walk.to e → P

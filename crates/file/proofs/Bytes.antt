@@ -12,7 +12,7 @@ use lib.Seq.{getD-take, getD-drop}
 use lib.Arith.{digits-lt, digits-div, digits-mod}
 use lib.Dec.{eqb}
 use borrow.Author.Tests.{eqb-true}
-use Rattle.file.specs.Bytes.{All, Byte, Bytes, numberOf, bytesOf, part, allZero}
+use Rattle.file.specs.Rules.Bytes.{All, Byte, Bytes, numberOf, bytesOf, part, allZero}
 use Rattle.file.proofs.Order.{byCase, clash}
 use Rattle.file.proofs.Sizes.{bytesOf-length}
 
@@ -20,44 +20,44 @@ use Rattle.file.proofs.Sizes.{bytesOf-length}
 
 module _ {A : Type 0} {P : A → Type 0} where
   pub all-append : {x y : List A} → All P x → All P y → All P (x ++ y)
-  all-append All.none q = q
-  all-append (All.both p r) q = All.both p (all-append r q)
+  all-append All.allEmpty q = q
+  all-append (All.allNext p r) q = All.allNext p (all-append r q)
 
   pub all-take : (n : ℕ) {x : List A} → All P x → All P (take n x)
-  all-take zero q = All.none
-  all-take (suc n) All.none = All.none
-  all-take (suc n) (All.both p q) = All.both p (all-take n q)
+  all-take zero q = All.allEmpty
+  all-take (suc n) All.allEmpty = All.allEmpty
+  all-take (suc n) (All.allNext p q) = All.allNext p (all-take n q)
 
   pub all-drop : (n : ℕ) {x : List A} → All P x → All P (drop n x)
   all-drop zero q = q
-  all-drop (suc n) All.none = All.none
-  all-drop (suc n) (All.both p q) = all-drop n q
+  all-drop (suc n) All.allEmpty = All.allEmpty
+  all-drop (suc n) (All.allNext p q) = all-drop n q
 
   pub all-replicate : (n : ℕ) (a : A) → P a → All P (replicate n a)
-  all-replicate zero a p = All.none
-  all-replicate (suc n) a p = All.both p (all-replicate n a p)
+  all-replicate zero a p = All.allEmpty
+  all-replicate (suc n) a p = All.allNext p (all-replicate n a p)
 
   pub all-first : {a : A} {x : List A} → All P (a ∷ x) → P a
-  all-first (All.both p q) = p
+  all-first (All.allNext p q) = p
 
   pub all-others : {a : A} {x : List A} → All P (a ∷ x) → All P x
-  all-others (All.both p q) = q
+  all-others (All.allNext p q) = q
 
   -- an element at any index, past the end too, where the default has the property
   pub all-getD : {x : List A} {d : A} → All P x → P d → (i : ℕ) → P (getD x i d)
-  all-getD All.none z i = z
-  all-getD (All.both p q) z zero = p
-  all-getD (All.both p q) z (suc i) = all-getD q z i
+  all-getD All.allEmpty z i = z
+  all-getD (All.allNext p q) z zero = p
+  all-getD (All.allNext p q) z (suc i) = all-getD q z i
 
   pub all-at : (d : A) {x : List A} {i : ℕ} → All P x → i < length x → P (getD x i d)
-  all-at d All.none h = absurd (omega arith)
-  all-at d {i = zero} (All.both p q) h = p
-  all-at d {i = suc i} (All.both p q) h = all-at d q (omega arith)
+  all-at d All.allEmpty h = absurd (omega arith)
+  all-at d {i = zero} (All.allNext p q) h = p
+  all-at d {i = suc i} (All.allNext p q) h = all-at d q (omega arith)
 
   -- a property that follows from another
   pub all-map : {Q : A → Type 0} {x : List A} → ((a : A) → P a → Q a) → All P x → All Q x
-  all-map f All.none = All.none
-  all-map f (All.both {a = a} p q) = All.both (f a p) (all-map f q)
+  all-map f All.allEmpty = All.allEmpty
+  all-map f (All.allNext {a = a} p q) = All.allNext (f a p) (all-map f q)
 
 -- a byte of a list of bytes, at any index
 pub byte-at : {f : List ℕ} → Bytes f → (i : ℕ) → Byte (getD f i 0)
@@ -75,8 +75,8 @@ pow-positive w = one-le-pow w 256 (omega arith)
 -- bytes spell a number below 256 to the power of their count
 pub numberOf-below : {bs : List ℕ} → Bytes bs → numberOf bs < 256 ^ length bs
 unfolding numberOf
-numberOf-below All.none = rw pow-zero (omega arith)
-numberOf-below (All.both {l = bs} p q) = rw (pow-succ' 256 (length bs)) (digits-lt p (numberOf-below q))
+numberOf-below All.allEmpty = rw pow-zero (omega arith)
+numberOf-below (All.allNext {l = bs} p q) = rw (pow-succ' 256 (length bs)) (digits-lt p (numberOf-below q))
 
 -- a number that fits w bytes is what its bytes spell
 pub numberOf-bytesOf : (w : ℕ) {n : ℕ} → n < 256 ^ w → numberOf (bytesOf w n) ≡ n
@@ -88,16 +88,16 @@ numberOf-bytesOf (suc w) {n} h =
 -- bytes are the bytes of the number they spell
 pub bytesOf-numberOf : {bs : List ℕ} → Bytes bs → bytesOf (length bs) (numberOf bs) ≡ bs
 unfolding numberOf bytesOf
-bytesOf-numberOf All.none = refl
-bytesOf-numberOf (All.both {a = b} {l = bs} p q) =
+bytesOf-numberOf All.allEmpty = refl
+bytesOf-numberOf (All.allNext {a = b} {l = bs} p q) =
     rw (digits-div b (numberOf-below q), digits-mod b (numberOf-below q), bytesOf-numberOf q)
 
 pub bytes-bytesOf : (w : ℕ) {n : ℕ} → n < 256 ^ w → Bytes (bytesOf w n)
 unfolding bytesOf
-bytes-bytesOf zero h = All.none
+bytes-bytesOf zero h = All.allEmpty
 bytes-bytesOf (suc w) {n} h =
     let k : n < 256 * 256 ^ w = rw (pow-succ' 256 w) at h in
-    All.both (div-lt-iff-lt-mul (pow-positive w) .1 k) (bytes-bytesOf w (mod-lt n (pow-positive w)))
+    All.allNext (div-lt-iff-lt-mul (pow-positive w) .1 k) (bytes-bytesOf w (mod-lt n (pow-positive w)))
 
 -- ---- a part of a list
 

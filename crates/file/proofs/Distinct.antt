@@ -1,9 +1,10 @@
--- No two answers of one type are taken to the same: each map of `specs/Answers.antt` can be undone.
+-- No two answers of one type are taken to the same: each map of `specs/Inner/Answers.antt` can be undone.
 -- Assumes nothing.
 use Prim.Native.Nat.{ℕ}
 use mathlib.Core.Path.{_≡_, refl, sym, _∙_, ap}
-use Rattle.file.specs.Accepted.{FoundFile, fileAt, FoundRecord, recordAt}
-use Rattle.file.specs.Answers.{Verdict, checkedOf, foundFile, foundRecord}
+use Rattle.file.specs.Inner.Accepted.{FoundFile, fileFound, FoundRecord, recordAt}
+use Rattle.file.specs.Rules.Results.{Result, refused, done}
+use Rattle.file.specs.Inner.Answers.{checkedOf, foundFile, foundRecord}
 use Rattle.file.specs.declared.survey.FileAnswer.{FileAnswer}
 use Rattle.file.specs.declared.survey.FileAnswer.the-variants as answers
 use Rattle.file.specs.declared.readers.FilePlace.{FilePlace}
@@ -11,9 +12,9 @@ use Rattle.file.specs.declared.readers.FilePlace.the-variants as files
 use Rattle.file.specs.declared.readers.RecordPlace.{RecordPlace}
 use Rattle.file.specs.declared.readers.RecordPlace.the-variants as records
 
-answer : Verdict → FileAnswer
-answer Verdict.accepted = answers.Accepted
-answer (Verdict.refused n) = answers.Refused (record { 0 = n })
+answer : Result (Unit {0}) → FileAnswer
+answer (done value) = answers.Accepted
+answer (refused n) = answers.Refused (record { 0 = n })
 
 answer-back : (a : FileAnswer) → answer (checkedOf a) ≡ a
 unfolding answer checkedOf
@@ -24,8 +25,8 @@ pub answers-distinct : (a b : FileAnswer) → checkedOf a ≡ checkedOf b → a 
 answers-distinct a b h = sym (answer-back a) ∙ (ap answer h ∙ answer-back b)
 
 file : FoundFile → FilePlace
-file FoundFile.missing = files.NoFile
-file (fileAt place size) = files.Bytes (record { place = place; size = size })
+file FoundFile.noFile = files.NoFile
+file (fileFound place size) = files.Bytes (record { place = place; size = size })
 
 file-back : (a : FilePlace) → file (foundFile a) ≡ a
 unfolding file foundFile
@@ -36,7 +37,7 @@ pub files-distinct : (a b : FilePlace) → foundFile a ≡ foundFile b → a ≡
 files-distinct a b h = sym (file-back a) ∙ (ap file h ∙ file-back b)
 
 place : FoundRecord → RecordPlace
-place FoundRecord.missing = records.NoRecord
+place FoundRecord.noRecord = records.NoRecord
 place (recordAt at) = records.At at
 
 place-back : (a : RecordPlace) → place (foundRecord a) ≡ a

@@ -9,9 +9,9 @@ use mathlib.Core.Bool.{true, not}
 use lib.ListN.{length, getD, take}
 use lib.Seq.{getD-take}
 use borrow.Author.Tests.{ne-eqb}
-use Rattle.file.specs.Layout.{offsetWidth, editionPlace, editionOf}
-use Rattle.file.specs.Grounds.{wrongSize, wrongMark, wrongEdition, fileGrounds, fileGroundAt, fileGround, loadGround}
-use Rattle.file.specs.Answers.{verdictOf, loadVerdict}
+use Rattle.file.specs.Rules.Layout.{offsetWidth, editionPlace, editionOf}
+use Rattle.file.specs.Rules.Grounds.{wrongSize, wrongMark, wrongEdition, fileGroundsAt, fileGroundAt, fileGround, loadGround, loadVerdict}
+use Rattle.file.specs.Rules.Results.{resultOf}
 use Rattle.file.proofs.Order.{clash, first-alike}
 
 -- files with the same first bytes agree in each of them
@@ -24,7 +24,7 @@ pub unknown-edition-at :
     → take 3 f ≡ take 3 g
     → (getD f editionPlace 0 ≡ editionOf w → ⊥)
     → fileGroundAt w f ≡ fileGroundAt w g
-unfolding fileGroundAt fileGrounds wrongSize wrongMark wrongEdition
+unfolding fileGroundAt fileGroundsAt wrongSize wrongMark wrongEdition
 unknown-edition-at w f g long front other =
     let e₀ : getD f 0 0 ≡ getD g 0 0 = same-front 3 f g front 0 (omega arith) in
     let e₁ : getD f 1 0 ≡ getD g 1 0 = same-front 3 f g front 1 (omega arith) in
@@ -43,4 +43,4 @@ unknown-edition f g long front other = unknown-edition-at offsetWidth f g long f
 pub unknown-edition-answer :
     (f g : List ℕ) → length f ≡ length g → take 3 f ≡ take 3 g → (getD f editionPlace 0 ≡ 1 → ⊥) → loadVerdict f ≡ loadVerdict g
 unfolding loadVerdict loadGround
-unknown-edition-answer f g long first other = ap verdictOf (unknown-edition f g long first other)
+unknown-edition-answer f g long first other = ap (λ (n : ℕ). resultOf n tt) (unknown-edition f g long first other)

@@ -2,7 +2,9 @@
 -- Assumes nothing.
 use Prim.Native.Nat.{ℕ}
 use mathlib.Core.Path.{_≡_, refl}
-use Rattle.file.specs.Layout.{offsetWidth, editionOf, lengthPlace, epochPlace, flagPlace, pendingNamePlace, pendingPB2Place, pendingPB3Place, zerosPlace, zerosLength, headerSize, entrySize, fillLength, fileCountPlace, fileOffsetPlace, maxSlaves, maxLength}
+use Rattle.file.specs.Rules.Layout.{offsetWidth, editionOf, lengthPlace, epochPlace, flagPlace, pendingNamePlace, pendingPB2Place, pendingPB3Place}
+use Rattle.file.specs.Rules.Layout.{zerosPlace, zerosLength, headerSize, entrySize, fillLength, fileCountPlace, fileOffsetPlace, maxSlaves, maxLength}
+use Rattle.file.specs.Rules.Layout.{longWidth, physicalNamePlace, newLogicalNamePlace, logicalNamePlace, comparisonValuePlace}
 
 pub record EditionOne : Type 0 where
   pub edition : editionOf offsetWidth ≡ 1
@@ -21,6 +23,11 @@ pub record EditionOne : Type 0 where
   pub offsetAt : fileOffsetPlace offsetWidth ≡ 2
   pub slaves : maxSlaves offsetWidth ≡ 32
   pub size : maxLength offsetWidth ≡ 32768
+  pub long : longWidth ≡ 8
+  pub physicalNameAt : physicalNamePlace ≡ 4
+  pub newLogicalNameAt : newLogicalNamePlace ≡ 6
+  pub logicalNameAt : logicalNamePlace ≡ 7
+  pub comparisonValueAt : comparisonValuePlace ≡ 8
 
 pub edition-one : EditionOne
 edition-one = record {
@@ -40,4 +47,9 @@ edition-one = record {
   offsetAt = refl;
   slaves = refl;
   size = refl;
+  long = refl;
+  physicalNameAt = refl;
+  newLogicalNameAt = refl;
+  logicalNameAt = refl;
+  comparisonValueAt = refl;
 }

@@ -10,13 +10,13 @@ use mathlib.Core.List.{List, _++_}
 use lib.ListN.{length, getD}
 use lib.Dec.{leb}
 use borrow.Author.Tests.{leb-true, le-leb}
-use Rattle.file.specs.Bytes.{All, Bytes}
-use Rattle.file.specs.Layout.{countPlace, epochPlace, flagPlace, pendingNamePlace, pendingPB2Place, pendingPB3Place, zerosLength, headerSize, entrySize, maxSlaves, maxLength}
-use Rattle.file.specs.Cluster.{Slave, Cluster}
-use Rattle.file.specs.Encode.{slavesBytes, table, slavesPlace, fileLength, header, encodeAt}
-use Rattle.file.specs.Decode.{offsetAt, slavesAt, decodeAt}
-use Rattle.file.specs.Legal.{LegalSlave, LegalAt}
-use Rattle.file.specs.Grounds.{Walk, tableEnd, walkFile}
+use Rattle.file.specs.Rules.Bytes.{All, Bytes}
+use Rattle.file.specs.Rules.Layout.{countPlace, epochPlace, flagPlace, pendingNamePlace, pendingPB2Place, pendingPB3Place, zerosLength, headerSize, entrySize, maxSlaves, maxLength}
+use Rattle.file.specs.Rules.Cluster.{Slave, Cluster}
+use Rattle.file.specs.Rules.Encode.{slavesBytes, table, slavesPlace, fileLength, header, encodeAt}
+use Rattle.file.specs.Rules.Decode.{offsetAt, slavesAt, decodeAt}
+use Rattle.file.specs.Rules.Legal.{LegalSlave, LegalAt}
+use Rattle.file.specs.Rules.Grounds.{Walk, tableEnd, walkFile}
 use Rattle.file.proofs.Width.{Width, place-fits}
 use Rattle.file.proofs.Sizes.{header-length, table-length, encodeAt-length}
 use Rattle.file.proofs.Bytes.{all-map, byte-at}
@@ -40,9 +40,9 @@ pub legal-needed : (s : Slave) → LegalSlave s → Needed s
 legal-needed s l = record { configured = l .configured; documented = l .documented }
 
 pub laid-legal : {ss : List Slave} → All LaidOut ss → All Needed ss → All LegalSlave ss
-laid-legal All.none All.none = All.none
-laid-legal (All.both l ls) (All.both n ns) =
-    All.both
+laid-legal All.allEmpty All.allEmpty = All.allEmpty
+laid-legal (All.allNext l ls) (All.allNext n ns) =
+    All.allNext
     (record { rising = l .rising; files = l .legal; configured = n .configured; documented = n .documented })
     (laid-legal ls ns)
 

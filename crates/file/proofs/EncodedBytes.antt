@@ -5,11 +5,11 @@ use native.Mathlib.Omega.{arith}
 use mathlib.Core.Path.{_≡_}
 use mathlib.Core.List.{List, _++_}
 use lib.ListN.{length, replicate, length-append}
-use Rattle.file.specs.Bytes.{All, Byte, Bytes}
-use Rattle.file.specs.Layout.{fillLength, zerosLength, entrySize, maxFileNumber}
-use Rattle.file.specs.Cluster.{File, Slave, Cluster, lastRecord}
-use Rattle.file.specs.Encode.{directoryEntry, directory, contents, slaveSize, slaveBytes, slavesBytes, slavesSize, tableEntry, table, slavesPlace, fileLength, header, encodeAt}
-use Rattle.file.specs.Legal.{LegalFile, Rising, LegalAt}
+use Rattle.file.specs.Rules.Bytes.{All, Byte, Bytes}
+use Rattle.file.specs.Rules.Layout.{fillLength, zerosLength, entrySize, maxFileNumber}
+use Rattle.file.specs.Rules.Cluster.{File, Slave, Cluster, lastRecord}
+use Rattle.file.specs.Rules.Encode.{directoryEntry, directory, contents, slaveSize, slaveBytes, slavesBytes, slavesSize, tableEntry, table, slavesPlace, fileLength, header, encodeAt}
+use Rattle.file.specs.Rules.Legal.{LegalFile, Rising, LegalAt}
 use Rattle.file.proofs.Width.{Width, place-fits}
 use Rattle.file.proofs.Bytes.{all-append, all-replicate, all-map, bytes-bytesOf}
 use Rattle.file.proofs.Slaves.{LaidOut}
@@ -25,25 +25,25 @@ unfolding directoryEntry
 entry-is-bytes w {x = x} l h =
     let number : Byte (x .number) = omega (arith, l .number) in
     let last : Byte (lastRecord (x .bytes)) = omega (arith, l .most) in
-    All.both number (All.both last (all-append (zeros-bytes (fillLength w)) (bytes-bytesOf w h)))
+    All.allNext number (All.allNext last (all-append (zeros-bytes (fillLength w)) (bytes-bytesOf w h)))
 
 pub contents-are-bytes : {xs : List File} → All LegalFile xs → Bytes (contents xs)
 unfolding contents
-contents-are-bytes All.none = All.none
-contents-are-bytes (All.both l ls) = all-append (l .bytes) (contents-are-bytes ls)
+contents-are-bytes All.allEmpty = All.allEmpty
+contents-are-bytes (All.allNext l ls) = all-append (l .bytes) (contents-are-bytes ls)
 
 pub directory-is-bytes :
     (w place : ℕ) {xs : List File} → All LegalFile xs → place + length (contents xs) < 256 ^ w → Bytes (directory w place xs)
 unfolding directory contents
-directory-is-bytes w place All.none h = All.none
-directory-is-bytes w place (All.both {a = x} {l = xs} l ls) h =
+directory-is-bytes w place All.allEmpty h = All.allEmpty
+directory-is-bytes w place (All.allNext {a = x} {l = xs} l ls) h =
     let sum : length (x .bytes ++ contents xs) ≡ length (x .bytes) + length (contents xs) = length-append (x .bytes) (contents xs) in
     all-append (entry-is-bytes w l (omega arith)) (directory-is-bytes w (place + length (x .bytes)) ls (omega arith))
 
 -- files of rising numbers are at most 64
 pub files-few : {low : ℕ} {xs : List File} → Rising low xs → All LegalFile xs → low ≤ suc maxFileNumber → low + length xs ≤ suc maxFileNumber
-files-few Rising.end All.none h = omega arith
-files-few (Rising.next {x = x} {xs = xs} n r) (All.both l ls) h = omega (arith, l .number, files-few r ls (omega (arith, l .number)))
+files-few Rising.end All.allEmpty h = omega arith
+files-few (Rising.next {x = x} {xs = xs} n r) (All.allNext l ls) h = omega (arith, l .number, files-few r ls (omega (arith, l .number)))
 
 -- ---- slaves
 
@@ -51,7 +51,7 @@ pub tableEntry-is-bytes : (w : ℕ) {place : ℕ} {s : Slave} → LaidOut s → 
 unfolding tableEntry
 tableEntry-is-bytes w l h =
     all-append (bytes-bytesOf w h)
-    (All.both (omega (arith, files-few (l .rising) (l .legal) (omega arith))) (zeros-bytes (suc (fillLength w))))
+    (All.allNext (omega (arith, files-few (l .rising) (l .legal) (omega arith))) (zeros-bytes (suc (fillLength w))))
 
 pub slave-is-bytes : (w place : ℕ) {s : Slave} → LaidOut s → place + slaveSize w s < 256 ^ w → Bytes (slaveBytes w place s)
 unfolding slaveBytes slaveSize
@@ -60,14 +60,14 @@ slave-is-bytes w place {s} l h =
 
 pub table-is-bytes : (w place : ℕ) {ss : List Slave} → All LaidOut ss → place + slavesSize w ss < 256 ^ w → Bytes (table w place ss)
 unfolding table slavesSize
-table-is-bytes w place All.none h = All.none
-table-is-bytes w place (All.both {a = s} l ls) h =
+table-is-bytes w place All.allEmpty h = All.allEmpty
+table-is-bytes w place (All.allNext {a = s} l ls) h =
     all-append (tableEntry-is-bytes w l (omega arith)) (table-is-bytes w (place + slaveSize w s) ls (omega arith))
 
 pub slaves-are-bytes : (w place : ℕ) {ss : List Slave} → All LaidOut ss → place + slavesSize w ss < 256 ^ w → Bytes (slavesBytes w place ss)
 unfolding slavesBytes slavesSize
-slaves-are-bytes w place All.none h = All.none
-slaves-are-bytes w place (All.both {a = s} l ls) h =
+slaves-are-bytes w place All.allEmpty h = All.allEmpty
+slaves-are-bytes w place (All.allNext {a = s} l ls) h =
     all-append (slave-is-bytes w place l (omega arith)) (slaves-are-bytes w (place + slaveSize w s) ls (omega arith))
 
 -- ---- the whole
@@ -78,15 +78,15 @@ module _ {w : ℕ} (wide : Width w) (c : Cluster) (l : LegalAt w c) where
   header-is-bytes =
       let fits : fileLength w (c .slaves) < 256 ^ w = place-fits wide (l .size) in
       all-append
-      (All.both (omega arith)
-      (All.both (omega arith)
-      (All.both (omega (arith, wide .counts)) (All.both (omega (arith, wide .counts, l .count)) All.none))))
+      (All.allNext (omega arith)
+      (All.allNext (omega arith)
+      (All.allNext (omega (arith, wide .counts)) (All.allNext (omega (arith, wide .counts, l .count)) All.allEmpty))))
       (all-append (bytes-bytesOf w (omega arith))
       (all-append (bytes-bytesOf w fits)
       (all-append
-      (All.both (l .pending .epoch)
-      (All.both (omega (arith, l .pending .flag))
-      (All.both (l .pending .name) (All.both (l .pending .pb2) (All.both (l .pending .pb3) All.none)))))
+      (All.allNext (l .pending .epoch)
+      (All.allNext (omega (arith, l .pending .flag))
+      (All.allNext (l .pending .name) (All.allNext (l .pending .pb2) (All.allNext (l .pending .pb3) All.allEmpty)))))
       (zeros-bytes (zerosLength w)))))
 
   pub encode-is-bytes : Bytes (encodeAt w c)

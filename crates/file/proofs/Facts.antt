@@ -10,12 +10,13 @@ use native.Mathlib.Omega.{arith}
 use lib.ListN.{length, getD}
 use lib.Seq.{drop-cons}
 use lib.Dec.{eqb}
-use Rattle.file.specs.Order.{both}
-use Rattle.file.specs.Bytes.{part, allZero}
-use Rattle.file.specs.Layout.{mark₀, mark₁, editionOf, editionPlace, countPlace, tablePlace, lengthPlace, flagPlace, pendingNamePlace, pendingPB2Place, zerosPlace, zerosLength, headerSize, entrySize, fillLength, maxSlaves, maxLength, maxFileNumber}
-use Rattle.file.specs.Cluster.{noOperation}
-use Rattle.file.specs.Decode.{offsetAt, fileSize}
-use Rattle.file.specs.Grounds.{wrongSize, wrongMark, wrongEdition, wrongLength, wrongHeader, wrongPending, goodEntry, goodTableEntry}
+use Rattle.file.specs.Rules.Order.{both}
+use Rattle.file.specs.Rules.Bytes.{part, allZero}
+use Rattle.file.specs.Rules.Layout.{mark₀, mark₁, editionOf, editionPlace, countPlace, tablePlace, lengthPlace, flagPlace, pendingNamePlace}
+use Rattle.file.specs.Rules.Layout.{pendingPB2Place, zerosPlace, zerosLength, headerSize, entrySize, fillLength, maxSlaves, maxLength, maxFileNumber}
+use Rattle.file.specs.Rules.Cluster.{noOperation}
+use Rattle.file.specs.Rules.Decode.{offsetAt, fileSize}
+use Rattle.file.specs.Rules.Grounds.{wrongSize, wrongMark, wrongEdition, wrongLength, wrongHeader, wrongPending, goodEntry, goodTableEntry}
 use Rattle.file.proofs.Order.{byCase, clash, both-left, both-right, both-true, either-false, either-false-left, either-false-right}
 
 -- a test that cannot be false is true, and the other way round

@@ -8,14 +8,14 @@ use mathlib.Core.Path.{_≡_, refl, sym, ap, ap₂, _∙_, subst}
 use mathlib.Core.List.{List, [], _∷_, _++_}
 use mathlib.Core.Bool.{true}
 use lib.ListN.{length, getD, replicate, length-append, length-replicate}
-use Rattle.file.specs.Bytes.{All, Bytes, bytesOf, part}
-use Rattle.file.specs.Order.{both}
-use Rattle.file.specs.Layout.{entrySize, fillLength, recordSize}
-use Rattle.file.specs.Cluster.{File, lastRecord}
-use Rattle.file.specs.Encode.{directoryEntry, directory, contents}
-use Rattle.file.specs.Decode.{offsetAt, fileSize, fileAt, filesAt}
-use Rattle.file.specs.Legal.{LegalFile, Rising}
-use Rattle.file.specs.Grounds.{Walk, goodEntry, walkDirectory}
+use Rattle.file.specs.Rules.Bytes.{All, Bytes, bytesOf, part}
+use Rattle.file.specs.Rules.Order.{both}
+use Rattle.file.specs.Rules.Layout.{entrySize, fillLength, recordSize}
+use Rattle.file.specs.Rules.Cluster.{File, lastRecord}
+use Rattle.file.specs.Rules.Encode.{directoryEntry, directory, contents}
+use Rattle.file.specs.Rules.Decode.{offsetAt, fileSize, fileAt, filesAt}
+use Rattle.file.specs.Rules.Legal.{LegalFile, Rising}
+use Rattle.file.specs.Rules.Grounds.{Walk, goodEntry, walkDirectory}
 use Rattle.file.proofs.Facts.{EntryFacts, entry-facts, entry-yes}
 use Rattle.file.proofs.NumberLaws.{part-length}
 use Rattle.file.proofs.Arrivals.{tested-arrives, arrives-same}
@@ -96,7 +96,7 @@ others-rise (Rising.next h r) = r
 module _ {w : ℕ} (two : 2 ≤ w) {f : List ℕ} where
   pub files-none : {d low place : ℕ} → d ≤ length f → place ≤ length f → FilesStand w f d low place []
   unfolding directory contents
-  files-none h k = record { rising = Rising.end; legal = All.none; entries = stands-none h; bytes = stands-none k }
+  files-none h k = record { rising = Rising.end; legal = All.allEmpty; entries = stands-none h; bytes = stands-none k }
 
   pub files-next :
       {d low place : ℕ} {x : File} {xs : List File}
@@ -108,7 +108,7 @@ module _ {w : ℕ} (two : 2 ≤ w) {f : List ℕ} where
       let next : d + entrySize w ≡ d + length (directoryEntry w place x) = ap (λ (n : ℕ). d + n) (sym (directoryEntry-length two place x)) in
       record {
         rising = Rising.next (s .rising) (r .rising);
-        legal = All.both (s .legal) (r .legal);
+        legal = All.allNext (s .legal) (r .legal);
         entries = stands-append (s .entry) (stands-at next (r .entries));
         bytes = stands-append (s .bytes) (r .bytes);
       }

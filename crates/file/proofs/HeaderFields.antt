@@ -5,10 +5,10 @@ use native.Mathlib.Omega.{arith}
 use mathlib.Core.Path.{_≡_, refl}
 use mathlib.Core.List.{List, [], _∷_, _++_}
 use lib.ListN.{length, getD, replicate}
-use Rattle.file.specs.Bytes.{bytesOf}
-use Rattle.file.specs.Layout.{mark₀, mark₁, editionOf, editionPlace, countPlace, tablePlace, lengthPlace, epochPlace, flagPlace, pendingNamePlace, pendingPB2Place, pendingPB3Place, zerosPlace, zerosLength, headerSize}
-use Rattle.file.specs.Cluster.{Cluster}
-use Rattle.file.specs.Encode.{fileLength, header}
+use Rattle.file.specs.Rules.Bytes.{bytesOf}
+use Rattle.file.specs.Rules.Layout.{mark₀, mark₁, editionOf, editionPlace, countPlace, tablePlace, lengthPlace, epochPlace, flagPlace, pendingNamePlace, pendingPB2Place, pendingPB3Place, zerosPlace, zerosLength, headerSize}
+use Rattle.file.specs.Rules.Cluster.{Cluster}
+use Rattle.file.specs.Rules.Encode.{fileLength, header}
 use Rattle.file.proofs.Sizes.{bytesOf-length}
 use Rattle.file.proofs.Stands.{Stands, stands-at, stands-byte, stands-left, stands-right, stands-append, stands-next}
 

@@ -5,15 +5,18 @@ use mathlib.Core.Path.{_≡_, refl, sym, _∙_}
 use mathlib.Core.List.{List, [], _∷_}
 use mathlib.Core.Bool.{Bool, true, false, not}
 use native.Mathlib.Omega.{arith}
-use borrow.Author.Tests.{le-ltb, eq-eqb, ne-eqb}
+use borrow.Author.Tests.{lt-ltb, le-ltb, eq-eqb, ne-eqb}
 use lib.ListN.{length, getD}
 use lib.Dec.{eqb}
-use Rattle.file.specs.Order.{firstOf}
-use Rattle.file.specs.Bytes.{part, allZero, ByteAt, NumberAt}
-use Rattle.file.specs.Decode.{offsetAt}
-use Rattle.file.specs.Grounds.{wrongSize, wrongMark, wrongEdition, wrongLength, wrongHeader, wrongPending, brokenLayout, lacksNeeded, equalPhysicalNames, fileGrounds, fileGroundAt, fileGround}
-use Rattle.file.specs.Checked.{GoodHeader, HeaderChecked}
-use Rattle.file.proofs.Order.{both-false-left, both-next, either-next}
+use Rattle.file.specs.Rules.Order.{firstOf, either}
+use Rattle.file.specs.Rules.Layout.{pendingFlag}
+use Rattle.file.specs.Rules.Cluster.{operationOf, noOperation, broadcastRead}
+use Rattle.file.specs.Rules.Bytes.{part, allZero}
+use Rattle.file.specs.Inner.Numbers.{ByteAt, NumberAt}
+use Rattle.file.specs.Rules.Decode.{offsetAt}
+use Rattle.file.specs.Rules.Grounds.{wrongSize, wrongMark, wrongEdition, wrongLength, wrongHeader, wrongPending, brokenLayout, lacksNeeded, equalPhysicalNames, fileGroundsAt, fileGroundAt, fileGround}
+use Rattle.file.specs.Inner.Checked.{HeaderFits, GoodHeader, HeaderChecked}
+use Rattle.file.proofs.Order.{both-false-left, both-next, either-left, either-next, either-false}
 use Rattle.file.proofs.Facts.{true-unless, size-facts, header-facts, zeros-at, zeros-more, zeros-none}
 
 -- ---- the header's ground
@@ -25,32 +28,32 @@ refuse e = record { refused = λ _. e; passed = λ z. absurd (no z) }
     no z = omega arith
 
 -- a file is long enough for its header once ground 1 does not hold
-pub long-enough : (f : List ℕ) {t : Bool} → t ≡ wrongSize 2 f → t ≡ false → 16 ≤ length f
-long-enough f p e = size-facts 2 f (sym p ∙ e) .low
+pub long-enough : (f : List ℕ) {t : Bool} → t ≡ wrongSize 2 f → t ≡ false → HeaderFits f
+long-enough f p e = record { room = size-facts 2 f (sym p ∙ e) .low }
 
 module _ {f : List ℕ} {a : Bool} (is₁ : a ≡ wrongSize 2 f) where
   pub ground-1 : a ≡ true → HeaderChecked f 1
-  unfolding fileGround fileGroundAt fileGrounds firstOf
+  unfolding fileGround fileGroundAt fileGroundsAt firstOf
   ground-1 e = refuse (rw (← is₁, e))
 
   module _ (no₁ : a ≡ false) {b : Bool} (is₂ : b ≡ wrongMark f) where
     pub ground-2 : b ≡ true → HeaderChecked f 2
-    unfolding fileGround fileGroundAt fileGrounds firstOf
+    unfolding fileGround fileGroundAt fileGroundsAt firstOf
     ground-2 e = refuse (rw (← is₁, no₁, ← is₂, e))
 
     module _ (no₂ : b ≡ false) {c : Bool} (is₃ : c ≡ wrongEdition 2 f) where
       pub ground-3 : c ≡ true → HeaderChecked f 3
-      unfolding fileGround fileGroundAt fileGrounds firstOf
+      unfolding fileGround fileGroundAt fileGroundsAt firstOf
       ground-3 e = refuse (rw (← is₁, no₁, ← is₂, no₂, ← is₃, e))
 
       module _ (no₃ : c ≡ false) {d : Bool} (is₄ : d ≡ wrongLength 2 f) where
         pub ground-4 : d ≡ true → HeaderChecked f 4
-        unfolding fileGround fileGroundAt fileGrounds firstOf
+        unfolding fileGround fileGroundAt fileGroundsAt firstOf
         ground-4 e = refuse (rw (← is₁, no₁, ← is₂, no₂, ← is₃, no₃, ← is₄, e))
 
         module _ (no₄ : d ≡ false) {x : Bool} (is₅ : x ≡ wrongHeader 2 f) where
           pub ground-5 : x ≡ true → HeaderChecked f 5
-          unfolding fileGround fileGroundAt fileGrounds firstOf
+          unfolding fileGround fileGroundAt fileGroundsAt firstOf
           ground-5 e = refuse (rw (← is₁, no₁, ← is₂, no₂, ← is₃, no₃, ← is₄, no₄, ← is₅, e))
 
           pub header-passed : x ≡ false → HeaderChecked f 0
@@ -66,10 +69,10 @@ module _ {f : List ℕ} {a : Bool} (is₁ : a ≡ wrongSize 2 f) where
                 };
               }
 
--- behind a good header the other three grounds decide
+-- after a good header the other three grounds decide
 pub after-header : (f : List ℕ) → GoodHeader 2 f → fileGround f ≡
     firstOf (record { number = 6; holds = brokenLayout 2 f } ∷ record { number = 7; holds = lacksNeeded 2 f } ∷ record { number = 8; holds = equalPhysicalNames 2 f } ∷ [])
-unfolding fileGround fileGroundAt fileGrounds firstOf
+unfolding fileGround fileGroundAt fileGroundsAt firstOf
 after-header f h = rw (h .size, h .mark, h .edition, h .lengthField, h .rest)
 
 -- ---- the tests
@@ -97,17 +100,42 @@ pub header-table : {f : List ℕ} {n : ℕ} → NumberAt f 4 2 n → (n ≡ 16 �
 unfolding offsetAt
 header-table {f} {n} k h = sym (true-unless (λ e. h (k .is ∙ header-facts 2 f e .table)))
 
-pub header-zero : (k : ℕ) {f : List ℕ} {b : ℕ} → k < 3 → 16 ≤ length f → ByteAt f (13 + k) b → (b ≡ 0 → ⊥) → true ≡ wrongHeader 2 f
-header-zero k {f} {b} l long is h = sym (true-unless (λ e. h (is .is ∙ zeros-at f 13 3 k long l (header-facts 2 f e .zeros))))
+pub header-zero : (k : ℕ) {f : List ℕ} {b : ℕ} → k < 3 → HeaderFits f → ByteAt f (13 + k) b → (b ≡ 0 → ⊥) → true ≡ wrongHeader 2 f
+header-zero k {f} {b} l long is h = sym (true-unless (λ e. h (is .is ∙ zeros-at f 13 3 k (long .room) l (header-facts 2 f e .zeros))))
 
-pub header-last : {f : List ℕ} {count table z₁ z₂ z₃ flag name pb2 : ℕ} {r : Bool} → 16 ≤ length f → ByteAt f 3 count → count ≤ 32 →
+pub header-last : {f : List ℕ} {count table z₁ z₂ z₃ name : ℕ} {r : Bool} → HeaderFits f → ByteAt f 3 count → count ≤ 32 →
     NumberAt f 4 2 table → table ≡ 16 → ByteAt f 13 z₁ → z₁ ≡ 0 → ByteAt f 14 z₂ → z₂ ≡ 0 → ByteAt f 15 z₃ → z₃ ≡ 0 →
-    ByteAt f 9 flag → ByteAt f 10 name → ByteAt f 11 pb2 → r ≡ wrongPending flag name pb2 → r ≡ wrongHeader 2 f
+    name ≡ getD f 10 0 → r ≡ wrongPending (getD f 9 0) name (getD f 11 0) → r ≡ wrongHeader 2 f
 unfolding wrongHeader offsetAt
-header-last {f} long is₁ low is₂ sixteen is₃ e₃ is₄ e₄ is₅ e₅ is₆ is₇ is₈ r =
+header-last {f} fits is₁ low is₂ sixteen is₃ e₃ is₄ e₄ is₅ e₅ named r =
+    let long = fits .room in
     let c = le-ltb 32 (getD f 3 0) (omega (arith, is₁ .is)) in
     let t = eq-eqb _ _ (sym (is₂ .is) ∙ sixteen) in
     let z : allZero (part f 13 3) ≡ true =
     zeros-more f 13 2 (omega arith) (sym (is₃ .is) ∙ e₃)
     (zeros-more f 14 1 (omega arith) (sym (is₄ .is) ∙ e₄) (zeros-more f 15 0 (omega arith) (sym (is₅ .is) ∙ e₅) (zeros-none f 16))) in
-    rw (either-next _ c, t, either-next _ refl, z, either-next _ refl, ← (is₆ .is), ← (is₇ .is), ← (is₈ .is)) r
+    rw (either-next _ c, t, either-next _ refl, z, either-next _ refl, ← named) r
+
+-- ---- the pending operation
+
+module _ (flag name pb2 : ℕ) where
+  pub pending-above : pendingFlag < flag → true ≡ wrongPending flag name pb2
+  unfolding wrongPending
+  pending-above h = sym (either-left _ (lt-ltb _ _ h))
+
+  module _ (low : flag ≤ pendingFlag) where
+    pub pending-none : (flag ≡ pendingFlag → ⊥) → false ≡ wrongPending flag name pb2
+    unfolding wrongPending
+    pending-none other = sym (either-false (le-ltb _ _ low) (both-false-left _ (ne-eqb _ _ other)))
+
+    -- the code's operation and its tests are values of its own, with their equations
+    module _ (pending : flag ≡ pendingFlag) {operation : ℕ} {t : Bool} (does : operation ≡ operationOf pb2) (known : t ≡ noOperation operation) where
+      by-operation : wrongPending flag name pb2 ≡ either t (broadcastRead operation name)
+      unfolding wrongPending
+      by-operation = rw (either-next _ (le-ltb pendingFlag flag low), both-next _ (eq-eqb flag pendingFlag pending), ← does, ← known)
+
+      pub pending-unknown : t ≡ true → true ≡ wrongPending flag name pb2
+      pending-unknown e = sym (by-operation ∙ either-left _ e)
+
+      pub pending-known : {u : Bool} → t ≡ false → u ≡ broadcastRead operation name → u ≡ wrongPending flag name pb2
+      pending-known e reads = reads ∙ sym (by-operation ∙ either-next _ e)

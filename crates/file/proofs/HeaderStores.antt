@@ -7,11 +7,12 @@ use mathlib.Core.Path.{_≡_, refl}
 use mathlib.Core.List.{List, [], _∷_, _++_, append-assoc}
 use lib.ListN.{length, getD, set, replicate, length-append}
 use lib.Seq.{getD-append-add}
-use Rattle.file.specs.Bytes.{bytesOf}
-use Rattle.file.specs.Layout.{mark₀, mark₁, editionOf, countPlace, epochPlace, flagPlace, pendingNamePlace, pendingPB2Place, pendingPB3Place, headerSize, zerosLength}
-use Rattle.file.specs.Cluster.{Slave, Cluster}
-use Rattle.file.specs.Encode.{slavesBytes, table, slavesPlace, fileLength, header, encodeAt}
-use Rattle.file.specs.Places.{slaveOf, filePlaceAt, withSlaves, putByte, putBytes, withEpoch, withPending}
+use Rattle.file.specs.Rules.Bytes.{bytesOf}
+use Rattle.file.specs.Rules.Layout.{mark₀, mark₁, editionOf, countPlace, epochPlace, flagPlace, pendingNamePlace, pendingPB2Place, pendingPB3Place, headerSize, zerosLength}
+use Rattle.file.specs.Rules.Cluster.{Slave, Cluster}
+use Rattle.file.specs.Rules.Encode.{slavesBytes, table, slavesPlace, fileLength, header, encodeAt}
+use Rattle.file.specs.Inner.Places.{slaveOf, filePlaceAt, putByte, putBytes}
+use Rattle.file.specs.Rules.Changes.{withSlaves, withEpoch, withPending}
 use Rattle.file.proofs.Sizes.{bytesOf-length}
 use Rattle.file.proofs.Stores.{set-append-add}
 

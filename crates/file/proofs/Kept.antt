@@ -6,25 +6,26 @@ use mathlib.Core.Logic.{_≢_}
 use mathlib.Core.List.{List}
 use lib.ListN.{length, getD, set, length-set}
 use lib.Dec.{eqb}
-use Rattle.file.specs.Bytes.{Byte, Bytes, All, none, both}
-use Rattle.file.specs.Cluster.{File, Slave, Cluster, lastRecord, bytesAmong, bytesIn, configuration, documentation}
-use Rattle.file.specs.Legal.{LegalFile, Rising, end, next, LegalSlave, LegalPending, LegalAt}
-use Rattle.file.specs.Places.{noSlave, slaveOf, putAmong, putInSlave, withSlaves, putByte, putBytes, withEpoch, withPending, SameFiles, noFiles, sameFile}
+use Rattle.file.specs.Rules.Bytes.{Byte, Bytes, All, allEmpty, allNext}
+use Rattle.file.specs.Rules.Cluster.{File, Slave, Cluster, lastRecord, bytesAmong, bytesIn, configuration, documentation}
+use Rattle.file.specs.Rules.Legal.{LegalFile, Rising, end, next, LegalSlave, LegalPending, LegalAt}
+use Rattle.file.specs.Inner.Places.{noSlave, slaveOf, putByte, putBytes, SameFiles, noFiles, sameFile}
+use Rattle.file.specs.Rules.Changes.{putAmong, putInSlave, withSlaves, withEpoch, withPending}
 use Rattle.file.proofs.Order.{byCase}
 use Rattle.file.proofs.Shape.{files-put, files-bytes-length, shape-count, shape-fileLength, shape-putByte}
 use Rattle.file.proofs.Puts.{putByte-names}
 
 -- a property of every element is kept by a store of one that has it
 pub all-set : {A : Type 0} {P : A → Type 0} {l : List A} {a : A} (k : ℕ) → All P l → P a → All P (set l k a)
-all-set k none p = none
-all-set zero (both q r) p = both p r
-all-set (suc k) (both q r) p = both q (all-set k r p)
+all-set k allEmpty p = allEmpty
+all-set zero (allNext q r) p = allNext p r
+all-set (suc k) (allNext q r) p = allNext q (all-set k r p)
 
 -- and of one made from the element that it replaces
 all-change : {A : Type 0} {P : A → Type 0} {l : List A} (f : A → A) (d : A) (k : ℕ) → ((a : A) → P a → P (f a)) → All P l → All P (set l k (f (getD l k d)))
-all-change f d k keeps none = none
-all-change f d zero keeps (both {a = x} q r) = both (keeps x q) r
-all-change f d (suc k) keeps (both q r) = both q (all-change f d k keeps r)
+all-change f d k keeps allEmpty = allEmpty
+all-change f d zero keeps (allNext {a = x} q r) = allNext (keeps x q) r
+all-change f d (suc k) keeps (allNext q r) = allNext q (all-change f d k keeps r)
 
 -- ---- files and slaves
 
@@ -50,11 +51,11 @@ file-legal x k b byte legal =
 module _ (n k b : ℕ) (byte : Byte b) where
   files-legal : {xs : List File} → All LegalFile xs → All LegalFile (putAmong xs n k b)
   unfolding putAmong
-  files-legal none = none
-  files-legal (both {a = x} {l = xs} p r) =
+  files-legal allEmpty = allEmpty
+  files-legal (allNext {a = x} {l = xs} p r) =
       byCase (eqb (x .number) n)
-      (λ e. rw e (both (file-legal x k b byte p) r))
-      (λ e. rw e (both p (files-legal r)))
+      (λ e. rw e (allNext (file-legal x k b byte p) r))
+      (λ e. rw e (allNext p (files-legal r)))
 
   pub slave-legal : (x : Slave) → LegalSlave x → LegalSlave (putInSlave x n k b)
   unfolding putInSlave bytesIn
@@ -99,8 +100,8 @@ module _ {w : ℕ} where
 
   pub legal-putBytes : (c : Cluster) (s n k : ℕ) {bs : List ℕ} → n ≢ documentation → Bytes bs → LegalAt w c → LegalAt w (putBytes c s n k bs)
   unfolding putBytes
-  legal-putBytes c s n k differ none legal = legal
-  legal-putBytes c s n k differ (both {a = b} p r) legal =
+  legal-putBytes c s n k differ allEmpty legal = legal
+  legal-putBytes c s n k differ (allNext {a = b} p r) legal =
       legal-putBytes (putByte c s n k b) s n (suc k) differ r (legal-putByte c s n k b differ p legal)
 
   -- the header's fields

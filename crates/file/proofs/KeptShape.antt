@@ -7,13 +7,13 @@ use native.Mathlib.Omega.{arith}
 use mathlib.Core.Path.{_≡_, sym, subst}
 use mathlib.Core.List.{List, map}
 use lib.ListN.{length}
-use Rattle.file.specs.Bytes.{All, Bytes}
-use Rattle.file.specs.Layout.{offsetWidth, maxSlaves, maxLength}
-use Rattle.file.specs.Cluster.{File, Slave, Cluster, lastRecord, bytesIn, configuration, documentation, physicalName}
-use Rattle.file.specs.Encode.{encode}
-use Rattle.file.specs.Legal.{LegalFile, LegalSlave, LegalPending, LegalAt, Legal, Distinct}
-use Rattle.file.specs.Places.{SameFiles, noFiles, sameFile, SameShape, noSlaves, sameSlave}
-use Rattle.file.specs.Accepted.{Becomes}
+use Rattle.file.specs.Rules.Bytes.{All, Bytes}
+use Rattle.file.specs.Rules.Layout.{offsetWidth, maxSlaves, maxLength}
+use Rattle.file.specs.Rules.Cluster.{File, Slave, Cluster, lastRecord, bytesIn, configuration, documentation, physicalName}
+use Rattle.file.specs.Rules.Encode.{encode}
+use Rattle.file.specs.Rules.Legal.{LegalFile, LegalSlave, LegalPending, LegalAt, Legal, Distinct}
+use Rattle.file.specs.Inner.Places.{SameFiles, noFiles, sameFile, SameShape, noSlaves, sameSlave}
+use Rattle.file.specs.Inner.Accepted.{Becomes}
 use Rattle.file.proofs.Shape.{files-bytes-length, shape-count, shape-fileLength}
 use Rattle.file.proofs.Kept.{lastRecord-same, files-rising}
 use Rattle.file.proofs.Accepted.{legal-becomes}
@@ -35,9 +35,9 @@ same-file-legal x y number size bytes l =
     }
 
 pub same-files-legal : {xs ys : List File} → SameFiles xs ys → All (λ x. Bytes (x .bytes)) ys → All LegalFile xs → All LegalFile ys
-same-files-legal noFiles All.none All.none = All.none
-same-files-legal (sameFile {x = x} {y = y} number size r) (All.both b bs) (All.both l ls) =
-    All.both (same-file-legal x y number size b l) (same-files-legal r bs ls)
+same-files-legal noFiles All.allEmpty All.allEmpty = All.allEmpty
+same-files-legal (sameFile {x = x} {y = y} number size r) (All.allNext b bs) (All.allNext l ls) =
+    All.allNext (same-file-legal x y number size b l) (same-files-legal r bs ls)
 
 -- and so are slaves
 pub same-slave-legal : (s t : Slave) → SameFiles (s .files) (t .files) → HoldsBytes t → LegalSlave s → LegalSlave t
@@ -54,9 +54,9 @@ same-slave-legal s t same b l =
     }
 
 pub same-slaves-legal : {ss ts : List Slave} → SameShape ss ts → All HoldsBytes ts → All LegalSlave ss → All LegalSlave ts
-same-slaves-legal noSlaves All.none All.none = All.none
-same-slaves-legal (sameSlave {s = s} {t = t} same r) (All.both b bs) (All.both l ls) =
-    All.both (same-slave-legal s t same b l) (same-slaves-legal r bs ls)
+same-slaves-legal noSlaves All.allEmpty All.allEmpty = All.allEmpty
+same-slaves-legal (sameSlave {s = s} {t = t} same r) (All.allNext b bs) (All.allNext l ls) =
+    All.allNext (same-slave-legal s t same b l) (same-slaves-legal r bs ls)
 
 -- ---- the cluster
 

@@ -9,8 +9,8 @@ use native.Mathlib.Numerals.{add-one}
 use borrow.Author.Tests.{eq-eqb, ne-eqb}
 use lib.ListN.{length, getD, drop, drop-of-length-le}
 use lib.Seq.{drop-cons}
-use Rattle.file.specs.Order.{either}
-use Rattle.file.specs.Grounds.{isAmong, hasRepeat}
+use Rattle.file.specs.Rules.Order.{either}
+use Rattle.file.specs.Rules.Grounds.{isAmong, hasRepeat}
 use Rattle.file.proofs.Order.{either-right}
 
 -- what is left of a search is what the whole search gives
@@ -46,8 +46,8 @@ few-once [] few = refl
 few-once (n ∷ []) few = refl
 few-once (n ∷ m ∷ ns) few = absurd (omega arith)
 
-pub repeat-behind : (k : ℕ) (l : List ℕ) → hasRepeat (drop k l) ≡ true → hasRepeat l ≡ true
+pub repeat-after : (k : ℕ) (l : List ℕ) → hasRepeat (drop k l) ≡ true → hasRepeat l ≡ true
 unfolding hasRepeat
-repeat-behind zero l h = h
-repeat-behind (suc k) [] h = h
-repeat-behind (suc k) (n ∷ ns) h = either-right (isAmong n ns) (repeat-behind k ns h)
+repeat-after zero l h = h
+repeat-after (suc k) [] h = h
+repeat-after (suc k) (n ∷ ns) h = either-right (isAmong n ns) (repeat-after k ns h)

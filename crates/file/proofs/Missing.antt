@@ -9,12 +9,12 @@ use mathlib.Core.List.{List, [], _∷_}
 use lib.ListN.{length, getD}
 use lib.Dec.{eqb}
 use borrow.Author.Tests.{eqb-false, ne-eqb}
-use Rattle.file.specs.Bytes.{All, none, both}
-use Rattle.file.specs.Layout.{entrySize}
-use Rattle.file.specs.Cluster.{File, Slave, Cluster, bytesAmong, bytesIn}
-use Rattle.file.specs.Legal.{LegalFile}
-use Rattle.file.specs.Encode.{slaveSize, slavesPlace}
-use Rattle.file.specs.Places.{noSlave, slaveOf, placeAmong, filePlaceFrom, filePlaceAt}
+use Rattle.file.specs.Rules.Bytes.{All, allEmpty, allNext}
+use Rattle.file.specs.Rules.Layout.{entrySize}
+use Rattle.file.specs.Rules.Cluster.{File, Slave, Cluster, bytesAmong, bytesIn}
+use Rattle.file.specs.Rules.Legal.{LegalFile}
+use Rattle.file.specs.Rules.Encode.{slaveSize, slavesPlace}
+use Rattle.file.specs.Inner.Places.{noSlave, slaveOf, placeAmong, filePlaceFrom, filePlaceAt}
 use Rattle.file.proofs.Order.{byCase}
 
 -- no file of the list has the number; every file of the list has bytes
@@ -32,16 +32,16 @@ empty (x ∷ xs) h = absurd (h (omega arith))
 
 pub lacks-bytes : {xs : List File} (n : ℕ) → Lacks xs n → bytesAmong xs n ≡ []
 unfolding bytesAmong
-lacks-bytes n none = refl
-lacks-bytes n (both {a = x} p r) = rw (ne-eqb (x .number) n p, lacks-bytes n r)
+lacks-bytes n allEmpty = refl
+lacks-bytes n (allNext {a = x} p r) = rw (ne-eqb (x .number) n p, lacks-bytes n r)
 
 pub bytes-lacks : {xs : List File} (n : ℕ) → Filled xs → bytesAmong xs n ≡ [] → Lacks xs n
 unfolding bytesAmong
-bytes-lacks n none e = none
-bytes-lacks n (both {a = x} {l = xs} p r) e =
+bytes-lacks n allEmpty e = allEmpty
+bytes-lacks n (allNext {a = x} {l = xs} p r) e =
     byCase (eqb (x .number) n)
     (λ t. let none-left : x .bytes ≡ [] = rw t at e in absurd (omega (arith, ap length none-left)))
-    (λ f. both (eqb-false (x .number) n f) (bytes-lacks n r (rw f at e)))
+    (λ f. allNext (eqb-false (x .number) n f) (bytes-lacks n r (rw f at e)))
 
 -- no such file, by the bytes, in a slave whose files all have some
 pub missing : (x : Slave) (n : ℕ) → Filled (x .files) → (bytesIn x n ≡ []) ↔ Lacks (x .files) n
@@ -50,17 +50,17 @@ missing x n filled = (bytes-lacks n filled, lacks-bytes n)
 
 -- a legal file has bytes
 pub legal-filled : {xs : List File} → All LegalFile xs → Filled xs
-legal-filled none = none
-legal-filled (both {a = x} p r) =
+legal-filled allEmpty = allEmpty
+legal-filled (allNext {a = x} p r) =
     let some : 0 < length (x .bytes) = omega (arith, p .whole) in
-    both some (legal-filled r)
+    allNext some (legal-filled r)
 
 -- ---- the place of a file that is not there, and of one that has bytes
 
 pub lacks-place : {xs : List File} (begin n : ℕ) → Lacks xs n → placeAmong begin xs n ≡ 0
 unfolding placeAmong
-lacks-place begin n none = refl
-lacks-place begin n (both {a = x} p r) = rw (ne-eqb (x .number) n p, lacks-place (begin + length (x .bytes)) n r)
+lacks-place begin n allEmpty = refl
+lacks-place begin n (allNext {a = x} p r) = rw (ne-eqb (x .number) n p, lacks-place (begin + length (x .bytes)) n r)
 
 pub lacks-filePlaceFrom : (w begin : ℕ) (ss : List Slave) (s n : ℕ) → Lacks (getD ss s noSlave .files) n → filePlaceFrom w begin ss s n ≡ 0
 unfolding filePlaceFrom

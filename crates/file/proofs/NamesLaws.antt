@@ -1,19 +1,23 @@
 -- The physical names of the slaves, compared from the last to the first.
 -- Assumes nothing.
-use Prim.Native.Nat.{ℕ, zero, suc, _+_, _-_, _%_, _≤_, _<_}
+use Prim.Native.Nat.{ℕ, zero, suc, _+_, _*_, _-_, _/_, _%_, _≤_, _<_}
 use mathlib.Core.Path.{_≡_, refl, sym, ap, _∙_}
 use mathlib.Core.List.{List, [], _∷_, map}
 use mathlib.Core.Bool.{Bool, true, false}
 use native.Mathlib.Omega.{arith}
 use borrow.Author.Tests.{eqb-true, eqb-false}
-use lib.ListN.{length, getD, take, drop, set, replicate, length-set, length-drop}
+use lib.ListN.{length, getD, take, drop, set, replicate, length-set, length-drop, length-replicate, drop-of-length-le}
 use lib.Seq.{drop-cons, drop-length, take-all, getD-set-same, getD-set-other}
 use lib.Dec.{eqb}
-use Rattle.file.specs.Order.{either}
-use Rattle.file.specs.Bytes.{All, NumberAt}
-use Rattle.file.specs.Grounds.{isAmong, hasRepeat}
-use Rattle.file.specs.Checked.{nameAt, NameStands}
-use Rattle.file.proofs.LookingLaws.{Looking, looking-here, looking-next, looking-end, few-once, repeat-behind}
+use Rattle.file.specs.Rules.Order.{either}
+use Rattle.file.specs.Rules.Bytes.{All}
+use Rattle.file.specs.Inner.Numbers.{NumberAt}
+use Rattle.file.specs.Rules.Grounds.{isAmong, hasRepeat}
+use Rattle.file.specs.Rules.Layout.{physicalNamePlace, longWidth}
+use Rattle.file.specs.Inner.Places.{placesEach, documentationIndex}
+use Rattle.file.specs.Inner.Checked.{documentationPlaces, nameAt, NameStands, namesAt, NamesStand}
+use Rattle.file.proofs.Bytes.{all-at}
+use Rattle.file.proofs.LookingLaws.{Looking, looking-here, looking-next, looking-end, few-once, repeat-after}
 use Rattle.file.proofs.Order.{byCase, clash, either-left, either-right, either-next, either-false}
 
 -- ---- the names in order
@@ -27,15 +31,15 @@ name-of f [] i h = absurd (omega arith)
 name-of f (p ∷ ps) zero h = refl
 name-of f (p ∷ ps) (suc i) h = name-of f ps i (omega arith)
 
-names-behind : (f docs : List ℕ) (i : ℕ) → map (nameAt f) (drop i docs) ≡ drop i (map (nameAt f) docs)
-names-behind f docs zero = refl
-names-behind f [] (suc i) = refl
-names-behind f (p ∷ ps) (suc i) = names-behind f ps i
+names-after : (f docs : List ℕ) (i : ℕ) → map (nameAt f) (drop i docs) ≡ drop i (map (nameAt f) docs)
+names-after f docs zero = refl
+names-after f [] (suc i) = refl
+names-after f (p ∷ ps) (suc i) = names-after f ps i
 
 stand-from : {f docs : List ℕ} (i : ℕ) → All (NameStands f) docs → All (NameStands f) (drop i docs)
 stand-from zero h = h
-stand-from (suc i) All.none = All.none
-stand-from (suc i) (All.both p ps) = stand-from i ps
+stand-from (suc i) All.allEmpty = All.allEmpty
+stand-from (suc i) (All.allNext p ps) = stand-from i ps
 
 pub few-names : (f docs : List ℕ) → length docs < 2 → false ≡ hasRepeat (map (nameAt f) docs)
 few-names f docs h = few-once (map (nameAt f) docs) (rw (length-names f docs) h)
@@ -56,43 +60,43 @@ module _ (f docs : List ℕ) {name i : ℕ} (h : Looking name (map (nameAt f) do
     pub named-next : (here ≡ name → ⊥) → Looking name (map (nameAt f) docs) (i + 1)
     named-next other = looking-next h there (λ e. other (is ∙ sym (name-of f docs i more) ∙ e))
 
--- ---- the comparison: the names behind i are marked, and none of them occurs twice
+-- ---- the comparison: the remainders of the names from i on are kept, and none of these names occurs twice
 
-pub record Marking (l : List ℕ) (seen : List Bool) (i : ℕ) : Type 0 where
+pub record Comparing (l : List ℕ) (seen : List Bool) (i : ℕ) : Type 0 where
   pub room : length seen ≡ 255
   pub within : i ≤ length l
-  pub marks : (n : ℕ) → isAmong n (drop i l) ≡ true → getD seen (n % 255) false ≡ true
+  pub remainders : (n : ℕ) → isAmong n (drop i l) ≡ true → getD seen (n % 255) false ≡ true
   pub single : hasRepeat (drop i l) ≡ false
 
-pub marking-start : (l : List ℕ) {seen : List Bool} {i : ℕ} → length seen ≡ 255 → i ≡ length l → Marking l seen i
+pub comparing-start : (l : List ℕ) {seen : List Bool} {i : ℕ} → length seen ≡ 255 → i ≡ length l → Comparing l seen i
 unfolding isAmong hasRepeat
-marking-start l {seen} {i} long last =
+comparing-start l {seen} {i} long last =
     let none : drop i l ≡ [] = rw (last, drop-length l) in
     record {
       room = long;
       within = omega arith;
-      marks = λ n e. clash (rw none at e) refl;
+      remainders = λ n e. clash (rw none at e) refl;
       single = rw none;
     }
 
-module _ {l : List ℕ} {seen : List Bool} {i : ℕ} (h : Marking l seen i) (more : 0 < i) {name : ℕ} (is : name ≡ getD l (i - 1) 0) where
+module _ {l : List ℕ} {seen : List Bool} {i : ℕ} (h : Comparing l seen i) (more : 0 < i) {name : ℕ} (is : name ≡ getD l (i - 1) 0) where
   before : drop (i - 1) l ≡ name ∷ drop i l
   before =
       let back : suc (i - 1) ≡ i = omega arith in
       let first : drop (i - 1) l ≡ getD l (i - 1) 0 ∷ drop (suc (i - 1)) l = drop-cons l (i - 1) 0 (let w = h .within in omega arith) in
       rw (back, ← is) at first
 
-  -- a mark that is new
-  pub marking-new : {marked : Bool} → marked ≡ getD seen (name % 255) false → marked ≡ false → isAmong name (drop i l) ≡ false
-  marking-new mark e = byCase (isAmong name (drop i l)) (λ t. clash (h .marks name t) (sym mark ∙ e)) (λ t. t)
+  -- a remainder that is new
+  pub comparing-new : {seen-before : Bool} → seen-before ≡ getD seen (name % 255) false → seen-before ≡ false → isAmong name (drop i l) ≡ false
+  comparing-new is-seen e = byCase (isAmong name (drop i l)) (λ t. clash (h .remainders name t) (sym is-seen ∙ e)) (λ t. t)
 
-  pub marking-here : isAmong name (drop i l) ≡ true → true ≡ hasRepeat l
+  pub comparing-here : isAmong name (drop i l) ≡ true → true ≡ hasRepeat l
   unfolding hasRepeat
-  marking-here e = sym (repeat-behind (i - 1) l (rw before (either-left (hasRepeat (drop i l)) e)))
+  comparing-here e = sym (repeat-after (i - 1) l (rw before (either-left (hasRepeat (drop i l)) e)))
 
-  marked-next : (n : ℕ) → isAmong n (drop (i - 1) l) ≡ true → getD (set seen (name % 255) true) (n % 255) false ≡ true
+  kept-next : (n : ℕ) → isAmong n (drop (i - 1) l) ≡ true → getD (set seen (name % 255) true) (n % 255) false ≡ true
   unfolding isAmong
-  marked-next n e =
+  kept-next n e =
       byCase (eqb (n % 255) (name % 255))
       (λ t. rw (eqb-true (n % 255) (name % 255) t) (getD-set-same seen (name % 255) true false (omega (arith, h .room))))
       (λ t.
@@ -101,51 +105,131 @@ module _ {l : List ℕ} {seen : List Bool} {i : ℕ} (h : Marking l seen i) (mor
       let among : either (eqb n name) (isAmong n (drop i l)) ≡ true = rw before at e in
       byCase (eqb n name)
       (λ s. absurd (apart (ap (λ (x : ℕ). x % 255) (eqb-true n name s))))
-      (λ s. kept ∙ h .marks n (sym (either-next (isAmong n (drop i l)) s) ∙ among)))
+      (λ s. kept ∙ h .remainders n (sym (either-next (isAmong n (drop i l)) s) ∙ among)))
 
-  pub marking-next : isAmong name (drop i l) ≡ false → Marking l (set seen (name % 255) true) (i - 1)
+  pub comparing-next : isAmong name (drop i l) ≡ false → Comparing l (set seen (name % 255) true) (i - 1)
   unfolding hasRepeat
-  marking-next e =
+  comparing-next e =
       record {
         room = length-set seen (name % 255) true ∙ h .room;
         within = let w = h .within in omega arith;
-        marks = marked-next;
+        remainders = kept-next;
         single = rw before (either-false e (h .single));
       }
 
-pub marking-end : {l : List ℕ} {seen : List Bool} {i : ℕ} → Marking l seen i → i ≤ 0 → false ≡ hasRepeat l
-marking-end {l} {i = i} h past =
+pub comparing-end : {l : List ℕ} {seen : List Bool} {i : ℕ} → Comparing l seen i → i ≤ 0 → false ≡ hasRepeat l
+comparing-end {l} {i = i} h past =
     let z : i ≡ 0 = omega arith in
     sym (rw z at (h .single))
 
--- ---- the same, of the places that the code lends
+-- ---- the same, of the slaves' places
 
--- the places behind one
-behind : (docs : List ℕ) (i : ℕ) → i ≤ length docs → take (length docs - i) (drop i docs) ≡ drop i docs
-behind docs i h = take-all (length docs - i) (drop i docs) (simp length-drop (omega arith))
+-- the places of 0x3D among those of both files
+pub documents-length : (places : List ℕ) → length (documentationPlaces places) ≡ length places / placesEach
+unfolding documentationPlaces
+documents-length [] = refl
+documents-length (c ∷ []) = refl
+documents-length (c ∷ d ∷ places) = omega (arith, documents-length places)
 
-pub stand-behind : {f docs : List ℕ} (i : ℕ) → i ≤ length docs → All (NameStands f) docs → All (NameStands f) (take (length docs - i) (drop i docs))
-stand-behind {f} {docs} i h all = rw (behind docs i h) (stand-from i all)
+pub document-of : (places : List ℕ) (i : ℕ) → i < length places / placesEach → getD (documentationPlaces places) i 0 ≡ getD places (documentationIndex i) 0
+unfolding documentationPlaces
+document-of [] i h = absurd (omega arith)
+document-of (c ∷ []) i h = absurd (omega arith)
+document-of (c ∷ d ∷ places) zero h = refl
+document-of (c ∷ d ∷ places) (suc i) h =
+    let next : documentationIndex (suc i) ≡ suc (suc (documentationIndex i)) = omega arith in
+    rw next (document-of places i (omega arith))
 
-pub marked-within : (f docs : List ℕ) {seen : List Bool} {i : ℕ} → Marking (map (nameAt f) docs) seen i → i ≤ length docs
-marked-within f docs h = rw (← (length-names f docs)) (h .within)
+documents-after : (places : List ℕ) (i : ℕ) → documentationPlaces (drop (placesEach * i) places) ≡ drop i (documentationPlaces places)
+unfolding documentationPlaces
+documents-after places zero = refl
+documents-after [] (suc i) = rw (drop-of-length-le {A = ℕ} [] {i = placesEach * suc i} (omega arith))
+documents-after (c ∷ []) (suc i) = rw (drop-of-length-le (c ∷ []) {i = placesEach * suc i} (omega arith))
+documents-after (c ∷ d ∷ places) (suc i) =
+    let next : placesEach * suc i ≡ suc (suc (placesEach * i)) = omega arith in
+    rw next (documents-after places i)
 
-module _ (f docs : List ℕ) {seen : List Bool} {i : ℕ} (h : Marking (map (nameAt f) docs) seen i) (more : 0 < i) {name : ℕ} (is : name ≡ nameAt f (getD docs (i - 1) 0)) where
-  within : i ≤ length docs
-  within = marked-within f docs h
+pub length-names-at : (f places : List ℕ) → length (namesAt f places) ≡ length places / placesEach
+length-names-at f places = length-names f (documentationPlaces places) ∙ documents-length places
 
-  in-order : name ≡ getD (map (nameAt f) docs) (i - 1) 0
-  in-order = is ∙ sym (name-of f docs (i - 1) (let w = within in omega arith))
+pub few-names-at : (f places : List ℕ) → length places / placesEach < 2 → false ≡ hasRepeat (namesAt f places)
+few-names-at f places h = few-names f (documentationPlaces places) (rw (documents-length places) h)
 
-  among : isAmong name (map (nameAt f) (take (length docs - i) (drop i docs))) ≡ isAmong name (drop i (map (nameAt f) docs))
-  among = rw (behind docs i within, names-behind f docs i)
+-- each slave's name stands within the bytes, at a place that is a number of the machine
+pub name-within : (f places : List ℕ) (i : ℕ) → NamesStand f places → i < length places / placesEach → getD places (documentationIndex i) 0 + physicalNamePlace + longWidth ≤ length f
+name-within f places i h l =
+    let there : i < length (documentationPlaces places) = rw (documents-length places) l in
+    rw (document-of places i l) at (all-at 0 (h .all) there .within)
 
-  pub equal-new : {marked : Bool} → marked ≡ getD seen (name % 255) false → marked ≡ false → isAmong name (map (nameAt f) (take (length docs - i) (drop i docs))) ≡ false
-  equal-new mark e = among ∙ marking-new h more in-order mark e
+-- a search among them
+module _ (f places : List ℕ) {name i : ℕ} (h : Looking name (namesAt f places) i) where
+  pub searched-end : length places / placesEach ≤ i → false ≡ isAmong name (namesAt f places)
+  searched-end past = named-end f (documentationPlaces places) h (rw (documents-length places) past)
 
-  module _ {t : Bool} (found : t ≡ isAmong name (map (nameAt f) (take (length docs - i) (drop i docs)))) where
-    pub equal-here : t ≡ true → true ≡ hasRepeat (map (nameAt f) docs)
-    equal-here e = marking-here h more in-order (sym among ∙ sym found ∙ e)
+  module _ (more : i < length places / placesEach) {here : ℕ} (is : here ≡ nameAt f (getD places (documentationIndex i) 0)) where
+    there-is : here ≡ nameAt f (getD (documentationPlaces places) i 0)
+    there-is = rw (document-of places i more) is
 
-    pub equal-next : t ≡ false → Marking (map (nameAt f) docs) (set seen (name % 255) true) (i - 1)
-    equal-next e = marking-next h more in-order (sym among ∙ sym found ∙ e)
+    in-list : i < length (documentationPlaces places)
+    in-list = rw (documents-length places) more
+
+    pub searched-here : here ≡ name → true ≡ isAmong name (namesAt f places)
+    searched-here e = named-here f (documentationPlaces places) h in-list there-is e
+
+    pub searched-next : (here ≡ name → ⊥) → Looking name (namesAt f places) (i + 1)
+    searched-next other = named-next f (documentationPlaces places) h in-list there-is other
+
+-- the places of the slaves after one, as the code lends them
+after : (places : List ℕ) (i : ℕ) → i ≤ length places / placesEach → documentationPlaces (take (length places - placesEach * i) (drop (placesEach * i) places)) ≡ drop i (documentationPlaces places)
+after places i h =
+    rw (take-all (length places - placesEach * i) (drop (placesEach * i) places) (simp length-drop (omega arith))) (documents-after places i)
+
+-- a name whose remainder is new
+pub unseen : {b : Bool} (name : ℕ) (l : List ℕ) → (b ≡ false → isAmong name l ≡ false) → b ≡ false → false ≡ isAmong name l
+unseen name l none e = sym (none e)
+
+-- what the loop from the last slave to the first keeps
+pub record Compared (f places : List ℕ) (seen : List Bool) (i : ℕ) : Type 0 where
+  pub inside : i ≤ length places / placesEach
+  pub room : length seen ≡ 255
+  pub names : Comparing (namesAt f places) seen i
+
+pub compared-start : (f places : List ℕ) {i : ℕ} → i ≡ length places / placesEach → Compared f places (replicate 255 false) i
+compared-start f places e =
+    record {
+      inside = omega arith;
+      room = length-replicate 255 false;
+      names = comparing-start (namesAt f places) (length-replicate 255 false) (e ∙ sym (length-names-at f places));
+    }
+
+pub compared-end : {f places : List ℕ} {seen : List Bool} {i : ℕ} → Compared f places seen i → i ≤ 0 → false ≡ hasRepeat (namesAt f places)
+compared-end h past = comparing-end (h .names) past
+
+module _ {f places : List ℕ} {seen : List Bool} {i : ℕ} (h : Compared f places seen i) (more : 0 < i) {name : ℕ}
+    (is : name ≡ nameAt f (getD places (documentationIndex (i - 1)) 0)) where
+  pub stand-after : NamesStand f places → NamesStand f (take (length places - placesEach * i) (drop (placesEach * i) places))
+  stand-after all = record { all = rw (after places i (h .inside)) (stand-from i (all .all)) }
+
+  in-order : name ≡ getD (namesAt f places) (i - 1) 0
+  in-order =
+      let w = h .inside in
+      let there : i - 1 < length (documentationPlaces places) = rw (documents-length places) (omega arith) in
+      is ∙ sym (name-of f (documentationPlaces places) (i - 1) there ∙ rw (document-of places (i - 1) (omega arith)))
+
+  among : isAmong name (namesAt f (take (length places - placesEach * i) (drop (placesEach * i) places))) ≡ isAmong name (drop i (namesAt f places))
+  among = rw (after places i (h .inside), names-after f (documentationPlaces places) i)
+
+  pub equal-new : getD seen (name % 255) false ≡ false → isAmong name (namesAt f (take (length places - placesEach * i) (drop (placesEach * i) places))) ≡ false
+  equal-new e = among ∙ comparing-new (h .names) more in-order refl e
+
+  module _ {t : Bool} (found : t ≡ isAmong name (namesAt f (take (length places - placesEach * i) (drop (placesEach * i) places)))) where
+    pub equal-here : t ≡ true → true ≡ hasRepeat (namesAt f places)
+    equal-here e = comparing-here (h .names) more in-order (sym among ∙ sym found ∙ e)
+
+    pub equal-next : t ≡ false → Compared f places (set seen (name % 255) true) (i - 1)
+    equal-next e =
+        record {
+          inside = omega (arith, h .inside);
+          room = length-set seen (name % 255) true ∙ h .room;
+          names = comparing-next (h .names) more in-order (sym among ∙ sym found ∙ e);
+        }

@@ -9,7 +9,8 @@ use lib.Bits.{bitOr, or-shifted}
 use lib.Pow.{pow-add, shl-exact, shl-lt}
 use lib.ListN.{length, getD, drop, length-append, length-take, length-drop}
 use lib.Seq.{take-add, drop-drop, drop-cons}
-use Rattle.file.specs.Bytes.{numberOf, part, ByteAt, NumberAt}
+use Rattle.file.specs.Rules.Bytes.{numberOf, part}
+use Rattle.file.specs.Inner.Numbers.{ByteAt, NumberAt}
 
 -- the number that two runs of bytes spell together
 pub number-append : (xs ys : List ℕ) → numberOf (xs ++ ys) ≡ numberOf xs * 256 ^ length ys + numberOf ys
@@ -87,7 +88,10 @@ shifted-last {l} {at} {m} {b} {x} h s q =
 pub eight-bytes : {l : List ℕ} {at b₀ b₁ b₂ b₃ b₄ b₅ b₆ b₇ : ℕ} → at + 8 ≤ length l →
     ByteAt l at b₀ → ByteAt l (at + 1) b₁ → ByteAt l (at + 2) b₂ → ByteAt l (at + 3) b₃ → ByteAt l (at + 4) b₄ → ByteAt l (at + 5) b₅ → ByteAt l (at + 6) b₆ → ByteAt l (at + 7) b₇ →
     NumberAt l at 8
-    (bitOr (bitOr (bitOr (bitOr (bitOr (bitOr (bitOr ((b₀ * 2 ^ 56) % 2 ^ 64) ((b₁ * 2 ^ 48) % 2 ^ 64)) ((b₂ * 2 ^ 40) % 2 ^ 64)) ((b₃ * 2 ^ 32) % 2 ^ 64)) ((b₄ * 2 ^ 24) % 2 ^ 64)) ((b₅ * 2 ^ 16) % 2 ^ 64)) ((b₆ * 2 ^ 8) % 2 ^ 64)) b₇)
+    (bitOr (bitOr (bitOr (bitOr (bitOr (bitOr (bitOr ((b₀ * 2 ^ 56) % 2 ^ 64) ((b₁ * 2 ^ 48) % 2 ^ 64)) ((b₂ * 2 ^ 40) % 2 ^ 64)) ((b₃ * 2 ^ 32) % 2 ^ 64)) ((b₄ * 2 ^ 24) % 2 ^ 64))
+    ((b₅ * 2 ^ 16) % 2 ^ 64))
+    ((b₆ * 2 ^ 8) % 2 ^ 64))
+    b₇)
 eight-bytes {l} {at} h p₀ p₁ p₂ p₃ p₄ p₅ p₆ p₇ =
     let s₁ = shifted-first {l = l} {at = at} 56 (omega arith) (omega arith) p₀ in
     let s₂ = shifted-next {l = l} {at = at} {m = 1} 48 (omega arith) (omega arith) s₁ p₁ in

@@ -4,9 +4,12 @@
 use Prim.Native.Nat.{ℕ, suc}
 use native.Mathlib.Nat.{suc-ne-zero}
 use mathlib.Core.Path.{_≡_, refl, sym, _∙_}
-use mathlib.Core.List.{List, [], _∷_}
+use mathlib.Core.List.{List, [], _∷_, _++_}
 use mathlib.Core.Bool.{Bool, true, false, cond}
-use Rattle.file.specs.Order.{Ground, firstOf, both, either}
+use lib.Dec.{eqb}
+use borrow.Author.Tests.{eqb-true, eq-eqb, ne-eqb}
+use Rattle.file.specs.Rules.Bytes.{All, allEmpty, allNext}
+use Rattle.file.specs.Rules.Order.{Ground, firstOf, both, either}
 
 -- by cases on a test, with its equation
 pub byCase : {P : Type 0} (b : Bool) → (b ≡ true → P) → (b ≡ false → P) → P
@@ -107,7 +110,7 @@ unfolding firstOf
 first-none n true gs p = absurd (suc-ne-zero n p)
 first-none n false gs p = (refl, p)
 
--- two lists of grounds that start with the same ground, and that agree behind it where it does not hold, agree
+-- two lists of grounds that start with the same ground, and that agree after it where it does not hold, agree
 pub first-alike :
     (n : ℕ) {a b : Bool} (gs hs : List Ground)
     → a ≡ b
@@ -119,3 +122,34 @@ first-alike n {a} {b} gs hs e r = rw (sym e) (go a r)
     go : (x : Bool) → (x ≡ false → firstOf gs ≡ firstOf hs) → cond x n (firstOf gs) ≡ cond x n (firstOf hs)
     go true q = refl
     go false q = q refl
+
+-- ---- lists of grounds that are joined
+
+-- a ground's number is not 0, which is no ground's
+abbrev pub Numbered : Ground → Type 0
+Numbered g = eqb (g .number) 0 ≡ false
+
+-- the first of two lists, one after the other: that of the first list, or, where none of it holds, that of the second
+pub joined-first : (gs hs : List Ground) → All Numbered gs → firstOf (gs ++ hs) ≡ cond (eqb (firstOf gs) 0) (firstOf hs) (firstOf gs)
+unfolding firstOf
+joined-first [] hs allEmpty = refl
+joined-first (g ∷ gs) hs (allNext n ns) = go (g .holds) (joined-first gs hs ns)
+  where
+    go :
+        (b : Bool)
+        → firstOf (gs ++ hs) ≡ cond (eqb (firstOf gs) 0) (firstOf hs) (firstOf gs)
+        → cond b (g .number) (firstOf (gs ++ hs)) ≡ cond (eqb (cond b (g .number) (firstOf gs)) 0) (firstOf hs) (cond b (g .number) (firstOf gs))
+    go true rest = rw n
+    go false rest = rest
+
+pub joined-next : (gs hs : List Ground) → All Numbered gs → firstOf gs ≡ 0 → firstOf (gs ++ hs) ≡ firstOf hs
+joined-next gs hs ns z = joined-first gs hs ns ∙ rw (eq-eqb (firstOf gs) 0 z)
+
+pub joined-here : (gs hs : List Ground) → All Numbered gs → (firstOf gs ≡ 0 → ⊥) → firstOf (gs ++ hs) ≡ firstOf gs
+joined-here gs hs ns h = joined-first gs hs ns ∙ rw (ne-eqb (firstOf gs) 0 h)
+
+pub joined-left : (gs hs : List Ground) → All Numbered gs → firstOf (gs ++ hs) ≡ 0 → firstOf gs ≡ 0
+joined-left gs hs ns e = let z = sym (joined-first gs hs ns) ∙ e in byCase (eqb (firstOf gs) 0) (λ t. eqb-true (firstOf gs) 0 t) (λ t. rw t at z)
+
+pub joined-right : (gs hs : List Ground) → All Numbered gs → firstOf (gs ++ hs) ≡ 0 → firstOf hs ≡ 0
+joined-right gs hs ns e = sym (joined-next gs hs ns (joined-left gs hs ns e)) ∙ e

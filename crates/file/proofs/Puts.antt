@@ -11,10 +11,11 @@ use lib.ListN.{length, getD, set, take, drop, List·getD-eq-default}
 use lib.Seq.{getD-set-same, getD-set-other, set-out, drop-set-lt, drop-set-add, take-set-le, map-set-same, sets, sets-eq, length-take-le, drop-at, take-append-seam}
 use lib.Dec.{eqb, ltb}
 use borrow.Author.Tests.{eqb-true, eqb-false, ne-eqb, ltb-true, ltb-false, leb-true}
-use Rattle.file.specs.Bytes.{part}
-use Rattle.file.specs.Layout.{recordSize}
-use Rattle.file.specs.Cluster.{File, Slave, Cluster, bytesAmong, bytesIn, documentation, physicalName, hasRecord, recordOf}
-use Rattle.file.specs.Places.{noSlave, slaveOf, filePlaceAt, putAmong, putInSlave, withSlaves, putByte, putBytes}
+use Rattle.file.specs.Rules.Bytes.{part}
+use Rattle.file.specs.Rules.Layout.{recordSize}
+use Rattle.file.specs.Rules.Cluster.{File, Slave, Cluster, bytesAmong, bytesIn, documentation, physicalName, hasRecord, recordOf}
+use Rattle.file.specs.Inner.Places.{noSlave, slaveOf, filePlaceAt, putByte, putBytes}
+use Rattle.file.specs.Rules.Changes.{putAmong, putInSlave, withSlaves}
 use Rattle.file.proofs.Order.{byCase}
 use Rattle.file.proofs.Shape.{shape-count, shape-filePlaceAt, shape-bytes-length, shape-putByte, shape-putBytes}
 

@@ -8,17 +8,18 @@ use native.Mathlib.Omega.{arith}
 use borrow.Author.Tests.{eq-eqb, ne-eqb, eqb-true, eqb-false, le-leb, lt-leb, leb-true}
 use lib.ListN.{length, getD}
 use lib.Dec.{eqb, leb}
-use Rattle.file.specs.Bytes.{numberOf, part, ByteAt, NumberAt}
-use Rattle.file.specs.Layout.{entrySize}
-use Rattle.file.specs.Cluster.{File, Cluster, lastRecord, bytesAmong, bytesIn, hasRecord, configuration, documentation, logicalName, physicalName, comparisonValue}
-use Rattle.file.specs.Encode.{encode, slavesPlace}
-use Rattle.file.specs.Decode.{offsetAt, fileSize, filesAt, slaveAt, slavesAt, decodeAt, decode}
-use Rattle.file.specs.Decode
-use Rattle.file.specs.Legal.{LegalSlave}
-use Rattle.file.specs.Grounds.{to, walkDirectory, walkSlave, walkSlaves, walkFile, tableEnd, fileGround}
-use Rattle.file.specs.Places.{noSlave, slaveOf, placeAmong, filePlaceFrom, filePlaceAt, filePlace}
-use Rattle.file.specs.Accepted.{Becomes, Placed, KeptAt, FoundFile, fileAt, FoundRecord, recordAt, findFile, findRecord}
-use Rattle.file.specs.Checked.{searchDirectory}
+use Rattle.file.specs.Rules.Bytes.{numberOf, part}
+use Rattle.file.specs.Inner.Numbers.{ByteAt, NumberAt}
+use Rattle.file.specs.Rules.Layout.{offsetWidth, entrySize}
+use Rattle.file.specs.Rules.Cluster.{File, Cluster, lastRecord, bytesAmong, bytesIn, hasRecord, configuration, documentation, logicalName, physicalName, comparisonValue}
+use Rattle.file.specs.Rules.Encode.{encode, slavesPlace}
+use Rattle.file.specs.Rules.Decode.{offsetAt, fileSize, filesAt, slaveAt, slavesAt, decodeAt, decode}
+use Rattle.file.specs.Rules.Decode
+use Rattle.file.specs.Rules.Legal.{LegalSlave}
+use Rattle.file.specs.Rules.Grounds.{to, walkDirectory, walkSlave, walkSlaves, walkFile, tableEnd, fileGround}
+use Rattle.file.specs.Inner.Places.{noSlave, slaveOf, placeAmong, filePlaceFrom, filePlaceAt, filePlace, configurationIndex, documentationIndex}
+use Rattle.file.specs.Inner.Accepted.{Becomes, slaveCount, Placed, FoundFile, fileFound, FoundRecord, recordAt, findFile, findRecord}
+use Rattle.file.specs.Inner.Checked.{EntriesFit, searchDirectory}
 use Rattle.file.proofs.Order.{byCase}
 use Rattle.file.proofs.Bytes.{all-at}
 use Rattle.file.proofs.AcceptedFacts.{accepted}
@@ -35,14 +36,8 @@ becomes-decoded {f} {c} h =
       accepted = h .accepted;
       decoded = refl;
       encoded = rw (h .decoded) (h .encoded);
-      legal = subst Rattle.file.specs.Legal.Legal (sym (h .decoded)) (h .legal);
+      legal = subst Rattle.file.specs.Rules.Legal.Legal (sym (h .decoded)) (h .legal);
     }
-
-pub placed-configuration : {c : Cluster} {count : ℕ} {a b : List ℕ} (s : ℕ) → Placed c count a b → s < length (c .slaves) → KeptAt c configuration a s
-placed-configuration s p h = record { slave = h; place = p .config s h }
-
-pub placed-documentation : {c : Cluster} {count : ℕ} {a b : List ℕ} (s : ℕ) → Placed c count a b → s < length (c .slaves) → KeptAt c documentation b s
-placed-documentation s p h = record { slave = h; place = p .document s h }
 
 last-room : (r : ℕ) (bs : List ℕ) → 1 ≤ r → r ≤ lastRecord bs → 4 * r + 4 ≤ length bs
 unfolding lastRecord
@@ -75,42 +70,45 @@ module _ {f : List ℕ} {c : Cluster} (h : Becomes f c) (s : ℕ) where
 
 -- ---- the readers of 0x08 and 0x3D
 
-module _ {f : List ℕ} {c : Cluster} {places : List ℕ} {s : ℕ} (h : Becomes f c) where
-  pub configuration-within : KeptAt c configuration places s → getD places s 0 + 16 ≤ length f
-  configuration-within k =
-      let room = configuration-room h s (k .slave) in
-      omega (arith, place-within h s configuration (omega arith), k .place)
+module _ {f places : List ℕ} (h : Placed f places) (s : ℕ) (l : s < slaveCount f) where
+  pub configuration-within : getD places (configurationIndex s) 0 + 16 ≤ length f
+  configuration-within =
+      let room = configuration-room (h .file) s l in
+      omega (arith, place-within (h .file) s configuration (omega arith), h .at .config s l)
 
-  pub documentation-within : KeptAt c documentation places s → getD places s 0 + 12 ≤ length f
-  documentation-within k =
-      let room = documentation-room h s (k .slave) in
-      omega (arith, place-within h s documentation (omega arith), k .place)
+  pub documentation-within : getD places (documentationIndex s) 0 + 12 ≤ length f
+  documentation-within =
+      let room = documentation-room (h .file) s l in
+      omega (arith, place-within (h .file) s documentation (omega arith), h .at .document s l)
 
-  pub logical-there : KeptAt c configuration places s → getD f (getD places s 0 + 7) 0 ≡ logicalName (slaveOf c s)
+  pub logical-there : getD f (getD places (configurationIndex s) 0 + 7) 0 ≡ logicalName (slaveOf (decode f) s)
   unfolding logicalName
-  logical-there k =
-      let room = configuration-room h s (k .slave) in
-      rw (k .place) (byte-there h s configuration 7 (omega arith))
+  logical-there =
+      let room = configuration-room (h .file) s l in
+      rw (h .at .config s l) (byte-there (h .file) s configuration 7 (omega arith))
 
-  pub physical-there : {r : ℕ} → KeptAt c documentation places s → NumberAt f (getD places s 0 + 4) 8 r → r ≡ physicalName (slaveOf c s)
+  pub logical-read : {r : ℕ} → r ≡ getD f (getD places (configurationIndex s) 0 + 7) 0 → r ≡ logicalName (slaveOf (decode f) s)
+  logical-read is = is ∙ logical-there
+
+  pub physical-there : {r : ℕ} → NumberAt f (getD places (documentationIndex s) 0 + 4) 8 r → r ≡ physicalName (slaveOf (decode f) s)
   unfolding physicalName
-  physical-there k is =
-      let room = documentation-room h s (k .slave) in
-      is .is ∙ ap numberOf (rw (k .place) (part-there h s documentation 4 8 (omega arith)))
+  physical-there is =
+      let room = documentation-room (h .file) s l in
+      is .is ∙ ap numberOf (rw (h .at .document s l) (part-there (h .file) s documentation 4 8 (omega arith)))
 
-  pub comparison-there : {r : ℕ} → KeptAt c configuration places s → NumberAt f (getD places s 0 + 8) 8 r → r ≡ comparisonValue (slaveOf c s)
+  pub comparison-there : {r : ℕ} → NumberAt f (getD places (configurationIndex s) 0 + 8) 8 r → r ≡ comparisonValue (slaveOf (decode f) s)
   unfolding comparisonValue
-  comparison-there k is =
-      let room = configuration-room h s (k .slave) in
-      is .is ∙ ap numberOf (rw (k .place) (part-there h s configuration 8 8 (omega arith)))
+  comparison-there is =
+      let room = configuration-room (h .file) s l in
+      is .is ∙ ap numberOf (rw (h .at .config s l) (part-there (h .file) s configuration 8 8 (omega arith)))
 
 -- ---- the search of a directory
 
-pub search-none : (w : ℕ) (f : List ℕ) (n d : ℕ) → searchDirectory w f n d 0 ≡ FoundFile.missing
+pub search-none : (w : ℕ) (f : List ℕ) (n d : ℕ) → searchDirectory w f n d 0 ≡ FoundFile.noFile
 unfolding searchDirectory
 search-none w f n d = refl
 
-pub search-here : (w : ℕ) (f : List ℕ) (n d k : ℕ) → 0 < k → getD f d 0 ≡ n → searchDirectory w f n d k ≡ fileAt (offsetAt w f (d + w)) (fileSize (getD f (d + 1) 0))
+pub search-here : (w : ℕ) (f : List ℕ) (n d k : ℕ) → 0 < k → getD f d 0 ≡ n → searchDirectory w f n d k ≡ fileFound (offsetAt w f (d + w)) (fileSize (getD f (d + 1) 0))
 unfolding searchDirectory
 search-here w f n d zero h e = absurd (omega arith)
 search-here w f n d (suc k) h e = rw (eq-eqb (getD f d 0) n e)
@@ -135,7 +133,7 @@ module _ {f : List ℕ} {n d k entry b : ℕ} (h : Searching f n d k entry) (mor
   some-left : 0 < h .left
   some-left = omega (arith, h .at)
 
-  pub searching-here : {last place : ℕ} → b ≡ n → ByteAt f (entry + 1) last → NumberAt f (entry + 2) 2 place → fileAt place (4 * (last + 1)) ≡ searchDirectory 2 f n d k
+  pub searching-here : {last place : ℕ} → b ≡ n → ByteAt f (entry + 1) last → NumberAt f (entry + 2) 2 place → fileFound place (4 * (last + 1)) ≡ searchDirectory 2 f n d k
   unfolding offsetAt fileSize
   searching-here here l p = rw (l .is, p .is) (sym (search-here 2 f n entry (h .left) some-left (sym (is .is) ∙ here)) ∙ h .same)
 
@@ -147,7 +145,7 @@ module _ {f : List ℕ} {n d k entry b : ℕ} (h : Searching f n d k entry) (mor
         same = sym (search-next 2 f n entry (h .left) some-left (λ q. other (is .is ∙ q))) ∙ h .same;
       }
 
-pub searching-done : {f : List ℕ} {n d k entry : ℕ} → Searching f n d k entry → d + 4 * k ≤ entry → FoundFile.missing ≡ searchDirectory 2 f n d k
+pub searching-done : {f : List ℕ} {n d k entry : ℕ} → Searching f n d k entry → d + 4 * k ≤ entry → FoundFile.noFile ≡ searchDirectory 2 f n d k
 unfolding searchDirectory
 searching-done h none =
     let z : h .left ≡ 0 = omega (arith, h .at) in
@@ -157,9 +155,9 @@ searching-done h none =
 
 -- what files from a place on hold of a number
 unfoldable pub foundAmong : ℕ → List File → ℕ → FoundFile
-foundAmong place xs n = cond (eqb (length (bytesAmong xs n)) 0) FoundFile.missing (fileAt (placeAmong place xs n) (length (bytesAmong xs n)))
+foundAmong place xs n = cond (eqb (length (bytesAmong xs n)) 0) FoundFile.noFile (fileFound (placeAmong place xs n) (length (bytesAmong xs n)))
 
-found-here : (place : ℕ) (x : File) (xs : List File) (n : ℕ) → x .number ≡ n → 0 < length (x .bytes) → foundAmong place (x ∷ xs) n ≡ fileAt place (length (x .bytes))
+found-here : (place : ℕ) (x : File) (xs : List File) (n : ℕ) → x .number ≡ n → 0 < length (x .bytes) → foundAmong place (x ∷ xs) n ≡ fileFound place (length (x .bytes))
 unfolding foundAmong bytesAmong placeAmong
 found-here place x xs n is some = rw (eq-eqb (x .number) n is, ne-eqb (length (x .bytes)) 0 (λ q. omega arith))
 
@@ -167,7 +165,7 @@ found-behind : (place : ℕ) (x : File) (xs : List File) (n : ℕ) → (x .numbe
 unfolding foundAmong bytesAmong placeAmong
 found-behind place x xs n other = rw (ne-eqb (x .number) n other)
 
-nothing : (p m : ℕ) → FoundFile.missing ≡ foundAmong p [] m
+nothing : (p m : ℕ) → FoundFile.noFile ≡ foundAmong p [] m
 unfolding foundAmong bytesAmong
 nothing p m = refl
 
@@ -220,7 +218,10 @@ slave-there w f t place (suc k) e (suc s) h l =
       end = r .end;
       walk = rw same (r .walk);
       slave = rw same (r .slave);
-      place′ = λ n. rw same (subst (λ (p : ℕ). filePlaceFrom w p (slavesAt w f (t + entrySize w) k) s n ≡ placeAmong (r .at + entrySize w * length (slaveAt w f (t + entrySize w + entrySize w * s) .files)) (slaveAt w f (t + entrySize w + entrySize w * s) .files) n) end (r .place′ n));
+      place′ = λ n.
+          let files = slaveAt w f (t + entrySize w + entrySize w * s) .files in
+          rw same
+          (subst (λ (p : ℕ). filePlaceFrom w p (slavesAt w f (t + entrySize w) k) s n ≡ placeAmong (r .at + entrySize w * length files) files n) end (r .place′ n));
     }
 
 -- ---- the table of an accepted file
@@ -251,6 +252,12 @@ module _ {f : List ℕ} (h : Becomes f (decode f)) where
   pub entry-within : (s : ℕ) → s < length (decode f .slaves) → 16 + 4 * s + 4 ≤ length f
   entry-within s l = omega (arith, table-walk f (h .accepted) .0, count-there f)
 
+  pub entry-offset : (s : ℕ) → s < slaveCount f → 16 + 4 * s + offsetWidth ≤ length f
+  entry-offset s l = omega (arith, entry-within s l)
+
+  pub entry-count : (s : ℕ) → s < slaveCount f → 16 + 4 * s + 2 < length f
+  entry-count s l = omega (arith, entry-within s l)
+
   module _ (s : ℕ) (l : s < length (decode f .slaves)) {d k : ℕ} (offset : NumberAt f (16 + 4 * s) 2 d) (count : ByteAt f (16 + 4 * s + 2) k) where
     there : SlaveThere 2 f 16 (16 + 4 * getD f 3 0) (getD f 3 0) s
     there = slave-there 2 f 16 (16 + 4 * getD f 3 0) (getD f 3 0) (length f) s (table-walk f (h .accepted) .1) (omega (arith, count-there f))
@@ -263,6 +270,9 @@ module _ {f : List ℕ} (h : Becomes f (decode f)) where
     directory-within =
         let took = slave-took 2 f (16 + 4 * s) (there .at) (there .end) (there .walk) in
         omega (arith, took .facts .within, directory-is, count .is)
+
+    pub directory-fits : EntriesFit f d k
+    directory-fits = record { within = directory-within; short = length-limit }
 
     files-there : slaveOf (decode f) s .files ≡ filesAt 2 f d k
     unfolding slaveOf decode decodeAt slaveAt
@@ -286,20 +296,20 @@ module _ {f : List ℕ} (h : Becomes f (decode f)) where
 
 -- ---- a record of a file that was found
 
-find-cases : (c : Cluster) (s n : ℕ) {place size : ℕ} → fileAt place size ≡ findFile c s n → (place ≡ filePlace c s n) × (size ≡ length (bytesIn (slaveOf c s) n))
+find-cases : (c : Cluster) (s n : ℕ) {place size : ℕ} → fileFound place size ≡ findFile c s n → (place ≡ filePlace c s n) × (size ≡ length (bytesIn (slaveOf c s) n))
 unfolding findFile
 find-cases c s n {place} {size} h =
     byCase (eqb (length (bytesIn (slaveOf c s) n)) 0)
     (λ t. absurd (other (rw t at h)))
     (λ t. same (rw t at h))
   where
-    other : fileAt place size ≡ FoundFile.missing → ⊥
+    other : fileFound place size ≡ FoundFile.noFile → ⊥
     other q = let z : _≡_ {A = ℕ} 0 1 = cc in omega arith
 
-    same : {a b : ℕ} → fileAt place size ≡ fileAt a b → (place ≡ a) × (size ≡ b)
+    same : {a b : ℕ} → fileFound place size ≡ fileFound a b → (place ≡ a) × (size ≡ b)
     same q = (cc, cc)
 
-pub record-missing : (c : Cluster) (s n r : ℕ) → FoundFile.missing ≡ findFile c s n → FoundRecord.missing ≡ findRecord c s n r
+pub record-missing : (c : Cluster) (s n r : ℕ) → FoundFile.noFile ≡ findFile c s n → FoundRecord.noRecord ≡ findRecord c s n r
 unfolding findFile findRecord hasRecord
 record-missing c s n r h =
     byCase (eqb (length (bytesIn (slaveOf c s) n)) 0)
@@ -308,19 +318,19 @@ record-missing c s n r h =
     rw (lt-leb (4 * r + 4) (length (bytesIn (slaveOf c s) n)) (omega arith)))
     (λ t. absurd (other (rw t at h)))
   where
-    other : {a b : ℕ} → FoundFile.missing ≡ fileAt a b → ⊥
+    other : {a b : ℕ} → FoundFile.noFile ≡ fileFound a b → ⊥
     other q = let z : _≡_ {A = ℕ} 0 1 = cc in omega arith
 
-pub record-past : (c : Cluster) (s n r : ℕ) {place size : ℕ} → fileAt place size ≡ findFile c s n → size < 4 * r + 4 → FoundRecord.missing ≡ findRecord c s n r
+pub record-past : (c : Cluster) (s n r : ℕ) {place size : ℕ} → fileFound place size ≡ findFile c s n → size < 4 * r + 4 → FoundRecord.noRecord ≡ findRecord c s n r
 unfolding findRecord hasRecord
 record-past c s n r h l = rw (lt-leb (4 * r + 4) (length (bytesIn (slaveOf c s) n)) (omega (arith, find-cases c s n h .1)))
 
-pub record-found : (c : Cluster) (s n r : ℕ) {place size : ℕ} → fileAt place size ≡ findFile c s n → 4 * r + 4 ≤ size → recordAt (place + 4 * r) ≡ findRecord c s n r
+pub record-found : (c : Cluster) (s n r : ℕ) {place size : ℕ} → fileFound place size ≡ findFile c s n → 4 * r + 4 ≤ size → recordAt (place + 4 * r) ≡ findRecord c s n r
 unfolding findRecord hasRecord
 record-found c s n r h l = rw (le-leb (4 * r + 4) (length (bytesIn (slaveOf c s) n)) (omega (arith, find-cases c s n h .1)), find-cases c s n h .0)
 
 -- a file that was found lies within the file
-pub found-within : {f : List ℕ} {c : Cluster} (h : Becomes f c) (s n : ℕ) {place size : ℕ} → fileAt place size ≡ findFile c s n → place + size ≤ length f
+pub found-within : {f : List ℕ} {c : Cluster} (h : Becomes f c) (s n : ℕ) {place size : ℕ} → fileFound place size ≡ findFile c s n → place + size ≤ length f
 unfolding findFile
 found-within {f} {c} h s n {place} {size} is =
     let both = find-cases c s n is in
@@ -330,7 +340,7 @@ found-within {f} {c} h s n {place} {size} is =
     let some = eqb-false (length (bytesIn (slaveOf c s) n)) 0 t in
     omega (arith, both, place-within h s n (positive some)))
   where
-    other : fileAt place size ≡ FoundFile.missing → ⊥
+    other : fileFound place size ≡ FoundFile.noFile → ⊥
     other q = let z : _≡_ {A = ℕ} 0 1 = cc in omega arith
 
     positive : {m : ℕ} → (m ≡ 0 → ⊥) → 0 < m

@@ -1,17 +1,25 @@
--- A record of a file, by what the search for the file returned: one law for each way through `find_record`.
+-- A record of a file, by what the search for the file returned: one law for each way through `find_record`. And the records that every
+-- slave has, by the places of their files.
 -- Assumes nothing.
-use Prim.Native.Nat.{ℕ, _+_, _*_, _≤_, _<_}
+use Prim.Native.Nat.{ℕ, suc, _+_, _*_, _≤_, _<_}
 use mathlib.Core.Path.{_≡_}
 use mathlib.Core.List.{List}
-use lib.ListN.{length}
-use Rattle.file.specs.Cluster.{Cluster}
-use Rattle.file.specs.Accepted.{Becomes, fileAt, findFile, findRecord}
-use Rattle.file.specs.Answers.{foundFile, foundRecord}
+use native.Mathlib.Omega.{arith}
+use borrow.Author.Tests.{le-leb}
+use lib.ListN.{length, getD}
+use mir.Syntax.{w64}
+use mir.Val.{Fits}
+use Rattle.file.specs.Rules.Layout.{recordSize, neededConfiguration, neededDocumentation}
+use Rattle.file.specs.Rules.Cluster.{Cluster, bytesIn, hasRecord, configuration, documentation}
+use Rattle.file.specs.Rules.Decode.{decode}
+use Rattle.file.specs.Inner.Places.{slaveOf, filePlace, configurationIndex, documentationIndex}
+use Rattle.file.specs.Inner.Accepted.{Becomes, AcceptedFile, slaveCount, Placed, fileFound, findFile, findRecord}
+use Rattle.file.specs.Inner.Answers.{foundFile, foundRecord}
 use Rattle.file.specs.declared.readers.FileBytes.{FileBytes}
 use Rattle.file.specs.declared.readers.FilePlace.{FilePlace}
 use Rattle.file.specs.declared.readers.FilePlace.the-variants.{Bytes, NoFile}
 use Rattle.file.specs.declared.readers.RecordPlace.the-variants.{At, NoRecord}
-use Rattle.file.proofs.ReaderLaws.{record-missing, record-past, record-found, found-within}
+use Rattle.file.proofs.ReaderLaws.{length-limit, configuration-room, documentation-room, record-missing, record-past, record-found, found-within}
 
 module _ (c : Cluster) (s n : ℕ) {r : FilePlace} (is : foundFile r ≡ findFile c s n) where
   pub no-file : (record′ : ℕ) → r ≡ NoFile → foundRecord NoRecord ≡ findRecord c s n record′
@@ -19,7 +27,7 @@ module _ (c : Cluster) (s n : ℕ) {r : FilePlace} (is : foundFile r ≡ findFil
   no-file record′ e = record-missing c s n record′ (rw e at is)
 
   module _ {found : FileBytes} (e : r ≡ Bytes found) where
-    file-there : fileAt (found .place) (found .size) ≡ findFile c s n
+    file-there : fileFound (found .place) (found .size) ≡ findFile c s n
     unfolding foundFile
     file-there = rw e at is
 
@@ -33,3 +41,24 @@ module _ (c : Cluster) (s n : ℕ) {r : FilePlace} (is : foundFile r ≡ findFil
 
     pub bytes-within : {f : List ℕ} → Becomes f c → found .place + found .size ≤ length f
     bytes-within h = found-within h s n file-there
+
+-- the place of a record that was found is a number of the machine
+pub record-fits : {f : List ℕ} (s n : ℕ) {r : FilePlace} {found : FileBytes} → AcceptedFile f → foundFile r ≡ findFile (decode f) s n → r ≡ Bytes found → (record′ : ℕ) →
+    recordSize * record′ + recordSize ≤ found .size → Fits w64 (found .place + recordSize * record′)
+record-fits {f} s n h is e record′ l = record { fits = omega (arith, bytes-within (decode f) s n is e h, length-limit h) }
+
+-- ---- a record that every slave has
+
+-- the place of a file with k records or more states where each of them lies
+needed-found : (c : Cluster) (s k : ℕ) {n m place : ℕ} → n ≡ m → place ≡ filePlace c s m → recordSize * suc k ≤ length (bytesIn (slaveOf c s) m) → {r : ℕ} → r ≤ k →
+    foundRecord (At (place + recordSize * r)) ≡ findRecord c s n r
+unfolding foundRecord findRecord hasRecord
+needed-found c s k {m = m} same kept room {r} less =
+    rw (same, le-leb (recordSize * r + recordSize) (length (bytesIn (slaveOf c s) m)) (omega arith), kept)
+
+module _ {f places : List ℕ} (p : Placed f places) {s n r : ℕ} (there : s < slaveCount f) where
+  pub configuration-found : n ≡ configuration → r ≤ neededConfiguration → foundRecord (At (getD places (configurationIndex s) 0 + recordSize * r)) ≡ findRecord (decode f) s n r
+  configuration-found same less = needed-found (decode f) s neededConfiguration same (p .at .config s there) (configuration-room (p .file) s there) less
+
+  pub documentation-found : n ≡ documentation → r ≤ neededDocumentation → foundRecord (At (getD places (documentationIndex s) 0 + recordSize * r)) ≡ findRecord (decode f) s n r
+  documentation-found same less = needed-found (decode f) s neededDocumentation same (p .at .document s there) (documentation-room (p .file) s there) less

@@ -4,12 +4,12 @@ use Prim.Native.Nat.{ℕ, _^_, _<_}
 use mathlib.Core.Path.{_≡_}
 use mathlib.Core.List.{List}
 use lib.ListN.{length}
-use Rattle.file.specs.Bytes.{Bytes}
-use Rattle.file.specs.Cluster.{Cluster}
-use Rattle.file.specs.Encode.{encodeAt}
-use Rattle.file.specs.Decode.{decodeAt}
-use Rattle.file.specs.Legal.{LegalAt}
-use Rattle.file.specs.Grounds.{fileGroundAt}
+use Rattle.file.specs.Rules.Bytes.{Bytes}
+use Rattle.file.specs.Rules.Cluster.{Cluster}
+use Rattle.file.specs.Rules.Encode.{encodeAt}
+use Rattle.file.specs.Rules.Decode.{decodeAt}
+use Rattle.file.specs.Rules.Legal.{LegalAt}
+use Rattle.file.specs.Rules.Grounds.{fileGroundAt}
 use Rattle.file.proofs.Width.{Width, place-fits}
 use Rattle.file.proofs.Bytes.{all-map}
 use Rattle.file.proofs.Sizes.{encodeAt-length}

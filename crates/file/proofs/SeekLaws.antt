@@ -8,10 +8,10 @@ use native.Mathlib.Omega.{arith}
 use borrow.Author.Tests.{eqb-true, eq-eqb, ne-eqb, le-leb}
 use lib.ListN.{length, getD}
 use lib.Dec.{leb, eqb}
-use Rattle.file.specs.Bytes.{NumberAt}
-use Rattle.file.specs.Decode.{offsetAt, fileSize}
-use Rattle.file.specs.Grounds.{to, walkDirectory}
-use Rattle.file.specs.Checked.{states, statedPlace, Arrives}
+use Rattle.file.specs.Inner.Numbers.{NumberAt}
+use Rattle.file.specs.Rules.Decode.{offsetAt, fileSize}
+use Rattle.file.specs.Rules.Grounds.{to, walkDirectory}
+use Rattle.file.specs.Inner.Checked.{states, statedPlace, Arrives}
 use Rattle.file.proofs.Order.{both-left, both-next, both-false-left}
 use Rattle.file.proofs.Arrivals.{Step, walk-took}
 use Rattle.file.proofs.WalkLaws.{stated-step, stated-last}

@@ -6,10 +6,11 @@ use mathlib.Core.Path.{_≡_, refl, sym, ap, _∙_}
 use mathlib.Core.List.{List, [], _∷_}
 use lib.ListN.{length, getD, set, length-append, length-set}
 use lib.Dec.{eqb}
-use Rattle.file.specs.Layout.{entrySize}
-use Rattle.file.specs.Cluster.{File, Slave, Cluster, lastRecord, bytesAmong, bytesIn, hasRecord}
-use Rattle.file.specs.Encode.{directoryEntry, directory, contents, slaveSize, slavesSize, tableEntry, table, slavesPlace, fileLength}
-use Rattle.file.specs.Places.{noSlave, slaveOf, placeAmong, filePlaceFrom, filePlaceAt, putAmong, putInSlave, withSlaves, putByte, putBytes, SameFiles, noFiles, sameFile, SameShape, noSlaves, sameSlave}
+use Rattle.file.specs.Rules.Layout.{entrySize}
+use Rattle.file.specs.Rules.Cluster.{File, Slave, Cluster, lastRecord, bytesAmong, bytesIn, hasRecord}
+use Rattle.file.specs.Rules.Encode.{directoryEntry, directory, contents, slaveSize, slavesSize, tableEntry, table, slavesPlace, fileLength}
+use Rattle.file.specs.Inner.Places.{noSlave, slaveOf, placeAmong, filePlaceFrom, filePlaceAt, putByte, putBytes, SameFiles, noFiles, sameFile, SameShape, noSlaves, sameSlave}
+use Rattle.file.specs.Rules.Changes.{putAmong, putInSlave, withSlaves}
 use Rattle.file.proofs.Order.{byCase}
 
 -- ---- an equivalence
@@ -68,9 +69,9 @@ files-place place n (sameFile {y = y} p q r) = rw (p, q, files-place (place + le
 
 -- ---- what is equal of slaves of the same shape
 
-pub slave-size : {s t : Slave} (w : ℕ) → SameFiles (s .files) (t .files) → slaveSize w s ≡ slaveSize w t
+pub slave-size : (s t : Slave) (w : ℕ) → SameFiles (s .files) (t .files) → slaveSize w s ≡ slaveSize w t
 unfolding slaveSize
-slave-size w p = rw (files-count p, files-contents-length p)
+slave-size s t w p = rw (files-count p, files-contents-length p)
 
 pub shape-count : {ss ts : List Slave} → SameShape ss ts → length ss ≡ length ts
 shape-count noSlaves = refl
@@ -79,12 +80,12 @@ shape-count (sameSlave p r) = ap suc (shape-count r)
 pub shape-size : {ss ts : List Slave} (w : ℕ) → SameShape ss ts → slavesSize w ss ≡ slavesSize w ts
 unfolding slavesSize
 shape-size w noSlaves = refl
-shape-size w (sameSlave p r) = rw (slave-size w p, shape-size w r)
+shape-size w (sameSlave {s = s} {t = t} p r) = rw (slave-size s t w p, shape-size w r)
 
 pub shape-table : {ss ts : List Slave} (w place : ℕ) → SameShape ss ts → table w place ss ≡ table w place ts
 unfolding table tableEntry
 shape-table w place noSlaves = refl
-shape-table w place (sameSlave {t = t} p r) = rw (slave-size w p, files-count p, shape-table w (place + slaveSize w t) r)
+shape-table w place (sameSlave {s = s} {t = t} p r) = rw (slave-size s t w p, files-count p, shape-table w (place + slaveSize w t) r)
 
 pub shape-slavesPlace : {ss ts : List Slave} (w : ℕ) → SameShape ss ts → slavesPlace w ss ≡ slavesPlace w ts
 unfolding slavesPlace
@@ -99,8 +100,8 @@ unfolding filePlaceFrom
 shape-filePlaceFrom w place s n noSlaves = refl
 shape-filePlaceFrom w place zero n (sameSlave {t = t} p r) =
     rw (files-count p, files-place (place + entrySize w * length (t .files)) n p)
-shape-filePlaceFrom w place (suc s) n (sameSlave {t = t} p r) =
-    rw (slave-size w p, shape-filePlaceFrom w (place + slaveSize w t) s n r)
+shape-filePlaceFrom w place (suc s) n (sameSlave {s = x} {t = t} p r) =
+    rw (slave-size x t w p, shape-filePlaceFrom w (place + slaveSize w t) s n r)
 
 -- the slave at an index has such files in both
 pub shape-at : {ss ts : List Slave} (s : ℕ) → SameShape ss ts → SameFiles (getD ss s noSlave .files) (getD ts s noSlave .files)

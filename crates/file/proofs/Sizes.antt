@@ -7,10 +7,10 @@ use native.Mathlib.Nat.{mul-zero}
 use mathlib.Core.Path.{_≡_, refl, sym, ap}
 use mathlib.Core.List.{List, [], _∷_}
 use lib.ListN.{length, length-append, length-replicate}
-use Rattle.file.specs.Bytes.{bytesOf}
-use Rattle.file.specs.Layout.{headerSize, entrySize}
-use Rattle.file.specs.Cluster.{File, Slave, Cluster}
-use Rattle.file.specs.Encode.{directoryEntry, directory, slaveSize, slaveBytes, slavesBytes, slavesSize, tableEntry, table, slavesPlace, fileLength, header, encodeAt}
+use Rattle.file.specs.Rules.Bytes.{bytesOf}
+use Rattle.file.specs.Rules.Layout.{headerSize, entrySize}
+use Rattle.file.specs.Rules.Cluster.{File, Slave, Cluster}
+use Rattle.file.specs.Rules.Encode.{directoryEntry, directory, slaveSize, slaveBytes, slavesBytes, slavesSize, tableEntry, table, slavesPlace, fileLength, header, encodeAt}
 
 -- a number in w bytes
 pub bytesOf-length : (w n : ℕ) → length (bytesOf w n) ≡ w

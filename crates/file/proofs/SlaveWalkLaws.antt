@@ -2,18 +2,20 @@
 -- Assumes nothing.
 use Prim.Native.Nat.{ℕ, zero, suc, _+_, _*_, _-_, _≤_, _<_}
 use mathlib.Core.Path.{_≡_, refl, sym, _∙_}
-use mathlib.Core.List.{List, _∷_, _++_, append-nil}
+use mathlib.Core.List.{List, [], _∷_, _++_, append-nil, append-assoc}
 use mathlib.Core.Bool.{Bool, true, false}
 use native.Mathlib.Omega.{arith}
 use native.Mathlib.Numerals.{add-one}
 use lib.ListN.{length, getD, take, set, length-set}
 use lib.Seq.{take-suc-set, append-snoc}
-use Rattle.file.specs.Bytes.{numberOf, part, ByteAt, NumberAt}
-use Rattle.file.specs.Layout.{entrySize}
-use Rattle.file.specs.Cluster.{configuration, documentation}
-use Rattle.file.specs.Decode.{offsetAt}
-use Rattle.file.specs.Grounds.{broken, to, andThen, goodTableEntry, walkDirectory, walkSlave, walkSlaves}
-use Rattle.file.specs.Checked.{statedPlace, statedIn, statedPlaces, walkOf, DirectoryWalked, Arrives, SlaveWalked, SlavesWalked}
+use Rattle.file.specs.Rules.Bytes.{numberOf, part}
+use Rattle.file.specs.Inner.Numbers.{ByteAt, NumberAt}
+use Rattle.file.specs.Rules.Layout.{offsetWidth, headerSize, entrySize, neededConfiguration, neededDocumentation}
+use Rattle.file.specs.Rules.Cluster.{configuration, documentation}
+use Rattle.file.specs.Rules.Decode.{offsetAt}
+use Rattle.file.specs.Rules.Grounds.{broken, to, andThen, goodTableEntry, walkDirectory, walkSlave, walkSlaves}
+use Rattle.file.specs.Inner.Places.{placesEach}
+use Rattle.file.specs.Inner.Checked.{statedPlace, statedIn, statedPlaces, walkOf, DirectoryWalked, Arrives, SlaveWalked, SlavesWalked}
 use Rattle.file.proofs.Order.{clash}
 use Rattle.file.proofs.Facts.{false-unless, TableEntryFacts, table-entry-facts, table-entry-yes, zeros-first, zeros-more, zeros-none}
 
@@ -109,68 +111,73 @@ slaves-step w f t place (suc k) end h e =
     let same : suc k - 1 ≡ k = omega arith in
     rw (e, same)
 
-stated-cons : (w : ℕ) (f : List ℕ) (n least t k : ℕ) → 0 < k → statedPlaces w f n least t k ≡ statedIn w f n least t ∷ statedPlaces w f n least (t + entrySize w) (k - 1)
+stated-cons : (w : ℕ) (f : List ℕ) (t k : ℕ) → 0 < k →
+    statedPlaces w f t k ≡ statedIn w f configuration neededConfiguration t ∷ statedIn w f documentation neededDocumentation t ∷ statedPlaces w f (t + entrySize w) (k - 1)
 unfolding statedPlaces
-stated-cons w f n least t zero h = absurd (omega arith)
-stated-cons w f n least t (suc k) h =
+stated-cons w f t zero h = absurd (omega arith)
+stated-cons w f t (suc k) h =
     let same : suc k - 1 ≡ k = omega arith in
     rw same
 
--- the places written so far, in front of those to come
-pub record Written (f : List ℕ) (n least count slave entry : ℕ) (places : List ℕ) : Type 0 where
-  pub room : length places ≡ 32
-  pub all : take slave places ++ statedPlaces 2 f n least entry (count - slave) ≡ statedPlaces 2 f n least 16 count
+-- two stores, one after the other
+take-two : (l : List ℕ) (i a b : ℕ) → suc i < length l → take (suc (suc i)) (set (set l i a) (suc i) b) ≡ take i l ++ (a ∷ b ∷ [])
+take-two l i a b h =
+    rw (take-suc-set (set l i a) (suc i) b (simp length-set (omega arith)), take-suc-set l i a (omega arith), append-snoc)
 
-written-next : {f : List ℕ} {n least count slave entry : ℕ} {places : List ℕ} {p : ℕ} → Written f n least count slave entry places → slave < count → count ≤ 32 → p ≡ statedIn 2 f n least entry →
-    Written f n least count (slave + 1) (entry + 4) (set places slave p)
-written-next {f} {n} {least} {count} {slave} {entry} {places} {p} h more most is =
-    let long : slave < length places = omega (arith, h .room) in
+-- the places written so far, in front of those to come
+pub record Written (f : List ℕ) (count slave entry : ℕ) (places : List ℕ) : Type 0 where
+  pub room : placesEach * count ≤ length places
+  pub all : take (placesEach * slave) places ++ statedPlaces offsetWidth f entry (count - slave) ≡ statedPlaces offsetWidth f (headerSize offsetWidth) count
+
+written-next : {f : List ℕ} {count slave entry : ℕ} {places : List ℕ} {conf doc : ℕ} → Written f count slave entry places → slave < count →
+    conf ≡ statedIn offsetWidth f configuration neededConfiguration entry → doc ≡ statedIn offsetWidth f documentation neededDocumentation entry →
+    Written f count (slave + 1) (entry + 4) (set (set places (2 * slave) conf) (2 * slave + 1) doc)
+written-next {f} {count} {slave} {entry} {places} {conf} {doc} h more is-conf is-doc =
+    let long : suc (2 * slave) < length places = omega (arith, h .room) in
     let less : count - (slave + 1) ≡ count - slave - 1 = omega arith in
-    let cons = stated-cons 2 f n least entry (count - slave) (omega arith) in
-    let old : take slave places ++ (statedIn 2 f n least entry ∷ statedPlaces 2 f n least (entry + 4) (count - slave - 1)) ≡ statedPlaces 2 f n least 16 count = rw cons at (h .all) in
+    let two : 2 * (slave + 1) ≡ suc (suc (2 * slave)) = omega arith in
+    let cons = stated-cons 2 f entry (count - slave) (omega arith) in
+    let old : take (2 * slave) places ++ (conf ∷ doc ∷ statedPlaces 2 f (entry + 4) (count - slave - 1)) ≡ statedPlaces 2 f 16 count = rw (cons, ← is-conf, ← is-doc) at (h .all) in
     record {
-      room = rw length-set (h .room);
-      all = rw (add-one slave, take-suc-set places slave p long, is, append-snoc, ← (add-one slave), less) old;
+      room = simp length-set (h .room);
+      all = rw (two, add-one (2 * slave), take-two places (2 * slave) conf doc long, append-assoc, less) old;
     }
 
 -- what the loop along the table keeps
-pub record Surveying (f : List ℕ) (count slave entry place : ℕ) (confs docs : List ℕ) : Type 0 where
-  pub at : entry ≡ 16 + 4 * slave
+pub record Surveying (f : List ℕ) (count size slave entry place : ℕ) (places : List ℕ) : Type 0 where
+  pub at : entry ≡ headerSize offsetWidth + entrySize offsetWidth * slave
   pub most : slave ≤ count
   pub within : place ≤ length f
-  pub walk : walkSlaves 2 f entry place (count - slave) ≡ walkSlaves 2 f 16 (16 + 4 * count) count
-  pub config : Written f configuration 3 count slave entry confs
-  pub document : Written f documentation 2 count slave entry docs
+  pub walk : walkSlaves offsetWidth f entry place (count - slave) ≡ walkSlaves offsetWidth f (headerSize offsetWidth) (headerSize offsetWidth + entrySize offsetWidth * count) count
+  pub written : Written f count slave entry places
+  pub same : length places ≡ size
 
-pub surveying-start : {f : List ℕ} {count : ℕ} {confs docs : List ℕ} → 16 + 4 * count ≤ length f → length confs ≡ 32 → length docs ≡ 32 → Surveying f count 0 16 (16 + 4 * count) confs docs
-surveying-start {f} {count} h a b =
+pub surveying-start : {f : List ℕ} {count : ℕ} {places : List ℕ} → 16 + 4 * count ≤ length f → 2 * count ≤ length places → Surveying f count (length places) 0 16 (16 + 4 * count) places
+surveying-start {f} {count} h room =
     let same : count - 0 ≡ count = omega arith in
     record {
       at = refl;
       most = omega arith;
       within = h;
       walk = rw same;
-      config = record { room = a; all = rw same };
-      document = record { room = b; all = rw same };
+      written = record { room = room; all = rw same };
+      same = refl;
     }
 
-module _ {f : List ℕ} {count slave entry place : ℕ} {confs docs : List ℕ} (h : Surveying f count slave entry place confs docs) where
-  pub surveying-stop : {good : Bool} {end conf doc : ℕ} → slave < count → SlaveWalked f entry place good end conf doc → good ≡ false → SlavesWalked f count false 0 confs docs
+module _ {f : List ℕ} {count size slave entry place : ℕ} {places : List ℕ} (h : Surveying f count size slave entry place places) where
+  pub surveying-stop : {good : Bool} {end conf doc : ℕ} → slave < count → SlaveWalked f entry place good end conf doc → good ≡ false → SlavesWalked f count false 0 places
   unfolding walkOf
   surveying-stop {good} {end} more s e =
       let stopped : broken ≡ walkSlave 2 f entry place = rw e at (s .walk) in
       record {
         walk = sym (slaves-stop 2 f entry place (count - slave) (omega arith) (sym stopped)) ∙ h .walk;
-        config = λ t. clash t refl;
-        document = λ t. clash t refl;
-        configRoom = h .config .room;
-        documentRoom = h .document .room;
+        stated = λ t. clash t refl;
       }
 
-  pub surveying-next : {good : Bool} {end conf doc : ℕ} → slave < count → count ≤ 32 → SlaveWalked f entry place good end conf doc → good ≡ true →
-      Surveying f count (slave + 1) (entry + 4) end (set confs slave conf) (set docs slave doc)
+  pub surveying-next : {good : Bool} {end conf doc : ℕ} → slave < count → SlaveWalked f entry place good end conf doc → good ≡ true →
+      Surveying f count size (slave + 1) (entry + 4) end (set (set places (2 * slave) conf) (2 * slave + 1) doc)
   unfolding walkOf
-  surveying-next {good} {end} {conf} {doc} more most s e =
+  surveying-next {good} {end} {conf} {doc} more s e =
       let here : to end ≡ walkSlave 2 f entry place = rw e at (s .walk) in
       let less : count - (slave + 1) ≡ count - slave - 1 = omega arith in
       record {
@@ -178,19 +185,16 @@ module _ {f : List ℕ} {count slave entry place : ℕ} {confs docs : List ℕ} 
         most = omega arith;
         within = s .within e;
         walk = rw (less, ← (slaves-step 2 f entry place (count - slave) end (omega arith) (sym here))) (h .walk);
-        config = written-next (h .config) more most (s .config e);
-        document = written-next (h .document) more most (s .document e);
+        written = written-next (h .written) more (s .config e) (s .document e);
+        same = simp length-set (h .same);
       }
 
-  pub surveying-done : count ≤ slave → SlavesWalked f count true place confs docs
+  pub surveying-done : count ≤ slave → SlavesWalked f count true place places
   unfolding walkOf walkSlaves statedPlaces
   surveying-done none =
       let z : count - slave ≡ 0 = omega arith in
       let same : slave ≡ count = omega (arith, h .most) in
       record {
         walk = rw z at (h .walk);
-        config = λ _. rw (z, append-nil, same) at (h .config .all);
-        document = λ _. rw (z, append-nil, same) at (h .document .all);
-        configRoom = h .config .room;
-        documentRoom = h .document .room;
+        stated = λ _. rw (z, append-nil, same) at (h .written .all);
       }

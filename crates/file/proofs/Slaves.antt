@@ -7,14 +7,14 @@ use native.Mathlib.Omega.{arith}
 use mathlib.Core.Path.{_≡_, refl, sym, ap, ap₂, _∙_, subst}
 use mathlib.Core.List.{List, [], _∷_}
 use lib.ListN.{length, getD, replicate}
-use Rattle.file.specs.Bytes.{All, Bytes, bytesOf}
-use Rattle.file.specs.Order.{both}
-use Rattle.file.specs.Layout.{entrySize, fillLength}
-use Rattle.file.specs.Cluster.{File, Slave}
-use Rattle.file.specs.Encode.{directory, contents, slaveSize, slaveBytes, slavesBytes, slavesSize, tableEntry, table}
-use Rattle.file.specs.Decode.{offsetAt, filesAt, slaveAt, slavesAt}
-use Rattle.file.specs.Legal.{LegalFile, Rising}
-use Rattle.file.specs.Grounds.{Walk, andThen, goodTableEntry, walkSlave, walkSlaves}
+use Rattle.file.specs.Rules.Bytes.{All, Bytes, bytesOf}
+use Rattle.file.specs.Rules.Order.{both}
+use Rattle.file.specs.Rules.Layout.{entrySize, fillLength}
+use Rattle.file.specs.Rules.Cluster.{File, Slave}
+use Rattle.file.specs.Rules.Encode.{directory, contents, slaveSize, slaveBytes, slavesBytes, slavesSize, tableEntry, table}
+use Rattle.file.specs.Rules.Decode.{offsetAt, filesAt, slaveAt, slavesAt}
+use Rattle.file.specs.Rules.Legal.{LegalFile, Rising}
+use Rattle.file.specs.Rules.Grounds.{Walk, andThen, goodTableEntry, walkSlave, walkSlaves}
 use Rattle.file.proofs.Facts.{TableEntryFacts, table-entry-facts, table-entry-yes}
 use Rattle.file.proofs.Arrivals.{tested-arrives, then-arrives, arrives-same, length-filesAt}
 use Rattle.file.proofs.Sizes.{bytesOf-length, directory-length, tableEntry-length, slaveBytes-length}
@@ -78,7 +78,7 @@ slave-end a = omega (arith, a .files .bytes .fits)
 module _ {w : ℕ} (two : 2 ≤ w) {f : List ℕ} where
   pub slaves-none : {t place : ℕ} → t ≤ length f → place ≤ length f → SlavesStand w f t place []
   unfolding table slavesBytes
-  slaves-none h k = record { legal = All.none; entries = stands-none h; bytes = stands-none k }
+  slaves-none h k = record { legal = All.allEmpty; entries = stands-none h; bytes = stands-none k }
 
   pub slaves-next :
       {t place : ℕ} {s : Slave} {ss : List Slave}
@@ -91,7 +91,7 @@ module _ {w : ℕ} (two : 2 ≤ w) {f : List ℕ} where
       stands-append (a .files .entries) (stands-at (sym (directory-end two place s)) (a .files .bytes))
       in
       record {
-        legal = All.both (record { rising = a .files .rising; legal = a .files .legal }) (r .legal);
+        legal = All.allNext (record { rising = a .files .rising; legal = a .files .legal }) (r .legal);
         entries = stands-append (a .entry) (stands-at (ap (λ (n : ℕ). t + n) (sym (tableEntry-length two place s))) (r .entries));
         bytes = stands-append own (stands-at (ap (λ (n : ℕ). place + n) (sym (slaveBytes-length two place s))) (r .bytes));
       }

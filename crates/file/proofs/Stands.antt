@@ -11,7 +11,7 @@ use lib.ListN.{length, getD, replicate, length-append, length-replicate, List·g
 use lib.Seq.{ext-getD, getD-append-add}
 use lib.Dec.{ltb}
 use borrow.Author.Tests.{ltb-true, ltb-false}
-use Rattle.file.specs.Bytes.{Bytes, numberOf, bytesOf, part, allZero}
+use Rattle.file.specs.Rules.Bytes.{Bytes, numberOf, bytesOf, part, allZero}
 use Rattle.file.proofs.Order.{byCase}
 use Rattle.file.proofs.NumberLaws.{part-length}
 use Rattle.file.proofs.Sizes.{bytesOf-length}

@@ -8,14 +8,14 @@ use native.Mathlib.Omega.{arith}
 use borrow.Author.Tests.{eq-eqb, ne-eqb, eqb-true, eqb-false, leb-true, leb-false}
 use lib.ListN.{length, getD, length-append}
 use lib.Dec.{leb, eqb}
-use Rattle.file.specs.Bytes.{part}
-use Rattle.file.specs.Layout.{entrySize}
-use Rattle.file.specs.Cluster.{File, lastRecord, bytesAmong}
-use Rattle.file.specs.Encode.{contents}
-use Rattle.file.specs.Decode.{offsetAt, fileSize, fileAt, filesAt}
-use Rattle.file.specs.Grounds.{to, walkDirectory}
-use Rattle.file.specs.Places.{placeAmong}
-use Rattle.file.specs.Checked.{states, statedPlace}
+use Rattle.file.specs.Rules.Bytes.{part}
+use Rattle.file.specs.Rules.Layout.{entrySize}
+use Rattle.file.specs.Rules.Cluster.{File, lastRecord, bytesAmong}
+use Rattle.file.specs.Rules.Encode.{contents}
+use Rattle.file.specs.Rules.Decode.{offsetAt, fileSize, fileAt, filesAt}
+use Rattle.file.specs.Rules.Grounds.{to, walkDirectory}
+use Rattle.file.specs.Inner.Places.{placeAmong}
+use Rattle.file.specs.Inner.Checked.{states, statedPlace}
 use Rattle.file.proofs.Order.{byCase}
 use Rattle.file.proofs.Facts.{EntryFacts}
 use Rattle.file.proofs.Arrivals.{walk-took}

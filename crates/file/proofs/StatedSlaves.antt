@@ -9,16 +9,16 @@ use borrow.Author.Tests.{eq-eqb, ne-eqb, eqb-false, le-leb, lt-leb}
 use lib.ListN.{length, getD}
 use lib.Seq.{drop-at, take-at}
 use lib.Dec.{leb, eqb}
-use Rattle.file.specs.Order.{both, either}
-use Rattle.file.specs.Bytes.{All, none, numberOf, part}
-use Rattle.file.specs.Bytes
-use Rattle.file.specs.Layout.{entrySize}
-use Rattle.file.specs.Cluster.{File, Slave, lastRecord, bytesAmong, bytesIn, physicalName, configuration, documentation}
-use Rattle.file.specs.Encode.{slaveSize}
-use Rattle.file.specs.Decode.{fileSize, slaveAt, slavesAt}
-use Rattle.file.specs.Grounds.{to, walkSlave, walkSlaves, hasNeeded, allHaveNeeded, isAmong}
-use Rattle.file.specs.Places.{placeAmong, filePlaceFrom}
-use Rattle.file.specs.Checked.{statedIn, statedPlaces, nameAt, NameStands}
+use Rattle.file.specs.Rules.Order.{both, either}
+use Rattle.file.specs.Rules.Bytes.{All, allEmpty, numberOf, part}
+use Rattle.file.specs.Rules.Bytes
+use Rattle.file.specs.Rules.Layout.{entrySize, neededConfiguration, neededDocumentation}
+use Rattle.file.specs.Rules.Cluster.{File, Slave, lastRecord, bytesAmong, bytesIn, physicalName, configuration, documentation}
+use Rattle.file.specs.Rules.Encode.{slaveSize}
+use Rattle.file.specs.Rules.Decode.{fileSize, slaveAt, slavesAt}
+use Rattle.file.specs.Rules.Grounds.{to, walkSlave, walkSlaves, hasNeeded, allHaveNeeded, isAmong}
+use Rattle.file.specs.Inner.Places.{placeAmong, filePlaceFrom, configurationIndex, documentationIndex}
+use Rattle.file.specs.Inner.Checked.{statedIn, statedPlaces, documentationPlaces, nameAt, NameStands, namesAt}
 use Rattle.file.proofs.Order.{either-false-left, either-false-right}
 use Rattle.file.proofs.Arrivals.{slave-took, slaves-took, length-filesAt}
 use Rattle.file.proofs.NumberLaws.{part-add, part-length}
@@ -66,10 +66,10 @@ part-part l p n a m h g =
     let split : a + (m + (n - (a + m))) ≡ n = omega arith in
     subst (λ (k : ℕ). part (part l p k) a m ≡ part l (p + a) m) split (part-inside l p a m (n - (a + m)) (omega arith))
 
-stated-name : {f : List ℕ} {place : ℕ} {s : Slave} {st : ℕ} → Stated f documentation 2 0 place (s .files) st → (0 ≡ st → ⊥) → (physicalName s ≡ nameAt f st) × NameStands f st
+stated-name : (s : Slave) {f : List ℕ} {place st : ℕ} → Stated f documentation neededDocumentation 0 place (s .files) st → (0 ≡ st → ⊥) → (physicalName s ≡ nameAt f st) × NameStands f st
 unfolding physicalName bytesIn fileSize nameAt
-stated-name {f} {place} {s} {st} (lacking z short) h = absurd (h (sym z))
-stated-name {f} {place} {s} {st} (found r is behind bytes within enough) h =
+stated-name s {f} {place} {st} (lacking z short) h = absurd (h (sym z))
+stated-name s {f} {place} {st} (found r is behind bytes within enough) h =
     (ap numberOf (rw bytes (part-part f st (4 * (r + 1)) 4 8 within (omega arith))), record { within = omega arith })
 
 is-there : {f : List ℕ} {n least place : ℕ} {xs : List File} {st : ℕ} → Stated f n least 0 place xs st → (0 ≡ st → ⊥) → st ≡ placeAmong place xs n
@@ -78,49 +78,76 @@ is-there (found r is behind bytes within enough) h = is
 
 -- ---- all slaves
 
-none-missing : (a b A B : Bool) → both (both (not a) (not b)) (not (either A B)) ≡ not (either (either a A) (either b B))
+none-missing : (a b A : Bool) → both (both (not a) (not b)) (not A) ≡ not (either a (either b A))
 unfolding both either
-none-missing true b A B = refl
-none-missing false true true B = refl
-none-missing false true false B = refl
-none-missing false false A B = refl
+none-missing true b A = refl
+none-missing false true A = refl
+none-missing false false A = refl
 
 module _ (w : ℕ) (f : List ℕ) where
   -- ground 7, by the stated places
-  pub needed-places : (t place k e : ℕ) → 0 < place → walkSlaves w f t place k ≡ to e →
-      allHaveNeeded (slavesAt w f t k) ≡ not (either (isAmong 0 (statedPlaces w f configuration 3 t k)) (isAmong 0 (statedPlaces w f documentation 2 t k)))
-  unfolding slavesAt allHaveNeeded statedPlaces isAmong hasNeeded bytesIn either
+  pub needed-places : (t place k e : ℕ) → 0 < place → walkSlaves w f t place k ≡ to e → allHaveNeeded (slavesAt w f t k) ≡ not (isAmong 0 (statedPlaces w f t k))
+  unfolding slavesAt allHaveNeeded statedPlaces isAmong hasNeeded bytesIn
   needed-places t place zero e h g = refl
   needed-places t place (suc k) e h g =
       let s = slaves-took w f t place k e g in
-      let c = stated-test (omega arith) (stated-slave w f configuration 3 t place (s .middle) (omega arith) (s .first)) in
-      let d = stated-test (omega arith) (stated-slave w f documentation 2 t place (s .middle) (omega arith) (s .first)) in
+      let c = stated-test (omega arith) (stated-slave w f configuration neededConfiguration t place (s .middle) (omega arith) (s .first)) in
+      let d = stated-test (omega arith) (stated-slave w f documentation neededDocumentation t place (s .middle) (omega arith) (s .first)) in
       let end = slave-end w f t place (s .middle) (s .first) in
       let more = needed-places (t + entrySize w) (s .middle) k e (omega (arith, end)) (s .rest) in
-      rw (c, d, more) (none-missing (eqb 0 (statedIn w f configuration 3 t)) (eqb 0 (statedIn w f documentation 2 t)) _ _)
+      rw (c, d, more) (none-missing (eqb 0 (statedIn w f configuration neededConfiguration t)) (eqb 0 (statedIn w f documentation neededDocumentation t)) _)
+
+  -- a slave of which no place is missing, and the slaves after it
+  module _ (t k : ℕ) (m : isAmong 0 (statedPlaces w f t (suc k)) ≡ false) where
+    config-some : 0 ≡ statedIn w f configuration neededConfiguration t → ⊥
+    unfolding statedPlaces isAmong
+    config-some = eqb-false 0 (statedIn w f configuration neededConfiguration t) (either-false-left _ _ m)
+
+    document-some : 0 ≡ statedIn w f documentation neededDocumentation t → ⊥
+    unfolding statedPlaces isAmong
+    document-some = eqb-false 0 (statedIn w f documentation neededDocumentation t) (either-false-left _ _ (either-false-right _ _ m))
+
+    after-some : isAmong 0 (statedPlaces w f (t + entrySize w) k) ≡ false
+    unfolding statedPlaces isAmong
+    after-some = either-false-right _ _ (either-false-right _ _ m)
 
   -- ground 8, by the stated places: where none is missing, each physical name stands at its place
-  pub stated-names : (t place k e : ℕ) → 0 < place → walkSlaves w f t place k ≡ to e → isAmong 0 (statedPlaces w f documentation 2 t k) ≡ false →
-      (map physicalName (slavesAt w f t k) ≡ map (nameAt f) (statedPlaces w f documentation 2 t k)) × All (NameStands f) (statedPlaces w f documentation 2 t k)
-  unfolding slavesAt statedPlaces isAmong
-  stated-names t place zero e h g m = (refl, none)
+  pub stated-names : (t place k e : ℕ) → 0 < place → walkSlaves w f t place k ≡ to e → isAmong 0 (statedPlaces w f t k) ≡ false →
+      (map physicalName (slavesAt w f t k) ≡ namesAt f (statedPlaces w f t k)) × All (NameStands f) (documentationPlaces (statedPlaces w f t k))
+  unfolding slavesAt statedPlaces documentationPlaces
+  stated-names t place zero e h g m = (refl, allEmpty)
   stated-names t place (suc k) e h g m =
       let s = slaves-took w f t place k e g in
-      let st = statedIn w f documentation 2 t in
       let end = slave-end w f t place (s .middle) (s .first) in
-      let here = stated-name {s = slaveAt w f t} (stated-slave w f documentation 2 t place (s .middle) (omega arith) (s .first)) (eqb-false 0 st (either-false-left _ _ m)) in
-      let more = stated-names (t + entrySize w) (s .middle) k e (omega (arith, end)) (s .rest) (either-false-right _ _ m) in
-      (ap₂ (λ (x : ℕ) (xs : List ℕ). x ∷ xs) (here .0) (more .0), Bytes.both (here .1) (more .1))
+      let here = stated-name (slaveAt w f t) (stated-slave w f documentation neededDocumentation t place (s .middle) (omega arith) (s .first)) (document-some t k m) in
+      let more = stated-names (t + entrySize w) (s .middle) k e (omega (arith, end)) (s .rest) (after-some t k m) in
+      (ap₂ (λ (x : ℕ) (xs : List ℕ). x ∷ xs) (here .0) (more .0), Bytes.allNext (here .1) (more .1))
 
   -- the stated places are where the cluster's encoding keeps the files
-  pub stated-place : (n least t place k e s : ℕ) → 1 ≤ least → walkSlaves w f t place k ≡ to e → isAmong 0 (statedPlaces w f n least t k) ≡ false → s < k →
-      getD (statedPlaces w f n least t k) s 0 ≡ filePlaceFrom w place (slavesAt w f t k) s n
-  unfolding slavesAt statedPlaces isAmong filePlaceFrom
-  stated-place n least t place (suc k) e zero some g m l =
+  pub stated-config : (t place k e s : ℕ) → walkSlaves w f t place k ≡ to e → isAmong 0 (statedPlaces w f t k) ≡ false → s < k →
+      getD (statedPlaces w f t k) (configurationIndex s) 0 ≡ filePlaceFrom w place (slavesAt w f t k) s configuration
+  unfolding slavesAt statedPlaces filePlaceFrom
+  stated-config t place (suc k) e zero g m l =
       let s = slaves-took w f t place k e g in
-      is-there (stated-slave w f n least t place (s .middle) some (s .first)) (eqb-false 0 (statedIn w f n least t) (either-false-left _ _ m))
-  stated-place n least t place (suc k) e (suc i) some g m l =
+      is-there (stated-slave w f configuration neededConfiguration t place (s .middle) (omega arith) (s .first)) (config-some t k m)
+  stated-config t place (suc k) e (suc i) g m l =
       let s = slaves-took w f t place k e g in
       let end = slave-end w f t place (s .middle) (s .first) in
-      subst (λ (p : ℕ). getD (statedPlaces w f n least (t + entrySize w) k) i 0 ≡ filePlaceFrom w p (slavesAt w f (t + entrySize w) k) i n) end
-      (stated-place n least (t + entrySize w) (s .middle) k e i some (s .rest) (either-false-right _ _ m) (omega arith))
+      let next : configurationIndex (suc i) ≡ suc (suc (configurationIndex i)) = omega arith in
+      rw next
+      (subst (λ (p : ℕ). getD (statedPlaces w f (t + entrySize w) k) (configurationIndex i) 0 ≡ filePlaceFrom w p (slavesAt w f (t + entrySize w) k) i configuration) end
+      (stated-config (t + entrySize w) (s .middle) k e i (s .rest) (after-some t k m) (omega arith)))
+
+  pub stated-document : (t place k e s : ℕ) → walkSlaves w f t place k ≡ to e → isAmong 0 (statedPlaces w f t k) ≡ false → s < k →
+      getD (statedPlaces w f t k) (documentationIndex s) 0 ≡ filePlaceFrom w place (slavesAt w f t k) s documentation
+  unfolding slavesAt statedPlaces filePlaceFrom
+  stated-document t place (suc k) e zero g m l =
+      let s = slaves-took w f t place k e g in
+      is-there (stated-slave w f documentation neededDocumentation t place (s .middle) (omega arith) (s .first)) (document-some t k m)
+  stated-document t place (suc k) e (suc i) g m l =
+      let s = slaves-took w f t place k e g in
+      let end = slave-end w f t place (s .middle) (s .first) in
+      let next : documentationIndex (suc i) ≡ suc (suc (documentationIndex i)) = omega arith in
+      rw next
+      (subst (λ (p : ℕ). getD (statedPlaces w f (t + entrySize w) k) (documentationIndex i) 0 ≡ filePlaceFrom w p (slavesAt w f (t + entrySize w) k) i documentation) end
+      (stated-document (t + entrySize w) (s .middle) k e i (s .rest) (after-some t k m) (omega arith)))

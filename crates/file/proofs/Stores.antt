@@ -11,11 +11,12 @@ use mathlib.Core.Bool.{true}
 use lib.ListN.{length, getD, set, drop, length-drop, length-append, List·getD-append}
 use lib.Seq.{getD-append-add, drop-append-add, drop-append-le, take-append-le, set-append-left, sets}
 use lib.Dec.{eqb}
-use Rattle.file.specs.Bytes.{part}
-use Rattle.file.specs.Layout.{entrySize, recordSize}
-use Rattle.file.specs.Cluster.{File, Slave, Cluster, bytesAmong, bytesIn, hasRecord, recordOf}
-use Rattle.file.specs.Encode.{directory, contents, slaveSize, slaveBytes, slavesBytes, table, slavesPlace, header, encodeAt}
-use Rattle.file.specs.Places.{noSlave, slaveOf, placeAmong, filePlaceFrom, filePlaceAt, putAmong, putInSlave, withSlaves, putByte, putBytes, SameShape}
+use Rattle.file.specs.Rules.Bytes.{part}
+use Rattle.file.specs.Rules.Layout.{entrySize, recordSize}
+use Rattle.file.specs.Rules.Cluster.{File, Slave, Cluster, bytesAmong, bytesIn, hasRecord, recordOf}
+use Rattle.file.specs.Rules.Encode.{directory, contents, slaveSize, slaveBytes, slavesBytes, table, slavesPlace, header, encodeAt}
+use Rattle.file.specs.Inner.Places.{noSlave, slaveOf, placeAmong, filePlaceFrom, filePlaceAt, putByte, putBytes, SameShape}
+use Rattle.file.specs.Rules.Changes.{putAmong, putInSlave, withSlaves}
 use Rattle.file.proofs.Order.{byCase}
 use Rattle.file.proofs.Sizes.{directory-length, slaveBytes-length, table-length, header-length}
 use Rattle.file.proofs.Shape.{files-put, slave-put, files-count, files-directory, slave-size, shape-table, shape-count, shape-slavesPlace, shape-fileLength, shape-putByte}
@@ -114,7 +115,7 @@ module _ (n k b : ℕ) where
     unfolding slavesBytes filePlaceFrom bytesIn bytesAmong
     slaves-stand begin [] s some = absurd (omega arith)
     slaves-stand begin (x ∷ xs) zero some =
-        rw (← slave-size w (slave-put x n k b)) (before (slavesBytes w (begin + slaveSize w x) xs) (slave-stands begin x some))
+        rw (← slave-size x (putInSlave x n k b) w (slave-put x n k b)) (before (slavesBytes w (begin + slaveSize w x) xs) (slave-stands begin x some))
     slaves-stand begin (x ∷ xs) (suc s) some =
         after (slaveBytes w begin x) (rw (slaveBytes-length wide begin x) (slaves-stand (begin + slaveSize w x) xs s some))
 

@@ -1,36 +1,37 @@
 -- The checker's last steps: the physical names, and one law for each way to its answer.
 -- Assumes nothing.
-use Prim.Native.Nat.{ℕ, zero, suc, _+_, _*_, _-_, _≤_, _<_}
+use Prim.Native.Nat.{ℕ, suc, _+_, _*_, _≤_, _<_}
 use mathlib.Core.Path.{_≡_, refl, sym, _∙_, ap}
-use mathlib.Core.List.{List, [], _∷_, map, map-append}
+use mathlib.Core.List.{List, [], _∷_, map}
 use mathlib.Core.Bool.{Bool, true, false, not}
 use native.Mathlib.Omega.{arith}
-use native.Mathlib.Numerals.{add-one}
-use borrow.Author.Tests.{le-leb, lt-leb}
-use lib.Dec.{leb}
-use lib.ListN.{length, getD, take, set, length-set}
-use lib.Seq.{take-suc, take-suc-set, take-length, getD-take}
-use Rattle.file.specs.Order.{firstOf, either}
-use Rattle.file.specs.Bytes.{All, Bytes, ByteAt, NumberAt}
-use Rattle.file.specs.Layout.{entrySize}
-use Rattle.file.specs.Cluster.{configuration, documentation, physicalName}
-use Rattle.file.specs.Decode.{slavesAt, decodeAt, decode}
-use Rattle.file.specs.Grounds.{to, walkSlaves, tableEnd, walkFile, brokenLayout, lacksNeeded, equalPhysicalNames, isAmong, hasRepeat, fileGround}
-use Rattle.file.specs.Encode.{slavesPlace}
-use Rattle.file.specs.Places.{filePlaceAt, filePlace}
-use Rattle.file.specs.Accepted.{Placed}
-use Rattle.file.specs.Answers.{Verdict, accepted, refused, verdictOf}
-use Rattle.file.specs.Checked.{GoodHeader, HeaderChecked, statedPlaces, walkOf, SlavesWalked, WholeWalk, BodyWalked, slavesGround, nameAt, NameStands}
-use Rattle.file.specs.Surveyed.{Surveyed}
-use Rattle.file.proofs.Order.{byCase, clash, either-right, either-false, either-false-left, either-false-right}
+use borrow.Author.Tests.{le-leb, lt-leb, eqb-true, eqb-false}
+use lib.Dec.{leb, eqb}
+use lib.ListN.{length, getD, take}
+use lib.Seq.{getD-take}
+use Rattle.file.specs.Rules.Order.{firstOf}
+use Rattle.file.specs.Rules.Bytes.{All, Bytes}
+use Rattle.file.specs.Inner.Numbers.{ByteAt}
+use Rattle.file.specs.Rules.Layout.{countPlace}
+use Rattle.file.specs.Rules.Cluster.{physicalName}
+use Rattle.file.specs.Rules.Decode.{slavesAt, decodeAt, decode}
+use Rattle.file.specs.Rules.Results.{refused, done, resultOf}
+use Rattle.file.specs.Rules.Grounds.{to, walkSlaves, tableEnd, walkFile, brokenLayout, lacksNeeded, equalPhysicalNames, isAmong, hasRepeat, fileGround}
+use Rattle.file.specs.Rules.Encode.{slavesPlace}
+use Rattle.file.specs.Inner.Places.{filePlaceAt, filePlace, placesEach}
+use Rattle.file.specs.Inner.Accepted.{PlacesOf, Placed}
+use Rattle.file.specs.Inner.Checked.{GoodHeader, HeaderChecked, PlacesFit, statedPlaces, documentationPlaces, walkOf, SlavesWalked, WholeWalk, BodyWalked, slavesGround, NameStands, namesAt, NamesStand}
+use Rattle.file.specs.Inner.Surveyed.{Surveyed}
+use Rattle.file.proofs.Order.{byCase, clash}
 use Rattle.file.proofs.Facts.{true-unless, size-facts, header-facts}
+use Rattle.file.proofs.Results.{result-done, result-refused}
 use Rattle.file.proofs.AcceptedFacts.{layout-whole}
 use Rattle.file.proofs.Arrivals.{broken-arrives, length-slavesAt}
-use Rattle.file.proofs.StatedSlaves.{needed-places, stated-names, stated-place}
+use Rattle.file.proofs.StatedSlaves.{needed-places, stated-names, stated-config, stated-document}
 use Rattle.file.proofs.HeaderLaws.{after-header}
 use Rattle.file.proofs.Accepted.{accepted-becomes}
 
--- ---- ground 6 behind a good header
+-- ---- ground 6 after a good header
 
 -- what the header says of the sizes
 pub header-sizes : (f : List ℕ) → GoodHeader 2 f → (16 ≤ length f) × (length f ≤ 32768) × (getD f 3 0 ≤ 32)
@@ -38,6 +39,22 @@ header-sizes f h =
     let size = size-facts 2 f (h .size) in
     let rest = header-facts 2 f (h .rest) in
     (size .low, size .high, rest .count)
+
+pub header-good : {f : List ℕ} {n : ℕ} → HeaderChecked f n → n ≡ 0 → GoodHeader 2 f
+header-good h none = h .passed none
+
+pub whole : {f places : List ℕ} {good : Bool} → BodyWalked f good places → good ≡ true → WholeWalk f places
+whole w e = w .whole e
+
+-- the count is within the bytes, and a list of places has room for it
+pub count-within : {f : List ℕ} → GoodHeader 2 f → countPlace < length f
+count-within {f} h = omega (arith, header-sizes f h)
+
+pub count-fits : {f places : List ℕ} {n : ℕ} → GoodHeader 2 f → PlacesFit places → ByteAt f countPlace n → placesEach * n ≤ length places
+count-fits {f} {places} {n} h fit k = omega (arith, header-sizes f h, k .is, fit .room)
+
+pub file-fits : {f : List ℕ} → GoodHeader 2 f → length f ≤ 32768
+file-fits {f} h = omega (arith, header-sizes f h)
 
 arrived : {a b : ℕ} → to a ≡ to b → a ≡ b
 arrived q = cc
@@ -49,58 +66,41 @@ walk-file : (f : List ℕ) → 16 + 4 * getD f 3 0 ≤ length f → walkFile 2 f
 unfolding walkFile tableEnd
 walk-file f h = rw (le-leb (16 + 4 * getD f 3 0) (length f) h)
 
-pub body-short : {f : List ℕ} {n : ℕ} {confs docs : List ℕ} → ByteAt f 3 n → length f < 16 + 4 * n → length confs ≡ 32 → length docs ≡ 32 → BodyWalked f false confs docs
+pub body-short : {f : List ℕ} {n : ℕ} (places : List ℕ) → ByteAt f countPlace n → length f < 16 + 4 * n → BodyWalked f false places
 unfolding walkFile tableEnd
-body-short {f} {n} k h a b =
+body-short {f} {n} places k h =
     let past : length f < 16 + 4 * getD f 3 0 = omega (arith, k .is) in
     record {
       broke = λ _. layout-broken f (λ e. broken-arrives (rw (lt-leb (16 + 4 * getD f 3 0) (length f) past) at e));
       whole = λ t. clash t refl;
-      configRoom = a;
-      documentRoom = b;
     }
 
-module _ {f : List ℕ} {n : ℕ} {good : Bool} {end : ℕ} {confs docs : List ℕ} (k : ByteAt f 3 n) (fits : 16 + 4 * n ≤ length f) (w : SlavesWalked f n good end confs docs) where
+module _ {f : List ℕ} {n : ℕ} {good : Bool} {end : ℕ} {places : List ℕ} (k : ByteAt f countPlace n) (fits : 16 + 4 * n ≤ length f) (w : SlavesWalked f n good end places) where
   whole-is : walkFile 2 f ≡ walkOf good end
   whole-is =
       let count = k .is in
       let there : 16 + 4 * getD f 3 0 ≤ length f = omega (arith, count) in
       walk-file f there ∙ rw (← count) (sym (w .walk))
 
-  walk-breaks : good ≡ false → brokenLayout 2 f ≡ true
+  pub body-broken : good ≡ false → BodyWalked f false places
   unfolding walkOf
-  walk-breaks e = layout-broken f (λ q. broken-arrives (rw (whole-is, e) at q))
+  body-broken e = record { broke = λ _. layout-broken f (λ q. broken-arrives (rw (whole-is, e) at q)); whole = λ t. clash t refl }
 
-  pub body-cut : (end ≡ length f → ⊥) → BodyWalked f false confs docs
+  pub body-walked : {t : Bool} → GoodHeader 2 f → good ≡ true → t ≡ eqb end (length f) → BodyWalked f t places
   unfolding walkOf
-  body-cut other =
+  body-walked header e same =
       record {
-        broke = λ _. byCase good
-            (λ e. layout-broken f (λ q. other (arrived (rw (whole-is, e) at q))))
-            walk-breaks;
-        whole = λ t. clash t refl;
-        configRoom = w .configRoom;
-        documentRoom = w .documentRoom;
-      }
-
-  pub body-walked : GoodHeader 2 f → end ≡ length f → BodyWalked f good confs docs
-  unfolding walkOf
-  body-walked header same =
-      record {
-        broke = walk-breaks;
-        whole = λ e. record {
+        broke = λ t. layout-broken f (λ q. eqb-false end (length f) (sym same ∙ t) (arrived (rw (whole-is, e) at q)));
+        whole = λ t. record {
           header = header;
-          walk = whole-is ∙ rw (e, same);
-          config = rw (← (k .is)) (w .config e);
-          document = rw (← (k .is)) (w .document e);
+          walk = whole-is ∙ rw (e, eqb-true end (length f) (sym same ∙ t));
+          stated = rw (← (k .is)) (w .stated e);
         };
-        configRoom = w .configRoom;
-        documentRoom = w .documentRoom;
       }
 
 -- ---- grounds 7 and 8
 
-module _ {f confs docs : List ℕ} (h : WholeWalk f confs docs) where
+module _ {f places : List ℕ} (h : WholeWalk f places) where
   slaves-walk : walkSlaves 2 f 16 (16 + 4 * getD f 3 0) (getD f 3 0) ≡ to (length f)
   unfolding walkFile tableEnd
   slaves-walk =
@@ -108,59 +108,65 @@ module _ {f confs docs : List ℕ} (h : WholeWalk f confs docs) where
       (λ t. rw t at (h .walk))
       (λ t. broken-arrives (rw t at (h .walk)))
 
-  lacks : lacksNeeded 2 f ≡ either (isAmong 0 confs) (isAmong 0 docs)
+  pub whole-count-within : countPlace < length f
+  whole-count-within = count-within (h .header)
+
+  pub whole-count-fits : {n : ℕ} → PlacesFit places → ByteAt f countPlace n → placesEach * n ≤ length places
+  whole-count-fits fit k = count-fits (h .header) fit k
+
+  abbrev stated-places : List ℕ
+  stated-places = take (placesEach * getD f countPlace 0) places
+
+  lacks : lacksNeeded 2 f ≡ isAmong 0 stated-places
   unfolding lacksNeeded decodeAt
-  lacks = rw (needed-places 2 f 16 (16 + 4 * getD f 3 0) (getD f 3 0) (length f) (omega arith) slaves-walk, ← (h .config), ← (h .document)) (twice (either (isAmong 0 confs) (isAmong 0 docs)))
+  lacks = rw (needed-places 2 f 16 (16 + 4 * getD f 3 0) (getD f 3 0) (length f) (omega arith) slaves-walk, ← (h .stated)) (twice (isAmong 0 stated-places))
     where
       twice : (b : Bool) → not (not b) ≡ b
       twice true = refl
       twice false = refl
 
-  pub lacks-configuration : {t : Bool} → t ≡ isAmong 0 confs → t ≡ true → 7 ≡ slavesGround f
-  unfolding slavesGround firstOf either
-  lacks-configuration is e = rw (lacks, ← is, e)
-
-  pub lacks-documentation : {t : Bool} → t ≡ isAmong 0 docs → t ≡ true → 7 ≡ slavesGround f
-  unfolding slavesGround firstOf
-  lacks-documentation is e = rw (lacks, either-right (isAmong 0 confs) (sym is ∙ e))
-
-  stand : isAmong 0 docs ≡ false → (map physicalName (slavesAt 2 f 16 (getD f 3 0)) ≡ map (nameAt f) docs) × All (NameStands f) docs
+  stand : isAmong 0 stated-places ≡ false → (map physicalName (slavesAt 2 f 16 (getD f 3 0)) ≡ namesAt f stated-places) × All (NameStands f) (documentationPlaces stated-places)
   stand e =
-      rw (h .document) (stated-names 2 f 16 (16 + 4 * getD f 3 0) (getD f 3 0) (length f) (omega arith) slaves-walk (rw (h .document) at e))
+      rw (h .stated) (stated-names 2 f 16 (16 + 4 * getD f 3 0) (getD f 3 0) (length f) (omega arith) slaves-walk (rw (h .stated) at e))
 
-  pub names-stand : {t : Bool} → t ≡ isAmong 0 docs → t ≡ false → All (NameStands f) docs
-  names-stand is e = stand (sym is ∙ e) .1
+  -- the code's count and its tests are values of its own, with their equations
+  module _ {n : ℕ} (count : ByteAt f countPlace n) {a : Bool} (missing : a ≡ isAmong 0 (take (placesEach * n) places)) where
+    missing-is : a ≡ isAmong 0 stated-places
+    missing-is = rw (count .is) at missing
 
-  module _ {a b : Bool} (is₁ : a ≡ isAmong 0 confs) (no₁ : a ≡ false) (is₂ : b ≡ isAmong 0 docs) (no₂ : b ≡ false) {t : Bool} (is : t ≡ hasRepeat (map (nameAt f) docs)) where
-    repeats : equalPhysicalNames 2 f ≡ t
-    unfolding equalPhysicalNames decodeAt
-    repeats = rw (stand (sym is₂ ∙ no₂) .0) (sym is)
-
-    lacks-none : lacksNeeded 2 f ≡ false
-    lacks-none = lacks ∙ either-false (sym is₁ ∙ no₁) (sym is₂ ∙ no₂)
-
-    pub names-equal : t ≡ true → 8 ≡ slavesGround f
+    pub lacks-file : a ≡ true → 7 ≡ slavesGround f
     unfolding slavesGround firstOf
-    names-equal e = rw (lacks-none, repeats, e)
+    lacks-file e = rw (lacks, ← missing-is, e)
 
-    pub slaves-good : t ≡ false → 0 ≡ slavesGround f
-    unfolding slavesGround firstOf
-    slaves-good e = rw (lacks-none, repeats, e)
+    module _ (none : a ≡ false) where
+      pub names-stand : NamesStand f (take (placesEach * n) places)
+      names-stand = rw (count .is) (record { all = stand (sym missing-is ∙ none) .1 })
+
+      module _ {t : Bool} (is : t ≡ hasRepeat (namesAt f (take (placesEach * n) places))) where
+        repeats : equalPhysicalNames 2 f ≡ t
+        unfolding equalPhysicalNames decodeAt
+        repeats = rw (stand (sym missing-is ∙ none) .0) (sym (rw (count .is) at is))
+
+        lacks-none : lacksNeeded 2 f ≡ false
+        lacks-none = lacks ∙ sym missing-is ∙ none
+
+        pub names-equal : t ≡ true → 8 ≡ slavesGround f
+        unfolding slavesGround firstOf
+        names-equal e = rw (lacks-none, repeats, e)
+
+        pub slaves-good : t ≡ false → 0 ≡ slavesGround f
+        unfolding slavesGround firstOf
+        slaves-good e = rw (lacks-none, repeats, e)
 
 -- ---- the whole answer
 
-verdict : (n : ℕ) → (n ≡ 0 → ⊥) → refused n ≡ verdictOf n
-unfolding verdictOf
-verdict zero some = absurd (some refl)
-verdict (suc n) some = refl
-
--- behind a whole walk grounds 7 and 8 decide
-after-layout : {f confs docs : List ℕ} → WholeWalk f confs docs → fileGround f ≡ slavesGround f
+-- after a whole walk grounds 7 and 8 decide
+after-layout : {f places : List ℕ} → WholeWalk f places → fileGround f ≡ slavesGround f
 unfolding firstOf slavesGround
 after-layout {f} w = rw (after-header f (w .header), layout-whole 2 f .1 (w .walk))
 
 -- where neither holds, no place is missing
-none-missing : {f confs docs : List ℕ} → WholeWalk f confs docs → slavesGround f ≡ 0 → either (isAmong 0 confs) (isAmong 0 docs) ≡ false
+none-missing : {f places : List ℕ} → WholeWalk f places → slavesGround f ≡ 0 → isAmong 0 (take (placesEach * getD f countPlace 0) places) ≡ false
 unfolding slavesGround firstOf
 none-missing {f} w e =
     byCase (lacksNeeded 2 f)
@@ -170,60 +176,51 @@ none-missing {f} w e =
     seven : _≡_ {A = ℕ} 7 0 → ⊥
     seven q = omega arith
 
-place-there : (f places : List ℕ) (n least s : ℕ) → 1 ≤ least → walkSlaves 2 f 16 (16 + 4 * getD f 3 0) (getD f 3 0) ≡ to (length f) →
-    take (getD f 3 0) places ≡ statedPlaces 2 f n least 16 (getD f 3 0) → isAmong 0 (take (getD f 3 0) places) ≡ false → s < getD f 3 0 →
-    getD places s 0 ≡ filePlace (decode f) s n
+-- and they are those of the slaves
+placed-there : {f : List ℕ} (places : List ℕ) → WholeWalk f places → slavesGround f ≡ 0 → PlacesOf (decode f) places
 unfolding filePlace filePlaceAt slavesPlace decode decodeAt
-place-there f places n least s some w is m l =
+placed-there {f} places w e =
     let k = getD f 3 0 in
-    let same : getD places s 0 ≡ getD (statedPlaces 2 f n least 16 k) s 0 = rw (← is) (sym (getD-take k places s 0 l)) in
-    rw (same, length-slavesAt 2 f 16 k) (stated-place 2 f n least 16 (16 + 4 * k) k (length f) s some w (rw is at m) l)
-
-placed-there : {f confs docs : List ℕ} → WholeWalk f (take (getD f 3 0) confs) (take (getD f 3 0) docs) → slavesGround f ≡ 0 → Placed (decode f) (getD f 3 0) confs docs
-unfolding decode decodeAt
-placed-there {f} {confs} {docs} w e =
-    let missing = none-missing w e in
-    let k = length-slavesAt 2 f 16 (getD f 3 0) in
+    let count = length-slavesAt 2 f 16 k in
+    let some = rw (w .stated) at (none-missing w e) in
+    let same : (i : ℕ) → i < 2 * k → getD places i 0 ≡ getD (statedPlaces 2 f 16 k) i 0 = λ i l. rw (← (w .stated)) (sym (getD-take (2 * k) places i 0 l)) in
     record {
-      all = sym k;
-      config = λ s l. place-there f confs configuration 3 s (omega arith) (slaves-walk w) (w .config) (either-false-left _ _ missing) (rw k at l);
-      document = λ s l. place-there f docs documentation 2 s (omega arith) (slaves-walk w) (w .document) (either-false-right _ _ missing) (rw k at l);
+      config = λ s l.
+          let inside : s < k = rw count at l in
+          rw (same (2 * s) (omega arith), count) (stated-config 2 f 16 (16 + 4 * k) k (length f) s (slaves-walk w) some inside);
+      document = λ s l.
+          let inside : s < k = rw count at l in
+          rw (same (2 * s + 1) (omega arith), count) (stated-document 2 f 16 (16 + 4 * k) k (length f) s (slaves-walk w) some inside);
     }
 
-module _ {f : List ℕ} {answer : Verdict} (count : ℕ) (confs docs : List ℕ) where
-  survey-refuses : {n : ℕ} → n ≡ fileGround f → (n ≡ 0 → ⊥) → answer ≡ refused n → Surveyed f answer count confs docs
-  survey-refuses {n} is some e =
+module _ {f : List ℕ} (places : List ℕ) where
+  survey-refuses : {n : ℕ} → n ≡ fileGround f → (n ≡ 0 → ⊥) → Surveyed f (refused n) places
+  survey-refuses {n} is some =
       record {
-        is = e ∙ verdict n some ∙ ap verdictOf is;
-        becomes = λ a. absurd (other (sym e ∙ a));
-        placed = λ a. absurd (other (sym e ∙ a));
+        is = result-refused tt some ∙ ap (λ (m : ℕ). resultOf m tt) is;
+        placed = λ a. let z : _≡_ {A = ℕ} 0 1 = cc in absurd (omega arith);
       }
-    where
-      other : {m : ℕ} → refused m ≡ accepted → ⊥
-      other q = let z : _≡_ {A = ℕ} 0 1 = cc in omega arith
 
-  pub refused-by-header : {n : ℕ} → HeaderChecked f n → (n ≡ 0 → ⊥) → answer ≡ refused n → Surveyed f answer count confs docs
-  refused-by-header h some e = survey-refuses (h .refused some) some e
+  pub refused-by-header : {n : ℕ} → HeaderChecked f n → (n ≡ 0 → ⊥) → Surveyed f (refused n) places
+  refused-by-header h some = survey-refuses (h .refused some) some
 
-  pub refused-by-layout : {good : Bool} {a b : List ℕ} → GoodHeader 2 f → BodyWalked f good a b → good ≡ false → answer ≡ refused 6 → Surveyed f answer count confs docs
+  pub refused-by-layout : {good : Bool} {a : List ℕ} → GoodHeader 2 f → BodyWalked f good a → good ≡ false → Surveyed f (refused 6) places
   unfolding firstOf
-  refused-by-layout h w bad e = survey-refuses (rw (after-header f h, w .broke bad)) (λ z. omega arith) e
+  refused-by-layout h w bad = survey-refuses (rw (after-header f h, w .broke bad)) (λ z. omega arith)
 
-  pub refused-by-slaves : {n : ℕ} {a b : List ℕ} → WholeWalk f a b → n ≡ slavesGround f → (n ≡ 0 → ⊥) → answer ≡ refused n → Surveyed f answer count confs docs
-  refused-by-slaves w is some e = survey-refuses (is ∙ sym (after-layout w)) some e
+  pub refused-by-slaves : {good : Bool} {n : ℕ} {a : List ℕ} → BodyWalked f good a → good ≡ true → n ≡ slavesGround f → (n ≡ 0 → ⊥) → Surveyed f (refused n) places
+  refused-by-slaves w good is some = survey-refuses (is ∙ sym (after-layout (w .whole good))) some
 
-pub survey-accepts : {f : List ℕ} {count n : ℕ} {confs docs : List ℕ} → Bytes f → WholeWalk f (take (getD f 3 0) confs) (take (getD f 3 0) docs) → ByteAt f 3 count → n ≡ slavesGround f → n ≡ 0 →
-    Surveyed f accepted count confs docs
-unfolding verdictOf
-survey-accepts {f} {count} {n} {confs} {docs} bytes w k is none =
-    let good : fileGround f ≡ 0 = after-layout w ∙ (sym is ∙ none) in
-    record {
-      is = rw good;
-      becomes = λ _. accepted-becomes f bytes good;
-      placed = λ _. rw (k .is) (placed-there w (sym is ∙ none));
-    }
+  pub survey-accepts : {good : Bool} {n : ℕ} → Bytes f → BodyWalked f good places → good ≡ true → n ≡ slavesGround f → n ≡ 0 → Surveyed f (done tt) places
+  survey-accepts bytes body walked is none =
+      let w = body .whole walked in
+      let good : fileGround f ≡ 0 = after-layout w ∙ (sym is ∙ none) in
+      record {
+        is = sym (result-done good);
+        placed = λ _. record { file = accepted-becomes f bytes good; at = placed-there places w (sym is ∙ none) };
+      }
 
 -- a list whose every element is a byte
 pub bytes-known : (f : List ℕ) → ((k : ℕ) → getD f k 0 < 256) → Bytes f
-bytes-known [] h = All.none
-bytes-known (b ∷ bs) h = All.both (h 0) (bytes-known bs (λ k. h (suc k)))
+bytes-known [] h = All.allEmpty
+bytes-known (b ∷ bs) h = All.allNext (h 0) (bytes-known bs (λ k. h (suc k)))

@@ -9,11 +9,12 @@ use native.Mathlib.Numerals.{add-one}
 use borrow.Author.Tests.{eq-eqb, ne-eqb, le-leb, lt-leb, leb-true, eqb-true}
 use lib.ListN.{length, getD}
 use lib.Dec.{leb, eqb}
-use Rattle.file.specs.Bytes.{allZero, part, ByteAt, NumberAt}
-use Rattle.file.specs.Layout.{entrySize, fillLength}
-use Rattle.file.specs.Decode.{offsetAt, fileSize}
-use Rattle.file.specs.Grounds.{Walk, broken, to, goodEntry, walkDirectory}
-use Rattle.file.specs.Checked.{states, statedPlace, nextEntry, fitsSoFar, walkOf, DirectoryWalked}
+use Rattle.file.specs.Rules.Bytes.{allZero, part}
+use Rattle.file.specs.Inner.Numbers.{ByteAt, NumberAt}
+use Rattle.file.specs.Rules.Layout.{entrySize, fillLength}
+use Rattle.file.specs.Rules.Decode.{offsetAt, fileSize}
+use Rattle.file.specs.Rules.Grounds.{Walk, broken, to, goodEntry, walkDirectory}
+use Rattle.file.specs.Inner.Checked.{EntriesFit, states, statedPlace, nextEntry, fitsSoFar, walkOf, DirectoryWalked}
 use Rattle.file.proofs.Order.{byCase, clash, both-left, both-right, both-true, both-next, both-false-left, both-false-right}
 use Rattle.file.proofs.Facts.{false-unless, EntryFacts, entry-facts, entry-yes, zeros-none}
 
@@ -127,13 +128,19 @@ pub record Walking (f : List ℕ) (d k entry low place : ℕ) : Type 0 where
   pub small : place + 1024 * left ≤ 32768 + 1024 * k
   pub walk : held f low place (walkDirectory 2 f entry low place left) ≡ walkDirectory 2 f d 0 (d + 4 * k) k
 
-pub walking-start : {f : List ℕ} {d k : ℕ} → d + 4 * k ≤ length f → length f ≤ 32768 → Walking f d k d 0 (d + 4 * k)
+pub walking-start : {f : List ℕ} {d k : ℕ} → EntriesFit f d k → Walking f d k d 0 (d + 4 * k)
 unfolding held fitsSoFar
-walking-start {f} {d} {k} h most =
+walking-start {f} {d} {k} fit =
+    let h = fit .within in
+    let most = fit .short in
     let all : fitsSoFar f 0 (d + 4 * k) ≡ true = both-true (le-leb 0 64 (omega arith)) (le-leb (d + 4 * k) (length f) h) in
     record { left = k; at = refl; small = omega arith; walk = rw all }
 
 module _ {f : List ℕ} {d k entry low place : ℕ} (h : Walking f d k entry low place) where
+  -- the entry of a turn lies within the bytes
+  pub walking-entry : EntriesFit f d k → entry < d + 4 * k → EntriesFit f entry 1
+  walking-entry fit more = record { within = omega (arith, h .at, fit .within); short = fit .short }
+
   some-left : entry < d + 4 * k → 0 < h .left
   some-left more = omega (arith, h .at)
 

@@ -2,7 +2,7 @@
 -- Assumes nothing.
 use Prim.Native.Nat.{ℕ, _^_, _≤_, _<_}
 use native.Mathlib.Omega.{arith}
-use Rattle.file.specs.Layout.{offsetWidth, maxSlaves, maxLength}
+use Rattle.file.specs.Rules.Layout.{offsetWidth, maxSlaves, maxLength}
 
 -- an entry has room for its two bytes and an offset; a slave count fits a byte; a place in the longest file fits an offset
 pub record Width (w : ℕ) : Type 0 where

@@ -1,7 +1,9 @@
-// The cluster file: its checker and the readers of slaves and records.
+// The cluster file: its checker, the readers of header, slaves and records, and the stores.
 mod header;
+pub mod layout;
 mod names;
 pub mod numbers;
+pub mod operations;
 pub mod readers;
 pub mod survey;
 pub mod types;

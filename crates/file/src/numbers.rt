@@ -1,7 +1,8 @@
 // Bytes and several-byte numbers of the file, most significant byte first.
 ghost use Prim.Native.Nat.{_+_, _≤_, _<_};
 ghost use lib.ListN.{length};
-ghost use Rattle.file.specs.Bytes.{ByteAt, NumberAt};
+ghost use Rattle.file.specs.Inner.Numbers.{ByteAt, NumberAt};
+ghost use Rattle.file.specs.Rules.Layout.{offsetWidth, longWidth};
 
 // The byte at a place, as an index.
 pub fn byte_at(file: &[u8], at: usize) -> usize
@@ -11,10 +12,10 @@ pub fn byte_at(file: &[u8], at: usize) -> usize
     file[at] as usize
 }
 
-// The two-byte number at a place.
+// The offset at a place.
 pub fn offset_at(file: &[u8], at: usize) -> usize
-    requires { ⌜ at + 2 ≤ length (now file) ⌝ }
-    ensures { λ r. ⌜ NumberAt (now (file .entry)) at 2 r ⌝ }
+    requires { ⌜ at + offsetWidth ≤ length (now file) ⌝ }
+    ensures { λ r. ⌜ NumberAt (now (file .entry)) at offsetWidth r ⌝ }
 {
     let high = byte_at(file, at);
     let low = byte_at(file, at + 1);
@@ -23,8 +24,8 @@ pub fn offset_at(file: &[u8], at: usize) -> usize
 
 // The eight-byte number at a place. Eight shifted bytes joined in one row are compiled to one load; two halves of four are not.
 pub fn u64_at(file: &[u8], at: usize) -> u64
-    requires { ⌜ at + 8 ≤ length (now file) ⌝ }
-    ensures { λ r. ⌜ NumberAt (now (file .entry)) at 8 r ⌝ }
+    requires { ⌜ at + longWidth ≤ length (now file) ⌝ }
+    ensures { λ r. ⌜ NumberAt (now (file .entry)) at longWidth r ⌝ }
 {
     let b0 = byte_at(file, at);
     let b1 = byte_at(file, at + 1);

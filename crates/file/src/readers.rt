@@ -1,21 +1,108 @@
-// Readers of slaves and records, for a file that is known to be accepted. Each says what the decoded cluster holds.
+// Readers of header, slaves and records, for a file that is known to be accepted. Each says what the decoded cluster holds.
 ghost use mathlib.Core.Path.{_≡_};
-ghost use Prim.Native.Nat.{_+_, _*_, _≤_, _<_};
-ghost use lib.ListN.{length};
-ghost use Rattle.file.specs.Cluster.{configuration, documentation, logicalName, physicalName, comparisonValue};
-ghost use Rattle.file.specs.Decode.{decode};
-ghost use Rattle.file.specs.Places.{slaveOf};
-ghost use Rattle.file.specs.Typed.{fileIn, recordIn, nameIn};
-ghost use Rattle.file.specs.Accepted.{Becomes, KeptAt, findFile, findRecord};
-ghost use Rattle.file.specs.Checked.{searchDirectory};
-ghost use Rattle.file.specs.Answers.{foundFile, foundRecord};
+ghost use Prim.Native.Nat.{_<_};
+ghost use Rattle.file.specs.Rules.Layout.{offsetWidth};
+ghost use Rattle.file.specs.Rules.Cluster.{logicalName, physicalName, comparisonValue};
+ghost use Rattle.file.specs.Rules.Decode.{decode};
+ghost use Rattle.file.specs.Inner.Places.{slaveOf};
+ghost use Rattle.file.specs.Inner.Typed.{fileIn, recordIn, nameIn, operationIn};
+ghost use Rattle.file.specs.Inner.Accepted.{AcceptedFile, slaveCount, Placed, PendingIs, findFile, findRecord};
+ghost use Rattle.file.specs.Inner.Checked.{EntriesFit, searchDirectory};
+ghost use Rattle.file.specs.Inner.Answers.{foundFile, foundRecord};
+use crate::layout::COMPARISON_VALUE_PLACE;
+use crate::layout::COUNT_PLACE;
+use crate::layout::ENTRY_SIZE;
+use crate::layout::EPOCH_PLACE;
+use crate::layout::FILE_COUNT_PLACE;
+use crate::layout::FILE_OFFSET_PLACE;
+use crate::layout::FLAG_PLACE;
+use crate::layout::HEADER_SIZE;
+use crate::layout::LOGICAL_NAME_PLACE;
+use crate::layout::NEEDED_CONFIGURATION;
+use crate::layout::NEEDED_DOCUMENTATION;
+use crate::layout::PENDING_NAME_PLACE;
+use crate::layout::PENDING_PB2_PLACE;
+use crate::layout::PENDING_PB3_PLACE;
+use crate::layout::PHYSICAL_NAME_PLACE;
+use crate::layout::RECORD_COUNT_PLACE;
+use crate::layout::RECORD_SIZE;
 use crate::numbers::byte_at;
 use crate::numbers::offset_at;
 use crate::numbers::u64_at;
+use crate::operations::file_number_of;
+use crate::operations::operation_of;
 use crate::types::FileNumber;
 use crate::types::LogicalName;
+use crate::types::Operation;
+use crate::types::PLACES_EACH;
 use crate::types::RecordNumber;
 use crate::types::SlavePlaces;
+
+// The number of slaves.
+pub fn slave_count(file: &[u8]) -> usize
+    requires { ⌜ AcceptedFile (now file) ⌝ }
+    ensures { λ r. ⌜ r ≡ slaveCount (now (file .entry)) ⌝ }
+{
+    byte_at(file, COUNT_PLACE)
+}
+
+pub fn read_epoch(file: &[u8]) -> u8
+    requires { ⌜ AcceptedFile (now file) ⌝ }
+    ensures { λ r. ⌜ r ≡ decode (now (file .entry)) .epoch ⌝ }
+{
+    file[EPOCH_PLACE]
+}
+
+// The pending flag and the pending operation, PB2 split into file number and operation.
+pub struct Pending {
+    pub flag: u8,
+    pub name: LogicalName,
+    pub number: FileNumber,
+    pub operation: Operation,
+    pub record: RecordNumber,
+}
+
+pub fn read_pending(file: &[u8]) -> Pending
+    requires { ⌜ AcceptedFile (now file) ⌝ }
+    ensures { λ r. ⌜ PendingIs (decode (now (file .entry))) (r .flag) (nameIn (r .name)) (fileIn (r .number)) (operationIn (r .operation)) (recordIn (r .«record»)) ⌝ }
+{
+    let pb2 = file[PENDING_PB2_PLACE];
+    Pending {
+        flag: file[FLAG_PLACE],
+        name: LogicalName::new(file[PENDING_NAME_PLACE]),
+        number: file_number_of(pb2),
+        operation: operation_of(pb2),
+        record: RecordNumber(file[PENDING_PB3_PLACE]),
+    }
+}
+
+// A slave's logical name.
+pub fn logical_name(file: &[u8], places: &SlavePlaces, slave: usize) -> LogicalName
+    requires { ⌜ Placed (now file) (now places) × (slave < slaveCount (now file)) ⌝ }
+    ensures { λ r. ⌜ nameIn r ≡ logicalName (slaveOf (decode (now (file .entry))) slave) ⌝ }
+{
+    let place = places[PLACES_EACH * slave] as usize;
+    let at = place + LOGICAL_NAME_PLACE;
+    LogicalName::new(file[at])
+}
+
+// A slave's physical name.
+pub fn physical_name(file: &[u8], places: &SlavePlaces, slave: usize) -> u64
+    requires { ⌜ Placed (now file) (now places) × (slave < slaveCount (now file)) ⌝ }
+    ensures { λ r. ⌜ r ≡ physicalName (slaveOf (decode (now (file .entry))) slave) ⌝ }
+{
+    let place = places[PLACES_EACH * slave + 1] as usize;
+    u64_at(file, place + PHYSICAL_NAME_PLACE)
+}
+
+// A slave's comparison value.
+pub fn comparison_value(file: &[u8], places: &SlavePlaces, slave: usize) -> u64
+    requires { ⌜ Placed (now file) (now places) × (slave < slaveCount (now file)) ⌝ }
+    ensures { λ r. ⌜ r ≡ comparisonValue (slaveOf (decode (now (file .entry))) slave) ⌝ }
+{
+    let place = places[PLACES_EACH * slave] as usize;
+    u64_at(file, place + COMPARISON_VALUE_PLACE)
+}
 
 // Where a slave keeps a file, and how many bytes it has.
 pub struct FileBytes {
@@ -34,69 +121,33 @@ pub enum RecordPlace {
     NoRecord,
 }
 
-// The number of slaves.
-pub fn slave_count(file: &[u8]) -> usize
-    requires { ⌜ Becomes (now file) (decode (now file)) ⌝ }
-    ensures { λ r. ⌜ r ≡ length (decode (now (file .entry)) .slaves) ⌝ }
-{
-    byte_at(file, 3)
-}
-
-// A slave's logical name, by the place of its 0x08.
-pub fn logical_name(file: &[u8], configurations: &SlavePlaces, slave: usize) -> LogicalName
-    requires { ⌜ Becomes (now file) (decode (now file)) × KeptAt (decode (now file)) configuration (now configurations) slave ⌝ }
-    ensures { λ r. ⌜ nameIn r ≡ logicalName (slaveOf (decode (now (file .entry))) slave) ⌝ }
-{
-    let place = configurations[slave] as usize;
-    let at = place + 7;
-    LogicalName::new(file[at])
-}
-
-// A slave's physical name, by the place of its 0x3D.
-pub fn physical_name(file: &[u8], documentations: &SlavePlaces, slave: usize) -> u64
-    requires { ⌜ Becomes (now file) (decode (now file)) × KeptAt (decode (now file)) documentation (now documentations) slave ⌝ }
-    ensures { λ r. ⌜ r ≡ physicalName (slaveOf (decode (now (file .entry))) slave) ⌝ }
-{
-    let place = documentations[slave] as usize;
-    u64_at(file, place + 4)
-}
-
-// A slave's comparison value, by the place of its 0x08.
-pub fn comparison_value(file: &[u8], configurations: &SlavePlaces, slave: usize) -> u64
-    requires { ⌜ Becomes (now file) (decode (now file)) × KeptAt (decode (now file)) configuration (now configurations) slave ⌝ }
-    ensures { λ r. ⌜ r ≡ comparisonValue (slaveOf (decode (now (file .entry))) slave) ⌝ }
-{
-    let place = configurations[slave] as usize;
-    u64_at(file, place + 8)
-}
-
 // What a directory states for a file number.
 fn search_directory(file: &[u8], directory: usize, count: usize, number: usize) -> FilePlace
-    requires { ⌜ (directory + 4 * count ≤ length (now file)) × (length (now file) ≤ 32768) ⌝ }
-    ensures { λ r. ⌜ foundFile r ≡ searchDirectory 2 (now (file .entry)) number directory count ⌝ }
+    requires { ⌜ EntriesFit (now file) directory count ⌝ }
+    ensures { λ r. ⌜ foundFile r ≡ searchDirectory offsetWidth (now (file .entry)) number directory count ⌝ }
 {
-    let end = directory + 4 * count;
+    let end = directory + ENTRY_SIZE * count;
     let mut entry = directory;
     while entry < end {
         if byte_at(file, entry) == number {
-            let last = byte_at(file, entry + 1);
-            let place = offset_at(file, entry + 2);
-            let size = 4 * (last + 1);
+            let last = byte_at(file, entry + RECORD_COUNT_PLACE);
+            let place = offset_at(file, entry + FILE_OFFSET_PLACE);
+            let size = RECORD_SIZE * (last + 1);
             return FilePlace::Bytes(FileBytes { place, size });
         }
-        entry = entry + 4;
+        entry = entry + ENTRY_SIZE;
     }
     FilePlace::NoFile
 }
 
 // Where a slave keeps a file, or that it has none.
 pub fn find_file(file: &[u8], slave: usize, number: FileNumber) -> FilePlace
-    requires { ⌜ Becomes (now file) (decode (now file)) × (slave < length (decode (now file) .slaves)) ⌝ }
+    requires { ⌜ AcceptedFile (now file) × (slave < slaveCount (now file)) ⌝ }
     ensures { λ r. ⌜ foundFile r ≡ findFile (decode (now (file .entry))) slave (fileIn number) ⌝ }
 {
-    let entry = 16 + 4 * slave;
+    let entry = HEADER_SIZE + ENTRY_SIZE * slave;
     let directory = offset_at(file, entry);
-    let count = byte_at(file, entry + 2);
+    let count = byte_at(file, entry + FILE_COUNT_PLACE);
     search_directory(file, directory, count, number.0 as usize)
 }
 
@@ -107,7 +158,7 @@ pub fn find_record(
     number: FileNumber,
     record: RecordNumber,
 ) -> RecordPlace
-    requires { ⌜ Becomes (now file) (decode (now file)) × (slave < length (decode (now file) .slaves)) ⌝ }
+    requires { ⌜ AcceptedFile (now file) × (slave < slaveCount (now file)) ⌝ }
     ensures { λ r. ⌜ foundRecord r ≡ findRecord (decode (now (file .entry))) slave (fileIn number) (recordIn «record») ⌝ }
 {
     let found = find_file(file, slave, number);
@@ -116,9 +167,49 @@ pub fn find_record(
     };
     let place = bytes.place;
     let size = bytes.size;
-    let start = 4 * (record.0 as usize);
-    if size < start + 4 {
+    let start = RECORD_SIZE * (record.0 as usize);
+    if size < start + RECORD_SIZE {
         return RecordPlace::NoRecord;
     }
     RecordPlace::At(place + start)
+}
+
+// The same, for a record that is to be written: those of 0x08 that every slave has need no search.
+pub fn write_place(
+    file: &[u8],
+    places: &SlavePlaces,
+    slave: usize,
+    number: FileNumber,
+    record: RecordNumber,
+) -> RecordPlace
+    requires { ⌜ Placed (now file) (now places) × (slave < slaveCount (now file)) ⌝ }
+    ensures { λ r. ⌜ foundRecord r ≡ findRecord (decode (now (file .entry))) slave (fileIn number) (recordIn «record») ⌝ }
+{
+    if number.0 == FileNumber::CONFIGURATION.0 {
+        if record.0 <= NEEDED_CONFIGURATION {
+            let place = places[PLACES_EACH * slave] as usize;
+            return RecordPlace::At(place + RECORD_SIZE * (record.0 as usize));
+        }
+    }
+    find_record(file, slave, number, record)
+}
+
+// The same, for a record that is to be read: those of 0x3D that every slave has need none either.
+pub fn read_place(
+    file: &[u8],
+    places: &SlavePlaces,
+    slave: usize,
+    number: FileNumber,
+    record: RecordNumber,
+) -> RecordPlace
+    requires { ⌜ Placed (now file) (now places) × (slave < slaveCount (now file)) ⌝ }
+    ensures { λ r. ⌜ foundRecord r ≡ findRecord (decode (now (file .entry))) slave (fileIn number) (recordIn «record») ⌝ }
+{
+    if number.0 == FileNumber::DOCUMENTATION.0 {
+        if record.0 <= NEEDED_DOCUMENTATION {
+            let place = places[PLACES_EACH * slave + 1] as usize;
+            return RecordPlace::At(place + RECORD_SIZE * (record.0 as usize));
+        }
+    }
+    write_place(file, places, slave, number, record)
 }

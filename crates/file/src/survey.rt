@@ -1,132 +1,97 @@
 // The checker: grounds 1 to 8, with where each slave keeps 0x08 and 0x3D.
 ghost use mathlib.Core.Path.{_≡_};
-ghost use Rattle.file.specs.Grounds.{isAmong};
-ghost use Rattle.file.specs.Checked.{GoodHeader, BodyWalked, WholeWalk, slavesGround};
-ghost use Rattle.file.specs.Surveyed.{Surveyed};
-ghost use Rattle.file.specs.Answers.{Verdict, checkedOf, loadVerdict};
+ghost use Rattle.file.specs.Rules.Layout.{offsetWidth};
+ghost use Rattle.file.specs.Rules.Grounds.{isAmong, loadVerdict};
+ghost use Rattle.file.specs.Inner.Checked.{GoodHeader, BodyWalked, PlacesFit, WholeWalk, slavesGround};
+ghost use Rattle.file.specs.Inner.Surveyed.{Surveyed};
+ghost use Rattle.file.specs.Inner.Answers.{checkedOf};
 use crate::header::header_ground;
+use crate::layout::COUNT_PLACE;
+use crate::layout::ENTRY_SIZE;
+use crate::layout::HEADER_SIZE;
 use crate::names::equal_names;
 use crate::numbers::byte_at;
-use crate::types::MOST_SLAVES;
+use crate::types::PLACES;
+use crate::types::PLACES_EACH;
 use crate::types::Refusal;
 use crate::types::SlavePlaces;
-use crate::walk::SlavesWalk;
 use crate::walk::walk_slaves;
-
-// How many slaves there are, and where each keeps 0x08 and 0x3D.
-pub struct Places {
-    pub count: usize,
-    pub configuration: SlavePlaces,
-    pub documentation: SlavePlaces,
-}
 
 pub enum FileAnswer {
     Accepted,
     Refused(Refusal),
 }
 
-// The checker's answer; where the file is accepted, its places too.
-pub struct FileSurvey {
-    pub answer: FileAnswer,
-    pub places: Places,
-}
-
 // Whether a slave lacks a file: its place is 0.
 fn is_missing(places: &[u16]) -> bool
     ensures { λ r. ⌜ r ≡ isAmong 0 (now (places .entry)) ⌝ }
 {
-    let mut slave = 0;
-    while slave < places.len() {
-        if places[slave] == 0 {
+    let mut at = 0;
+    while at < places.len() {
+        if places[at] == 0 {
             return true;
         }
-        slave = slave + 1;
+        at = at + 1;
     }
     false
 }
 
-fn refused(ground: Refusal) -> FileSurvey
-    ensures { λ r. ⌜ checkedOf (r .answer) ≡ Verdict.refused (ground .0) ⌝ }
+// Ground 6 after a good header: whether the layout is whole; the places that its directories state are put into the lent array.
+fn walk_body(file: &[u8], places: &mut [u16]) -> bool
+    requires { ⌜ GoodHeader offsetWidth (now file) × PlacesFit (now places) ⌝ }
+    ensures { λ r. ⌜ BodyWalked (now (file .entry)) r (now (places .exit)) ⌝ }
 {
-    FileSurvey {
-        answer: FileAnswer::Refused(ground),
-        places: Places {
-            count: 0,
-            configuration: [0u16; MOST_SLAVES],
-            documentation: [0u16; MOST_SLAVES],
-        },
+    let count = byte_at(file, COUNT_PLACE);
+    if file.len() < HEADER_SIZE + ENTRY_SIZE * count {
+        return false;
     }
-}
-
-// Ground 6 behind a good header: whether the layout is whole, and the places that its directories state.
-fn walk_body(file: &[u8]) -> SlavesWalk
-    requires { ⌜ GoodHeader 2 (now file) ⌝ }
-    ensures { λ r. ⌜ BodyWalked (now (file .entry)) (r .good) (r .configuration) (r .documentation) ⌝ }
-{
-    let count = byte_at(file, 3);
-    if file.len() < 16 + 4 * count {
-        return SlavesWalk {
-            good: false,
-            end: 0,
-            configuration: [0u16; MOST_SLAVES],
-            documentation: [0u16; MOST_SLAVES],
-        };
+    let walk = walk_slaves(file, count, places);
+    if !walk.good {
+        return false;
     }
-    let mut walk = walk_slaves(file, count);
-    if walk.end != file.len() {
-        walk.good = false;
-    }
-    walk
+    walk.end == file.len()
 }
 
 // Grounds 7 and 8, by the places that the directories of all slaves state.
-fn slaves_ground(file: &[u8], configuration: &[u16], documentation: &[u16]) -> u8
-    requires { ⌜ WholeWalk (now file) (now configuration) (now documentation) ⌝ }
+fn slaves_ground(file: &[u8], places: &[u16]) -> u8
+    requires { ⌜ WholeWalk (now file) (now places) × PlacesFit (now places) ⌝ }
     ensures { λ r. ⌜ r ≡ slavesGround (now (file .entry)) ⌝ }
 {
-    if is_missing(configuration) {
+    let count = byte_at(file, COUNT_PLACE);
+    let stated = &places[..PLACES_EACH * count];
+    if is_missing(stated) {
         return Refusal::NEEDED_FILE.0;
     }
-    if is_missing(documentation) {
-        return Refusal::NEEDED_FILE.0;
-    }
-    if equal_names(file, documentation) {
+    if equal_names(file, stated) {
         return Refusal::PHYSICAL_NAMES.0;
     }
     0
 }
 
-pub fn survey(file: &[u8]) -> FileSurvey
-    ensures { λ r. ⌜ Surveyed (now (file .entry)) (checkedOf (r .answer)) (r .places .count) (r .places .configuration) (r .places .documentation) ⌝ }
+// The answer to a file; where it is accepted, the lent array holds its places.
+pub fn survey(file: &[u8], places: &mut SlavePlaces) -> FileAnswer
+    ensures { λ r. ⌜ Surveyed (now (file .entry)) (checkedOf r) (now (places .exit)) ⌝ }
 {
-    let ground = header_ground(file);
+    // The whole file as a slice of its own: then its place and its length are handed over in registers.
+    let bytes = &file[..];
+    let ground = header_ground(bytes);
     if ground != 0 {
-        return refused(Refusal(ground));
+        return FileAnswer::Refused(Refusal(ground));
     }
-    let walk = walk_body(file);
-    if !walk.good {
-        return refused(Refusal::LAYOUT);
+    if !walk_body(bytes, places) {
+        return FileAnswer::Refused(Refusal::LAYOUT);
     }
-    let count = byte_at(file, 3);
-    let configuration = walk.configuration;
-    let documentation = walk.documentation;
-    let last = slaves_ground(file, &configuration[..count], &documentation[..count]);
+    let last = slaves_ground(bytes, places);
     if last != 0 {
-        return refused(Refusal(last));
+        return FileAnswer::Refused(Refusal(last));
     }
-    FileSurvey {
-        answer: FileAnswer::Accepted,
-        places: Places {
-            count,
-            configuration,
-            documentation,
-        },
-    }
+    FileAnswer::Accepted
 }
 
 // The checker's call: a file from outside is accepted, or refused by the first of its grounds that holds.
 pub fn check(file: &[u8]) -> FileAnswer
     ensures { λ r. ⌜ checkedOf r ≡ loadVerdict (now (file .entry)) ⌝ }
 {
-    survey(file).answer
+    let mut places = [0u16; PLACES];
+    survey(file, &mut places)
 }

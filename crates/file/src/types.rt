@@ -1,11 +1,32 @@
-// "A file number, a record number and a logical name are never taken for one another" (document 01): a type for each. The refusals.
-// And the layout's numbers that the layers above need.
+// "A file number, a record number and a logical name are never taken for one another" (document 01): a type for each. The operation.
+// The refusals. And the layout's numbers that the layers above need.
 ghost use mathlib.Core.Path.{_≡_};
-ghost use Rattle.file.specs.Typed.{nameIn};
+ghost use Rattle.file.specs.Inner.Typed.{nameIn};
 
 pub struct FileNumber(pub u8);
 
+// "file 0x08 (configuration)" and "file 0x3D (documentation, 000)"; "file number 0 to 63".
+impl FileNumber {
+    pub const CONFIGURATION: FileNumber = FileNumber(0x08);
+
+    pub const DOCUMENTATION: FileNumber = FileNumber(0x3D);
+
+    pub const LAST: FileNumber = FileNumber(63);
+}
+
 pub struct RecordNumber(pub u8);
+
+// "Records 1 and 2 of 0x3D are the physical name: series number, then serial number"; of 0x08 "record 1 holds the new logical name in
+// byte 2 and the logical name in byte 3; records 2 and 3 hold the comparison value IDCV".
+impl RecordNumber {
+    pub const SERIES: RecordNumber = RecordNumber(1);
+
+    pub const NAMES: RecordNumber = RecordNumber(1);
+
+    pub const COMPARISON_HIGH: RecordNumber = RecordNumber(2);
+
+    pub const COMPARISON_LOW: RecordNumber = RecordNumber(3);
+}
 
 pub struct LogicalName(pub u8);
 
@@ -20,6 +41,17 @@ impl LogicalName {
     {
         LogicalName(name)
     }
+}
+
+// Any byte can be handed to the frame writer, so an operation is a byte; the values that have a meaning are the constants.
+pub struct Operation(pub u8);
+
+impl Operation {
+    pub const READ: Operation = Operation(0);
+
+    pub const WRITE: Operation = Operation(1);
+
+    pub const EXECUTE: Operation = Operation(2);
 }
 
 // Why something is turned away: document 01's number ("Grounds for turning something away").
@@ -63,12 +95,12 @@ impl Refusal {
     pub const FILE_NUMBER: Refusal = Refusal(18);
 }
 
-// "the slave count, 0 to 32", and a place for each slave that a file may have, in the order of the slave table.
+// "the slave count, 0 to 32".
 pub const MOST_SLAVES: usize = 32;
 
-pub type SlavePlaces = [u16; MOST_SLAVES];
+// Where the slaves keep 0x08 and 0x3D, in the order of the slave table: a slave's two places together, that of 0x08 first.
+pub const PLACES_EACH: usize = 2;
 
-// "file 0x08 (configuration) with r at least 3 and file 0x3D (documentation, 000) with r at least 2".
-pub const NEEDED_CONFIGURATION: u8 = 3;
+pub const PLACES: usize = PLACES_EACH * MOST_SLAVES;
 
-pub const NEEDED_DOCUMENTATION: u8 = 2;
+pub type SlavePlaces = [u16; PLACES];

@@ -1,13 +1,10 @@
 // What the readers say of an accepted file.
 ghost use Prim.Native.Nat.{_<_};
-ghost use lib.ListN.{length};
-ghost use Rattle.file.specs.Decode.{decode};
-ghost use Rattle.file.specs.Cluster.{configuration, documentation};
-ghost use Rattle.file.specs.Accepted.{Becomes, Placed, KeptAt};
-use crate::show::decimal;
-use crate::show::hex;
-use crate::show::text;
-use crate::show::title;
+ghost use Rattle.file.specs.Inner.Accepted.{AcceptedFile, Placed, slaveCount};
+use case_input::show::bytes;
+use case_input::show::number;
+use case_input::show::text;
+use case_input::show::word;
 use file::readers::FilePlace;
 use file::readers::RecordPlace;
 use file::readers::comparison_value;
@@ -19,47 +16,46 @@ use file::readers::slave_count;
 use file::survey::FileAnswer;
 use file::survey::survey;
 use file::types::FileNumber;
+use file::types::PLACES;
 use file::types::RecordNumber;
 use file::types::SlavePlaces;
 
-fn file_place(file: &[u8], slave: usize, number: u8)
-    requires { ⌜ Becomes (now file) (decode (now file)) × (slave < length (decode (now file) .slaves)) ⌝ }
+fn file_place(file: &[u8], slave: usize, file_number: u8)
+    requires { ⌜ AcceptedFile (now file) × (slave < slaveCount (now file)) ⌝ }
 {
-    text(b" file");
-    hex(number as u64, 2);
-    let found = find_file(file, slave, FileNumber(number));
-    match found {
-        FilePlace::Bytes(bytes) => {
+    text(b"\n file");
+    bytes(&[file_number]);
+    let answer = find_file(file, slave, FileNumber(file_number));
+    match answer {
+        FilePlace::Bytes(found) => {
             text(b" at");
-            decimal(bytes.place);
+            number(found.place as u64);
             text(b" size");
-            decimal(bytes.size);
+            number(found.size as u64);
         }
         FilePlace::NoFile => text(b" none"),
     }
-    text(b"\n");
 }
 
-fn record_place(file: &[u8], slave: usize, number: u8, record: u8)
-    requires { ⌜ Becomes (now file) (decode (now file)) × (slave < length (decode (now file) .slaves)) ⌝ }
+fn record_place(file: &[u8], slave: usize, file_number: u8, record: u8)
+    requires { ⌜ AcceptedFile (now file) × (slave < slaveCount (now file)) ⌝ }
 {
-    text(b" file");
-    hex(number as u64, 2);
+    text(b"\n file");
+    bytes(&[file_number]);
     text(b" record");
-    decimal(record as usize);
-    let found = find_record(file, slave, FileNumber(number), RecordNumber(record));
-    match found {
+    number(record as u64);
+    let answer = find_record(file, slave, FileNumber(file_number), RecordNumber(record));
+    match answer {
         RecordPlace::At(place) => {
             text(b" at");
-            decimal(place);
+            number(place as u64);
         }
         RecordPlace::NoRecord => text(b" none"),
     }
-    text(b"\n");
 }
 
-fn places(file: &[u8], slave: usize)
-    requires { ⌜ Becomes (now file) (decode (now file)) × (slave < length (decode (now file) .slaves)) ⌝ }
+fn found_places(file: &[u8], slave: usize)
+    requires { ⌜ AcceptedFile (now file) × (slave < slaveCount (now file)) ⌝ }
 {
     file_place(file, slave, 0x08);
     file_place(file, slave, 0x09);
@@ -73,45 +69,38 @@ fn places(file: &[u8], slave: usize)
     record_place(file, slave, 0x3F, 255);
 }
 
-fn slave_line(file: &[u8], configurations: &SlavePlaces, documentations: &SlavePlaces, slave: usize)
-    requires { ⌜ Becomes (now file) (decode (now file)) × KeptAt (decode (now file)) configuration (now configurations) slave × KeptAt (decode (now file)) documentation (now documentations) slave ⌝ }
+fn slave_line(file: &[u8], places: &SlavePlaces, slave: usize)
+    requires { ⌜ Placed (now file) (now places) × (slave < slaveCount (now file)) ⌝ }
 {
-    text(b"slave");
-    decimal(slave);
+    text(b"\nslave");
+    number(slave as u64);
     text(b" name");
-    let name = logical_name(file, configurations, slave);
-    hex(name.0 as u64, 2);
+    let name = logical_name(file, places, slave);
+    bytes(&[name.0]);
     text(b" physical");
-    hex(physical_name(file, documentations, slave), 16);
+    word(physical_name(file, places, slave));
     text(b" compare");
-    hex(comparison_value(file, configurations, slave), 16);
-    text(b"\n");
-    places(file, slave);
+    word(comparison_value(file, places, slave));
+    found_places(file, slave);
 }
 
-fn slaves(file: &[u8], configurations: &SlavePlaces, documentations: &SlavePlaces, count: usize)
-    requires { ⌜ Becomes (now file) (decode (now file)) × Placed (decode (now file)) count (now configurations) (now documentations) ⌝ }
+fn slaves(file: &[u8], places: &SlavePlaces)
+    requires { ⌜ Placed (now file) (now places) ⌝ }
 {
+    let count = slave_count(file);
+    number(count as u64);
     let mut slave = 0;
     while slave < count {
-        slave_line(file, configurations, documentations, slave);
+        slave_line(file, places, slave);
         slave += 1;
     }
 }
 
-pub fn describe(label: &[u8], file: &[u8]) {
-    title(label);
-    let found = survey(file);
-    let answer = found.answer;
+pub fn describe(file: &[u8]) {
+    let mut places = [0u16; PLACES];
+    let answer = survey(file, &mut places);
     let FileAnswer::Accepted = answer else {
-        title(b"refused");
-        return;
+        return text(b" refused");
     };
-    let places = found.places;
-    let configurations = places.configuration;
-    let documentations = places.documentation;
-    text(b"slaves");
-    decimal(slave_count(file));
-    text(b"\n");
-    slaves(file, &configurations, &documentations, places.count);
+    slaves(file, &places);
 }

@@ -6,23 +6,24 @@ use mathlib.Core.List.{List, [], _∷_, _++_}
 use native.Mathlib.Omega.{arith}
 use lib.ListN.{length, getD, take, drop}
 use lib.Seq.{take-at}
-use Rattle.file.specs.Bytes.{Bytes}
-use Rattle.file.specs.Cluster.{fileNumberOf, operationOf, readOperation, writeOperation, executeOperation}
-use Rattle.file.specs.Order.{firstOf, both, either}
-use Rattle.frame.specs.Check.{exclusiveOr, addressCheck, dataCheck}
-use Rattle.frame.specs.Frames.{frameSize, frameOf, pb2Of, addressBytes, addressFrame, dataFrame}
-use Rattle.frame.specs.Grounds.{shortBuffer, noAddress, wrongLength, wrongCheck, noOperation, broadcastRead, noFileNumber}
-use Rattle.frame.specs.Reading.{Reading, partsOf, readGround, readAddress}
-use Rattle.frame.specs.Writing.{Writing, writeFrame, writeGround, dataGround, writeAddress, writeData}
+use Rattle.file.specs.Rules.Bytes.{Bytes}
+use Rattle.file.specs.Rules.Cluster.{fileNumberOf, operationOf, pb2Of, readOperation, writeOperation, executeOperation}
+use Rattle.file.specs.Rules.Order.{firstOf, both, either}
+use Rattle.file.specs.Rules.Results.{refused, done, resultOf}
+use Rattle.frame.specs.Rules.Check.{exclusiveOr, addressCheck, dataCheck}
+use Rattle.frame.specs.Rules.Frames.{frameSize, frameOf, addressBytes, addressFrame, dataFrame}
+use Rattle.frame.specs.Rules.Grounds.{shortFrameBuffer, noAddress, wrongFrameLength, wrongCheck, noOperation, broadcastRead, noFileNumber}
+use Rattle.frame.specs.Rules.Reading.{Parts, parts, partsOf, readGround, readAddress}
+use Rattle.frame.specs.Rules.Writing.{writeFrame, writeGround, dataGround, writeAddress, writeData}
 use Rattle.frame.proofs.Tests.{long, file-fits}
 use Rattle.frame.proofs.Accepted.{read-accepted, read-same, Write, write-accepted}
 use Rattle.frame.proofs.Written.{address-places, address-writes, address-reads, frame-of-parts, byte-at}
 
 -- What the writer writes, the reader reads as the same parts.
 pub written-reads : (buffer : List ℕ) (epoch name file operation «record» : ℕ)
-    → writeAddress buffer epoch name file operation «record» .0 ≡ Writing.written
+    → writeAddress buffer epoch name file operation «record» .0 ≡ done tt
     → readAddress (take frameSize (writeAddress buffer epoch name file operation «record» .1))
-    ≡ Reading.parts epoch name file operation «record»
+    ≡ done (parts epoch name file operation «record»)
 written-reads buffer epoch name file operation «record» accepted =
     let w = write-accepted buffer epoch name file operation «record» accepted in
     rw (
@@ -34,17 +35,17 @@ written-reads buffer epoch name file operation «record» accepted =
 
 -- What the reader accepts, the writer writes again byte for byte, and past it keeps the buffer.
 pub read-writes : (frame buffer : List ℕ) {epoch name file operation «record» : ℕ} → Bytes frame
-    → readAddress frame ≡ Reading.parts epoch name file operation «record» → frameSize ≤ length buffer
-    → writeAddress buffer epoch name file operation «record» ≡ (Writing.written, frame ++ drop frameSize buffer)
+    → readAddress frame ≡ done (parts epoch name file operation «record») → frameSize ≤ length buffer
+    → writeAddress buffer epoch name file operation «record» ≡ (done tt, frame ++ drop frameSize buffer)
 unfolding partsOf
 read-writes frame buffer {epoch} {name} {file} {operation} {«record»} bytes accepted room =
     let a = read-accepted frame accepted in
     let same = read-same frame accepted in
-    let e : getD frame 1 0 ≡ epoch = cc in
-    let n : getD frame 2 0 ≡ name = cc in
-    let f : fileNumberOf (getD frame 3 0) ≡ file = cc in
-    let o : operationOf (getD frame 3 0) ≡ operation = cc in
-    let r : getD frame 4 0 ≡ «record» = cc in
+    let e : getD frame 1 0 ≡ epoch = ap (λ (p : Parts). p .epoch) same in
+    let n : getD frame 2 0 ≡ name = ap (λ (p : Parts). p .name) same in
+    let f : fileNumberOf (getD frame 3 0) ≡ file = ap (λ (p : Parts). p .file) same in
+    let o : operationOf (getD frame 3 0) ≡ operation = ap (λ (p : Parts). p .operation) same in
+    let r : getD frame 4 0 ≡ «record» = ap (λ (p : Parts). p .«record») same in
     let w : Write buffer (getD frame 2 0) (fileNumberOf (getD frame 3 0)) (operationOf (getD frame 3 0)) =
     record {
       fits = long buffer room;
@@ -55,7 +56,7 @@ read-writes frame buffer {epoch} {name} {file} {operation} {«record»} bytes ac
     in
     rw (← e, ← n, ← f, ← o, ← r)
     (address-writes buffer _ _ _ _ _ w ∙
-    ap (λ (l : List ℕ). (Writing.written, l ++ drop frameSize buffer)) (frame-of-parts frame a))
+    ap (λ (l : List ℕ). (done tt, l ++ drop frameSize buffer)) (frame-of-parts frame a))
 
 -- The cases M1 to M5 of document 01, "Fireworks and frames".
 abbrev sixZeros : List ℕ
@@ -63,8 +64,8 @@ sixZeros = 0 ∷ 0 ∷ 0 ∷ 0 ∷ 0 ∷ 0 ∷ []
 
 -- a frame that the reader reads as these parts and the writer writes for them
 pub record ReadAndWritten (frame : List ℕ) (epoch name file operation «record» : ℕ) : Type 0 where
-  pub reads : readAddress frame ≡ Reading.parts epoch name file operation «record»
-  pub writes : writeAddress sixZeros epoch name file operation «record» ≡ (Writing.written, frame)
+  pub reads : readAddress frame ≡ done (parts epoch name file operation «record»)
+  pub writes : writeAddress sixZeros epoch name file operation «record» ≡ (done tt, frame)
 
 pub record FrameCases : Type 0 where
   -- "execute 0x08 record 2 at 0xFF, epoch 5: 55 05 FF 22 02 DA"
@@ -72,15 +73,15 @@ pub record FrameCases : Type 0 where
   -- "write 0x08 record 1 at 0xFF, epoch 0: 55 00 FF 21 01 DF"
   pub m2 : ReadAndWritten (0x55 ∷ 0x00 ∷ 0xFF ∷ 0x21 ∷ 0x01 ∷ 0xDF ∷ []) 0 0xFF 0x08 writeOperation 1
   -- "its data for name 1: 49 00 00 01 FF FE"
-  pub m3 : writeData sixZeros (0x00 ∷ 0x00 ∷ 0x01 ∷ 0xFF ∷ []) ≡ (Writing.written, 0x49 ∷ 0x00 ∷ 0x00 ∷ 0x01 ∷ 0xFF ∷ 0xFE ∷ [])
+  pub m3 : writeData sixZeros (0x00 ∷ 0x00 ∷ 0x01 ∷ 0xFF ∷ []) ≡ (done tt, 0x49 ∷ 0x00 ∷ 0x00 ∷ 0x01 ∷ 0xFF ∷ 0xFE ∷ [])
   -- "read 0x3D record 1 at 1, epoch 2: 55 02 01 F4 01 F6"
   pub m4 : ReadAndWritten (0x55 ∷ 0x02 ∷ 0x01 ∷ 0xF4 ∷ 0x01 ∷ 0xF6 ∷ []) 2 1 0x3D readOperation 1
   -- "M1 ending DB is refused, 12"
-  pub m5 : readAddress (0x55 ∷ 0x05 ∷ 0xFF ∷ 0x22 ∷ 0x02 ∷ 0xDB ∷ []) ≡ Reading.refused 12
+  pub m5 : readAddress (0x55 ∷ 0x05 ∷ 0xFF ∷ 0x22 ∷ 0x02 ∷ 0xDB ∷ []) ≡ refused 12
 
 pub frame-cases : FrameCases
-unfolding readAddress readGround partsOf writeAddress writeData writeGround dataGround writeFrame addressFrame dataFrame
-    addressBytes pb2Of frameOf addressCheck dataCheck exclusiveOr firstOf shortBuffer noAddress wrongLength wrongCheck noOperation broadcastRead noFileNumber either both
+unfolding resultOf readAddress readGround partsOf writeAddress writeData writeGround dataGround writeFrame addressFrame dataFrame
+    addressBytes pb2Of frameOf addressCheck dataCheck exclusiveOr firstOf shortFrameBuffer noAddress wrongFrameLength wrongCheck noOperation broadcastRead noFileNumber either both
 frame-cases = record {
   m1 = record { reads = refl; writes = refl };
   m2 = record { reads = refl; writes = refl };

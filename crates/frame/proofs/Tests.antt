@@ -8,11 +8,11 @@ use native.Mathlib.Omega.{arith}
 use lib.ListN.{length, getD}
 use lib.Dec.{eqb}
 use borrow.Author.Tests.{lt-ltb, le-ltb, eq-eqb, ne-eqb, eqb-true, leb-false, lt-leb, not-false}
-use Rattle.file.specs.Cluster.{readOperation, broadcast}
-use Rattle.file.proofs.Order.{either-left, either-right, either-false, either-false-right, both-false-left, both-false-right}
-use Rattle.frame.specs.Frames.{frameSize, between}
-use Rattle.frame.specs.Fireworks.{addressFirework}
-use Rattle.frame.specs.Grounds.{shortBuffer, noAddress, wrongLength, wrongCheck, noOperation, broadcastRead, noFileNumber}
+use Rattle.file.specs.Rules.Cluster.{readOperation, broadcast}
+use Rattle.file.proofs.Order.{either-left, either-right, either-next, either-false, either-false-right, both-false-left, both-false-right}
+use Rattle.frame.specs.Rules.Frames.{frameSize, between}
+use Rattle.frame.specs.Rules.Fireworks.{addressFirework}
+use Rattle.frame.specs.Rules.Grounds.{shortFrameBuffer, noAddress, wrongFrameLength, wrongCheck, noOperation, broadcastRead, noFileNumber}
 
 -- a test of equality that is negated
 pub differs : {a b : ℕ} → (a ≡ b → ⊥) → not (eqb a b) ≡ true
@@ -25,12 +25,12 @@ pub agree : (a b : ℕ) → not (eqb a b) ≡ false → a ≡ b
 agree a b p = eqb-true a b (not-false (eqb a b) p)
 
 module _ (buffer : List ℕ) where
-  pub short : length buffer < frameSize → shortBuffer buffer ≡ true
-  unfolding shortBuffer
+  pub short : length buffer < frameSize → shortFrameBuffer buffer ≡ true
+  unfolding shortFrameBuffer
   short h = lt-ltb _ _ h
 
-  pub long : frameSize ≤ length buffer → shortBuffer buffer ≡ false
-  unfolding shortBuffer
+  pub long : frameSize ≤ length buffer → shortFrameBuffer buffer ≡ false
+  unfolding shortFrameBuffer
   long h = le-ltb _ _ h
 
 module _ (frame : List ℕ) where
@@ -46,20 +46,24 @@ module _ (frame : List ℕ) where
   unfolding noAddress
   address h e = either-false (ne-eqb _ _ h) (agrees e)
 
+  pub first-tells : (length frame ≡ 0 → ⊥) → not (eqb (getD frame 0 0) addressFirework) ≡ noAddress frame
+  unfolding noAddress
+  first-tells h = sym (either-next _ (ne-eqb _ _ h))
+
   pub address-first : noAddress frame ≡ false → getD frame 0 0 ≡ addressFirework
   unfolding noAddress
   address-first p = agree _ _ (either-false-right _ _ p)
 
-  pub right-length : {size : ℕ} → length frame ≡ size → wrongLength size frame ≡ false
-  unfolding wrongLength
+  pub right-length : {size : ℕ} → length frame ≡ size → wrongFrameLength size frame ≡ false
+  unfolding wrongFrameLength
   right-length e = agrees e
 
-  pub other-length : {size : ℕ} → (length frame ≡ size → ⊥) → wrongLength size frame ≡ true
-  unfolding wrongLength
+  pub other-length : {size : ℕ} → (length frame ≡ size → ⊥) → wrongFrameLength size frame ≡ true
+  unfolding wrongFrameLength
   other-length h = differs h
 
-  pub length-is : (size : ℕ) → wrongLength size frame ≡ false → length frame ≡ size
-  unfolding wrongLength
+  pub length-is : (size : ℕ) → wrongFrameLength size frame ≡ false → length frame ≡ size
+  unfolding wrongFrameLength
   length-is size p = agree _ _ p
 
   -- the code's check byte is a value of its own, with its equation
@@ -71,6 +75,10 @@ module _ (frame : List ℕ) where
     pub other-check : (getD frame 5 0 ≡ check → ⊥) → wrongCheck f frame ≡ true
     unfolding wrongCheck
     other-check other = differs (λ same. other (same ∙ sym made))
+
+  pub check-tells : (f : List ℕ → ℕ) {check : ℕ} → check ≡ f (between frame) → not (eqb (getD frame 5 0) check) ≡ wrongCheck f frame
+  unfolding wrongCheck
+  check-tells f made = rw made
 
   pub check-is : (f : List ℕ → ℕ) → wrongCheck f frame ≡ false → getD frame 5 0 ≡ f (between frame)
   unfolding wrongCheck

@@ -8,14 +8,15 @@ use native.Mathlib.Omega.{arith}
 use lib.ListN.{length, getD, drop, drop-of-length-le}
 use lib.Seq.{set-getD}
 use lib.Bits.{xor-lt}
-use Rattle.file.specs.Cluster.{fileNumberOf, operationOf}
-use Rattle.file.specs.Bytes.{none, both, Byte, Bytes}
-use Rattle.frame.specs.Fireworks.{addressFirework, dataFirework}
-use Rattle.frame.specs.Check.{exclusiveOr, addressCheck, dataCheck}
-use Rattle.frame.specs.Frames.{frameSize, frameOf, between, pb2Of, addressBytes, addressFrame, dataFrame}
-use Rattle.frame.specs.Grounds.{noOperation, broadcastRead}
-use Rattle.frame.specs.Reading.{parts, readAddress}
-use Rattle.frame.specs.Writing.{written, writeAddress, writeData}
+use Rattle.file.specs.Rules.Cluster.{fileNumberOf, operationOf, pb2Of}
+use Rattle.file.specs.Rules.Bytes.{allEmpty, allNext, Byte, Bytes}
+use Rattle.frame.specs.Rules.Fireworks.{addressFirework, dataFirework}
+use Rattle.frame.specs.Rules.Check.{exclusiveOr, addressCheck, dataCheck}
+use Rattle.frame.specs.Rules.Frames.{frameSize, frameOf, between, addressBytes, addressFrame, dataFrame}
+use Rattle.frame.specs.Rules.Grounds.{noOperation, broadcastRead}
+use Rattle.frame.specs.Rules.Reading.{parts, readAddress}
+use Rattle.file.specs.Rules.Results.{done}
+use Rattle.frame.specs.Rules.Writing.{writeAddress, writeData}
 use Rattle.frame.proofs.Tests.{operation-fits, file-fits, long, operation-low, address-first, length-is, check-is}
 use Rattle.frame.proofs.Reading.{formed, accept}
 use Rattle.frame.proofs.Writing.{stored, address-written, data-written}
@@ -50,8 +51,8 @@ data-places b0 b1 b2 b3 = places _ _ _ _ _ _
 -- every check is a byte, and so is every byte of a frame of bytes
 exclusive-or-byte : {bytes : List ℕ} → Bytes bytes → Byte (exclusiveOr bytes)
 unfolding exclusiveOr
-exclusive-or-byte none = omega arith
-exclusive-or-byte (both b bs) = xor-lt 8 _ _ b (exclusive-or-byte bs)
+exclusive-or-byte allEmpty = omega arith
+exclusive-or-byte (allNext b bs) = xor-lt 8 _ _ b (exclusive-or-byte bs)
 
 pub address-check-byte : {bytes : List ℕ} → Bytes bytes → Byte (addressCheck bytes)
 unfolding addressCheck
@@ -63,18 +64,18 @@ data-check-byte bs = exclusive-or-byte bs
 
 frame-bytes : {firework check : ℕ} {bytes : List ℕ} → Byte firework → Bytes bytes → Byte check → Bytes (frameOf firework bytes check)
 unfolding frameOf
-frame-bytes {check = check} f bs e = both f (ended bs)
+frame-bytes {check = check} f bs e = allNext f (ended bs)
   where
     ended : {l : List ℕ} → Bytes l → Bytes (l ++ (check ∷ []))
-    ended none = both e none
-    ended (both b l) = both b (ended l)
+    ended allEmpty = allNext e allEmpty
+    ended (allNext b l) = allNext b (ended l)
 
 pub address-bytes : (epoch name file operation «record» : ℕ) → Byte epoch → Byte name → file ≤ 63 → operation ≤ 3 → Byte «record»
     → Bytes (addressFrame epoch name file operation «record»)
 unfolding addressFrame addressBytes pb2Of
 address-bytes epoch name file operation «record» e n f o r =
     let p : Byte (4 * file + operation) = omega arith in
-    let bytes : Bytes (epoch ∷ name ∷ (4 * file + operation) ∷ «record» ∷ []) = both e (both n (both p (both r none))) in
+    let bytes : Bytes (epoch ∷ name ∷ (4 * file + operation) ∷ «record» ∷ []) = allNext e (allNext n (allNext p (allNext r allEmpty))) in
     frame-bytes (omega arith) bytes (address-check-byte bytes)
 
 pub data-bytes : {bytes : List ℕ} → Bytes bytes → Bytes (dataFrame bytes)
@@ -98,34 +99,31 @@ nothing-past frame buffer h = rw (drop-of-length-le buffer {i = frameSize} (omeg
 
 pub address-writes : (buffer : List ℕ) (epoch name file operation «record» : ℕ) → Write buffer name file operation
     → writeAddress buffer epoch name file operation «record»
-    ≡ (written, addressFrame epoch name file operation «record» ++ drop frameSize buffer)
+    ≡ (done tt, addressFrame epoch name file operation «record» ++ drop frameSize buffer)
 unfolding addressFrame addressBytes pb2Of
 address-writes buffer epoch name file operation «record» w =
     sym
     (address-written buffer epoch name file operation «record» (w .fits) refl (w .operation-known) refl (w .name-fits) (w .file-known)
     refl
+    refl
     refl)
 
 pub data-writes : (buffer bytes : List ℕ) → frameSize ≤ length buffer
-    → writeData buffer bytes ≡ (written, dataFrame bytes ++ drop frameSize buffer)
+    → writeData buffer bytes ≡ (done tt, dataFrame bytes ++ drop frameSize buffer)
 unfolding dataFrame
 data-writes buffer bytes h = sym (data-written buffer bytes (long buffer h) refl refl)
 
 -- the reader reads an address frame as its parts
 pub address-reads : (epoch name file operation «record» : ℕ) → noOperation operation ≡ false → broadcastRead operation name ≡ false
-    → readAddress (addressFrame epoch name file operation «record») ≡ parts epoch name file operation «record»
+    → readAddress (addressFrame epoch name file operation «record») ≡ done (parts epoch name file operation «record»)
 unfolding addressFrame addressBytes pb2Of frameOf
 address-reads epoch name file operation «record» known named =
     let low = operation-low operation refl known in
     let f : fileNumberOf (4 * file + operation) ≡ file = omega arith in
     let o : operationOf (4 * file + operation) ≡ operation = omega arith in
     sym
-    (accept (addressFrame epoch name file operation «record») (formed _ (λ (z : frameSize ≡ 0). omega arith) refl refl refl refl) refl
-    (ap noOperation (sym o))
-    known
-    (ap (λ (x : ℕ). broadcastRead x name) (sym o))
-    named) ∙
-    rw (f, o)
+    (accept (addressFrame epoch name file operation «record») (formed _ (λ (z : frameSize ≡ 0). omega arith) refl refl refl refl) refl (sym o)
+    refl known refl (sym f) named)
 
 -- a list of six bytes by its places: storing there what stands there changes nothing
 by-places : (frame : List ℕ) → length frame ≡ frameSize
@@ -145,6 +143,6 @@ frame-of-parts frame a =
     (by-places frame (length-is frame frameSize (a .formed .size)))
 
 pub byte-at : {bytes : List ℕ} → Bytes bytes → (k : ℕ) → getD bytes k 0 < 256
-byte-at none k = omega arith
-byte-at (both b bs) zero = b
-byte-at (both b bs) (suc k) = byte-at bs k
+byte-at allEmpty k = omega arith
+byte-at (allNext b bs) zero = b
+byte-at (allNext b bs) (suc k) = byte-at bs k

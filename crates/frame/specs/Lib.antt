@@ -1,8 +1,3 @@
--- What a reader must believe of fireworks and frames, in document 01's order; then the code's answers in these terms.
-pub mod Fireworks
-pub mod Check
-pub mod Frames
-pub mod Grounds
-pub mod Reading
-pub mod Writing
-pub mod Answers
+-- Rules: what a reader must believe of fireworks and frames. Inner: maps of the code's types.
+pub mod Rules
+pub mod Inner

@@ -1,7 +1,7 @@
 // Check bytes.
 ghost use mathlib.Core.Path.{_≡_};
 ghost use mathlib.Core.List.{[], _∷_};
-ghost use Rattle.frame.specs.Check.{exclusiveOr, addressCheck, dataCheck};
+ghost use Rattle.frame.specs.Rules.Check.{exclusiveOr, addressCheck, dataCheck};
 
 fn exclusive_or(b0: u8, b1: u8, b2: u8, b3: u8) -> u8
     ensures { λ r. ⌜ r ≡ exclusiveOr (b0 ∷ b1 ∷ b2 ∷ b3 ∷ []) ⌝ }

@@ -1,19 +1,9 @@
-// The operation of an address frame, and what the reader and the writers answer.
+// What the reader and the writers of frames answer.
 use file::types::FileNumber;
 use file::types::LogicalName;
+use file::types::Operation;
 use file::types::RecordNumber;
 use file::types::Refusal;
-
-// Any byte can be handed to the writer, so an operation is a byte; the values that have a meaning are the constants.
-pub struct Operation(pub u8);
-
-impl Operation {
-    pub const READ: Operation = Operation(0);
-
-    pub const WRITE: Operation = Operation(1);
-
-    pub const EXECUTE: Operation = Operation(2);
-}
 
 pub enum AddressReading {
     Refused(Refusal),

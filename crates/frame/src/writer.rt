@@ -3,36 +3,43 @@ use crate::check::address_check;
 use crate::check::data_check;
 use crate::firework::MSA;
 use crate::firework::MSD;
-use crate::grounds::FRAME_SIZE;
-use crate::grounds::LAST_FILE;
-use crate::grounds::is_broadcast_read;
-use crate::grounds::is_no_operation;
+use crate::frames::CHECK_PLACE;
+use crate::frames::FIREWORK_PLACE;
+use crate::frames::FRAME_SIZE;
+use crate::frames::PB0_PLACE;
+use crate::frames::PB1_PLACE;
+use crate::frames::PB2_PLACE;
+use crate::frames::PB3_PLACE;
 use crate::types::FrameWriting;
-use crate::types::Operation;
+use file::operations::is_broadcast_read;
+use file::operations::is_no_operation;
+use file::operations::pb2_of;
 use file::types::FileNumber;
 use file::types::LogicalName;
+use file::types::Operation;
 use file::types::RecordNumber;
 use file::types::Refusal;
 ghost use mathlib.Core.Path.{_≡_};
 ghost use mathlib.Core.List.{[], _∷_, _++_};
 ghost use Prim.Native.Nat.{_≤_};
 ghost use lib.ListN.{length, drop};
-ghost use Rattle.frame.specs.Frames.{frameSize, frameOf};
-ghost use Rattle.frame.specs.Writing.{writeAddress, writeData};
-ghost use Rattle.file.specs.Typed.{fileIn, recordIn, nameIn};
-ghost use Rattle.frame.specs.Answers.{writingOf, operationIn};
+ghost use Rattle.frame.specs.Rules.Frames.{frameSize, frameOf};
+ghost use Rattle.frame.specs.Rules.Writing.{writeAddress, writeData};
+ghost use Rattle.file.specs.Inner.Typed.{fileIn, recordIn, nameIn, operationIn};
+ghost use Rattle.frame.specs.Inner.Answers.{writingOf};
 
+// "MSD is 6 bytes (0x49, four data bytes, check)": at the same places.
 fn put_frame(buf: &mut [u8], firework: u8, b0: u8, b1: u8, b2: u8, b3: u8, check: u8)
     requires { ⌜ frameSize ≤ length (now buf) ⌝ }
     ensures { λ _. ⌜ now (buf .exit)
         ≡ frameOf firework (b0 ∷ b1 ∷ b2 ∷ b3 ∷ []) check ++ drop frameSize (now (buf .entry)) ⌝ }
 {
-    buf[0] = firework;
-    buf[1] = b0;
-    buf[2] = b1;
-    buf[3] = b2;
-    buf[4] = b3;
-    buf[5] = check;
+    buf[FIREWORK_PLACE] = firework;
+    buf[PB0_PLACE] = b0;
+    buf[PB1_PLACE] = b1;
+    buf[PB2_PLACE] = b2;
+    buf[PB3_PLACE] = b3;
+    buf[CHECK_PLACE] = check;
 }
 
 pub fn write_address(
@@ -55,10 +62,10 @@ pub fn write_address(
     if is_broadcast_read(operation, name) {
         return FrameWriting::Refused(Refusal::BROADCAST_READ);
     }
-    if LAST_FILE < file.0 {
+    if FileNumber::LAST.0 < file.0 {
         return FrameWriting::Refused(Refusal::FILE_NUMBER);
     }
-    let pb2 = 4 * file.0 + operation.0;
+    let pb2 = pb2_of(file, operation);
     let check = address_check(epoch, name.0, pb2, record.0);
     put_frame(buf, MSA, epoch, name.0, pb2, record.0, check);
     FrameWriting::Written

@@ -1,174 +1,141 @@
-// Document 01's cases of fireworks and frames, the edges of each ground, and vectors of an independent model, run against the code.
-mod show;
+// Document 01's cases of fireworks and frames, the edges of each ground, and vectors of an independent model, run against the
+// code. A line of the input is one of
+//   read FRAME
+//   write BUFFER epoch name file operation record
+//   data BUFFER byte byte byte byte
+//   firework BYTE
+// After it stand the number of the answer, 0 where nothing is refused, and the parts of the address or the buffer afterwards;
+// of a firework its round: a number, MSD, MSA, or - for none.
+use case_input::fields::after;
+use case_input::fields::byte_at;
+use case_input::fields::bytes_at;
+use case_input::fields::input_buffer;
+use case_input::fields::is;
+use case_input::fields::line;
+use case_input::show;
+use case_input::show::text;
+use file::types::FileNumber;
+use file::types::LogicalName;
+use file::types::Operation;
+use file::types::RecordNumber;
+use frame::firework::Firework;
+use frame::firework::firework_of;
+use frame::reader::read_address;
+use frame::types::AddressReading;
+use frame::types::FrameWriting;
+use frame::writer::write_address;
+use frame::writer::write_data;
 
-use show::address;
-use show::reading;
-use show::rounds;
-use show::title;
+// The most bytes that a frame or a buffer has here.
+const BYTES: usize = 64;
 
-fn low(x: u64) -> u8 {
-    (x % 256) as u8
+fn number(n: u8) {
+    show::number(n as u64);
 }
 
-// A number's eight bytes, the most significant first. The cases are written as numbers, and their bytes are the last of these.
-fn bytes_of(x: u64) -> [u8; 8] {
-    [
-        low(x / 0x100000000000000),
-        low(x / 0x1000000000000),
-        low(x / 0x10000000000),
-        low(x / 0x100000000),
-        low(x / 0x1000000),
-        low(x / 0x10000),
-        low(x / 0x100),
-        low(x),
-    ]
-}
-
-fn read(count: usize, frame: u64) {
-    let bytes = bytes_of(frame);
-    if count <= 8 {
-        let from = 8 - count;
-        reading(&bytes[from..]);
+fn read(frame: &[u8]) {
+    let answer = read_address(frame);
+    match answer {
+        AddressReading::Refused(why) => number(why.0),
+        AddressReading::Address {
+            epoch,
+            name,
+            file,
+            operation,
+            record,
+        } => {
+            number(0);
+            number(epoch);
+            number(name.0);
+            number(file.0);
+            number(operation.0);
+            number(record.0);
+        }
     }
 }
 
-fn write(count: usize, buffer: u64, epoch: u8, name: u8, file: u8, operation: u8, record: u8) {
-    let mut bytes = bytes_of(buffer);
-    if count <= 8 {
-        let from = 8 - count;
-        address(&mut bytes[from..], epoch, name, file, operation, record);
+fn written(answer: FrameWriting) {
+    match answer {
+        FrameWriting::Refused(why) => number(why.0),
+        FrameWriting::Written => number(0),
     }
 }
 
-fn data(count: usize, buffer: u64, b0: u8, b1: u8, b2: u8, b3: u8) {
-    let mut bytes = bytes_of(buffer);
-    if count <= 8 {
-        let from = 8 - count;
-        show::data(&mut bytes[from..], b0, b1, b2, b3);
+fn write(case: &[u8], buffer: &mut [u8]) {
+    let answer = write_address(
+        buffer,
+        byte_at(case, 2),
+        LogicalName::new(byte_at(case, 3)),
+        FileNumber(byte_at(case, 4)),
+        Operation(byte_at(case, 5)),
+        RecordNumber(byte_at(case, 6)),
+    );
+    written(answer);
+    show::bytes(buffer);
+}
+
+fn data(case: &[u8], buffer: &mut [u8]) {
+    let answer = write_data(
+        buffer,
+        byte_at(case, 2),
+        byte_at(case, 3),
+        byte_at(case, 4),
+        byte_at(case, 5),
+    );
+    written(answer);
+    show::bytes(buffer);
+}
+
+fn firework(byte: &[u8]) {
+    if byte.len() == 0 {
+        return;
+    }
+    let round = firework_of(byte[0]);
+    match round {
+        Firework::Multipartner(r) => show::number(r as u64),
+        Firework::Data => text(b" MSD"),
+        Firework::Address => text(b" MSA"),
+        Firework::None => text(b" -"),
     }
 }
 
-fn document_cases() {
-    title(b"M1");
-    read(6, 0x5505FF2202DA);
-    write(6, 0xEEEEEEEEEEEE, 5, 255, 8, 2, 2);
-    title(b"M2");
-    read(6, 0x5500FF2101DF);
-    write(6, 0xEEEEEEEEEEEE, 0, 255, 8, 1, 1);
-    title(b"M3");
-    data(6, 0xEEEEEEEEEEEE, 0x00, 0x00, 0x01, 0xFF);
-    title(b"M4");
-    read(6, 0x550201F401F6);
-    write(6, 0xEEEEEEEEEEEE, 2, 1, 61, 0, 1);
-    title(b"M5");
-    read(6, 0x5505FF2202DB);
+// The first field of each kind is bytes.
+fn answer(case: &[u8], bytes: &mut [u8]) {
+    if is(case, b"read") {
+        return read(bytes);
+    }
+    if is(case, b"write") {
+        return write(case, bytes);
+    }
+    if is(case, b"data") {
+        return data(case, bytes);
+    }
+    if is(case, b"firework") {
+        firework(bytes);
+    }
 }
 
-fn buffers() {
-    title(b"buffers of 5, 6 and 7 bytes");
-    write(5, 0xEEEEEEEEEE, 5, 255, 8, 2, 2);
-    write(6, 0xEEEEEEEEEEEE, 5, 255, 8, 2, 2);
-    write(7, 0xEEEEEEEEEEEEEE, 5, 255, 8, 2, 2);
-    data(5, 0xEEEEEEEEEE, 0x00, 0x00, 0x01, 0xFF);
-    data(6, 0xEEEEEEEEEEEE, 0x00, 0x00, 0x01, 0xFF);
-    data(7, 0xEEEEEEEEEEEEEE, 0x01, 0x02, 0x04, 0x08);
+fn run(case: &[u8]) {
+    let mut bytes = [0u8; BYTES];
+    let size = bytes_at(case, 1, &mut bytes);
+    text(case);
+    if !is(case, b"#") {
+        text(b" =");
+        answer(case, &mut bytes[..size]);
+    }
+    text(b"\n");
 }
 
-fn reader_grounds() {
-    title(b"reader, each ground and its neighbour");
-    read(0, 0);
-    read(1, 0x55);
-    read(6, 0x5405FF2202DA);
-    read(6, 0x4905FF2202DA);
-    read(6, 0x5505FF2202DA);
-    read(5, 0x5505FF2202);
-    read(7, 0x5505FF2202DA00);
-    read(6, 0x5505FF2202D9);
-    read(6, 0x5505FF2302DB);
-    read(6, 0x550200F401F7);
-    read(6, 0x550200F501F6);
-    read(6, 0x5502FFF40108);
-}
-
-fn reader_order() {
-    title(b"reader, two grounds at once");
-    read(1, 0x54);
-    read(6, 0x5405FF230200);
-    read(7, 0x5505FF23020000);
-    read(5, 0x5505FF2302);
-    read(6, 0x5505FF230200);
-    read(6, 0x550200F40100);
-}
-
-fn writer_grounds() {
-    title(b"writer, each ground and its neighbour");
-    write(6, 0xEEEEEEEEEEEE, 5, 255, 8, 3, 2);
-    write(6, 0xEEEEEEEEEEEE, 5, 255, 8, 4, 2);
-    write(6, 0xEEEEEEEEEEEE, 5, 255, 8, 255, 2);
-    write(6, 0xEEEEEEEEEEEE, 2, 0, 61, 0, 1);
-    write(6, 0xEEEEEEEEEEEE, 2, 0, 61, 1, 1);
-    write(6, 0xEEEEEEEEEEEE, 2, 255, 61, 0, 1);
-    write(6, 0xEEEEEEEEEEEE, 2, 1, 64, 0, 1);
-    write(6, 0xEEEEEEEEEEEE, 2, 1, 255, 0, 1);
-    write(6, 0xEEEEEEEEEEEE, 2, 1, 63, 0, 1);
-}
-
-fn writer_order() {
-    title(b"writer, two grounds at once");
-    write(5, 0xEEEEEEEEEE, 5, 255, 8, 3, 2);
-    write(5, 0xEEEEEEEEEE, 2, 0, 61, 0, 1);
-    write(5, 0xEEEEEEEEEE, 2, 1, 64, 0, 1);
-    write(6, 0xEEEEEEEEEEEE, 5, 255, 64, 3, 2);
-    write(6, 0xEEEEEEEEEEEE, 2, 0, 64, 0, 1);
-}
-
-fn reader_vectors() {
-    title(b"vectors, reader");
-    read(6, 0x551A0302011A);
-    read(6, 0x55B59BF1FF20);
-    read(6, 0x55CC030AFF3A);
-    read(6, 0x55AC0520038A);
-    read(6, 0x557CFF4103C1);
-    read(6, 0x559202451CC9);
-    read(1, 0x49);
-    read(1, 0x09);
-    read(1, 0xB2);
-    read(7, 0x5598FF45012324);
-    read(6, 0x550F0120002A);
-    read(6, 0x550602F604F4);
-    read(6, 0x551900F704EA);
-    read(6, 0x550403470444);
-    read(6, 0x5587002002A5);
-}
-
-fn writer_vectors() {
-    title(b"vectors, writer");
-    write(8, 0xDD7DEAC9BF35B6A9, 54, 255, 61, 1, 205);
-    write(6, 0x5B93839735CF, 157, 0, 63, 2, 127);
-    write(6, 0x004C17071C26, 108, 255, 61, 0, 153);
-    write(6, 0x4D493F8BDAF6, 25, 1, 61, 1, 55);
-    write(8, 0xB04845626D612556, 33, 1, 8, 1, 98);
-    write(8, 0xA5383A6262F2EB00, 16, 1, 63, 2, 22);
-    write(5, 0x71604C9311, 26, 255, 63, 3, 169);
-    write(5, 0xA2AE554FC7, 246, 255, 8, 3, 79);
-    write(5, 0x12667B652E, 34, 1, 63, 0, 86);
-    write(6, 0x4D375F891D9F, 217, 0, 64, 3, 226);
-    write(6, 0xB25ED79BFF89, 186, 1, 63, 4, 175);
-    write(8, 0x53ABD47A0486C751, 15, 0, 63, 4, 3);
-    write(6, 0xECF7DC3DAE19, 115, 0, 61, 0, 158);
-    write(8, 0x37288210B8191239, 38, 1, 64, 1, 15);
-    write(8, 0x1E80412263900B5A, 178, 255, 64, 1, 126);
+fn cases(input: &[u8]) {
+    let mut at = 0;
+    while at < input.len() {
+        run(line(input, at));
+        at = after(input, at);
+    }
 }
 
 fn main() {
-    document_cases();
-    buffers();
-    reader_grounds();
-    reader_order();
-    writer_grounds();
-    writer_order();
-    reader_vectors();
-    writer_vectors();
-    title(b"lookup");
-    rounds();
+    let mut input = input_buffer();
+    let n = io::read_full(0, &mut input);
+    cases(&input[..n]);
 }

@@ -1,50 +1,41 @@
-// Listings of cluster files. A line of the input is a label and a file in hexadecimal digits; its listing is written behind the label.
-use case_input::field_at;
-use case_input::hex_bytes;
-use libc::STDOUT_FILENO;
-use listing_text::tour::list;
+// Listings of cluster files. A line of the input is `list FILE`, or `list FILE LENGTH` where zeros follow up to a length; the
+// listing is written after it.
+use case_input::fields::after;
+use case_input::fields::counted;
+use case_input::fields::filled;
+use case_input::fields::input_buffer;
+use case_input::fields::is;
+use case_input::fields::line;
+use case_input::show::text;
+use listing_text::run::list;
 
-fn show(file: &mut [u8]) {
-    let mut text = [0u8; 10499];
-    let written = list(file, &mut text);
-    io::write_all(STDOUT_FILENO, &text[..written]);
+fn listing(case: &[u8]) {
+    let mut file = [0u8; 32769];
+    let mut listed = [0u8; 10499];
+    let size = filled(case, &mut file);
+    let written = list(&mut file[..size], &mut listed);
+    let count = counted(written, &listed);
+    text(&listed[..count]);
 }
 
-fn vector(line: &[u8]) {
-    let label = field_at(line, 0, b' ');
-    let label_end = label.end;
-    let digits = field_at(line, label.next, b' ');
-    let start = digits.start;
-    let end = digits.end;
-    let mut file = [0u8; 2048];
-    let length = hex_bytes(&line[start..end], &mut file);
-    io::write_all(STDOUT_FILENO, &line[..label_end]);
-    io::write_all(STDOUT_FILENO, b"\n");
-    show(&mut file[..length]);
-}
-
-fn lines(input: &[u8]) {
-    let mut start = 0;
-    let mut i = 0;
-    while i < input.len() {
-        if input[i] == b'\n' {
-            vector(&input[start..i]);
-            start = i + 1;
-        }
-        i += 1;
+fn run(case: &[u8]) {
+    text(case);
+    text(b"\n");
+    if is(case, b"list") {
+        listing(case);
     }
 }
 
-// A file that is one byte too long.
-fn too_long() {
-    let mut file = [0u8; 32769];
-    io::write_all(STDOUT_FILENO, b"32769-bytes\n");
-    show(&mut file);
+fn cases(input: &[u8]) {
+    let mut at = 0;
+    while at < input.len() {
+        run(line(input, at));
+        at = after(input, at);
+    }
 }
 
 fn main() {
-    let mut input = io::large_buffer();
+    let mut input = input_buffer();
     let n = io::read_full(0, &mut input);
-    lines(&input[..n]);
-    too_long();
+    cases(&input[..n]);
 }

@@ -12,22 +12,25 @@ use lib.ListN.{length, getD, take, drop, length-map}
 use lib.Seq.{getD-drop}
 use lib.Dec.{eqb}
 use borrow.Author.Tests.{eq-eqb, ne-eqb, eqb-true, eqb-false}
-use Rattle.file.specs.Bytes.{Bytes}
-use Rattle.file.specs.Decode.{decode}
-use Rattle.file.specs.Layout.{offsetWidth, editionPlace}
-use Rattle.file.specs.Grounds.{fileGround, loadGround}
-use Rattle.file.specs.Legal.{Legal}
+use Rattle.file.specs.Rules.Bytes.{Bytes}
+use Rattle.file.specs.Rules.Decode.{decode}
+use Rattle.file.specs.Rules.Layout.{offsetWidth, editionPlace}
+use Rattle.file.specs.Rules.Grounds.{fileGround, loadGround}
+use Rattle.file.specs.Rules.Legal.{Legal}
 use Rattle.file.proofs.AcceptedFacts.{accepted}
 use Rattle.file.proofs.Edition.{unknown-edition}
 use Rattle.file.proofs.Accepted.{accepted-legal}
 use Rattle.file.proofs.Order.{byCase, clash, both-true, both-false-right}
-use Rattle.cluster.specs.Grounds.{shortAnswer}
-use Rattle.naming.specs.View.{SlaveView, sent}
-use Rattle.naming.specs.Run.{Position, running, fresh, Place, operationOf, countLimit, lastStep}
-use Rattle.naming.specs.Step.{Stepping, stepGround, stepOn, roundSent}
-use Rattle.naming.specs.Account.{Named, Account, step, shortBuffer, namesOf, namesIn, accountOf, accountCall, accountAfter, oneRound, notYet, comparisonsOf, comparisonsAfter, falling, unnamedAmong, namesHeld, namingRounds, namingComparisons, endingRounds}
-use Rattle.naming.specs.Figures.{roundsFor, comparisonsFor, namesAfter}
-use Rattle.naming.specs.Demand.{State, startOn, callOn, permittedCall, of-step}
+use Rattle.cluster.specs.Rules.Grounds.{shortAnswer}
+use Rattle.naming.specs.Inner.View.{SlaveView}
+use Rattle.naming.specs.Rules.Rounds.{sent}
+use Rattle.naming.specs.Rules.Run.{Position, running, fresh, PassPlace, nextRound, countLimit, lastStep}
+use Rattle.naming.specs.Rules.Step.{StepDone, madeBy, stepGround, stepOn, roundSent}
+use Rattle.file.specs.Rules.Results.{Result, done}
+use Rattle.cluster.specs.Rules.Round.{carriedBy}
+use Rattle.naming.specs.Rules.Account.{Named, Account, step, namesOf, namesIn, accountOf, accountCall, accountAfter, oneRound, notYet, comparisonsOf, comparisonsAfter, falling, unnamedAmong, namesHeld, namingRounds, namingComparisons, endingRounds}
+use Rattle.naming.specs.Rules.Figures.{roundsFor, comparisonsFor, namesAfter}
+use Rattle.naming.specs.Claims.Demand.{State, startOn, callOn, permittedCall, of-step}
 use Rattle.naming.proofs.Places.{LegalPlace, inner, at-baptize, step-lt}
 use Rattle.naming.proofs.Search.{cleared-none}
 use Rattle.naming.proofs.Simulation.{Found, At, Tie, going, over, fresh-at}
@@ -40,10 +43,10 @@ use Rattle.naming.proofs.FromFile.{names-of-view, legal-slaves, legal-few}
 use Rattle.naming.proofs.StepRound.{buffer-long, round-is}
 use Rattle.naming.proofs.ByteLaws.{Good, viewIn, Allowed, byte-laws, step-ground}
 use Rattle.naming.proofs.StepLaws.{step-made}
-use Rattle.listing_text.specs.Text.{nameLine, totalsLine, refusedLine}
-use Rattle.listing_text.specs.Listing.{allNames, Tour, isMade, givesName, silently, withName, turn, turns, mostTurns, startTour, wholeTour, withTotals, listing, fileListed}
-use Rattle.listing_text.specs.Closed.{lines, namesGiven, closedListing}
-use Rattle.listing_text.proofs.TourLaws.{length-names}
+use Rattle.listing_text.specs.Rules.Text.{nameLine, totalsLine, refusedLine}
+use Rattle.listing_text.specs.Rules.Listing.{allNames, ListState, isMade, givesName, withoutName, withName, listStep, listSteps, mostSteps, startState, endState, withTotals, listing, fileListed}
+use Rattle.listing_text.specs.Claims.Closed.{lines, namesGiven, closedListing, ListingClosed}
+use Rattle.listing_text.proofs.ListLaws.{length-names}
 use Rattle.listing_text.proofs.GivingLaws.{names-accepted, toGive, NoneGiven, OneGiven, Gives, none-given, one-given, RoundMade, nothing-left, account-round}
 
 -- ---- where the run is, by the account
@@ -59,12 +62,12 @@ greatest value [] f = absurd f
 greatest value (p ∷ ps) f = f ∙ cleared-none p
 
 last-found :
-    {names : List ℕ} {vs : List SlaveView} {l : Place} {index step value rounds comparisons n done : ℕ} {ns ws held : List ℕ} {slaves : List Named} →
+    {names : List ℕ} {vs : List SlaveView} {l : PassPlace} {index step value rounds comparisons n done : ℕ} {ns ws held : List ℕ} {slaves : List Named} →
     LegalPlace l → At names vs l index step value rounds comparisons n ns ws slaves held done → step ≡ lastStep → value ≡ getD ws 0 0
 last-found (inner h) i e = absurd (omega (arith, step-lt h, i .place))
 last-found {value = value} {ws = ws} at-baptize i e = greatest value ws (i .known .1)
 
-tie-here : {names : List ℕ} {vs : List SlaveView} {p : Position} {a : Account} → Tie names vs p a → p .mark ≡ running → Here names p a
+tie-here : {names : List ℕ} {vs : List SlaveView} {p : Position} {a : Account} → Tie names vs p a → p .end ≡ running → Here names p a
 tie-here (going i) m = record { place = refl; left = i .here; found = last-found (i .legal) i }
 tie-here (over o) m = absurd (omega (arith, o .some))
 
@@ -80,29 +83,29 @@ abbrev Tied : List Named → List ℕ → Position → Account → Type 0
 Tied slaves file p a =
     Between State allNames viewIn Good (roundsFor slaves allNames) (comparisonsFor slaves allNames) (namesAfter slaves allNames) (startOn file, p) a
 
--- a tour beside an account: the lines so far and those of the names still to be given are the lines of all names given
-record Beside (slaves : List Named) (t : Tour) (a : Account) : Type 0 where
+-- a run under way beside an account: the lines so far and those of the names still to be given are the lines of all names given
+record Beside (slaves : List Named) (t : ListState) (a : Account) : Type 0 where
   tied : Tied slaves (t .file) (t .run) a
-  long : shortBuffer (t .buffer) ≡ false
+  long : shortAnswer (t .buffer) ≡ false
   begun : t .begun ≡ a .done
-  told : t .lines ++ lines (toGive a) ≡ lines (namesGiven slaves)
+  after-step : t .lines ++ lines (toGive a) ≡ lines (namesGiven slaves)
   counted : t .given + length (toGive a) ≡ length (namesGiven slaves)
   spent : (a .end ≡ notYet → ⊥) → toGive a ≡ []
 
--- what a step of a running tour leaves
-record Steps (slaves : List Named) (s : Stepping × Position × List ℕ × List ℕ) (b : Account) : Type 0 where
+-- what a step of a run under way leaves
+record Steps (slaves : List Named) (s : Result StepDone × Position × List ℕ × List ℕ) (b : Account) : Type 0 where
   is-made : isMade (s .0) ≡ true
   tied : Tied slaves (s .3) (s .1) b
-  long : shortBuffer (s .2) ≡ false
+  long : shortAnswer (s .2) ≡ false
 
--- the tour behind a step
-abbrev tourBehind : Tour → Stepping × Position × List ℕ × List ℕ → Tour
-tourBehind t s = cond (givesName (s .0) (t .run)) (withName t s) (silently t s)
+-- the state after a step
+abbrev stateAfter : ListState → Result StepDone × Position × List ℕ × List ℕ → ListState
+stateAfter t s = cond (givesName (s .0) (t .run)) (withName t s) (withoutName t s)
 
 module _ (slaves : List Named) (few : namingRounds * length slaves + endingRounds + 256 < countLimit) where
   module _
-      (file : List ℕ) (p : Position) (buffer : List ℕ) {a : Account} (h : Tied slaves file p a) (long : shortBuffer buffer ≡ false)
-      (m : p .mark ≡ running) where
+      (file : List ℕ) (p : Position) (buffer : List ℕ) {a : Account} (h : Tied slaves file p a) (long : shortAnswer buffer ≡ false)
+      (m : p .end ≡ running) where
     ground : stepGround file p allNames buffer ≡ 0
     unfolding startOn
     ground =
@@ -122,31 +125,35 @@ module _ (slaves : List Named) (few : namingRounds * length slaves + endingRound
         (rounds-few slaves allNames names-accepted few) (comparisons-few slaves allNames few) (startOn file, p) a
         (step buffer ∷ []) h (one-more allowed all-made))
 
-    long-on : shortBuffer (roundSent file (sent (operationOf allNames p)) buffer .1) ≡ false
-    unfolding startOn shortBuffer shortAnswer
+    long-on : shortAnswer (roundSent file (sent (nextRound allNames p)) buffer .1) ≡ false
+    unfolding startOn shortAnswer
     long-on =
         rw (round-is file buffer (h .good .bytes) (h .good .accepted) long (tie-sendable (h .tie) m))
         (buffer-long _ _ buffer long)
 
+    made-on : isMade (done (madeBy (roundSent file (sent (nextRound allNames p)) buffer .0))) ≡ true
+    unfolding startOn shortAnswer carriedBy madeBy isMade
+    made-on = rw (round-is file buffer (h .good .bytes) (h .good .accepted) long (tie-sendable (h .tie) m))
+
     steps : Steps slaves (stepOn file p allNames buffer) (oneRound a)
     steps =
         let e = step-made file p allNames buffer ground m in
-        record { is-made = rw e (unfold isMade in refl); tied = tied-on; long = rw e long-on }
+        record { is-made = rw e made-on; tied = tied-on; long = rw e long-on }
 
   module _
-      {t : Tour} {a b : Account} (h : Beside slaves t a) (here : Here allNames (t .run) a) (r : RoundMade a b)
-      {s : Stepping × Position × List ℕ × List ℕ} (st : Steps slaves s b) where
+      {t : ListState} {a b : Account} (h : Beside slaves t a) (here : Here allNames (t .run) a) (r : RoundMade a b)
+      {s : Result StepDone × Position × List ℕ × List ℕ} (st : Steps slaves s b) where
     -- no line
-    told-silently : NoneGiven a b → Beside slaves (tourBehind t s) b
-    unfolding givesName silently
-    told-silently g =
+    after-step-withoutName : NoneGiven a b → Beside slaves (stateAfter t s) b
+    unfolding givesName withoutName
+    after-step-withoutName g =
         let no : t .run .step ≡ lastStep → ⊥ = λ l. g .within (sym (here .place) ∙ l) in
         rw (both-false-right (isMade (s .0)) (ne-eqb (t .run .step) lastStep no))
         (record {
           tied = st .tied;
           long = st .long;
           begun = h .begun ∙ sym (g .compared);
-          told = rw (g .same) (h .told);
+          after-step = rw (g .same) (h .after-step);
           counted = rw (g .same) (h .counted);
           spent = r .spent;
         })
@@ -164,41 +171,41 @@ module _ (slaves : List Named) (few : namingRounds * length slaves + endingRound
         let c : s .1 .comparisons - t .begun ≡ namingComparisons = omega (arith, all-compared (g .over), g .compared, h .begun) in
         rw (first-left allNames (t .run .index) (here .left), here .found (here .place ∙ g .last), c, g .next)
 
-    told-named : OneGiven a b → Beside slaves (tourBehind t s) b
+    after-step-named : OneGiven a b → Beside slaves (stateAfter t s) b
     unfolding givesName withName
-    told-named g =
+    after-step-named g =
         rw (both-true (st .is-made) (eq-eqb (t .run .step) lastStep (here .place ∙ g .last)))
         (record {
           tied = st .tied;
           long = st .long;
           begun = all-compared (g .over);
-          told = append-assoc (t .lines) _ (lines (toGive b)) ∙ ap (λ (x : List ℕ). t .lines ++ x) (line g) ∙ h .told;
+          after-step = append-assoc (t .lines) _ (lines (toGive b)) ∙ ap (λ (x : List ℕ). t .lines ++ x) (line g) ∙ h .after-step;
           counted = omega (arith, h .counted, ap length (g .next));
           spent = r .spent;
         })
 
-    told-round : Gives a b → Beside slaves (tourBehind t s) b
-    told-round (none-given g) = told-silently g
-    told-round (one-given g) = told-named g
+    after-step-round : Gives a b → Beside slaves (stateAfter t s) b
+    after-step-round (none-given g) = after-step-withoutName g
+    after-step-round (one-given g) = after-step-named g
 
-  turn-beside : {t : Tour} {a : Account} → Beside slaves t a → t .run .mark ≡ running → RoundMade a (oneRound a) → Beside slaves (turn t) (oneRound a)
-  unfolding turn
-  turn-beside {t} h m r =
-      told-round h (tie-here (h .tied .tie) m) r (steps (t .file) (t .run) (t .buffer) (h .tied) (h .long) m) (r .gives)
+  one-step-beside : {t : ListState} {a : Account} → Beside slaves t a → t .run .end ≡ running → RoundMade a (oneRound a) → Beside slaves (listStep t) (oneRound a)
+  unfolding listStep
+  one-step-beside {t} h m r =
+      after-step-round h (tie-here (h .tied .tie) m) r (steps (t .file) (t .run) (t .buffer) (h .tied) (h .long) m) (r .gives)
 
 -- ---- all steps
 
--- what the tour comes to
-record Complete (slaves : List Named) (t : Tour) : Type 0 where
-  ended : t .run .mark ≡ running → ⊥
-  told : t .lines ≡ lines (namesGiven slaves)
+-- what the run comes to
+record Complete (slaves : List Named) (t : ListState) : Type 0 where
+  ended : t .run .end ≡ running → ⊥
+  after-step : t .lines ≡ lines (namesGiven slaves)
   counted : t .given ≡ length (namesGiven slaves)
   compared : t .run .comparisons ≡ comparisonsFor slaves allNames
   rounds : t .run .rounds ≡ roundsFor slaves allNames
   named : namesIn (decode (t .file)) ≡ namesAfter slaves allNames
 
 module _ (slaves : List Named) (few : namingRounds * length slaves + endingRounds + 256 < countLimit) where
-  complete : {t : Tour} {a : Account} → Beside slaves t a → (t .run .mark ≡ running → ⊥) → Complete slaves t
+  complete : {t : ListState} {a : Account} → Beside slaves t a → (t .run .end ≡ running → ⊥) → Complete slaves t
   unfolding comparisonsOf viewIn startOn lines
   complete {t} {a} h n =
       let g = tie-agree (h .tied .tie) in
@@ -207,7 +214,7 @@ module _ (slaves : List Named) (few : namingRounds * length slaves + endingRound
       let none : toGive a ≡ [] = h .spent over in
       record {
         ended = n;
-        told = sym (append-nil (t .lines)) ∙ ap (λ (x : List Named). t .lines ++ lines x) (sym none) ∙ h .told;
+        after-step = sym (append-nil (t .lines)) ∙ ap (λ (x : List Named). t .lines ++ lines x) (sym none) ∙ h .after-step;
         counted = omega (arith, h .counted, ap length none);
         compared = g .comparisons ∙ d .comparisons;
         rounds = g .rounds ∙ d .all;
@@ -215,16 +222,16 @@ module _ (slaves : List Named) (few : namingRounds * length slaves + endingRound
       }
 
   -- as many steps as rounds are due suffice
-  all-turns : (n : ℕ) (t : Tour) (a : Account) → Beside slaves t a → roundsFor slaves allNames ≤ a .rounds + n → Complete slaves (turns n t)
-  unfolding turns
-  all-turns zero t a h e =
+  all-steps : (n : ℕ) (t : ListState) (a : Account) → Beside slaves t a → roundsFor slaves allNames ≤ a .rounds + n → Complete slaves (listSteps n t)
+  unfolding listSteps
+  all-steps zero t a h e =
       complete h (λ m. let s = tally-running (h .tied .tally) (sym (tie-agree (h .tied .tie) .end) ∙ m) .rounds in omega arith)
-  all-turns (suc n) t a h e =
-      byCase (eqb (t .run .mark) running)
+  all-steps (suc n) t a h e =
+      byCase (eqb (t .run .end) running)
       (λ y.
-      let m : t .run .mark ≡ running = eqb-true _ _ y in
+      let m : t .run .end ≡ running = eqb-true _ _ y in
       let r = account-round (h .tied .tally) (sym (tie-agree (h .tied .tie) .end) ∙ m) in
-      rw y (all-turns n (turn t) (oneRound a) (turn-beside slaves few h m r) (omega (arith, r .rounds))))
+      rw y (all-steps n (listStep t) (oneRound a) (one-step-beside slaves few h m r) (omega (arith, r .rounds))))
       (λ y. rw y (complete h (eqb-false _ _ y)))
 
 -- ---- the whole listing
@@ -248,20 +255,20 @@ module _ (file : List ℕ) (b : Bytes file) (g : fileGround file ≡ 0) where
         tally = tally-start slaves allNames s names-accepted;
       }
 
-  start-beside : Beside slaves (startTour file) (accountOf slaves allNames)
-  unfolding startTour accountOf toGive namesGiven lines shortBuffer
+  start-beside : Beside slaves (startState file) (accountOf slaves allNames)
+  unfolding startState accountOf toGive namesGiven lines shortAnswer
   start-beside =
       record {
         tied = start-tied;
         long = refl;
         begun = refl;
-        told = refl;
+        after-step = refl;
         counted = zero-add _;
         spent = nothing-left (falling (unnamedAmong slaves)) (namesHeld slaves) allNames;
       }
 
   -- a file has at most 32 slaves, so 200 rounds for each, 4 that end the run and one for each of 254 names are enough
-  rounds-most : roundsFor slaves allNames ≤ mostTurns
+  rounds-most : roundsFor slaves allNames ≤ mostSteps
   unfolding namesIn
   rounds-most =
       let m : length (decode file .slaves) ≤ 32 = legal .count in
@@ -275,10 +282,10 @@ module _ (file : List ℕ) (b : Bytes file) (g : fileGround file ≡ 0) where
         length-names,
       )
 
-  whole-tour : Complete slaves (wholeTour file)
-  unfolding wholeTour
-  whole-tour =
-      all-turns slaves (legal-few (decode file) legal) mostTurns (startTour file) (accountOf slaves allNames) start-beside
+  whole-state : Complete slaves (endState file)
+  unfolding endState
+  whole-state =
+      all-steps slaves (legal-few (decode file) legal) mostSteps (startState file) (accountOf slaves allNames) start-beside
       (omega (arith, rounds-most))
 
 -- lines and totals
@@ -292,21 +299,21 @@ unfolding loadGround
 accepted-test file g = eq-eqb (fileGround file) 0 g
 
 -- The listing of every accepted file.
-pub listing-closed : (file : List ℕ) → Bytes file → fileGround file ≡ 0 → listing file ≡ closedListing (namesIn (decode file))
+pub listing-closed : ListingClosed
 unfolding listing withTotals closedListing
 listing-closed file b g =
-    let t = whole-tour file b g in
-    rw (accepted-test file g) (same-text (t .told) (t .counted) (t .compared) (t .rounds))
+    let t = whole-state file b g in
+    rw (accepted-test file g) (same-text (t .after-step) (t .counted) (t .compared) (t .rounds))
 
 -- The steps that the listing makes at most suffice: the run has ended.
-pub listing-ended : (file : List ℕ) → Bytes file → fileGround file ≡ 0 → wholeTour file .run .mark ≡ running → ⊥
-listing-ended file b g = whole-tour file b g .ended
+pub listing-ended : (file : List ℕ) → Bytes file → fileGround file ≡ 0 → endState file .run .end ≡ running → ⊥
+listing-ended file b g = whole-state file b g .ended
 
 -- The slaves' names in the file that the listing leaves.
 pub listing-names :
     (file : List ℕ) → Bytes file → fileGround file ≡ 0 → namesIn (decode (fileListed file)) ≡ namesAfter (namesIn (decode file)) allNames
 unfolding fileListed
-listing-names file b g = rw (accepted-test file g) (whole-tour file b g .named)
+listing-names file b g = rw (accepted-test file g) (whole-state file b g .named)
 
 -- ---- files that are refused
 

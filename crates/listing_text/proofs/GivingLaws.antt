@@ -8,23 +8,23 @@ use native.Mathlib.Omega.{arith}
 use lib.ListN.{getD}
 use lib.Dec.{eqb}
 use borrow.Author.Tests.{eqb-true, eqb-false, ne-eqb}
-use Rattle.file.specs.Bytes.{All, All.none, All.both as also}
-use Rattle.file.specs.Cluster.{unnamed, broadcast}
-use Rattle.file.specs.Grounds.{isAmong, hasRepeat}
+use Rattle.file.specs.Rules.Bytes.{All, All.allEmpty, All.allNext as also}
+use Rattle.file.specs.Rules.Cluster.{unnamed, broadcast}
+use Rattle.file.specs.Rules.Grounds.{isAmong, hasRepeat}
 use Rattle.file.proofs.Order.{byCase, either-false}
-use Rattle.naming.specs.Run.{lastStep, unfitName}
-use Rattle.naming.specs.Account.{Named, Account, notYet, endWith, give, oneRound, namingRounds, namingComparisons, endingRounds}
-use Rattle.naming.specs.Figures.{freeNames, givings}
+use Rattle.naming.specs.Rules.Run.{lastStep, unfitName}
+use Rattle.naming.specs.Rules.Account.{Named, Account, notYet, endWith, give, oneRound, namingRounds, namingComparisons, endingRounds}
+use Rattle.naming.specs.Rules.Figures.{freeNames, givings}
 use Rattle.naming.proofs.Rounds.{account, goes-on, taken-round, giving-round, ending-round}
 use Rattle.naming.proofs.Start.{Names}
 use Rattle.naming.proofs.Tally.{Tally, in-pass, ended, length-of-pass, no-names}
-use Rattle.listing_text.specs.Listing.{allNames, namesFrom}
+use Rattle.listing_text.specs.Rules.Listing.{allNames, namesFrom}
 
 -- ---- the names
 
 from-bytes : (n a : ℕ) → a + n ≤ 256 → All (λ m. m < 256) (namesFrom n a)
 unfolding namesFrom
-from-bytes zero a h = none
+from-bytes zero a h = allEmpty
 from-bytes (suc n) a h = let l : a < 256 = omega arith in also l (from-bytes n (suc a) (omega arith))
 
 from-fit : (n a : ℕ) → broadcast < a → a + n ≤ unnamed → unfitName (namesFrom n a) ≡ false

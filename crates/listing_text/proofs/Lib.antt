@@ -1,5 +1,5 @@
 -- Laws of the text.
 pub mod PutLaws
-pub mod TourLaws
+pub mod ListLaws
 pub mod GivingLaws
 pub mod ClosedLaws

@@ -1,5 +1,4 @@
--- What a reader must believe of the listing.
-pub mod Text
-pub mod Listing
-pub mod Closed
+-- Rules: what a reader must believe of the listing. Claims: the listing in closed form. Inner: words of the contracts.
+pub mod Rules
+pub mod Claims
 pub mod Inner

@@ -1,3 +1,3 @@
 // The text of the listing program.
 mod put;
-pub mod tour;
+pub mod run;

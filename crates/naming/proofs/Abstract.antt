@@ -10,12 +10,15 @@ use lib.ListN.{length, drop, getD}
 use lib.Seq.{getD-drop}
 use lib.Dec.{eqb}
 use borrow.Author.Tests.{ne-eqb, le-ltb, lt-leb, eqb-true, eqb-false}
-use Rattle.file.specs.Grounds.{isAmong}
+use Rattle.file.specs.Rules.Grounds.{isAmong}
 use Rattle.file.proofs.Bytes.{all-first}
 use Rattle.file.proofs.Order.{byCase, either-false, both-false-left, both-false-right}
-use Rattle.naming.specs.View.{SlaveView, Operation, Operation.poll as pollOf, writeName, writeHigh, writeLow, compare, Operation.baptize as baptizeAll, changeAll, answers, half}
-use Rattle.naming.specs.Run.{Position, running, namesUsedUp, Place, high, low, reply, placeOf, stepOf, operationAt, operationOf, advance, unfitPosition, countLimit, lastStep, bits, tried}
-use Rattle.naming.specs.Account.{namingComparisons, Named, Account, Call, step, frame, shortBuffer, notYet, accountCall, accountAfter, oneRound, comparisonsOf, comparisonsAfter}
+use Rattle.naming.specs.Inner.View.{SlaveView, changeAll, answers}
+use Rattle.naming.specs.Rules.Rounds.{RunRound, RunRound.poll as pollOf, writeName, writeHigh, writeLow, compare, RunRound.baptize as baptizeAll, half}
+use Rattle.naming.specs.Rules.Run.{Position, running, namesUsedUp, PassPlace, high, low, reply, placeOf, roundAt, nextRound, advance, unfitPosition, countLimit, lastStep, bits, tried}
+use Rattle.naming.specs.Inner.PassPlaces.{stepOf}
+use Rattle.cluster.specs.Rules.Grounds.{shortAnswer}
+use Rattle.naming.specs.Rules.Account.{namingComparisons, Named, Account, Call, step, frame, notYet, accountCall, accountAfter, oneRound, comparisonsOf, comparisonsAfter}
 use Rattle.naming.proofs.Places.{LegalPlace, inner, at-poll, at-ask, at-name, at-high, at-low, at-baptize, place-of-step, step-lt}
 use Rattle.naming.proofs.Search.{tried-small}
 use Rattle.naming.proofs.Facts.{Fit}
@@ -26,7 +29,7 @@ use Rattle.naming.proofs.Tally.{Tally, in-pass, ended, Done, due, lengt
 -- ---- the laws
 
 -- what a round sends are bytes: a fit name, a half of 32 bits
-pub data Sendable : Operation → Type 0 where
+pub data Sendable : RunRound → Type 0 where
   of-poll : {n : ℕ} → Fit n → Sendable (pollOf n)
   of-name : {n : ℕ} → Fit n → Sendable (writeName n)
   of-high : {h : ℕ} → h < half → Sendable (writeHigh h)
@@ -38,8 +41,8 @@ pub data Sendable : Operation → Type 0 where
 pub record Stepped (S : Type 0) (names : List ℕ) (view : S → List SlaveView) (Good : S → Type 0) (s : S) (p : Position) (after : S × Position) :
     Type 0 where
   pub good : Good (after .0)
-  pub views : view (after .0) ≡ changeAll (operationOf names p) (view s)
-  pub moved : after .1 ≡ advance names p (answers (operationOf names p) (view s))
+  pub views : view (after .0) ≡ changeAll (nextRound names p) (view s)
+  pub moved : after .1 ≡ advance names p (answers (nextRound names p) (view s))
 
 pub record Left (S : Type 0) (view : S → List SlaveView) (Good : S → Type 0) (s : S) (p : Position) (after : S × Position) : Type 0 where
   pub good : Good (after .0)
@@ -52,14 +55,14 @@ pub record Laws
     (S : Type 0) (names : List ℕ) (view : S → List SlaveView) (Good : S → Type 0) (Allowed : S → Position → Call → Type 0)
     (call : S → Position → Call → S × Position) : Type 0 where
   -- a step whose buffer is too short, and a step of an ended run, alter nothing
-  pub short : (s : S) (p : Position) (buffer : List ℕ) → Good s → shortBuffer buffer ≡ true → call s p (step buffer) ≡ (s, p)
+  pub short : (s : S) (p : Position) (buffer : List ℕ) → Good s → shortAnswer buffer ≡ true → call s p (step buffer) ≡ (s, p)
   pub idle :
-      (s : S) (p : Position) (buffer : List ℕ) → Good s → shortBuffer buffer ≡ false → unfitPosition names p ≡ false →
-      (p .mark ≡ running → ⊥) → call s p (step buffer) ≡ (s, p)
+      (s : S) (p : Position) (buffer : List ℕ) → Good s → shortAnswer buffer ≡ false → unfitPosition names p ≡ false →
+      (p .end ≡ running → ⊥) → call s p (step buffer) ≡ (s, p)
   -- any other step makes its round and moves on by the answer
   pub steps :
-      (s : S) (p : Position) (buffer : List ℕ) → Good s → Allowed s p (step buffer) → shortBuffer buffer ≡ false →
-      unfitPosition names p ≡ false → p .mark ≡ running → Sendable (operationOf names p) →
+      (s : S) (p : Position) (buffer : List ℕ) → Good s → Allowed s p (step buffer) → shortAnswer buffer ≡ false →
+      unfitPosition names p ≡ false → p .end ≡ running → Sendable (nextRound names p) →
       Stepped S names view Good s p (call s p (step buffer))
   -- a frame of others, refused or not, leaves each slave's names, and an unnamed slave whole, and the run
   pub others :
@@ -74,15 +77,15 @@ name-here names index n ns e =
     rw (← z) (sym (getD-drop index names 0 0) ∙ rw e)
 
 operation-here :
-    {names : List ℕ} {vs : List SlaveView} {l : Place} {index step value rounds comparisons n done : ℕ} {ns ws held : List ℕ} {slaves : List Named} →
+    {names : List ℕ} {vs : List SlaveView} {l : PassPlace} {index step value rounds comparisons n done : ℕ} {ns ws held : List ℕ} {slaves : List Named} →
     At names vs l index step value rounds comparisons n ns ws slaves held done →
-    operationOf names (position running index step value rounds comparisons) ≡ operationAt l n value
-unfolding operationOf
+    nextRound names (position running index step value rounds comparisons) ≡ roundAt l n value
+unfolding nextRound
 operation-here {names} {index = index} {n = n} {ns = ns} i = rw (name-here names index n ns (i .here), i .place, place-of-step (i .legal))
 
 pub tie-step :
-    {names : List ℕ} {vs : List SlaveView} {p : Position} {a : Account} → Tie names vs p a → p .mark ≡ running →
-    Tie names (changeAll (operationOf names p) vs) (advance names p (answers (operationOf names p) vs)) (oneRound a)
+    {names : List ℕ} {vs : List SlaveView} {p : Position} {a : Account} → Tie names vs p a → p .end ≡ running →
+    Tie names (changeAll (nextRound names p) vs) (advance names p (answers (nextRound names p) vs)) (oneRound a)
 unfolding advance
 tie-step {names} {vs} (going {l = l} {index = index} {step = k} {value = value} {rounds = rounds} {comparisons = comparisons} {n = n} {done = done} {ns = ns} {ws = ws} {held = held} {slaves = slaves} i) m =
     let e : placeOf k ≡ l = rw (i .place) (place-of-step (i .legal)) in
@@ -90,10 +93,10 @@ tie-step {names} {vs} (going {l = l} {index = index} {step = k} {value = value} 
 tie-step (over o) m = absurd (omega (arith, o .some))
 
 -- an ended account makes no more rounds
-tie-idle : {names : List ℕ} {vs : List SlaveView} {p : Position} {a : Account} → Tie names vs p a → (p .mark ≡ running → ⊥) → oneRound a ≡ a
+tie-idle : {names : List ℕ} {vs : List SlaveView} {p : Position} {a : Account} → Tie names vs p a → (p .end ≡ running → ⊥) → oneRound a ≡ a
 unfolding oneRound
 tie-idle (going i) n = absurd (n refl)
-tie-idle (over {mark = mark} o) n = let z : mark ≡ notYet → ⊥ = omega (arith, o .some) in rw (ne-eqb mark notYet z)
+tie-idle (over {end = end} o) n = let z : end ≡ notYet → ⊥ = omega (arith, o .some) in rw (ne-eqb end notYet z)
 
 -- rounds of others
 tie-others : {names : List ℕ} {vs ws : List SlaveView} {p : Position} {a : Account} → Same vs ws → Tie names vs p a → Tie names ws p a
@@ -116,7 +119,7 @@ tie-others s (over o) =
 -- what the tie says
 pub record Agree (vs : List SlaveView) (p : Position) (a : Account) : Type 0 where
   pub names : map namedOf vs ≡ a .slaves
-  pub end : p .mark ≡ a .end
+  pub end : p .end ≡ a .end
   pub rounds : p .rounds ≡ a .rounds
   pub comparisons : p .comparisons ≡ comparisonsOf a
 
@@ -127,9 +130,9 @@ tie-agree (over o) = record { names = o .views; end = refl; rounds = refl; compa
 
 -- what is sent are bytes
 sendable-at :
-    {names : List ℕ} {vs : List SlaveView} {l : Place} {index step value rounds comparisons n done : ℕ} {ns ws held : List ℕ} {slaves : List Named} →
-    LegalPlace l → At names vs l index step value rounds comparisons n ns ws slaves held done → Sendable (operationAt l n value)
-unfolding operationAt
+    {names : List ℕ} {vs : List SlaveView} {l : PassPlace} {index step value rounds comparisons n done : ℕ} {ns ws held : List ℕ} {slaves : List Named} →
+    LegalPlace l → At names vs l index step value rounds comparisons n ns ws slaves held done → Sendable (roundAt l n value)
+unfolding roundAt
 sendable-at (inner at-poll) i = of-poll (all-first (i .facts .fit))
 sendable-at {value = value} (inner (at-ask {q = q} high h)) i =
     let t : tried q value < 2 ^ bits = tried-small h value (i .small) in
@@ -142,7 +145,7 @@ sendable-at {value = value} (inner at-high) i = let k : value / half < half = om
 sendable-at {value = value} (inner at-low) i = let k : value % half < half = omega arith in of-low k
 sendable-at at-baptize i = of-baptize
 
-pub tie-sendable : {names : List ℕ} {vs : List SlaveView} {p : Position} {a : Account} → Tie names vs p a → p .mark ≡ running → Sendable (operationOf names p)
+pub tie-sendable : {names : List ℕ} {vs : List SlaveView} {p : Position} {a : Account} → Tie names vs p a → p .end ≡ running → Sendable (nextRound names p)
 tie-sendable (going i) m = rw (operation-here i) (sendable-at (i .legal) i)
 tie-sendable (over o) m = absurd (omega (arith, o .some))
 
@@ -167,7 +170,7 @@ pub tally-ended : {R C : ℕ} {F : List Named} {a : Account} → Tally R C F a �
 tally-ended (in-pass d) n = absurd (n refl)
 tally-ended (ended d) n = d
 
-step-most : {l : Place} → LegalPlace l → stepOf l ≤ lastStep
+step-most : {l : PassPlace} → LegalPlace l → stepOf l ≤ lastStep
 unfolding stepOf
 step-most (inner h) = omega (arith, step-lt h)
 step-most at-baptize = omega arith
@@ -192,10 +195,10 @@ tie-fit {names} R C (going {index = index} {step = k} {rounds = rounds} {compari
     (both-false-right _
     (either-false (ne-eqb index (length names) z)
     (either-false (le-ltb lastStep k m) (either-false (lt-leb countLimit rounds x) (lt-leb countLimit comparisons y))))))
-tie-fit {names} R C (over {mark = mark} {index = index} o) s r c =
-    let z : mark ≡ running → ⊥ = omega (arith, o .some) in
-    either-false (le-ltb namesUsedUp mark (o .most))
-    (either-false (le-ltb (length names) index (o .within)) (both-false-left _ (ne-eqb mark running z)))
+tie-fit {names} R C (over {end = end} {index = index} o) s r c =
+    let z : end ≡ running → ⊥ = omega (arith, o .some) in
+    either-false (le-ltb namesUsedUp end (o .most))
+    (either-false (le-ltb (length names) index (o .within)) (both-false-left _ (ne-eqb end running z)))
 
 -- ---- every list of calls
 
@@ -229,8 +232,8 @@ module _
   stays-fit w a h = tie-fit R C (h .tie) (tally-running (h .tally)) few fewer
 
   running-step :
-      (w : S × Position) (a : Account) (buffer : List ℕ) → Between S names view Good R C F w a → Allowed (w .0) (w .1) (step buffer) → shortBuffer buffer ≡ false →
-      w .1 .mark ≡ running → Between S names view Good R C F (call (w .0) (w .1) (step buffer)) (oneRound a)
+      (w : S × Position) (a : Account) (buffer : List ℕ) → Between S names view Good R C F w a → Allowed (w .0) (w .1) (step buffer) → shortAnswer buffer ≡ false →
+      w .1 .end ≡ running → Between S names view Good R C F (call (w .0) (w .1) (step buffer)) (oneRound a)
   running-step w a buffer h allowed long m =
       record { good = st .good; tie = rw (st .views, st .moved) (tie-step (h .tie) m); tally = tally-round R C F (h .tally) }
     where
@@ -238,18 +241,18 @@ module _
       st = laws .steps (w .0) (w .1) buffer (h .good) allowed long (stays-fit w a h) m (tie-sendable (h .tie) m)
 
   idle-step :
-      (w : S × Position) (a : Account) (buffer : List ℕ) → Between S names view Good R C F w a → shortBuffer buffer ≡ false → (w .1 .mark ≡ running → ⊥) →
+      (w : S × Position) (a : Account) (buffer : List ℕ) → Between S names view Good R C F w a → shortAnswer buffer ≡ false → (w .1 .end ≡ running → ⊥) →
       Between S names view Good R C F (call (w .0) (w .1) (step buffer)) (oneRound a)
   idle-step w a buffer h long n = rw (laws .idle (w .0) (w .1) buffer (h .good) long (stays-fit w a h) n, tie-idle (h .tie) n) h
 
   one-call : (w : S × Position) (a : Account) (c : Call) → Between S names view Good R C F w a → Allowed (w .0) (w .1) c → Between S names view Good R C F (call (w .0) (w .1) c) (accountCall a c)
   unfolding accountCall
   one-call w a (step buffer) h allowed =
-      byCase (shortBuffer buffer)
+      byCase (shortAnswer buffer)
       (λ t. rw (t, laws .short (w .0) (w .1) buffer (h .good) t) h)
       (λ f.
       rw f
-      (byCase (eqb (w .1 .mark) running)
+      (byCase (eqb (w .1 .end) running)
       (λ t. running-step w a buffer h allowed f (eqb-true _ _ t))
       (λ g. idle-step w a buffer h f (eqb-false _ _ g))))
   one-call w a (frame bytes buffer) h allowed =

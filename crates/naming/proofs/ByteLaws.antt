@@ -7,29 +7,32 @@ use mathlib.Core.Bool.{Bool, true, false, not}
 use native.Mathlib.Omega.{arith}
 use lib.ListN.{getD}
 use lib.Dec.{eqb}
-use borrow.Author.Tests.{eqb-true, eqb-false, eq-eqb, ne-eqb, not-true}
-use Rattle.file.specs.Bytes.{Bytes}
-use Rattle.file.specs.Order.{firstOf, both}
-use Rattle.file.specs.Cluster.{Slave, Cluster, bytesIn, configuration, physicalName, fileNumberOf, operationOf, readOperation, writeOperation, executeOperation}
-use Rattle.file.specs.Decode.{decode}
-use Rattle.file.specs.Grounds.{fileGround}
-use Rattle.file.specs.Accepted.{Becomes}
+use borrow.Author.Tests.{eqb-true, eqb-false, eq-eqb, ne-eqb, ltb-true, ltb-false, not-true}
+use Rattle.file.specs.Rules.Refusals.{bufferRefusal}
+use Rattle.file.specs.Rules.Results.{done}
+use Rattle.file.specs.Rules.Bytes.{Bytes}
+use Rattle.file.specs.Rules.Order.{firstOf, both}
+use Rattle.file.specs.Rules.Cluster.{Slave, Cluster, bytesIn, configuration, physicalName, fileNumberOf, operationOf, readOperation, writeOperation, executeOperation}
+use Rattle.file.specs.Rules.Decode.{decode}
+use Rattle.file.specs.Rules.Grounds.{fileGround}
+use Rattle.file.specs.Inner.Accepted.{Becomes}
 use Rattle.file.proofs.Order.{byCase, clash}
 use Rattle.file.proofs.Accepted.{encode-bytes}
-use Rattle.frame.specs.Fireworks.{Round, multipartner, msd, msa, none}
-use Rattle.frame.specs.Frames.{between}
-use Rattle.file.specs.Places.{withEpoch, withPending}
-use Rattle.cluster.specs.Bus.{slots}
-use Rattle.cluster.specs.Slaves.{withAddress, epochRaised, pendingOperation, operationIn, executionOf}
-use Rattle.cluster.specs.Grounds.{shortAnswer, roundBy}
-use Rattle.cluster.specs.Round.{carried, addressEffect, dataEffect, multipartnerEffect, effectOf, frameOn, carriedBy, roundGround, roundOn}
-use Rattle.cluster.proofs.Rounds.{firstGround-next, firstGround-here, round-refused, round-accepted, round-becomes, round-kept}
+use Rattle.frame.specs.Rules.Fireworks.{Round, multipartner, msd, msa, noRound}
+use Rattle.frame.specs.Rules.Frames.{pb1Place, pb2Place, pb3Place, between}
+use Rattle.file.specs.Rules.Changes.{withEpoch, withPending}
+use Rattle.cluster.specs.Rules.Bus.{slots}
+use Rattle.cluster.specs.Rules.Slaves.{withAddress, epochRaised, pendingDuty, dutyBy, executionOf}
+use Rattle.cluster.specs.Rules.Grounds.{shortAnswer, roundBy}
+use Rattle.cluster.specs.Rules.Round.{addressEffect, dataEffect, multipartnerEffect, effectOf, frameOn, carriedBy, roundGround, roundOn}
+use Rattle.cluster.proofs.Rounds.{buffer-decides, others-decide, round-refused, round-accepted, round-becomes, round-kept}
 use Rattle.cluster.proofs.Untouched.{filesOf, Unstored, Leaves, by-nothing, by-read, by-write, below-other, after-other}
-use Rattle.naming.specs.View.{SlaveView, viewOf, view, sent}
-use Rattle.naming.specs.Run.{Position, running, unfitPosition, namesGrounds, runGrounds, operationOf as nextOperation}
-use Rattle.naming.specs.Step.{stepGround, stepMade, stepOn, roundSent}
-use Rattle.naming.specs.Account.{Call, step, frame, shortBuffer}
-use Rattle.naming.specs.Demand.{State, halfwayAfter, callOn, changesConfiguration, permittedFrame, permittedCall, OfBytes, of-frame}
+use Rattle.naming.specs.Inner.View.{SlaveView, viewOf, view}
+use Rattle.naming.specs.Rules.Rounds.{sent}
+use Rattle.naming.specs.Rules.Run.{Position, running, unfitPosition, namesGrounds, runGrounds, nextRound}
+use Rattle.naming.specs.Rules.Step.{stepGrounds, stepGround, stepMade, stepOn, roundSent}
+use Rattle.naming.specs.Rules.Account.{Call, step, frame}
+use Rattle.naming.specs.Claims.Demand.{State, halfwayAfter, callOn, changesConfiguration, permittedFrame, permittedCall, OfBytes, of-frame}
 use Rattle.naming.proofs.Answers.{same-refl}
 use Rattle.naming.proofs.Start.{Names}
 use Rattle.naming.proofs.Abstract.{Laws, Stepped, Left, Sendable}
@@ -40,7 +43,7 @@ use Rattle.naming.proofs.StepRound.{Made, round-made}
 pub record Good (s : State) : Type 0 where
   pub bytes : Bytes (s .file)
   pub accepted : fileGround (s .file) ≡ 0
-  pub apart : s .halfway ≡ true → Leaves configuration (pendingOperation (decode (s .file)))
+  pub apart : s .halfway ≡ true → Leaves configuration (pendingDuty (decode (s .file)))
 
 unfoldable pub viewIn : State → List SlaveView
 viewIn s = view (decode (s .file))
@@ -58,40 +61,39 @@ module _ (names : List ℕ) (n : Names names) where
   unfolding runGrounds namesGrounds firstOf
   run-ground p fit = rw (n .fit, n .different, fit)
 
-  pub step-ground : (s : State) (p : Position) (buffer : List ℕ) → Good s → shortBuffer buffer ≡ false → unfitPosition names p ≡ false →
+  pub step-ground : (s : State) (p : Position) (buffer : List ℕ) → Good s → shortAnswer buffer ≡ false → unfitPosition names p ≡ false →
       stepGround (s .file) p names buffer ≡ 0
-  unfolding stepGround shortBuffer shortAnswer firstOf
+  unfolding stepGround stepGrounds shortAnswer
   step-ground s p buffer good long fit =
-      firstGround-next (fileGround (s .file)) _ (good .accepted) ∙ rw long (firstGround-next 0 (firstOf (runGrounds names p)) refl ∙ run-ground p fit)
+      others-decide (s .file) buffer (runGrounds names p) (good .accepted) (ltb-false _ _ long) ∙ run-ground p fit
 
-  pub short-ground : (s : State) (p : Position) (buffer : List ℕ) → Good s → shortBuffer buffer ≡ true → stepGround (s .file) p names buffer ≡ 9
-  unfolding stepGround shortBuffer shortAnswer firstOf
-  short-ground s p buffer good short =
-      firstGround-next (fileGround (s .file)) _ (good .accepted) ∙ rw short (firstGround-here 9 (firstOf (runGrounds names p)) (λ (z : 9 ≡ 0). omega arith))
+  pub short-ground : (s : State) (p : Position) (buffer : List ℕ) → Good s → shortAnswer buffer ≡ true → stepGround (s .file) p names buffer ≡ bufferRefusal
+  unfolding stepGround stepGrounds shortAnswer
+  short-ground s p buffer good short = buffer-decides (s .file) buffer (runGrounds names p) (good .accepted) (ltb-true _ _ short)
 
-  short-step : (s : State) (p : Position) (buffer : List ℕ) → Good s → shortBuffer buffer ≡ true → callOn names s p (step buffer) ≡ (s, p)
+  short-step : (s : State) (p : Position) (buffer : List ℕ) → Good s → shortAnswer buffer ≡ true → callOn names s p (step buffer) ≡ (s, p)
   unfolding callOn stepOn
   short-step s p buffer good short = rw (short-ground s p buffer good short)
 
-  idle-step : (s : State) (p : Position) (buffer : List ℕ) → Good s → shortBuffer buffer ≡ false → unfitPosition names p ≡ false →
-      (p .mark ≡ running → ⊥) → callOn names s p (step buffer) ≡ (s, p)
+  idle-step : (s : State) (p : Position) (buffer : List ℕ) → Good s → shortAnswer buffer ≡ false → unfitPosition names p ≡ false →
+      (p .end ≡ running → ⊥) → callOn names s p (step buffer) ≡ (s, p)
   unfolding callOn stepOn
-  idle-step s p buffer good long fit over = rw (step-ground s p buffer good long fit, ne-eqb (p .mark) running over)
+  idle-step s p buffer good long fit over = rw (step-ground s p buffer good long fit, ne-eqb (p .end) running over)
 
   closed-step : (s : State) (p : Position) (buffer : List ℕ) → stepGround (s .file) p names buffer ≡ 0 → permittedCall names s p (step buffer) ≡ true → not (s .halfway) ≡ true
   unfolding permittedCall
   closed-step s p buffer g may = rw g at may
 
-  running-step : (s : State) (p : Position) (buffer : List ℕ) → Good s → Allowed names s p (step buffer) → shortBuffer buffer ≡ false →
-      unfitPosition names p ≡ false → p .mark ≡ running → Sendable (nextOperation names p) →
+  running-step : (s : State) (p : Position) (buffer : List ℕ) → Good s → Allowed names s p (step buffer) → shortAnswer buffer ≡ false →
+      unfitPosition names p ≡ false → p .end ≡ running → Sendable (nextRound names p) →
       Stepped State names viewIn Good s p (callOn names s p (step buffer))
   unfolding callOn stepOn stepMade viewIn
   running-step s p buffer good allowed long fit run send =
       let g : stepGround (s .file) p names buffer ≡ 0 = step-ground s p buffer good long fit in
-      let m : Made (s .file) (nextOperation names p) (roundSent (s .file) (sent (nextOperation names p)) buffer) =
-      round-made (s .file) buffer (good .bytes) (good .accepted) (unfold shortBuffer shortAnswer in long) send in
+      let m : Made (s .file) (nextRound names p) (roundSent (s .file) (sent (nextRound names p)) buffer) =
+      round-made (s .file) buffer (good .bytes) (good .accepted) (unfold shortAnswer in long) send in
       let closed : s .halfway ≡ false = not-true (s .halfway) (closed-step s p buffer g (allowed .may)) in
-      rw (g, eq-eqb (p .mark) running run)
+      rw (g, eq-eqb (p .end) running run)
       (record {
         good = record { bytes = m .bytes; accepted = m .accepted; apart = λ h. clash h closed };
         views = m .views;
@@ -119,8 +121,8 @@ both-no true e = e
 both-no false e = refl
 
 -- an operation that is no write to and no execute of the configuration leaves it
-operation-leaves : (name pb2 pb3 : ℕ) → changesConfiguration pb2 ≡ false → Leaves configuration (operationIn name pb2 pb3)
-unfolding operationIn changesConfiguration executionOf
+operation-leaves : (name pb2 pb3 : ℕ) → changesConfiguration pb2 ≡ false → Leaves configuration (dutyBy name pb2 pb3)
+unfolding dutyBy changesConfiguration executionOf
 operation-leaves name pb2 pb3 leaves =
     byCase (eqb (operationOf pb2) readOperation)
     (λ r. rw r by-read)
@@ -136,30 +138,30 @@ unstored h = omega arith
 
 module _ (c : Cluster) (bytes : List ℕ) where
   -- a permitted frame leaves every configuration
-  frame-leaves : (h : Bool) (round : Round) → permittedFrame h round bytes ≡ true → (h ≡ true → Leaves configuration (pendingOperation c)) →
+  frame-leaves : (h : Bool) (round : Round) → permittedFrame h round bytes ≡ true → (h ≡ true → Leaves configuration (pendingDuty c)) →
       filesOf configuration (effectOf c round bytes .after .slaves) ≡ filesOf configuration (c .slaves)
   unfolding permittedFrame effectOf multipartnerEffect dataEffect addressEffect withAddress withPending epochRaised withEpoch
   frame-leaves true (multipartner r) p l = clash p refl
   frame-leaves true msd p l = after-other (l refl) (between bytes) (epochRaised c)
   frame-leaves true msa p l = clash p refl
-  frame-leaves true none p l = clash p refl
+  frame-leaves true noRound p l = clash p refl
   frame-leaves false (multipartner r) p l = below-other r (epochRaised c) slots configuration unstored
   frame-leaves false msd p l = clash p refl
   frame-leaves false msa p l = refl
-  frame-leaves false none p l = clash p refl
+  frame-leaves false noRound p l = clash p refl
 
   -- and what is pending when its round is half done
-  next-leaves : (h : Bool) (mask : ℕ) (round : Round) → permittedFrame h round bytes ≡ true → halfwayAfter h (carried mask) round ≡ true →
-      Leaves configuration (pendingOperation (effectOf c round bytes .after))
-  unfolding permittedFrame halfwayAfter effectOf addressEffect withAddress withPending pendingOperation
+  next-leaves : (h : Bool) (mask : ℕ) (round : Round) → permittedFrame h round bytes ≡ true → halfwayAfter h (done mask) round ≡ true →
+      Leaves configuration (pendingDuty (effectOf c round bytes .after))
+  unfolding permittedFrame halfwayAfter effectOf addressEffect withAddress withPending pendingDuty
   next-leaves true mask (multipartner r) p l = clash p refl
   next-leaves true mask msd p l = clash l refl
   next-leaves true mask msa p l = clash p refl
-  next-leaves true mask none p l = clash p refl
+  next-leaves true mask noRound p l = clash p refl
   next-leaves false mask (multipartner r) p l = clash l refl
   next-leaves false mask msd p l = clash p refl
-  next-leaves false mask msa p l = operation-leaves (getD bytes 2 0) (getD bytes 3 0) (getD bytes 4 0) (not-true (changesConfiguration (getD bytes 3 0)) p)
-  next-leaves false mask none p l = clash p refl
+  next-leaves false mask msa p l = operation-leaves (getD bytes pb1Place 0) (getD bytes pb2Place 0) (getD bytes pb3Place 0) (not-true (changesConfiguration (getD bytes pb2Place 0)) p)
+  next-leaves false mask noRound p l = clash p refl
 
 -- a frame of others, refused or accepted
 module _ (names : List ℕ) (s : State) (p : Position) (bytes buffer : List ℕ) (good : Good s) where
@@ -177,7 +179,7 @@ module _ (names : List ℕ) (s : State) (p : Position) (bytes buffer : List ℕ)
 
   frame-pending : roundGround (s .file) bytes buffer ≡ 0 → permittedFrame (s .halfway) (roundBy bytes) bytes ≡ true →
       halfwayAfter (s .halfway) (roundOn (s .file) bytes buffer .0) (roundBy bytes) ≡ true →
-      Leaves configuration (pendingOperation (frameOn (decode (s .file)) bytes .after))
+      Leaves configuration (pendingDuty (frameOn (decode (s .file)) bytes .after))
   unfolding frameOn carriedBy
   frame-pending g may h =
       next-leaves (decode (s .file)) bytes (s .halfway) _ (roundBy bytes) may (rw (round-accepted (s .file) bytes buffer g) at h)

@@ -6,16 +6,17 @@ use mathlib.Core.Path.{_≡_}
 use mathlib.Core.Bool.{true}
 use mathlib.Core.List.{List, [], _∷_}
 use lib.ListN.{getD, replicate}
-use Rattle.file.specs.Cluster.{Slave, unnamed, recordOf, physicalName, comparisonValue}
-use Rattle.file.specs.Decode.{decode}
-use Rattle.file.specs.Grounds.{fileGround}
-use Rattle.frame.specs.Fireworks.{dataFirework}
+use Rattle.file.specs.Rules.Results.{done}
+use Rattle.file.specs.Rules.Cluster.{Slave, unnamed, recordOf, physicalName, comparisonValue}
+use Rattle.file.specs.Rules.Decode.{decode}
+use Rattle.file.specs.Rules.Grounds.{fileGround}
+use Rattle.frame.specs.Rules.Fireworks.{dataFirework}
 use Rattle.frame.proofs.RoundTrip.{FrameCases, frame-cases}
-use Rattle.cluster.specs.Bus.{answerBytes, answerIn, nobody}
-use Rattle.cluster.specs.Slaves.{isUnnamed, reading, comparing, pendingOperation, answersRead}
-use Rattle.cluster.specs.Round.{carried, roundGround, roundOn}
+use Rattle.cluster.specs.Rules.Bus.{answerBytes, answerIn, nobody}
+use Rattle.cluster.specs.Rules.Slaves.{isUnnamed, reading, comparing, pendingDuty, answersRead}
+use Rattle.cluster.specs.Rules.Round.{roundGround, roundOn}
 use Rattle.cluster.proofs.Cases as rounds
-use Rattle.naming.specs.Account.{step, accountOf, accountAfter, namesIn}
+use Rattle.naming.specs.Rules.Account.{step, accountOf, accountAfter, namesIn}
 use Rattle.naming.proofs.Examples.{slave, from, figures, m10File}
 use Rattle.naming.proofs.Examples as account
 use Rattle.naming.proofs.Witnesses.{m6File, m7File, m8File, m9File}
@@ -26,28 +27,28 @@ pub record MarkedCases : Type 0 where
   pub frames : FrameCases
   -- M6: "physical name equal to IDCV replies"
   pub m6 :
-      (file buffer : List ℕ) → roundGround file rounds.dataRound buffer ≡ 0 → pendingOperation (decode file) ≡ comparing unnamed → (s : Slave) →
+      (file buffer : List ℕ) → roundGround file rounds.dataRound buffer ≡ 0 → pendingDuty (decode file) ≡ comparing unnamed → (s : Slave) →
       decode file .slaves ≡ s ∷ [] → isUnnamed s ≡ true → physicalName s ≡ comparisonValue s →
-      roundOn file rounds.dataRound buffer .0 ≡ carried 2
-  pub m6-file : roundOn m6File rounds.dataRound (replicate 64 0) .0 ≡ carried 2
+      roundOn file rounds.dataRound buffer .0 ≡ done 2
+  pub m6-file : roundOn m6File rounds.dataRound (replicate 64 0) .0 ≡ done 2
   -- M7: "one less is silent"
   pub m7 :
-      (file buffer : List ℕ) → roundGround file rounds.dataRound buffer ≡ 0 → pendingOperation (decode file) ≡ comparing unnamed → (s : Slave) →
+      (file buffer : List ℕ) → roundGround file rounds.dataRound buffer ≡ 0 → pendingDuty (decode file) ≡ comparing unnamed → (s : Slave) →
       decode file .slaves ≡ s ∷ [] → isUnnamed s ≡ true → physicalName s + 1 ≡ comparisonValue s →
-      roundOn file rounds.dataRound buffer .0 ≡ carried 0
-  pub m7-file : roundOn m7File rounds.dataRound (replicate 64 0) .0 ≡ carried 0
+      roundOn file rounds.dataRound buffer .0 ≡ done 0
+  pub m7-file : roundOn m7File rounds.dataRound (replicate 64 0) .0 ≡ done 0
   -- M8: "0xF0 and 0x3C give 0x30"
   pub m8 :
-      (file buffer : List ℕ) → roundGround file rounds.dataRound buffer ≡ 0 → (name n r : ℕ) → pendingOperation (decode file) ≡ reading name n r →
+      (file buffer : List ℕ) → roundGround file rounds.dataRound buffer ≡ 0 → (name n r : ℕ) → pendingDuty (decode file) ≡ reading name n r →
       (s t : Slave) → decode file .slaves ≡ s ∷ t ∷ [] → answersRead name n r s ≡ true → answersRead name n r t ≡ true →
       {bs cs : List ℕ} → recordOf s n r ≡ 0xF0 ∷ bs → recordOf t n r ≡ 0x3C ∷ cs → getD (roundOn file rounds.dataRound buffer .1) 1 0 ≡ 0x30
   pub m8-file : getD (roundOn m8File rounds.dataRound (replicate 64 0) .1) 1 0 ≡ 0x30
   -- M9: "a read at 0xFF is silent"
   pub m9 :
-      (file buffer : List ℕ) → roundGround file rounds.dataRound buffer ≡ 0 → (n r : ℕ) → pendingOperation (decode file) ≡ reading unnamed n r →
-      (roundOn file rounds.dataRound buffer .0 ≡ carried 0) × (roundOn file rounds.dataRound buffer .1 ≡ answerIn buffer (answerBytes dataFirework nobody))
+      (file buffer : List ℕ) → roundGround file rounds.dataRound buffer ≡ 0 → (n r : ℕ) → pendingDuty (decode file) ≡ reading unnamed n r →
+      (roundOn file rounds.dataRound buffer .0 ≡ done 0) × (roundOn file rounds.dataRound buffer .1 ≡ answerIn buffer (answerBytes dataFirework nobody))
   pub m9-file :
-      (roundOn m9File rounds.dataRound (replicate 64 0) .0 ≡ carried 0) ×
+      (roundOn m9File rounds.dataRound (replicate 64 0) .0 ≡ done 0) ×
       (roundOn m9File rounds.dataRound (replicate 64 0) .1 ≡ dataFirework ∷ replicate 63 0xFF)
   -- M10: "the 96-byte file" is accepted, and "Of M10 the theorem shows the account's names and counts", over names 0x01 to 0xFE and
   -- 404 steps with a buffer of 64 bytes

@@ -9,10 +9,10 @@ use native.Mathlib.Nat.{suc-min-suc}
 use lib.ListN.{length}
 use lib.Dec.{ltb, leb·suc-suc}
 use borrow.Author.Tests.{lt-ltb, le-ltb, ltb-false}
-use Rattle.file.specs.Grounds.{isAmong}
+use Rattle.file.specs.Rules.Grounds.{isAmong}
 use Rattle.file.proofs.Order.{byCase}
-use Rattle.naming.specs.Account.{namingRounds, namingComparisons, endingRounds, endingComparisons}
-use Rattle.naming.specs.Figures.{takenNames, freeNames, beforeFree, takenTried, roundsOf, comparisonsIn}
+use Rattle.naming.specs.Rules.Account.{namingRounds, namingComparisons, endingRounds, endingComparisons}
+use Rattle.naming.specs.Rules.Figures.{takenNames, freeNames, beforeFree, takenTried, roundsOf, comparisonsIn}
 use Rattle.naming.proofs.Tally.{due, dueComparisons}
 
 -- the taken names before free name number u + 1

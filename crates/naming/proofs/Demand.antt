@@ -9,13 +9,13 @@ use native.Mathlib.Omega.{arith}
 use native.Mathlib.Nat.{suc-min-suc, zero-add}
 use lib.ListN.{length}
 use lib.Dec.{eqb}
-use Rattle.file.specs.Cluster.{unnamed}
+use Rattle.file.specs.Rules.Cluster.{unnamed}
 use Rattle.file.proofs.AcceptedFacts.{no-repeat}
 use Rattle.file.proofs.Order.{byCase}
-use Rattle.naming.specs.View.{SlaveView}
-use Rattle.naming.specs.Run.{Position, fresh, running, unfitPosition, countLimit}
-use Rattle.naming.specs.Account.{Named, Account, Call, accountOf, accountAfter, comparisonsOf, falling, unnamedAmong, namesHeld, namingRounds, namingComparisons, endingRounds}
-use Rattle.naming.specs.Figures.{Outcome, roundsFor, comparisonsFor, namesAfter, givings}
+use Rattle.naming.specs.Inner.View.{SlaveView}
+use Rattle.naming.specs.Rules.Run.{Position, fresh, running, unfitPosition, countLimit}
+use Rattle.naming.specs.Rules.Account.{Named, Account, Call, accountOf, accountAfter, comparisonsOf, falling, unnamedAmong, namesHeld, namingRounds, namingComparisons, endingRounds}
+use Rattle.naming.specs.Rules.Figures.{Outcome, roundsFor, comparisonsFor, namesAfter, givings}
 use Rattle.naming.proofs.Answers.{namedOf}
 use Rattle.naming.proofs.Simulation.{fresh-at}
 use Rattle.naming.proofs.Tally.{Tally, Done, due, dueComparisons, finally, next-pass}
@@ -31,7 +31,7 @@ pub record Holds
   pub good : Good (w .0)
   pub agree : Agree (view (w .0)) (w .1) a
   pub fit : unfitPosition names (w .1) ≡ false
-  pub outcome : Outcome slaves names (map namedOf (view (w .0))) (w .1 .mark) (w .1 .rounds) (w .1 .comparisons)
+  pub outcome : Outcome slaves names (map namedOf (view (w .0))) (w .1 .end) (w .1 .rounds) (w .1 .comparisons)
 
 -- as many names are given as there are unnamed slaves and free names, the lesser of the two
 pub given-count : (ws ns : List ℕ) → length (givings ws ns) ≡ min (length ws) (length ns)
@@ -91,7 +91,7 @@ module _ (slaves : List Named) (names : List ℕ) where
 
   -- the closed figures, of all that agrees with it
   outcome : (vs : List SlaveView) (p : Position) (a : Account) → Agree vs p a →
-      Tally (roundsFor slaves names) (comparisonsFor slaves names) (namesAfter slaves names) a → Outcome slaves names (map namedOf vs) (p .mark) (p .rounds) (p .comparisons)
+      Tally (roundsFor slaves names) (comparisonsFor slaves names) (namesAfter slaves names) a → Outcome slaves names (map namedOf vs) (p .end) (p .rounds) (p .comparisons)
   unfolding comparisonsOf
   outcome vs p a g t =
       record {
@@ -101,7 +101,7 @@ module _ (slaves : List Named) (names : List ℕ) where
         named = λ n. g .names ∙ all n .names;
       }
     where
-      all : (p .mark ≡ running → ⊥) → Done (roundsFor slaves names) (comparisonsFor slaves names) (namesAfter slaves names) (a .slaves) (a .end) (a .rounds) (a .done) (a .k)
+      all : (p .end ≡ running → ⊥) → Done (roundsFor slaves names) (comparisonsFor slaves names) (namesAfter slaves names) (a .slaves) (a .end) (a .rounds) (a .done) (a .k)
       all n = tally-ended t (λ e. n (g .end ∙ e))
 
 -- ---- the theorem

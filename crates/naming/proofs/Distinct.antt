@@ -1,13 +1,11 @@
--- No two answers of a call are taken to the same: the maps of `specs/Answers.antt` can be undone, of a step's answers together with
--- the run behind it.
+-- No two answers of a call are taken to the same: the maps of `specs/Inner/Answers.antt` can be undone, of a step's answers together
+-- with the run after it.
 -- Assumes nothing.
 use mathlib.Core.Path.{_≡_, refl, sym, _∙_, ap}
-use Rattle.cluster.specs.Round.{Answer.refused as refusedRound, carried}
-use Rattle.naming.specs.Run.{Position, Starting, begun}
-use Rattle.naming.specs.Run.{Starting.refused as refusedStart}
-use Rattle.naming.specs.Step.{Stepping, ended, made}
-use Rattle.naming.specs.Step.{Stepping.refused as refusedStep}
-use Rattle.naming.specs.Answers.{positionOf, startedOf, steppedOf, runAfter}
+use Rattle.file.specs.Rules.Results.{Result, refused, done}
+use Rattle.naming.specs.Rules.Run.{Position}
+use Rattle.naming.specs.Rules.Step.{StepDone, ended, made}
+use Rattle.naming.specs.Inner.Answers.{startedOf, steppedOf, runAfter}
 use Rattle.naming.specs.declared.position.RunPosition.{RunPosition}
 use Rattle.naming.specs.declared.run.Started.{Started}
 use Rattle.naming.specs.declared.run.Started.the-variants as starts
@@ -17,7 +15,7 @@ use Rattle.naming.specs.declared.run.Stepped.the-variants as steps
 run : Position → RunPosition
 run p =
     record {
-      end = p .mark;
+      end = p .end;
       index = p .index;
       step = p .step;
       value = p .value;
@@ -25,9 +23,9 @@ run p =
       comparisons = p .comparisons;
     }
 
-start : Starting → Started
-start (refusedStart n) = starts.Refused (record { 0 = n })
-start (begun p) = starts.Fresh (run p)
+start : Result Position → Started
+start (refused n) = starts.Refused (record { 0 = n })
+start (done p) = starts.Fresh (run p)
 
 start-back : (a : Started) → start (startedOf a) ≡ a
 unfolding start startedOf run
@@ -37,11 +35,10 @@ start-back (starts.Fresh p) = refl
 pub starts-distinct : (a b : Started) → startedOf a ≡ startedOf b → a ≡ b
 starts-distinct a b h = sym (start-back a) ∙ (ap start h ∙ start-back b)
 
-stepped : Stepping × Position → Stepped
-stepped (refusedStep n, p) = steps.Refused (record { 0 = n })
-stepped (ended, p) = steps.Ended
-stepped (made (refusedRound n), p) = steps.Ended
-stepped (made (carried mask), p) = steps.Made mask (run p)
+stepped : Result StepDone × Position → Stepped
+stepped (refused n, p) = steps.Refused (record { 0 = n })
+stepped (done ended, p) = steps.Ended
+stepped (done (made mask), p) = steps.Made mask (run p)
 
 stepped-back : (p : Position) (a : Stepped) → stepped (steppedOf a, runAfter p a) ≡ a
 unfolding stepped steppedOf runAfter run

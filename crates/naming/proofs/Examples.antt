@@ -5,14 +5,15 @@ use mathlib.Core.Path.{_≡_, refl, ap, _∙_}
 use mathlib.Core.Bool.{false}
 use mathlib.Core.List.{List, [], _∷_}
 use lib.ListN.{length, replicate}
-use Rattle.file.specs.Grounds.{isAmong, hasRepeat, fileGround, fileGroundAt, fileGrounds, wrongSize, wrongMark, wrongEdition, wrongLength, wrongHeader, wrongPending, brokenLayout, walkFile, tableEnd, walkSlaves, andThen, walkSlave, goodTableEntry, walkDirectory, goodEntry, endsAt, lacksNeeded, allHaveNeeded, hasNeeded, equalPhysicalNames}
-use Rattle.file.specs.Order.{firstOf, both, either}
-use Rattle.file.specs.Bytes.{numberOf, bytesOf, part, allZero}
-use Rattle.file.specs.Cluster.{bytesAmong, bytesIn, lastRecord, physicalName, logicalName}
-use Rattle.file.specs.Decode.{decode, decodeAt, slavesAt, slaveAt, filesAt, fileAt, fileSize, offsetAt}
-use Rattle.naming.specs.View.{sent, Sent, atUnnamed}
-use Rattle.naming.specs.Run.{Position, operationOf, operationAt, placeOf, askOrGive, questionOf, partOf, giveOf, tried}
-use Rattle.naming.specs.Account.{Named, namesOf, namesIn, Account, step as stepWith, shortBuffer, accountCall, accountAfter, accountOf, comparisonsOf, comparisonsAfter, oneRound, pass, freePass, goOn, passDone, runEnds, give, falling, insert, unnamedAmong, namesHeld, endWith}
+use Rattle.file.specs.Rules.Grounds.{isAmong, hasRepeat, fileGround, fileGroundAt, fileGroundsAt, wrongSize, wrongMark, wrongEdition, wrongLength, wrongHeader, wrongPending, brokenLayout, walkFile, tableEnd, walkSlaves, andThen, walkSlave, goodTableEntry, walkDirectory, goodEntry, endsAt, lacksNeeded, allHaveNeeded, hasNeeded, equalPhysicalNames}
+use Rattle.file.specs.Rules.Order.{firstOf, both, either}
+use Rattle.file.specs.Rules.Bytes.{numberOf, bytesOf, part, allZero}
+use Rattle.file.specs.Rules.Cluster.{bytesAmong, bytesIn, lastRecord, physicalName, logicalName}
+use Rattle.file.specs.Rules.Decode.{decode, decodeAt, slavesAt, slaveAt, filesAt, fileAt, fileSize, offsetAt}
+use Rattle.naming.specs.Rules.Rounds.{sent, Sent, atUnnamed}
+use Rattle.naming.specs.Rules.Run.{Position, nextRound, roundAt, placeOf, askOrGive, questionOf, partOf, giveOf, tried}
+use Rattle.cluster.specs.Rules.Grounds.{shortAnswer}
+use Rattle.naming.specs.Rules.Account.{Named, namesOf, namesIn, Account, step as stepWith, accountCall, accountAfter, accountOf, comparisonsOf, comparisonsAfter, oneRound, pass, freePass, goOn, passDone, runEnds, give, falling, insert, unnamedAmong, namesHeld, endWith}
 
 -- n names from a on
 pub from : ℕ → ℕ → List ℕ
@@ -53,16 +54,16 @@ unfolding m10File
 m10-length = refl
 
 pub m10-accepted : fileGround m10File ≡ 0
-unfolding m10File fileGround fileGroundAt fileGrounds firstOf both either wrongSize wrongMark wrongEdition wrongLength wrongHeader wrongPending allZero part numberOf offsetAt brokenLayout walkFile tableEnd walkSlaves andThen walkSlave goodTableEntry walkDirectory goodEntry fileSize endsAt lacksNeeded allHaveNeeded hasNeeded lastRecord decodeAt slavesAt slaveAt filesAt fileAt equalPhysicalNames hasRepeat isAmong physicalName bytesIn bytesAmong
+unfolding m10File fileGround fileGroundAt fileGroundsAt firstOf both either wrongSize wrongMark wrongEdition wrongLength wrongHeader wrongPending allZero part numberOf offsetAt brokenLayout walkFile tableEnd walkSlaves andThen walkSlave goodTableEntry walkDirectory goodEntry fileSize endsAt lacksNeeded allHaveNeeded hasNeeded lastRecord decodeAt slavesAt slaveAt filesAt fileAt equalPhysicalNames hasRepeat isAmong physicalName bytesIn bytesAmong
 m10-accepted = refl
 
 -- steps with a buffer of 64 bytes or more make rounds
-step-round : (buffer : List ℕ) → shortBuffer buffer ≡ false → (a : Account) → accountCall a (stepWith buffer) ≡ oneRound a
+step-round : (buffer : List ℕ) → shortAnswer buffer ≡ false → (a : Account) → accountCall a (stepWith buffer) ≡ oneRound a
 unfolding accountCall
 step-round buffer long a = rw long
 
 steps-rounds :
-    (buffer : List ℕ) → shortBuffer buffer ≡ false → (n : ℕ) (a : Account) → accountAfter a (replicate n (stepWith buffer)) ≡ rounds n a
+    (buffer : List ℕ) → shortAnswer buffer ≡ false → (n : ℕ) (a : Account) → accountAfter a (replicate n (stepWith buffer)) ≡ rounds n a
 unfolding accountAfter rounds
 steps-rounds buffer long zero a = refl
 steps-rounds buffer long (suc n) a =
@@ -79,8 +80,8 @@ m10-rounds :
 unfolding m10File decode decodeAt slavesAt slaveAt filesAt fileAt fileSize offsetAt part numberOf namesIn namesOf physicalName logicalName bytesIn bytesAmong figures rounds from slave comparisonsOf comparisonsAfter oneRound pass freePass goOn passDone runEnds give accountOf falling insert unnamedAmong namesHeld endWith isAmong either
 m10-rounds = refl
 
-long-buffer : shortBuffer (replicate 64 0) ≡ false
-unfolding shortBuffer
+long-buffer : shortAnswer (replicate 64 0) ≡ false
+unfolding shortAnswer
 long-buffer = refl
 
 -- the names and counts of its account after 404 steps: "named 2 compares 131 rounds 404"
@@ -103,29 +104,29 @@ small = refl
 
 -- the rounds that a run over names 5 and 7 sends
 at : ℕ → ℕ → Position
-at step value = record { mark = 0; index = 1; step = step; value = value; rounds = 9; comparisons = 2 }
+at step value = record { end = 0; index = 1; step = step; value = value; rounds = 9; comparisons = 2 }
 
 sends : ℕ → ℕ → Sent
-sends step value = sent (operationOf (5 ∷ 7 ∷ []) (at step value))
+sends step value = sent (nextRound (5 ∷ 7 ∷ []) (at step value))
 
 -- step 0 reads 0x3D record 1 at the name; step 196 writes 00 00 name FF; steps 4 and 195 are the write of record 2 for bit 63 and
 -- the execute for bit 0
 poll-sends : sends 0 0 ≡ record { name = 7; file = 0x3D; operation = 0; «record» = 1; content = [] }
-unfolding sends at sent operationOf operationAt placeOf
+unfolding sends at sent nextRound roundAt placeOf
 poll-sends = refl
 
 name-sends : sends 196 0 ≡ record { name = 0xFF; file = 0x08; operation = 1; «record» = 1; content = 0 ∷ 0 ∷ 7 ∷ 0xFF ∷ [] }
-unfolding sends at sent atUnnamed operationOf operationAt placeOf askOrGive giveOf
+unfolding sends at sent atUnnamed nextRound roundAt placeOf askOrGive giveOf
 name-sends = refl
 
 bit-sends : sends 4 0 ≡ record { name = 0xFF; file = 0x08; operation = 1; «record» = 2; content = 0x80 ∷ 0 ∷ 0 ∷ 0 ∷ [] }
-unfolding sends at sent atUnnamed operationOf operationAt placeOf askOrGive questionOf partOf tried bytesOf
+unfolding sends at sent atUnnamed nextRound roundAt placeOf askOrGive questionOf partOf tried bytesOf
 bit-sends = refl
 
 last-bit-sends : sends 195 3 ≡ record { name = 0xFF; file = 0x08; operation = 2; «record» = 2; content = [] }
-unfolding sends at sent atUnnamed operationOf operationAt placeOf askOrGive questionOf partOf tried
+unfolding sends at sent atUnnamed nextRound roundAt placeOf askOrGive questionOf partOf tried
 last-bit-sends = refl
 
 last-low-sends : sends 194 2 ≡ record { name = 0xFF; file = 0x08; operation = 1; «record» = 3; content = 0 ∷ 0 ∷ 0 ∷ 3 ∷ [] }
-unfolding sends at sent atUnnamed operationOf operationAt placeOf askOrGive questionOf partOf tried bytesOf
+unfolding sends at sent atUnnamed nextRound roundAt placeOf askOrGive questionOf partOf tried bytesOf
 last-low-sends = refl

@@ -9,13 +9,13 @@ use mathlib.Core.Bool.{true, false, cond}
 use native.Mathlib.Omega.{arith}
 use lib.Dec.{eqb}
 use borrow.Author.Tests.{eqb-true, eq-eqb, ne-eqb}
-use Rattle.file.specs.Bytes.{All, All.none, All.both as also}
-use Rattle.file.specs.Legal.{Distinct, Distinct.next as apart}
-use Rattle.file.specs.Cluster.{unnamed, broadcast}
-use Rattle.file.specs.Grounds.{isAmong}
+use Rattle.file.specs.Rules.Bytes.{All, All.allEmpty, All.allNext as also}
+use Rattle.file.specs.Rules.Legal.{Distinct, Distinct.next as apart}
+use Rattle.file.specs.Rules.Cluster.{unnamed, broadcast}
+use Rattle.file.specs.Rules.Grounds.{isAmong}
 use Rattle.file.proofs.Bytes.{all-first, all-others}
 use Rattle.file.proofs.Order.{byCase, clash, either-left, either-next}
-use Rattle.naming.specs.Account.{Named, give, namesHeld}
+use Rattle.naming.specs.Rules.Account.{Named, give, namesHeld}
 
 -- strictly falling
 pub data Falling : List ℕ → Type 0 where
@@ -44,13 +44,13 @@ pub record Facts (left waiting : List ℕ) (slaves : List Named) (held : List �
 -- ---- lists
 
 pub all-both : {A : Type 0} {P Q R : A → Type 0} {l : List A} → ((a : A) → P a → Q a → R a) → All P l → All Q l → All R l
-all-both f none none = none
+all-both f allEmpty allEmpty = allEmpty
 all-both f (also p h) (also q k) = also (f _ p q) (all-both f h k)
 
 -- what holds of all holds of one that is among them
 pub all-among : {P : ℕ → Type 0} {l : List ℕ} (n : ℕ) → All P l → isAmong n l ≡ true → P n
 unfolding isAmong
-all-among n none e = clash refl (sym e)
+all-among n allEmpty e = clash refl (sym e)
 all-among {P} n (also {a = m} {l = l} p h) e =
     byCase (eqb n m)
     (λ t. subst P (sym (eqb-true n m t)) p)
@@ -117,7 +117,7 @@ give-waits :
     All (λ (s : Named). eqb (s .logical) unnamed ≡ isAmong (s .physical) (p ∷ ps)) ss →
     All (λ (s : Named). eqb (s .logical) unnamed ≡ isAmong (s .physical) ps) (map (give p n) ss)
 unfolding give
-give-waits p n ps absent named none = none
+give-waits p n ps absent named allEmpty = allEmpty
 give-waits p n ps absent named (also {a = s} e h) = also (give-one p n ps s absent named e) (give-waits p n ps absent named h)
 
 -- another name is held as before
@@ -137,7 +137,7 @@ give-held :
     All (λ (s : Named). eqb (s .logical) unnamed ≡ isAmong (s .physical) (p ∷ ps)) ss →
     isAmong m (namesHeld (map (give p n) ss)) ≡ isAmong m (namesHeld ss)
 unfolding namesHeld isAmong
-give-held p n m ps a u none = refl
+give-held p n m ps a u allEmpty = refl
 give-held p n m ps a u (also {a = s} {l = ss} e h) = rw (give-held-one p n m ps s a u e, give-held p n m ps a u h)
 
 pub give-greatest :

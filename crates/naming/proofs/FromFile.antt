@@ -8,14 +8,14 @@ use native.Mathlib.Omega.{arith}
 use native.Mathlib.Nat.{pow-le-pow-right, lt-of-lt-of-le, zero-lt-suc, min-le-left}
 use lib.ListN.{length, drop, length-take, length-map}
 use lib.Dec.{eqb}
-use Rattle.file.specs.Bytes.{Bytes, All, All.none, All.both as also, numberOf, part}
-use Rattle.file.specs.Legal.{LegalFile, LegalSlave, Legal}
-use Rattle.file.specs.Cluster.{File, Slave, Cluster, bytesAmong, bytesIn, physicalName}
+use Rattle.file.specs.Rules.Bytes.{Bytes, All, All.allEmpty, All.allNext as also, numberOf, part}
+use Rattle.file.specs.Rules.Legal.{LegalFile, LegalSlave, Legal}
+use Rattle.file.specs.Rules.Cluster.{File, Slave, Cluster, bytesAmong, bytesIn, physicalName}
 use Rattle.file.proofs.Bytes.{numberOf-below, bytes-part}
 use Rattle.file.proofs.Order.{byCase, first-none}
-use Rattle.naming.specs.View.{viewOf, view}
-use Rattle.naming.specs.Run.{namesGrounds, startGround, countLimit}
-use Rattle.naming.specs.Account.{Named, namesOf, namesIn, namingRounds, endingRounds}
+use Rattle.naming.specs.Inner.View.{viewOf, view}
+use Rattle.naming.specs.Rules.Run.{namesGrounds, startGround, countLimit}
+use Rattle.naming.specs.Rules.Account.{Named, namesOf, namesIn, namingRounds, endingRounds}
 use Rattle.naming.proofs.Facts.{physicals}
 use Rattle.naming.proofs.Answers.{namedOf}
 use Rattle.naming.proofs.Start.{Slaves, Names}
@@ -46,7 +46,7 @@ part-lt l at n h =
 
 bytes-among : {xs : List File} (n : ℕ) → All LegalFile xs → Bytes (bytesAmong xs n)
 unfolding bytesAmong
-bytes-among n none = none
+bytes-among n allEmpty = allEmpty
 bytes-among n (also {a = x} p h) =
     byCase (eqb (x .number) n) (λ t. rw t (p .bytes)) (λ f. rw f (bytes-among n h))
 
@@ -55,7 +55,7 @@ unfolding physicalName bytesIn
 physical-lt s l = part-lt (bytesIn s 0x3D) 4 8 (bytes-among 0x3D (l .files))
 
 physicals-lt : {ss : List Slave} → All LegalSlave ss → All (λ p. p < 2 ^ 64) (map physicalName ss)
-physicals-lt none = none
+physicals-lt allEmpty = allEmpty
 physicals-lt (also {a = s} p h) = also (physical-lt s p) (physicals-lt h)
 
 -- ---- what the theorem takes

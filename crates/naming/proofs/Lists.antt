@@ -1,6 +1,6 @@
 -- The lists of calls that are permitted are many: every list of steps is, a permitted list goes on with any list that is permitted
 -- where it ends, and so with any accepted round of others that does not change the configuration. On every accepted file there are
--- such rounds, a multipartner frame and an address frame with its data frame: each fits behind every permitted list and before every
+-- such rounds, a multipartner frame and an address frame with its data frame: each fits after every permitted list and before every
 -- list of steps.
 -- Assumes nothing.
 use Prim.Native.Nat.{ℕ, _≤_}
@@ -11,27 +11,29 @@ use native.Mathlib.Omega.{arith}
 use lib.ListN.{getD}
 use lib.Dec.{eqb}
 use borrow.Author.Tests.{not-true, eq-eqb, ne-eqb}
-use Rattle.file.specs.Bytes.{Byte, Bytes, All, none, both as also}
-use Rattle.file.specs.Order.{both}
-use Rattle.file.specs.Grounds.{fileGround}
-use Rattle.file.specs.Accepted.{Becomes}
-use Rattle.file.specs.Places.{withPending}
+use Rattle.file.specs.Rules.Bytes.{Byte, Bytes, All, allEmpty, allNext}
+use Rattle.file.specs.Rules.Order.{both}
+use Rattle.file.specs.Rules.Results.{done}
+use Rattle.file.specs.Rules.Grounds.{fileGround}
+use Rattle.file.specs.Inner.Accepted.{Becomes}
+use Rattle.file.specs.Rules.Changes.{withPending}
 use Rattle.file.proofs.Order.{both-left, both-right, both-true}
-use Rattle.frame.specs.Fireworks.{Round, multipartner, msd, msa, roundOf, roundIn, dataFirework}
-use Rattle.frame.specs.Check.{addressCheck}
-use Rattle.frame.specs.Frames.{frameOf, pb2Of, addressBytes, addressFrame}
-use Rattle.frame.specs.Grounds.{wrongLength, wrongCheck, noOperation, broadcastRead}
+use Rattle.frame.specs.Rules.Fireworks.{Round, multipartner, msd, msa, roundOf, roundIn, dataFirework}
+use Rattle.frame.specs.Rules.Check.{addressCheck}
+use Rattle.frame.specs.Rules.Frames.{frameOf, pb2Place, addressBytes, addressFrame}
+use Rattle.frame.specs.Rules.Grounds.{wrongFrameLength, wrongCheck, noOperation, broadcastRead}
 use Rattle.frame.proofs.Written.{address-bytes}
-use Rattle.cluster.specs.Slaves.{withAddress}
-use Rattle.cluster.specs.Grounds.{shortAnswer, roundBy, noFirework, writePending, lengthFor, wrongLengthOn, wrongCheckOn, noOperationOn, broadcastReadOn, frameGround}
-use Rattle.file.specs.Cluster.{Cluster, broadcast, documentation, readOperation}
-use Rattle.file.specs.Decode.{decode}
-use Rattle.cluster.specs.Round.{carried, addressEffect, effectOf, frameOn, carriedBy, roundGround, roundOn}
+use Rattle.cluster.specs.Rules.Slaves.{withAddress}
+use Rattle.cluster.specs.Rules.Grounds.{shortAnswer, roundBy, noFirework, writePending, lengthFor, wrongLengthOn, wrongCheckOn, noOperationOn, broadcastReadOn, frameGround}
+use Rattle.file.specs.Rules.Cluster.{Cluster, broadcast, documentation, readOperation, pb2Of}
+use Rattle.file.specs.Rules.Decode.{decode}
+use Rattle.cluster.specs.Rules.Round.{addressEffect, effectOf, frameOn, carriedBy, roundGround, roundOn}
 use Rattle.cluster.proofs.Rounds.{fits-none, round-accepted, round-becomes}
-use Rattle.naming.specs.Run.{Position, fresh, startGround}
-use Rattle.naming.specs.Step.{stepGround}
-use Rattle.naming.specs.Account.{Call, step, frame, shortBuffer}
-use Rattle.naming.specs.Demand.{State, startOn, halfwayAfter, callOn, changesConfiguration, permittedFrame, permittedCall, permitted, afterCalls, OfBytes}
+use Rattle.file.specs.Rules.Layout.{seriesRecord}
+use Rattle.naming.specs.Rules.Run.{Position, fresh, startGround}
+use Rattle.naming.specs.Rules.Step.{stepGround}
+use Rattle.naming.specs.Rules.Account.{Call, step, frame}
+use Rattle.naming.specs.Claims.Demand.{State, startOn, halfwayAfter, callOn, changesConfiguration, permittedFrame, permittedCall, permitted, afterCalls, OfBytes}
 use Rattle.naming.proofs.StepRound.{round-fits}
 use Rattle.naming.proofs.OverBytes.{demand-3, bytes-after}
 
@@ -46,8 +48,8 @@ step-halfway names s p buffer = refl
 -- every list of steps is permitted
 pub steps-permitted : (names : List ℕ) (s : State) (p : Position) {cs : List Call} → s .halfway ≡ false → All IsStep cs → permitted names s p cs ≡ true
 unfolding permitted permittedCall
-steps-permitted names s p closed none = rw closed
-steps-permitted names s p closed (also {l = cs} (is-step {buffer}) h) =
+steps-permitted names s p closed allEmpty = rw closed
+steps-permitted names s p closed (allNext {l = cs} (is-step {buffer}) h) =
     both-true (may (eqb (stepGround (s .file) p names buffer) 0))
     (steps-permitted names (callOn names s p (step buffer) .0) (callOn names s p (step buffer) .1) (step-halfway names s p buffer ∙ closed) h)
   where
@@ -73,15 +75,15 @@ permitted-append names s p (c ∷ cs) ds e k =
     (permitted-append names (callOn names s p c .0) (callOn names s p c .1) cs ds (both-right (permittedCall names s p c) _ e) k)
 
 -- where an accepted frame leaves a round
-any-mask : (h : Bool) (mask : ℕ) (round : Round) → halfwayAfter h (carried mask) round ≡ halfwayAfter h (carried 0) round
+any-mask : (h : Bool) (mask : ℕ) (round : Round) → halfwayAfter h (done mask) round ≡ halfwayAfter h (done 0) round
 unfolding halfwayAfter
 any-mask h mask (multipartner r) = refl
 any-mask h mask msd = refl
 any-mask h mask msa = refl
-any-mask h mask Round.none = refl
+any-mask h mask Round.noRound = refl
 
 accepted-halfway : (h : Bool) (file bytes buffer : List ℕ) (round : Round) → roundGround file bytes buffer ≡ 0 → roundBy bytes ≡ round →
-    halfwayAfter h (roundOn file bytes buffer .0) (roundBy bytes) ≡ halfwayAfter h (carried 0) round
+    halfwayAfter h (roundOn file bytes buffer .0) (roundBy bytes) ≡ halfwayAfter h (done 0) round
 unfolding carriedBy
 accepted-halfway h file bytes buffer round g m = rw (round-accepted file bytes buffer g, m) (any-mask h _ round)
 
@@ -94,10 +96,10 @@ multipartner-permitted names s p bytes buffer r closed g m =
     both-true (rw (g, m, closed) (unfold permittedFrame in refl))
     (rw (accepted-halfway (s .halfway) (s .file) bytes buffer (multipartner r) g m, closed) (unfold halfwayAfter in refl))
 
--- and an accepted address frame that does not change the configuration, with the accepted data frame behind it
+-- and an accepted address frame that does not change the configuration, with the accepted data frame after it
 pub round-permitted :
     (names : List ℕ) (s : State) (p : Position) (address buffer content buffer′ : List ℕ) → s .halfway ≡ false →
-    roundGround (s .file) address buffer ≡ 0 → roundBy address ≡ msa → changesConfiguration (getD address 3 0) ≡ false →
+    roundGround (s .file) address buffer ≡ 0 → roundBy address ≡ msa → changesConfiguration (getD address pb2Place 0) ≡ false →
     roundGround (roundOn (s .file) address buffer .2) content buffer′ ≡ 0 → roundBy content ≡ msd →
     permitted names s p (frame address buffer ∷ frame content buffer′ ∷ []) ≡ true
 unfolding permitted permittedCall callOn
@@ -119,7 +121,7 @@ round-0-frame c =
     (fits-none c (multipartner 0) (0x78 ∷ [])
     (record {
       firework = unfold noFirework in refl;
-      size = unfold wrongLengthOn wrongLength lengthFor in refl;
+      size = unfold wrongLengthOn wrongFrameLength lengthFor in refl;
       check = unfold wrongCheckOn in refl;
       operation = unfold noOperationOn in refl;
       broadcastRead = unfold broadcastReadOn in refl;
@@ -128,22 +130,22 @@ round-0-frame c =
 pub round-0-fits : (file buffer : List ℕ) → fileGround file ≡ 0 → shortAnswer buffer ≡ false → roundGround file (0x78 ∷ []) buffer ≡ 0
 round-0-fits file buffer g long = round-fits file (0x78 ∷ []) buffer g long (round-0-frame (decode file))
 
--- and a read of 0x3D record 1 at a name other than 0x00, with the data frame behind it
+-- and a read of 0x3D record 1 at a name other than 0x00, with the data frame after it
 abbrev pub readFrame : ℕ → ℕ → List ℕ
-readFrame epoch name = addressFrame epoch name documentation readOperation 1
+readFrame epoch name = addressFrame epoch name documentation readOperation seriesRecord
 
 module _ (epoch name : ℕ) where
   read-round : roundBy (readFrame epoch name) ≡ msa
   unfolding addressFrame frameOf roundBy roundOf roundIn
   read-round = refl
 
-  read-keeps : changesConfiguration (getD (readFrame epoch name) 3 0) ≡ false
+  read-keeps : changesConfiguration (getD (readFrame epoch name) pb2Place 0) ≡ false
   unfolding addressFrame addressBytes frameOf pb2Of changesConfiguration both
   read-keeps = refl
 
   read-check : (c : Cluster) → wrongCheckOn c msa (readFrame epoch name) ≡ false
   unfolding wrongCheckOn wrongCheck addressFrame addressBytes frameOf
-  read-check c = let k = addressCheck (epoch ∷ name ∷ pb2Of documentation readOperation ∷ 1 ∷ []) in rw (eq-eqb k k refl)
+  read-check c = let k = addressCheck (epoch ∷ name ∷ pb2Of documentation readOperation ∷ seriesRecord ∷ []) in rw (eq-eqb k k refl)
 
   read-frame : (c : Cluster) → (name ≡ broadcast → ⊥) → frameGround c (readFrame epoch name) ≡ 0
   unfolding frameGround
@@ -152,13 +154,13 @@ module _ (epoch name : ℕ) where
       (fits-none c msa (readFrame epoch name)
       (record {
         firework = unfold noFirework in refl;
-        size = unfold wrongLengthOn wrongLength lengthFor addressFrame addressBytes frameOf in refl;
+        size = unfold wrongLengthOn wrongFrameLength lengthFor addressFrame addressBytes frameOf in refl;
         check = read-check c;
         operation = unfold noOperationOn noOperation addressFrame addressBytes frameOf pb2Of in refl;
         broadcastRead = unfold broadcastReadOn broadcastRead addressFrame addressBytes frameOf pb2Of in rw (ne-eqb name broadcast some) (unfold both in refl);
       }))
 
-  -- behind it no write is pending
+  -- after it no write is pending
   read-pending : (c : Cluster) → writePending (frameOn c (readFrame epoch name) .after) ≡ false
   unfolding frameOn
   read-pending c =
@@ -176,7 +178,7 @@ module _ (epoch name : ℕ) where
       (fits-none c msd (dataFirework ∷ [])
       (record {
         firework = unfold noFirework in refl;
-        size = unfold wrongLengthOn wrongLength lengthFor in rw idle;
+        size = unfold wrongLengthOn wrongFrameLength lengthFor in rw idle;
         check = unfold wrongCheckOn both in rw idle;
         operation = unfold noOperationOn in refl;
         broadcastRead = unfold broadcastReadOn in refl;
@@ -199,15 +201,15 @@ module _ (epoch name : ℕ) where
       of-bytes =
           let d : documentation ≤ 63 = omega arith in
           let o : readOperation ≤ 3 = omega arith in
-          let r : Byte 1 = omega arith in
-          address-bytes epoch name documentation readOperation 1 e n d o r
+          let r : Byte seriesRecord = omega arith in
+          address-bytes epoch name documentation readOperation seriesRecord e n d o r
 
       after : Becomes (roundOn (s .file) (readFrame epoch name) buffer .2) (frameOn (decode (s .file)) (readFrame epoch name) .after)
       after = round-becomes (s .file) (readFrame epoch name) buffer b of-bytes first
 
--- ---- a permitted round fits behind any permitted list of calls and in front of any steps
+-- ---- a permitted round fits after any permitted list of calls and in front of any steps
 
--- Behind a permitted list, a list that is permitted where it ends, and behind both any steps. Not any calls: a round that is put in
+-- After a permitted list, a list that is permitted where it ends, and after both any steps. Not any calls: a round that is put in
 -- may leave another operation pending, and with it a one-byte MSD further on, refused where a write is pending, is accepted: a lone
 -- MSD, which is no complete round.
 pub fits-between :
@@ -237,22 +239,22 @@ module _
 
   -- a multipartner round
   pub round-between :
-      (buffer : List ℕ) → shortBuffer buffer ≡ false →
+      (buffer : List ℕ) → shortAnswer buffer ≡ false →
       permitted names (startOn file) (fresh names) (cs ++ frame (0x78 ∷ []) buffer ∷ ds) ≡ true
   round-between buffer long =
       fits-between names (startOn file) (fresh names) cs (frame (0x78 ∷ []) buffer ∷ []) {ds = ds} may
       (multipartner-permitted names s p (0x78 ∷ []) buffer 0 (permitted-closed names (startOn file) (fresh names) cs may)
-      (round-0-fits (s .file) buffer file-after (unfold shortBuffer shortAnswer in long)) round-0)
+      (round-0-fits (s .file) buffer file-after (unfold shortAnswer in long)) round-0)
       steps
 
   -- a master-slave round: the two frames of a read
   pub read-between :
-      (epoch name : ℕ) → Byte epoch → Byte name → (name ≡ broadcast → ⊥) → (buffer buffer′ : List ℕ) → shortBuffer buffer ≡ false →
-      shortBuffer buffer′ ≡ false →
+      (epoch name : ℕ) → Byte epoch → Byte name → (name ≡ broadcast → ⊥) → (buffer buffer′ : List ℕ) → shortAnswer buffer ≡ false →
+      shortAnswer buffer′ ≡ false →
       permitted names (startOn file) (fresh names) (cs ++ frame (readFrame epoch name) buffer ∷ frame (dataFirework ∷ []) buffer′ ∷ ds) ≡ true
   read-between epoch name e m some buffer buffer′ long long′ =
       fits-between names (startOn file) (fresh names) cs (frame (readFrame epoch name) buffer ∷ frame (dataFirework ∷ []) buffer′ ∷ []) {ds = ds} may
       (read-permitted epoch name names s p buffer buffer′ (permitted-closed names (startOn file) (fresh names) cs may)
-      (bytes-after file b g names n accepted cs of-bytes may) file-after e m some (unfold shortBuffer shortAnswer in long)
-      (unfold shortBuffer shortAnswer in long′))
+      (bytes-after file b g names n accepted cs of-bytes may) file-after e m some (unfold shortAnswer in long)
+      (unfold shortAnswer in long′))
       steps

@@ -1,8 +1,8 @@
 -- The tests of a list of names, name by name.
 -- Assumes nothing.
-use Prim.Native.Nat.{ℕ, zero, suc, _+_, _-_, _≤_, _<_}
+use Prim.Native.Nat.{ℕ, suc, _+_, _-_, _≤_, _<_}
 use mathlib.Core.Path.{_≡_, refl, sym, _∙_}
-use mathlib.Core.List.{List, [], _∷_}
+use mathlib.Core.List.{List, _∷_}
 use mathlib.Core.Bool.{Bool, true, false}
 use native.Mathlib.Omega.{arith}
 use native.Mathlib.Numerals.{add-one}
@@ -10,12 +10,14 @@ use borrow.Author.Tests.{eq-eqb, ne-eqb, eqb-true, eqb-false}
 use lib.ListN.{length, getD, drop, set, replicate, length-set, length-replicate, getD-replicate, drop-of-length-le}
 use lib.Seq.{drop-cons, drop-length, getD-set-same, getD-set-other}
 use lib.Dec.{eqb}
-use Rattle.file.specs.Order.{firstOf, either}
-use Rattle.file.specs.Cluster.{unnamed, broadcast}
-use Rattle.file.specs.Grounds.{isAmong, hasRepeat}
-use Rattle.file.proofs.LookingLaws.{repeat-behind}
-use Rattle.file.proofs.Order.{byCase, either-left, either-right, either-next, either-false}
-use Rattle.naming.specs.Run.{Position, fresh, unfitName, namesGrounds, startGround, Starting, begun, startOver}
+use Rattle.file.specs.Rules.Order.{firstOf, either}
+use Rattle.file.specs.Rules.Refusals.{listedNameRefusal, nameTwiceRefusal}
+use Rattle.file.specs.Rules.Results.{refused, done, resultOf}
+use Rattle.file.specs.Rules.Cluster.{unnamed, broadcast}
+use Rattle.file.specs.Rules.Grounds.{isAmong, hasRepeat}
+use Rattle.file.proofs.LookingLaws.{repeat-after}
+use Rattle.file.proofs.Order.{byCase, either-left, either-next, either-false}
+use Rattle.naming.specs.Rules.Run.{Position, fresh, unfitName, namesGrounds, startGround, startOver}
 
 -- ---- ground 15
 
@@ -52,25 +54,25 @@ module _ {l : List ℕ} {i : ℕ} (h : Reading l i) where
 
 -- ---- ground 16
 
--- from the last name on: the names behind i are marked, and none of them occurs twice
+-- from the last name on: the names from i on are the ones seen, and none of them occurs twice
 
-pub record Marking (l : List ℕ) (seen : List Bool) (i : ℕ) : Type 0 where
+pub record NamesSeen (l : List ℕ) (seen : List Bool) (i : ℕ) : Type 0 where
   pub room : length seen ≡ 256
   pub within : i ≤ length l
-  pub marks : (n : ℕ) → n < 256 → getD seen n false ≡ isAmong n (drop i l)
+  pub are : (n : ℕ) → n < 256 → getD seen n false ≡ isAmong n (drop i l)
   pub single : hasRepeat (drop i l) ≡ false
 
-pub marking-start : (l : List ℕ) → Marking l (replicate 256 false) (length l)
+pub seen-start : (l : List ℕ) → NamesSeen l (replicate 256 false) (length l)
 unfolding isAmong hasRepeat
-marking-start l =
+seen-start l =
     record {
       room = length-replicate 256 false;
       within = omega arith;
-      marks = λ n h. getD-replicate 256 n false false h ∙ rw (drop-length l);
+      are = λ n h. getD-replicate 256 n false false h ∙ rw (drop-length l);
       single = rw (drop-length l);
     }
 
-module _ {l : List ℕ} {seen : List Bool} {i : ℕ} (h : Marking l seen i) (more : 0 < i) (byte : getD l (i - 1) 0 < 256) where
+module _ {l : List ℕ} {seen : List Bool} {i : ℕ} (h : NamesSeen l seen i) (more : 0 < i) (byte : getD l (i - 1) 0 < 256) where
   one-back : suc (i - 1) ≡ i
   one-back = omega arith
 
@@ -79,54 +81,54 @@ module _ {l : List ℕ} {seen : List Bool} {i : ℕ} (h : Marking l seen i) (mor
       let first : drop (i - 1) l ≡ getD l (i - 1) 0 ∷ drop (suc (i - 1)) l = drop-cons l (i - 1) 0 (let w = h .within in omega arith) in
       rw one-back at first
 
-  pub marking-here : getD seen (getD l (i - 1) 0) false ≡ true → true ≡ hasRepeat l
+  pub seen-here : getD seen (getD l (i - 1) 0) false ≡ true → true ≡ hasRepeat l
   unfolding hasRepeat
-  marking-here e =
-      let twice : isAmong (getD l (i - 1) 0) (drop i l) ≡ true = sym (h .marks (getD l (i - 1) 0) byte) ∙ e in
-      sym (repeat-behind (i - 1) l (rw before (either-left (hasRepeat (drop i l)) twice)))
+  seen-here e =
+      let twice : isAmong (getD l (i - 1) 0) (drop i l) ≡ true = sym (h .are (getD l (i - 1) 0) byte) ∙ e in
+      sym (repeat-after (i - 1) l (rw before (either-left (hasRepeat (drop i l)) twice)))
 
-  behind : (n : ℕ) → isAmong n (drop (i - 1) l) ≡ either (eqb n (getD l (i - 1) 0)) (isAmong n (drop i l))
+  from-here-on : (n : ℕ) → isAmong n (drop (i - 1) l) ≡ either (eqb n (getD l (i - 1) 0)) (isAmong n (drop i l))
   unfolding isAmong
-  behind n = rw before
+  from-here-on n = rw before
 
-  marked : (n : ℕ) → n < 256 → getD (set seen (getD l (i - 1) 0) true) n false ≡ isAmong n (drop (i - 1) l)
-  marked n b =
+  one-more : (n : ℕ) → n < 256 → getD (set seen (getD l (i - 1) 0) true) n false ≡ isAmong n (drop (i - 1) l)
+  one-more n b =
       byCase (eqb n (getD l (i - 1) 0))
       (λ e.
       let same : n ≡ getD l (i - 1) 0 = eqb-true n (getD l (i - 1) 0) e in
-      rw (behind n, either-left (isAmong n (drop i l)) e, same)
+      rw (from-here-on n, either-left (isAmong n (drop i l)) e, same)
       (getD-set-same seen (getD l (i - 1) 0) true false (rw (h .room) byte)))
       (λ e.
       let other : n ≡ getD l (i - 1) 0 → ⊥ = eqb-false n (getD l (i - 1) 0) e in
-      rw (behind n, either-next (isAmong n (drop i l)) e) (getD-set-other seen (getD l (i - 1) 0) n true false other ∙ h .marks n b))
+      rw (from-here-on n, either-next (isAmong n (drop i l)) e) (getD-set-other seen (getD l (i - 1) 0) n true false other ∙ h .are n b))
 
-  pub marking-next : getD seen (getD l (i - 1) 0) false ≡ false → Marking l (set seen (getD l (i - 1) 0) true) (i - 1)
+  pub seen-next : getD seen (getD l (i - 1) 0) false ≡ false → NamesSeen l (set seen (getD l (i - 1) 0) true) (i - 1)
   unfolding hasRepeat
-  marking-next e =
-      let once : isAmong (getD l (i - 1) 0) (drop i l) ≡ false = sym (h .marks (getD l (i - 1) 0) byte) ∙ e in
+  seen-next e =
+      let once : isAmong (getD l (i - 1) 0) (drop i l) ≡ false = sym (h .are (getD l (i - 1) 0) byte) ∙ e in
       record {
         room = length-set seen (getD l (i - 1) 0) true ∙ h .room;
         within = let w = h .within in omega arith;
-        marks = marked;
+        are = one-more;
         single = rw before (either-false once (h .single));
       }
 
-pub marking-end : {l : List ℕ} {seen : List Bool} {i : ℕ} → Marking l seen i → i ≤ 0 → false ≡ hasRepeat l
-marking-end {l} {i = i} h past =
+pub seen-end : {l : List ℕ} {seen : List Bool} {i : ℕ} → NamesSeen l seen i → i ≤ 0 → false ≡ hasRepeat l
+seen-end {l} {i = i} h past =
     let z : i ≡ 0 = omega arith in
     sym (rw z at (h .single))
 
 -- ---- the first of the two that holds
 
 module _ (l : List ℕ) {a : Bool} (is : a ≡ unfitName l) where
-  pub names-15 : a ≡ true → 15 ≡ startGround l
+  pub names-unfit : a ≡ true → listedNameRefusal ≡ startGround l
   unfolding startGround namesGrounds firstOf
-  names-15 e = rw (← is, e)
+  names-unfit e = rw (← is, e)
 
   module _ (fit : a ≡ false) {b : Bool} (is₂ : b ≡ hasRepeat l) where
-    pub names-16 : b ≡ true → 16 ≡ startGround l
+    pub names-twice : b ≡ true → nameTwiceRefusal ≡ startGround l
     unfolding startGround namesGrounds firstOf
-    names-16 e = rw (← is, fit, ← is₂, e)
+    names-twice e = rw (← is, fit, ← is₂, e)
 
     pub names-fit : b ≡ false → 0 ≡ startGround l
     unfolding startGround namesGrounds firstOf
@@ -135,10 +137,10 @@ module _ (l : List ℕ) {a : Bool} (is : a ≡ unfitName l) where
 -- ---- a fresh run
 
 module _ (names : List ℕ) {g : ℕ} (is : g ≡ startGround names) where
-  pub start-refused : (g ≡ 0 → ⊥) → Starting.refused g ≡ startOver names
-  unfolding startOver
+  pub start-refused : (g ≡ 0 → ⊥) → refused g ≡ startOver names
+  unfolding startOver resultOf
   start-refused n = rw (← is, ne-eqb g 0 n)
 
-  pub start-fresh : {p : Position} → g ≡ 0 → p ≡ fresh names → begun p ≡ startOver names
-  unfolding startOver
+  pub start-fresh : {p : Position} → g ≡ 0 → p ≡ fresh names → done p ≡ startOver names
+  unfolding startOver resultOf
   start-fresh e f = rw (← is, eq-eqb g 0 e, f)

@@ -5,16 +5,18 @@ use Prim.Native.Nat.{ℕ}
 use mathlib.Core.Path.{_≡_, refl, sym, _∙_}
 use mathlib.Core.List.{List, [], _∷_, _++_, map, append-nil}
 use mathlib.Core.Bool.{true, false, cond}
-use Rattle.file.specs.Bytes.{Bytes, All, none, both as also}
-use Rattle.file.specs.Decode.{decode}
-use Rattle.file.specs.Grounds.{fileGround}
-use Rattle.file.specs.Legal.{Legal}
+use Rattle.file.specs.Rules.Bytes.{Bytes, All, allEmpty, allNext}
+use Rattle.file.specs.Rules.Decode.{decode}
+use Rattle.file.specs.Rules.Refusals.{bufferRefusal}
+use Rattle.file.specs.Rules.Grounds.{fileGround}
+use Rattle.file.specs.Rules.Legal.{Legal}
 use Rattle.file.proofs.Order.{byCase, both-left, both-right, clash}
 use Rattle.file.proofs.Accepted.{accepted-legal}
-use Rattle.naming.specs.Run.{Position, fresh, startGround, unfitPosition}
-use Rattle.naming.specs.Step.{stepGround}
-use Rattle.naming.specs.Account.{Call, shortBuffer, namesIn, accountOf, accountAfter}
-use Rattle.naming.specs.Demand.{State, startOn, callOn, permittedCall, permitted, afterCalls, OfBytes, Demand, DemandThree}
+use Rattle.naming.specs.Rules.Run.{Position, fresh, startGround, unfitPosition}
+use Rattle.naming.specs.Rules.Step.{stepGround}
+use Rattle.cluster.specs.Rules.Grounds.{shortAnswer}
+use Rattle.naming.specs.Rules.Account.{Call, namesIn, accountOf, accountAfter}
+use Rattle.naming.specs.Claims.Demand.{State, startOn, callOn, permittedCall, permitted, afterCalls, OfBytes, Demand, DemandThree}
 use Rattle.naming.proofs.Answers.{namedOf}
 use Rattle.naming.proofs.Start.{Names}
 use Rattle.naming.proofs.Abstract.{Permitted, all-made, one-more, runCalls}
@@ -28,13 +30,13 @@ unfolding runCalls afterCalls
 same-calls names s p [] = refl
 same-calls names s p (c ∷ cs) = same-calls names (callOn names s p c .0) (callOn names s p c .1) cs
 
--- so are the calls at the front of a permitted list: what comes behind them says nothing of them
+-- so are the calls at the front of a permitted list: what comes after them says nothing of them
 front-permitted :
     (names : List ℕ) (s : State) (p : Position) {cs : List Call} (ds : List Call) → All OfBytes cs → permitted names s p (cs ++ ds) ≡ true →
     Permitted State (Allowed names) (callOn names) (s, p) cs
 unfolding permitted
-front-permitted names s p ds none e = all-made
-front-permitted names s p ds (also {a = c} {l = cs} b h) e =
+front-permitted names s p ds allEmpty e = all-made
+front-permitted names s p ds (allNext {a = c} {l = cs} b h) e =
     let here : permittedCall names s p c ≡ true = both-left _ _ e in
     let rest : permitted names (callOn names s p c .0) (callOn names s p c .1) (cs ++ ds) ≡ true = both-right _ _ e in
     one-more (record { bytes = b; may = here }) (front-permitted names (callOn names s p c .0) (callOn names s p c .1) ds h rest)
@@ -72,9 +74,9 @@ module _ (file names : List ℕ) (b : Bytes file) (g : fileGround file ≡ 0) (n
   -- a step's only ground is its buffer's
   only-nine :
       (s : State) (p : Position) → Good s → unfitPosition names p ≡ false → (buffer : List ℕ) →
-      stepGround (s .file) p names buffer ≡ cond (shortBuffer buffer) 9 0
+      stepGround (s .file) p names buffer ≡ cond (shortAnswer buffer) bufferRefusal 0
   only-nine s p good fit buffer =
-      byCase (shortBuffer buffer)
+      byCase (shortAnswer buffer)
       (λ t. rw t (short-ground names n s p buffer good t))
       (λ f. rw f (step-ground names n s p buffer good f fit))
 

@@ -7,8 +7,9 @@ use mathlib.Core.Bool.{true}
 use native.Mathlib.Omega.{arith}
 use lib.Dec.{ltb}
 use borrow.Author.Tests.{lt-ltb}
-use Rattle.naming.specs.Run.{Place, Place.poll, Place.ask, Place.giveName, Place.giveHigh, Place.giveLow, Place.baptize, Question, least, bit, Part, high, low, reply, questionOf, questionNumber, partOf, partNumber, giveOf, askOrGive, placeOf, stepOf, bits, giveStep, lastStep}
-use Rattle.naming.specs.Account.{comparisonsAfter}
+use Rattle.naming.specs.Rules.Run.{PassPlace, PassPlace.poll, PassPlace.ask, PassPlace.giveName, PassPlace.giveHigh, PassPlace.giveLow, PassPlace.baptize, Question, least, bit, Part, high, low, reply, questionOf, partOf, giveOf, askOrGive, placeOf, bits, giveStep, lastStep}
+use Rattle.naming.specs.Inner.PassPlaces.{questionNumber, partNumber, stepOf}
+use Rattle.naming.specs.Rules.Account.{comparisonsAfter}
 
 -- a pass has the bits 63 to 0
 pub data LegalQuestion : Question → Type 0 where
@@ -41,15 +42,15 @@ part-back low = refl
 part-back reply = refl
 
 -- the places of a pass but its last, and all of them
-pub data Inner : Place → Type 0 where
+pub data Inner : PassPlace → Type 0 where
   at-poll : Inner poll
   at-ask : {q : Question} (r : Part) → LegalQuestion q → Inner (ask q r)
   at-name : Inner giveName
   at-high : Inner giveHigh
   at-low : Inner giveLow
 
-pub data LegalPlace : Place → Type 0 where
-  inner : {l : Place} → Inner l → LegalPlace l
+pub data LegalPlace : PassPlace → Type 0 where
+  inner : {l : PassPlace} → Inner l → LegalPlace l
   at-baptize : LegalPlace baptize
 
 -- a place is that of its step
@@ -62,7 +63,7 @@ place-ask {q} r h =
     let m : (3 * questionNumber q + partNumber r) % 3 ≡ partNumber r = omega (arith, part-lt r) in
     rw (t, d, m, question-back h, part-back r)
 
-pub place-of-step : {l : Place} → LegalPlace l → placeOf (stepOf l) ≡ l
+pub place-of-step : {l : PassPlace} → LegalPlace l → placeOf (stepOf l) ≡ l
 unfolding placeOf stepOf askOrGive giveOf
 place-of-step (inner at-poll) = refl
 place-of-step (inner (at-ask r h)) = place-ask r h
@@ -72,11 +73,11 @@ place-of-step (inner at-low) = refl
 place-of-step at-baptize = refl
 
 -- the next place of a pass, which baptize has not
-unfoldable pub afterBit : ℕ → Place
+unfoldable pub afterBit : ℕ → PassPlace
 afterBit zero = giveName
 afterBit (suc b) = ask (bit b) high
 
-unfoldable pub afterPlace : Place → Place
+unfoldable pub afterPlace : PassPlace → PassPlace
 afterPlace poll = ask least high
 afterPlace (ask q high) = ask q low
 afterPlace (ask q low) = ask q reply
@@ -92,7 +93,7 @@ unfolding afterBit stepOf questionNumber partNumber
 step-after-bit zero h = refl
 step-after-bit (suc b) h = omega arith
 
-pub step-after : {l : Place} → Inner l → stepOf (afterPlace l) ≡ suc (stepOf l)
+pub step-after : {l : PassPlace} → Inner l → stepOf (afterPlace l) ≡ suc (stepOf l)
 unfolding afterPlace stepOf questionNumber partNumber
 step-after at-poll = refl
 step-after (at-ask high h) = omega arith
@@ -108,7 +109,7 @@ unfolding afterBit
 legal-after-bit zero h = inner at-name
 legal-after-bit (suc b) h = let k : b < bits = omega arith in inner (at-ask high (of-bit k))
 
-pub legal-after : {l : Place} → Inner l → LegalPlace (afterPlace l)
+pub legal-after : {l : PassPlace} → Inner l → LegalPlace (afterPlace l)
 unfolding afterPlace
 legal-after at-poll = inner (at-ask high of-least)
 legal-after (at-ask high h) = inner (at-ask low h)
@@ -120,7 +121,7 @@ legal-after at-high = inner at-low
 legal-after at-low = at-baptize
 
 -- a pass has 200 places, baptize is the last
-pub step-lt : {l : Place} → Inner l → stepOf l < lastStep
+pub step-lt : {l : PassPlace} → Inner l → stepOf l < lastStep
 unfolding stepOf
 step-lt at-poll = omega arith
 step-lt (at-ask {q = q} r h) = omega (arith, question-le q, part-lt r)
@@ -129,7 +130,7 @@ step-lt at-high = omega arith
 step-lt at-low = omega arith
 
 -- the comparisons that a place's round makes: one at an execute of record 2
-unfoldable pub comparing : Place → ℕ
+unfoldable pub comparing : PassPlace → ℕ
 comparing poll = 0
 comparing (ask q high) = 0
 comparing (ask q low) = 0
@@ -140,7 +141,7 @@ comparing giveLow = 0
 comparing baptize = 0
 
 pub comparisons-next :
-    {l : Place} → Inner l → comparisonsAfter (suc (stepOf l)) ≡ comparisonsAfter (stepOf l) + comparing l
+    {l : PassPlace} → Inner l → comparisonsAfter (suc (stepOf l)) ≡ comparisonsAfter (stepOf l) + comparing l
 unfolding comparisonsAfter comparing stepOf partNumber
 comparisons-next at-poll = refl
 comparisons-next (at-ask {q = q} high h) = omega (arith, question-le q)

@@ -7,8 +7,8 @@ use mathlib.Core.Bool.{true, false}
 use native.Mathlib.Omega.{arith}
 use lib.Dec.{eqb}
 use borrow.Author.Tests.{eq-eqb, ne-eqb}
-use Rattle.file.specs.Grounds.{isAmong}
-use Rattle.naming.specs.Account.{Named, Account, notYet, endWith, goOn, passDone, runEnds, give, freePass, pass, oneRound, namingRounds, namingComparisons, endingRounds}
+use Rattle.file.specs.Rules.Grounds.{isAmong}
+use Rattle.naming.specs.Rules.Account.{Named, Account, notYet, endWith, goOn, passDone, runEnds, give, freePass, pass, oneRound, namingRounds, namingComparisons, endingRounds}
 
 abbrev pub account : List ℕ → List ℕ → List Named → List ℕ → ℕ → ℕ → ℕ → ℕ → Account
 account left waiting slaves held end rounds done k =

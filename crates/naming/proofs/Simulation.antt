@@ -1,4 +1,4 @@
--- The tie between run and plain account: at each place of a pass what the slaves have been told and what the value so far is; a
+-- The tie between run and plain account: at each place of a pass what the slaves were sent and what the value so far is; a
 -- step of both keeps it.
 -- Assumes nothing.
 use Prim.Native.Nat.{ℕ, zero, suc, _+_, _-_, _/_, _%_, _^_, _≤_, _<_}
@@ -11,13 +11,15 @@ use lib.Dec.{leb}
 use lib.ListN.{length, drop, length-drop}
 use lib.Seq.{drop-drop}
 use borrow.Author.Tests.{ne-eqb, lt-ltb, le-ltb, le-leb}
-use Rattle.file.specs.Bytes.{All.none, All.both as also}
-use Rattle.file.specs.Grounds.{isAmong}
+use Rattle.file.specs.Rules.Bytes.{All.allEmpty, All.allNext as also}
+use Rattle.file.specs.Rules.Grounds.{isAmong}
 use Rattle.file.proofs.Bytes.{all-first, all-map}
 use Rattle.file.proofs.Order.{byCase}
-use Rattle.naming.specs.View.{SlaveView, Operation, Operation.poll as pollOf, writeName, writeHigh, writeLow, compare, told, changeAll, answers, comparisonOf, half}
-use Rattle.naming.specs.Run.{Position, running, fresh, markAt, Place, Place.poll, ask, giveName, giveHigh, giveLow, Place.baptize, Question, least, bit, Part, high, low, reply, stepOf, tried, operationAt, onward, nextName, endAllNamed, moveOn, bits, questionNumber, partNumber}
-use Rattle.naming.specs.Account.{Named, Account, comparisonsAfter, endWith, give, oneRound, notYet, namingRounds, namingComparisons, endingRounds}
+use Rattle.naming.specs.Inner.View.{SlaveView, unnamedChange, changeAll, answers, comparisonOf}
+use Rattle.naming.specs.Rules.Rounds.{RunRound, RunRound.poll as pollOf, writeName, writeHigh, writeLow, compare, half}
+use Rattle.naming.specs.Rules.Run.{Position, running, fresh, endAt, PassPlace, PassPlace.poll, ask, giveName, giveHigh, giveLow, PassPlace.baptize, Question, least, bit, Part, high, low, reply, tried, roundAt, onward, nextName, endAllNamed, moveOn, bits}
+use Rattle.naming.specs.Inner.PassPlaces.{stepOf, questionNumber, partNumber}
+use Rattle.naming.specs.Rules.Account.{Named, Account, comparisonsAfter, endWith, give, oneRound, notYet, namingRounds, namingComparisons, endingRounds}
 use Rattle.naming.proofs.Places.{LegalQuestion, of-least, of-bit, Inner, LegalPlace, inner, at-poll, at-ask, at-name, at-high, at-low, at-baptize, afterBit, afterPlace, step-after, legal-after, step-lt, comparisons-next}
 use Rattle.naming.proofs.Places.{comparing as counting}
 use Rattle.naming.proofs.Search.{cleared, cleared-all, cleared-none, answered, tried-small, halves}
@@ -27,8 +29,8 @@ use Rattle.naming.proofs.Answers.{namedOf, OfUnnamed, Wait, poll-answer
 
 -- ---- the relation
 
--- what an unnamed slave has been told before the round of a place, for a name and the value so far
-abbrev pub Told : Place → ℕ → ℕ → SlaveView → Type 0
+-- what an unnamed slave was sent before the round of a place, for a name and the value so far
+abbrev pub Told : PassPlace → ℕ → ℕ → SlaveView → Type 0
 Told poll n x v = Unit {0}
 Told (ask q high) n x v = Unit {0}
 Told (ask q low) n x v = v .high ≡ tried q x / half
@@ -47,8 +49,8 @@ abbrev pub Asked : Question → ℕ → List ℕ → Type 0
 Asked least x ws = Unit {0}
 Asked (bit b) x ws = Found (suc b) x ws
 
--- behind the poll the name is free, and the search has come to the place
-abbrev pub Known : Place → ℕ → List ℕ → ℕ → List ℕ → Type 0
+-- after the poll the name is free, and the search has come to the place
+abbrev pub Known : PassPlace → ℕ → List ℕ → ℕ → List ℕ → Type 0
 Known poll n held x ws = Unit {0}
 Known (ask q r) n held x ws = (isAmong n held ≡ false) × Asked q x ws
 Known giveName n held x ws = (isAmong n held ≡ false) × Found 0 x ws
@@ -57,7 +59,7 @@ Known giveLow n held x ws = (isAmong n held ≡ false) × Found 0 x ws
 Known baptize n held x ws = (isAmong n held ≡ false) × Found 0 x ws
 
 pub record At
-    (names : List ℕ) (vs : List SlaveView) (l : Place) (index step value rounds comparisons n : ℕ) (ns ws : List ℕ) (slaves : List Named)
+    (names : List ℕ) (vs : List SlaveView) (l : PassPlace) (index step value rounds comparisons n : ℕ) (ns ws : List ℕ) (slaves : List Named)
     (held : List ℕ) (done : ℕ) : Type 0 where
   pub legal : LegalPlace l
   pub facts : Facts (n ∷ ns) ws slaves held
@@ -70,27 +72,27 @@ pub record At
   pub small : value < 2 ^ bits
 
 abbrev pub position : ℕ → ℕ → ℕ → ℕ → ℕ → ℕ → Position
-position mark index step value rounds comparisons =
-    record { mark = mark; index = index; step = step; value = value; rounds = rounds; comparisons = comparisons }
+position end index step value rounds comparisons =
+    record { end = end; index = index; step = step; value = value; rounds = rounds; comparisons = comparisons }
 
 -- the run has ended as the account says
-pub record Over (names : List ℕ) (vs : List SlaveView) (mark index comparisons : ℕ) (slaves : List Named) (done k : ℕ) : Type 0 where
+pub record Over (names : List ℕ) (vs : List SlaveView) (end index comparisons : ℕ) (slaves : List Named) (done k : ℕ) : Type 0 where
   pub views : map namedOf vs ≡ slaves
-  pub some : 0 < mark
-  pub most : mark ≤ 2
+  pub some : 0 < end
+  pub most : end ≤ 2
   pub within : index ≤ length names
   pub counted : comparisons ≡ done + comparisonsAfter k
 
 -- running at a place, or ended
 pub data Tie (names : List ℕ) : List SlaveView → Position → Account → Type 0 where
   going :
-      {vs : List SlaveView} {l : Place} {index step value rounds comparisons n done : ℕ} {ns ws held : List ℕ} {slaves : List Named} →
+      {vs : List SlaveView} {l : PassPlace} {index step value rounds comparisons n done : ℕ} {ns ws held : List ℕ} {slaves : List Named} →
       At names vs l index step value rounds comparisons n ns ws slaves held done →
       Tie names vs (position running index step value rounds comparisons) (account (n ∷ ns) ws slaves held notYet rounds done step)
   over :
-      {vs : List SlaveView} {mark index step value rounds comparisons done k : ℕ} {left ws held : List ℕ} {slaves : List Named} →
-      Over names vs mark index comparisons slaves done k →
-      Tie names vs (position mark index step value rounds comparisons) (account left ws slaves held mark rounds done k)
+      {vs : List SlaveView} {end index step value rounds comparisons done k : ℕ} {left ws held : List ℕ} {slaves : List Named} →
+      Over names vs end index comparisons slaves done k →
+      Tie names vs (position end index step value rounds comparisons) (account left ws slaves held end rounds done k)
 
 -- ---- a name done
 
@@ -102,14 +104,14 @@ length-here names index n ns e = let l : length names - index ≡ suc (length ns
 
 nothing-told : (P : SlaveView → Type 0) (vs : List SlaveView) → ((v : SlaveView) → P v) → OfUnnamed P vs
 unfolding OfUnnamed
-nothing-told P [] f = none
+nothing-told P [] f = allEmpty
 nothing-told P (v ∷ vs) f = also (λ u. f v) (nothing-told P vs f)
 
 next-name :
     (names : List ℕ) {vs : List SlaveView} (index step value rounds comparisons n done : ℕ) (ns : List ℕ) {ws held : List ℕ} {slaves : List Named} →
     Facts ns ws slaves held → drop index names ≡ n ∷ ns → map namedOf vs ≡ slaves → value < 2 ^ bits → comparisons ≡ done →
     Tie names vs (nextName (length names) (position running index step value rounds comparisons)) (account ns ws slaves held (endWith ns) (suc rounds) done 0)
-unfolding nextName markAt endWith comparisonsAfter stepOf
+unfolding nextName endAt endWith comparisonsAfter stepOf
 next-name names {vs} index step value rounds comparisons n done [] {slaves = slaves} f e v s c =
     let l : length names ≡ suc index = omega (arith, length-here names index n [] e) in
     let m : length names ≤ suc index = omega arith in
@@ -140,8 +142,8 @@ found-goes r x k [] f = absurd f
 found-goes r x k (p ∷ ps) f = tt
 
 go-on :
-    {names : List ℕ} {vs : List SlaveView} {l : Place} {index step value rounds comparisons n done : ℕ} {ns ws held : List ℕ} {slaves : List Named}
-    {o : Operation} (x : ℕ) → At names vs l index step value rounds comparisons n ns ws slaves held done →
+    {names : List ℕ} {vs : List SlaveView} {l : PassPlace} {index step value rounds comparisons n done : ℕ} {ns ws held : List ℕ} {slaves : List Named}
+    {o : RunRound} (x : ℕ) → At names vs l index step value rounds comparisons n ns ws slaves held done →
     Inner l → isAmong n held ≡ false → Goes ws step → Quiet o → x < 2 ^ bits → Known (afterPlace l) n held x ws →
     OfUnnamed (Told (afterPlace l) n x) (changeAll o vs) →
     Tie names (changeAll o vs) (onward (position running index step value rounds comparisons) x (counting l))
@@ -168,7 +170,7 @@ go-on {names} {vs} {l} {index} {step} {value} {rounds} {comparisons} {n} {done} 
 
 -- ---- the places
 
--- the next place behind bit b, and what is known there
+-- the next place after bit b, and what is known there
 known-after-bit : (b n : ℕ) (held : List ℕ) (x : ℕ) (ws : List ℕ) → isAmong n held ≡ false → Found b x ws → Known (afterBit b) n held x ws
 unfolding afterBit
 known-after-bit zero n held x ws f k = (f, k)
@@ -195,25 +197,25 @@ cond-small : (t : Bool) {a b : ℕ} → a < 2 ^ bits → b < 2 ^ bits → cond t
 cond-small true h k = h
 cond-small false h k = k
 
--- the comparison value of slaves that have been told both halves of a value
+-- the comparison value of slaves that were sent both halves of a value
 compared : (x : ℕ) (v : SlaveView) → (v .high ≡ x / half) × (v .low ≡ x % half) → comparisonOf v ≡ x
 unfolding comparisonOf
 compared x v h = halves (h .0) (h .1)
 
 -- a step at a place: the round changes the views, the position moves on by the answer, the account makes a round
 abbrev pub Moves :
-    List ℕ → List SlaveView → Place → ℕ → ℕ → ℕ → ℕ → ℕ → ℕ → List ℕ → List ℕ → List Named → List ℕ → ℕ → Type 0
+    List ℕ → List SlaveView → PassPlace → ℕ → ℕ → ℕ → ℕ → ℕ → ℕ → List ℕ → List ℕ → List Named → List ℕ → ℕ → Type 0
 Moves names vs l index step value rounds comparisons n ns ws slaves held done =
     At names vs l index step value rounds comparisons n ns ws slaves held done →
-    Tie names (changeAll (operationAt l n value) vs)
-    (moveOn l (length names) (position running index step value rounds comparisons) (answers (operationAt l n value) vs))
+    Tie names (changeAll (roundAt l n value) vs)
+    (moveOn l (length names) (position running index step value rounds comparisons) (answers (roundAt l n value) vs))
     (oneRound (account (n ∷ ns) ws slaves held notYet rounds done step))
 
 module _
     (names : List ℕ) (vs : List SlaveView) (index step value rounds comparisons n : ℕ) (ns ws : List ℕ) (slaves : List Named) (held : List ℕ)
     (done : ℕ) where
   at-poll-moves : Moves names vs poll index step value rounds comparisons n ns ws slaves held done
-  unfolding moveOn operationAt afterPlace counting stepOf comparisonsAfter
+  unfolding moveOn roundAt afterPlace counting stepOf comparisonsAfter
   at-poll-moves i =
       byCase (isAmong n held)
       (λ t. rw (replied ∙ t) (taken t))
@@ -238,14 +240,14 @@ module _
 
   -- the two writes of a comparison
   at-high-moves : (q : Question) → LegalQuestion q → Moves names vs (ask q high) index step value rounds comparisons n ns ws slaves held done
-  unfolding moveOn operationAt afterPlace counting told partNumber
+  unfolding moveOn roundAt afterPlace counting unnamedChange partNumber
   at-high-moves q legal i =
       go-on value i (at-ask high legal) (i .known .0) (asked-goes q high value step ws (i .known .1) (i .place) (omega arith)) telling-high (i .small)
       (i .known)
       (quiet-told (writeHigh (tried q value / half)) (Told (ask q high) n value) (Told (ask q low) n value) vs (λ v h. refl) (i .heard))
 
   at-low-moves : (q : Question) → LegalQuestion q → Moves names vs (ask q low) index step value rounds comparisons n ns ws slaves held done
-  unfolding moveOn operationAt afterPlace counting told partNumber
+  unfolding moveOn roundAt afterPlace counting unnamedChange partNumber
   at-low-moves q legal i =
       go-on value i (at-ask low legal) (i .known .0) (asked-goes q low value step ws (i .known .1) (i .place) (omega arith)) telling-low (i .small)
       (i .known)
@@ -253,19 +255,19 @@ module _
 
   -- the writes before baptizing
   at-name-moves : Moves names vs giveName index step value rounds comparisons n ns ws slaves held done
-  unfolding moveOn operationAt afterPlace counting told
+  unfolding moveOn roundAt afterPlace counting unnamedChange
   at-name-moves i =
       go-on value i at-name (i .known .0) (found-goes 0 value step ws (i .known .1)) telling-name (i .small) (i .known)
       (quiet-told (writeName n) (Told giveName n value) (Told giveHigh n value) vs (λ v h. refl) (i .heard))
 
   at-give-high-moves : Moves names vs giveHigh index step value rounds comparisons n ns ws slaves held done
-  unfolding moveOn operationAt afterPlace counting told
+  unfolding moveOn roundAt afterPlace counting unnamedChange
   at-give-high-moves i =
       go-on value i at-high (i .known .0) (found-goes 0 value step ws (i .known .1)) telling-high (i .small) (i .known)
       (quiet-told (writeHigh (value / half)) (Told giveHigh n value) (Told giveLow n value) vs (λ v h. (h, refl)) (i .heard))
 
   at-give-low-moves : Moves names vs giveLow index step value rounds comparisons n ns ws slaves held done
-  unfolding moveOn operationAt afterPlace counting told
+  unfolding moveOn roundAt afterPlace counting unnamedChange
   at-give-low-moves i =
       go-on value i at-low (i .known .0) (found-goes 0 value step ws (i .known .1)) telling-low (i .small) (i .known)
       (quiet-told (writeLow (value % half)) (Told giveLow n value) (Told baptize n value) vs (λ v h. (h .0, h .1, refl)) (i .heard))
@@ -274,7 +276,7 @@ module _
 module _
     (names : List ℕ) (vs : List SlaveView) (index step value rounds comparisons n : ℕ) (ns : List ℕ) (p : ℕ) (ps : List ℕ) (slaves : List Named)
     (held : List ℕ) (done : ℕ) where
-  waiting : (l : Place) → At names vs l index step value rounds comparisons n ns (p ∷ ps) slaves held done → Wait (p ∷ ps) (map namedOf vs)
+  waiting : (l : PassPlace) → At names vs l index step value rounds comparisons n ns (p ∷ ps) slaves held done → Wait (p ∷ ps) (map namedOf vs)
   unfolding Wait
   waiting l i = rw (i .views) (i .facts .waits)
 
@@ -287,7 +289,7 @@ module _
       (all-map (λ (v : SlaveView) k u. compared (tried q value) v (k u)) (i .heard))
 
   at-least-moves : Moves names vs (ask least reply) index step value rounds comparisons n ns (p ∷ ps) slaves held done
-  unfolding moveOn operationAt afterPlace counting
+  unfolding moveOn roundAt afterPlace counting
   at-least-moves i =
       let r : answers compare vs ≡ true = replied-by least i ∙ zero-least value p in
       rw r
@@ -296,7 +298,7 @@ module _
       (nothing-told (λ v. Unit {0}) (changeAll compare vs) (λ v. tt)))
 
   at-bit-moves : (b : ℕ) → b < bits → Moves names vs (ask (bit b) reply) index step value rounds comparisons n ns (p ∷ ps) slaves held done
-  unfolding moveOn operationAt afterPlace counting
+  unfolding moveOn roundAt afterPlace counting
   at-bit-moves b h i =
       rw (replied-by (bit b) i)
       (go-on next i (at-ask reply (of-bit h)) (i .known .0) tt comparing small
@@ -310,7 +312,7 @@ module _
       small = cond-small (leb (tried (bit b) value) p) (tried-small (of-bit h) value (i .small)) (i .small)
 
   at-baptize-moves : Moves names vs baptize index step value rounds comparisons n ns (p ∷ ps) slaves held done
-  unfolding moveOn operationAt stepOf comparisonsAfter OfUnnamed
+  unfolding moveOn roundAt stepOf comparisonsAfter OfUnnamed
   at-baptize-moves i =
       let e : suc step ≡ namingRounds = ap suc (i .place) in
       let c : comparisons ≡ done + namingComparisons = i .counted ∙ rw (i .place) in
@@ -326,7 +328,7 @@ module _
 at-end-moves :
     (names : List ℕ) (vs : List SlaveView) (index step value rounds comparisons n : ℕ) (ns : List ℕ) (slaves : List Named) (held : List ℕ)
     (done : ℕ) → Moves names vs (ask least reply) index step value rounds comparisons n ns [] slaves held done
-unfolding moveOn operationAt stepOf questionNumber partNumber comparisonsAfter endAllNamed Wait
+unfolding moveOn roundAt stepOf questionNumber partNumber comparisonsAfter endAllNamed Wait
 at-end-moves names vs index step value rounds comparisons n ns slaves held done i =
     let e : suc step ≡ endingRounds = ap suc (i .place) in
     let c : comparisons ≡ done + 0 = i .counted ∙ rw (i .place) in
@@ -342,7 +344,7 @@ at-end-moves names vs index step value rounds comparisons n ns slaves held done 
     rw (compare-silent vs w, ending-round n ns slaves held rounds done step (i .known .0) e) (over o)
 
 pub moves :
-    (names : List ℕ) (vs : List SlaveView) (l : Place) (index step value rounds comparisons n : ℕ) (ns ws : List ℕ) (slaves : List Named)
+    (names : List ℕ) (vs : List SlaveView) (l : PassPlace) (index step value rounds comparisons n : ℕ) (ns ws : List ℕ) (slaves : List Named)
     (held : List ℕ) (done : ℕ) → LegalPlace l → Moves names vs l index step value rounds comparisons n ns ws slaves held done
 moves names vs l index step value rounds comparisons n ns ws slaves held done (inner at-poll) i =
     at-poll-moves names vs index step value rounds comparisons n ns ws slaves held done i
@@ -371,7 +373,7 @@ moves names vs l index step value rounds comparisons n ns (p ∷ ps) slaves held
 pub fresh-at :
     (vs : List SlaveView) (names ws : List ℕ) (slaves : List Named) (held : List ℕ) → Facts names ws slaves held → map namedOf vs ≡ slaves →
     Tie names vs (fresh names) (account names ws slaves held (endWith names) 0 0 0)
-unfolding fresh markAt endWith comparisonsAfter stepOf
+unfolding fresh endAt endWith comparisonsAfter stepOf
 fresh-at vs [] ws slaves held f v =
     let o : Over [] vs 2 0 0 slaves 0 0 = record { views = v; some = omega arith; most = omega arith; within = omega arith; counted = refl } in
     over o

@@ -1,4 +1,4 @@
--- What the cluster's rules make of a slave in a round of the naming run, told by its view: it changes as the view does, and sends
+-- What the cluster's rules make of a slave in a round of the naming run, by its view: it changes as the view does, and sends
 -- in slot 1 where the view says so.
 -- Assumes nothing.
 use Prim.Native.Nat.{ℕ, suc, _+_, _*_, _≤_}
@@ -10,35 +10,35 @@ use lib.ListN.{length, getD}
 use lib.Seq.{sets}
 use lib.Dec.{eqb, leb}
 use borrow.Author.Tests.{ne-eqb, le-leb}
-use Rattle.file.specs.Bytes.{All, none, both as also, bytesOf}
-use Rattle.file.specs.Order.{both, either}
-use Rattle.file.specs.Layout.{recordSize}
-use Rattle.file.specs.Cluster.{Slave, bytesIn, configuration, documentation, hasRecord, recordOf, lastRecord, logicalName, newLogicalName, comparisonValue, unnamed, broadcast}
-use Rattle.file.specs.Legal.{LegalSlave}
-use Rattle.file.specs.Places.{putInSlave}
+use Rattle.file.specs.Rules.Bytes.{All, allEmpty, allNext, bytesOf}
+use Rattle.file.specs.Rules.Order.{both, either}
+use Rattle.file.specs.Rules.Layout.{recordSize, seriesRecord, namesRecord, comparisonHighRecord, comparisonLowRecord}
+use Rattle.file.specs.Rules.Cluster.{Slave, bytesIn, configuration, documentation, hasRecord, recordOf, lastRecord, logicalName, newLogicalName, comparisonValue, unnamed, broadcast, pb2Of}
+use Rattle.file.specs.Rules.Legal.{LegalSlave}
+use Rattle.file.specs.Rules.Changes.{putInSlave}
 use Rattle.file.proofs.Order.{byCase}
 use Rattle.file.proofs.Puts.{inSlave-same, inSlave-other}
-use Rattle.cluster.specs.Bus.{anyone}
-use Rattle.cluster.specs.Slaves.{operationIn, executionOf, addresses, addressed, answersRead, readReply, answersCompare, replyTo, inSlot, sentTo, replaced, mayWrite, takesWrite, takesName, named, slaveAfter}
-use Rattle.cluster.specs.Slaves as Slaves
+use Rattle.cluster.specs.Rules.Bus.{anyone}
+use Rattle.cluster.specs.Rules.Slaves.{dutyBy, executionOf, addresses, addressed, answersRead, readReply, answersCompare, replyTo, inSlot, sentTo, replaced, mayWrite, takesWrite, takesName, named, slaveAfter}
+use Rattle.cluster.specs.Rules.Slaves as Slaves
 use Rattle.cluster.proofs.Untouched.{replaced-other}
-use Rattle.frame.specs.Frames.{pb2Of}
-use Rattle.naming.specs.View.{SlaveView, Operation, poll, writeName, writeHigh, writeLow, compare, baptize, sent, atUnnamed, viewOf, isUnnamed, comparisonOf, told, change, replies, someone, answers, changeAll}
+use Rattle.naming.specs.Inner.View.{SlaveView, viewOf, viewUnnamed, comparisonOf, unnamedChange, change, replies, someone, answers, changeAll}
+use Rattle.naming.specs.Rules.Rounds.{RunRound, poll, writeName, writeHigh, writeLow, compare, baptize, sent, atUnnamed}
 use Rattle.naming.proofs.Facts.{Fit}
 use Rattle.naming.proofs.Abstract.{Sendable, of-poll, of-name, of-high, of-low, of-compare, of-baptize}
 use Rattle.naming.proofs.SlaveViews.{viewBy, view-by, halves-by, wrote-name, wrote-high, wrote-low, took-name}
 
 -- the rules' operation of each of the run's rounds
-unfoldable pub carriedOut : Operation → Slaves.Operation
-carriedOut (poll n) = Slaves.reading n documentation 1
-carriedOut (writeName n) = Slaves.writing unnamed configuration 1
-carriedOut (writeHigh h) = Slaves.writing unnamed configuration 2
-carriedOut (writeLow l) = Slaves.writing unnamed configuration 3
+unfoldable pub carriedOut : RunRound → Slaves.Duty
+carriedOut (poll n) = Slaves.reading n documentation seriesRecord
+carriedOut (writeName n) = Slaves.writing unnamed configuration namesRecord
+carriedOut (writeHigh h) = Slaves.writing unnamed configuration comparisonHighRecord
+carriedOut (writeLow l) = Slaves.writing unnamed configuration comparisonLowRecord
 carriedOut compare = Slaves.comparing unnamed
 carriedOut baptize = Slaves.baptizing unnamed
 
-pub operation-sent : (o : Operation) → operationIn (sent o .name) (pb2Of (sent o .file) (sent o .operation)) (sent o .«record») ≡ carriedOut o
-unfolding operationIn executionOf carriedOut sent atUnnamed pb2Of
+pub operation-sent : (o : RunRound) → dutyBy (sent o .name) (pb2Of (sent o .file) (sent o .operation)) (sent o .«record») ≡ carriedOut o
+unfolding dutyBy executionOf carriedOut sent atUnnamed pb2Of
 operation-sent (poll n) = refl
 operation-sent (writeName n) = refl
 operation-sent (writeHigh h) = refl
@@ -57,8 +57,8 @@ unfolding lastRecord
 documented l = omega (arith, l .documented)
 
 -- at 0xFF the unnamed are addressed
-at-unnamed : (s : Slave) → addressed unnamed s ≡ isUnnamed (viewOf s)
-unfolding addressed addresses isUnnamed viewOf
+at-unnamed : (s : Slave) → addressed unnamed s ≡ viewUnnamed (viewOf s)
+unfolding addressed addresses viewUnnamed viewOf
 at-unnamed s = refl
 
 -- a named one at its own name
@@ -92,24 +92,24 @@ both-last true = refl
 both-last false = refl
 
 -- a record of 0x08 up to 3 may be written, so the unnamed take the write
-writes : (s : Slave) (r : ℕ) → LegalSlave s → (r ≡ 0 → ⊥) → r ≤ 3 → takesWrite unnamed configuration r s ≡ isUnnamed (viewOf s)
+writes : (s : Slave) (r : ℕ) → LegalSlave s → (r ≡ 0 → ⊥) → r ≤ 3 → takesWrite unnamed configuration r s ≡ viewUnnamed (viewOf s)
 unfolding takesWrite mayWrite hasRecord
 writes s r l some most =
     let within : 4 * r + 4 ≤ length (bytesIn s configuration) = omega (arith, configured l) in
     let has : leb (4 * r + 4) (length (bytesIn s configuration)) ≡ true = le-leb (4 * r + 4) (length (bytesIn s configuration)) within in
-    rw (at-unnamed s, has, ne-eqb r 0 some) (both-last (isUnnamed (viewOf s)))
+    rw (at-unnamed s, has, ne-eqb r 0 some) (both-last (viewUnnamed (viewOf s)))
 
 -- a write changes the view of those it reaches
 write-changes :
-    (s : Slave) (r : ℕ) (bs : List ℕ) (o : Operation) → LegalSlave s → (r ≡ 0 → ⊥) → r ≤ 3 →
-    viewBy (sets (bytesIn s configuration) (recordSize * r) bs) (bytesIn s documentation) ≡ told o (viewBy (bytesIn s configuration) (bytesIn s documentation)) →
+    (s : Slave) (r : ℕ) (bs : List ℕ) (o : RunRound) → LegalSlave s → (r ≡ 0 → ⊥) → r ≤ 3 →
+    viewBy (sets (bytesIn s configuration) (recordSize * r) bs) (bytesIn s documentation) ≡ unnamedChange o (viewBy (bytesIn s configuration) (bytesIn s documentation)) →
     viewOf (slaveAfter (Slaves.writing unnamed configuration r) bs s) ≡ change o (viewOf s)
 unfolding slaveAfter change
 write-changes s r bs o l some most e =
     rw (writes s r l some most)
-    (byCase {P = viewOf (cond (isUnnamed (viewOf s)) (replaced s configuration (recordSize * r) bs) s) ≡ cond (isUnnamed (viewOf s)) (told o (viewOf s)) (viewOf s)}
-    (isUnnamed (viewOf s))
-    (λ t. rw t (replaced-view s (recordSize * r) bs ∙ e ∙ ap (told o) (sym (view-by s))))
+    (byCase {P = viewOf (cond (viewUnnamed (viewOf s)) (replaced s configuration (recordSize * r) bs) s) ≡ cond (viewUnnamed (viewOf s)) (unnamedChange o (viewOf s)) (viewOf s)}
+    (viewUnnamed (viewOf s))
+    (λ t. rw t (replaced-view s (recordSize * r) bs ∙ e ∙ ap (unnamedChange o) (sym (view-by s))))
     (λ f. rw f))
 
 unchanged : (b : Bool) (v : SlaveView) → v ≡ cond b v v
@@ -137,15 +137,15 @@ named-view s l =
     )
     (took-name (bytesIn s configuration) (bytesIn s documentation) (configured l))
 
-names-taken : (s : Slave) → LegalSlave s → takesName unnamed s ≡ both (isUnnamed (viewOf s)) (eqb (viewOf s .physical) (comparisonOf (viewOf s)))
+names-taken : (s : Slave) → LegalSlave s → takesName unnamed s ≡ both (viewUnnamed (viewOf s)) (eqb (viewOf s .physical) (comparisonOf (viewOf s)))
 unfolding takesName
 names-taken s l = rw (at-unnamed s, value-of s l) (unfold viewOf in refl)
 
 baptize-changes : (s : Slave) → LegalSlave s → viewOf (slaveAfter (Slaves.baptizing unnamed) [] s) ≡ change baptize (viewOf s)
-unfolding slaveAfter change told both
+unfolding slaveAfter change unnamedChange both
 baptize-changes s l =
     rw (names-taken s l)
-    (byCase (isUnnamed (viewOf s))
+    (byCase (viewUnnamed (viewOf s))
     (λ t.
     rw t
     (byCase (eqb (viewOf s .physical) (comparisonOf (viewOf s))) (λ y. rw y (named-view s l)) (λ n. rw n)))
@@ -153,9 +153,9 @@ baptize-changes s l =
 
 -- the slave's view after a round of the run
 pub slave-changes :
-    {o : Operation} → Sendable o → (s : Slave) → LegalSlave s → viewOf (slaveAfter (carriedOut o) (sent o .content) s) ≡ change o (viewOf s)
+    {o : RunRound} → Sendable o → (s : Slave) → LegalSlave s → viewOf (slaveAfter (carriedOut o) (sent o .content) s) ≡ change o (viewOf s)
 unfolding carriedOut sent atUnnamed
-slave-changes (of-poll f) s l = unfold slaveAfter change told in unchanged (isUnnamed (viewOf s)) (viewOf s)
+slave-changes (of-poll f) s l = unfold slaveAfter change unnamedChange in unchanged (viewUnnamed (viewOf s)) (viewOf s)
 slave-changes (of-name {n} f) s l =
     write-changes s 1 (0 ∷ 0 ∷ n ∷ unnamed ∷ []) (writeName n) l (λ (z : 1 ≡ 0). omega arith) (omega arith)
     (wrote-name (bytesIn s configuration) (bytesIn s documentation) (configured l) n)
@@ -165,7 +165,7 @@ slave-changes (of-high {h} k) s l =
 slave-changes (of-low {l = h} k) s l =
     write-changes s 3 (bytesOf 4 h) (writeLow h) l (λ (z : 3 ≡ 0). omega arith) (omega arith)
     (wrote-low (bytesIn s configuration) (bytesIn s documentation) (configured l) h k)
-slave-changes of-compare s l = unfold slaveAfter change told in unchanged (isUnnamed (viewOf s)) (viewOf s)
+slave-changes of-compare s l = unfold slaveAfter change unnamedChange in unchanged (viewUnnamed (viewOf s)) (viewOf s)
 slave-changes of-baptize s l = baptize-changes s l
 
 -- ---- what it sends in slot 1
@@ -190,13 +190,13 @@ poll-sends : (n : ℕ) (s : Slave) → Fit n → LegalSlave s → answersRead n 
 unfolding answersRead replies hasRecord
 poll-sends n s f l =
     let has : leb 8 (length (bytesIn s documentation)) ≡ true = le-leb 8 (length (bytesIn s documentation)) (omega (arith, documented l)) in
-    rw (at-name n s f, has) (unfold viewOf isUnnamed Slaves.isUnnamed in turned (eqb (logicalName s) n) (not (eqb (logicalName s) unnamed)))
+    rw (at-name n s f, has) (unfold viewOf viewUnnamed Slaves.isUnnamed in turned (eqb (logicalName s) n) (not (eqb (logicalName s) unnamed)))
 
 compare-sends : (s : Slave) → LegalSlave s → answersCompare unnamed s ≡ replies compare (viewOf s)
 unfolding answersCompare replies
 compare-sends s l = rw (at-unnamed s, value-of s l) (unfold both viewOf in refl)
 
-pub slave-sends : {o : Operation} → Sendable o → (s : Slave) → LegalSlave s → anyone (inSlot (replyTo (carriedOut o) s) 1) ≡ one-if (replies o (viewOf s))
+pub slave-sends : {o : RunRound} → Sendable o → (s : Slave) → LegalSlave s → anyone (inSlot (replyTo (carriedOut o) s) 1) ≡ one-if (replies o (viewOf s))
 unfolding carriedOut replyTo
 slave-sends (of-poll {n} f) s l =
     rw (poll-sends n s f l)
@@ -218,15 +218,15 @@ someone-of [] b false y p q = q
 someone-of (c ∷ a) b true y p q = refl
 someone-of (c ∷ a) b false y p q = absurd (omega arith)
 
-pub slaves-send : {o : Operation} → Sendable o → {ss : List Slave} → All LegalSlave ss → anyone (sentTo (carriedOut o) ss 1) ≡ one-if (answers o (map viewOf ss))
+pub slaves-send : {o : RunRound} → Sendable o → {ss : List Slave} → All LegalSlave ss → anyone (sentTo (carriedOut o) ss 1) ≡ one-if (answers o (map viewOf ss))
 unfolding sentTo answers someone
-slaves-send f none = unfold anyone in refl
-slaves-send {o} f (also {a = s} {l = ss} l h) =
+slaves-send f allEmpty = unfold anyone in refl
+slaves-send {o} f (allNext {a = s} {l = ss} l h) =
     someone-of (inSlot (replyTo (carriedOut o) s) 1) (sentTo (carriedOut o) ss 1) (replies o (viewOf s)) (answers o (map viewOf ss)) (slave-sends f s l) (slaves-send f h)
 
 pub slaves-change :
-    {o : Operation} → Sendable o → {ss : List Slave} → All LegalSlave ss →
+    {o : RunRound} → Sendable o → {ss : List Slave} → All LegalSlave ss →
     map viewOf (map (slaveAfter (carriedOut o) (sent o .content)) ss) ≡ changeAll o (map viewOf ss)
 unfolding changeAll
-slaves-change f none = refl
-slaves-change f (also {a = s} l h) = rw (slave-changes f s l, slaves-change f h)
+slaves-change f allEmpty = refl
+slaves-change f (allNext {a = s} l h) = rw (slave-changes f s l, slaves-change f h)

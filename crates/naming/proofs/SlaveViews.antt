@@ -9,12 +9,13 @@ use native.Mathlib.Nat.{add-mul, mul-assoc, add-assoc}
 use lib.ListN.{length, getD, set, take, drop, length-set, length-append, length-drop}
 use lib.Seq.{sets, sets-eq, length-take-le, drop-at, take-append-seam, take-add, drop-drop, getD-set-same, getD-set-other}
 use lib.Pow.{pow-add}
-use Rattle.file.specs.Bytes.{numberOf, bytesOf, part}
-use Rattle.file.specs.Cluster.{Slave, bytesIn, configuration, documentation, physicalName, logicalName, newLogicalName, recordOf, unnamed}
+use Rattle.file.specs.Rules.Bytes.{numberOf, bytesOf, part}
+use Rattle.file.specs.Rules.Cluster.{Slave, bytesIn, configuration, documentation, physicalName, logicalName, newLogicalName, recordOf, unnamed}
 use Rattle.file.proofs.Bytes.{numberOf-bytesOf}
 use Rattle.file.proofs.Puts.{part-sets, getD-sets, part-set}
 use Rattle.file.proofs.Sizes.{bytesOf-length}
-use Rattle.naming.specs.View.{SlaveView, viewOf, comparisonOf, half, told, writeName, writeHigh, writeLow}
+use Rattle.naming.specs.Inner.View.{SlaveView, viewOf, comparisonOf, unnamedChange}
+use Rattle.naming.specs.Rules.Rounds.{half, writeName, writeHigh, writeLow}
 
 -- ---- bytes
 
@@ -25,7 +26,7 @@ part-stored l k bs fits =
     let e : length (take k l) ≡ k = length-take-le k l (omega arith) in
     rw (sets-eq bs l k fits, append-assoc, drop-at (take k l) (bs ++ drop (k + length bs) l) k e, take-append-seam)
 
--- the number of two lists of bytes, one behind the other
+-- the number of two lists of bytes, one after the other
 number-append : (a b : List ℕ) → numberOf (a ++ b) ≡ numberOf a * 256 ^ length b + numberOf b
 unfolding numberOf
 number-append [] b = omega arith
@@ -69,8 +70,8 @@ module _ (l d : List ℕ) (long : 16 ≤ length l) where
       rw (take-add 4 4 (drop 8 l), drop-drop 4 8 l, number-append, e)
 
   -- record 1 written with 00 00 name FF
-  pub wrote-name : (n : ℕ) → viewBy (sets l 4 (0 ∷ 0 ∷ n ∷ unnamed ∷ [])) d ≡ told (writeName n) (viewBy l d)
-  unfolding viewBy told
+  pub wrote-name : (n : ℕ) → viewBy (sets l 4 (0 ∷ 0 ∷ n ∷ unnamed ∷ [])) d ≡ unnamedChange (writeName n) (viewBy l d)
+  unfolding viewBy unnamedChange
   wrote-name n =
       let x : List ℕ = set (set l 4 0) 5 0 in
       let six : 6 < length x = simp length-set (omega arith) in
@@ -89,8 +90,8 @@ module _ (l d : List ℕ) (long : 16 ≤ length l) where
       let e : part (sets l k (bytesOf 4 h)) k 4 ≡ bytesOf 4 h = rw four at (part-stored l k (bytesOf 4 h) (omega arith)) in
       rw e (numberOf-bytesOf 4 small)
 
-  pub wrote-high : (h : ℕ) → h < half → viewBy (sets l 8 (bytesOf 4 h)) d ≡ told (writeHigh h) (viewBy l d)
-  unfolding viewBy told
+  pub wrote-high : (h : ℕ) → h < half → viewBy (sets l 8 (bytesOf 4 h)) d ≡ unnamedChange (writeHigh h) (viewBy l d)
+  unfolding viewBy unnamedChange
   wrote-high h small =
       let four : length (bytesOf 4 h) ≡ 4 = bytesOf-length 4 h in
       rw (
@@ -100,8 +101,8 @@ module _ (l d : List ℕ) (long : 16 ≤ length l) where
         part-sets l 8 (bytesOf 4 h) 12 4 (omega arith),
       )
 
-  pub wrote-low : (h : ℕ) → h < half → viewBy (sets l 12 (bytesOf 4 h)) d ≡ told (writeLow h) (viewBy l d)
-  unfolding viewBy told
+  pub wrote-low : (h : ℕ) → h < half → viewBy (sets l 12 (bytesOf 4 h)) d ≡ unnamedChange (writeLow h) (viewBy l d)
+  unfolding viewBy unnamedChange
   wrote-low h small =
       rw (
         getD-sets l 12 (bytesOf 4 h) 7 (omega arith),

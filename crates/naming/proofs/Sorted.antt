@@ -10,22 +10,22 @@ use native.Mathlib.Nat.{lt-trans}
 use lib.ListN.{length}
 use lib.Dec.{eqb, ltb}
 use borrow.Author.Tests.{eqb-false, ltb-true, ltb-false}
-use Rattle.file.specs.Bytes.{All, All.none, All.both as also}
-use Rattle.file.specs.Legal.{Distinct, Distinct.end as alone, Distinct.next as apart}
-use Rattle.file.specs.Grounds.{isAmong}
-use Rattle.file.specs.Order.{either}
+use Rattle.file.specs.Rules.Bytes.{All, All.allEmpty, All.allNext as also}
+use Rattle.file.specs.Rules.Legal.{Distinct, Distinct.end as alone, Distinct.next as apart}
+use Rattle.file.specs.Rules.Grounds.{isAmong}
+use Rattle.file.specs.Rules.Order.{either}
 use Rattle.file.proofs.Bytes.{all-map}
 use Rattle.file.proofs.Order.{byCase, either-right, either-false-left, either-false-right}
-use Rattle.naming.specs.Account.{falling, insert}
+use Rattle.naming.specs.Rules.Account.{falling, insert}
 use Rattle.naming.proofs.Facts.{Falling, Falling.end as lowest, Falling.next as below, all-among, among-here}
 
 pub all-of : {A : Type 0} {P : A → Type 0} → ((a : A) → P a) → (l : List A) → All P l
-all-of f [] = none
+all-of f [] = allEmpty
 all-of f (a ∷ l) = also (f a) (all-of f l)
 
 pub all-self : (l : List ℕ) → All (λ p. isAmong p l ≡ true) l
 unfolding isAmong
-all-self [] = none
+all-self [] = allEmpty
 all-self (n ∷ l) = also (among-here n l) (all-map (λ p e. either-right (eqb p n) e) (all-self l))
 
 -- a number that differs from all is not among them
@@ -36,13 +36,13 @@ apart-among {l} p h = byCase (isAmong p l) (λ t. absurd (all-among p h t refl))
 
 all-insert : {P : ℕ → Type 0} (p : ℕ) {l : List ℕ} → P p → All P l → All P (insert p l)
 unfolding insert
-all-insert p h none = also h none
+all-insert p h allEmpty = also h allEmpty
 all-insert p h (also {a = q} {l = l} k r) =
     byCase (ltb p q) (λ t. rw t (also k (all-insert p h r))) (λ f. rw f (also h (also k r)))
 
 pub all-falling : {P : ℕ → Type 0} {l : List ℕ} → All P l → All P (falling l)
 unfolding falling
-all-falling none = none
+all-falling allEmpty = allEmpty
 all-falling (also {a = p} h r) = all-insert p h (all-falling r)
 
 length-insert : (p : ℕ) (l : List ℕ) → length (insert p l) ≡ suc (length l)
@@ -75,7 +75,7 @@ among-falling x (p ∷ l) = among-insert x p (falling l) ∙ rw (among-falling x
 
 fall-insert : (p : ℕ) {l : List ℕ} → isAmong p l ≡ false → Falling l → Falling (insert p l)
 unfolding insert isAmong
-fall-insert p n lowest = below none lowest
+fall-insert p n lowest = below allEmpty lowest
 fall-insert p n (below {p = q} {ps = qs} h f) =
     let other : p ≡ q → ⊥ = eqb-false p q (either-false-left (eqb p q) (isAmong p qs) n) in
     byCase (ltb p q)
@@ -90,7 +90,7 @@ falling-falls alone = lowest
 falling-falls (apart {n = n} {ns = ns} h d) = fall-insert n (among-falling n ns ∙ apart-among n h) (falling-falls d)
 
 falls-length : (m : ℕ) {l : List ℕ} → Falling l → All (λ q. q < m) l → length l ≤ m
-falls-length m lowest none = omega arith
+falls-length m lowest allEmpty = omega arith
 falls-length m (below {p = p} h f) (also k r) = omega (arith, falls-length p f h)
 
 pub distinct-length : (m : ℕ) {l : List ℕ} → Distinct l → All (λ q. q < m) l → length l ≤ m

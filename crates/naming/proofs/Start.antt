@@ -6,16 +6,16 @@ use mathlib.Core.List.{List, [], _∷_}
 use mathlib.Core.Bool.{false}
 use lib.Dec.{eqb}
 use borrow.Author.Tests.{eqb-false, ne-eqb}
-use Rattle.file.specs.Bytes.{All, All.none, All.both as also}
-use Rattle.file.specs.Legal.{Distinct, Distinct.end as alone, Distinct.next as apart}
-use Rattle.file.specs.Cluster.{unnamed, broadcast}
-use Rattle.file.specs.Grounds.{isAmong, hasRepeat}
-use Rattle.file.specs.Order.{either}
+use Rattle.file.specs.Rules.Bytes.{All, All.allEmpty, All.allNext as also}
+use Rattle.file.specs.Rules.Legal.{Distinct, Distinct.end as alone, Distinct.next as apart}
+use Rattle.file.specs.Rules.Cluster.{unnamed, broadcast}
+use Rattle.file.specs.Rules.Grounds.{isAmong, hasRepeat}
+use Rattle.file.specs.Rules.Order.{either}
 use Rattle.file.proofs.Bytes.{all-map}
 use Rattle.file.proofs.AcceptedFacts.{no-repeat}
 use Rattle.file.proofs.Order.{byCase, either-false-left, either-false-right}
-use Rattle.naming.specs.Run.{unfitName}
-use Rattle.naming.specs.Account.{Named, falling, unnamedAmong, namesHeld}
+use Rattle.naming.specs.Rules.Run.{unfitName}
+use Rattle.naming.specs.Rules.Account.{Named, falling, unnamedAmong, namesHeld}
 use Rattle.naming.proofs.Facts.{Facts, Fit, physicals, all-both, among-here, among-next}
 use Rattle.naming.proofs.Sorted.{all-of, all-self, apart-among, all-falling, among-falling, falling-falls}
 
@@ -32,7 +32,7 @@ pub record Names (names : List ℕ) : Type 0 where
 
 names-fit : {names : List ℕ} → All (λ n. n < 256) names → unfitName names ≡ false → All Fit names
 unfolding unfitName
-names-fit none f = none
+names-fit allEmpty f = allEmpty
 names-fit (also {a = n} {l = ns} b h) f =
     let g : either (eqb n broadcast) (eqb n unnamed) ≡ false = either-false-left _ (unfitName ns) f in
     also
@@ -46,7 +46,7 @@ names-fit (also {a = n} {l = ns} b h) f =
 -- what holds of all physical names holds of those of the unnamed
 all-unnamed : {P : ℕ → Type 0} (ss : List Named) → All P (physicals ss) → All P (unnamedAmong ss)
 unfolding physicals unnamedAmong
-all-unnamed [] none = none
+all-unnamed [] allEmpty = allEmpty
 all-unnamed (s ∷ ss) (also p h) =
     byCase (eqb (s .logical) unnamed) (λ t. rw t (also p (all-unnamed ss h))) (λ f. rw f (all-unnamed ss h))
 
@@ -60,13 +60,13 @@ distinct-unnamed (s ∷ ss) (apart p h) =
 
 of-slaves : {P : ℕ → Type 0} (ss : List Named) → All P (physicals ss) → All (λ (s : Named). P (s .physical)) ss
 unfolding physicals
-of-slaves [] none = none
+of-slaves [] allEmpty = allEmpty
 of-slaves (s ∷ ss) (also p h) = also p (of-slaves ss h)
 
 -- a slave is unnamed exactly if its physical name is among the unnamed ones
 wait : (ss : List Named) → Distinct (physicals ss) → All (λ (s : Named). eqb (s .logical) unnamed ≡ isAmong (s .physical) (unnamedAmong ss)) ss
 unfolding physicals unnamedAmong
-wait [] alone = none
+wait [] alone = allEmpty
 wait (s ∷ ss) (apart p h) =
     byCase (eqb (s .logical) unnamed)
     (λ t.

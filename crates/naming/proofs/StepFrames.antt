@@ -8,28 +8,28 @@ use native.Mathlib.Omega.{arith}
 use lib.ListN.{getD}
 use lib.Dec.{eqb}
 use borrow.Author.Tests.{eq-eqb, ne-eqb}
-use Rattle.file.specs.Bytes.{Byte, Bytes, none, both as also, bytesOf}
-use Rattle.file.specs.Order.{both}
-use Rattle.file.specs.Cluster.{Slave, Cluster, unnamed, broadcast, operationOf}
-use Rattle.file.specs.Places.{withSlaves, withEpoch, withPending}
+use Rattle.file.specs.Rules.Bytes.{Byte, Bytes, allEmpty, allNext, bytesOf}
+use Rattle.file.specs.Rules.Order.{both}
+use Rattle.file.specs.Rules.Cluster.{Slave, Cluster, unnamed, broadcast, operationOf, pb2Of}
+use Rattle.file.specs.Rules.Changes.{withSlaves, withEpoch, withPending}
 use Rattle.file.proofs.Bytes.{bytes-bytesOf}
-use Rattle.frame.specs.Fireworks.{msd, msa, roundOf, roundIn, dataFirework}
-use Rattle.frame.specs.Check.{addressCheck, dataCheck}
-use Rattle.frame.specs.Frames.{frameOf, pb2Of, addressBytes, addressFrame, dataFrame, between}
-use Rattle.frame.specs.Grounds.{wrongLength, wrongCheck, noOperation, broadcastRead}
+use Rattle.frame.specs.Rules.Fireworks.{msd, msa, roundOf, roundIn, dataFirework}
+use Rattle.frame.specs.Rules.Check.{addressCheck, dataCheck}
+use Rattle.frame.specs.Rules.Frames.{frameOf, addressBytes, addressFrame, dataFrame, between}
+use Rattle.frame.specs.Rules.Grounds.{wrongFrameLength, wrongCheck, noOperation, broadcastRead}
 use Rattle.frame.proofs.Written.{address-bytes, data-bytes}
-use Rattle.cluster.specs.Slaves.{withAddress, nextEpoch, epochRaised, pendingOperation, sentTo, slavesAfter, slaveAfter}
-use Rattle.cluster.specs.Grounds.{roundBy, noFirework, writePending, lengthFor, wrongLengthOn, wrongCheckOn, noOperationOn, broadcastReadOn, frameGround}
-use Rattle.cluster.specs.Round.{addressEffect, dataEffect, effectOf, frameOn}
+use Rattle.cluster.specs.Rules.Slaves.{withAddress, nextEpoch, epochRaised, pendingDuty, sentTo, slavesAfter, slaveAfter}
+use Rattle.cluster.specs.Rules.Grounds.{roundBy, noFirework, writePending, lengthFor, wrongLengthOn, wrongCheckOn, noOperationOn, broadcastReadOn, frameGround}
+use Rattle.cluster.specs.Rules.Round.{addressEffect, dataEffect, effectOf, frameOn}
 use Rattle.cluster.proofs.Kept.{nextEpoch-byte}
 use Rattle.cluster.proofs.Rounds.{fits-none}
-use Rattle.naming.specs.View.{Operation, poll, writeName, writeHigh, writeLow, compare, baptize, Sent, sent, atUnnamed}
-use Rattle.naming.specs.Step.{addressSent, dataSent}
+use Rattle.naming.specs.Rules.Rounds.{RunRound, poll, writeName, writeHigh, writeLow, compare, baptize, Sent, sent, atUnnamed}
+use Rattle.naming.specs.Rules.Step.{addressSent, dataSent}
 use Rattle.naming.proofs.Abstract.{Sendable, of-poll, of-name, of-high, of-low, of-compare, of-baptize}
 use Rattle.naming.proofs.SlaveRounds.{carriedOut, operation-sent}
 
 -- the operations are legal, and no read is at 0x00
-pub sent-fits : {o : Operation} → Sendable o → (noOperation (operationOf (pb2Of (sent o .file) (sent o .operation))) ≡ false) × (broadcastRead (operationOf (pb2Of (sent o .file) (sent o .operation))) (sent o .name) ≡ false)
+pub sent-fits : {o : RunRound} → Sendable o → (noOperation (operationOf (pb2Of (sent o .file) (sent o .operation))) ≡ false) × (broadcastRead (operationOf (pb2Of (sent o .file) (sent o .operation))) (sent o .name) ≡ false)
 unfolding sent atUnnamed pb2Of noOperation broadcastRead
 sent-fits (of-poll {n} f) = (refl, rw (ne-eqb n broadcast (f .some)) (unfold both in refl))
 sent-fits (of-name f) = (refl, unfold both in refl)
@@ -48,7 +48,7 @@ pub record SentBytes (s : Sent) : Type 0 where
   pub operation : s .operation ≤ 3
   pub «record» : Byte (s .«record»)
 
-pub sent-bytes : {o : Operation} → Sendable o → SentBytes (sent o)
+pub sent-bytes : {o : RunRound} → Sendable o → SentBytes (sent o)
 unfolding sent atUnnamed
 sent-bytes (of-poll f) = record { name = f .byte; file = omega arith; operation = omega arith; «record» = omega arith }
 sent-bytes (of-name f) = record { name = omega arith; file = omega arith; operation = omega arith; «record» = omega arith }
@@ -59,7 +59,7 @@ sent-bytes of-baptize = record { name = omega arith; file = omega arith; operati
 
 -- ---- the address frame
 
-module _ (c : Cluster) {o : Operation} (f : Sendable o) where
+module _ (c : Cluster) {o : RunRound} (f : Sendable o) where
   address-round : roundBy (addressSent c (sent o)) ≡ msa
   unfolding addressSent addressFrame frameOf roundBy roundOf roundIn
   address-round = refl
@@ -76,7 +76,7 @@ module _ (c : Cluster) {o : Operation} (f : Sendable o) where
       (fits-none c msa (addressSent c (sent o))
       (record {
         firework = unfold noFirework in refl;
-        size = unfold wrongLengthOn wrongLength lengthFor addressSent addressFrame addressBytes frameOf in refl;
+        size = unfold wrongLengthOn wrongFrameLength lengthFor addressSent addressFrame addressBytes frameOf in refl;
         check = address-check;
         operation = unfold noOperationOn addressSent addressFrame addressBytes frameOf in (sent-fits f .0);
         broadcastRead = unfold broadcastReadOn addressSent addressFrame addressBytes frameOf in (sent-fits f .1);
@@ -98,11 +98,11 @@ module _ (c : Cluster) {o : Operation} (f : Sendable o) where
 -- ---- the data frame
 
 -- the cluster with a round's operation pending
-unfoldable pub asked : Cluster → Operation → Cluster
+unfoldable pub asked : Cluster → RunRound → Cluster
 asked c o = withAddress c (nextEpoch (c .epoch)) (sent o .name) (pb2Of (sent o .file) (sent o .operation)) (sent o .«record»)
 
 name-bytes : (n : ℕ) → Byte n → Bytes (0 ∷ 0 ∷ n ∷ unnamed ∷ [])
-name-bytes n b = also zero-byte (also zero-byte (also b (also most-byte none)))
+name-bytes n b = allNext zero-byte (allNext zero-byte (allNext b (allNext most-byte allEmpty)))
   where
     zero-byte : Byte 0
     zero-byte = omega arith
@@ -111,9 +111,9 @@ name-bytes n b = also zero-byte (also zero-byte (also b (also most-byte none)))
     most-byte = omega arith
 
 firework-bytes : Bytes (dataFirework ∷ [])
-firework-bytes = let b : Byte dataFirework = omega arith in also b none
+firework-bytes = let b : Byte dataFirework = omega arith in allNext b allEmpty
 
-pub data-sent-bytes : {o : Operation} → Sendable o → Bytes (dataSent (sent o))
+pub data-sent-bytes : {o : RunRound} → Sendable o → Bytes (dataSent (sent o))
 unfolding dataSent sent atUnnamed
 data-sent-bytes (of-poll f) = firework-bytes
 data-sent-bytes (of-name {n} f) = data-bytes (name-bytes n (f .byte))
@@ -122,7 +122,7 @@ data-sent-bytes (of-low k) = data-bytes (bytes-bytesOf 4 k)
 data-sent-bytes of-compare = firework-bytes
 data-sent-bytes of-baptize = firework-bytes
 
-pub data-round : (o : Operation) → roundBy (dataSent (sent o)) ≡ msd
+pub data-round : (o : RunRound) → roundBy (dataSent (sent o)) ≡ msd
 unfolding dataSent sent atUnnamed dataFrame frameOf roundBy roundOf roundIn
 data-round (poll n) = refl
 data-round (writeName n) = refl
@@ -131,7 +131,7 @@ data-round (writeLow l) = refl
 data-round compare = refl
 data-round baptize = refl
 
-pub data-first : (o : Operation) → getD (dataSent (sent o)) 0 0 ≡ dataFirework
+pub data-first : (o : RunRound) → getD (dataSent (sent o)) 0 0 ≡ dataFirework
 unfolding dataSent sent atUnnamed dataFrame frameOf
 data-first (poll n) = refl
 data-first (writeName n) = refl
@@ -141,8 +141,8 @@ data-first compare = refl
 data-first baptize = refl
 
 module _ (c : Cluster) where
-  data-size : (o : Operation) → wrongLengthOn (asked c o) msd (dataSent (sent o)) ≡ false
-  unfolding wrongLengthOn wrongLength lengthFor writePending both asked withAddress withPending dataSent sent atUnnamed dataFrame frameOf bytesOf pb2Of
+  data-size : (o : RunRound) → wrongLengthOn (asked c o) msd (dataSent (sent o)) ≡ false
+  unfolding wrongLengthOn wrongFrameLength lengthFor writePending both asked withAddress withPending dataSent sent atUnnamed dataFrame frameOf bytesOf pb2Of
   data-size (poll n) = refl
   data-size (writeName n) = refl
   data-size (writeHigh h) = refl
@@ -150,7 +150,7 @@ module _ (c : Cluster) where
   data-size compare = refl
   data-size baptize = refl
 
-  data-check : (o : Operation) → wrongCheckOn (asked c o) msd (dataSent (sent o)) ≡ false
+  data-check : (o : RunRound) → wrongCheckOn (asked c o) msd (dataSent (sent o)) ≡ false
   unfolding wrongCheckOn wrongCheck writePending both asked withAddress withPending dataSent sent atUnnamed dataFrame frameOf bytesOf pb2Of
   data-check (poll n) = refl
   data-check (writeName n) = checked (dataCheck (0 ∷ 0 ∷ n ∷ unnamed ∷ []))
@@ -159,7 +159,7 @@ module _ (c : Cluster) where
   data-check compare = refl
   data-check baptize = refl
 
-  pub data-accepted : (o : Operation) → frameGround (asked c o) (dataSent (sent o)) ≡ 0
+  pub data-accepted : (o : RunRound) → frameGround (asked c o) (dataSent (sent o)) ≡ 0
   unfolding frameGround
   data-accepted o =
       rw (data-round o)
@@ -172,16 +172,16 @@ module _ (c : Cluster) where
         broadcastRead = unfold broadcastReadOn in refl;
       }))
 
-  asked-pending : (o : Operation) → pendingOperation (asked c o) ≡ carriedOut o
-  unfolding pendingOperation asked withAddress withPending
+  asked-pending : (o : RunRound) → pendingDuty (asked c o) ≡ carriedOut o
+  unfolding pendingDuty asked withAddress withPending
   asked-pending o = operation-sent o
 
   -- who sends, and what the slaves become
-  pub data-senders : (o : Operation) → frameOn (asked c o) (dataSent (sent o)) .senders ≡ sentTo (carriedOut o) (c .slaves)
+  pub data-senders : (o : RunRound) → frameOn (asked c o) (dataSent (sent o)) .senders ≡ sentTo (carriedOut o) (c .slaves)
   unfolding frameOn
   data-senders o = rw (data-round o) (unfold effectOf dataEffect in rw (asked-pending o) (unfold asked withAddress withPending withEpoch in refl))
 
-  data-content : (o : Operation) (ss : List Slave) → map (slaveAfter (carriedOut o) (between (dataSent (sent o)))) ss ≡ map (slaveAfter (carriedOut o) (sent o .content)) ss
+  data-content : (o : RunRound) (ss : List Slave) → map (slaveAfter (carriedOut o) (between (dataSent (sent o)))) ss ≡ map (slaveAfter (carriedOut o) (sent o .content)) ss
   unfolding carriedOut slaveAfter dataSent sent atUnnamed dataFrame frameOf bytesOf
   data-content (poll n) ss = refl
   data-content (writeName n) ss = refl
@@ -190,7 +190,7 @@ module _ (c : Cluster) where
   data-content compare ss = refl
   data-content baptize ss = refl
 
-  pub data-slaves : (o : Operation) → frameOn (asked c o) (dataSent (sent o)) .after .slaves ≡ map (slaveAfter (carriedOut o) (sent o .content)) (c .slaves)
+  pub data-slaves : (o : RunRound) → frameOn (asked c o) (dataSent (sent o)) .after .slaves ≡ map (slaveAfter (carriedOut o) (sent o .content)) (c .slaves)
   unfolding frameOn
   data-slaves o =
       rw (data-round o)

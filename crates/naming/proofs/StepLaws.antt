@@ -8,36 +8,37 @@ use mathlib.Core.Logic.{_≢_}
 use mathlib.Core.List.{List}
 use lib.ListN.{length, getD, take}
 use borrow.Author.Tests.{eq-eqb, ne-eqb}
-use Rattle.file.specs.Layout.{offsetWidth, editionPlace}
-use Rattle.file.specs.Grounds.{fileGround}
+use Rattle.file.specs.Rules.Layout.{offsetWidth, editionPlace}
+use Rattle.file.specs.Rules.Grounds.{fileGround}
+use Rattle.file.specs.Rules.Results.{Result, refused, done}
 use Rattle.file.proofs.AcceptedFacts as AcceptedFacts
 use Rattle.file.proofs.Edition.{unknown-edition}
-use Rattle.cluster.proofs.Rounds.{firstGround-here}
-use Rattle.naming.specs.View.{sent}
-use Rattle.naming.specs.Run.{Position, running, operationOf, advance}
-use Rattle.naming.specs.Step.{Stepping, refused, ended, made, stepGround, stepMade, stepOn, roundSent, inSlotOne}
+use Rattle.cluster.proofs.Rounds.{file-decides}
+use Rattle.naming.specs.Rules.Rounds.{sent}
+use Rattle.naming.specs.Rules.Run.{Position, running, nextRound, advance}
+use Rattle.naming.specs.Rules.Step.{StepDone, ended, madeBy, stepGrounds, stepGround, stepMade, stepOn, roundSent, isReply}
 
 module _ (file : List ℕ) (p : Position) (names buffer : List ℕ) where
   pub step-refused : stepGround file p names buffer ≢ 0 → stepOn file p names buffer ≡ (refused (stepGround file p names buffer), p, buffer, file)
   unfolding stepOn
   step-refused n = rw (ne-eqb (stepGround file p names buffer) 0 n)
 
-  pub step-ended : stepGround file p names buffer ≡ 0 → p .mark ≢ running → stepOn file p names buffer ≡ (ended, p, buffer, file)
+  pub step-ended : stepGround file p names buffer ≡ 0 → p .end ≢ running → stepOn file p names buffer ≡ (done ended, p, buffer, file)
   unfolding stepOn
-  step-ended g n = rw (g, ne-eqb (p .mark) running n)
+  step-ended g n = rw (g, ne-eqb (p .end) running n)
 
-  pub step-made : stepGround file p names buffer ≡ 0 → p .mark ≡ running →
+  pub step-made : stepGround file p names buffer ≡ 0 → p .end ≡ running →
       stepOn file p names buffer ≡ (
-        made (roundSent file (sent (operationOf names p)) buffer .0),
-        advance names p (inSlotOne (roundSent file (sent (operationOf names p)) buffer .0)),
-        roundSent file (sent (operationOf names p)) buffer .1,
-        roundSent file (sent (operationOf names p)) buffer .2,
+        done (madeBy (roundSent file (sent (nextRound names p)) buffer .0)),
+        advance names p (isReply (roundSent file (sent (nextRound names p)) buffer .0)),
+        roundSent file (sent (nextRound names p)) buffer .1,
+        roundSent file (sent (nextRound names p)) buffer .2,
       )
   unfolding stepOn stepMade
-  step-made g m = rw (g, eq-eqb (p .mark) running m)
+  step-made g m = rw (g, eq-eqb (p .end) running m)
 
 -- a file of unknown edition: answer, position and buffer are the same for two files of one length with the same first three bytes
-pub record Alike (x y : Stepping × Position × List ℕ × List ℕ) : Type 0 where
+pub record Alike (x y : Result StepDone × Position × List ℕ × List ℕ) : Type 0 where
   pub answer : x .0 ≡ y .0
   pub position : x .1 ≡ y .1
   pub buffer : x .2 ≡ y .2
@@ -45,13 +46,13 @@ pub record Alike (x y : Stepping × Position × List ℕ × List ℕ) : Type 0 w
 pub step-edition :
     (f g : List ℕ) (p : Position) (names buffer : List ℕ) → length f ≡ length g → take 3 f ≡ take 3 g → (getD f editionPlace 0 ≡ 1 → ⊥) →
     Alike (stepOn f p names buffer) (stepOn g p names buffer)
-unfolding stepGround fileGround
+unfolding stepGround stepGrounds fileGround
 step-edition f g p names buffer long front other =
     let refused-f : fileGround f ≢ 0 = λ z. other (AcceptedFacts.accepted offsetWidth f .0 z .edition) in
     let same : fileGround f ≡ fileGround g = unknown-edition f g long front other in
     let refused-g : fileGround g ≢ 0 = λ z. refused-f (same ∙ z) in
-    let here-f : stepGround f p names buffer ≡ fileGround f = firstGround-here _ _ refused-f in
-    let here-g : stepGround g p names buffer ≡ fileGround g = firstGround-here _ _ refused-g in
+    let here-f : stepGround f p names buffer ≡ fileGround f = file-decides f buffer _ refused-f in
+    let here-g : stepGround g p names buffer ≡ fileGround g = file-decides g buffer _ refused-g in
     let left = step-refused f p names buffer (λ z. refused-f (sym here-f ∙ z)) in
     let right = step-refused g p names buffer (λ z. refused-g (sym here-g ∙ z)) in
     record { answer = rw (left, right, here-f, here-g, same); position = rw (left, right); buffer = rw (left, right) }

@@ -3,31 +3,32 @@
 -- Assumes nothing.
 use Prim.Native.Nat.{ℕ, _≤_}
 use mathlib.Core.Path.{_≡_, refl, ap, _∙_}
-use mathlib.Core.List.{List, [], _∷_, _++_, map}
+use mathlib.Core.List.{List, _++_, map}
 use mathlib.Core.Bool.{Bool, true, false, cond}
 use native.Mathlib.Omega.{arith}
 use lib.ListN.{length, drop}
 use lib.Seq.{drop-at}
 use lib.Dec.{eqb}
 use borrow.Author.Tests.{ltb-false}
-use Rattle.file.specs.Bytes.{Bytes, All}
-use Rattle.file.specs.Order.{firstOf}
-use Rattle.file.specs.Encode.{encode}
-use Rattle.file.specs.Decode.{decode}
-use Rattle.file.specs.Grounds.{fileGround}
-use Rattle.file.specs.Legal.{LegalSlave}
-use Rattle.file.specs.Accepted.{Becomes}
-use Rattle.file.proofs.Order.{first-next, first-end}
+use Rattle.file.specs.Rules.Bytes.{Bytes, All}
+use Rattle.file.specs.Rules.Results.{done}
+use Rattle.file.specs.Rules.Encode.{encode}
+use Rattle.file.specs.Rules.Decode.{decode}
+use Rattle.file.specs.Rules.Grounds.{fileGround}
+use Rattle.file.specs.Rules.Legal.{LegalSlave}
+use Rattle.file.specs.Inner.Accepted.{Becomes}
 use Rattle.file.proofs.Accepted.{accepted-becomes, encode-bytes}
-use Rattle.frame.specs.Fireworks.{dataFirework}
-use Rattle.cluster.specs.Bus.{Senders, slots, anyone, senderMask, answerBytes, answerIn}
-use Rattle.cluster.specs.Slaves.{sentTo}
-use Rattle.cluster.specs.Grounds.{shortAnswer, frameGround}
-use Rattle.cluster.specs.Round.{Effect, Answer, carried, frameOn, carriedBy, bufferBy, roundGround, roundOn}
+use Rattle.frame.specs.Rules.Fireworks.{dataFirework}
+use Rattle.cluster.specs.Rules.Bus.{Senders, slots, firstSlot, anyone, senderMask, answerBytes, answerIn}
+use Rattle.cluster.specs.Rules.Slaves.{sentTo}
+use Rattle.cluster.specs.Rules.Grounds.{shortAnswer, frameGround}
+use Rattle.cluster.specs.Rules.Round.{Effect, Answer, frameOn, carriedBy, bufferBy, roundGround, roundOn}
 use Rattle.cluster.proofs.Bus.{mask-bit, answerBytes-length, answer-length}
-use Rattle.cluster.proofs.Rounds.{firstGround-next, round-accepted, round-becomes}
-use Rattle.naming.specs.View.{Operation, viewOf, view, sent, changeAll, answers}
-use Rattle.naming.specs.Step.{addressSent, dataSent, roundSent, inSlotOne}
+use Rattle.cluster.proofs.Rounds.{round-accepted, round-becomes}
+use Rattle.cluster.proofs.RoundCall.{frame-decides}
+use Rattle.naming.specs.Rules.Rounds.{RunRound, sent}
+use Rattle.naming.specs.Inner.View.{viewOf, view, changeAll, answers}
+use Rattle.naming.specs.Rules.Step.{addressSent, dataSent, roundSent, isReply}
 use Rattle.naming.proofs.Abstract.{Sendable}
 use Rattle.naming.proofs.SlaveRounds.{carriedOut, slaves-send, slaves-change}
 use Rattle.naming.proofs.StepFrames.{asked, address-accepted, address-after, address-sent-bytes, data-first, data-accepted, data-sent-bytes, data-senders, data-slaves}
@@ -35,14 +36,8 @@ use Rattle.naming.proofs.StepFrames.{asked, address-accepted, address-a
 -- a frame that fits, on an accepted file and with a buffer that is long enough, is accepted
 pub round-fits :
     (file frame buffer : List ℕ) → fileGround file ≡ 0 → shortAnswer buffer ≡ false → frameGround (decode file) frame ≡ 0 → roundGround file frame buffer ≡ 0
-unfolding roundGround
-round-fits file frame buffer good long fits =
-    firstGround-next (fileGround file) _ good
-    ∙ firstGround-next (firstOf (record { number = 9; holds = shortAnswer buffer } ∷ [])) _ (nine (shortAnswer buffer) long)
-    ∙ fits
-  where
-    nine : (b : Bool) → b ≡ false → firstOf (record { number = 9; holds = b } ∷ []) ≡ 0
-    nine b e = first-next (record { number = 9; holds = b }) [] e ∙ first-end
+unfolding shortAnswer
+round-fits file frame buffer good long fits = frame-decides file frame buffer good (ltb-false (length buffer) slots long) ∙ fits
 
 -- the buffer of an accepted frame stays as long
 pub buffer-long : (e : Effect) (firework : ℕ) (buffer : List ℕ) → shortAnswer buffer ≡ false → shortAnswer (bufferBy e firework buffer) ≡ false
@@ -59,22 +54,22 @@ answered-twice e d firework last buffer =
     (drop-at (answerBytes firework (d .senders)) (drop slots buffer) slots (answerBytes-length firework (d .senders)))
 
 -- bit 1 of the mask
-bit-one : (r : Senders) (b : Bool) → anyone (r 1) ≡ cond b 1 0 → inSlotOne (carried (senderMask r)) ≡ b
-unfolding inSlotOne senderMask
-bit-one r b e = rw (mask-bit r slots 1 (omega arith), e) (go b)
+bit-one : (r : Senders) (b : Bool) → anyone (r firstSlot) ≡ cond b 1 0 → isReply (done (senderMask r)) ≡ b
+unfolding isReply senderMask
+bit-one r b e = rw (mask-bit r slots firstSlot (omega arith), e) (go b)
   where
     go : (t : Bool) → eqb (cond t 1 0) 1 ≡ t
     go true = refl
     go false = refl
 
 -- what a round makes of a file, and its answer
-pub record Made (f : List ℕ) (o : Operation) (after : Answer × List ℕ × List ℕ) : Type 0 where
+pub record Made (f : List ℕ) (o : RunRound) (after : Answer × List ℕ × List ℕ) : Type 0 where
   pub bytes : Bytes (after .2)
   pub accepted : fileGround (after .2) ≡ 0
   pub views : view (decode (after .2)) ≡ changeAll o (view (decode f))
-  pub heard : inSlotOne (after .0) ≡ answers o (view (decode f))
+  pub heard : isReply (after .0) ≡ answers o (view (decode f))
 
-module _ (f : List ℕ) {o : Operation} (buffer : List ℕ) (bytes : Bytes f) (good : fileGround f ≡ 0) (long : shortAnswer buffer ≡ false) (s : Sendable o) where
+module _ (f : List ℕ) {o : RunRound} (buffer : List ℕ) (bytes : Bytes f) (good : fileGround f ≡ 0) (long : shortAnswer buffer ≡ false) (s : Sendable o) where
   first : Answer × List ℕ × List ℕ
   first = roundOn f (addressSent (decode f) (sent o)) buffer
 
@@ -106,7 +101,7 @@ module _ (f : List ℕ) {o : Operation} (buffer : List ℕ) (bytes : Bytes f) (g
   second-becomes =
       rw (first-becomes .decoded) at (round-becomes (first .2) (dataSent (sent o)) (first .1) first-bytes (data-sent-bytes s) second-ground)
 
-  second-answer : second .0 ≡ carried (senderMask (sentTo (carriedOut o) (decode f .slaves)))
+  second-answer : second .0 ≡ done (senderMask (sentTo (carriedOut o) (decode f .slaves)))
   unfolding second carriedBy
   second-answer =
       rw (round-accepted (first .2) (dataSent (sent o)) (first .1) second-ground, first-becomes .decoded, data-senders (decode f) o)

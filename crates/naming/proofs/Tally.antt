@@ -7,10 +7,10 @@ use mathlib.Core.Bool.{Bool, true, false, cond}
 use native.Mathlib.Omega.{arith}
 use lib.Dec.{eqb}
 use borrow.Author.Tests.{eqb-true, eqb-false, ne-eqb}
-use Rattle.file.specs.Grounds.{isAmong}
+use Rattle.file.specs.Rules.Grounds.{isAmong}
 use Rattle.file.proofs.Order.{byCase, either-false-left, either-false-right}
-use Rattle.naming.specs.Account.{Named, Account, notYet, endWith, give, oneRound, comparisonsAfter, namingRounds, namingComparisons, endingRounds, endingComparisons}
-use Rattle.naming.specs.Figures.{freeNames, givings, nameIn, renamed}
+use Rattle.naming.specs.Rules.Account.{Named, Account, notYet, endWith, give, oneRound, comparisonsAfter, namingRounds, namingComparisons, endingRounds, endingComparisons}
+use Rattle.naming.specs.Rules.Figures.{freeNames, givings, nameGiven, renamed}
 use Rattle.naming.proofs.Facts.{Falling, fall-first, fall-others, not-among}
 use Rattle.naming.proofs.Rounds.{account, goes-on, taken-round, giving-round, ending-round}
 
@@ -60,8 +60,8 @@ pub data Tally (R C : ℕ) (F : List Named) : Account → Type 0 where
 -- ---- names
 
 -- nobody gets a name who waits no more
-nothing-given : (p old : ℕ) (ps ns : List ℕ) → isAmong p ps ≡ false → nameIn (givings ps ns) p old ≡ old
-unfolding nameIn givings isAmong
+nothing-given : (p old : ℕ) (ps ns : List ℕ) → isAmong p ps ≡ false → nameGiven (givings ps ns) p old ≡ old
+unfolding nameGiven givings isAmong
 nothing-given p old [] ns a = refl
 nothing-given p old (q ∷ qs) [] a = refl
 nothing-given p old (q ∷ qs) (n ∷ ns) a =
@@ -74,29 +74,29 @@ no-names [] = refl
 no-names (p ∷ ps) = refl
 
 pub all-stay : (ss : List Named) → map (renamed []) ss ≡ ss
-unfolding renamed nameIn
+unfolding renamed nameGiven
 all-stay [] = refl
 all-stay (s ∷ ss) = ap (λ (r : List Named). s ∷ r) (all-stay ss)
 
 -- a name given now or in the end
 given-one : (p n : ℕ) (ps ns : List ℕ) → isAmong p ps ≡ false → (s : Named) →
     renamed (givings ps ns) (give p n s) ≡ renamed (givings (p ∷ ps) (n ∷ ns)) s
-unfolding renamed nameIn give givings
+unfolding renamed nameGiven give givings
 given-one p n ps ns a s =
     byCase (eqb (s .physical) p)
     (λ t.
     let g : isAmong (s .physical) ps ≡ false = subst (λ (q : ℕ). isAmong q ps ≡ false) (sym (eqb-true (s .physical) p t)) a in
-    let e : nameIn (givings ps ns) (s .physical) n ≡ n = nothing-given (s .physical) n ps ns g in
+    let e : nameGiven (givings ps ns) (s .physical) n ≡ n = nothing-given (s .physical) n ps ns g in
     rw (t, e))
     (λ f. rw f)
 
 given-now : (p n : ℕ) (ps ns : List ℕ) → isAmong p ps ≡ false → (ss : List Named) →
     map (renamed (givings ps ns)) (map (give p n) ss) ≡ map (renamed (givings (p ∷ ps) (n ∷ ns))) ss
-unfolding renamed nameIn give givings
+unfolding renamed nameGiven give givings
 given-now p n ps ns a [] = refl
 given-now p n ps ns a (s ∷ ss) = rw (given-one p n ps ns a s, given-now p n ps ns a ss)
 
--- ---- what is due behind a pass
+-- ---- what is due after a pass
 
 module _ (n : ℕ) (ns held : List ℕ) (t : isAmong n held ≡ true) where
   due-taken : (ws : List ℕ) → due held (n ∷ ns) ws ≡ suc (due held ns ws)

@@ -5,17 +5,18 @@ use Prim.Native.Nat.{ℕ}
 use mathlib.Core.Path.{_≡_, refl}
 use mathlib.Core.List.{List, [], _∷_}
 use lib.ListN.{replicate, getD}
-use Rattle.file.specs.Order.{firstOf, both, either}
-use Rattle.file.specs.Bytes.{numberOf, part, allZero}
-use Rattle.file.specs.Cluster.{noOperation, broadcastRead, bytesAmong, bytesIn, lastRecord, hasRecord, recordOf, physicalName, logicalName, comparisonValue}
-use Rattle.file.specs.Decode.{decode, decodeAt, slavesAt, slaveAt, filesAt, fileAt, fileSize, offsetAt}
-use Rattle.file.specs.Grounds.{isAmong, hasRepeat, fileGround, fileGroundAt, fileGrounds, wrongSize, wrongMark, wrongEdition, wrongLength, wrongHeader, wrongPending, brokenLayout, walkFile, tableEnd, walkSlaves, andThen, walkSlave, goodTableEntry, walkDirectory, goodEntry, endsAt, lacksNeeded, allHaveNeeded, hasNeeded, equalPhysicalNames}
-use Rattle.frame.specs.Fireworks.{dataFirework, roundOf, roundIn}
-use Rattle.frame.specs.Grounds as frames
-use Rattle.cluster.specs.Bus.{joined, busByte, slotBytes, answerBytes, answerIn, nobody}
-use Rattle.cluster.specs.Slaves.{isUnnamed, addresses, addressed, executionOf, operationIn, pendingOperation, answersRead}
-use Rattle.cluster.specs.Grounds.{shortAnswer, roundBy, noFirework, writePending, lengthFor, wrongLengthOn, wrongCheckOn, noOperationOn, broadcastReadOn, groundsOn, frameGround}
-use Rattle.cluster.specs.Round.{carried, firstGround, roundGround, roundOn}
+use Rattle.file.specs.Rules.Order.{firstOf, both, either}
+use Rattle.file.specs.Rules.Results.{done}
+use Rattle.file.specs.Rules.Bytes.{numberOf, part, allZero}
+use Rattle.file.specs.Rules.Cluster.{noOperation, broadcastRead, bytesAmong, bytesIn, lastRecord, hasRecord, recordOf, physicalName, logicalName, comparisonValue}
+use Rattle.file.specs.Rules.Decode.{decode, decodeAt, slavesAt, slaveAt, filesAt, fileAt, fileSize, offsetAt}
+use Rattle.file.specs.Rules.Grounds.{isAmong, hasRepeat, fileGrounds, fileGround, fileGroundAt, fileGroundsAt, wrongSize, wrongMark, wrongEdition, wrongLength, wrongHeader, wrongPending, brokenLayout, walkFile, tableEnd, walkSlaves, andThen, walkSlave, goodTableEntry, walkDirectory, goodEntry, endsAt, lacksNeeded, allHaveNeeded, hasNeeded, equalPhysicalNames}
+use Rattle.frame.specs.Rules.Fireworks.{dataFirework, roundOf, roundIn}
+use Rattle.frame.specs.Rules.Grounds as frames
+use Rattle.cluster.specs.Rules.Bus.{joined, busByte, slotBytes, answerBytes, answerIn, nobody}
+use Rattle.cluster.specs.Rules.Slaves.{isUnnamed, addresses, addressed, executionOf, dutyBy, pendingDuty, answersRead}
+use Rattle.cluster.specs.Rules.Grounds.{shortAnswer, roundBy, noFirework, writePending, lengthFor, wrongLengthOn, wrongCheckOn, noOperationOn, broadcastReadOn, groundsOn, frameGround}
+use Rattle.cluster.specs.Rules.Round.{roundGrounds, roundGround, roundOn}
 use Rattle.cluster.proofs.Cases as rounds
 
 -- 56 bytes: one unnamed slave of physical name 0x0000000700000010, whose comparison value differs from it in the last byte alone, if
@@ -52,11 +53,11 @@ m8File =
     0 ∷ 0 ∷ 0 ∷ 0 ∷ 0 ∷ 0 ∷ 0 ∷ 0x07 ∷ 0 ∷ 0 ∷ 0 ∷ 0xA0 ∷ []
 
 -- `unfolding m6` below unfolds what stands here: a file's, buffer's and frame's grounds, and what the file holds
-pub m6 : roundOn m6File rounds.dataRound (replicate 64 0) .0 ≡ carried 2
-unfolding m6File oneSlave fileGround fileGroundAt fileGrounds firstOf both either wrongSize wrongMark wrongEdition wrongLength wrongHeader wrongPending noOperation broadcastRead allZero part numberOf offsetAt brokenLayout walkFile tableEnd walkSlaves andThen walkSlave goodTableEntry walkDirectory goodEntry fileSize endsAt lacksNeeded allHaveNeeded hasNeeded lastRecord decode decodeAt slavesAt slaveAt filesAt fileAt equalPhysicalNames hasRepeat isAmong physicalName bytesIn bytesAmong roundGround firstGround shortAnswer frameGround groundsOn roundBy roundOf roundIn noFirework wrongLengthOn lengthFor writePending frames.wrongLength wrongCheckOn noOperationOn broadcastReadOn pendingOperation operationIn executionOf isUnnamed logicalName comparisonValue
+pub m6 : roundOn m6File rounds.dataRound (replicate 64 0) .0 ≡ done 2
+unfolding m6File oneSlave fileGround fileGroundAt fileGroundsAt firstOf both either wrongSize wrongMark wrongEdition wrongLength wrongHeader wrongPending noOperation broadcastRead allZero part numberOf offsetAt brokenLayout walkFile tableEnd walkSlaves andThen walkSlave goodTableEntry walkDirectory goodEntry fileSize endsAt lacksNeeded allHaveNeeded hasNeeded lastRecord decode decodeAt slavesAt slaveAt filesAt fileAt equalPhysicalNames hasRepeat isAmong physicalName bytesIn bytesAmong roundGround roundGrounds fileGrounds shortAnswer frameGround groundsOn roundBy roundOf roundIn noFirework wrongLengthOn lengthFor writePending frames.wrongFrameLength wrongCheckOn noOperationOn broadcastReadOn pendingDuty dutyBy executionOf isUnnamed logicalName comparisonValue
 m6 = rounds.m6 m6File (replicate 64 0) refl refl (slaveAt 2 m6File 16) refl refl refl
 
-pub m7 : roundOn m7File rounds.dataRound (replicate 64 0) .0 ≡ carried 0
+pub m7 : roundOn m7File rounds.dataRound (replicate 64 0) .0 ≡ done 0
 unfolding m6 m7File
 m7 = rounds.m7 m7File (replicate 64 0) refl refl (slaveAt 2 m7File 16) refl refl refl
 
@@ -64,6 +65,6 @@ pub m8 : getD (roundOn m8File rounds.dataRound (replicate 64 0) .1) 1 0 ≡ 0x30
 unfolding m6 m8File answersRead addressed addresses hasRecord recordOf
 m8 = rounds.m8 m8File (replicate 64 0) refl 1 0x08 2 refl (slaveAt 2 m8File 16) (slaveAt 2 m8File 20) refl refl refl refl refl
 
-pub m9 : (roundOn m9File rounds.dataRound (replicate 64 0) .0 ≡ carried 0) × (roundOn m9File rounds.dataRound (replicate 64 0) .1 ≡ dataFirework ∷ replicate 63 0xFF)
+pub m9 : (roundOn m9File rounds.dataRound (replicate 64 0) .0 ≡ done 0) × (roundOn m9File rounds.dataRound (replicate 64 0) .1 ≡ dataFirework ∷ replicate 63 0xFF)
 unfolding m6 m9File answerIn answerBytes slotBytes nobody busByte joined
 m9 = rounds.m9 m9File (replicate 64 0) refl 0x3D 1 refl

@@ -1,8 +1,4 @@
--- What a reader must believe of the naming run, in document 01's order.
-pub mod View
-pub mod Run
-pub mod Step
-pub mod Account
-pub mod Figures
-pub mod Demand
-pub mod Answers
+-- Rules: what a reader must believe of the naming run. Claims: demand 3, as it is stated. Inner: words of the contracts and laws.
+pub mod Rules
+pub mod Claims
+pub mod Inner

@@ -1,7 +1,7 @@
 // Grounds 15 and 16, of a list of names.
 ghost use mathlib.Core.Path.{_≡_};
-ghost use Rattle.file.specs.Grounds.{hasRepeat};
-ghost use Rattle.naming.specs.Run.{unfitName, startGround};
+ghost use Rattle.file.specs.Rules.Grounds.{hasRepeat};
+ghost use Rattle.naming.specs.Rules.Run.{unfitName, startGround};
 use file::types::LogicalName;
 use file::types::Refusal;
 
@@ -23,14 +23,17 @@ fn has_unfit(names: &[u8]) -> bool
     false
 }
 
-// Ground 16, from the last name to the first: a mark for each name behind this one. Fewer than two names need no marks.
+// The values of a name.
+const NAME_VALUES: usize = 256;
+
+// Ground 16, from the last name to the first: which names come after this one. Fewer than two names are not looked at.
 fn has_twice(names: &[u8]) -> bool
     ensures { λ r. ⌜ r ≡ hasRepeat (now (names .entry)) ⌝ }
 {
     if names.len() < 2 {
         return false;
     }
-    let mut seen = [false; 256];
+    let mut seen = [false; NAME_VALUES];
     let mut i = names.len();
     while 0 < i {
         i = i - 1;

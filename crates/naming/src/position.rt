@@ -1,8 +1,8 @@
 // The position of a naming run, and how it moves on.
 ghost use mathlib.Core.Path.{_≡_};
-ghost use Prim.Native.Nat.{_+_, _≤_, _<_};
-ghost use Rattle.naming.specs.Run.{markAt, fresh, onward, nextName, endAllNamed, ask, reply, questionOf, tried, placeOf, moveOn, unfitPosition};
-ghost use Rattle.naming.specs.Answers.{positionOf, heard, GoesOn};
+ghost use Prim.Native.Nat.{_≤_};
+ghost use Rattle.naming.specs.Rules.Run.{endAt, fresh, onward, nextName, endAllNamed, ask, reply, bits, questionOf, tried, placeOf, moveOn, unfitPosition};
+ghost use Rattle.naming.specs.Inner.Answers.{positionOf, heard, FitCounts, GoesOn};
 
 // The caller keeps it between steps, and may hand in any content.
 pub struct RunPosition {
@@ -20,13 +20,30 @@ pub const ALL_NAMED: u64 = 1;
 
 pub const NAMES_USED_UP: u64 = 2;
 
-// The places of a pass: the poll, the rounds of the comparisons, then the four that give the name.
+// The bits of a value.
+const BITS: u64 = 64;
+
+// "A comparison is three rounds": the two halves of its value, and the execute that is answered.
+pub const COMPARISON_ROUNDS: u64 = 3;
+
+pub const HIGH: u64 = 0;
+
+pub const LOW: u64 = 1;
+
+const REPLY: u64 = 2;
+
+// The steps of a pass: the poll, the comparisons with 0 and with each bit, then the four rounds that give the name.
 pub const POLL: u64 = 0;
 
-pub const GIVE_NAME: u64 = 196;
+pub const GIVE_NAME: u64 = 1 + COMPARISON_ROUNDS * (1 + BITS);
 
-pub const LAST_STEP: u64 = 199;
+pub const GIVE_HIGH: u64 = GIVE_NAME + 1;
 
+pub const GIVE_LOW: u64 = GIVE_NAME + 2;
+
+pub const LAST_STEP: u64 = GIVE_NAME + 3;
+
+// "either count 1,000,000 or more".
 const COUNT_LIMIT: u64 = 1000000;
 
 // Whether someone sent in slot 1 of a round.
@@ -35,8 +52,8 @@ pub enum Reply {
     Silence,
 }
 
-fn mark_at(count: u64, index: u64) -> u64
-    ensures { λ r. ⌜ r ≡ markAt count index ⌝ }
+fn end_at(count: u64, index: u64) -> u64
+    ensures { λ r. ⌜ r ≡ endAt count index ⌝ }
 {
     if index < count {
         return RUNNING;
@@ -49,7 +66,7 @@ pub fn first_position(names: &[u8]) -> RunPosition
     ensures { λ r. ⌜ positionOf r ≡ fresh (now (names .entry)) ⌝ }
 {
     RunPosition {
-        end: mark_at(names.len() as u64, 0),
+        end: end_at(names.len() as u64, 0),
         index: 0,
         step: POLL,
         value: 0,
@@ -85,8 +102,8 @@ pub fn is_unfit(names: &[u8], run: RunPosition) -> bool
 }
 
 // To the pass's next round, with a value and so many more comparisons made.
-fn next_round(run: RunPosition, value: u64, more: u64) -> RunPosition
-    requires { ⌜ (run .step < 200) × (run .rounds < 1000000) × (run .comparisons < 1000000) × (more ≤ 1) ⌝ }
+fn go_on(run: RunPosition, value: u64, more: u64) -> RunPosition
+    requires { ⌜ FitCounts (positionOf run) × (more ≤ 1) ⌝ }
     ensures { λ r. ⌜ positionOf r ≡ onward (positionOf run) value more ⌝ }
 {
     RunPosition {
@@ -101,11 +118,11 @@ fn next_round(run: RunPosition, value: u64, more: u64) -> RunPosition
 
 // The name is done.
 fn next_name(run: RunPosition, count: u64) -> RunPosition
-    requires { ⌜ (run .index < count) × (run .rounds < 1000000) ⌝ }
+    requires { ⌜ GoesOn count (positionOf run) ⌝ }
     ensures { λ r. ⌜ positionOf r ≡ nextName count (positionOf run) ⌝ }
 {
     RunPosition {
-        end: mark_at(count, run.index + 1),
+        end: end_at(count, run.index + 1),
         index: run.index + 1,
         step: POLL,
         value: run.value,
@@ -115,7 +132,7 @@ fn next_name(run: RunPosition, count: u64) -> RunPosition
 }
 
 fn all_named(run: RunPosition) -> RunPosition
-    requires { ⌜ (run .rounds < 1000000) × (run .comparisons < 1000000) ⌝ }
+    requires { ⌜ FitCounts (positionOf run) ⌝ }
     ensures { λ r. ⌜ positionOf r ≡ endAllNamed (positionOf run) ⌝ }
 {
     RunPosition {
@@ -130,33 +147,33 @@ fn all_named(run: RunPosition) -> RunPosition
 
 // The value that a comparison sends, by its number in the pass: 0, then the value so far with bit 63 down to bit 0 set.
 pub fn tried_value(question: u64, value: u64) -> u64
-    requires { ⌜ question ≤ 64 ⌝ }
+    requires { ⌜ question ≤ bits ⌝ }
     ensures { λ r. ⌜ r ≡ tried (questionOf question) value ⌝ }
 {
     if question == 0 {
         return 0;
     }
-    value | (1u64 << (64 - question))
+    value | (1u64 << (BITS - question))
 }
 
-// Behind the replies to comparison number question: silence at the one with 0 ends the run, a reply at a bit keeps the bit.
+// After the replies to comparison number question: silence at the one with 0 ends the run, a reply at a bit keeps the bit.
 fn compared(run: RunPosition, question: u64, answer: Reply) -> RunPosition
-    requires { ⌜ (question ≤ 64) × (run .step < 200) × (run .rounds < 1000000) × (run .comparisons < 1000000) ⌝ }
+    requires { ⌜ (question ≤ bits) × FitCounts (positionOf run) ⌝ }
     ensures { λ r. ⌜ positionOf r ≡ moveOn (ask (questionOf question) reply) 0 (positionOf run) (heard answer) ⌝ }
 {
     if question == 0 {
         let Reply::Heard = answer else {
             return all_named(run);
         };
-        return next_round(run, 0, 1);
+        return go_on(run, 0, 1);
     }
     let Reply::Heard = answer else {
-        return next_round(run, run.value, 1);
+        return go_on(run, run.value, 1);
     };
-    next_round(run, tried_value(question, run.value), 1)
+    go_on(run, tried_value(question, run.value), 1)
 }
 
-// The position behind the round of a running one, by its answer. A name that is taken leaves its pass at the poll.
+// The position after the round of a running one, by its answer. A name that is taken leaves its pass at the poll.
 pub fn moved(run: RunPosition, count: u64, answer: Reply) -> RunPosition
     requires { ⌜ GoesOn count (positionOf run) ⌝ }
     ensures { λ r. ⌜ positionOf r ≡ moveOn (placeOf (run .step)) count (positionOf run) (heard answer) ⌝ }
@@ -165,17 +182,17 @@ pub fn moved(run: RunPosition, count: u64, answer: Reply) -> RunPosition
         let Reply::Silence = answer else {
             return next_name(run, count);
         };
-        return next_round(run, run.value, 0);
+        return go_on(run, run.value, 0);
     }
     if run.step == LAST_STEP {
         return next_name(run, count);
     }
     if GIVE_NAME <= run.step {
-        return next_round(run, run.value, 0);
+        return go_on(run, run.value, 0);
     }
     let asked = run.step - 1;
-    if asked % 3 != 2 {
-        return next_round(run, run.value, 0);
+    if asked % COMPARISON_ROUNDS != REPLY {
+        return go_on(run, run.value, 0);
     }
-    compared(run, asked / 3, answer)
+    compared(run, asked / COMPARISON_ROUNDS, answer)
 }

@@ -1,16 +1,10 @@
 // The calls of a naming run: a fresh run, and one step of a run.
 ghost use mathlib.Core.Path.{_≡_};
-ghost use Prim.Native.Nat.{_≤_};
-ghost use lib.ListN.{length};
-ghost use Rattle.file.specs.Order.{firstOf};
-ghost use Rattle.file.specs.Cluster.{configuration, documentation};
-ghost use Rattle.file.specs.Decode.{decode};
-ghost use Rattle.file.specs.Accepted.{Becomes};
-ghost use Rattle.cluster.specs.Bus.{slots};
-ghost use Rattle.cluster.specs.Carried.{AllKept};
-ghost use Rattle.naming.specs.Run.{running, startOver, runGrounds};
-ghost use Rattle.naming.specs.Step.{stepMade, stepOn};
-ghost use Rattle.naming.specs.Answers.{positionOf, startedOf, steppedOf, runAfter};
+ghost use Rattle.file.specs.Rules.Order.{firstOf};
+ghost use Rattle.file.specs.Inner.Accepted.{Placed};
+ghost use Rattle.naming.specs.Rules.Run.{startOver, runGrounds};
+ghost use Rattle.naming.specs.Rules.Step.{stepMade, stepOn};
+ghost use Rattle.naming.specs.Inner.Answers.{positionOf, startedOf, steppedOf, runAfter, StepGoes};
 use crate::names::names_ground;
 use crate::position::RUNNING;
 use crate::position::RunPosition;
@@ -24,6 +18,7 @@ use cluster::answer::SLOTS;
 use file::survey::FileAnswer;
 use file::survey::survey;
 use file::types::LogicalName;
+use file::types::PLACES;
 use file::types::Refusal;
 use file::types::SlavePlaces;
 
@@ -64,23 +59,21 @@ fn run_ground(names: &[u8], run: RunPosition) -> u8
     0
 }
 
-// A step of a running position, on an accepted file and with the places that its survey found.
+// A step of a running position, on an accepted file and with the places of its slaves.
 fn make_step(
     file: &mut [u8],
-    configurations: &SlavePlaces,
-    documentations: &SlavePlaces,
-    count: usize,
+    places: &SlavePlaces,
     run: RunPosition,
     names: &[u8],
     answer: &mut [u8],
 ) -> Stepped
-    requires { ⌜ Becomes (now file) (decode (now file)) × AllKept (decode (now file)) configuration (now configurations) count × AllKept (decode (now file)) documentation (now documentations) count × (slots ≤ length (now answer)) × (firstOf (runGrounds (now names) (positionOf run)) ≡ 0) × (run .end ≡ running) ⌝ }
+    requires { ⌜ Placed (now file) (now places) × StepGoes (now names) (positionOf run) (now answer) ⌝ }
     ensures { λ r. ⌜ (steppedOf r, runAfter (positionOf run) r, now (answer .exit), now (file .exit)) ≡ stepMade (now (file .entry)) (positionOf run) (now (names .entry)) (now (answer .entry)) ⌝ }
 {
     let index = run.index as usize;
     let name = LogicalName::new(names[index]);
     let next = round_at(run.step, name, run.value);
-    let senders = send(file, configurations, documentations, count, next, answer);
+    let senders = send(file, places, next, answer);
     let run = moved(run, names.len() as u64, reply_in(senders));
     Stepped::Made { senders, run }
 }
@@ -89,8 +82,8 @@ fn make_step(
 pub fn step(file: &mut [u8], run: RunPosition, names: &[u8], answer: &mut [u8]) -> Stepped
     ensures { λ r. ⌜ (steppedOf r, runAfter (positionOf run) r, now (answer .exit), now (file .exit)) ≡ stepOn (now (file .entry)) (positionOf run) (now (names .entry)) (now (answer .entry)) ⌝ }
 {
-    let found = survey(file);
-    let verdict = found.answer;
+    let mut places = [0u16; PLACES];
+    let verdict = survey(file, &mut places);
     if let FileAnswer::Refused(why) = verdict {
         return Stepped::Refused(why);
     }
@@ -104,16 +97,5 @@ pub fn step(file: &mut [u8], run: RunPosition, names: &[u8], answer: &mut [u8]) 
     if run.end != RUNNING {
         return Stepped::Ended;
     }
-    let configurations = found.places.configuration;
-    let documentations = found.places.documentation;
-    let count = found.places.count;
-    make_step(
-        file,
-        &configurations,
-        &documentations,
-        count,
-        run,
-        names,
-        answer,
-    )
+    make_step(file, &places, run, names, answer)
 }

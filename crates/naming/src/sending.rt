@@ -3,59 +3,60 @@ ghost use mathlib.Core.Path.{_≡_};
 ghost use mathlib.Core.List.{[], _∷_};
 ghost use Prim.Native.Nat.{_≤_, _<_, _/_, _%_};
 ghost use lib.ListN.{length};
-ghost use Rattle.file.specs.Bytes.{bytesOf};
-ghost use Rattle.file.specs.Typed.{recordIn, nameIn};
-ghost use Rattle.file.specs.Cluster.{configuration, documentation, writeOperation, executeOperation};
-ghost use Rattle.file.specs.Decode.{decode};
-ghost use Rattle.file.specs.Legal.{LegalPending};
-ghost use Rattle.file.specs.Accepted.{Becomes};
-ghost use Rattle.frame.specs.Fireworks.{dataFirework};
-ghost use Rattle.cluster.specs.Bus.{slots};
-ghost use Rattle.cluster.specs.Slaves.{nextEpoch};
-ghost use Rattle.cluster.specs.Round.{carried, dataEffect};
-ghost use Rattle.cluster.specs.Carried.{AllKept, Carried};
-ghost use Rattle.naming.specs.View.{half, poll, writeHigh, writeLow, sent, atUnnamed};
-ghost use Rattle.naming.specs.Run.{placeOf, giveOf, partOf, operationAt, lastStep};
-ghost use Rattle.naming.specs.Step.{inSlotOne};
-ghost use Rattle.naming.specs.Answers.{heard, Sends, askedBy, askedFor};
+ghost use Rattle.file.specs.Rules.Bytes.{bytesOf};
+ghost use Rattle.file.specs.Rules.Layout.{recordSize};
+ghost use Rattle.file.specs.Rules.Results.{done};
+ghost use Rattle.file.specs.Rules.Cluster.{writeOperation, executeOperation};
+ghost use Rattle.file.specs.Rules.Decode.{decode};
+ghost use Rattle.file.specs.Rules.Legal.{LegalPending};
+ghost use Rattle.file.specs.Inner.Typed.{recordIn, nameIn};
+ghost use Rattle.file.specs.Inner.Accepted.{Placed};
+ghost use Rattle.frame.specs.Rules.Fireworks.{dataFirework};
+ghost use Rattle.cluster.specs.Rules.Bus.{slots};
+ghost use Rattle.cluster.specs.Rules.Round.{dataEffect};
+ghost use Rattle.cluster.specs.Inner.Carried.{Carried};
+ghost use Rattle.cluster.specs.Inner.Duties.{roundData};
+ghost use Rattle.naming.specs.Rules.Rounds.{half, poll, writeHigh, writeLow, sent, atUnnamed};
+ghost use Rattle.naming.specs.Rules.Run.{placeOf, partOf, roundAt, giveStep, lastStep};
+ghost use Rattle.naming.specs.Rules.Step.{isReply};
+ghost use Rattle.naming.specs.Inner.Answers.{heard, Sends, askedBy, askedFor};
+use crate::position::COMPARISON_ROUNDS;
+use crate::position::GIVE_HIGH;
+use crate::position::GIVE_LOW;
 use crate::position::GIVE_NAME;
+use crate::position::HIGH;
+use crate::position::LOW;
 use crate::position::POLL;
 use crate::position::Reply;
 use crate::position::tried_value;
-use cluster::round::master_slave;
+use cluster::answer::FIRST_SLOT;
+use cluster::epoch::next_epoch;
+use cluster::master_slave::master_slave;
+use cluster::types::MasterSlaveRound;
+use file::readers::read_epoch;
 use file::types::FileNumber;
 use file::types::LogicalName;
+use file::types::Operation;
 use file::types::RecordNumber;
 use file::types::SlavePlaces;
-use file::writers::read_epoch;
-use frame::firework::MSD;
-use frame::types::Operation;
 
-// Name, file, operation and record of the address frame, and the data of a write, 0 for any other.
-pub struct NextRound {
-    pub name: LogicalName,
-    pub number: FileNumber,
-    pub operation: Operation,
-    pub record: RecordNumber,
-    pub b0: u8,
-    pub b1: u8,
-    pub b2: u8,
-    pub b3: u8,
-}
+// The values of a byte, and of the four bytes of a half.
+const BYTE: u64 = 256;
 
-const CONFIGURATION: FileNumber = FileNumber(0x08);
+const HALF: u64 = BYTE * BYTE * BYTE * BYTE;
 
-const DOCUMENTATION: FileNumber = FileNumber(0x3D);
+// "a reply in slot 1".
+const REPLY_SLOT: u64 = FIRST_SLOT as u64;
 
 // The read that finds out whether a name is taken.
-fn poll_round(name: LogicalName) -> NextRound
+fn poll_round(name: LogicalName) -> MasterSlaveRound
     ensures { λ r. ⌜ Sends r (sent (poll (nameIn name))) ⌝ }
 {
-    NextRound {
+    MasterSlaveRound {
         name,
-        number: DOCUMENTATION,
+        number: FileNumber::DOCUMENTATION,
         operation: Operation::READ,
-        record: RecordNumber(1),
+        record: RecordNumber::SERIES,
         b0: 0,
         b1: 0,
         b2: 0,
@@ -64,12 +65,12 @@ fn poll_round(name: LogicalName) -> NextRound
 }
 
 // A write to a record of 0x08 of the unnamed slaves.
-fn write_round(record: RecordNumber, b0: u8, b1: u8, b2: u8, b3: u8) -> NextRound
+fn write_round(record: RecordNumber, b0: u8, b1: u8, b2: u8, b3: u8) -> MasterSlaveRound
     ensures { λ r. ⌜ Sends r (atUnnamed writeOperation (recordIn «record») (b0 ∷ b1 ∷ b2 ∷ b3 ∷ [])) ⌝ }
 {
-    NextRound {
+    MasterSlaveRound {
         name: LogicalName::UNNAMED,
-        number: CONFIGURATION,
+        number: FileNumber::CONFIGURATION,
         operation: Operation::WRITE,
         record,
         b0,
@@ -80,36 +81,36 @@ fn write_round(record: RecordNumber, b0: u8, b1: u8, b2: u8, b3: u8) -> NextRoun
 }
 
 // The same with the four bytes of a number.
-fn half_round(record: RecordNumber, value: u64) -> NextRound
+fn half_round(record: RecordNumber, value: u64) -> MasterSlaveRound
     requires { ⌜ value < half ⌝ }
-    ensures { λ r. ⌜ Sends r (atUnnamed writeOperation (recordIn «record») (bytesOf 4 value)) ⌝ }
+    ensures { λ r. ⌜ Sends r (atUnnamed writeOperation (recordIn «record») (bytesOf recordSize value)) ⌝ }
 {
-    let b0 = (value / 16777216) as u8;
-    let b1 = (value % 16777216 / 65536) as u8;
-    let b2 = (value % 65536 / 256) as u8;
-    let b3 = (value % 256) as u8;
+    let b0 = (value / BYTE / BYTE / BYTE) as u8;
+    let b1 = (value / BYTE / BYTE % BYTE) as u8;
+    let b2 = (value / BYTE % BYTE) as u8;
+    let b3 = (value % BYTE) as u8;
     write_round(record, b0, b1, b2, b3)
 }
 
-fn high_round(value: u64) -> NextRound
+fn high_round(value: u64) -> MasterSlaveRound
     ensures { λ r. ⌜ Sends r (sent (writeHigh (value / half))) ⌝ }
 {
-    half_round(RecordNumber(2), value / 4294967296)
+    half_round(RecordNumber::COMPARISON_HIGH, value / HALF)
 }
 
-fn low_round(value: u64) -> NextRound
+fn low_round(value: u64) -> MasterSlaveRound
     ensures { λ r. ⌜ Sends r (sent (writeLow (value % half))) ⌝ }
 {
-    half_round(RecordNumber(3), value % 4294967296)
+    half_round(RecordNumber::COMPARISON_LOW, value % HALF)
 }
 
 // An execute of a record of 0x08 of the unnamed slaves.
-fn execute_round(record: RecordNumber) -> NextRound
+fn execute_round(record: RecordNumber) -> MasterSlaveRound
     ensures { λ r. ⌜ Sends r (atUnnamed executeOperation (recordIn «record») []) ⌝ }
 {
-    NextRound {
+    MasterSlaveRound {
         name: LogicalName::UNNAMED,
-        number: CONFIGURATION,
+        number: FileNumber::CONFIGURATION,
         operation: Operation::EXECUTE,
         record,
         b0: 0,
@@ -120,94 +121,66 @@ fn execute_round(record: RecordNumber) -> NextRound
 }
 
 // A round of a comparison, by its place in it and the value that is compared with.
-fn compare_round(part: u64, value: u64) -> NextRound
+fn compare_round(part: u64, value: u64) -> MasterSlaveRound
     ensures { λ r. ⌜ Sends r (sent (askedBy (partOf part) value)) ⌝ }
 {
-    if part == 0 {
+    if part == HIGH {
         return high_round(value);
     }
-    if part == 1 {
+    if part == LOW {
         return low_round(value);
     }
-    execute_round(RecordNumber(2))
+    execute_round(RecordNumber::COMPARISON_HIGH)
 }
 
 // A round of the four that give a name.
-fn give_round(place: u64, name: LogicalName, value: u64) -> NextRound
-    ensures { λ r. ⌜ Sends r (sent (operationAt (giveOf place) (nameIn name) value)) ⌝ }
+fn give_round(step: u64, name: LogicalName, value: u64) -> MasterSlaveRound
+    requires { ⌜ giveStep ≤ step ⌝ }
+    ensures { λ r. ⌜ Sends r (sent (roundAt (placeOf step) (nameIn name) value)) ⌝ }
 {
-    if place == 0 {
-        return write_round(RecordNumber(1), 0, 0, name.0, LogicalName::UNNAMED.0);
+    if step == GIVE_NAME {
+        return write_round(RecordNumber::NAMES, 0, 0, name.0, LogicalName::UNNAMED.0);
     }
-    if place == 1 {
+    if step == GIVE_HIGH {
         return high_round(value);
     }
-    if place == 2 {
+    if step == GIVE_LOW {
         return low_round(value);
     }
-    execute_round(RecordNumber(1))
+    execute_round(RecordNumber::NAMES)
 }
 
 // The round at a step of a pass, for a name and the value so far.
-pub fn round_at(step: u64, name: LogicalName, value: u64) -> NextRound
+pub fn round_at(step: u64, name: LogicalName, value: u64) -> MasterSlaveRound
     requires { ⌜ step ≤ lastStep ⌝ }
-    ensures { λ r. ⌜ Sends r (sent (operationAt (placeOf step) (nameIn name) value)) ⌝ }
+    ensures { λ r. ⌜ Sends r (sent (roundAt (placeOf step) (nameIn name) value)) ⌝ }
 {
     if step == POLL {
         return poll_round(name);
     }
     if step < GIVE_NAME {
         let asked = step - 1;
-        let tried = tried_value(asked / 3, value);
-        return compare_round(asked % 3, tried);
+        let tried = tried_value(asked / COMPARISON_ROUNDS, value);
+        return compare_round(asked % COMPARISON_ROUNDS, tried);
     }
-    give_round(step - GIVE_NAME, name, value)
+    give_round(step, name, value)
 }
 
 // Whether someone sent in slot 1.
 pub fn reply_in(senders: u64) -> Reply
-    ensures { λ r. ⌜ heard r ≡ inSlotOne (carried senders) ⌝ }
+    ensures { λ r. ⌜ heard r ≡ isReply (done senders) ⌝ }
 {
-    if senders / 2 % 2 == 1 {
+    if (senders >> REPLY_SLOT) % 2 == 1 {
         return Reply::Heard;
     }
     Reply::Silence
 }
 
-fn next_epoch(epoch: u8) -> u8
-    ensures { λ r. ⌜ r ≡ nextEpoch epoch ⌝ }
-{
-    if epoch == 255 {
-        return 0;
-    }
-    epoch + 1
-}
-
 // The complete round on an accepted file. The mask of the slots in which someone sent.
-pub fn send(
-    file: &mut [u8],
-    configurations: &SlavePlaces,
-    documentations: &SlavePlaces,
-    count: usize,
-    next: NextRound,
-    buffer: &mut [u8],
-) -> u64
-    requires { ⌜ Becomes (now file) (decode (now file)) × AllKept (decode (now file)) configuration (now configurations) count × AllKept (decode (now file)) documentation (now documentations) count × LegalPending (askedFor (decode (now file)) next) × (slots ≤ length (now buffer)) ⌝ }
-    ensures { λ r. ⌜ Carried (dataEffect (askedFor (decode (now (file .entry))) next) (next .b0 ∷ next .b1 ∷ next .b2 ∷ next .b3 ∷ [])) dataFirework (now (buffer .entry)) (now (buffer .exit)) r (now (file .exit)) ⌝ }
+pub fn send(file: &mut [u8], places: &SlavePlaces, next: MasterSlaveRound, buffer: &mut [u8]) -> u64
+    requires { ⌜ Placed (now file) (now places) × LegalPending (askedFor (decode (now file)) next) × (slots ≤ length (now buffer)) ⌝ }
+    ensures { λ r. ⌜ Carried (dataEffect (askedFor (decode (now (file .entry))) next) (roundData next)) dataFirework (now (buffer .entry)) (now (buffer .exit)) r (now (file .exit)) ⌝ }
 {
     let epoch = next_epoch(read_epoch(file));
-    let frame = [MSD, next.b0, next.b1, next.b2, next.b3, 0];
-    master_slave(
-        file,
-        configurations,
-        documentations,
-        count,
-        epoch,
-        next.name,
-        next.number,
-        next.operation,
-        next.record,
-        &frame,
-        buffer,
-    )
+    master_slave(file, places, epoch, next, buffer)
 }

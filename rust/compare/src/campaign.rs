@@ -1,7 +1,7 @@
 //! The comparison: each call is made on both engines, and everything it answers and leaves is compared.
 
 use crate::case::{Call, Outcome};
-use crate::engine::Engine;
+use crate::engine::{Engine, Model};
 use crate::random::Random;
 use crate::{clusters, inputs, runs};
 use std::collections::BTreeMap;
@@ -145,6 +145,15 @@ impl<'a> Campaign<'a> {
         self.ends_reached();
         self.stores_reached(amounts.rounds / ROUNDS_FOR_A_STORE);
         self.reached();
+    }
+
+    /// How many calls of each kind were made, and how many whole runs.
+    pub fn made(&self) -> BTreeMap<&'static str, u64> {
+        let mut made = BTreeMap::from([("run", self.ends.iter().sum())]);
+        for (&(kind, _), count) in &self.answers {
+            *made.entry(kind).or_insert(0) += count;
+        }
+        made
     }
 
     fn checks(&mut self, amount: usize, random: &mut Random) {
@@ -297,6 +306,14 @@ impl<'a> Campaign<'a> {
             }
         }
     }
+}
+
+/// A quarter of the usual calls, for a test: panics unless the engine does what the model does.
+pub fn agrees_with_model(engine: &dyn Engine, seed: u64) {
+    let mut campaign = Campaign::new(engine, &Model);
+    campaign.all(&Amounts::USUAL.part(4), seed);
+    assert_eq!(campaign.failed, 0);
+    assert!(campaign.passed > 50_000);
 }
 
 /// Good files twice as often as damaged ones.

@@ -4,12 +4,15 @@
 //! answer buffer holds EE throughout before the call. A mask that the call leaves alone is shown as 0.
 
 use crate::engine::{Engine, RunWords};
+use std::collections::BTreeMap;
 use std::fmt;
 
 /// What lent memory holds before a call, so that a byte too many shows.
 pub const FILL: u8 = 0xEE;
 const SENDERS_BEFORE: u64 = 0xEEEE_EEEE_EEEE_EEEE;
 const RUN_BEFORE: RunWords = [SENDERS_BEFORE; 6];
+/// The kind of a case that holds what the listing program writes.
+pub const LISTING: &str = "list";
 /// The place of the epoch in a file.
 const EPOCH: usize = 8;
 
@@ -207,6 +210,32 @@ pub fn hold_against(engine: &dyn Engine, line: &str) -> Result<(), String> {
         return Err(format!("a refusal altered lent memory: {line}"));
     }
     Ok(())
+}
+
+/// What came of the kept cases of a text.
+pub struct Held<'a> {
+    /// How many calls of each kind were made.
+    pub made: BTreeMap<&'a str, u64>,
+    /// What differs, one text a case.
+    pub wrong: Vec<String>,
+}
+
+/// Makes the call of every kept case. Listings are no call of an engine and are left out.
+pub fn hold_all<'a>(engine: &dyn Engine, text: &'a str) -> Held<'a> {
+    let mut held = Held { made: BTreeMap::new(), wrong: Vec::new() };
+    for line in text.lines() {
+        let kind = kind_of(line);
+        if kind != LISTING {
+            *held.made.entry(kind).or_insert(0) += 1;
+            held.wrong.extend(hold_against(engine, line).err());
+        }
+    }
+    held
+}
+
+/// The first word of a case.
+pub fn kind_of(line: &str) -> &str {
+    line.split(' ').next().unwrap_or(line)
 }
 
 fn lent<T>(memory: &mut Option<T>) -> &mut T {

@@ -4,6 +4,8 @@ pub type RunWords = [u64; 6];
 
 /// One implementation of the seven calls. 0 is "carried out", every other number a refusal.
 pub trait Engine {
+    /// What the comparison says it ran against.
+    fn name(&self) -> &'static str;
     fn check(&self, file: &[u8]) -> u8;
     fn read_address(&self, frame: &[u8], parts: &mut [u8; 5]) -> u8;
     fn write_address(&self, frame: &mut [u8], parts: [u8; 5]) -> u8;
@@ -24,6 +26,10 @@ pub trait Engine {
 pub struct Model;
 
 impl Engine for Model {
+    fn name(&self) -> &'static str {
+        "model"
+    }
+
     fn check(&self, file: &[u8]) -> u8 {
         number(model::check(file).map(|_| ()))
     }
@@ -92,6 +98,10 @@ pub struct Plain {
 }
 
 impl Engine for Plain {
+    fn name(&self) -> &'static str {
+        "plain"
+    }
+
     fn check(&self, file: &[u8]) -> u8 {
         plain::check(file)
     }
@@ -138,6 +148,10 @@ pub struct Library;
 
 #[cfg(feature = "library")]
 impl Engine for Library {
+    fn name(&self) -> &'static str {
+        "library"
+    }
+
     fn check(&self, file: &[u8]) -> u8 {
         ttpa::calls::check(file)
     }

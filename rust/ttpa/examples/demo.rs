@@ -22,7 +22,7 @@ struct Cluster {
 fn print_verdict<T>(what: &str, verdict: Result<T, TtpaError>) {
     match verdict {
         Ok(_) => println!("{what}: accepted"),
-        Err(error) => println!("{what}: refused {}", error.number()),
+        Err(error) => println!("{what}: {error}"),
     }
 }
 

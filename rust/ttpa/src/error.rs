@@ -84,27 +84,42 @@ impl TtpaError {
         }
     }
 
+    /// The texts of include/ttpa.h.
     fn text(self) -> &'static str {
         match self {
-            TtpaError::FileSize => "the file is shorter than 16 or longer than 32,768 bytes",
-            TtpaError::Mark => "the mark is wrong",
-            TtpaError::Edition => "the edition is not 1",
-            TtpaError::LengthField => "the length field is not the file's length",
-            TtpaError::Header => "a header field is wrong",
-            TtpaError::Layout => "the layout is broken",
-            TtpaError::NeededFile => "a slave lacks file 0x08 or 0x3D in the needed size",
-            TtpaError::EqualPhysicalNames => "two slaves have equal physical names",
-            TtpaError::ShortBuffer => "the buffer is too short",
-            TtpaError::Firework => "the frame begins with no fitting firework",
-            TtpaError::FrameLength => "the frame's length does not fit its firework",
-            TtpaError::CheckByte => "the check byte is wrong",
-            TtpaError::Operation => "there is no such operation",
-            TtpaError::BroadcastRead => "a read is addressed to 0x00",
-            TtpaError::ListedName => "a listed name is 0x00 or 0xFF",
-            TtpaError::RepeatedName => "a listed name occurs twice",
-            TtpaError::Position => "the run position is none",
-            TtpaError::FileNumber => "the file number is above 63",
-            TtpaError::Other(_) => "an unknown ground",
+            TtpaError::FileSize => "the cluster file is shorter than 16 or longer than 32,768 bytes",
+            TtpaError::Mark => "the file is no cluster file: it does not begin with the mark 0x54 0x41",
+            TtpaError::Edition => "the cluster file's edition, byte 2 of its header, is not 1",
+            TtpaError::LengthField => "the cluster file is not as long as its header says",
+            TtpaError::Header => {
+                "the cluster file's header has a wrong count, table offset, pending operation or zero byte"
+            }
+            TtpaError::Layout => {
+                "the cluster file's slave table, a slave's directory or the file's end breaks the layout"
+            }
+            TtpaError::NeededFile => {
+                "a slave lacks file 0x08 (configuration) with record 3 or 0x3D (documentation) with record 2"
+            }
+            TtpaError::EqualPhysicalNames => "two slaves have the same physical name",
+            TtpaError::ShortBuffer => {
+                "the buffer is too short: 64 bytes are needed for an answer, 6 for a frame"
+            }
+            TtpaError::Firework => {
+                "the frame is empty or begins with no firework; an address frame begins with 0x55"
+            }
+            TtpaError::FrameLength => {
+                "the frame's length does not fit its firework: 6 for an address or written data, else 1"
+            }
+            TtpaError::CheckByte => "the frame's check byte does not fit the four bytes before it",
+            TtpaError::Operation => "the address frame's operation is none of read, write and execute",
+            TtpaError::BroadcastRead => "a read is addressed to all slaves, logical name 0x00",
+            TtpaError::ListedName => {
+                "the list of names has 0x00 (broadcast) or 0xFF (unnamed), which a naming run does not give"
+            }
+            TtpaError::RepeatedName => "the list of names has a name twice",
+            TtpaError::Position => "the stored naming run is damaged or belongs to another list of names",
+            TtpaError::FileNumber => "the file number for an address frame is above 63",
+            TtpaError::Other(_) => "refused on a ground that this version has no text for",
         }
     }
 }
@@ -119,7 +134,7 @@ impl core::error::Error for TtpaError {}
 
 #[cfg(test)]
 mod tests {
-    use super::TtpaError;
+    use super::{TtpaError, NUMBERED};
 
     #[test]
     fn every_number_comes_back() {
@@ -127,6 +142,14 @@ mod tests {
         for number in 1..=u8::MAX {
             assert_eq!(TtpaError::of(number).map_err(TtpaError::number), Err(number));
         }
+    }
+
+    #[test]
+    fn texts_are_those_of_the_header() {
+        let returned = |line: &'static str| line.trim().strip_prefix("return \"")?.strip_suffix("\";");
+        let header = include_str!("../../../include/ttpa.h").lines().filter_map(returned);
+        let own = NUMBERED.into_iter().chain([TtpaError::Other(u8::MAX)]).map(TtpaError::text);
+        assert!(header.eq(["accepted"].into_iter().chain(own)));
     }
 
     #[test]

@@ -2,7 +2,7 @@
 -- Assumes nothing.
 use mathlib.Core.Path.{sym}
 use lib.Seq.{length-take-le}
-use Rattle.listing_text.proofs.TourLaws.{listed-fits}
+use Rattle.listing_text.proofs.ListLaws.{listed-fits}
 use borrow.Author.Needs.{needs}
 use Rattle.listing.proofs.main.Statement.{statement}
 use Rattle.listing.proofs.main.Tie as tie
@@ -29,7 +29,7 @@ array-share-prefix-text : tie.Need-array-share-prefix-text
 array-share-prefix-text c = listed-fits _ _ (c .before .before .list .ensures)
 
 slice-aggregate-write-all : tie.Need-slice-aggregate-write-all
-slice-aggregate-write-all c = sym (length-take-le _ _ (listed-fits _ _ (c .before .before .before .list .ensures)))
+slice-aggregate-write-all c = let listed : tie.After-list = search in sym (length-take-le _ _ (listed-fits _ _ (listed .list .ensures)))
 
 write-all-requires : tie.Need-write-all-requires
 write-all-requires c κs = search needs

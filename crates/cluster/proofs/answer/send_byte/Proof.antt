@@ -1,7 +1,7 @@
 -- `cluster::answer::send_byte` meets its contract.
 -- Assumes nothing.
 use mathlib.Core.Path.{refl}
-use Rattle.cluster.specs.Carried.{said}
+use Rattle.cluster.specs.Inner.Carried.{said}
 use borrow.Author.Needs.{needs}
 use Rattle.cluster.proofs.answer.send_byte.Statement.{statement}
 use Rattle.cluster.proofs.answer.send_byte.Tie as tie

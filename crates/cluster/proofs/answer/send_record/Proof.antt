@@ -2,7 +2,7 @@
 -- Assumes nothing.
 use lib.ListN.{length-set}
 use native.Mathlib.Omega.{arith}
-use Rattle.cluster.specs.Carried.{said}
+use Rattle.cluster.specs.Inner.Carried.{said}
 use Rattle.cluster.proofs.Bus.{record-said}
 use borrow.Author.Needs.{needs}
 use Rattle.cluster.proofs.answer.send_record.Statement.{statement}

@@ -4,7 +4,7 @@ use Prim.Native.Nat.{_-_}
 use native.Mathlib.Omega.{arith}
 use mathlib.Core.Path.{_∙_}
 use lib.ListN.{length-set}
-use Rattle.cluster.specs.Bus.{nobody}
+use Rattle.cluster.specs.Rules.Bus.{nobody}
 use Rattle.cluster.proofs.Bus.{Filled, filled-start, filled-length, filled-next, filled-done, nobody-byte}
 use Rattle.cluster.proofs.answer.silence.Statement.{statement}
 use Rattle.cluster.proofs.answer.silence.Tie as tie

@@ -1,9 +1,9 @@
 -- `cluster::entry::action_of` meets its contract: each operation by its code.
 -- Assumes nothing.
 use mathlib.Core.Path.{refl}
-use Rattle.file.specs.Order.{either}
-use Rattle.cluster.specs.Entries.{receives, sends, ends}
-use Rattle.cluster.specs.EntryForm.{codeOf, actionBy, actionFrom}
+use Rattle.file.specs.Rules.Order.{either}
+use Rattle.cluster.specs.Rules.Entries.{receives, sends, ends}
+use Rattle.cluster.specs.Inner.EntryForm.{codeOf, actionBy, actionFrom}
 use Rattle.cluster.specs.declared.entry.EntryOperation.the-variants.{Receive, Send, ReceiveSync, Execute, ReceiveSpeedup, SendSpeedup, EndOfRound, ExecuteAndEnd, ReceiveMux4, SendMux4, ReceiveMux8, SendMux8, ReceiveSpeedupMux4, SendSpeedupMux4, ReceiveMux8High, SendMux8High}
 use Rattle.cluster.proofs.EntryLaws.{acts-as}
 use borrow.Author.Needs.{needs}

@@ -1,8 +1,8 @@
 -- `cluster::entry::byte_place` meets its contract.
 -- Assumes nothing.
 use mathlib.Core.Path.{refl}
-use Rattle.cluster.specs.Entries.{bytePlace}
-use Rattle.cluster.specs.EntryForm.{entryFrom}
+use Rattle.cluster.specs.Rules.Entries.{bytePlace}
+use Rattle.cluster.specs.Inner.EntryForm.{entryFrom}
 use borrow.Author.Needs.{needs}
 use Rattle.cluster.proofs.entry.byte_place.Statement.{statement}
 use Rattle.cluster.proofs.entry.byte_place.Tie as tie

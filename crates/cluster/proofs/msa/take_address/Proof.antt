@@ -1,8 +1,6 @@
 -- `cluster::msa::take_address` meets its contract: a law for each way.
 -- Assumes nothing.
-use native.Mathlib.Omega.{arith}
-use Rattle.file.proofs.ReaderLaws.{becomes-decoded}
-use Rattle.cluster.specs.Answers.{answerOf}
+use Rattle.cluster.specs.Inner.Answers.{answerOf}
 use Rattle.cluster.proofs.FrameLaws.{address-refused, address-legal, address-taken}
 use borrow.Author.Needs.{needs}
 use Rattle.cluster.proofs.msa.take_address.Statement.{statement}
@@ -17,14 +15,8 @@ enum-known-reading c = search needs
 enum-known-reading-2 : tie.Need-enum-known-reading-2
 enum-known-reading-2 c = search needs
 
-set-epoch-requires : tie.Need-set-epoch-requires
-set-epoch-requires c κs = search needs
-
-set-pending-requires : tie.Need-set-pending-requires
-set-pending-requires c κs =
-    let start = c .before .before .before .before .before .before .before .before .before .before .before .before in
-    let raised = c .before .before .before .set-epoch .ensures in
-    (becomes-decoded raised, address-legal _ _ (start .pre .1) (c .before .before .before .before .before .before .before .before .read-address .ensures) (c .before .before .before .before .before .before .reading2 .given .1) (λ k. omega (arith, c .before .before .before .before .before .before .before .before .before .before .shared-slice-known .given k)) raised)
+become-pending-requires : tie.Need-become-pending-requires
+become-pending-requires c κs = search (needs, address-legal)
 
 silence-requires : tie.Need-silence-requires
 silence-requires c κs = search needs
@@ -41,9 +33,7 @@ same-length-2 c = search needs
 
 returns-2 : tie.Need-returns-2
 unfolding answerOf
-returns-2 c =
-    let start = c .before .before .before .before .before .before .before .before .before .before .before .before .before .before .before .before .before .before .before in
-    address-taken _ _ (start .pre .1) (c .before .before .before .before .before .before .before .before .before .before .before .before .before .before .before .read-address .ensures) (c .before .before .before .before .before .before .before .before .before .before .before .before .before .reading2 .given .1) (c .before .before .before .before .before .before .before .before .before .before .set-epoch .ensures) (c .before .before .before .before .before .before .set-pending .ensures) (c .before .before .silence .ensures)
+returns-2 c = search (needs, address-taken)
 
 pub take-address-spec : {M : Type 1} → statement M
 take-address-spec =
@@ -52,8 +42,7 @@ take-address-spec =
     read-address-requires
     enum-known-reading
     enum-known-reading-2
-    set-epoch-requires
-    set-pending-requires
+    become-pending-requires
     silence-requires
     returns
     same-length

@@ -1,12 +1,12 @@
--- `cluster::multipartner::bus_with` meets its contract: a law for each turn.
+-- `cluster::multipartner::bus_with` meets its contract: a law for each act.
 -- Assumes nothing.
-use Rattle.cluster.proofs.TurnLaws.{bus-sends, bus-stores, bus-rests}
+use Rattle.cluster.proofs.SlotActLaws.{bus-sends, bus-stores, bus-rests}
 use borrow.Author.Needs.{needs}
 use Rattle.cluster.proofs.multipartner.bus_with.Statement.{statement}
 use Rattle.cluster.proofs.multipartner.bus_with.Tie as tie
 
-enum-known-turn : tie.Need-enum-known-turn
-enum-known-turn c = search needs
+enum-known-act : tie.Need-enum-known-act
+enum-known-act c = search needs
 
 enum-told : tie.Need-enum-told
 enum-told c = search needs
@@ -25,4 +25,4 @@ returns-3 c = search (needs, bus-rests)
 
 pub bus-with-spec : {M : Type 1} → statement M
 bus-with-spec =
-    tie.close (tie.spec enum-known-turn enum-told enum-told-2 returns returns-2 returns-3)
+    tie.close (tie.spec enum-known-act enum-told enum-told-2 returns returns-2 returns-3)

@@ -1,7 +1,6 @@
 -- `cluster::multipartner::carry_multipartner` meets its contract: the epoch raised, then the slots.
 -- Assumes nothing.
-use Rattle.file.proofs.ReaderLaws.{becomes-decoded}
-use Rattle.cluster.proofs.DataLaws.{all-raised}
+use Rattle.cluster.proofs.DataLaws.{raised-placed}
 use Rattle.cluster.proofs.SlotLaws.{raised-carries}
 use borrow.Author.Needs.{needs}
 use Rattle.cluster.proofs.multipartner.carry_multipartner.Statement.{statement}
@@ -11,10 +10,7 @@ raise-epoch-requires : tie.Need-raise-epoch-requires
 raise-epoch-requires c κs = search needs
 
 run-slots-requires : tie.Need-run-slots-requires
-run-slots-requires c κs =
-    let raised = c .before .before .before .before in
-    let start = raised .before .before .before .before in
-    (becomes-decoded (raised .raise-epoch .ensures), all-raised (raised .raise-epoch .ensures) (start .pre .1), start .pre .2, start .pre .3)
+run-slots-requires c κs = search (needs, raised-placed)
 
 same-length : tie.Need-same-length
 same-length c = search needs
@@ -23,9 +19,7 @@ same-length-2 : tie.Need-same-length-2
 same-length-2 c = search needs
 
 returns : tie.Need-returns
-returns c =
-    let run = c .before .before .before .before in
-    raised-carries _ _ (run .before .before .before .before .before .raise-epoch .ensures) (run .run-slots .ensures)
+returns c = search (needs, raised-carries)
 
 pub carry-multipartner-spec : {M : Type 1} → statement M
 carry-multipartner-spec =

@@ -1,6 +1,6 @@
--- `cluster::multipartner::heard_with` meets its contract: a law for each turn.
+-- `cluster::multipartner::heard_with` meets its contract: a law for each act.
 -- Assumes nothing.
-use Rattle.cluster.proofs.TurnLaws.{heard-sends, heard-stores, heard-rests}
+use Rattle.cluster.proofs.SlotActLaws.{heard-sends, heard-stores, heard-rests}
 use borrow.Author.Needs.{needs}
 use Rattle.cluster.proofs.multipartner.heard_with.Statement.{statement}
 use Rattle.cluster.proofs.multipartner.heard_with.Tie as tie

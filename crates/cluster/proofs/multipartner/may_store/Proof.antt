@@ -1,6 +1,6 @@
 -- `cluster::multipartner::may_store` meets its contract: a law for each test.
 -- Assumes nothing.
-use Rattle.cluster.proofs.TurnLaws.{store-low, store-high, store-place}
+use Rattle.cluster.proofs.SlotActLaws.{store-low, store-high, store-place}
 use borrow.Author.Needs.{needs}
 use Rattle.cluster.proofs.multipartner.may_store.Statement.{statement}
 use Rattle.cluster.proofs.multipartner.may_store.Tie as tie

@@ -21,37 +21,32 @@ entry-at-requires : tie.Need-entry-at-requires Inv-loop μ-loop
 entry-at-requires c κs = opening-within (c .before .loop .inv) (c .loop-test .taken)
 
 sub-if1 : tie.Need-sub-if1 Inv-loop μ-loop
-sub-if1 c = omega (arith, entry-short _ _ _ _ _ (c .before .entry-at .ensures) .0)
+sub-if1 c = omega (arith, entry-short _ _ _ (c .before .entry-at .ensures) .some)
 
 add-if1 : tie.Need-add-if1 Inv-loop μ-loop
-add-if1 c = omega (arith, entry-short _ _ _ _ _ (c .before .before .entry-at .ensures) .1)
+add-if1 c = omega (arith, entry-short _ _ _ (c .before .before .entry-at .ensures) .few)
 
 returns : tie.Need-returns Inv-loop μ-loop
-returns c =
-    let read = c .before .before .before in
-    opening-here (read .before .before .loop .inv) (read .before .loop-test .taken) (read .entry-at .ensures) (past-not-yet _ _ (entry-short _ _ _ _ _ (read .entry-at .ensures) .0) (c .if1 .taken))
+returns c = search (needs, opening-here, past-not-yet, entry-short)
 
 is-end-requires : tie.Need-is-end-requires Inv-loop μ-loop
 is-end-requires c κs = search needs
 
 returns-2 : tie.Need-returns-2 Inv-loop μ-loop
-returns-2 c =
-    let read = c .before .before .before .before .before in
-    opening-here (read .before .before .loop .inv) (read .before .loop-test .taken) (read .entry-at .ensures) (past-end _ _ (entry-short _ _ _ _ _ (read .entry-at .ensures) .0) (c .before .is-end .ensures) (c .if2 .taken))
+returns-2 c = search (needs, opening-here, past-end, entry-short)
 
 add-at : tie.Need-add-at Inv-loop μ-loop
 add-at c =
-    let turn = c .before .before .before .before .before .before in
-    omega (arith, opening-within (turn .before .loop .inv) (turn .loop-test .taken))
+    let end = c .before .before in
+    let read = end .before .before in
+    let pass = read .before .before in
+    omega (arith, opening-within (pass .before .loop .inv) (pass .loop-test .taken))
 
 loop-less : tie.Need-loop-less Inv-loop μ-loop
 loop-less c = omega arith
 
 loop-again : tie.Need-loop-again Inv-loop μ-loop
-loop-again c =
-    let past = c .before .before in
-    let read = past .before .before .before in
-    opening-next (read .before .before .loop .inv) (read .before .loop-test .taken) (read .entry-at .ensures) (past-over _ _ (entry-short _ _ _ _ _ (read .entry-at .ensures) .0) (c .before .is-end .ensures) (c .if2 .left) (past .if1 .left))
+loop-again c = search (needs, opening-next, past-over, entry-short)
 
 returns-3 : tie.Need-returns-3 Inv-loop μ-loop
 returns-3 c = opening-done (c .before .loop .inv) (c .loop-test .left)

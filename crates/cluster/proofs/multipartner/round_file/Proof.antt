@@ -1,8 +1,6 @@
 -- `cluster::multipartner::round_file` meets its contract: a law for each way.
 -- Assumes nothing.
-use native.Mathlib.Omega.{arith}
-use Rattle.file.proofs.ReaderLaws.{length-limit}
-use Rattle.cluster.proofs.RoundFileLaws.{round-unnamed, round-missing, round-found, round-long, round-within}
+use Rattle.cluster.proofs.RoundFileLaws.{round-unnamed, round-missing, start-fits, end-fits, round-found}
 use borrow.Author.Needs.{needs}
 use Rattle.cluster.proofs.multipartner.round_file.Statement.{statement}
 use Rattle.cluster.proofs.multipartner.round_file.Tie as tie
@@ -26,25 +24,13 @@ returns-2 : tie.Need-returns-2
 returns-2 c = search (needs, round-missing)
 
 add-t10 : tie.Need-add-t10
-add-t10 c =
-    let found = c .before .before in
-    let start = found .before .before .before .before .before .before .before .before in
-    let file = found .before .before .find-file .ensures in
-    omega (arith, round-long _ _ _ file (found .found .given .1) (start .pre .0) (start .pre .1 .slave), round-within _ _ _ file (found .found .given .1) (start .pre .0), length-limit (start .pre .0))
+add-t10 c = search (needs, start-fits)
 
 add-t11 : tie.Need-add-t11
-add-t11 c =
-    let found = c .before .before .before in
-    let start = found .before .before .before .before .before .before .before .before in
-    omega (arith, round-within _ _ _ (found .before .before .find-file .ensures) (found .found .given .1) (start .pre .0), length-limit (start .pre .0))
+add-t11 c = search (needs, end-fits)
 
 returns-3 : tie.Need-returns-3
-returns-3 c =
-    let found = c .before .before .before in
-    let left = found .before .before .before in
-    let start = left .before .before .before .before .before in
-    round-found _ _ _ (found .before .before .find-file .ensures) (found .found .given .1) (start .pre .0) (start .pre .1 .slave)
-    (left .before .before .before .logical-name .ensures) (left .if1 .left)
+returns-3 c = search (needs, round-found)
 
 pub round-file-spec : {M : Type 1} → statement M
 round-file-spec =

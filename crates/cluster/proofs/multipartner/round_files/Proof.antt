@@ -1,27 +1,29 @@
 -- `cluster::multipartner::round_files` meets its contract. The invariant is `Finding`: the files of the slaves passed are found.
 -- Assumes nothing.
-use Prim.Native.Nat.{_-_}
 use native.Mathlib.Omega.{arith}
-use mathlib.Core.Path.{refl}
-use Rattle.file.specs.Decode.{decode}
-use Rattle.cluster.proofs.RoundFileLaws.{Finding, finding-start, finding-next, finding-done, few-slaves}
+use Prim.Native.Nat.{_-_}
+use Rattle.file.specs.Inner.Typed.{fileIn}
+use Rattle.cluster.proofs.RoundFileLaws.{Finding, finding-start, finding-next, finding-done}
+use borrow.Author.Needs.{needs}
 use Rattle.cluster.proofs.multipartner.round_files.Statement.{statement}
 use Rattle.cluster.proofs.multipartner.round_files.Tie as tie
 
 abbrev Inv-loop : tie.InvT-loop
-Inv-loop file configurations count round starts₀ ends₀ slave₀ starts ends slave =
-    Finding (decode file) (round .0) starts ends slave
+Inv-loop file places round starts₀ ends₀ count slave₀ starts ends slave =
+    Finding file (fileIn round) starts ends slave
 
 abbrev μ-loop : tie.MeasureT-loop
-μ-loop file configurations count round starts₀ ends₀ slave₀ starts ends slave = count - slave
+μ-loop file places round starts₀ ends₀ count slave₀ starts ends slave =
+    count - slave
+
+slave-count-requires : tie.Need-slave-count-requires Inv-loop μ-loop
+slave-count-requires c κs = search needs
 
 loop-holds : tie.Need-loop-holds Inv-loop μ-loop
-loop-holds c = finding-start _ _ refl refl
+loop-holds c = search (needs, finding-start)
 
 round-file-requires : tie.Need-round-file-requires Inv-loop μ-loop
-round-file-requires c κs =
-    let start = c .before .before .before in
-    (start .pre .0, start .pre .1 .at (c .before .loop .slave) (omega (arith, start .pre .1 .all)))
+round-file-requires c κs = search needs
 
 mul-starts : tie.Need-mul-starts Inv-loop μ-loop
 mul-starts c = omega arith
@@ -42,12 +44,10 @@ loop-less : tie.Need-loop-less Inv-loop μ-loop
 loop-less c = omega arith
 
 loop-again : tie.Need-loop-again Inv-loop μ-loop
-loop-again c =
-    let start = c .before .before .before .before in
-    finding-next (c .before .before .loop .inv) (omega (arith, start .pre .1 .all)) (few-slaves (start .pre .0)) (c .round-file .ensures)
+loop-again c = search (needs, finding-next)
 
 returns : tie.Need-returns Inv-loop μ-loop
-returns c = finding-done (c .before .loop .inv) (omega (arith, c .before .before .before .pre .1 .all))
+returns c = search (needs, finding-done)
 
 pub round-files-spec : {M : Type 1} → statement M
 round-files-spec =
@@ -55,6 +55,7 @@ round-files-spec =
     (tie.spec
     Inv-loop
     μ-loop
+    slave-count-requires
     loop-holds
     round-file-requires
     mul-starts

@@ -8,10 +8,10 @@ use Rattle.cluster.proofs.multipartner.store.Statement.{statement}
 use Rattle.cluster.proofs.multipartner.store.Tie as tie
 
 abbrev Inv-loop : tie.InvT-loop
-Inv-loop file₀ places count byte slave₀ file slave = Storing file₀ places byte count slave file
+Inv-loop file₀ stores count byte slave₀ file slave = Storing file₀ stores byte count slave file
 
 abbrev μ-loop : tie.MeasureT-loop
-μ-loop file₀ places count byte slave₀ file slave = count - slave
+μ-loop file₀ stores count byte slave₀ file slave = count - slave
 
 loop-holds : tie.Need-loop-holds Inv-loop μ-loop
 loop-holds c = storing-start _ _ _ _
@@ -24,8 +24,8 @@ element-copy-out-place c = omega arith
 
 slice-write-file : tie.Need-slice-write-file Inv-loop μ-loop
 slice-write-file c =
-    let turn = c .before .before in
-    omega (arith, storing-length (turn .before .loop .inv), turn .before .before .pre .within (turn .before .loop .slave) (turn .loop-test .taken))
+    let pass = c .before .before in
+    omega (arith, storing-length (pass .before .loop .inv), pass .before .before .pre .within (pass .before .loop .slave) (pass .loop-test .taken))
 
 add-slave : tie.Need-add-slave Inv-loop μ-loop
 add-slave c = omega arith
@@ -35,10 +35,10 @@ loop-less c = omega arith
 
 loop-again : tie.Need-loop-again Inv-loop μ-loop
 loop-again c =
-    let turn = c .before .before in
+    let pass = c .before .before in
     ⊎-elim
-    (λ w. storing-here (turn .before .loop .inv) (turn .loop-test .taken) (w .0 .taken) (w .1))
-    (λ w. storing-past (turn .before .loop .inv) (turn .loop-test .taken) (w .0 .left) (w .1))
+    (λ w. storing-here (pass .before .loop .inv) (pass .loop-test .taken) (w .0 .taken) (w .1))
+    (λ w. storing-past (pass .before .loop .inv) (pass .loop-test .taken) (w .0 .left) (w .1))
     (c .if1 .came)
 
 same-length : tie.Need-same-length Inv-loop μ-loop

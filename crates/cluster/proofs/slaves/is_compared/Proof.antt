@@ -1,4 +1,4 @@
--- `cluster::slaves::is_compared` meets its contract: one test behind another.
+-- `cluster::slaves::is_compared` meets its contract: one test after another.
 -- Assumes nothing.
 use Rattle.cluster.proofs.SlaveLaws.{at-broadcast-none, not-broadcast}
 use borrow.Author.Needs.{needs}

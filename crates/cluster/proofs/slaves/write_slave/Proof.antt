@@ -1,11 +1,6 @@
 -- `cluster::slaves::write_slave` meets its contract: a law for each way.
 -- Assumes nothing.
-use Prim.Native.Nat.{ℕ}
-use mathlib.Core.List.{List}
-use native.Mathlib.Omega.{arith}
-use Rattle.file.specs.Bytes.{Bytes}
-use Rattle.frame.specs.Frames.{between}
-use Rattle.cluster.proofs.SlaveLaws.{record-room, between-bytes, write-unaddressed, write-missing, write-found}
+use Rattle.cluster.proofs.SlaveLaws.{record-room, write-unaddressed, write-missing, write-found}
 use borrow.Author.Needs.{needs}
 use Rattle.cluster.proofs.slaves.write_slave.Statement.{statement}
 use Rattle.cluster.proofs.slaves.write_slave.Tie as tie
@@ -37,30 +32,14 @@ same-length-2 c = search needs
 returns-2 : tie.Need-returns-2
 returns-2 c = search (needs, write-missing)
 
-shared-slice-read-store-record : tie.Need-shared-slice-read-store-record
-shared-slice-read-store-record c = search needs
-
-shared-slice-read-store-record-2 : tie.Need-shared-slice-read-store-record-2
-shared-slice-read-store-record-2 c = search needs
-
-shared-slice-read-store-record-3 : tie.Need-shared-slice-read-store-record-3
-shared-slice-read-store-record-3 c = search needs
-
-shared-slice-read-store-record-4 : tie.Need-shared-slice-read-store-record-4
-shared-slice-read-store-record-4 c = search needs
-
-store-record-requires : tie.Need-store-record-requires
-store-record-requires c κs = search (needs, record-room)
+put-data-requires : tie.Need-put-data-requires
+put-data-requires c κs = search (needs, record-room)
 
 same-length-3 : tie.Need-same-length-3
 same-length-3 c = search needs
 
 returns-3 : tie.Need-returns-3
-returns-3 c =
-    let start = c .before .before .before .before .before .before .before .before .before .before .before .before .before .before .before .before .before .before .before in
-    let frame : List ℕ = start .args .frame .now in
-    let bytes : Bytes (between frame) = between-bytes frame (λ k. omega (arith, c .before .before .before .shared-slice-known5 .given k)) in
-    search (needs, write-found, bytes)
+returns-3 c = search (needs, write-found)
 
 pub write-slave-spec : {M : Type 1} → statement M
 write-slave-spec =
@@ -75,10 +54,6 @@ write-slave-spec =
     enum-told
     same-length-2
     returns-2
-    shared-slice-read-store-record
-    shared-slice-read-store-record-2
-    shared-slice-read-store-record-3
-    shared-slice-read-store-record-4
-    store-record-requires
+    put-data-requires
     same-length-3
     returns-3)

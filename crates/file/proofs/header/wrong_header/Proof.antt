@@ -23,11 +23,17 @@ byte-at-requires-2 c κs = search needs
 returns-3 : tie.Need-returns-3
 returns-3 c = search (needs, header-zero 0)
 
+add-byte-at : tie.Need-add-byte-at
+add-byte-at c = search needs
+
 byte-at-requires-3 : tie.Need-byte-at-requires-3
 byte-at-requires-3 c κs = search needs
 
 returns-4 : tie.Need-returns-4
 returns-4 c = search (needs, header-zero 1)
+
+add-byte-at-2 : tie.Need-add-byte-at-2
+add-byte-at-2 c = search needs
 
 byte-at-requires-4 : tie.Need-byte-at-requires-4
 byte-at-requires-4 c κs = search needs
@@ -35,14 +41,17 @@ byte-at-requires-4 c κs = search needs
 returns-5 : tie.Need-returns-5
 returns-5 c = search (needs, header-zero 2)
 
-byte-at-requires-5 : tie.Need-byte-at-requires-5
-byte-at-requires-5 c κs = search needs
+shared-slice-read-new : tie.Need-shared-slice-read-new
+shared-slice-read-new c = search needs
 
-byte-at-requires-6 : tie.Need-byte-at-requires-6
-byte-at-requires-6 c κs = search needs
+new-requires : tie.Need-new-requires
+new-requires c κs = search needs
 
-byte-at-requires-7 : tie.Need-byte-at-requires-7
-byte-at-requires-7 c κs = search needs
+shared-slice-read-wrong-pending : tie.Need-shared-slice-read-wrong-pending
+shared-slice-read-wrong-pending c = search needs
+
+shared-slice-read-wrong-pending-2 : tie.Need-shared-slice-read-wrong-pending-2
+shared-slice-read-wrong-pending-2 c = search needs
 
 wrong-pending-requires : tie.Need-wrong-pending-requires
 wrong-pending-requires c κs = search needs
@@ -60,12 +69,15 @@ wrong-header-spec =
     returns-2
     byte-at-requires-2
     returns-3
+    add-byte-at
     byte-at-requires-3
     returns-4
+    add-byte-at-2
     byte-at-requires-4
     returns-5
-    byte-at-requires-5
-    byte-at-requires-6
-    byte-at-requires-7
+    shared-slice-read-new
+    new-requires
+    shared-slice-read-wrong-pending
+    shared-slice-read-wrong-pending-2
     wrong-pending-requires
     returns-6)

@@ -1,8 +1,8 @@
 -- `file::header::wrong_size` meets its contract: each way through its two tests.
 -- Assumes nothing.
 use borrow.Author.Tests.{lt-ltb, le-ltb}
-use Rattle.file.specs.Order.{either}
-use Rattle.file.specs.Grounds.{wrongSize}
+use Rattle.file.specs.Rules.Order.{either}
+use Rattle.file.specs.Rules.Grounds.{wrongSize}
 use Rattle.file.proofs.header.wrong_size.Statement.{statement}
 use Rattle.file.proofs.header.wrong_size.Tie as tie
 

@@ -1,97 +1,64 @@
--- `file::names::equal_names` meets its contract: the names behind the place are marked, and none of them occurs twice.
+-- `file::names::equal_names` meets its contract: the remainders of the names after the slave are kept, and none of these names occurs twice.
 -- Assumes nothing.
-use mathlib.Core.Path.{refl, sym}
-use mathlib.Core.List.{map}
-use mathlib.Core.Bool.{false}
 use native.Mathlib.Omega.{arith}
+use Rattle.file.proofs.NamesLaws.{few-names-at, Compared, compared-start, compared-end, stand-after, equal-new, equal-here, equal-next}
 use borrow.Author.Needs.{needs}
-use denote.Ref.{now}
-use lib.ListN.{length-replicate}
-use Rattle.file.specs.Checked.{nameAt}
-use Rattle.file.proofs.NamesLaws.{length-names, few-names, Marking, marking-start, marking-end, stand-behind, marked-within, equal-new, equal-here, equal-next}
 use Rattle.file.proofs.names.equal_names.Statement.{statement}
 use Rattle.file.proofs.names.equal_names.Tie as tie
 
 abbrev Inv-loop : tie.InvT-loop
-Inv-loop file documentation seen₀ slave₀ seen slave = Marking (map (nameAt file) documentation) seen slave
+Inv-loop file places slave₀ seen₀ slave seen = Compared file places seen slave
 
 abbrev μ-loop : tie.MeasureT-loop
-μ-loop file documentation seen₀ slave₀ seen slave = slave
+μ-loop file places slave₀ seen₀ slave seen = slave
 
 returns : tie.Need-returns Inv-loop μ-loop
-returns c = search (needs, few-names)
+returns c = search (needs, few-names-at)
 
 loop-holds : tie.Need-loop-holds Inv-loop μ-loop
-loop-holds c =
-    let start = c .before .before .before in
-    marking-start (map (nameAt (now (start .args .file))) (now (start .args .documentation))) (length-replicate 255 false) (sym (length-names (now (start .args .file)) (now (start .args .documentation))))
+loop-holds c = search (needs, compared-start)
 
-mul-behind : tie.Need-mul-behind Inv-loop μ-loop
-mul-behind c =
-    let start = c .before .before .before .before .before in
-    let most = marked-within (now (start .args .file)) (now (start .args .documentation)) (c .before .loop .inv) in
-    omega (arith, most)
+mul-after : tie.Need-mul-after Inv-loop μ-loop
+mul-after c = omega arith
 
-sub-behind : tie.Need-sub-behind Inv-loop μ-loop
-sub-behind c =
-    let start = c .before .before .before .before .before in
-    let most = marked-within (now (start .args .file)) (now (start .args .documentation)) (c .before .loop .inv) in
-    omega (arith, most)
+mul-after-2 : tie.Need-mul-after-2 Inv-loop μ-loop
+mul-after-2 c = omega arith
 
-part-behind-start : tie.Need-part-behind-start Inv-loop μ-loop
-part-behind-start c =
-    let start = c .before .before .before .before .before in
-    let most = marked-within (now (start .args .file)) (now (start .args .documentation)) (c .before .loop .inv) in
-    omega (arith, most)
+sub-after : tie.Need-sub-after Inv-loop μ-loop
+sub-after c = omega arith
 
-part-behind-end : tie.Need-part-behind-end Inv-loop μ-loop
-part-behind-end c =
-    let start = c .before .before .before .before .before in
-    let most = marked-within (now (start .args .file)) (now (start .args .documentation)) (c .before .loop .inv) in
-    omega (arith, most)
+part-after-start : tie.Need-part-after-start Inv-loop μ-loop
+part-after-start c = omega arith
+
+part-after-end : tie.Need-part-after-end Inv-loop μ-loop
+part-after-end c = omega arith
 
 sub-slave : tie.Need-sub-slave Inv-loop μ-loop
 sub-slave c = omega arith
 
 name-at-requires : tie.Need-name-at-requires Inv-loop μ-loop
-name-at-requires c κs =
-    let start = c .before .before .before .before .before .before in
-    let most = marked-within (now (start .args .file)) (now (start .args .documentation)) (c .before .before .loop .inv) in
-    (omega (arith, most, c .before .loop-test .taken), start .pre)
+name-at-requires c κs = search needs
 
 array-read-is-named-again : tie.Need-array-read-is-named-again Inv-loop μ-loop
-array-read-is-named-again c = omega (arith, c .before .before .before .loop .inv .room)
+array-read-is-named-again c = omega arith
 
 is-named-again-requires : tie.Need-is-named-again-requires Inv-loop μ-loop
-is-named-again-requires c κs =
-    let turn = c .before .before in
-    let start = turn .before .before .before .before .before in
-    let file = now (start .args .file) in
-    let documentation = now (start .args .documentation) in
-    (stand-behind _ (marked-within file documentation (turn .before .loop .inv)) (start .pre), equal-new file documentation (turn .before .loop .inv) (turn .loop-test .taken) (c .name-at .ensures) refl)
+is-named-again-requires c κs = search (needs, stand-after, equal-new)
 
 returns-2 : tie.Need-returns-2 Inv-loop μ-loop
-returns-2 c =
-    let named = c .before .before in
-    let turn = named .before .before in
-    let start = turn .before .before .before .before .before in
-    equal-here (now (start .args .file)) (now (start .args .documentation)) (turn .before .loop .inv) (turn .loop-test .taken) (named .name-at .ensures) (c .before .is-named-again .ensures) (c .if2 .taken)
+returns-2 c = search (needs, equal-here)
 
 array-write-seen : tie.Need-array-write-seen Inv-loop μ-loop
-array-write-seen c = omega (arith, c .before .before .before .before .before .loop .inv .room)
+array-write-seen c = omega arith
 
 loop-less : tie.Need-loop-less Inv-loop μ-loop
 loop-less c = omega arith
 
 loop-again : tie.Need-loop-again Inv-loop μ-loop
-loop-again c =
-    let named = c .before .before in
-    let turn = named .before .before in
-    let start = turn .before .before .before .before .before in
-    equal-next (now (start .args .file)) (now (start .args .documentation)) (turn .before .loop .inv) (turn .loop-test .taken) (named .name-at .ensures) (c .before .is-named-again .ensures) (c .if2 .left)
+loop-again c = search (needs, equal-next)
 
 returns-3 : tie.Need-returns-3 Inv-loop μ-loop
-returns-3 c = marking-end (c .before .loop .inv) (c .loop-test .left)
+returns-3 c = search (needs, compared-end)
 
 pub equal-names-spec : {M : Type 1} → statement M
 equal-names-spec =
@@ -101,10 +68,11 @@ equal-names-spec =
     μ-loop
     returns
     loop-holds
-    mul-behind
-    sub-behind
-    part-behind-start
-    part-behind-end
+    mul-after
+    mul-after-2
+    sub-after
+    part-after-start
+    part-after-end
     sub-slave
     name-at-requires
     array-read-is-named-again

@@ -1,13 +1,13 @@
 -- `file::names::is_named_again` meets its contract.
 -- Assumes nothing.
-use mathlib.Core.Path.{sym}
 use borrow.Author.Tests.{not-true}
 use borrow.Author.Needs.{needs}
+use Rattle.file.proofs.NamesLaws.{unseen}
 use Rattle.file.proofs.names.is_named_again.Statement.{statement}
 use Rattle.file.proofs.names.is_named_again.Tie as tie
 
 returns : tie.Need-returns
-returns c = sym (c .before .before .before .pre .1 (not-true _ (c .if1 .taken)))
+returns c = search (needs, not-true, unseen)
 
 is-named-requires : tie.Need-is-named-requires
 is-named-requires c κs = search needs

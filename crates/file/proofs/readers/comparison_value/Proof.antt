@@ -1,7 +1,7 @@
 -- `file::readers::comparison_value` meets its contract: the number at the place is the cluster's.
 -- Assumes nothing.
-use native.Mathlib.Omega.{arith}
-use Rattle.file.proofs.ReaderLaws.{length-limit, configuration-within, comparison-there}
+use Rattle.file.proofs.ReaderLaws.{comparison-there}
+use Rattle.file.proofs.PlaceLaws.{configuration-fits, configuration-byte-fits, configuration-long}
 use borrow.Author.Needs.{needs}
 use Rattle.file.proofs.readers.comparison_value.Statement.{statement}
 use Rattle.file.proofs.readers.comparison_value.Tie as tie
@@ -9,22 +9,32 @@ use Rattle.file.proofs.readers.comparison_value.Tie as tie
 mul-place : tie.Need-mul-place
 mul-place c = search needs
 
+mul-place-2 : tie.Need-mul-place-2
+mul-place-2 c = search needs
+
 element-copy-out-place : tie.Need-element-copy-out-place
 element-copy-out-place c = search needs
 
 cast-place : tie.Need-cast-place
-cast-place c = omega (arith, configuration-within (c .before .before .pre .0) (c .before .before .pre .1), length-limit (c .before .before .pre .0))
+cast-place c = search (needs, configuration-fits)
 
 add-u64-at : tie.Need-add-u64-at
-add-u64-at c = omega (arith, configuration-within (c .before .before .pre .0) (c .before .before .pre .1))
+add-u64-at c = search (needs, configuration-byte-fits)
 
 u64-at-requires : tie.Need-u64-at-requires
-u64-at-requires c κs = omega (arith, configuration-within (c .before .before .pre .0) (c .before .before .pre .1))
+u64-at-requires c κs = search (needs, configuration-long)
 
 returns : tie.Need-returns
-returns c = comparison-there (c .before .before .before .pre .0) (c .before .before .before .pre .1) (c .u64-at .ensures)
+returns c = search (needs, comparison-there)
 
 pub comparison-value-spec : {M : Type 1} → statement M
 comparison-value-spec =
     tie.close
-    (tie.spec mul-place element-copy-out-place cast-place add-u64-at u64-at-requires returns)
+    (tie.spec
+    mul-place
+    mul-place-2
+    element-copy-out-place
+    cast-place
+    add-u64-at
+    u64-at-requires
+    returns)

@@ -1,8 +1,6 @@
 -- `file::readers::find_record` meets its contract: a law for each way.
 -- Assumes nothing.
-use native.Mathlib.Omega.{arith}
-use Rattle.file.proofs.ReaderLaws.{length-limit}
-use Rattle.file.proofs.RecordLaws.{no-file, no-record, record-there, bytes-within}
+use Rattle.file.proofs.RecordLaws.{no-file, no-record, record-there, record-fits}
 use borrow.Author.Needs.{needs}
 use Rattle.file.proofs.readers.find_record.Statement.{statement}
 use Rattle.file.proofs.readers.find_record.Tie as tie
@@ -32,10 +30,7 @@ returns-2 : tie.Need-returns-2
 returns-2 c = search (needs, no-record)
 
 add-t10 : tie.Need-add-t10
-add-t10 c =
-    let found = c .before .before .before in
-    let start = found .before .before .before .before in
-    omega (arith, bytes-within _ _ _ (found .before .before .find-file .ensures) (found .found .given .1) (start .pre .0), length-limit (start .pre .0))
+add-t10 c = search (needs, record-fits)
 
 returns-3 : tie.Need-returns-3
 returns-3 c = search (needs, record-there)

@@ -3,7 +3,7 @@
 use Prim.Native.Nat.{_-_}
 use borrow.Author.Needs.{needs}
 use native.Mathlib.Omega.{arith}
-use Rattle.file.specs.Answers.{foundFile}
+use Rattle.file.specs.Inner.Answers.{foundFile}
 use Rattle.file.proofs.ReaderLaws.{Searching, searching-start, searching-here, searching-next, searching-done}
 use Rattle.file.proofs.readers.search_directory.Statement.{statement}
 use Rattle.file.proofs.readers.search_directory.Tie as tie
@@ -46,9 +46,7 @@ mul-size c = omega arith
 
 returns : tie.Need-returns Inv-loop μ-loop
 unfolding foundFile
-returns c =
-    let e = c .before .before in
-    searching-here (e .before .before .before .loop .inv) (e .before .before .loop-test .taken) (e .before .byte-at .ensures) (e .if1 .taken) (c .before .byte-at2 .ensures) (c .offset-at .ensures)
+returns c = search (needs, searching-here)
 
 add-entry : tie.Need-add-entry Inv-loop μ-loop
 add-entry c = omega arith
@@ -57,11 +55,11 @@ loop-less : tie.Need-loop-less Inv-loop μ-loop
 loop-less c = omega arith
 
 loop-again : tie.Need-loop-again Inv-loop μ-loop
-loop-again c = searching-next (c .before .before .before .loop .inv) (c .before .before .loop-test .taken) (c .before .byte-at .ensures) (c .if1 .left)
+loop-again c = search (needs, searching-next)
 
 returns-2 : tie.Need-returns-2 Inv-loop μ-loop
 unfolding foundFile
-returns-2 c = searching-done (c .before .loop .inv) (c .loop-test .left)
+returns-2 c = search (needs, searching-done)
 
 pub search-directory-spec : {M : Type 1} → statement M
 search-directory-spec =

@@ -1,7 +1,6 @@
 -- `file::survey::check` meets its contract: its answer is the survey's.
 -- Assumes nothing.
-use Rattle.file.specs.Grounds.{loadGround}
-use Rattle.file.specs.Answers.{loadVerdict}
+use Rattle.file.specs.Rules.Grounds.{loadGround, loadVerdict}
 use borrow.Author.Needs.{needs}
 use Rattle.file.proofs.survey.check.Statement.{statement}
 use Rattle.file.proofs.survey.check.Tie as tie
@@ -14,4 +13,8 @@ unfolding loadVerdict loadGround
 returns c = c .survey .ensures .is
 
 pub check-spec : {M : Type 1} → statement M
-check-spec = tie.close (tie.spec survey-requires returns)
+check-spec =
+    tie.close
+    (tie.spec
+    survey-requires
+    returns)

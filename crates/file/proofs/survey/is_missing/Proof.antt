@@ -8,10 +8,10 @@ use Rattle.file.proofs.survey.is_missing.Statement.{statement}
 use Rattle.file.proofs.survey.is_missing.Tie as tie
 
 abbrev Inv-loop : tie.InvT-loop
-Inv-loop places slave₀ slave = Looking 0 places slave
+Inv-loop places at₀ at = Looking 0 places at
 
 abbrev μ-loop : tie.MeasureT-loop
-μ-loop places slave₀ slave = length places - slave
+μ-loop places at₀ at = length places - at
 
 loop-holds : tie.Need-loop-holds Inv-loop μ-loop
 loop-holds c = looking-start _ _
@@ -23,19 +23,19 @@ shared-slice-read-if1 : tie.Need-shared-slice-read-if1 Inv-loop μ-loop
 shared-slice-read-if1 c = search needs
 
 returns : tie.Need-returns Inv-loop μ-loop
-returns c = looking-here (c .before .before .before .loop .inv) (c .before .before .loop-test .taken) (c .if1 .taken)
+returns c = search (needs, looking-here)
 
-add-slave : tie.Need-add-slave Inv-loop μ-loop
-add-slave c = search needs
+add-at : tie.Need-add-at Inv-loop μ-loop
+add-at c = search needs
 
 loop-less : tie.Need-loop-less Inv-loop μ-loop
 loop-less c = search needs
 
 loop-again : tie.Need-loop-again Inv-loop μ-loop
-loop-again c = looking-next (c .before .before .before .loop .inv) (c .before .before .loop-test .taken) (c .if1 .left)
+loop-again c = search (needs, looking-next)
 
 returns-2 : tie.Need-returns-2 Inv-loop μ-loop
-returns-2 c = looking-end (c .before .loop .inv) (c .loop-test .left)
+returns-2 c = search (needs, looking-end)
 
 pub is-missing-spec : {M : Type 1} → statement M
 is-missing-spec =
@@ -47,7 +47,7 @@ is-missing-spec =
     mul-if1
     shared-slice-read-if1
     returns
-    add-slave
+    add-at
     loop-less
     loop-again
     returns-2)

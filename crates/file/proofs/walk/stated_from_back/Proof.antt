@@ -2,12 +2,13 @@
 -- Assumes nothing.
 use borrow.Author.Needs.{needs}
 use native.Mathlib.Omega.{arith}
+use Rattle.file.specs.Inner.Typed.{fileIn}
 use Rattle.file.proofs.SeekLaws.{SeekingBack, back-start, back-done, back-next, back-here}
 use Rattle.file.proofs.walk.stated_from_back.Statement.{statement}
 use Rattle.file.proofs.walk.stated_from_back.Tie as tie
 
 abbrev Inv-loop : tie.InvT-loop
-Inv-loop file directory count wanted least entry₀ entry = SeekingBack file directory count wanted least entry
+Inv-loop file directory count wanted least entry₀ entry = SeekingBack file directory count (fileIn wanted) least entry
 
 abbrev μ-loop : tie.MeasureT-loop
 μ-loop file directory count wanted least entry₀ entry = entry
@@ -22,33 +23,31 @@ loop-holds : tie.Need-loop-holds Inv-loop μ-loop
 loop-holds c = back-start _ _
 
 sub-entry : tie.Need-sub-entry Inv-loop μ-loop
-sub-entry c = omega (arith, c .before .loop .inv .at)
+sub-entry c = omega arith
 
 is-stated-requires : tie.Need-is-stated-requires Inv-loop μ-loop
-is-stated-requires c κs = (omega (arith, c .before .before .before .pre .0, c .before .loop .inv .at, c .before .loop .inv .most), c .before .before .before .pre .1)
+is-stated-requires c κs = record { within = omega arith; short = omega arith }
 
 add-offset-at : tie.Need-add-offset-at Inv-loop μ-loop
-add-offset-at c = omega (arith, c .before .before .before .before .before .pre .0, c .before .before .before .before .before .pre .1, c .before .before .before .loop .inv .at, c .before .before .before .loop .inv .most)
+add-offset-at c = omega arith
 
 offset-at-requires : tie.Need-offset-at-requires Inv-loop μ-loop
-offset-at-requires c κs = omega (arith, c .before .before .before .before .before .pre .0, c .before .before .before .loop .inv .at, c .before .before .before .loop .inv .most)
+offset-at-requires c κs = omega arith
 
 cast-result : tie.Need-cast-result Inv-loop μ-loop
 cast-result c = omega (arith, c .offset-at .ensures .below)
 
 returns : tie.Need-returns Inv-loop μ-loop
-returns c =
-    let found = c .before .before in
-    back-here (found .before .before .loop .inv) (found .before .loop-test .taken) (found .is-stated .ensures) (c .before .if1 .taken) (c .offset-at .ensures)
+returns c = search (needs, back-here)
 
 loop-less : tie.Need-loop-less Inv-loop μ-loop
 loop-less c = omega arith
 
 loop-again : tie.Need-loop-again Inv-loop μ-loop
-loop-again c = back-next (c .before .before .before .loop .inv) (c .before .before .loop-test .taken) (c .before .is-stated .ensures) (c .if1 .left)
+loop-again c = search (needs, back-next)
 
 returns-2 : tie.Need-returns-2 Inv-loop μ-loop
-returns-2 c = back-done (c .before .loop .inv) (c .loop-test .left)
+returns-2 c = search (needs, back-done)
 
 pub stated-from-back-spec : {M : Type 1} → statement M
 stated-from-back-spec =

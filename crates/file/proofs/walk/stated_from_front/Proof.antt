@@ -3,12 +3,13 @@
 use Prim.Native.Nat.{_-_}
 use borrow.Author.Needs.{needs}
 use native.Mathlib.Omega.{arith}
+use Rattle.file.specs.Inner.Typed.{fileIn}
 use Rattle.file.proofs.SeekLaws.{Seeking, seeking-start, seeking-done, seeking-next, seeking-here}
 use Rattle.file.proofs.walk.stated_from_front.Statement.{statement}
 use Rattle.file.proofs.walk.stated_from_front.Tie as tie
 
 abbrev Inv-loop : tie.InvT-loop
-Inv-loop file directory count wanted least end entry₀ entry = Seeking file directory count wanted least entry
+Inv-loop file directory count wanted least end entry₀ entry = Seeking file directory count (fileIn wanted) least entry
 
 abbrev μ-loop : tie.MeasureT-loop
 μ-loop file directory count wanted least end entry₀ entry = end - entry
@@ -20,36 +21,34 @@ add-end : tie.Need-add-end Inv-loop μ-loop
 add-end c = search needs
 
 loop-holds : tie.Need-loop-holds Inv-loop μ-loop
-loop-holds c = seeking-start _ _ (c .before .pre .2)
+loop-holds c = search (needs, seeking-start)
 
 is-stated-requires : tie.Need-is-stated-requires Inv-loop μ-loop
-is-stated-requires c κs = (omega (arith, c .before .before .before .pre .0, c .before .loop .inv .at), c .before .before .before .pre .1)
+is-stated-requires c κs = record { within = omega arith; short = omega arith }
 
 add-offset-at : tie.Need-add-offset-at Inv-loop μ-loop
-add-offset-at c = omega (arith, c .before .before .before .before .before .pre .0, c .before .before .before .before .before .pre .1)
+add-offset-at c = omega arith
 
 offset-at-requires : tie.Need-offset-at-requires Inv-loop μ-loop
-offset-at-requires c κs = omega (arith, c .before .before .before .before .before .pre .0, c .before .before .before .loop .inv .at)
+offset-at-requires c κs = omega arith
 
 cast-result : tie.Need-cast-result Inv-loop μ-loop
 cast-result c = omega (arith, c .offset-at .ensures .below)
 
 returns : tie.Need-returns Inv-loop μ-loop
-returns c =
-    let found = c .before .before in
-    seeking-here (found .before .before .loop .inv) (found .before .loop-test .taken) (found .is-stated .ensures) (c .before .if1 .taken) (c .offset-at .ensures)
+returns c = search (needs, seeking-here)
 
 add-entry : tie.Need-add-entry Inv-loop μ-loop
-add-entry c = omega (arith, c .before .before .before .before .before .pre .0, c .before .before .before .before .before .pre .1)
+add-entry c = omega arith
 
 loop-less : tie.Need-loop-less Inv-loop μ-loop
 loop-less c = omega arith
 
 loop-again : tie.Need-loop-again Inv-loop μ-loop
-loop-again c = seeking-next (c .before .before .before .loop .inv) (c .before .before .loop-test .taken) (c .before .is-stated .ensures) (c .if1 .left)
+loop-again c = search (needs, seeking-next)
 
 returns-2 : tie.Need-returns-2 Inv-loop μ-loop
-returns-2 c = seeking-done (c .before .loop .inv) (c .loop-test .left)
+returns-2 c = search (needs, seeking-done)
 
 pub stated-from-front-spec : {M : Type 1} → statement M
 stated-from-front-spec =

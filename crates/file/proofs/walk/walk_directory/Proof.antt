@@ -4,7 +4,7 @@ use Prim.Native.Nat.{_-_}
 use borrow.Author.Needs.{needs}
 use borrow.Author.Tests.{not-true, not-false}
 use native.Mathlib.Omega.{arith}
-use Rattle.file.proofs.WalkLaws.{Walking, walking-start, walking-stop, walking-next, walking-done}
+use Rattle.file.proofs.WalkLaws.{Walking, walking-start, walking-entry, walking-stop, walking-next, walking-done}
 use Rattle.file.proofs.walk.walk_directory.Statement.{statement}
 use Rattle.file.proofs.walk.walk_directory.Tie as tie
 
@@ -21,61 +21,52 @@ add-end : tie.Need-add-end Inv-loop μ-loop
 add-end c = search needs
 
 loop-holds : tie.Need-loop-holds Inv-loop μ-loop
-loop-holds c = walking-start (c .before .pre .0) (c .before .pre .1)
+loop-holds c = search (needs, walking-start)
 
 byte-at-requires : tie.Need-byte-at-requires Inv-loop μ-loop
-byte-at-requires c κs = omega (arith, c .before .loop .inv .at)
+byte-at-requires c κs = omega arith
 
 add-byte-at : tie.Need-add-byte-at Inv-loop μ-loop
-add-byte-at c = omega (arith, c .before .before .loop .inv .at)
+add-byte-at c = omega arith
 
 byte-at-requires-2 : tie.Need-byte-at-requires-2 Inv-loop μ-loop
-byte-at-requires-2 c κs = omega (arith, c .before .before .loop .inv .at)
+byte-at-requires-2 c κs = omega arith
 
 is-next-requires : tie.Need-is-next-requires Inv-loop μ-loop
-is-next-requires c κs =
-    let pre = c .before .before .before .before .before .pre in
-    (omega (arith, pre .0, c .before .before .before .loop .inv .at), pre .1, c .before .byte-at .ensures, c .byte-at2 .ensures)
+is-next-requires c κs = search (needs, walking-entry)
 
 returns : tie.Need-returns Inv-loop μ-loop
-returns c =
-    let turn = c .before .before .before .before in
-    walking-stop (turn .before .loop .inv) (turn .loop-test .taken) (c .before .is-next .ensures) (not-true _ (c .if1 .taken))
+returns c = search (needs, walking-stop, not-true)
 
 add-low : tie.Need-add-low Inv-loop μ-loop
-add-low c = omega (arith, c .before .before .before .byte-at .ensures .byte)
+add-low c = omega arith
 
 add-place : tie.Need-add-place Inv-loop μ-loop
-add-place c = omega (arith, c .before .before .byte-at2 .ensures .byte)
+add-place c = omega arith
 
 mul-place : tie.Need-mul-place Inv-loop μ-loop
-mul-place c = omega (arith, c .before .before .byte-at2 .ensures .byte)
+mul-place c = omega arith
 
 add-place-2 : tie.Need-add-place-2 Inv-loop μ-loop
-add-place-2 c =
-    let turn = c .before .before .before .before in
-    let pre = turn .before .before .before .pre in
-    omega (arith, c .before .before .byte-at2 .ensures .byte, turn .before .loop .inv .small, pre .0, pre .1)
+add-place-2 c = omega arith
 
 add-entry : tie.Need-add-entry Inv-loop μ-loop
-add-entry c =
-    let turn = c .before .before .before .before in
-    let pre = turn .before .before .before .pre in
-    omega (arith, turn .before .loop .inv .at, pre .0, pre .1)
+add-entry c = omega arith
 
 loop-less : tie.Need-loop-less Inv-loop μ-loop
 loop-less c = omega arith
 
 loop-again : tie.Need-loop-again Inv-loop μ-loop
 loop-again c =
-    let turn = c .before .before .before .before in
-    walking-next (turn .before .loop .inv) (turn .loop-test .taken) (c .before .is-next .ensures) (not-false _ (c .if1 .left)) (c .before .before .before .byte-at .ensures) (c .before .before .byte-at2 .ensures)
+    let read = c .before .before in
+    let turn = read .before .before in
+    walking-next (turn .before .loop .inv) (turn .loop-test .taken) (c .before .is-next .ensures) (not-false _ (c .if1 .left)) (read .before .byte-at .ensures) (read .byte-at2 .ensures)
 
 fits-so-far-requires : tie.Need-fits-so-far-requires Inv-loop μ-loop
 fits-so-far-requires c κs = search needs
 
 returns-2 : tie.Need-returns-2 Inv-loop μ-loop
-returns-2 c = walking-done (c .before .before .loop .inv) (c .before .loop-test .left) (c .fits-so-far .ensures)
+returns-2 c = search (needs, walking-done)
 
 pub walk-directory-spec : {M : Type 1} → statement M
 walk-directory-spec =

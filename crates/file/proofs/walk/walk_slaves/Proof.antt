@@ -1,20 +1,19 @@
 -- `file::walk::walk_slaves` meets its contract. The invariant is `Surveying`: the walk from here is the walk from the start, and the places written so far stand in front of those to come.
 -- Assumes nothing.
-use mathlib.Core.Path.{refl}
 use Prim.Native.Nat.{_-_}
 use borrow.Author.Tests.{not-true, not-false}
 use native.Mathlib.Omega.{arith}
+use lib.ListN.{length, length-set}
 use Rattle.file.proofs.SlaveWalkLaws.{Surveying, surveying-start, surveying-stop, surveying-next, surveying-done}
+use borrow.Author.Needs.{needs}
 use Rattle.file.proofs.walk.walk_slaves.Statement.{statement}
 use Rattle.file.proofs.walk.walk_slaves.Tie as tie
 
 abbrev Inv-loop : tie.InvT-loop
-Inv-loop file count configuration₀ documentation₀ entry₀ place₀ slave₀ configuration documentation entry place slave =
-    Surveying file count slave entry place configuration documentation
+Inv-loop file count places₀ entry₀ place₀ slave₀ places entry place slave = Surveying file count (length places₀) slave entry place places
 
 abbrev μ-loop : tie.MeasureT-loop
-μ-loop file count configuration₀ documentation₀ entry₀ place₀ slave₀ configuration documentation entry place slave =
-    count - slave
+μ-loop file count places₀ entry₀ place₀ slave₀ places entry place slave = count - slave
 
 mul-place : tie.Need-mul-place Inv-loop μ-loop
 mul-place c = omega arith
@@ -23,25 +22,37 @@ add-place : tie.Need-add-place Inv-loop μ-loop
 add-place c = omega arith
 
 loop-holds : tie.Need-loop-holds Inv-loop μ-loop
-loop-holds c = surveying-start (omega arith) refl refl
+loop-holds c = surveying-start (omega arith) (omega arith)
 
 walk-slave-requires : tie.Need-walk-slave-requires Inv-loop μ-loop
 walk-slave-requires c κs = omega arith
 
+same-length : tie.Need-same-length Inv-loop μ-loop
+same-length c = search needs
+
 returns : tie.Need-returns Inv-loop μ-loop
-returns c = surveying-stop (c .before .before .before .before .loop .inv) (c .before .before .before .loop-test .taken) (c .before .before .walk-slave .ensures) (not-true _ (c .if1 .taken))
+returns c = search (needs, surveying-stop, not-true)
 
-mul-configuration : tie.Need-mul-configuration Inv-loop μ-loop
-mul-configuration c = omega arith
+mul-places : tie.Need-mul-places Inv-loop μ-loop
+mul-places c = omega arith
 
-array-write-configuration : tie.Need-array-write-configuration Inv-loop μ-loop
-array-write-configuration c = omega arith
+mul-places-2 : tie.Need-mul-places-2 Inv-loop μ-loop
+mul-places-2 c = omega arith
 
-mul-documentation : tie.Need-mul-documentation Inv-loop μ-loop
-mul-documentation c = omega arith
+slice-write-places : tie.Need-slice-write-places Inv-loop μ-loop
+slice-write-places c = omega arith
 
-array-write-documentation : tie.Need-array-write-documentation Inv-loop μ-loop
-array-write-documentation c = omega arith
+mul-places-3 : tie.Need-mul-places-3 Inv-loop μ-loop
+mul-places-3 c = omega arith
+
+add-places : tie.Need-add-places Inv-loop μ-loop
+add-places c = omega arith
+
+mul-places-4 : tie.Need-mul-places-4 Inv-loop μ-loop
+mul-places-4 c = omega arith
+
+slice-write-places-2 : tie.Need-slice-write-places-2 Inv-loop μ-loop
+slice-write-places-2 c = simp length-set (omega arith)
 
 add-entry : tie.Need-add-entry Inv-loop μ-loop
 add-entry c = omega arith
@@ -53,10 +64,13 @@ loop-less : tie.Need-loop-less Inv-loop μ-loop
 loop-less c = omega arith
 
 loop-again : tie.Need-loop-again Inv-loop μ-loop
-loop-again c = surveying-next (c .before .before .before .before .loop .inv) (c .before .before .before .loop-test .taken) (omega arith) (c .before .before .walk-slave .ensures) (not-false _ (c .if1 .left))
+loop-again c = search (needs, surveying-next, not-false)
+
+same-length-2 : tie.Need-same-length-2 Inv-loop μ-loop
+same-length-2 c = search needs
 
 returns-2 : tie.Need-returns-2 Inv-loop μ-loop
-returns-2 c = surveying-done (c .before .loop .inv) (c .loop-test .left)
+returns-2 c = search (needs, surveying-done)
 
 pub walk-slaves-spec : {M : Type 1} → statement M
 walk-slaves-spec =
@@ -68,13 +82,18 @@ walk-slaves-spec =
     add-place
     loop-holds
     walk-slave-requires
+    same-length
     returns
-    mul-configuration
-    array-write-configuration
-    mul-documentation
-    array-write-documentation
+    mul-places
+    mul-places-2
+    slice-write-places
+    mul-places-3
+    add-places
+    mul-places-4
+    slice-write-places-2
     add-entry
     add-slave
     loop-less
     loop-again
+    same-length-2
     returns-2)

@@ -1,13 +1,12 @@
 -- `file::writers::set_epoch` meets its contract: the store gives the cluster with that epoch.
 -- Assumes nothing.
-use native.Mathlib.Omega.{arith}
-use Rattle.file.proofs.StoreLaws.{header-room, becomes-epoch}
+use Rattle.file.proofs.StoreLaws.{header-byte, becomes-epoch}
 use borrow.Author.Needs.{needs}
 use Rattle.file.proofs.writers.set_epoch.Statement.{statement}
 use Rattle.file.proofs.writers.set_epoch.Tie as tie
 
 slice-write-file : tie.Need-slice-write-file
-slice-write-file c = omega (arith, header-room (c .pre))
+slice-write-file c = search (needs, header-byte)
 
 same-length : tie.Need-same-length
 same-length c = search needs

@@ -1,38 +1,22 @@
--- `file_cases::describe::slaves` is safe and ends.
+-- `file_cases::describe::slaves` is safe and ends: the count is the file's.
 -- Assumes nothing.
-use Prim.Native.Nat.{_≤_, _-_}
+use Prim.Native.Nat.{ℕ, _≤_, _<_, _-_}
+use mathlib.Core.Path.{_≡_}
+use mathlib.Core.List.{List}
 use native.Mathlib.Omega.{arith}
-use Rattle.file.proofs.ReaderLaws.{placed-configuration, placed-documentation}
+use Rattle.file.specs.Inner.Accepted.{AcceptedFile, Placed, slaveCount}
 use borrow.Author.Needs.{needs}
 use Rattle.file_cases.proofs.describe.slaves.Statement.{statement}
 use Rattle.file_cases.proofs.describe.slaves.Tie as tie
 
 abbrev Inv-loop : tie.InvT-loop
-Inv-loop file configurations documentations count slave₀ slave = slave ≤ count
+Inv-loop file places count slave₀ slave = (slave ≤ count) × (count ≡ slaveCount file)
 
 abbrev μ-loop : tie.MeasureT-loop
-μ-loop file configurations documentations count slave₀ slave = count - slave
+μ-loop file places count slave₀ slave = count - slave
 
-loop-holds : tie.Need-loop-holds Inv-loop μ-loop
-loop-holds c = search needs
-
-slave-line-requires : tie.Need-slave-line-requires Inv-loop μ-loop
-slave-line-requires c κs =
-    let becomes = c .before .before .before .pre .0 in
-    let placed = c .before .before .before .pre .1 in
-    (becomes, placed-configuration _ placed (omega (arith, placed .all)), placed-documentation _ placed (omega (arith, placed .all)))
-
-add-slave : tie.Need-add-slave Inv-loop μ-loop
-add-slave c = search needs
-
-loop-less : tie.Need-loop-less Inv-loop μ-loop
-loop-less c = search needs
-
-loop-again : tie.Need-loop-again Inv-loop μ-loop
-loop-again c = search needs
-
-returns : tie.Need-returns Inv-loop μ-loop
-returns c = search needs
+accepted : {f places : List ℕ} → Placed f places → AcceptedFile f
+accepted p = p .file
 
 pub slaves-spec : {M : Type 1} → statement M
 slaves-spec =
@@ -40,9 +24,11 @@ slaves-spec =
     (tie.spec
     Inv-loop
     μ-loop
-    loop-holds
-    slave-line-requires
-    add-slave
-    loop-less
-    loop-again
-    returns)
+    (λ c κs. search (needs, accepted))
+    (λ c κs. search needs)
+    (λ c. search needs)
+    (λ c κs. search needs)
+    (λ c. search needs)
+    (λ c. search needs)
+    (λ c. search needs)
+    (λ c. search needs))

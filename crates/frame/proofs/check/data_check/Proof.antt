@@ -1,7 +1,7 @@
 -- `frame::check::data_check` meets its contract.
 -- Assumes nothing.
 use borrow.Author.Needs.{needs}
-use Rattle.frame.specs.Check.{dataCheck}
+use Rattle.frame.specs.Rules.Check.{dataCheck}
 use borrow.Author.Needs.{needs}
 use Rattle.frame.proofs.check.data_check.Statement.{statement}
 use Rattle.frame.proofs.check.data_check.Tie as tie

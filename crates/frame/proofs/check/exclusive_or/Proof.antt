@@ -1,7 +1,7 @@
 -- `frame::check::exclusive_or` meets its contract.
 -- Assumes nothing.
 use lib.Bits.{xor-zero-r}
-use Rattle.frame.specs.Check.{exclusiveOr}
+use Rattle.frame.specs.Rules.Check.{exclusiveOr}
 use Rattle.frame.proofs.check.exclusive_or.Statement.{statement}
 use Rattle.frame.proofs.check.exclusive_or.Tie as tie
 

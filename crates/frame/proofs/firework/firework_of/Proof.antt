@@ -2,8 +2,8 @@
 -- Assumes nothing.
 use mathlib.Core.Path.{refl}
 use borrow.Author.Needs.{needs}
-use Rattle.frame.specs.Fireworks.{roundOf, roundIn}
-use Rattle.frame.specs.Answers.{fireworkRound}
+use Rattle.frame.specs.Rules.Fireworks.{roundOf, roundIn}
+use Rattle.frame.specs.Inner.Answers.{fireworkRound}
 use Rattle.frame.proofs.Rounds.{entryOf, data-entry, address-entry, none-entry, multipartner-entry}
 use Rattle.frame.proofs.firework.firework_of.Statement.{statement}
 use Rattle.frame.proofs.firework.firework_of.Tie as tie

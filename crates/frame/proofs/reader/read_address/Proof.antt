@@ -1,48 +1,46 @@
 -- `frame::reader::read_address` meets its contract: at each `return` one law of the reading says what the tests before it leave.
 -- Assumes nothing.
-use Rattle.frame.specs.Answers.{readingOf}
-use Rattle.frame.proofs.Tests.{empty, other-firework, address, right-length, other-length, other-check}
-use Rattle.frame.proofs.Reading.{refuse-10, refuse-11, refuse-12, refuse-13, refuse-14, formed, accept}
+use Prim.Native.Nat.{ℕ}
+use mathlib.Core.List.{List}
+use denote.Ref.{now}
+use Rattle.frame.specs.Inner.Answers.{readingOf}
+use Rattle.frame.proofs.Tests.{other-length}
+use Rattle.frame.proofs.Reading.{Formed, refuse-10, refuse-11, refuse-12, refuse-13, refuse-14, formed-by, accept}
 use borrow.Author.Needs.{needs}
 use Rattle.frame.proofs.reader.read_address.Statement.{statement}
 use Rattle.frame.proofs.reader.read_address.Tie as tie
 
+-- after the third test: the frame that is read, and that none of grounds 10 to 12 holds
+read-frame : tie.Else3 → List ℕ
+read-frame c =
+    let tested = c .before .before in
+    let begun = tested .before .before in
+    now (begun .before .before .args .frame)
+
+well-formed : (c : tie.Else3) → Formed (read-frame c)
+unfolding read-frame
+well-formed c = search formed-by
+
+is-no-address-requires : tie.Need-is-no-address-requires
+is-no-address-requires c κs = search needs
+
 returns : tie.Need-returns
 unfolding readingOf
-returns c = search (refuse-10, empty)
-
-shared-slice-read-if2 : tie.Need-shared-slice-read-if2
-shared-slice-read-if2 c = search needs
+returns c = search (needs, refuse-10)
 
 returns-2 : tie.Need-returns-2
 unfolding readingOf
-returns-2 c = search (refuse-10, other-firework)
+returns-2 c = search (needs, refuse-11, other-length)
+
+is-wrong-check-requires : tie.Need-is-wrong-check-requires
+is-wrong-check-requires c κs = search needs
 
 returns-3 : tie.Need-returns-3
 unfolding readingOf
-returns-3 c = search (refuse-11, address, other-length)
+returns-3 c = search (needs, refuse-12)
 
 shared-slice-read-pb2 : tie.Need-shared-slice-read-pb2
 shared-slice-read-pb2 c = search needs
-
-shared-slice-read-if4 : tie.Need-shared-slice-read-if4
-shared-slice-read-if4 c = search needs
-
-shared-slice-read-address-check : tie.Need-shared-slice-read-address-check
-shared-slice-read-address-check c = search needs
-
-shared-slice-read-address-check-2 : tie.Need-shared-slice-read-address-check-2
-shared-slice-read-address-check-2 c = search needs
-
-shared-slice-read-address-check-3 : tie.Need-shared-slice-read-address-check-3
-shared-slice-read-address-check-3 c = search needs
-
-address-check-requires : tie.Need-address-check-requires
-address-check-requires c κs = search needs
-
-returns-4 : tie.Need-returns-4
-unfolding readingOf
-returns-4 c = search (refuse-12, address, right-length, other-check)
 
 shared-slice-read-new : tie.Need-shared-slice-read-new
 shared-slice-read-new c = search needs
@@ -50,58 +48,66 @@ shared-slice-read-new c = search needs
 new-requires : tie.Need-new-requires
 new-requires c κs = search needs
 
+operation-of-requires : tie.Need-operation-of-requires
+operation-of-requires c κs = search needs
+
 is-no-operation-requires : tie.Need-is-no-operation-requires
 is-no-operation-requires c κs = search needs
 
-returns-5 : tie.Need-returns-5
+returns-4 : tie.Need-returns-4
 unfolding readingOf
-returns-5 c = search (refuse-13, formed)
+returns-4 c = search (refuse-13, formed-by)
 
 is-broadcast-read-requires : tie.Need-is-broadcast-read-requires
 is-broadcast-read-requires c κs = search needs
 
+returns-5 : tie.Need-returns-5
+unfolding readingOf
+returns-5 c = search (refuse-14, formed-by)
+
+shared-slice-read-t13 : tie.Need-shared-slice-read-t13
+shared-slice-read-t13 c = search needs
+
+file-number-of-requires : tie.Need-file-number-of-requires
+file-number-of-requires c κs = search needs
+
+shared-slice-read-t22 : tie.Need-shared-slice-read-t22
+shared-slice-read-t22 c = search needs
+
 returns-6 : tie.Need-returns-6
-unfolding readingOf
-returns-6 c = search (refuse-14, formed)
-
-shared-slice-read-t9 : tie.Need-shared-slice-read-t9
-shared-slice-read-t9 c = search needs
-
-shared-slice-read-t18 : tie.Need-shared-slice-read-t18
-shared-slice-read-t18 c = search needs
-
-returns-7 : tie.Need-returns-7
-unfolding readingOf
-returns-7 c =
-    let e = c .before .before in
-    accept _ (search formed)
-    (e .before .before .before .before .new .ensures)
-    (e .before .before .before .is-no-operation .ensures)
-    (e .before .before .if5 .left)
-    (e .before .is-broadcast-read .ensures)
-    (e .if6 .left)
+unfolding readingOf read-frame
+returns-6 c =
+    let read = c .before .before .before in
+    let known = read .before .before in
+    let does = known .before .before in
+    let tested = does .before .before in
+    accept _ (well-formed (tested .before .before))
+    (does .before .new .ensures)
+    (does .operation-of .ensures)
+    (known .before .is-no-operation .ensures)
+    (known .if4 .left)
+    (read .before .is-broadcast-read .ensures)
+    (c .before .file-number-of .ensures)
+    (read .if5 .left)
 
 pub read-address-spec : {M : Type 1} → statement M
 read-address-spec =
     tie.close
     (tie.spec
+    is-no-address-requires
     returns
-    shared-slice-read-if2
     returns-2
+    is-wrong-check-requires
     returns-3
     shared-slice-read-pb2
-    shared-slice-read-if4
-    shared-slice-read-address-check
-    shared-slice-read-address-check-2
-    shared-slice-read-address-check-3
-    address-check-requires
-    returns-4
     shared-slice-read-new
     new-requires
+    operation-of-requires
     is-no-operation-requires
-    returns-5
+    returns-4
     is-broadcast-read-requires
-    returns-6
-    shared-slice-read-t9
-    shared-slice-read-t18
-    returns-7)
+    returns-5
+    shared-slice-read-t13
+    file-number-of-requires
+    shared-slice-read-t22
+    returns-6)

@@ -1,9 +1,8 @@
 -- `frame::writer::write_address` meets its contract: at each `return` one law of the writing says what the tests before it leave.
 -- Assumes nothing.
-use native.Mathlib.Omega.{arith}
-use Rattle.frame.specs.Answers.{writingOf}
-use Rattle.frame.proofs.Tests.{short, long, file-high, file-fits, operation-low}
-use Rattle.frame.proofs.Writing.{address-9, address-13, address-14, address-18, address-written}
+use Rattle.frame.specs.Inner.Answers.{writingOf}
+use Rattle.frame.proofs.Tests.{short, long, file-high, file-fits}
+use Rattle.frame.proofs.Writing.{joined-byte, address-9, address-13, address-14, address-18, address-written}
 use borrow.Author.Needs.{needs}
 use Rattle.frame.proofs.writer.write_address.Statement.{statement}
 use Rattle.frame.proofs.writer.write_address.Tie as tie
@@ -30,14 +29,8 @@ returns-4 : tie.Need-returns-4
 unfolding writingOf
 returns-4 c = search (address-18, long, file-high)
 
-mul-pb2 : tie.Need-mul-pb2
-mul-pb2 c = search needs
-
-add-pb2 : tie.Need-add-pb2
-add-pb2 c =
-    let e = c .before .before .before .before .before .before in
-    let low = operation-low _ (e .before .is-no-operation .ensures) (e .if2 .left) in
-    omega arith
+pb2-of-requires : tie.Need-pb2-of-requires
+pb2-of-requires c κs = search (needs, joined-byte)
 
 address-check-requires : tie.Need-address-check-requires
 address-check-requires c κs = search needs
@@ -62,8 +55,7 @@ write-address-spec =
     is-broadcast-read-requires
     returns-3
     returns-4
-    mul-pb2
-    add-pb2
+    pb2-of-requires
     address-check-requires
     put-frame-requires
     same-length

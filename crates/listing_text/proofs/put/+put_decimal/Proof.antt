@@ -1,8 +1,7 @@
 -- `listing_text::put::put_decimal` meets its contract. The measure is the number that is left.
 -- Assumes nothing.
-use native.Mathlib.Omega.{arith}
 use borrow.Author.Needs.{needs}
-use Rattle.listing_text.proofs.PutLaws.{tenth-fits, puts-digit, puts-decimal}
+use Rattle.listing_text.proofs.PutLaws.{puts-digit, tenth-room, puts-decimal}
 use Rattle.listing_text.proofs.put.digit.Reads as digit-reads
 use Rattle.listing_text.proofs.put.put_byte.Reads as put-byte-reads
 use Prim.Native.Nat.{ℕ, _<_}
@@ -24,16 +23,6 @@ put-decimal-at t =
 abbrev put-decimal-below : ℕ → In 1 put-decimal-kinds.ps
 put-decimal-below t =
     and 1 put-decimal-kinds.ps (falls 1 put-decimal-kinds.ps _<_ μ-put-decimal t) put-decimal.Pre
-
-put-decimal-cast-digit : (t : ℕ) → put-decimal-lts.Need-cast-digit (
-  digit-reads.Asked,
-  digit-reads.Learnt,
-  put-byte-reads.Asked,
-  put-byte-reads.Learnt,
-  put-decimal-below t,
-  put-decimal.Post,
-) (put-decimal-at t) put-decimal.Post
-put-decimal-cast-digit t c = search needs
 
 put-decimal-digit-requires : (t : ℕ) → put-decimal-lts.Need-digit-requires (
   digit-reads.Asked,
@@ -73,7 +62,7 @@ put-decimal-returns : (t : ℕ) → put-decimal-lts.Need-returns (
   put-decimal-below t,
   put-decimal.Post,
 ) (put-decimal-at t) put-decimal.Post
-put-decimal-returns t c = puts-digit (c .before .before .before .before .before .if1 .taken) (c .before .before .before .digit .ensures) (c .before .before .put-byte .ensures)
+put-decimal-returns t c = search puts-digit
 
 put-decimal-put-decimal-requires : (t : ℕ) → put-decimal-lts.Need-put-decimal-requires (
   digit-reads.Asked,
@@ -84,16 +73,6 @@ put-decimal-put-decimal-requires : (t : ℕ) → put-decimal-lts.Need-put-decima
   put-decimal.Post,
 ) (put-decimal-at t) put-decimal.Post
 put-decimal-put-decimal-requires t c κs = search needs
-
-put-decimal-cast-digit-2 : (t : ℕ) → put-decimal-lts.Need-cast-digit-2 (
-  digit-reads.Asked,
-  digit-reads.Learnt,
-  put-byte-reads.Asked,
-  put-byte-reads.Learnt,
-  put-decimal-below t,
-  put-decimal.Post,
-) (put-decimal-at t) put-decimal.Post
-put-decimal-cast-digit-2 t c = search needs
 
 put-decimal-digit-requires-2 : (t : ℕ) → put-decimal-lts.Need-digit-requires-2 (
   digit-reads.Asked,
@@ -113,12 +92,7 @@ put-decimal-put-byte-requires-2 : (t : ℕ) → put-decimal-lts.Need-put-byte-re
   put-decimal-below t,
   put-decimal.Post,
 ) (put-decimal-at t) put-decimal.Post
-put-decimal-put-byte-requires-2 t c κs =
-    let front = c .before .before .before .before .put-decimal .ensures in
-    let few = tenth-fits (c .before .before .before .before .before .before .before .before .args .value) (c .before .before .before .before .before .before .before .before .fits .value .fits) in
-    let same = front .room in
-    let room = c .before .before .before .before .before .before .before .before .pre .1 in
-    omega (arith, front .place)
+put-decimal-put-byte-requires-2 t c κs = search tenth-room
 
 put-decimal-same-length-2 : (t : ℕ) → put-decimal-lts.Need-same-length-2 (
   digit-reads.Asked,
@@ -138,7 +112,7 @@ put-decimal-returns-2 : (t : ℕ) → put-decimal-lts.Need-returns-2 (
   put-decimal-below t,
   put-decimal.Post,
 ) (put-decimal-at t) put-decimal.Post
-put-decimal-returns-2 t c = puts-decimal (c .before .before .before .before .before .before .before .before .before .if1 .left) (c .before .before .before .before .before .before .before .put-decimal .ensures) (c .before .before .before .digit2 .ensures) (c .before .before .put-byte2 .ensures)
+put-decimal-returns-2 t c = search puts-decimal
 
 pub +put-decimal-spec : {M : Type 1} → statement M
 +put-decimal-spec = close μ-put-decimal λ t. put-decimal-lts.spec (
@@ -151,13 +125,11 @@ pub +put-decimal-spec : {M : Type 1} → statement M
 )
     (put-decimal-at t)
     put-decimal.Post
-    (put-decimal-cast-digit t)
     (put-decimal-digit-requires t)
     (put-decimal-put-byte-requires t)
     (put-decimal-same-length t)
     (put-decimal-returns t)
     (put-decimal-put-decimal-requires t)
-    (put-decimal-cast-digit-2 t)
     (put-decimal-digit-requires-2 t)
     (put-decimal-put-byte-requires-2 t)
     (put-decimal-same-length-2 t)

@@ -1,10 +1,13 @@
 -- `listing_text::put::digit` meets its contract.
 -- Assumes nothing.
 use borrow.Author.Tests.{lt-ltb, le-ltb}
-use Rattle.listing_text.specs.Text.{digit}
+use Rattle.listing_text.specs.Rules.Text.{digit}
 use borrow.Author.Needs.{needs}
 use Rattle.listing_text.proofs.put.digit.Statement.{statement}
 use Rattle.listing_text.proofs.put.digit.Tie as tie
+
+cast-result : tie.Need-cast-result
+cast-result c = search needs
 
 add-result : tie.Need-add-result
 add-result c = search needs
@@ -12,6 +15,9 @@ add-result c = search needs
 returns : tie.Need-returns
 unfolding digit
 returns c = rw (lt-ltb _ _ (c .if1 .taken))
+
+cast-result-2 : tie.Need-cast-result-2
+cast-result-2 c = search needs
 
 add-result-2 : tie.Need-add-result-2
 add-result-2 c = search needs
@@ -21,4 +27,4 @@ unfolding digit
 returns-2 c = rw (le-ltb _ _ (c .if1 .left))
 
 pub digit-spec : {M : Type 1} → statement M
-digit-spec = tie.close (tie.spec add-result returns add-result-2 returns-2)
+digit-spec = tie.close (tie.spec cast-result add-result returns cast-result-2 add-result-2 returns-2)

@@ -1,6 +1,5 @@
 -- `listing_text::put::put_hex` meets its contract: what is left to spell is what the whole spelling leaves.
 -- Assumes nothing.
-use native.Mathlib.Omega.{arith}
 use borrow.Author.Needs.{needs}
 use Rattle.listing_text.proofs.PutLaws.{Spelling, spelling-start, spelling-next, spelling-end}
 use Rattle.listing_text.proofs.put.put_hex.Statement.{statement}
@@ -24,19 +23,11 @@ mul-digit c = search needs
 shr-digit : tie.Need-shr-digit Inv-loop μ-loop
 shr-digit c = search needs
 
-cast-digit : tie.Need-cast-digit Inv-loop μ-loop
-cast-digit c = search needs
-
 digit-requires : tie.Need-digit-requires Inv-loop μ-loop
 digit-requires c κs = search needs
 
 slice-write-text : tie.Need-slice-write-text Inv-loop μ-loop
-slice-write-text c =
-    let inv = c .before .before .loop .inv in
-    let sum = inv .sum in
-    let room = inv .room in
-    let fits = c .before .before .before .before .pre .0 in
-    omega arith
+slice-write-text c = search needs
 
 add-place : tie.Need-add-place Inv-loop μ-loop
 add-place c = search needs
@@ -45,13 +36,13 @@ loop-less : tie.Need-loop-less Inv-loop μ-loop
 loop-less c = search needs
 
 loop-again : tie.Need-loop-again Inv-loop μ-loop
-loop-again c = spelling-next (c .before .before .loop .inv) (c .before .loop-test .taken) (c .digit .ensures)
+loop-again c = search spelling-next
 
 same-length : tie.Need-same-length Inv-loop μ-loop
 same-length c = c .before .loop .inv .room
 
 returns : tie.Need-returns Inv-loop μ-loop
-returns c = spelling-end (c .before .loop .inv) (c .before .before .before .pre .0) (c .loop-test .left)
+returns c = search spelling-end
 
 pub put-hex-spec : {M : Type 1} → statement M
 put-hex-spec =
@@ -63,7 +54,6 @@ put-hex-spec =
     sub-left
     mul-digit
     shr-digit
-    cast-digit
     digit-requires
     slice-write-text
     add-place

@@ -20,10 +20,10 @@ shared-slice-read-name : tie.Need-shared-slice-read-name Inv-loop μ-loop
 shared-slice-read-name c = search needs
 
 returns : tie.Need-returns Inv-loop μ-loop
-returns c = reading-broadcast (c .before .before .before .before .loop .inv) (c .before .before .before .loop-test .taken) (c .if1 .taken)
+returns c = search reading-broadcast
 
 returns-2 : tie.Need-returns-2 Inv-loop μ-loop
-returns-2 c = reading-unnamed (c .before .before .before .before .before .before .loop .inv) (c .before .before .before .before .before .loop-test .taken) (c .before .before .if1 .left) (c .if2 .taken)
+returns-2 c = search reading-unnamed
 
 add-i : tie.Need-add-i Inv-loop μ-loop
 add-i c = search needs
@@ -32,10 +32,10 @@ loop-less : tie.Need-loop-less Inv-loop μ-loop
 loop-less c = search needs
 
 loop-again : tie.Need-loop-again Inv-loop μ-loop
-loop-again c = reading-next (c .before .before .before .before .before .before .loop .inv) (c .before .before .before .before .before .loop-test .taken) (c .before .before .if1 .left) (c .if2 .left)
+loop-again c = search reading-next
 
 returns-3 : tie.Need-returns-3 Inv-loop μ-loop
-returns-3 c = reading-end (c .before .loop .inv) (c .loop-test .left)
+returns-3 c = search reading-end
 
 pub has-unfit-spec : {M : Type 1} → statement M
 has-unfit-spec =

@@ -1,6 +1,6 @@
 -- `naming::names::names_ground` meets its contract: the first of the two that holds.
 -- Assumes nothing.
-use Rattle.naming.proofs.NameLaws.{names-15, names-16, names-fit}
+use Rattle.naming.proofs.NameLaws.{names-unfit, names-twice, names-fit}
 use borrow.Author.Needs.{needs}
 use Rattle.naming.proofs.names.names_ground.Statement.{statement}
 use Rattle.naming.proofs.names.names_ground.Tie as tie
@@ -9,13 +9,13 @@ has-unfit-requires : tie.Need-has-unfit-requires
 has-unfit-requires c κs = search needs
 
 returns : tie.Need-returns
-returns c = search (names-15)
+returns c = search (names-unfit)
 
 has-twice-requires : tie.Need-has-twice-requires
 has-twice-requires c κs = search needs
 
 returns-2 : tie.Need-returns-2
-returns-2 c = search (names-16)
+returns-2 c = search (names-twice)
 
 returns-3 : tie.Need-returns-3
 returns-3 c = search (names-fit)

@@ -1,7 +1,7 @@
 -- `naming::position::all_named` meets its contract.
 -- Assumes nothing.
 use native.Mathlib.Numerals.{add-one}
-use Rattle.naming.specs.Run.{endAllNamed}
+use Rattle.naming.specs.Rules.Run.{endAllNamed}
 use borrow.Author.Needs.{needs}
 use Rattle.naming.proofs.position.all_named.Statement.{statement}
 use Rattle.naming.proofs.position.all_named.Tie as tie

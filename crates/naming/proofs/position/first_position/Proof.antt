@@ -1,16 +1,16 @@
 -- `naming::position::first_position` meets its contract.
 -- Assumes nothing.
-use Rattle.naming.specs.Run.{fresh}
+use Rattle.naming.specs.Rules.Run.{fresh}
 use borrow.Author.Needs.{needs}
 use Rattle.naming.proofs.position.first_position.Statement.{statement}
 use Rattle.naming.proofs.position.first_position.Tie as tie
 
-mark-at-requires : tie.Need-mark-at-requires
-mark-at-requires c κs = search needs
+end-at-requires : tie.Need-end-at-requires
+end-at-requires c κs = search needs
 
 returns : tie.Need-returns
 unfolding fresh
-returns c = rw (c .mark-at .ensures)
+returns c = rw (c .end-at .ensures)
 
 pub first-position-spec : {M : Type 1} → statement M
-first-position-spec = tie.close (tie.spec mark-at-requires returns)
+first-position-spec = tie.close (tie.spec end-at-requires returns)

@@ -1,11 +1,11 @@
 -- `naming::position::is_unfit` meets its contract: one law for each part of the ground.
 -- Assumes nothing.
-use Rattle.naming.proofs.PositionLaws.{unfit-mark, unfit-index, fit-ended, unfit-past, unfit-step, unfit-rounds, unfit-comparisons}
+use Rattle.naming.proofs.PositionLaws.{unfit-end, unfit-index, fit-ended, unfit-past, unfit-step, unfit-rounds, unfit-comparisons}
 use Rattle.naming.proofs.position.is_unfit.Statement.{statement}
 use Rattle.naming.proofs.position.is_unfit.Tie as tie
 
 returns : tie.Need-returns
-returns c = search unfit-mark
+returns c = search unfit-end
 
 returns-2 : tie.Need-returns-2
 returns-2 c = search unfit-index

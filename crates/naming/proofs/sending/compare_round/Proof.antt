@@ -9,19 +9,19 @@ high-round-requires : tie.Need-high-round-requires
 high-round-requires c κs = search needs
 
 returns : tie.Need-returns
-returns c = part-high _ _ (c .before .if1 .taken) (c .high-round .ensures)
+returns c = search part-high
 
 low-round-requires : tie.Need-low-round-requires
 low-round-requires c κs = search needs
 
 returns-2 : tie.Need-returns-2
-returns-2 c = part-low _ _ (c .before .if2 .taken) (c .low-round .ensures)
+returns-2 c = search part-low
 
 execute-round-requires : tie.Need-execute-round-requires
 execute-round-requires c κs = search needs
 
 returns-3 : tie.Need-returns-3
-returns-3 c = part-reply _ _ _ (c .before .before .if1 .left) (c .before .if2 .left) (c .execute-round .ensures)
+returns-3 c = search part-reply
 
 pub compare-round-spec : {M : Type 1} → statement M
 compare-round-spec =

@@ -21,7 +21,7 @@ write-round-requires : tie.Need-write-round-requires
 write-round-requires c κs = search needs
 
 returns : tie.Need-returns
-returns c = half-sent _ _ _ (c .write-round .ensures)
+returns c = search half-sent
 
 pub half-round-spec : {M : Type 1} → statement M
 half-round-spec = tie.close (tie.spec cast-b0 cast-b1 cast-b2 cast-b3 write-round-requires returns)

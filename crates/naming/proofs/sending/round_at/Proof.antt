@@ -1,6 +1,6 @@
 -- `naming::sending::round_at` meets its contract.
 -- Assumes nothing.
-use Rattle.naming.proofs.SendLaws.{at-poll, at-ask, at-give}
+use Rattle.naming.proofs.SendLaws.{at-poll, at-ask}
 use borrow.Author.Needs.{needs}
 use Rattle.naming.proofs.sending.round_at.Statement.{statement}
 use Rattle.naming.proofs.sending.round_at.Tie as tie
@@ -9,7 +9,7 @@ poll-round-requires : tie.Need-poll-round-requires
 poll-round-requires c κs = search needs
 
 returns : tie.Need-returns
-returns c = at-poll _ _ _ (c .before .if1 .taken) (c .poll-round .ensures)
+returns c = search at-poll
 
 sub-asked : tie.Need-sub-asked
 sub-asked c = search needs
@@ -21,13 +21,13 @@ compare-round-requires : tie.Need-compare-round-requires
 compare-round-requires c κs = search needs
 
 returns-2 : tie.Need-returns-2
-returns-2 c = at-ask _ _ _ _ (c .before .before .before .if1 .left) (c .before .before .if2 .taken) (c .before .tried-value .ensures) (c .compare-round .ensures)
+returns-2 c = search at-ask
 
 give-round-requires : tie.Need-give-round-requires
 give-round-requires c κs = search needs
 
 returns-3 : tie.Need-returns-3
-returns-3 c = at-give _ _ _ _ (c .before .if2 .left) (c .give-round .ensures)
+returns-3 c = search needs
 
 pub round-at-spec : {M : Type 1} → statement M
 round-at-spec =

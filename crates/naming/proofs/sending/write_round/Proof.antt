@@ -2,7 +2,7 @@
 -- Assumes nothing.
 use mathlib.Core.Path.{refl}
 use Rattle.file.proofs.Order.{clash}
-use Rattle.naming.specs.View.{sent, atUnnamed}
+use Rattle.naming.specs.Rules.Rounds.{sent, atUnnamed}
 use Rattle.naming.proofs.sending.write_round.Statement.{statement}
 use Rattle.naming.proofs.sending.write_round.Tie as tie
 

@@ -1,0 +1,488 @@
+/* header: holds include/ttpa.h against document 01 and the library. The gate compiles it as C and as C++.
+ *
+ * Every constant is held by its value and every prototype by its exact type, or this does not compile; the
+ * gate sees to it that none is left out. Every call is made, and what it returns and leaves in lent memory
+ * is compared. Prints the number of comparisons; one that fails is printed with its line, and the status
+ * is 1. */
+#include <assert.h>
+#include <stdio.h>
+#include <string.h>
+
+#include "ttpa.h"
+
+#define VALUE(name, value) static_assert((name) == (value), #name)
+
+#ifdef __cplusplus
+#include <type_traits>
+#define PROTOTYPE(name, type) static_assert(std::is_same<decltype(name), type>::value, #name)
+#else
+#define PROTOTYPE(name, type) static_assert(_Generic(&(name), type *: 1, default: 0), #name)
+#endif
+
+/* ---- the constants */
+
+VALUE(TTPA_ACCEPTED, 0);
+VALUE(TTPA_REFUSED_FILE_SIZE, 1);
+VALUE(TTPA_REFUSED_MARK, 2);
+VALUE(TTPA_REFUSED_EDITION, 3);
+VALUE(TTPA_REFUSED_LENGTH_FIELD, 4);
+VALUE(TTPA_REFUSED_HEADER, 5);
+VALUE(TTPA_REFUSED_LAYOUT, 6);
+VALUE(TTPA_REFUSED_NEEDED_FILE, 7);
+VALUE(TTPA_REFUSED_EQUAL_PHYSICAL_NAMES, 8);
+VALUE(TTPA_REFUSED_SHORT_BUFFER, 9);
+VALUE(TTPA_REFUSED_FIREWORK, 10);
+VALUE(TTPA_REFUSED_FRAME_LENGTH, 11);
+VALUE(TTPA_REFUSED_CHECK_BYTE, 12);
+VALUE(TTPA_REFUSED_OPERATION, 13);
+VALUE(TTPA_REFUSED_BROADCAST_READ, 14);
+VALUE(TTPA_REFUSED_LISTED_NAME, 15);
+VALUE(TTPA_REFUSED_REPEATED_NAME, 16);
+VALUE(TTPA_REFUSED_POSITION, 17);
+VALUE(TTPA_REFUSED_FILE_NUMBER, 18);
+
+VALUE(TTPA_FILE_BYTES, 32768);
+VALUE(TTPA_FRAME_BYTES, 6);
+VALUE(TTPA_ANSWER_BYTES, 64);
+
+VALUE(TTPA_FIREWORK_ROUND_0, 0x78);
+VALUE(TTPA_FIREWORK_MSD, 0x49);
+VALUE(TTPA_FIREWORK_ROUND_2, 0xBA);
+VALUE(TTPA_FIREWORK_ROUND_3, 0x8B);
+VALUE(TTPA_FIREWORK_ROUND_4, 0x64);
+VALUE(TTPA_FIREWORK_MSA, 0x55);
+VALUE(TTPA_FIREWORK_ROUND_6, 0xA6);
+VALUE(TTPA_FIREWORK_ROUND_7, 0x97);
+
+VALUE(TTPA_PART_EPOCH, 0);
+VALUE(TTPA_PART_NAME, 1);
+VALUE(TTPA_PART_FILE, 2);
+VALUE(TTPA_PART_OPERATION, 3);
+VALUE(TTPA_PART_RECORD, 4);
+VALUE(TTPA_ADDRESS_PARTS, 5);
+
+VALUE(TTPA_OPERATION_READ, 0);
+VALUE(TTPA_OPERATION_WRITE, 1);
+VALUE(TTPA_OPERATION_EXECUTE, 2);
+
+VALUE(TTPA_NAME_BROADCAST, 0x00);
+VALUE(TTPA_NAME_UNNAMED, 0xFF);
+
+VALUE(TTPA_FILE_CONFIGURATION, 0x08);
+VALUE(TTPA_FILE_DOCUMENTATION, 0x3D);
+
+VALUE(TTPA_RUN_END, 0);
+VALUE(TTPA_RUN_INDEX, 1);
+VALUE(TTPA_RUN_STEP, 2);
+VALUE(TTPA_RUN_VALUE, 3);
+VALUE(TTPA_RUN_ROUNDS, 4);
+VALUE(TTPA_RUN_COMPARISONS, 5);
+VALUE(TTPA_RUN_WORDS, 6);
+
+VALUE(TTPA_RUNNING, 0);
+VALUE(TTPA_ALL_NAMED, 1);
+VALUE(TTPA_NAMES_USED_UP, 2);
+
+/* ---- the prototypes */
+
+typedef const char *text_type(uint8_t);
+typedef uint8_t check_type(const uint8_t *, size_t);
+typedef uint8_t read_address_type(const uint8_t *, size_t, uint8_t *);
+typedef uint8_t write_address_type(uint8_t *, size_t, uint8_t, uint8_t, uint8_t, uint8_t, uint8_t);
+typedef uint8_t write_data_type(uint8_t *, size_t, uint8_t, uint8_t, uint8_t, uint8_t);
+typedef uint8_t round_type(uint8_t *, size_t, const uint8_t *, size_t, uint8_t *, size_t, uint64_t *);
+typedef uint8_t start_type(const uint8_t *, size_t, uint64_t *);
+typedef uint8_t step_type(uint8_t *, size_t, uint64_t *, const uint8_t *, size_t, uint8_t *, size_t,
+                          uint64_t *);
+
+PROTOTYPE(ttpa_refusal_text, text_type);
+PROTOTYPE(ttpa_check, check_type);
+PROTOTYPE(ttpa_read_address, read_address_type);
+PROTOTYPE(ttpa_write_address, write_address_type);
+PROTOTYPE(ttpa_write_data, write_data_type);
+PROTOTYPE(ttpa_round, round_type);
+PROTOTYPE(ttpa_start, start_type);
+PROTOTYPE(ttpa_step, step_type);
+
+/* ---- the comparisons */
+
+static int comparisons;
+static int failures;
+
+static void compare(int holds, int line)
+{
+    comparisons++;
+    if (!holds) {
+        failures++;
+        fprintf(stderr, "c/header.c:%d does not hold\n", line);
+    }
+}
+
+#define EXPECT(condition) compare(condition, __LINE__)
+
+/* Case M10 of document 01: two unnamed slaves, 0x0000000700000010 and 0x00000007000000A0. */
+static const uint8_t m10[] = {
+    0x54, 0x41, 0x01, 0x02, 0x00, 0x10, 0x00, 0x60, 0x00, 0x00, 0x00, 0x00, 0x00, 0x00, 0x00, 0x00,
+    0x00, 0x18, 0x02, 0x00, 0x00, 0x3C, 0x02, 0x00, 0x08, 0x03, 0x00, 0x20, 0x3D, 0x02, 0x00, 0x30,
+    0x00, 0x00, 0x00, 0x00, 0x00, 0x00, 0x00, 0xFF, 0x00, 0x00, 0x00, 0x00, 0x00, 0x00, 0x00, 0x00,
+    0x00, 0x00, 0x00, 0x00, 0x00, 0x00, 0x00, 0x07, 0x00, 0x00, 0x00, 0x10, 0x08, 0x03, 0x00, 0x44,
+    0x3D, 0x02, 0x00, 0x54, 0x00, 0x00, 0x00, 0x00, 0x00, 0x00, 0x00, 0xFF, 0x00, 0x00, 0x00, 0x00,
+    0x00, 0x00, 0x00, 0x00, 0x00, 0x00, 0x00, 0x00, 0x00, 0x00, 0x00, 0x07, 0x00, 0x00, 0x00, 0xA0,
+};
+
+/* Where M10 keeps what the calls change: the epoch, and the logical name of each slave. */
+#define EPOCH 8
+#define FIRST_NAME 39
+#define SECOND_NAME 75
+
+/* What a buffer and *senders hold before a call. */
+#define OLD 0xEE
+#define OLD_SENDERS UINT64_C(0x0123456789ABCDEF)
+
+static uint8_t cluster[sizeof m10];
+static uint8_t answer[TTPA_ANSWER_BYTES + 1];
+static uint64_t senders;
+
+static void renew(void)
+{
+    memcpy(cluster, m10, sizeof m10);
+    memset(answer, OLD, sizeof answer);
+    senders = OLD_SENDERS;
+}
+
+static int is_old(const uint8_t *bytes, size_t count)
+{
+    size_t i = 0;
+    while (i < count && bytes[i] == OLD) {
+        i++;
+    }
+    return i == count;
+}
+
+/* The answer is the firework, then 0xFF from the slot on, and the byte after it is old. */
+static int silent_from(uint8_t firework, size_t slot)
+{
+    size_t i = slot;
+    while (i < TTPA_ANSWER_BYTES && answer[i] == 0xFF) {
+        i++;
+    }
+    return answer[0] == firework && i == TTPA_ANSWER_BYTES && answer[TTPA_ANSWER_BYTES] == OLD;
+}
+
+/* ---- texts */
+
+static int is_printable(const char *text)
+{
+    size_t i = 0;
+    while (text[i] >= ' ' && text[i] <= '~') {
+        i++;
+    }
+    return i > 0 && text[i] == '\0';
+}
+
+static int first_with(const char *text)
+{
+    int number = 0;
+    while (strcmp(ttpa_refusal_text((uint8_t)number), text) != 0) {
+        number++;
+    }
+    return number;
+}
+
+/* Each known number has a text of its own with a word of its ground; all others have one text. */
+static void texts(void)
+{
+    static const char *const words[] = {
+        "accepted",  "32,768",        "mark",   "edition",    "as long as",  "header", "layout",
+        "0x3D",      "physical name", "buffer", "firework",   "length",      "check",  "operation",
+        "a read is", "0xFF",          "twice",  "naming run", "file number",
+    };
+    const int known = sizeof words / sizeof words[0];
+    for (int number = 0; number < known; number++) {
+        const char *text = ttpa_refusal_text((uint8_t)number);
+        EXPECT(is_printable(text) && strstr(text, words[number]) != NULL);
+        EXPECT(first_with(text) == number);
+    }
+    EXPECT(known == TTPA_REFUSED_FILE_NUMBER + 1);
+    EXPECT(is_printable(ttpa_refusal_text(UINT8_MAX)));
+    for (int number = known; number <= UINT8_MAX; number++) {
+        EXPECT(first_with(ttpa_refusal_text((uint8_t)number)) == known);
+    }
+}
+
+/* ---- files */
+
+static uint8_t check_with(size_t place, uint8_t byte)
+{
+    renew();
+    cluster[place] = byte;
+    return ttpa_check(cluster, sizeof cluster);
+}
+
+static void files(void)
+{
+    static uint8_t longest[TTPA_FILE_BYTES + 1];
+    EXPECT(ttpa_check(m10, sizeof m10) == TTPA_ACCEPTED);
+    EXPECT(ttpa_check(NULL, 0) == TTPA_REFUSED_FILE_SIZE);
+    EXPECT(ttpa_check(longest, TTPA_FILE_BYTES + 1) == TTPA_REFUSED_FILE_SIZE);
+    EXPECT(ttpa_check(longest, TTPA_FILE_BYTES) == TTPA_REFUSED_MARK);
+    EXPECT(check_with(1, 0x42) == TTPA_REFUSED_MARK);
+    EXPECT(check_with(2, 9) == TTPA_REFUSED_EDITION);
+    EXPECT(ttpa_check(m10, sizeof m10 - 1) == TTPA_REFUSED_LENGTH_FIELD);
+    EXPECT(check_with(3, 33) == TTPA_REFUSED_HEADER);
+    EXPECT(check_with(19, 1) == TTPA_REFUSED_LAYOUT);
+    EXPECT(check_with(28, 0x3C) == TTPA_REFUSED_NEEDED_FILE);
+    EXPECT(check_with(sizeof m10 - 1, 0x10) == TTPA_REFUSED_EQUAL_PHYSICAL_NAMES);
+}
+
+/* ---- frames: cases M1 to M5, and the order of the grounds */
+
+static void written_addresses(void)
+{
+    static const uint8_t m1[] = {0x55, 0x05, 0xFF, 0x22, 0x02, 0xDA};
+    static const uint8_t m2[] = {0x55, 0x00, 0xFF, 0x21, 0x01, 0xDF};
+    static const uint8_t m4[] = {0x55, 0x02, 0x01, 0xF4, 0x01, 0xF6};
+    uint8_t frame[TTPA_FRAME_BYTES + 1];
+    memset(frame, OLD, sizeof frame);
+    EXPECT(ttpa_write_address(frame, sizeof frame, 5, TTPA_NAME_UNNAMED, TTPA_FILE_CONFIGURATION,
+                              TTPA_OPERATION_EXECUTE, 2) == TTPA_ACCEPTED);
+    EXPECT(memcmp(frame, m1, sizeof m1) == 0 && frame[TTPA_FRAME_BYTES] == OLD);
+    EXPECT(ttpa_write_address(frame, TTPA_FRAME_BYTES, 0, TTPA_NAME_UNNAMED, TTPA_FILE_CONFIGURATION,
+                              TTPA_OPERATION_WRITE, 1) == TTPA_ACCEPTED);
+    EXPECT(memcmp(frame, m2, sizeof m2) == 0);
+    EXPECT(ttpa_write_address(frame, sizeof frame, 2, 0x01, TTPA_FILE_DOCUMENTATION, TTPA_OPERATION_READ,
+                              1) == TTPA_ACCEPTED);
+    EXPECT(memcmp(frame, m4, sizeof m4) == 0 && frame[TTPA_FRAME_BYTES] == OLD);
+}
+
+static void refused_addresses(void)
+{
+    uint8_t frame[TTPA_FRAME_BYTES];
+    memset(frame, OLD, sizeof frame);
+    EXPECT(ttpa_write_address(NULL, 0, 1, 0x00, 64, 3, 1) == TTPA_REFUSED_SHORT_BUFFER);
+    EXPECT(ttpa_write_address(frame, TTPA_FRAME_BYTES - 1, 1, 0x00, 64, 3, 1) == TTPA_REFUSED_SHORT_BUFFER);
+    EXPECT(ttpa_write_address(frame, sizeof frame, 1, 0x00, 64, 3, 1) == TTPA_REFUSED_OPERATION);
+    EXPECT(ttpa_write_address(frame, sizeof frame, 1, 0x00, 64, 0, 1) == TTPA_REFUSED_BROADCAST_READ);
+    EXPECT(ttpa_write_address(frame, sizeof frame, 1, 0x00, 64, 1, 1) == TTPA_REFUSED_FILE_NUMBER);
+    EXPECT(is_old(frame, sizeof frame));
+}
+
+static void data_frames(void)
+{
+    static const uint8_t m3[] = {0x49, 0x00, 0x00, 0x01, 0xFF, 0xFE};
+    static const uint8_t four_bytes[] = {0x49, 0x12, 0x34, 0x56, 0x7F, 0x0F};
+    uint8_t frame[TTPA_FRAME_BYTES + 1];
+    memset(frame, OLD, sizeof frame);
+    EXPECT(ttpa_write_data(NULL, 0, 1, 2, 3, 4) == TTPA_REFUSED_SHORT_BUFFER);
+    EXPECT(ttpa_write_data(frame, TTPA_FRAME_BYTES - 1, 1, 2, 3, 4) == TTPA_REFUSED_SHORT_BUFFER);
+    EXPECT(is_old(frame, sizeof frame));
+    EXPECT(ttpa_write_data(frame, sizeof frame, 0x00, 0x00, 0x01, 0xFF) == TTPA_ACCEPTED);
+    EXPECT(memcmp(frame, m3, sizeof m3) == 0 && frame[TTPA_FRAME_BYTES] == OLD);
+    EXPECT(ttpa_write_data(frame, TTPA_FRAME_BYTES, 0x12, 0x34, 0x56, 0x7F) == TTPA_ACCEPTED);
+    EXPECT(memcmp(frame, four_bytes, sizeof four_bytes) == 0);
+}
+
+static void read_addresses(void)
+{
+    static const uint8_t m1[] = {0x55, 0x05, 0xFF, 0x22, 0x02, 0xDA, 0x00};
+    static const uint8_t m5[] = {0x55, 0x05, 0xFF, 0x22, 0x02, 0xDB};
+    static const uint8_t operation_3[] = {0x55, 0x05, 0x00, 0x23, 0x02, 0x24};
+    static const uint8_t broadcast_read[] = {0x55, 0x05, 0x00, 0x20, 0x02, 0x27};
+    static const uint8_t data[] = {0x49, 0x00, 0x00, 0x01, 0xFF, 0xFE};
+    uint8_t parts[TTPA_ADDRESS_PARTS + 1];
+    memset(parts, OLD, sizeof parts);
+    EXPECT(ttpa_read_address(NULL, 0, parts) == TTPA_REFUSED_FIREWORK);
+    EXPECT(ttpa_read_address(data, sizeof data, parts) == TTPA_REFUSED_FIREWORK);
+    EXPECT(ttpa_read_address(m1, TTPA_FRAME_BYTES + 1, parts) == TTPA_REFUSED_FRAME_LENGTH);
+    EXPECT(ttpa_read_address(m5, sizeof m5, parts) == TTPA_REFUSED_CHECK_BYTE);
+    EXPECT(ttpa_read_address(operation_3, sizeof operation_3, parts) == TTPA_REFUSED_OPERATION);
+    EXPECT(ttpa_read_address(broadcast_read, sizeof broadcast_read, parts) == TTPA_REFUSED_BROADCAST_READ);
+    EXPECT(is_old(parts, sizeof parts));
+    EXPECT(ttpa_read_address(m1, TTPA_FRAME_BYTES, parts) == TTPA_ACCEPTED);
+    EXPECT(parts[TTPA_PART_EPOCH] == 5);
+    EXPECT(parts[TTPA_PART_NAME] == TTPA_NAME_UNNAMED);
+    EXPECT(parts[TTPA_PART_FILE] == TTPA_FILE_CONFIGURATION);
+    EXPECT(parts[TTPA_PART_OPERATION] == TTPA_OPERATION_EXECUTE);
+    EXPECT(parts[TTPA_PART_RECORD] == 2);
+    EXPECT(parts[TTPA_ADDRESS_PARTS] == OLD);
+}
+
+/* ---- rounds */
+
+static uint8_t send(const uint8_t *frame, size_t bytes)
+{
+    return ttpa_round(cluster, sizeof cluster, frame, bytes, answer, sizeof answer, &senders);
+}
+
+/* The comparison with 0, at which both slaves answer 0x00 in slot 1. */
+static void master_slave(void)
+{
+    static const uint8_t m1[] = {0x55, 0x05, 0xFF, 0x22, 0x02, 0xDA};
+    static const uint8_t data[] = {TTPA_FIREWORK_MSD};
+    static const uint8_t pending[] = {0x05, 0x01, 0xFF, 0x22, 0x02};
+    renew();
+    EXPECT(send(m1, sizeof m1) == TTPA_ACCEPTED);
+    EXPECT(senders == 0 && silent_from(TTPA_FIREWORK_MSA, 1));
+    EXPECT(memcmp(cluster + EPOCH, pending, sizeof pending) == 0);
+    EXPECT(send(data, sizeof data) == TTPA_ACCEPTED);
+    EXPECT(senders == 1 << 1 && answer[1] == 0x00 && silent_from(TTPA_FIREWORK_MSD, 2));
+    EXPECT(cluster[EPOCH] == 6);
+}
+
+/* One byte as a frame: 0x55 is too short, seven are whole frames, all others are no fireworks. */
+static void fireworks(void)
+{
+    static const uint8_t whole[] = {
+        TTPA_FIREWORK_ROUND_0, TTPA_FIREWORK_MSD,     TTPA_FIREWORK_ROUND_2, TTPA_FIREWORK_ROUND_3,
+        TTPA_FIREWORK_ROUND_4, TTPA_FIREWORK_ROUND_6, TTPA_FIREWORK_ROUND_7,
+    };
+    for (unsigned byte = 0; byte < 256; byte++) {
+        const uint8_t frame[] = {(uint8_t)byte};
+        renew();
+        if (memchr(whole, (int)byte, sizeof whole) != NULL) {
+            EXPECT(send(frame, sizeof frame) == TTPA_ACCEPTED);
+            EXPECT(senders == 0 && silent_from(frame[0], 1));
+        } else {
+            unsigned number = byte == TTPA_FIREWORK_MSA ? TTPA_REFUSED_FRAME_LENGTH : TTPA_REFUSED_FIREWORK;
+            EXPECT(send(frame, sizeof frame) == number);
+            EXPECT(senders == OLD_SENDERS && is_old(answer, sizeof answer));
+        }
+    }
+}
+
+static void refused_rounds(void)
+{
+    static const uint8_t m5[] = {0x55, 0x05, 0xFF, 0x22, 0x02, 0xDB};
+    static const uint8_t operation_3[] = {0x55, 0x05, 0x00, 0x23, 0x02, 0x24};
+    static const uint8_t broadcast_read[] = {0x55, 0x05, 0x00, 0x20, 0x02, 0x27};
+    renew();
+    EXPECT(ttpa_round(NULL, 0, NULL, 0, NULL, 0, &senders) == TTPA_REFUSED_FILE_SIZE);
+    EXPECT(ttpa_round(cluster, sizeof cluster - 1, NULL, 0, NULL, 0, &senders) == TTPA_REFUSED_LENGTH_FIELD);
+    EXPECT(ttpa_round(cluster, sizeof cluster, NULL, 0, NULL, 0, &senders) == TTPA_REFUSED_SHORT_BUFFER);
+    EXPECT(ttpa_round(cluster, sizeof cluster, NULL, 0, answer, TTPA_ANSWER_BYTES - 1, &senders) ==
+           TTPA_REFUSED_SHORT_BUFFER);
+    EXPECT(ttpa_round(cluster, sizeof cluster, NULL, 0, answer, TTPA_ANSWER_BYTES, &senders) ==
+           TTPA_REFUSED_FIREWORK);
+    EXPECT(send(m5, sizeof m5 - 1) == TTPA_REFUSED_FRAME_LENGTH);
+    EXPECT(send(m5, sizeof m5) == TTPA_REFUSED_CHECK_BYTE);
+    EXPECT(send(operation_3, sizeof operation_3) == TTPA_REFUSED_OPERATION);
+    EXPECT(send(broadcast_read, sizeof broadcast_read) == TTPA_REFUSED_BROADCAST_READ);
+    EXPECT(senders == OLD_SENDERS && is_old(answer, sizeof answer));
+    EXPECT(memcmp(cluster, m10, sizeof m10) == 0);
+}
+
+/* ---- naming */
+
+static const uint8_t names[] = {0x21, 0x22, 0x23};
+
+static int run_is(const uint64_t *run, uint64_t end, uint64_t index, uint64_t step, uint64_t value,
+                  uint64_t rounds, uint64_t compared)
+{
+    return run[TTPA_RUN_END] == end && run[TTPA_RUN_INDEX] == index && run[TTPA_RUN_STEP] == step &&
+           run[TTPA_RUN_VALUE] == value && run[TTPA_RUN_ROUNDS] == rounds &&
+           run[TTPA_RUN_COMPARISONS] == compared;
+}
+
+static uint8_t step(uint64_t *run, const uint8_t *list, size_t listed, size_t answer_bytes)
+{
+    return ttpa_step(cluster, sizeof cluster, run, list, listed, answer, answer_bytes, &senders);
+}
+
+static void starts(void)
+{
+    static const uint8_t broadcast[] = {0x21, TTPA_NAME_BROADCAST, 0x21};
+    static const uint8_t unnamed[] = {0x21, 0x21, TTPA_NAME_UNNAMED};
+    static const uint8_t twice[] = {0x21, 0x22, 0x21};
+    uint64_t run[TTPA_RUN_WORDS] = {9, 9, 9, 9, 9, 9};
+    EXPECT(ttpa_start(broadcast, sizeof broadcast, run) == TTPA_REFUSED_LISTED_NAME);
+    EXPECT(ttpa_start(unnamed, sizeof unnamed, run) == TTPA_REFUSED_LISTED_NAME);
+    EXPECT(ttpa_start(twice, sizeof twice, run) == TTPA_REFUSED_REPEATED_NAME);
+    EXPECT(run_is(run, 9, 9, 9, 9, 9, 9));
+    EXPECT(ttpa_start(NULL, 0, run) == TTPA_ACCEPTED);
+    EXPECT(run_is(run, TTPA_NAMES_USED_UP, 0, 0, 0, 0, 0));
+    EXPECT(ttpa_start(names, sizeof names, run) == TTPA_ACCEPTED);
+    EXPECT(run_is(run, TTPA_RUNNING, 0, 0, 0, 0, 0));
+}
+
+/* Steps over the first names of the list, at most so many; the number of the last one. */
+static uint8_t steps(uint64_t *run, size_t listed, unsigned most)
+{
+    uint8_t number = TTPA_ACCEPTED;
+    for (unsigned made = 0; made < most && run[TTPA_RUN_END] == TTPA_RUNNING; made++) {
+        number = step(run, names, listed, sizeof answer);
+    }
+    return number;
+}
+
+/* One name: the fourth round is the comparison with 0, at which both answer. The slave with the greater
+ * physical name takes it in 200 rounds with 65 comparisons. */
+static void one_name(void)
+{
+    uint64_t run[TTPA_RUN_WORDS];
+    renew();
+    EXPECT(ttpa_start(names, 1, run) == TTPA_ACCEPTED);
+    EXPECT(steps(run, 1, 4) == TTPA_ACCEPTED);
+    EXPECT(run_is(run, TTPA_RUNNING, 0, 4, 0, 4, 1));
+    EXPECT(senders == 1 << 1 && answer[1] == 0x00 && silent_from(TTPA_FIREWORK_MSD, 2));
+    EXPECT(steps(run, 1, 1000) == TTPA_ACCEPTED);
+    EXPECT(run_is(run, TTPA_NAMES_USED_UP, 1, 0, UINT64_C(0x00000007000000A0), 200, 65));
+    EXPECT(cluster[FIRST_NAME] == TTPA_NAME_UNNAMED && cluster[SECOND_NAME] == names[0]);
+    EXPECT(cluster[EPOCH] == 400 % 256);
+}
+
+/* Three names for two slaves: document 01's figures of M10. Then a step alters nothing. */
+static void all_names(void)
+{
+    uint64_t run[TTPA_RUN_WORDS];
+    uint8_t named[sizeof cluster];
+    renew();
+    EXPECT(ttpa_start(names, sizeof names, run) == TTPA_ACCEPTED);
+    EXPECT(steps(run, sizeof names, 1000) == TTPA_ACCEPTED);
+    EXPECT(run_is(run, TTPA_ALL_NAMED, 2, 3, UINT64_C(0x0000000700000010), 404, 131));
+    EXPECT(cluster[FIRST_NAME] == names[1] && cluster[SECOND_NAME] == names[0]);
+    EXPECT(senders == 0 && silent_from(TTPA_FIREWORK_MSD, 1));
+    memcpy(named, cluster, sizeof named);
+    memset(answer, OLD, sizeof answer);
+    senders = OLD_SENDERS;
+    EXPECT(step(run, names, sizeof names, sizeof answer) == TTPA_ACCEPTED);
+    EXPECT(run_is(run, TTPA_ALL_NAMED, 2, 3, UINT64_C(0x0000000700000010), 404, 131));
+    EXPECT(senders == OLD_SENDERS && is_old(answer, sizeof answer));
+    EXPECT(memcmp(cluster, named, sizeof named) == 0);
+}
+
+static void refused_steps(void)
+{
+    static const uint8_t unfit[] = {0x21, 0x21, TTPA_NAME_UNNAMED};
+    static const uint8_t twice[] = {0x21, 0x21, 0x22};
+    uint64_t run[TTPA_RUN_WORDS] = {TTPA_NAMES_USED_UP + 1, 0, 0, 0, 0, 0};
+    renew();
+    EXPECT(ttpa_step(NULL, 0, run, unfit, sizeof unfit, NULL, 0, &senders) == TTPA_REFUSED_FILE_SIZE);
+    EXPECT(ttpa_step(cluster, sizeof cluster - 1, run, unfit, sizeof unfit, NULL, 0, &senders) ==
+           TTPA_REFUSED_LENGTH_FIELD);
+    EXPECT(step(run, unfit, sizeof unfit, TTPA_ANSWER_BYTES - 1) == TTPA_REFUSED_SHORT_BUFFER);
+    EXPECT(step(run, unfit, sizeof unfit, TTPA_ANSWER_BYTES) == TTPA_REFUSED_LISTED_NAME);
+    EXPECT(step(run, twice, sizeof twice, TTPA_ANSWER_BYTES) == TTPA_REFUSED_REPEATED_NAME);
+    EXPECT(step(run, NULL, 0, TTPA_ANSWER_BYTES) == TTPA_REFUSED_POSITION);
+    EXPECT(run_is(run, TTPA_NAMES_USED_UP + 1, 0, 0, 0, 0, 0));
+    EXPECT(senders == OLD_SENDERS && is_old(answer, sizeof answer));
+    EXPECT(memcmp(cluster, m10, sizeof m10) == 0);
+}
+
+int main(void)
+{
+    texts();
+    files();
+    written_addresses();
+    refused_addresses();
+    data_frames();
+    read_addresses();
+    master_slave();
+    fireworks();
+    refused_rounds();
+    starts();
+    one_name();
+    all_names();
+    refused_steps();
+    printf("%d comparisons, %d failed\n", comparisons, failures);
+    return failures == 0 ? 0 : 1;
+}

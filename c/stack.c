@@ -1,0 +1,321 @@
+/* stack: how much stack the calls of include/ttpa.h use, in bytes, and of all the most.
+ *
+ * Each call is made on a stack of its own that was filled with one byte value; the deepest byte that has
+ * another value afterwards is the deepest that was used. The calls are made on a cluster file of the
+ * greatest length with the most slaves: every kind of frame, a whole naming run over all names, and
+ * refusals. All of it runs three times: first to have the linker's work done, then with two different
+ * fillings, since a byte may be written with the value that it has. */
+#define _XOPEN_SOURCE 700
+#include <stdio.h>
+#include <string.h>
+#include <ucontext.h>
+
+#include "ttpa.h"
+
+#define SLAVES 32
+#define HEADER_BYTES 16
+#define ENTRY_BYTES 4
+#define RECORD_BYTES 4
+#define ROUND_FILE 0x02
+#define DATA_FILE 0x10
+#define NAMES 254
+#define STACK_BYTES 32768
+
+static uint8_t cluster[TTPA_FILE_BYTES];
+static uint8_t frame[TTPA_FRAME_BYTES];
+static size_t frame_bytes;
+static uint8_t parts[TTPA_ADDRESS_PARTS];
+static uint8_t answer[TTPA_ANSWER_BYTES];
+static uint64_t senders;
+static uint8_t names[NAMES];
+static uint64_t run[TTPA_RUN_WORDS];
+static uint8_t number;
+
+/* ---- a cluster file of TTPA_FILE_BYTES bytes with SLAVES slaves */
+
+static size_t end;
+
+static void put(unsigned byte)
+{
+    cluster[end++] = (uint8_t)byte;
+}
+
+static void put_record(unsigned b0, unsigned b1, unsigned b2, unsigned b3)
+{
+    put(b0);
+    put(b1);
+    put(b2);
+    put(b3);
+}
+
+static void put_place(size_t at, size_t place)
+{
+    cluster[at] = (uint8_t)(place >> 8);
+    cluster[at + 1] = (uint8_t)place;
+}
+
+/* An entry of a directory: a file of records 0x00 to last at the place; and the place after it. */
+static size_t put_entry(unsigned file, size_t last, size_t place)
+{
+    put_record(file, (unsigned)last, (unsigned)(place >> 8), (unsigned)place & 0xFF);
+    return place + RECORD_BYTES * (last + 1);
+}
+
+/* Its file of round 2 sends 16 bytes of its data file in the slots from its own on, and stores slots 1 to
+ * 16. The first slave is named 0x01, the others are unnamed. */
+static void put_slave(unsigned slave, size_t data_last)
+{
+    size_t place = end + 4 * ENTRY_BYTES;
+    place = put_entry(ROUND_FILE, 2, place);
+    place = put_entry(TTPA_FILE_CONFIGURATION, 3, place);
+    place = put_entry(DATA_FILE, data_last, place);
+    put_entry(TTPA_FILE_DOCUMENTATION, 2, place);
+    put_record(0, 0, 0, 0);
+    put_record(DATA_FILE << 2, 1, 1 << 4 | 15, slave + 1);
+    put_record(DATA_FILE << 2, 60, 0 << 4 | 15, 1);
+    put_record(0, 0, 0, 0);
+    put_record(0, 0, 0, slave == 0 ? 0x01 : TTPA_NAME_UNNAMED);
+    put_record(0, 0, 0, 0);
+    put_record(0, 0, 0, 0);
+    for (size_t i = 0; i <= data_last; i++) {
+        put_record(slave, 0x5A, 0xC3, 0x0F);
+    }
+    put_record(0, 0, 0, 0);
+    put_record(0, 0, 0, 7);
+    put_record(0x80, 0x55, 0, slave);
+}
+
+/* The data files fill what is left, the first ones by a record more where it does not divide. */
+static void make_cluster(void)
+{
+    static const uint8_t mark[4] = {0x54, 0x41, 1, SLAVES};
+    size_t first = HEADER_BYTES + SLAVES * ENTRY_BYTES;
+    size_t records = (TTPA_FILE_BYTES - first) / RECORD_BYTES;
+    memset(cluster, 0, sizeof cluster);
+    memcpy(cluster, mark, sizeof mark);
+    put_place(4, HEADER_BYTES);
+    put_place(6, TTPA_FILE_BYTES);
+    end = first;
+    for (unsigned slave = 0; slave < SLAVES; slave++) {
+        size_t entry = HEADER_BYTES + slave * ENTRY_BYTES;
+        size_t own = records / SLAVES + (slave < records % SLAVES);
+        put_place(entry, end);
+        cluster[entry + 2] = 4;
+        put_slave(slave, own - (4 + 3 + 4 + 3) - 1);
+    }
+}
+
+/* ---- one call each, on a stack of its own */
+
+static void no_call(void)
+{
+}
+
+static void check_call(void)
+{
+    number = ttpa_check(cluster, sizeof cluster);
+}
+
+static void read_address_call(void)
+{
+    number = ttpa_read_address(frame, frame_bytes, parts);
+}
+
+static void write_address_call(void)
+{
+    number = ttpa_write_address(frame, sizeof frame, parts[TTPA_PART_EPOCH], parts[TTPA_PART_NAME],
+                                parts[TTPA_PART_FILE], parts[TTPA_PART_OPERATION], parts[TTPA_PART_RECORD]);
+}
+
+static void write_data_call(void)
+{
+    number = ttpa_write_data(frame, sizeof frame, 0x12, 0x34, 0x56, 0x78);
+}
+
+static void round_call(void)
+{
+    number = ttpa_round(cluster, sizeof cluster, frame, frame_bytes, answer, sizeof answer, &senders);
+}
+
+static void start_call(void)
+{
+    number = ttpa_start(names, sizeof names, run);
+}
+
+static void step_call(void)
+{
+    number = ttpa_step(cluster, sizeof cluster, run, names, sizeof names, answer, sizeof answer, &senders);
+}
+
+enum kind { NOTHING, CHECK, READ_ADDRESS, WRITE_ADDRESS, WRITE_DATA, ROUND, START, STEP, KINDS };
+
+struct call {
+    const char *name;
+    void (*make)(void);
+};
+
+static const struct call calls[KINDS] = {
+    [NOTHING] = {"nothing", no_call},
+    [CHECK] = {"ttpa_check", check_call},
+    [READ_ADDRESS] = {"ttpa_read_address", read_address_call},
+    [WRITE_ADDRESS] = {"ttpa_write_address", write_address_call},
+    [WRITE_DATA] = {"ttpa_write_data", write_data_call},
+    [ROUND] = {"ttpa_round", round_call},
+    [START] = {"ttpa_start", start_call},
+    [STEP] = {"ttpa_step", step_call},
+};
+
+/* The most stack that a call of each kind has used. */
+static size_t most[KINDS];
+static uint8_t stack[STACK_BYTES];
+static uint8_t filling;
+static int failed;
+
+static size_t deepest(void)
+{
+    size_t at = 0;
+    while (at < sizeof stack && stack[at] == filling) {
+        at++;
+    }
+    return sizeof stack - at;
+}
+
+/* Makes a call, keeps the most stack of its kind, and compares its answer with the expected one. */
+static void make(enum kind kind, uint8_t expected)
+{
+    ucontext_t here, there;
+    memset(stack, filling, sizeof stack);
+    number = expected;
+    if (getcontext(&there) != 0) {
+        failed = 1;
+        return;
+    }
+    there.uc_stack.ss_sp = stack;
+    there.uc_stack.ss_size = sizeof stack;
+    there.uc_link = &here;
+    makecontext(&there, calls[kind].make, 0);
+    if (swapcontext(&here, &there) != 0 || number != expected) {
+        fprintf(stderr, "%s: %u, not %u\n", calls[kind].name, (unsigned)number, (unsigned)expected);
+        failed = 1;
+    }
+    size_t used = deepest();
+    most[kind] = used > most[kind] ? used : most[kind];
+}
+
+/* ---- all calls */
+
+static void check_files(void)
+{
+    uint8_t *serial = &cluster[sizeof cluster - 1];
+    make(CHECK, TTPA_ACCEPTED);
+    *serial = 0;
+    make(CHECK, TTPA_REFUSED_EQUAL_PHYSICAL_NAMES);
+    *serial = SLAVES - 1;
+    cluster[HEADER_BYTES + 3] = 1;
+    make(CHECK, TTPA_REFUSED_LAYOUT);
+    cluster[HEADER_BYTES + 3] = 0;
+}
+
+/* A complete master-slave round: its address frame written, read and carried out, then its data frame. */
+static void master_slave(uint8_t name, uint8_t file, uint8_t operation, uint8_t record)
+{
+    const uint8_t address[TTPA_ADDRESS_PARTS] = {9, name, file, operation, record};
+    memcpy(parts, address, sizeof parts);
+    make(WRITE_ADDRESS, TTPA_ACCEPTED);
+    frame_bytes = sizeof frame;
+    make(READ_ADDRESS, TTPA_ACCEPTED);
+    make(ROUND, TTPA_ACCEPTED);
+    make(WRITE_DATA, TTPA_ACCEPTED);
+    frame_bytes = operation == TTPA_OPERATION_WRITE ? sizeof frame : 1;
+    make(ROUND, TTPA_ACCEPTED);
+}
+
+/* Records that every slave has, and others; at one slave, at all that are named, and at the unnamed. */
+static void master_slave_rounds(void)
+{
+    static const uint8_t files[] = {TTPA_FILE_CONFIGURATION, DATA_FILE, TTPA_FILE_DOCUMENTATION, 0x3F};
+    for (size_t i = 0; i < sizeof files; i++) {
+        for (uint8_t record = 0; record <= 4; record++) {
+            master_slave(0x01, files[i], TTPA_OPERATION_READ, record);
+            master_slave(TTPA_NAME_UNNAMED, files[i], TTPA_OPERATION_READ, record);
+        }
+        master_slave(0x01, files[i], TTPA_OPERATION_WRITE, 2);
+        master_slave(TTPA_NAME_BROADCAST, files[i], TTPA_OPERATION_WRITE, 2);
+        master_slave(TTPA_NAME_UNNAMED, files[i], TTPA_OPERATION_WRITE, 2);
+    }
+    for (uint8_t record = 1; record <= 3; record++) {
+        master_slave(TTPA_NAME_BROADCAST, TTPA_FILE_CONFIGURATION, TTPA_OPERATION_EXECUTE, record);
+        master_slave(TTPA_NAME_UNNAMED, TTPA_FILE_CONFIGURATION, TTPA_OPERATION_EXECUTE, record);
+    }
+}
+
+static void multipartner_rounds(void)
+{
+    static const uint8_t fireworks[] = {
+        TTPA_FIREWORK_ROUND_0, TTPA_FIREWORK_ROUND_2, TTPA_FIREWORK_ROUND_3,
+        TTPA_FIREWORK_ROUND_4, TTPA_FIREWORK_ROUND_6, TTPA_FIREWORK_ROUND_7,
+    };
+    frame_bytes = 1;
+    for (size_t i = 0; i < sizeof fireworks; i++) {
+        frame[0] = fireworks[i];
+        make(ROUND, TTPA_ACCEPTED);
+        failed |= fireworks[i] == TTPA_FIREWORK_ROUND_2 && senders == 0;
+    }
+}
+
+static void refused_frames(void)
+{
+    make(WRITE_ADDRESS, TTPA_ACCEPTED);
+    frame[5] ^= 1;
+    frame_bytes = sizeof frame;
+    make(READ_ADDRESS, TTPA_REFUSED_CHECK_BYTE);
+    make(ROUND, TTPA_REFUSED_CHECK_BYTE);
+    frame[0] = 0;
+    make(ROUND, TTPA_REFUSED_FIREWORK);
+}
+
+static void name_all(void)
+{
+    for (unsigned i = 0; i < NAMES; i++) {
+        names[i] = (uint8_t)(i + 1);
+    }
+    make(START, TTPA_ACCEPTED);
+    while (!failed && run[TTPA_RUN_END] == TTPA_RUNNING) {
+        make(STEP, TTPA_ACCEPTED);
+    }
+    make(STEP, TTPA_ACCEPTED);
+    names[NAMES - 1] = names[0];
+    make(START, TTPA_REFUSED_REPEATED_NAME);
+    make(STEP, TTPA_REFUSED_REPEATED_NAME);
+}
+
+static void all_calls(void)
+{
+    make_cluster();
+    make(NOTHING, TTPA_ACCEPTED);
+    check_files();
+    multipartner_rounds();
+    name_all();
+    multipartner_rounds();
+    master_slave_rounds();
+    refused_frames();
+}
+
+int main(void)
+{
+    size_t deepest_call = 0;
+    all_calls();
+    memset(most, 0, sizeof most);
+    filling = 0xA5;
+    all_calls();
+    filling = 0x5A;
+    all_calls();
+    /* counted from the caller's frame on, where a function that calls nothing begins too */
+    for (enum kind kind = CHECK; kind < KINDS; kind++) {
+        size_t used = most[kind] - most[NOTHING];
+        printf("%s %zu\n", calls[kind].name, used);
+        deepest_call = used > deepest_call ? used : deepest_call;
+    }
+    printf("deepest %zu\n", deepest_call);
+    return failed;
+}

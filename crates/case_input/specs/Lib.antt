@@ -1,2 +1,0 @@
--- What the test programs lean on.
-pub mod Fields

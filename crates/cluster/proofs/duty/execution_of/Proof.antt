@@ -1,0 +1,26 @@
+-- `cluster::duty::execution_of` meets its contract: a law for each way.
+-- Assumes nothing.
+use Rattle.cluster.specs.Inner.Duties.{dutyAt}
+use Rattle.cluster.proofs.DataLaws.{execution-elsewhere, execution-compare, execution-baptize, execution-other}
+use borrow.Author.Needs.{needs}
+use Rattle.cluster.proofs.duty.execution_of.Statement.{statement}
+use Rattle.cluster.proofs.duty.execution_of.Tie as tie
+
+returns : tie.Need-returns
+unfolding dutyAt
+returns c = search (needs, execution-elsewhere)
+
+returns-2 : tie.Need-returns-2
+unfolding dutyAt
+returns-2 c = search (needs, execution-compare)
+
+returns-3 : tie.Need-returns-3
+unfolding dutyAt
+returns-3 c = search (needs, execution-baptize)
+
+returns-4 : tie.Need-returns-4
+unfolding dutyAt
+returns-4 c = search (needs, execution-other)
+
+pub execution-of-spec : {M : Type 1} → statement M
+execution-of-spec = tie.close (tie.spec returns returns-2 returns-3 returns-4)

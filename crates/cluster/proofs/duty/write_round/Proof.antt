@@ -1,0 +1,69 @@
+-- `cluster::duty::write_round` meets its contract. The invariant is `Changing`: the slaves passed are changed, the others are not.
+-- Assumes nothing.
+use native.Mathlib.Omega.{arith}
+use Prim.Native.Nat.{_-_}
+use Rattle.cluster.specs.Rules.Slaves.{slaveAfter, slavesAfter}
+use Rattle.cluster.specs.Inner.Duties.{writingAt, dataIn}
+use Rattle.cluster.proofs.SlaveLaws.{data-bytes}
+use Rattle.cluster.proofs.Kept.{slaveAfter-kept}
+use Rattle.cluster.proofs.Changing.{Changing, changing-start, changing-placed, changing-there, changing-next, changing-done}
+use Rattle.cluster.proofs.DataLaws.{write-forbidden, may-true}
+use borrow.Author.Needs.{needs}
+use Rattle.cluster.proofs.duty.write_round.Statement.{statement}
+use Rattle.cluster.proofs.duty.write_round.Tie as tie
+
+abbrev Inv-loop : tie.InvT-loop
+Inv-loop file₀ places address bytes count slave₀ file slave =
+    Changing (slaveAfter (writingAt address) (dataIn bytes)) file₀ slave file
+
+abbrev μ-loop : tie.MeasureT-loop
+μ-loop file₀ places address bytes count slave₀ file slave =
+    count - slave
+
+may-write-requires : tie.Need-may-write-requires Inv-loop μ-loop
+may-write-requires c κs = search needs
+
+returns : tie.Need-returns Inv-loop μ-loop
+returns c = search (needs, write-forbidden)
+
+slave-count-requires : tie.Need-slave-count-requires Inv-loop μ-loop
+slave-count-requires c κs = search needs
+
+loop-holds : tie.Need-loop-holds Inv-loop μ-loop
+loop-holds c = search (needs, changing-start, slaveAfter-kept, data-bytes)
+
+write-slave-requires : tie.Need-write-slave-requires Inv-loop μ-loop
+write-slave-requires c κs = search (needs, changing-placed, changing-there, may-true)
+
+add-slave : tie.Need-add-slave Inv-loop μ-loop
+add-slave c = omega arith
+
+loop-less : tie.Need-loop-less Inv-loop μ-loop
+loop-less c = omega arith
+
+loop-again : tie.Need-loop-again Inv-loop μ-loop
+loop-again c = search (needs, changing-next)
+
+same-length : tie.Need-same-length Inv-loop μ-loop
+same-length c = search needs
+
+returns-2 : tie.Need-returns-2 Inv-loop μ-loop
+unfolding slavesAfter
+returns-2 c = search (needs, changing-done)
+
+pub write-round-spec : {M : Type 1} → statement M
+write-round-spec =
+    tie.close
+    (tie.spec
+    Inv-loop
+    μ-loop
+    may-write-requires
+    returns
+    slave-count-requires
+    loop-holds
+    write-slave-requires
+    add-slave
+    loop-less
+    loop-again
+    same-length
+    returns-2)

@@ -1,0 +1,28 @@
+-- `cluster::master_slave::master_slave` meets its contract: the address, and then the data on the file that it left.
+-- Assumes nothing.
+use Rattle.cluster.specs.Inner.Duties.{afterAddress}
+use Rattle.cluster.proofs.FrameLaws.{address-placed, address-carried}
+use borrow.Author.Needs.{needs}
+use Rattle.cluster.proofs.master_slave.master_slave.Statement.{statement}
+use Rattle.cluster.proofs.master_slave.master_slave.Tie as tie
+
+become-pending-requires : tie.Need-become-pending-requires
+unfolding afterAddress
+become-pending-requires c κs = search needs
+
+carry-data-requires : tie.Need-carry-data-requires
+carry-data-requires c κs = search (needs, address-placed)
+
+same-length : tie.Need-same-length
+same-length c = search needs
+
+same-length-2 : tie.Need-same-length-2
+same-length-2 c = search needs
+
+returns : tie.Need-returns
+unfolding afterAddress
+returns c = search (needs, address-carried)
+
+pub master-slave-spec : {M : Type 1} → statement M
+master-slave-spec =
+    tie.close (tie.spec become-pending-requires carry-data-requires same-length same-length-2 returns)

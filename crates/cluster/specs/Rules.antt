@@ -1,0 +1,7 @@
+-- What document 01 says of a round on a cluster, in its order: "What slaves do", "Multipartner rounds", and one frame on a file.
+pub mod Bus
+pub mod Slaves
+pub mod Entries
+pub mod Multipartner
+pub mod Grounds
+pub mod Round

@@ -1,0 +1,108 @@
+-- A round file's entries (document 01, "Multipartner rounds"). A round file is the round descriptor list of 002.
+use Prim.Native.Nat.{ℕ, zero, suc, _+_, _*_, _-_, _/_, _%_}
+use mathlib.Core.List.{List}
+use mathlib.Core.Bool.{Bool, cond}
+use lib.ListN.{getD}
+use lib.Dec.{eqb, leb, ltb}
+use Rattle.file.specs.Rules.Order.{both, either}
+use Rattle.file.specs.Rules.Layout.{recordSize}
+use Rattle.file.specs.Rules.Cluster.{lastRecord}
+
+-- "byte 0 file number (six high bits) and align; byte 1 record; byte 2 operation (four high bits) and length minus one; byte 3
+-- multiplex (two high bits) and start slot"
+pub record Entry : Type 0 where
+  pub file : ℕ
+  pub align : ℕ
+  pub «record» : ℕ
+  pub operation : ℕ
+  pub length : ℕ
+  pub multiplex : ℕ
+  pub start : ℕ
+
+-- how many values the low bits of bytes 0, 2 and 3 have
+abbrev pub alignValues : ℕ
+alignValues = 4
+
+abbrev pub lengthValues : ℕ
+lengthValues = 16
+
+abbrev pub startValues : ℕ
+startValues = 64
+
+unfoldable pub entryOf : ℕ → ℕ → ℕ → ℕ → Entry
+entryOf b₀ b₁ b₂ b₃ =
+    record {
+      file = b₀ / alignValues;
+      align = b₀ % alignValues;
+      «record» = b₁;
+      operation = b₂ / lengthValues;
+      length = b₂ % lengthValues + 1;
+      multiplex = b₃ / startValues;
+      start = b₃ % startValues;
+    }
+
+-- the entry of the four bytes from a place on
+unfoldable pub entryThere : List ℕ → ℕ → Entry
+entryThere bytes at = entryOf (getD bytes at 0) (getD bytes (at + 1) 0) (getD bytes (at + 2) 0) (getD bytes (at + 3) 0)
+
+-- "each record is an entry": record k of the round file
+unfoldable pub entryAt : List ℕ → ℕ → Entry
+entryAt rodl k = entryThere rodl (recordSize * k)
+
+-- "Operations are those of 002, table 4: 0, 2, 4 receive; 1, 5 send; 6, 7 end; 3 and 8 to 15 cover their slots and do nothing.": the
+-- codes of those that do something
+abbrev pub receive : ℕ
+receive = 0
+
+abbrev pub send : ℕ
+send = 1
+
+abbrev pub receiveSync : ℕ
+receiveSync = 2
+
+abbrev pub receiveSpeedup : ℕ
+receiveSpeedup = 4
+
+abbrev pub sendSpeedup : ℕ
+sendSpeedup = 5
+
+abbrev pub endOfRound : ℕ
+endOfRound = 6
+
+abbrev pub executeAndEnd : ℕ
+executeAndEnd = 7
+
+unfoldable pub receives : ℕ → Bool
+receives operation = either (eqb operation receive) (either (eqb operation receiveSync) (eqb operation receiveSpeedup))
+
+unfoldable pub sends : ℕ → Bool
+sends operation = either (eqb operation send) (eqb operation sendSpeedup)
+
+unfoldable pub ends : ℕ → Bool
+ends operation = either (eqb operation endOfRound) (eqb operation executeAndEnd)
+
+-- the entry covers the slots from its start, as many as its length
+unfoldable pub covers : Entry → ℕ → Bool
+covers e slot = both (leb (e .start) slot) (ltb slot (e .start + e .length))
+
+-- "the first entry before the end that covers it acts", of n records from k on
+pub data Acting : Type 0 where
+  noEntry : Acting
+  acts : Entry → Acting
+
+unfoldable pub actingFrom : List ℕ → ℕ → ℕ → ℕ → Acting
+actingFrom rodl slot k zero = noEntry
+actingFrom rodl slot k (suc n) =
+    let rest = actingFrom rodl slot (suc k) n in
+    cond (ends (entryAt rodl k .operation)) noEntry (cond (covers (entryAt rodl k) slot) (acts (entryAt rodl k)) rest)
+
+-- "From record 1, each record is an entry"
+abbrev pub firstEntry : ℕ
+firstEntry = 1
+
+unfoldable pub acting : List ℕ → ℕ → Acting
+acting rodl slot = actingFrom rodl slot firstEntry (lastRecord rodl)
+
+-- "The byte place is 4 × record + align + (slot − start)."
+unfoldable pub bytePlace : Entry → ℕ → ℕ
+bytePlace e slot = recordSize * e .«record» + e .align + (slot - e .start)

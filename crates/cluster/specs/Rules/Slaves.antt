@@ -1,0 +1,137 @@
+-- What slaves do in master-slave rounds (document 01, "What slaves do").
+use Prim.Native.Nat.{ℕ, zero, suc, _+_, _*_, _%_}
+use mathlib.Core.List.{List, [], _∷_, _++_, map}
+use mathlib.Core.Bool.{Bool, cond, not}
+use lib.ListN.{take, drop}
+use lib.Dec.{eqb, leb}
+use Rattle.file.specs.Rules.Order.{both}
+use Rattle.file.specs.Rules.Layout.{pendingFlag, recordSize, namesRecord, logicalNamePlace, comparisonHighRecord}
+use Rattle.file.specs.Rules.Cluster.{Slave, Cluster, configuration, documentation, hasRecord, recordOf, physicalName, newLogicalName, logicalName, comparisonValue, unnamed, broadcast, fileNumberOf, operationOf, readOperation, writeOperation, executeOperation}
+use Rattle.file.specs.Rules.Changes.{putInSlave, withSlaves, withEpoch, withPending}
+use Rattle.frame.specs.Rules.Check.{dataCheck}
+
+-- ---- the epoch and the pending operation
+
+-- "An accepted MSA sets the epoch to PB0 and becomes pending until the next one"
+unfoldable pub withAddress : Cluster → ℕ → ℕ → ℕ → ℕ → Cluster
+withAddress c pb0 pb1 pb2 pb3 = withPending (withEpoch c pb0) pendingFlag pb1 pb2 pb3
+
+-- "Any other round first adds 1 to the epoch, 255 going to 0."
+abbrev pub epochs : ℕ
+epochs = 256
+
+unfoldable pub nextEpoch : ℕ → ℕ
+nextEpoch epoch = (epoch + 1) % epochs
+
+unfoldable pub epochRaised : Cluster → Cluster
+epochRaised c = withEpoch c (nextEpoch (c .epoch))
+
+-- what is pending: a read or a write of a record, the execute of 0x08 record 2 or of 0x08 record 1, each at a logical name, or
+-- nothing that a slave does something for
+pub data Duty : Type 0 where
+  nothing : Duty
+  reading : ℕ → ℕ → ℕ → Duty
+  writing : ℕ → ℕ → ℕ → Duty
+  comparing : ℕ → Duty
+  baptizing : ℕ → Duty
+
+-- "Execute 0x08 record 2", "Record 1", "Any other: nothing."
+unfoldable pub executionOf : ℕ → ℕ → ℕ → Duty
+executionOf name n r =
+    cond (eqb n configuration)
+    (cond (eqb r comparisonHighRecord) (comparing name) (cond (eqb r namesRecord) (baptizing name) nothing))
+    nothing
+
+-- the operation of a logical name, PB2 and PB3
+unfoldable pub dutyBy : ℕ → ℕ → ℕ → Duty
+dutyBy name pb2 pb3 =
+    cond (eqb (operationOf pb2) readOperation) (reading name (fileNumberOf pb2) pb3)
+    (cond (eqb (operationOf pb2) writeOperation) (writing name (fileNumberOf pb2) pb3)
+    (cond (eqb (operationOf pb2) executeOperation) (executionOf name (fileNumberOf pb2) pb3) nothing))
+
+-- "MSD carries out the pending operation, or nothing."
+unfoldable pub pendingDuty : Cluster → Duty
+pendingDuty c = cond (eqb (c .flag) pendingFlag) (dutyBy (c .pendingName) (c .pendingPB2) (c .pendingPB3)) nothing
+
+-- ---- who is addressed
+
+unfoldable pub isUnnamed : Slave → Bool
+isUnnamed s = eqb (logicalName s) unnamed
+
+-- "Addressed are: at 0xFF the unnamed, at 0x00 all others, else those of that logical name": a slave by its own logical name
+unfoldable pub addresses : ℕ → ℕ → Bool
+addresses name own =
+    cond (eqb name unnamed) (eqb own unnamed) (cond (eqb name broadcast) (not (eqb own unnamed)) (eqb own name))
+
+unfoldable pub addressed : ℕ → Slave → Bool
+addressed name s = addresses name (logicalName s)
+
+-- ---- what an addressed slave sends: its bytes from slot 1 on
+
+-- "Read: addressed slaves, never unnamed ones, that have the record send its four bytes in slots 1 to 4 and their exclusive or in
+-- slot 5."
+unfoldable pub answersRead : ℕ → ℕ → ℕ → Slave → Bool
+answersRead name n r s = both (addressed name s) (both (not (isUnnamed s)) (hasRecord s n r))
+
+unfoldable pub readReply : List ℕ → List ℕ
+readReply bytes = bytes ++ (dataCheck bytes ∷ [])
+
+-- "Execute 0x08 record 2: addressed slaves with physical name at least IDCV send 0x00 in slot 1, but none at 0x00."
+abbrev pub compareReply : ℕ
+compareReply = 0x00
+
+unfoldable pub answersCompare : ℕ → Slave → Bool
+answersCompare name s =
+    both (not (eqb name broadcast)) (both (addressed name s) (leb (comparisonValue s) (physicalName s)))
+
+unfoldable pub replyTo : Duty → Slave → List ℕ
+replyTo nothing s = []
+replyTo (reading name n r) s = cond (answersRead name n r s) (readReply (recordOf s n r)) []
+replyTo (writing name n r) s = []
+replyTo (comparing name) s = cond (answersCompare name s) (compareReply ∷ []) []
+replyTo (baptizing name) s = []
+
+-- the byte of such a reply in a slot
+unfoldable pub inSlot : List ℕ → ℕ → List ℕ
+inSlot reply zero = []
+inSlot reply (suc k) = take 1 (drop k reply)
+
+-- the bytes that the slaves send in a slot
+unfoldable pub sentTo : Duty → List Slave → ℕ → List ℕ
+sentTo o [] slot = []
+sentTo o (s ∷ ss) slot = inSlot (replyTo o s) slot ++ sentTo o ss slot
+
+-- ---- what an addressed slave becomes
+
+-- the bytes of file n from byte k on replaced
+unfoldable pub replaced : Slave → ℕ → ℕ → List ℕ → Slave
+replaced s n k [] = s
+replaced s n k (b ∷ bs) = replaced (putInSlave s n k b) n (suc k) bs
+
+-- "Write: addressed slaves that have the record replace all four bytes, except in 0x3D and in any record 0x00."
+abbrev pub headerRecord : ℕ
+headerRecord = 0x00
+
+unfoldable pub mayWrite : ℕ → ℕ → Bool
+mayWrite n r = both (not (eqb n documentation)) (not (eqb r headerRecord))
+
+unfoldable pub takesWrite : ℕ → ℕ → ℕ → Slave → Bool
+takesWrite name n r s = both (addressed name s) (both (hasRecord s n r) (mayWrite n r))
+
+-- "Record 1: those with physical name equal to IDCV take the new logical name."
+unfoldable pub takesName : ℕ → Slave → Bool
+takesName name s = both (addressed name s) (eqb (physicalName s) (comparisonValue s))
+
+unfoldable pub named : Slave → Slave
+named s = putInSlave s configuration logicalNamePlace (newLogicalName s)
+
+unfoldable pub slaveAfter : Duty → List ℕ → Slave → Slave
+slaveAfter nothing bytes s = s
+slaveAfter (reading name n r) bytes s = s
+slaveAfter (writing name n r) bytes s = cond (takesWrite name n r s) (replaced s n (recordSize * r) bytes) s
+slaveAfter (comparing name) bytes s = s
+slaveAfter (baptizing name) bytes s = cond (takesName name s) (named s) s
+
+-- "settled before any change": each slave by what it was
+unfoldable pub slavesAfter : Duty → List ℕ → Cluster → Cluster
+slavesAfter o bytes c = withSlaves c (map (slaveAfter o bytes) (c .slaves))

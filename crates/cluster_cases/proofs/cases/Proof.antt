@@ -1,0 +1,27 @@
+-- `cluster_cases::cases` is safe and ends.
+-- Assumes nothing.
+use Prim.Native.Nat.{_-_}
+use lib.ListN.{length}
+use borrow.Author.Needs.{needs}
+use Rattle.cluster_cases.proofs.cases.Statement.{statement}
+use Rattle.cluster_cases.proofs.cases.Tie as tie
+
+abbrev Inv-loop : tie.InvT-loop
+Inv-loop input at₀ at = Unit {0}
+
+abbrev μ-loop : tie.MeasureT-loop
+μ-loop input at₀ at = length input - at
+
+pub cases-spec : {M : Type 1} → statement M
+cases-spec =
+    tie.close
+    (tie.spec
+    Inv-loop
+    μ-loop
+    (λ c. search needs)
+    (λ c κs. search needs)
+    (λ c κs. search needs)
+    (λ c κs. search needs)
+    (λ c. search needs)
+    (λ c. search needs)
+    (λ c. search needs))

@@ -1,0 +1,56 @@
+-- The file's grounds as a list that other grounds are joined to; and a result taken apart: done is by no ground, and a refusal is by its
+-- own ground.
+-- Assumes nothing.
+use Prim.Native.Nat.{ℕ}
+use mathlib.Core.Path.{_≡_, refl, sym, _∙_}
+use native.Mathlib.Omega.{arith}
+use mathlib.Core.List.{List}
+use lib.Dec.{eqb}
+use borrow.Author.Tests.{eqb-true, eqb-false, eq-eqb, ne-eqb}
+use Rattle.file.specs.Rules.Bytes.{All, allEmpty, allNext}
+use Rattle.file.specs.Rules.Order.{firstOf}
+use Rattle.file.specs.Rules.Grounds.{fileGroundsAt, fileGroundAt, fileGrounds, fileGround}
+use Rattle.file.proofs.Order.{Numbered, byCase}
+use Rattle.file.specs.Rules.Results.{refused, done, resultOf}
+
+pub file-first : (f : List ℕ) → firstOf (fileGrounds f) ≡ fileGround f
+unfolding fileGrounds fileGround fileGroundAt
+file-first f = refl
+
+pub file-numbered : (f : List ℕ) → All Numbered (fileGrounds f)
+unfolding fileGrounds fileGroundsAt
+file-numbered f = allNext refl (allNext refl (allNext refl (allNext refl (allNext refl (allNext refl (allNext refl (allNext refl allEmpty)))))))
+
+-- ---- a result taken apart
+
+module _ {A : Type 0} where
+  pub result-done : {value : A} {n : ℕ} → n ≡ 0 → resultOf n value ≡ done value
+  unfolding resultOf
+  result-done {n = n} none = rw (eq-eqb n 0 none)
+
+  pub result-refused : (value : A) {n : ℕ} → (n ≡ 0 → ⊥) → refused n ≡ resultOf n value
+  unfolding resultOf
+  result-refused value {n} some = rw (ne-eqb n 0 some)
+
+  -- done, so by no ground and with that value; refused, so by that ground
+  module _ (value : A) where
+    pub no-ground : {other : A} (n : ℕ) → done other ≡ resultOf n value → n ≡ 0
+    unfolding resultOf
+    no-ground n h =
+        byCase (eqb n 0)
+        (λ e. eqb-true n 0 e)
+        (λ e. let r = rw e at h in let z : _≡_ {A = ℕ} 0 1 = cc in absurd (omega arith))
+
+    pub same-value : {other : A} (n : ℕ) → done other ≡ resultOf n value → other ≡ value
+    unfolding resultOf
+    same-value n h =
+        byCase (eqb n 0)
+        (λ e. let r = rw e at h in cc)
+        (λ e. let r = rw e at h in let z : _≡_ {A = ℕ} 0 1 = cc in absurd (omega arith))
+
+    pub that-ground : (m n : ℕ) → refused m ≡ resultOf n value → (m ≡ n) × (m ≡ 0 → ⊥)
+    unfolding resultOf
+    that-ground m n h =
+        byCase (eqb n 0)
+        (λ e. let r = rw e at h in let z : _≡_ {A = ℕ} 0 1 = cc in absurd (omega arith))
+        (λ e. let r = rw e at h in let same : m ≡ n = cc in (same, λ z. eqb-false n 0 e (sym same ∙ z)))

@@ -1,0 +1,60 @@
+-- What the layers above take from the survey of a file, by its answer; and that the places of an accepted file stay those of every file
+-- with a cluster of the same shape.
+-- Assumes nothing.
+use Prim.Native.Nat.{ℕ, _<_}
+use mathlib.Core.Path.{_≡_, sym, ap, _∙_, subst}
+use mathlib.Core.List.{List}
+use lib.ListN.{length, getD}
+use Rattle.file.specs.Rules.Cluster.{Cluster, configuration, documentation}
+use Rattle.file.specs.Rules.Decode.{decode}
+use Rattle.file.specs.Rules.Grounds.{fileGround}
+use Rattle.file.specs.Rules.Results.{done}
+use Rattle.file.specs.Inner.Places.{filePlace, SameShape}
+use Rattle.file.specs.Inner.Accepted.{Becomes, AcceptedFile, slaveCount, PlacesOf, Placed}
+use Rattle.file.specs.Inner.Answers.{checkedOf}
+use Rattle.file.specs.Inner.Surveyed.{Surveyed}
+use Rattle.file.specs.declared.survey.FileAnswer.{FileAnswer}
+use Rattle.file.specs.declared.survey.FileAnswer.the-variants as answers
+use Rattle.file.specs.declared.types.Refusal.{Refusal}
+use Rattle.file.proofs.Results.{no-ground, that-ground}
+use Rattle.file.proofs.Shape.{shape-count, shape-filePlaceAt}
+use Rattle.file.proofs.ReaderLaws.{becomes-decoded}
+
+-- ---- the answer of the survey
+
+module _ {f places : List ℕ} {a : FileAnswer} (s : Surveyed f (checkedOf a) places) where
+  pub survey-accepted : a ≡ answers.Accepted → fileGround f ≡ 0
+  unfolding checkedOf
+  survey-accepted e = no-ground tt (fileGround f) (rw e at (s .is))
+
+  pub survey-placed : a ≡ answers.Accepted → Placed f places
+  unfolding checkedOf
+  survey-placed e = s .placed (rw e)
+
+  pub survey-becomes : a ≡ answers.Accepted → AcceptedFile f
+  survey-becomes e = survey-placed e .file
+
+  pub survey-refused : {why : Refusal} → a ≡ answers.Refused why → (why .0 ≡ fileGround f) × (why .0 ≡ 0 → ⊥)
+  unfolding checkedOf
+  survey-refused {why} e = that-ground tt (why .0) (fileGround f) (rw e at (s .is))
+
+-- ---- another file, with a cluster of the same shape
+
+module _ (f : List ℕ) {g : List ℕ} {c : Cluster} (b : Becomes g c) (same : SameShape (decode f .slaves) (c .slaves)) where
+  pub kept-count : slaveCount g ≡ slaveCount f
+  kept-count = ap (λ (d : Cluster). length (d .slaves)) (b .decoded) ∙ sym (shape-count same)
+
+  pub kept-place : (s n : ℕ) → filePlace (decode g) s n ≡ filePlace (decode f) s n
+  unfolding filePlace
+  kept-place s n = rw (b .decoded) (sym (shape-filePlaceAt (decode f) c same _ s n))
+
+pub placed-kept : {f g places : List ℕ} {c : Cluster} → Placed f places → Becomes g c → SameShape (decode f .slaves) (c .slaves) → Placed g places
+placed-kept {f} {g} p b same =
+    let inside : (s : ℕ) → s < slaveCount g → s < slaveCount f = λ s l. subst (λ (n : ℕ). s < n) (kept-count f b same) l in
+    record {
+      file = becomes-decoded b;
+      at = record {
+        config = λ s l. p .at .config s (inside s l) ∙ sym (kept-place f b same s configuration);
+        document = λ s l. p .at .document s (inside s l) ∙ sym (kept-place f b same s documentation);
+      };
+    }

@@ -1,0 +1,9 @@
+-- Words of the contracts: the typed numbers, places in the file, the accepted file, the code's answers, and what the checker's parts
+-- promise one another.
+pub mod Typed
+pub mod Numbers
+pub mod Places
+pub mod Accepted
+pub mod Answers
+pub mod Surveyed
+pub mod Checked

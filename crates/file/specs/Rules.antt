@@ -1,0 +1,12 @@
+-- What document 01 says of the cluster file, in its order: "The cluster file", then "Grounds for turning something away".
+pub mod Bytes
+pub mod Layout
+pub mod Cluster
+pub mod Encode
+pub mod Decode
+pub mod Changes
+pub mod Legal
+pub mod Order
+pub mod Refusals
+pub mod Results
+pub mod Grounds

@@ -1,0 +1,108 @@
+-- A cluster, its slaves and their files (document 01, "The cluster file", second paragraph).
+use Prim.Native.Nat.{ℕ, _+_, _*_, _-_, _/_, _%_}
+use mathlib.Core.List.{List, [], _∷_}
+use mathlib.Core.Bool.{Bool, cond}
+use lib.ListN.{length, getD}
+use lib.Dec.{eqb, leb, ltb}
+use Rattle.file.specs.Rules.Order.{both}
+use Rattle.file.specs.Rules.Bytes.{numberOf, part}
+use Rattle.file.specs.Rules.Layout.{recordSize, longWidth, physicalNamePlace, newLogicalNamePlace, logicalNamePlace, comparisonValuePlace}
+
+-- a file: its number, and its bytes, the four of record 0x00 first
+pub record File : Type 0 where
+  pub number : ℕ
+  pub bytes : List ℕ
+
+pub record Slave : Type 0 where
+  pub files : List File
+
+-- the epoch, the pending flag, the pending logical name, PB2 and PB3, and the slaves in table order
+pub record Cluster : Type 0 where
+  pub epoch : ℕ
+  pub flag : ℕ
+  pub pendingName : ℕ
+  pub pendingPB2 : ℕ
+  pub pendingPB3 : ℕ
+  pub slaves : List Slave
+
+-- "A file is 4(r + 1) bytes, records 0x00 to r": the r of that many bytes
+unfoldable pub lastRecord : List ℕ → ℕ
+lastRecord bs = length bs / recordSize - 1
+
+-- the bytes of the file of that number, none where there is no such file
+unfoldable pub bytesAmong : List File → ℕ → List ℕ
+bytesAmong [] n = []
+bytesAmong (x ∷ xs) n = cond (eqb (x .number) n) (x .bytes) (bytesAmong xs n)
+
+unfoldable pub bytesIn : Slave → ℕ → List ℕ
+bytesIn s n = bytesAmong (s .files) n
+
+-- "file 0x08 (configuration)" and "file 0x3D (documentation, 000)"
+abbrev pub configuration : ℕ
+configuration = 0x08
+
+abbrev pub documentation : ℕ
+documentation = 0x3D
+
+-- the slave has record r of file n, and its four bytes
+unfoldable pub hasRecord : Slave → ℕ → ℕ → Bool
+hasRecord s n r = leb (recordSize * r + recordSize) (length (bytesIn s n))
+
+unfoldable pub recordOf : Slave → ℕ → ℕ → List ℕ
+recordOf s n r = part (bytesIn s n) (recordSize * r) recordSize
+
+-- "Records 1 and 2 of 0x3D are the physical name: series number, then serial number, 32 bits each"
+unfoldable pub physicalName : Slave → ℕ
+physicalName s = numberOf (part (bytesIn s documentation) physicalNamePlace longWidth)
+
+-- "record 1 holds the new logical name in byte 2 and the logical name in byte 3"
+unfoldable pub newLogicalName : Slave → ℕ
+newLogicalName s = getD (bytesIn s configuration) newLogicalNamePlace 0
+
+unfoldable pub logicalName : Slave → ℕ
+logicalName s = getD (bytesIn s configuration) logicalNamePlace 0
+
+-- "records 2 and 3 hold the comparison value IDCV"
+unfoldable pub comparisonValue : Slave → ℕ
+comparisonValue s = numberOf (part (bytesIn s configuration) comparisonValuePlace longWidth)
+
+-- "Logical name 0xFF is "unnamed", 0x00 is broadcast."
+abbrev pub unnamed : ℕ
+unnamed = 0xFF
+
+abbrev pub broadcast : ℕ
+broadcast = 0x00
+
+-- PB2 ("Fireworks and frames"): "file number in the six high bits, operation in the two low. Our values: 0 read, 1 write, 2 execute"
+abbrev pub operationValues : ℕ
+operationValues = 4
+
+abbrev pub fileNumberOf : ℕ → ℕ
+fileNumberOf pb2 = pb2 / operationValues
+
+abbrev pub operationOf : ℕ → ℕ
+operationOf pb2 = pb2 % operationValues
+
+unfoldable pub pb2Of : ℕ → ℕ → ℕ
+pb2Of file operation = operationValues * file + operation
+
+abbrev pub readOperation : ℕ
+readOperation = 0
+
+abbrev pub writeOperation : ℕ
+writeOperation = 1
+
+abbrev pub executeOperation : ℕ
+executeOperation = 2
+
+-- an operation above these is none: operation 3, or any above it
+unfoldable pub noOperation : ℕ → Bool
+noOperation operation = ltb executeOperation operation
+
+-- "operation 3", the one that PB2 can hold beside these
+abbrev pub unusedOperation : ℕ
+unusedOperation = 3
+
+-- a read that is addressed to 0x00
+unfoldable pub broadcastRead : ℕ → ℕ → Bool
+broadcastRead operation name = both (eqb operation readOperation) (eqb name broadcast)

@@ -1,0 +1,54 @@
+-- A legal cluster, by its fields alone (document 01, "The cluster file"): what an accepted file holds.
+use Prim.Native.Nat.{ℕ, suc, _+_, _*_, _≤_}
+use mathlib.Core.Path.{_≡_}
+use mathlib.Core.List.{List, [], _∷_, map}
+use lib.ListN.{length}
+use Rattle.file.specs.Rules.Bytes.{Byte, Bytes, All}
+use Rattle.file.specs.Rules.Layout.{offsetWidth, pendingFlag, maxSlaves, maxLength, maxFileNumber, minRecord, maxRecord, neededConfiguration, neededDocumentation, recordSize}
+use Rattle.file.specs.Rules.Cluster.{File, Slave, Cluster, bytesIn, lastRecord, configuration, documentation, physicalName, operationOf, readOperation, unusedOperation, broadcast}
+use Rattle.file.specs.Rules.Encode.{fileLength}
+
+-- "file number 0 to 63", "record count r, 1 to 255", "A file is 4(r + 1) bytes"
+pub record LegalFile (x : File) : Type 0 where
+  pub number : x .number ≤ maxFileNumber
+  pub some : minRecord ≤ lastRecord (x .bytes)
+  pub most : lastRecord (x .bytes) ≤ maxRecord
+  pub whole : length (x .bytes) ≡ recordSize * (lastRecord (x .bytes) + 1)
+  pub bytes : Bytes (x .bytes)
+
+-- file numbers "strictly rising", from low on
+pub data Rising : ℕ → List File → Type 0 where
+  end : {low : ℕ} → Rising low []
+  next : {low : ℕ} {x : File} {xs : List File} → low ≤ x .number → Rising (suc (x .number)) xs → Rising low (x ∷ xs)
+
+-- "Every slave has file 0x08 (configuration) with r at least 3 and file 0x3D (documentation, 000) with r at least 2."
+pub record LegalSlave (s : Slave) : Type 0 where
+  pub rising : Rising 0 (s .files)
+  pub files : All LegalFile (s .files)
+  pub configured : neededConfiguration ≤ lastRecord (bytesIn s configuration)
+  pub documented : neededDocumentation ≤ lastRecord (bytesIn s documentation)
+
+-- no element of the list stands there twice
+pub data Distinct : List ℕ → Type 0 where
+  end : Distinct []
+  next : {n : ℕ} {ns : List ℕ} → All (λ m. n ≡ m → ⊥) ns → Distinct ns → Distinct (n ∷ ns)
+
+-- the header's five bytes: a pending operation is no operation 3 and no broadcast read
+pub record LegalPending (c : Cluster) : Type 0 where
+  pub epoch : Byte (c .epoch)
+  pub flag : c .flag ≤ pendingFlag
+  pub name : Byte (c .pendingName)
+  pub pb2 : Byte (c .pendingPB2)
+  pub pb3 : Byte (c .pendingPB3)
+  pub operation : c .flag ≡ pendingFlag → operationOf (c .pendingPB2) ≡ unusedOperation → ⊥
+  pub broadcastRead : c .flag ≡ pendingFlag → operationOf (c .pendingPB2) ≡ readOperation → c .pendingName ≡ broadcast → ⊥
+
+pub record LegalAt (w : ℕ) (c : Cluster) : Type 0 where
+  pub count : length (c .slaves) ≤ maxSlaves w
+  pub pending : LegalPending c
+  pub slaves : All LegalSlave (c .slaves)
+  pub names : Distinct (map physicalName (c .slaves))
+  pub size : fileLength w (c .slaves) ≤ maxLength w
+
+abbrev pub Legal : Cluster → Type 0
+Legal c = LegalAt offsetWidth c

@@ -1,0 +1,7 @@
+-- What document 01 says of fireworks and frames, in its order, and what the reader and the writers of frames answer.
+pub mod Fireworks
+pub mod Check
+pub mod Frames
+pub mod Grounds
+pub mod Reading
+pub mod Writing

@@ -1,0 +1,150 @@
+// A naming run over names 0x01 to 0xFE, listed as it goes.
+ghost use mathlib.Core.Path.{_≡_};
+ghost use Prim.Native.Nat.{_≤_};
+ghost use lib.ListN.{length};
+ghost use Rattle.listing_text.specs.Rules.Listing.{allNames, listSteps, mostSteps, listed};
+ghost use Rattle.listing_text.specs.Rules.Listing.{listStep as Listing·listStep};
+ghost use Rattle.naming.specs.Inner.Answers.{positionOf};
+ghost use Rattle.listing_text.specs.Inner.ListRuns.{stateOf, Room, StateIs, Moves, StepListed};
+ghost use Rattle.listing_text.specs.Rules.Listing.{textSize};
+use crate::put::LINE_SIZE;
+use crate::put::TOTALS_SIZE;
+use crate::put::put_name;
+use crate::put::put_refused;
+use crate::put::put_totals;
+use cluster::answer::SLOTS;
+use file::survey::FileAnswer;
+use file::survey::check;
+use naming::position::LAST_STEP;
+use naming::position::RUNNING;
+use naming::position::RunPosition;
+use naming::position::first_position;
+use naming::run::Stepped;
+use naming::run::step;
+
+// "names 0x01 to 0xFE".
+const FIRST_NAME: u8 = 0x01;
+
+const NAME_COUNT: usize = 254;
+
+// Every pass has at most as many rounds as it has steps.
+const MOST_STEPS: u64 = (NAME_COUNT as u64) * (LAST_STEP + 1);
+
+// A line for each name, and the totals.
+pub const TEXT_SIZE: usize = NAME_COUNT * LINE_SIZE + TOTALS_SIZE;
+
+// The run, the comparisons made when its pass began, how many names were given, and where their lines end.
+pub struct ListProgress {
+    pub run: RunPosition,
+    pub begun: u64,
+    pub given: u64,
+    pub at: usize,
+}
+
+fn all_names() -> [u8; NAME_COUNT]
+    ensures { λ r. ⌜ r ≡ allNames ⌝ }
+{
+    let mut names = [0u8; NAME_COUNT];
+    let mut name = FIRST_NAME;
+    let mut i = 0;
+    while i < NAME_COUNT {
+        names[i] = name;
+        name = name + 1;
+        i = i + 1;
+    }
+    names
+}
+
+// The run after a step that made its round, with the line of the name that it gave.
+fn after_step(names: &[u8], state: ListProgress, next: RunPosition, text: &mut [u8]) -> ListProgress
+    requires { ⌜ (now names ≡ allNames) × Room state (length (now text)) × Moves (positionOf (state .run)) (positionOf next) ⌝ }
+    ensures { λ r. ⌜ StepListed state (positionOf next) (now (text .entry)) r (now (text .exit)) ⌝ }
+{
+    let run = state.run;
+    if run.step != LAST_STEP {
+        return ListProgress {
+            run: next,
+            begun: state.begun,
+            given: state.given,
+            at: state.at,
+        };
+    }
+    let index = run.index as usize;
+    let comparisons = next.comparisons - state.begun;
+    let at = put_name(text, state.at, names[index], run.value, comparisons);
+    ListProgress {
+        run: next,
+        begun: next.comparisons,
+        given: state.given + 1,
+        at,
+    }
+}
+
+// One step of the run.
+fn one_step(
+    file: &mut [u8],
+    names: &[u8],
+    answer: &mut [u8],
+    state: ListProgress,
+    text: &mut [u8],
+) -> ListProgress
+    requires { ⌜ (now names ≡ allNames) × Room state (length (now text)) ⌝ }
+    ensures { λ r. ⌜ StateIs (Listing·listStep (stateOf state (now (file .entry)) (now (answer .entry)) (now (text .entry)))) (now (text .entry)) (state .at) r (now (file .exit)) (now (answer .exit)) (now (text .exit)) ⌝ }
+{
+    let run = state.run;
+    let stepped = step(file, run, names, answer);
+    match stepped {
+        Stepped::Refused(_) => state,
+        Stepped::Ended => state,
+        Stepped::Made {
+            senders: _,
+            run: next,
+        } => after_step(names, state, next, text),
+    }
+}
+
+// The whole run from a state on: it ends within so many steps.
+fn all_steps(
+    file: &mut [u8],
+    names: &[u8],
+    answer: &mut [u8],
+    start: ListProgress,
+    text: &mut [u8],
+) -> ListProgress
+    requires { ⌜ (now names ≡ allNames) × Room start (length (now text)) ⌝ }
+    ensures { λ r. ⌜ StateIs (listSteps mostSteps (stateOf start (now (file .entry)) (now (answer .entry)) (now (text .entry)))) (now (text .entry)) (start .at) r (now (file .exit)) (now (answer .exit)) (now (text .exit)) ⌝ }
+{
+    let mut state = start;
+    let mut left = MOST_STEPS;
+    while 0 < left {
+        let run = state.run;
+        if run.end != RUNNING {
+            return state;
+        }
+        state = one_step(file, names, answer, state, text);
+        left = left - 1;
+    }
+    state
+}
+
+// The listing of a cluster file, which is left as the run leaves it. The text's length.
+pub fn list(file: &mut [u8], text: &mut [u8]) -> usize
+    requires { ⌜ textSize ≤ length (now text) ⌝ }
+    ensures { λ r. ⌜ (r, now (text .exit), now (file .exit)) ≡ listed (now (file .entry)) (now (text .entry)) ⌝ }
+{
+    let verdict = check(file);
+    if let FileAnswer::Refused(why) = verdict {
+        return put_refused(text, 0, why.0);
+    }
+    let names = all_names();
+    let mut answer = [0u8; SLOTS];
+    let start = ListProgress {
+        run: first_position(&names),
+        begun: 0,
+        given: 0,
+        at: 0,
+    };
+    let done = all_steps(file, &names, &mut answer, start, text);
+    let run = done.run;
+    put_totals(text, done.at, done.given, run.comparisons, run.rounds)
+}

@@ -1,0 +1,110 @@
+-- Demand 3 (document 01, "The naming run", third paragraph): a list of calls, carried out one after the other on a file and a run,
+-- which of them are permitted, and what is then claimed.
+use Prim.Native.Nat.{ℕ}
+use mathlib.Core.Path.{_≡_}
+use mathlib.Core.List.{List, [], _∷_}
+use mathlib.Core.Bool.{Bool, true, false, cond, not}
+use lib.ListN.{getD}
+use lib.Dec.{eqb}
+use Rattle.file.specs.Rules.Bytes.{Bytes, All}
+use Rattle.file.specs.Rules.Order.{both}
+use Rattle.file.specs.Rules.Refusals.{bufferRefusal}
+use Rattle.file.specs.Rules.Results.{refused, done}
+use Rattle.file.specs.Rules.Cluster.{configuration, fileNumberOf, operationOf, readOperation}
+use Rattle.file.specs.Rules.Decode.{decode}
+use Rattle.file.specs.Rules.Grounds.{fileGround}
+use Rattle.frame.specs.Rules.Fireworks.{Round, multipartner, msd, msa, noRound}
+use Rattle.frame.specs.Rules.Frames.{pb2Place}
+use Rattle.cluster.specs.Rules.Grounds.{shortAnswer, roundBy}
+use Rattle.cluster.specs.Rules.Round.{Answer, roundGround, roundOn}
+use Rattle.naming.specs.Rules.Run.{Position, fresh, startGround, unfitPosition}
+use Rattle.naming.specs.Rules.Step.{stepGround, stepOn}
+use Rattle.naming.specs.Rules.Account.{Call, step, frame, namesIn, accountOf, accountAfter, comparisonsOf}
+use Rattle.naming.specs.Rules.Figures.{Outcome}
+
+-- the file as the last call left it, and whether a round of others is half done: its MSA accepted, its MSD still to come
+pub record State : Type 0 where
+  pub file : List ℕ
+  pub halfway : Bool
+
+unfoldable pub startOn : List ℕ → State
+startOn file = record { file = file; halfway = false }
+
+-- refused calls aside, an MSA opens a round, an MSD ends it
+unfoldable pub halfwayAfter : Bool → Answer → Round → Bool
+halfwayAfter h (refused n) round = h
+halfwayAfter h (done mask) (multipartner r) = h
+halfwayAfter h (done mask) msd = false
+halfwayAfter h (done mask) msa = true
+halfwayAfter h (done mask) noRound = h
+
+-- "each call gets the file as the last call left it, each step also the run as the last step left it and the unchanged names"
+unfoldable pub callOn : List ℕ → State → Position → Call → State × Position
+callOn names s p (step buffer) =
+    let r = stepOn (s .file) p names buffer in (record { file = r .3; halfway = s .halfway }, r .1)
+callOn names s p (frame bytes buffer) =
+    let r = roundOn (s .file) bytes buffer in
+    (record { file = r .2; halfway = halfwayAfter (s .halfway) (r .0) (roundBy bytes) }, p)
+
+-- "no write to or execute of 0x08": PB2 of an MSA
+unfoldable pub changesConfiguration : ℕ → Bool
+changesConfiguration pb2 = both (eqb (fileNumberOf pb2) configuration) (not (eqb (operationOf pb2) readOperation))
+
+-- an accepted frame: "A complete round is an accepted MSA followed directly, refused calls aside, by an accepted MSD, or a
+-- multipartner frame; a lone MSA or MSD is none."
+unfoldable pub permittedFrame : Bool → Round → List ℕ → Bool
+permittedFrame true (multipartner r) bytes = false
+permittedFrame true msd bytes = true
+permittedFrame true msa bytes = false
+permittedFrame true noRound bytes = false
+permittedFrame false (multipartner r) bytes = true
+permittedFrame false msd bytes = false
+permittedFrame false msa bytes = not (changesConfiguration (getD bytes pb2Place 0))
+permittedFrame false noRound bytes = false
+
+-- a call: a refused one always; an accepted step within no round of others
+unfoldable pub permittedCall : List ℕ → State → Position → Call → Bool
+permittedCall names s p (step buffer) = cond (eqb (stepGround (s .file) p names buffer) 0) (not (s .halfway)) true
+permittedCall names s p (frame bytes buffer) =
+    cond (eqb (roundGround (s .file) bytes buffer) 0) (permittedFrame (s .halfway) (roundBy bytes) bytes) true
+
+-- "every list of steps, permitted rounds .. and refused steps and frames": each judged where it comes, and no round left half done
+unfoldable pub permitted : List ℕ → State → Position → List Call → Bool
+permitted names s p [] = not (s .halfway)
+permitted names s p (c ∷ cs) =
+    let rest = permitted names (callOn names s p c .0) (callOn names s p c .1) cs in both (permittedCall names s p c) rest
+
+-- file and run after the calls
+unfoldable pub afterCalls : List ℕ → State → Position → List Call → State × Position
+afterCalls names s p [] = (s, p)
+afterCalls names s p (c ∷ cs) = afterCalls names (callOn names s p c .0) (callOn names s p c .1) cs
+
+-- a frame is bytes
+pub data OfBytes : Call → Type 0 where
+  of-step : {buffer : List ℕ} → OfBytes (step buffer)
+  of-frame : {bytes buffer : List ℕ} → Bytes bytes → OfBytes (frame bytes buffer)
+
+-- "Demand 3 compares every logical name, the end and both counts carried in the run with this account"; the file stays accepted,
+-- ground 17 does not hold, a step that comes next meets no ground but 9, and the closed figures
+pub record Demand (file names : List ℕ) (calls : List Call) (now : List ℕ) (p : Position) : Type 0 where
+  pub accepted : fileGround now ≡ 0
+  pub logical : namesIn (decode now) ≡ accountAfter (accountOf (namesIn (decode file)) names) calls .slaves
+  pub end : p .end ≡ accountAfter (accountOf (namesIn (decode file)) names) calls .end
+  pub rounds : p .rounds ≡ accountAfter (accountOf (namesIn (decode file)) names) calls .rounds
+  pub comparisons : p .comparisons ≡ comparisonsOf (accountAfter (accountOf (namesIn (decode file)) names) calls)
+  pub fit : unfitPosition names p ≡ false
+  pub grounds : (buffer : List ℕ) → stepGround now p names buffer ≡ cond (shortAnswer buffer) bufferRefusal 0
+  pub outcome : Outcome (namesIn (decode file)) names (namesIn (decode now)) (p .end) (p .rounds) (p .comparisons)
+
+-- Demand 3: "It is one claim about the whole list of calls, not one for each."
+abbrev pub DemandThree : Type 0
+DemandThree =
+    -- "It starts from an accepted file"
+    (file : List ℕ) → Bytes file → fileGround file ≡ 0 →
+    -- "and list of names"
+    (names : List ℕ) → Bytes names → startGround names ≡ 0 →
+    -- "every list of steps, permitted rounds (complete ones, but no write to or execute of 0x08) and refused steps and frames", from
+    -- that file and "a fresh run"
+    (calls : List Call) → All OfBytes calls → permitted names (startOn file) (fresh names) calls ≡ true →
+    -- "after" it, file and run being "as the last call left" them
+    Demand file names calls (afterCalls names (startOn file) (fresh names) calls .0 .file) (afterCalls names (startOn file) (fresh names) calls .1)

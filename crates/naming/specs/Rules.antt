@@ -1,0 +1,6 @@
+-- What document 01 says of the naming run, in its order: its rounds, its position, one step, the plain account and the closed figures.
+pub mod Rounds
+pub mod Run
+pub mod Step
+pub mod Account
+pub mod Figures

@@ -1,0 +1,185 @@
+-- The plain account (document 01's term; "The naming run", second paragraph) that the naming run is measured against. It knows
+-- nothing of frames, positions and comparison values.
+use Prim.Native.Nat.{ℕ, suc, _+_, _-_, _/_, min}
+use mathlib.Core.List.{List, [], _∷_, map}
+use mathlib.Core.Bool.{cond}
+use lib.Dec.{eqb, ltb}
+use Rattle.file.specs.Rules.Cluster.{Slave, Cluster, physicalName, logicalName, unnamed}
+use Rattle.file.specs.Rules.Grounds.{isAmong}
+use Rattle.cluster.specs.Rules.Grounds.{shortAnswer}
+
+-- a slave's physical and logical name
+pub record Named : Type 0 where
+  pub physical : ℕ
+  pub logical : ℕ
+
+unfoldable pub namesOf : Slave → Named
+namesOf s = record { physical = physicalName s; logical = logicalName s }
+
+-- those of a cluster's slaves, in table order
+unfoldable pub namesIn : Cluster → List Named
+namesIn c = map namesOf (c .slaves)
+
+-- "It keeps the names left, the unnamed physical names in falling order, each slave's logical name, the names held at the start,
+-- the end, both totals and k, the rounds of this pass." Of the comparisons it keeps those of the passes done.
+pub record Account : Type 0 where
+  pub left : List ℕ
+  pub waiting : List ℕ
+  pub slaves : List Named
+  pub held : List ℕ
+  pub end : ℕ
+  pub rounds : ℕ
+  pub done : ℕ
+  pub k : ℕ
+
+-- the end: none yet, "all named", "names used up"
+abbrev pub notYet : ℕ
+notYet = 0
+
+abbrev pub allNamedEnd : ℕ
+allNamedEnd = 1
+
+abbrev pub usedUpEnd : ℕ
+usedUpEnd = 2
+
+-- "A pass for a name held at the start is 1 round. For a free one it is 200 rounds and 65 comparisons ..; if none is left it is 4
+-- and 1"
+abbrev pub namingRounds : ℕ
+namingRounds = 200
+
+abbrev pub namingComparisons : ℕ
+namingComparisons = 65
+
+abbrev pub endingRounds : ℕ
+endingRounds = 4
+
+abbrev pub endingComparisons : ℕ
+endingComparisons = 1
+
+-- "After k rounds of a pass, k at least 1, it has made (k − 1)/3 comparisons, rounded down, at most 65."
+abbrev pub roundsEach : ℕ
+roundsEach = 3
+
+unfoldable pub comparisonsAfter : ℕ → ℕ
+comparisonsAfter k = min namingComparisons ((k - 1) / roundsEach)
+
+-- the total of comparisons
+unfoldable pub comparisonsOf : Account → ℕ
+comparisonsOf a = a .done + comparisonsAfter (a .k)
+
+-- ---- the start
+
+-- a number put into its place in a falling list, and a list in falling order
+unfoldable pub insert : ℕ → List ℕ → List ℕ
+insert p [] = p ∷ []
+insert p (q ∷ qs) = cond (ltb p q) (q ∷ insert p qs) (p ∷ q ∷ qs)
+
+unfoldable pub falling : List ℕ → List ℕ
+falling [] = []
+falling (p ∷ ps) = insert p (falling ps)
+
+-- the physical names of the unnamed slaves
+unfoldable pub unnamedAmong : List Named → List ℕ
+unnamedAmong [] = []
+unnamedAmong (s ∷ ss) = cond (eqb (s .logical) unnamed) (s .physical ∷ unnamedAmong ss) (unnamedAmong ss)
+
+-- the logical names that the slaves hold
+unfoldable pub namesHeld : List Named → List ℕ
+namesHeld ss = map (λ (s : Named). s .logical) ss
+
+-- the end with those names left: "with no name left, also at the start, the end is "names used up""
+unfoldable pub endWith : List ℕ → ℕ
+endWith [] = usedUpEnd
+endWith (n ∷ ns) = notYet
+
+-- "fed the file and names at the start"
+unfoldable pub accountOf : List Named → List ℕ → Account
+accountOf slaves names =
+    record {
+      left = names;
+      waiting = falling (unnamedAmong slaves);
+      slaves = slaves;
+      held = namesHeld slaves;
+      end = endWith names;
+      rounds = 0;
+      done = 0;
+      k = 0;
+    }
+
+-- ---- a round of a step: "adds 1 to the rounds and to k"
+
+-- the pass goes on
+unfoldable pub goOn : Account → Account
+goOn a =
+    record {
+      left = a .left;
+      waiting = a .waiting;
+      slaves = a .slaves;
+      held = a .held;
+      end = a .end;
+      rounds = suc (a .rounds);
+      done = a .done;
+      k = suc (a .k);
+    }
+
+-- "Any other pass done drops its name and puts k to 0; with no name left .. the end is "names used up""
+unfoldable pub passDone : Account → List ℕ → List ℕ → List Named → ℕ → Account
+passDone a left waiting slaves more =
+    record {
+      left = left;
+      waiting = waiting;
+      slaves = slaves;
+      held = a .held;
+      end = endWith left;
+      rounds = suc (a .rounds);
+      done = a .done + more;
+      k = 0;
+    }
+
+-- "if none is left it is 4 and 1 and ends the run, "all named""
+unfoldable pub runEnds : Account → Account
+runEnds a =
+    record {
+      left = a .left;
+      waiting = a .waiting;
+      slaves = a .slaves;
+      held = a .held;
+      end = allNamedEnd;
+      rounds = suc (a .rounds);
+      done = a .done;
+      k = suc (a .k);
+    }
+
+-- "its last round gives the name to the greatest physical name"
+unfoldable pub give : ℕ → ℕ → Named → Named
+give p n s = record { physical = s .physical; logical = cond (eqb (s .physical) p) n (s .logical) }
+
+unfoldable pub freePass : Account → ℕ → List ℕ → List ℕ → Account
+freePass a n ns [] = cond (eqb (suc (a .k)) endingRounds) (runEnds a) (goOn a)
+freePass a n ns (p ∷ ps) =
+    cond (eqb (suc (a .k)) namingRounds) (passDone a ns ps (map (give p n) (a .slaves)) namingComparisons) (goOn a)
+
+unfoldable pub pass : Account → List ℕ → Account
+pass a [] = a
+pass a (n ∷ ns) = cond (isAmong n (a .held)) (passDone a ns (a .waiting) (a .slaves) 0) (freePass a n ns (a .waiting))
+
+-- "Each step that no numbered ground refuses .., until the end"
+unfoldable pub oneRound : Account → Account
+oneRound a = cond (eqb (a .end) notYet) (pass a (a .left)) a
+
+-- ---- the calls
+
+-- "each call's arguments other than file, run and names": a step's answer buffer, a frame's bytes and its answer buffer
+pub data Call : Type 0 where
+  step : List ℕ → Call
+  frame : List ℕ → List ℕ → Call
+
+-- 9 is the one ground that a step's arguments other than file, run and names can meet. "Refused calls and others' rounds change nothing
+-- here."
+unfoldable pub accountCall : Account → Call → Account
+accountCall a (step buffer) = cond (shortAnswer buffer) a (oneRound a)
+accountCall a (frame bytes buffer) = a
+
+unfoldable pub accountAfter : Account → List Call → Account
+accountAfter a [] = a
+accountAfter a (c ∷ cs) = accountAfter (accountCall a c) cs

@@ -1,0 +1,75 @@
+-- The closed figures of a whole run (document 01, demand 3), from the slaves and the listed names at the start alone: u unnamed
+-- slaves, f listed names held by nobody.
+use Prim.Native.Nat.{ℕ, zero, suc, _+_, _*_, min}
+use mathlib.Core.Path.{_≡_}
+use mathlib.Core.List.{List, [], _∷_, map}
+use mathlib.Core.Bool.{cond}
+use lib.ListN.{length}
+use lib.Dec.{eqb, ltb}
+use Rattle.file.specs.Rules.Grounds.{isAmong}
+use Rattle.naming.specs.Rules.Account.{Named, falling, unnamedAmong, namesHeld, namingRounds, namingComparisons, endingRounds, endingComparisons}
+
+-- the listed names that are held, and those that are free, by the names held at the start
+unfoldable pub takenNames : List ℕ → List ℕ → List ℕ
+takenNames held [] = []
+takenNames held (n ∷ ns) = cond (isAmong n held) (n ∷ takenNames held ns) (takenNames held ns)
+
+unfoldable pub freeNames : List ℕ → List ℕ → List ℕ
+freeNames held [] = []
+freeNames held (n ∷ ns) = cond (isAmong n held) (freeNames held ns) (n ∷ freeNames held ns)
+
+-- the listed names before free name number u + 1, all if there is no such name
+unfoldable pub beforeFree : List ℕ → ℕ → List ℕ → List ℕ
+beforeFree held u [] = []
+beforeFree held zero (n ∷ ns) = cond (isAmong n held) (n ∷ beforeFree held zero ns) []
+beforeFree held (suc u) (n ∷ ns) = n ∷ beforeFree held (cond (isAmong n held) (suc u) u) ns
+
+-- "Taken names tried are the listed names held at the start, if u < f only those before free name number u + 1."
+unfoldable pub takenTried : List ℕ → ℕ → List ℕ → ℕ
+takenTried held u names =
+    cond (ltb u (length (freeNames held names))) (length (takenNames held (beforeFree held u names))) (length (takenNames held names))
+
+-- 200 min(u, f), plus 4 if u < f, plus one for each taken name tried
+unfoldable pub roundsOf : List ℕ → ℕ → List ℕ → ℕ
+roundsOf held u names =
+    namingRounds * min u (length (freeNames held names)) + cond (ltb u (length (freeNames held names))) endingRounds 0 +
+    takenTried held u names
+
+-- 65 min(u, f), plus 1 if u < f
+unfoldable pub comparisonsIn : List ℕ → ℕ → List ℕ → ℕ
+comparisonsIn held u names =
+    namingComparisons * min u (length (freeNames held names)) + cond (ltb u (length (freeNames held names))) endingComparisons 0
+
+-- the names given: the greatest physical names "in falling order", by the free names in list order, while both last
+unfoldable pub givings : List ℕ → List ℕ → List Named
+givings [] ns = []
+givings (p ∷ ps) [] = []
+givings (p ∷ ps) (n ∷ ns) = record { physical = p; logical = n } ∷ givings ps ns
+
+-- a physical name's logical name by what was given, else the old one
+unfoldable pub nameGiven : List Named → ℕ → ℕ → ℕ
+nameGiven [] p old = old
+nameGiven (g ∷ gs) p old = cond (eqb p (g .physical)) (g .logical) (nameGiven gs p old)
+
+-- everyone else's name is unchanged
+unfoldable pub renamed : List Named → Named → Named
+renamed gs s = record { physical = s .physical; logical = nameGiven gs (s .physical) (s .logical) }
+
+unfoldable pub namesAfter : List Named → List ℕ → List Named
+namesAfter slaves names =
+    map (renamed (givings (falling (unnamedAmong slaves)) (freeNames (namesHeld slaves) names))) slaves
+
+-- the rounds and comparisons of the whole run, u being the count of the unnamed slaves
+unfoldable pub roundsFor : List Named → List ℕ → ℕ
+roundsFor slaves names = roundsOf (namesHeld slaves) (length (unnamedAmong slaves)) names
+
+unfoldable pub comparisonsFor : List Named → List ℕ → ℕ
+comparisonsFor slaves names = comparisonsIn (namesHeld slaves) (length (unnamedAmong slaves)) names
+
+-- what a run over these names that began with these slaves has come to, by its end mark, its counts and the slaves now: it has
+-- ended exactly when its rounds are the figure, and then comparisons and names are theirs
+pub record Outcome (slaves : List Named) (names : List ℕ) (now : List Named) (end rounds comparisons : ℕ) : Type 0 where
+  pub ended : (end ≡ 0 → ⊥) → rounds ≡ roundsFor slaves names
+  pub ends : rounds ≡ roundsFor slaves names → end ≡ 0 → ⊥
+  pub compared : (end ≡ 0 → ⊥) → comparisons ≡ comparisonsFor slaves names
+  pub named : (end ≡ 0 → ⊥) → now ≡ namesAfter slaves names

@@ -1,0 +1,44 @@
+-- The rounds that a naming run sends (document 01, "The naming run", first paragraph).
+use Prim.Native.Nat.{ℕ, _^_}
+use mathlib.Core.List.{List, [], _∷_}
+use Rattle.file.specs.Rules.Bytes.{bytesOf}
+use Rattle.file.specs.Rules.Layout.{recordSize, seriesRecord, namesRecord, comparisonHighRecord, comparisonLowRecord}
+use Rattle.file.specs.Rules.Cluster.{configuration, documentation, unnamed, readOperation, writeOperation, executeOperation}
+
+-- the values of one half: 32 bits
+abbrev pub half : ℕ
+half = 2 ^ 32
+
+-- "A comparison is three rounds at 0xFF: write record 2, write record 3, execute record 2."
+abbrev pub comparisonRounds : ℕ
+comparisonRounds = 3
+
+-- the rounds of a naming run: read 0x3D record 1 at a name; at 0xFF write record 1 with a name, record 2 or 3 with a half,
+-- execute record 2, execute record 1
+pub data RunRound : Type 0 where
+  poll : ℕ → RunRound
+  writeName : ℕ → RunRound
+  writeHigh : ℕ → RunRound
+  writeLow : ℕ → RunRound
+  compare : RunRound
+  baptize : RunRound
+
+-- what the master sends: logical name, file, operation and record of the address frame, and the data of a write
+pub record Sent : Type 0 where
+  pub name : ℕ
+  pub file : ℕ
+  pub operation : ℕ
+  pub «record» : ℕ
+  pub content : List ℕ
+
+unfoldable pub atUnnamed : ℕ → ℕ → List ℕ → Sent
+atUnnamed operation r content =
+    record { name = unnamed; file = configuration; operation = operation; «record» = r; content = content }
+
+unfoldable pub sent : RunRound → Sent
+sent (poll n) = record { name = n; file = documentation; operation = readOperation; «record» = seriesRecord; content = [] }
+sent (writeName n) = atUnnamed writeOperation namesRecord (0 ∷ 0 ∷ n ∷ unnamed ∷ [])
+sent (writeHigh h) = atUnnamed writeOperation comparisonHighRecord (bytesOf recordSize h)
+sent (writeLow l) = atUnnamed writeOperation comparisonLowRecord (bytesOf recordSize l)
+sent compare = atUnnamed executeOperation comparisonHighRecord []
+sent baptize = atUnnamed executeOperation namesRecord []

@@ -1,0 +1,69 @@
+-- One step of a naming run on a file (document 01, "The naming run": it "moves one complete master-slave round a step").
+use Prim.Native.Nat.{ℕ, _/_, _%_, _^_}
+use mathlib.Core.List.{List, [], _∷_, _++_}
+use mathlib.Core.Bool.{Bool, false, cond}
+use lib.Dec.{eqb}
+use Rattle.file.specs.Rules.Order.{Ground, firstOf}
+use Rattle.file.specs.Rules.Refusals.{bufferRefusal}
+use Rattle.file.specs.Rules.Results.{Result, refused, done}
+use Rattle.file.specs.Rules.Cluster.{Cluster, writeOperation}
+use Rattle.file.specs.Rules.Decode.{decode}
+use Rattle.file.specs.Rules.Grounds.{fileGrounds}
+use Rattle.frame.specs.Rules.Fireworks.{dataFirework}
+use Rattle.frame.specs.Rules.Frames.{addressFrame, dataFrame}
+use Rattle.cluster.specs.Rules.Bus.{firstSlot}
+use Rattle.cluster.specs.Rules.Slaves.{nextEpoch}
+use Rattle.cluster.specs.Rules.Grounds.{shortAnswer}
+use Rattle.cluster.specs.Rules.Round.{Answer, roundOn}
+use Rattle.naming.specs.Rules.Rounds.{Sent, sent}
+use Rattle.naming.specs.Rules.Run.{Position, running, nextRound, advance, runGrounds}
+
+-- the round's address frame, "PB0 being the file's epoch plus 1 modulo 256"
+unfoldable pub addressSent : Cluster → Sent → List ℕ
+addressSent c s = addressFrame (nextEpoch (c .epoch)) (s .name) (s .file) (s .operation) (s .«record»)
+
+-- and its data frame: the data of a write, else the firework alone
+unfoldable pub dataSent : Sent → List ℕ
+dataSent s = cond (eqb (s .operation) writeOperation) (dataFrame (s .content)) (dataFirework ∷ [])
+
+-- the two frames on a file, one after the other: the answer and buffer of the data frame, and the file
+unfoldable pub roundSent : List ℕ → Sent → List ℕ → Answer × List ℕ × List ℕ
+roundSent file s buffer =
+    let first = roundOn file (addressSent (decode file) s) buffer in
+    roundOn (first .2) (dataSent s) (first .1)
+
+-- "a reply in slot 1": bit 1 of the mask
+unfoldable pub isReply : Answer → Bool
+isReply (refused n) = false
+isReply (done mask) = eqb (mask / 2 ^ firstSlot % 2) 1
+
+-- a step that is not refused: that of an ended run, or one that made its round, with the mask of its data frame
+pub data StepDone : Type 0 where
+  ended : StepDone
+  made : ℕ → StepDone
+
+-- by the answer to its data frame. A step that no ground refuses has its frames accepted (laws address-accepted and data-accepted), so
+-- a refusal of the step is by its own ground alone.
+unfoldable pub madeBy : Answer → StepDone
+madeBy (refused n) = made 0
+madeBy (done mask) = made mask
+
+-- "Checked in this order": the file's grounds, the buffer's, the names' and the position's
+unfoldable pub stepGrounds : List ℕ → Position → List ℕ → List ℕ → List Ground
+stepGrounds file p names buffer = fileGrounds file ++ record { number = bufferRefusal; holds = shortAnswer buffer } ∷ runGrounds names p
+
+unfoldable pub stepGround : List ℕ → Position → List ℕ → List ℕ → ℕ
+stepGround file p names buffer = firstOf (stepGrounds file p names buffer)
+
+-- a step of a running position: answer, position, buffer and file
+unfoldable pub stepMade : List ℕ → Position → List ℕ → List ℕ → Result StepDone × Position × List ℕ × List ℕ
+stepMade file p names buffer =
+    let round = roundSent file (sent (nextRound names p)) buffer in
+    (done (madeBy (round .0)), advance names p (isReply (round .0)), round .1, round .2)
+
+-- one step: "A refusal returns its number and alters nothing lent"; "a step of an ended run alters nothing"
+unfoldable pub stepOn : List ℕ → Position → List ℕ → List ℕ → Result StepDone × Position × List ℕ × List ℕ
+stepOn file p names buffer =
+    let ground = stepGround file p names buffer in
+    let step = stepMade file p names buffer in
+    cond (eqb ground 0) (cond (eqb (p .end) running) step (done ended, p, buffer, file)) (refused ground, p, buffer, file)

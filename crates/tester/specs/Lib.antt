@@ -1,2 +1,0 @@
--- What each C call returns and leaves in lent memory, in terms of the layers below.
-pub mod Calls

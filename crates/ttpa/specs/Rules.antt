@@ -1,0 +1,2 @@
+-- The C calls.
+pub mod Calls

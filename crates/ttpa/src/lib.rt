@@ -1,0 +1,198 @@
+// The engine as firmware and test software link it: C calls on numbers and slices. They keep no state, never allocate and always
+// return. Each is the call of the layer below, with the answer as a number.
+ghost use mathlib.Core.Path.{_≡_};
+ghost use mathlib.Core.List.{[], _∷_};
+ghost use Rattle.ttpa.specs.Rules.Calls.{checkCall, readAddressCall, writeAddressCall, writeDataCall, roundCall, wordsOf, positionIn, startCall, stepCall};
+ghost use Rattle.naming.specs.Inner.Answers.{positionOf};
+ghost use Rattle.file.specs.Rules.Results.{numberIn};
+ghost use Rattle.frame.specs.Inner.Answers.{writingOf};
+use cluster::answer::RoundAnswer;
+use cluster::round::round;
+use file::survey::FileAnswer;
+use file::survey::check;
+use file::types::FileNumber;
+use file::types::LogicalName;
+use file::types::Operation;
+use file::types::RecordNumber;
+use frame::reader::read_address;
+use frame::types::AddressReading;
+use frame::types::FrameWriting;
+use frame::writer::write_address;
+use frame::writer::write_data;
+use naming::position::RunPosition;
+use naming::run::Started;
+use naming::run::Stepped;
+use naming::run::start;
+use naming::run::step;
+
+// The parts of an address frame.
+pub const PARTS: usize = 5;
+
+// The words of a run, and their places.
+pub const WORDS: usize = 6;
+
+const END: usize = 0;
+
+const INDEX: usize = 1;
+
+const STEP: usize = 2;
+
+const VALUE: usize = 3;
+
+const ROUNDS: usize = 4;
+
+const COMPARISONS: usize = 5;
+
+#[no_mangle]
+pub extern "C" fn ttpa_check(file: &[u8]) -> u8
+    ensures { λ r. ⌜ r ≡ checkCall (now (file .entry)) ⌝ }
+{
+    let answer = check(file);
+    match answer {
+        FileAnswer::Accepted => 0,
+        FileAnswer::Refused(why) => why.0,
+    }
+}
+
+#[no_mangle]
+pub extern "C" fn ttpa_read_address(frame: &[u8], parts: &mut [u8; PARTS]) -> u8
+    ensures { λ r. ⌜ (r, now (parts .exit)) ≡ readAddressCall (now (frame .entry)) (now (parts .entry)) ⌝ }
+{
+    let reading = read_address(frame);
+    match reading {
+        AddressReading::Refused(why) => why.0,
+        AddressReading::Address {
+            epoch,
+            name,
+            file,
+            operation,
+            record,
+        } => {
+            *parts = [epoch, name.0, file.0, operation.0, record.0];
+            0
+        }
+    }
+}
+
+fn writing_number(writing: FrameWriting) -> u8
+    ensures { λ r. ⌜ r ≡ numberIn (writingOf writing) ⌝ }
+{
+    match writing {
+        FrameWriting::Refused(why) => why.0,
+        FrameWriting::Written => 0,
+    }
+}
+
+#[no_mangle]
+pub extern "C" fn ttpa_write_address(
+    frame: &mut [u8],
+    epoch: u8,
+    name: u8,
+    file: u8,
+    operation: u8,
+    record: u8,
+) -> u8
+    ensures { λ r. ⌜ (r, now (frame .exit)) ≡ writeAddressCall (now (frame .entry)) epoch name file operation «record» ⌝ }
+{
+    let written = write_address(
+        frame,
+        epoch,
+        LogicalName::new(name),
+        FileNumber(file),
+        Operation(operation),
+        RecordNumber(record),
+    );
+    writing_number(written)
+}
+
+#[no_mangle]
+pub extern "C" fn ttpa_write_data(frame: &mut [u8], b0: u8, b1: u8, b2: u8, b3: u8) -> u8
+    ensures { λ r. ⌜ (r, now (frame .exit)) ≡ writeDataCall (now (frame .entry)) (b0 ∷ b1 ∷ b2 ∷ b3 ∷ []) ⌝ }
+{
+    let written = write_data(frame, b0, b1, b2, b3);
+    writing_number(written)
+}
+
+#[no_mangle]
+pub extern "C" fn ttpa_round(
+    file: &mut [u8],
+    frame: &[u8],
+    answer: &mut [u8],
+    senders: &mut u64,
+) -> u8
+    ensures { λ r. ⌜ (r, now (senders .exit), now (answer .exit), now (file .exit)) ≡ roundCall (now (file .entry)) (now (frame .entry)) (now (answer .entry)) (now (senders .entry)) ⌝ }
+{
+    let done = round(file, frame, answer);
+    match done {
+        RoundAnswer::Refused(why) => why.0,
+        RoundAnswer::Carried(mask) => {
+            *senders = mask;
+            0
+        }
+    }
+}
+
+fn words_of(position: RunPosition) -> [u64; WORDS]
+    ensures { λ r. ⌜ r ≡ wordsOf (positionOf position) ⌝ }
+{
+    [
+        position.end,
+        position.index,
+        position.step,
+        position.value,
+        position.rounds,
+        position.comparisons,
+    ]
+}
+
+fn position_in(run: &[u64; WORDS]) -> RunPosition
+    ensures { λ r. ⌜ positionOf r ≡ positionIn (now (run .entry)) ⌝ }
+{
+    RunPosition {
+        end: run[END],
+        index: run[INDEX],
+        step: run[STEP],
+        value: run[VALUE],
+        rounds: run[ROUNDS],
+        comparisons: run[COMPARISONS],
+    }
+}
+
+#[no_mangle]
+pub extern "C" fn ttpa_start(names: &[u8], run: &mut [u64; WORDS]) -> u8
+    ensures { λ r. ⌜ (r, now (run .exit)) ≡ startCall (now (names .entry)) (now (run .entry)) ⌝ }
+{
+    let started = start(names);
+    match started {
+        Started::Refused(why) => why.0,
+        Started::Fresh(fresh) => {
+            *run = words_of(fresh);
+            0
+        }
+    }
+}
+
+#[no_mangle]
+pub extern "C" fn ttpa_step(
+    file: &mut [u8],
+    run: &mut [u64; WORDS],
+    names: &[u8],
+    answer: &mut [u8],
+    senders: &mut u64,
+) -> u8
+    ensures { λ r. ⌜ (r, now (senders .exit), now (run .exit), now (answer .exit), now (file .exit)) ≡ stepCall (now (file .entry)) (now (run .entry)) (now (names .entry)) (now (answer .entry)) (now (senders .entry)) ⌝ }
+{
+    let stepped = step(file, position_in(run), names, answer);
+    match stepped {
+        Stepped::Refused(why) => why.0,
+        Stepped::Ended => 0,
+        Stepped::Made {
+            senders: mask,
+            run: position,
+        } => {
+            *senders = mask;
+            *run = words_of(position);
+            0
+        }
+    }
+}

@@ -1,0 +1,69 @@
+// The C calls, each called with its arguments in the order of include/ttpa.h. A contract speaks of parameters by their names, and C
+// passes them by their order: a call of `ttpa` whose parameters stood in another order would not meet the contract here.
+ghost use mathlib.Core.Path.{_≡_};
+ghost use mathlib.Core.List.{[], _∷_};
+ghost use Rattle.ttpa.specs.Rules.Calls.{checkCall, readAddressCall, writeAddressCall, writeDataCall, roundCall, startCall, stepCall};
+use ttpa::PARTS;
+use ttpa::WORDS;
+use ttpa::ttpa_check;
+use ttpa::ttpa_read_address;
+use ttpa::ttpa_round;
+use ttpa::ttpa_start;
+use ttpa::ttpa_step;
+use ttpa::ttpa_write_address;
+use ttpa::ttpa_write_data;
+
+pub fn check(file: &[u8]) -> u8
+    ensures { λ r. ⌜ r ≡ checkCall (now (file .entry)) ⌝ }
+{
+    ttpa_check(file)
+}
+
+pub fn read_address(frame: &[u8], parts: &mut [u8; PARTS]) -> u8
+    ensures { λ r. ⌜ (r, now (parts .exit)) ≡ readAddressCall (now (frame .entry)) (now (parts .entry)) ⌝ }
+{
+    ttpa_read_address(frame, parts)
+}
+
+pub fn write_address(
+    frame: &mut [u8],
+    epoch: u8,
+    name: u8,
+    file: u8,
+    operation: u8,
+    record: u8,
+) -> u8
+    ensures { λ r. ⌜ (r, now (frame .exit)) ≡ writeAddressCall (now (frame .entry)) epoch name file operation «record» ⌝ }
+{
+    ttpa_write_address(frame, epoch, name, file, operation, record)
+}
+
+pub fn write_data(frame: &mut [u8], b0: u8, b1: u8, b2: u8, b3: u8) -> u8
+    ensures { λ r. ⌜ (r, now (frame .exit)) ≡ writeDataCall (now (frame .entry)) (b0 ∷ b1 ∷ b2 ∷ b3 ∷ []) ⌝ }
+{
+    ttpa_write_data(frame, b0, b1, b2, b3)
+}
+
+pub fn round(file: &mut [u8], frame: &[u8], answer: &mut [u8], senders: &mut u64) -> u8
+    ensures { λ r. ⌜ (r, now (senders .exit), now (answer .exit), now (file .exit)) ≡ roundCall (now (file .entry)) (now (frame .entry)) (now (answer .entry)) (now (senders .entry)) ⌝ }
+{
+    ttpa_round(file, frame, answer, senders)
+}
+
+pub fn start(names: &[u8], run: &mut [u64; WORDS]) -> u8
+    ensures { λ r. ⌜ (r, now (run .exit)) ≡ startCall (now (names .entry)) (now (run .entry)) ⌝ }
+{
+    ttpa_start(names, run)
+}
+
+pub fn step(
+    file: &mut [u8],
+    run: &mut [u64; WORDS],
+    names: &[u8],
+    answer: &mut [u8],
+    senders: &mut u64,
+) -> u8
+    ensures { λ r. ⌜ (r, now (senders .exit), now (run .exit), now (answer .exit), now (file .exit)) ≡ stepCall (now (file .entry)) (now (run .entry)) (now (names .entry)) (now (answer .entry)) (now (senders .entry)) ⌝ }
+{
+    ttpa_step(file, run, names, answer, senders)
+}

@@ -1,0 +1,60 @@
+//! The C calls: what they are lent beside the safe functions' arguments is written on success only.
+
+use crate::{FILL, M10, ROOMY};
+use ttpa::calls;
+
+const MASK_BEFORE: u64 = 0xEEEE_EEEE_EEEE_EEEE;
+const FRESH: [u64; calls::RUN_WORDS] = [0; calls::RUN_WORDS];
+
+#[test]
+fn parts_are_written_on_success_only() {
+    let mut parts = [FILL; 5];
+    assert_eq!(calls::read_address(&[0x55, 0x05, 0x21, 0x41, 0x03, 0x67], &mut parts), 12);
+    assert_eq!(parts, [FILL; 5]);
+    assert_eq!(calls::read_address(&[0x55, 0x05, 0x21, 0x41, 0x03, 0x66], &mut parts), 0);
+    assert_eq!(parts, [5, 0x21, 0x10, 1, 3]);
+}
+
+#[test]
+fn frames_are_written_on_success_only() {
+    let mut frame = [FILL; 6];
+    assert_eq!(calls::write_address(&mut frame, 5, 0x21, 64, 1, 3), 18);
+    assert_eq!(calls::write_data(&mut frame[..5], 1, 2, 4, 8), 9);
+    assert_eq!(frame, [FILL; 6]);
+    assert_eq!(calls::write_address(&mut frame, 5, 0x21, 0x10, 1, 3), 0);
+    assert_eq!(frame, [0x55, 0x05, 0x21, 0x41, 0x03, 0x66]);
+    assert_eq!(calls::write_data(&mut frame, 1, 2, 4, 8), 0);
+    assert_eq!(frame, [0x49, 1, 2, 4, 8, 0x0F]);
+}
+
+#[test]
+fn the_mask_of_a_round_is_written_on_success_only() {
+    let (mut file, mut answer, mut senders) = (M10.to_vec(), ROOMY, MASK_BEFORE);
+    assert_eq!(calls::check(&file), 0);
+    assert_eq!(calls::round(&mut file, &[0x54], &mut answer, &mut senders), 10);
+    assert_eq!((&file[..], answer, senders), (M10, ROOMY, MASK_BEFORE));
+    assert_eq!(calls::round(&mut file, &[0xBA], &mut answer, &mut senders), 0);
+    assert_eq!((answer[0], senders), (0xBA, 0));
+}
+
+#[test]
+fn a_run_is_written_on_success_only() {
+    let mut run = [MASK_BEFORE; calls::RUN_WORDS];
+    assert_eq!(calls::start(&[1, 1], &mut run), 16);
+    assert_eq!(run, [MASK_BEFORE; calls::RUN_WORDS]);
+    assert_eq!(calls::start(&[1], &mut run), 0);
+    assert_eq!(run, FRESH);
+}
+
+#[test]
+fn the_mask_of_a_step_is_written_by_a_running_run_only() {
+    let (mut file, mut answer, mut senders) = (M10.to_vec(), ROOMY, MASK_BEFORE);
+    let mut run = FRESH;
+    assert_eq!(calls::step(&mut file, &mut run, &[1, 1], &mut answer, &mut senders), 16);
+    assert_eq!((&file[..], run, answer, senders), (M10, FRESH, ROOMY, MASK_BEFORE));
+    let mut ended = [2, 1, 0, 0, 1, 0];
+    assert_eq!(calls::step(&mut file, &mut ended, &[1], &mut answer, &mut senders), 0);
+    assert_eq!((&file[..], ended, answer, senders), (M10, [2, 1, 0, 0, 1, 0], ROOMY, MASK_BEFORE));
+    assert_eq!(calls::step(&mut file, &mut run, &[1], &mut answer, &mut senders), 0);
+    assert_eq!((run, answer[0], senders), ([0, 0, 1, 0, 1, 0], 0x49, 0));
+}

@@ -1,0 +1,51 @@
+//! The grounds: numbers and texts.
+
+use std::collections::BTreeSet;
+use std::error::Error;
+use ttpa::TtpaError;
+
+/// Each ground with its number in document 01 and a word that its text cannot do without.
+const GROUNDS: [(TtpaError, u8, &str); 19] = [
+    (TtpaError::FileSize, 1, "bytes"),
+    (TtpaError::Mark, 2, "mark"),
+    (TtpaError::Edition, 3, "edition"),
+    (TtpaError::LengthField, 4, "as long as its header"),
+    (TtpaError::Header, 5, "header"),
+    (TtpaError::Layout, 6, "layout"),
+    (TtpaError::NeededFile, 7, "0x3D"),
+    (TtpaError::EqualPhysicalNames, 8, "physical name"),
+    (TtpaError::ShortBuffer, 9, "buffer"),
+    (TtpaError::Firework, 10, "firework"),
+    (TtpaError::FrameLength, 11, "length"),
+    (TtpaError::CheckByte, 12, "check byte"),
+    (TtpaError::Operation, 13, "operation"),
+    (TtpaError::BroadcastRead, 14, "read"),
+    (TtpaError::ListedName, 15, "0xFF"),
+    (TtpaError::RepeatedName, 16, "twice"),
+    (TtpaError::Position, 17, "stored naming run"),
+    (TtpaError::FileNumber, 18, "63"),
+    (TtpaError::Other(19), 19, "no text"),
+];
+
+#[test]
+fn every_ground_has_its_number_and_text() {
+    for (ground, number, word) in GROUNDS {
+        assert_eq!(ground.number(), number);
+        let text = ground.to_string();
+        let says = text.strip_prefix(&format!("refused {number}: "));
+        assert!(says.is_some_and(|says| says.contains(word)), "{text}");
+    }
+}
+
+#[test]
+fn no_two_grounds_have_one_text() {
+    let says = |ground: TtpaError| ground.to_string().split_once(": ").map(|(_, says)| says.to_string());
+    let texts: BTreeSet<Option<String>> = GROUNDS.into_iter().map(|(ground, ..)| says(ground)).collect();
+    assert_eq!(texts.len(), GROUNDS.len());
+}
+
+#[test]
+fn a_ground_is_an_error() {
+    let refused = || -> Result<(), Box<dyn Error>> { Ok(ttpa::check(&[])?) };
+    assert!(refused().is_err_and(|error| error.to_string().starts_with("refused 1: ")));
+}

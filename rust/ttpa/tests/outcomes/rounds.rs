@@ -1,0 +1,89 @@
+//! The checker and rounds.
+
+use crate::{answered, refused_files, EPOCH, M10, ROOMY};
+use ttpa::{check, round, Senders, TtpaError, ANSWER_BYTES};
+
+const LONGEST_FILE: usize = 32_768;
+/// "M1: execute 0x08 record 2 at 0xFF, epoch 5"
+const M1: [u8; 6] = [0x55, 0x05, 0xFF, 0x22, 0x02, 0xDA];
+const MSD: [u8; 1] = [0x49];
+const ROUND_2: [u8; 1] = [0xBA];
+
+#[test]
+fn a_file_is_accepted() {
+    assert_eq!(check(M10), Ok(()));
+}
+
+#[test]
+fn a_file_is_refused_on_each_ground() {
+    for (file, ground) in refused_files() {
+        assert_eq!(check(&file), Err(ground));
+    }
+    assert_eq!(check(&[0; LONGEST_FILE + 1]), Err(TtpaError::FileSize));
+    assert_eq!(check(&[0; LONGEST_FILE]), Err(TtpaError::Mark));
+}
+
+#[test]
+fn an_address_frame_becomes_pending() {
+    let (mut file, mut answer) = (M10.to_vec(), ROOMY);
+    assert_eq!(round(&mut file, &M1, &mut answer), Ok(Senders(0)));
+    assert_eq!(answer, answered(0x55, &[]));
+    let mut pending = M10.to_vec();
+    pending[EPOCH..EPOCH + 5].copy_from_slice(&[5, 1, 0xFF, 0x22, 2]);
+    assert_eq!(file, pending);
+}
+
+#[test]
+fn a_data_frame_is_answered() {
+    let (mut file, mut answer) = (M10.to_vec(), ROOMY);
+    assert_eq!(round(&mut file, &M1, &mut answer), Ok(Senders(0)));
+    // Both slaves are unnamed, and their comparison value 0 is not above their names.
+    assert_eq!(round(&mut file, &MSD, &mut answer), Ok(Senders(0b10)));
+    assert_eq!(answer, answered(0x49, &[0x00]));
+    assert_eq!(file[EPOCH], 6);
+}
+
+#[test]
+fn a_multipartner_round_is_answered() {
+    // The first slave sends bytes 4 and 5 of its file 0x10; the others are unnamed.
+    let mut file = include_bytes!("../../../../c/demo.cluster").to_vec();
+    let mut answer = ROOMY;
+    assert_eq!(round(&mut file, &ROUND_2, &mut answer), Ok(Senders(0b110)));
+    assert_eq!(answer, answered(0xBA, &[0xA1, 0x5C]));
+}
+
+/// The call refuses on this ground and leaves file and answer.
+fn assert_refused(file: &[u8], frame: &[u8], answer_length: usize, ground: TtpaError) {
+    let mut file_after = file.to_vec();
+    let mut answer = ROOMY[..answer_length].to_vec();
+    assert_eq!(round(&mut file_after, frame, &mut answer), Err(ground));
+    assert_eq!(file_after, file);
+    assert_eq!(answer, ROOMY[..answer_length]);
+}
+
+#[test]
+fn a_round_is_refused_on_each_ground() {
+    for (file, ground) in refused_files() {
+        assert_refused(&file, &ROUND_2, ANSWER_BYTES, ground);
+    }
+    assert_refused(M10, &ROUND_2, ANSWER_BYTES - 1, TtpaError::ShortBuffer);
+    let frames: [(&[u8], TtpaError); 6] = [
+        (&[], TtpaError::Firework),
+        (&[0x54], TtpaError::Firework),
+        (&[0xBA, 0x00], TtpaError::FrameLength),
+        (&[0x55, 0x05, 0xFF, 0x22, 0x02, 0xDB], TtpaError::CheckByte),
+        (&[0x55, 0x05, 0xFF, 0x23, 0x02, 0xDB], TtpaError::Operation),
+        (&[0x55, 0x05, 0x00, 0xF4, 0x01, 0xF0], TtpaError::BroadcastRead),
+    ];
+    for (frame, ground) in frames {
+        assert_refused(M10, frame, ANSWER_BYTES, ground);
+    }
+}
+
+#[test]
+fn senders_are_told_by_slot() {
+    let senders = Senders(1 << 63 | 0b110);
+    let sent: Vec<u32> = (0..200).filter(|&slot| senders.sent_in(slot)).collect();
+    assert_eq!(sent, [1, 2, 63]);
+    assert!(!senders.sent_in(u32::MAX));
+}

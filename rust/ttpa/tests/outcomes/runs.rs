@@ -1,0 +1,137 @@
+//! Naming runs.
+
+use crate::{answered, m10_with, refused_files, EPOCH, FIRST_LOGICAL_NAME, M10, ROOMY};
+use ttpa::{End, Run, Senders, TtpaError, ANSWER_BYTES};
+
+/// The logical name of M10's second slave.
+const SECOND_LOGICAL_NAME: usize = 0x4B;
+
+/// Steps to the end; the masks of the steps.
+fn run_to_end(run: &mut Run, file: &mut [u8], names: &[u8]) -> Vec<Senders> {
+    let mut masks = Vec::new();
+    while run.end() == End::Running {
+        masks.push(run.step(file, names, &mut ROOMY.clone()).expect("a step of a running run"));
+    }
+    masks
+}
+
+#[test]
+fn a_run_starts_at_zero() {
+    let run = Run::start(&[1, 2]).expect("a good list");
+    assert_eq!(run.words(), [0; 6]);
+    assert_eq!(run.end(), End::Running);
+}
+
+#[test]
+fn a_run_over_no_names_has_ended() {
+    let run = Run::start(&[]).expect("an empty list");
+    assert_eq!(run.words(), [2, 0, 0, 0, 0, 0]);
+    assert_eq!(run.end(), End::NamesUsedUp);
+}
+
+#[test]
+fn a_run_is_not_started() {
+    assert_eq!(Run::start(&[1, 0x00]), Err(TtpaError::ListedName));
+    assert_eq!(Run::start(&[0xFF, 2]), Err(TtpaError::ListedName));
+    assert_eq!(Run::start(&[1, 2, 1]), Err(TtpaError::RepeatedName));
+}
+
+#[test]
+fn a_run_ends_when_all_are_named() {
+    let mut file = M10.to_vec();
+    let mut run = Run::start(&[1, 2, 3]).expect("a good list");
+    let masks = run_to_end(&mut run, &mut file, &[1, 2, 3]);
+    // The totals of M10. The search of the third name ended at its comparison with 0, the round at place 3,
+    // and the value is still that of the second: the lesser physical name.
+    assert_eq!(run.end(), End::AllNamed);
+    assert_eq!(run.index(), 2);
+    assert_eq!(run.next_round(), 3);
+    assert_eq!(run.value(), 0x7_0000_0010);
+    assert_eq!(run.rounds(), 404);
+    assert_eq!(run.comparisons(), 131);
+    assert_eq!(run.words(), [1, 2, 3, 0x7_0000_0010, 404, 131]);
+    assert_eq!((file[FIRST_LOGICAL_NAME], file[SECOND_LOGICAL_NAME]), (2, 1));
+    // Nobody has the first name, two writes, and then both answer the comparison with 0.
+    assert_eq!(masks[..4], [Senders(0), Senders(0), Senders(0), Senders(0b10)]);
+    assert_eq!(masks.len(), 404);
+}
+
+#[test]
+fn a_run_ends_when_its_names_are_used_up() {
+    let mut file = M10.to_vec();
+    let mut run = Run::start(&[7]).expect("a good list");
+    run_to_end(&mut run, &mut file, &[7]);
+    assert_eq!(run.end(), End::NamesUsedUp);
+    assert_eq!(run.words(), [2, 1, 0, 0x7_0000_00A0, 200, 65]);
+    assert_eq!((file[FIRST_LOGICAL_NAME], file[SECOND_LOGICAL_NAME]), (0xFF, 7));
+}
+
+#[test]
+fn a_taken_name_answers_with_its_series_number() {
+    let (mut file, mut answer) = (m10_with(FIRST_LOGICAL_NAME, 9), ROOMY);
+    let mut run = Run::start(&[9, 8]).expect("a good list");
+    assert_eq!(run.step(&mut file, &[9, 8], &mut answer), Ok(Senders(0b11_1110)));
+    assert_eq!(answer, answered(0x49, &[0x00, 0x00, 0x00, 0x07, 0x07]));
+    assert_eq!(run.words(), [0, 1, 0, 0, 1, 0]);
+    assert_eq!(file[EPOCH], 2);
+}
+
+#[test]
+fn a_step_of_an_ended_run_alters_nothing() {
+    for (words, end) in [([1, 0, 3, 5, 4, 1], End::AllNamed), ([2, 1, 0, 5, 1, 0], End::NamesUsedUp)] {
+        let (mut file, mut answer) = (M10.to_vec(), ROOMY);
+        let mut run = Run::from_words(words);
+        assert_eq!(run.end(), end);
+        assert_eq!(run.step(&mut file, &[1], &mut answer), Ok(Senders(0)));
+        assert_eq!((run.words(), &file[..], answer), (words, M10, ROOMY));
+    }
+}
+
+#[test]
+fn a_stored_run_goes_on() {
+    let mut file = M10.to_vec();
+    let mut run = Run::start(&[1, 2, 3]).expect("a good list");
+    while run.end() == End::Running {
+        run = Run::from_words(run.words());
+        run.step(&mut file, &[1, 2, 3], &mut ROOMY.clone()).expect("a step of a running run");
+    }
+    assert_eq!(run.words(), [1, 2, 3, 0x7_0000_0010, 404, 131]);
+}
+
+/// The step refuses on this ground and leaves file, run and answer.
+fn assert_refused(file: &[u8], words: [u64; 6], names: &[u8], answer_length: usize, ground: TtpaError) {
+    let mut file_after = file.to_vec();
+    let mut answer = ROOMY[..answer_length].to_vec();
+    let mut run = Run::from_words(words);
+    assert_eq!(run.step(&mut file_after, names, &mut answer), Err(ground));
+    assert_eq!((&file_after[..], run.words()), (file, words));
+    assert_eq!(answer, ROOMY[..answer_length]);
+}
+
+#[test]
+fn a_step_is_refused_on_each_ground() {
+    let fresh = [0; 6];
+    for (file, ground) in refused_files() {
+        assert_refused(&file, fresh, &[1], ANSWER_BYTES, ground);
+    }
+    assert_refused(M10, fresh, &[1], ANSWER_BYTES - 1, TtpaError::ShortBuffer);
+    assert_refused(M10, fresh, &[1, 0x00], ANSWER_BYTES, TtpaError::ListedName);
+    assert_refused(M10, fresh, &[1, 1], ANSWER_BYTES, TtpaError::RepeatedName);
+    let no_positions = [
+        [3, 0, 0, 0, 0, 0],
+        [0, 1, 0, 0, 0, 0],
+        [1, 2, 0, 0, 0, 0],
+        [0, 0, 200, 0, 0, 0],
+        [0, 0, 0, 0, 1_000_000, 0],
+        [0, 0, 0, 0, 0, 1_000_000],
+    ];
+    for words in no_positions {
+        assert_refused(M10, words, &[1], ANSWER_BYTES, TtpaError::Position);
+    }
+}
+
+#[test]
+fn another_end_mark_is_unknown() {
+    assert_eq!(Run::from_words([3, 0, 0, 0, 0, 0]).end(), End::Unknown(3));
+    assert_eq!(Run::from_words([u64::MAX, 0, 0, 0, 0, 0]).end(), End::Unknown(u64::MAX));
+}
