@@ -35,8 +35,8 @@ extern "C" {
 
 /* What the library takes: code and constants of all calls, and the most stack that a call uses, with its
  * return address and arguments. No other memory. Both are measured, and rounded up. */
-#define TTPA_CODE_BYTES 7168
-#define TTPA_STACK_BYTES 2560
+#define TTPA_CODE_BYTES 6656
+#define TTPA_STACK_BYTES 2176
 
 /* What the calls return: 0, or the number of document 01 for the ground on which something was refused. */
 enum ttpa_refusal {

@@ -14,13 +14,13 @@ use borrow.Author.Tests.{eqb-true, eqb-false}
 use Rattle.file.specs.Rules.Order.{either}
 use Rattle.file.specs.Rules.Cluster.{Slave, Cluster}
 use Rattle.file.specs.Rules.Decode.{decode}
-use Rattle.file.specs.Inner.Places.{noSlave, slaveOf}
+use Rattle.file.specs.Inner.Places.{mostSlaves, noSlave, slaveOf}
 use Rattle.file.specs.Inner.Accepted.{Becomes}
 use Rattle.file.proofs.Order.{byCase}
 use Rattle.file.proofs.ReaderLaws.{place-within, header-within}
 use Rattle.cluster.specs.Rules.Bus.{joined, busByte, anyone}
 use Rattle.cluster.specs.Rules.Multipartner.{SlaveByte, sendsFrom, storesAt, byteThere, sentBy}
-use Rattle.cluster.specs.Inner.Slots.{mostSlaves, placeIn, actSends, actStores, isSender, StoresWithin}
+use Rattle.cluster.specs.Inner.Slots.{placeIn, actSends, actStores, isSender, StoresWithin}
 use Rattle.cluster.specs.declared.multipartner.SlotAct.{SlotAct}
 use Rattle.cluster.specs.declared.multipartner.SlotAct.the-variants as Acts
 use Rattle.cluster.proofs.StoreLaws.{Lands, stays, lands, storesAt-lands}
@@ -69,27 +69,27 @@ someone-next (x ∷ xs) act = refl
 
 -- ---- the loop over the slaves
 
-pub record Hearing (c : Cluster) (round slot n bus : ℕ) (heard : Bool) (stores : List ℕ) : Type 0 where
+pub record SlotHearing (c : Cluster) (round slot n bus : ℕ) (heard : Bool) (stores : List ℕ) : Type 0 where
   pub most : n ≤ length (c .slaves)
   pub byte : bus ≡ busByte (sentBy round slot (take n (c .slaves)))
   pub any : heard ≡ someone (sentBy round slot (take n (c .slaves)))
   pub room : length stores ≡ mostSlaves
   pub aims : (s : ℕ) → s < n → getD stores s 0 ≡ placeIn c s (storesAt round slot (slaveOf c s))
 
-pub hearing-start : (c : Cluster) (round slot : ℕ) {stores : List ℕ} → length stores ≡ mostSlaves → Hearing c round slot 0 255 false stores
+pub slot-hearing-start : (c : Cluster) (round slot : ℕ) {stores : List ℕ} → length stores ≡ mostSlaves → SlotHearing c round slot 0 255 false stores
 unfolding busByte joined sentBy someone
-hearing-start c round slot room =
+slot-hearing-start c round slot room =
     record { most = omega arith; byte = refl; any = refl; room = room; aims = λ s l. absurd (omega arith) }
 
-module _ {c : Cluster} {round slot n bus : ℕ} {heard : Bool} {stores : List ℕ} (h : Hearing c round slot n bus heard stores) where
+module _ {c : Cluster} {round slot n bus : ℕ} {heard : Bool} {stores : List ℕ} (h : SlotHearing c round slot n bus heard stores) where
   module _ {act : SlotAct} (more : n < length (c .slaves)) (does : RoundActIs c round slot n act) where
     sent-act : sentBy round slot (take (n + 1) (c .slaves)) ≡ sentBy round slot (take n (c .slaves)) ++ actSends act
     unfolding slaveOf
     sent-act = rw (add-one, does .sends) (sent-next round slot (c .slaves) n more)
 
-    pub hearing-next : {bus′ place : ℕ} {heard′ : Bool} → length (c .slaves) ≤ mostSlaves → bus′ ≡ joined bus (actSends act) → heard′ ≡ either heard (isSender act) → place ≡ actStores act
-        → Hearing c round slot (n + 1) bus′ heard′ (set stores n place)
-    hearing-next {place = place} few byte any at =
+    pub slot-hearing-next : {bus′ place : ℕ} {heard′ : Bool} → length (c .slaves) ≤ mostSlaves → bus′ ≡ joined bus (actSends act) → heard′ ≡ either heard (isSender act) → place ≡ actStores act
+        → SlotHearing c round slot (n + 1) bus′ heard′ (set stores n place)
+    slot-hearing-next {place = place} few byte any at =
         record {
           most = omega arith;
           byte = byte ∙ ap (λ (x : ℕ). joined x (actSends act)) (h .byte) ∙ sym (ap busByte sent-act ∙ busByte-append (sentBy round slot (take n (c .slaves))) (actSends act));
@@ -120,7 +120,7 @@ unfolding placeIn
 land-within s h long stays = long
 land-within s h long (lands {n = m} {k} low high place inside) = omega (arith, place-within h s m (omega arith))
 
-pub aims-within : {f : List ℕ} {round slot count n bus : ℕ} {heard : Bool} {stores : List ℕ} → Becomes f (decode f) → count ≡ length (decode f .slaves) → Hearing (decode f) round slot n bus heard stores → length (decode f .slaves) ≤ n
+pub aims-within : {f : List ℕ} {round slot count n bus : ℕ} {heard : Bool} {stores : List ℕ} → Becomes f (decode f) → count ≡ length (decode f .slaves) → SlotHearing (decode f) round slot n bus heard stores → length (decode f .slaves) ≤ n
     → StoresWithin f stores count
 aims-within {f} {round} {slot} b all h left =
     record {

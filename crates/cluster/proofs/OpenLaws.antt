@@ -12,14 +12,14 @@ use lib.Dec.{eqb}
 use borrow.Author.Tests.{eq-eqb, ne-eqb, eqb-true, eqb-false}
 use Rattle.file.specs.Rules.Layout.{recordSize}
 use Rattle.file.specs.Rules.Cluster.{Slave, Cluster, bytesIn, lastRecord}
-use Rattle.file.specs.Inner.Places.{slaveOf, filePlace}
+use Rattle.file.specs.Inner.Places.{mostSlaves, slaveOf, filePlace}
 use Rattle.file.specs.Inner.Accepted.{Becomes}
 use Rattle.file.proofs.Order.{byCase}
 use Rattle.file.proofs.ReaderLaws.{byte-there, place-within}
 use Rattle.cluster.specs.Rules.Slaves.{isUnnamed}
 use Rattle.cluster.specs.Rules.Entries.{Entry, entryThere, entryAt, ends, covers, Acting, noEntry, acts, actingFrom}
 use Rattle.cluster.specs.Inner.EntryForm.{evaluated, isPast}
-use Rattle.cluster.specs.Inner.Slots.{mostSlaves, entriesIn, RoundFileIs, RoundFilesAre, EntriesWithin, openFrom}
+use Rattle.cluster.specs.Inner.Slots.{entriesIn, RoundFileIs, RoundFilesAre, EntriesWithin, openFrom}
 use Rattle.cluster.proofs.EntryLaws.{past-goes-on, past-covers}
 
 -- ---- the first entry before the end that covers the slot, record by record

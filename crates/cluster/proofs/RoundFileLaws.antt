@@ -13,7 +13,7 @@ use Rattle.file.specs.Rules.Bytes.{All, allEmpty, allNext}
 use Rattle.file.specs.Rules.Layout.{recordSize}
 use Rattle.file.specs.Rules.Cluster.{File, Cluster, bytesAmong, bytesIn, lastRecord, logicalName, unnamed}
 use Rattle.file.specs.Rules.Legal.{LegalFile}
-use Rattle.file.specs.Inner.Places.{slaveOf}
+use Rattle.file.specs.Inner.Places.{mostSlaves, slaveOf}
 use Rattle.file.specs.Rules.Decode.{decode}
 use Rattle.file.specs.Inner.Accepted.{Becomes, AcceptedFile, slaveCount, findFile}
 use Rattle.file.specs.Inner.Answers.{foundFile}
@@ -25,7 +25,7 @@ use Rattle.file.specs.declared.readers.FilePlace.the-variants.{Bytes, NoFile}
 use Rattle.file.proofs.Order.{byCase}
 use Rattle.file.proofs.ReaderLaws.{slave-legal, length-limit, place-within, becomes-decoded}
 use Rattle.cluster.specs.Rules.Slaves.{isUnnamed}
-use Rattle.cluster.specs.Inner.Slots.{mostSlaves, entriesIn, RoundFileIs, RoundFilesAre}
+use Rattle.cluster.specs.Inner.Slots.{entriesIn, RoundFileIs, RoundFilesAre}
 use Rattle.cluster.proofs.SlotActLaws.{Found, found-facts, missing-empty}
 
 -- ---- one slave

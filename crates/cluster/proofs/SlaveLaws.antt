@@ -55,29 +55,26 @@ at-broadcast-none {name} b e = sym (both-false-left b (ap not (eq-eqb name broad
 pub not-broadcast : {name : ℕ} {r b : Bool} → r ≡ b → (name ≡ broadcast → ⊥) → r ≡ both (not (eqb name broadcast)) b
 not-broadcast {name} {r} {b} e n = e ∙ sym (both-next b (ap not (ne-eqb name broadcast n)))
 
--- a read of an unnamed slave, at broadcast, and at any other name
-pub read-unnamed : (name : ℕ) {own : ℕ} → own ≡ unnamed → false ≡ both (addresses name own) (not (eqb own unnamed))
-read-unnamed name {own} e = sym (both-false-right (addresses name own) (ap not (eq-eqb own unnamed e)))
+-- a read at the slave's own name, at broadcast, and at any other name
+pub read-own : {name : ℕ} (own : ℕ) → own ≡ name → not (eqb own unnamed) ≡ both (addresses name own) (not (eqb own unnamed))
+unfolding addresses both
+read-own own same =
+    rw (← same)
+    (byCase (eqb own unnamed)
+    (λ e. rw e)
+    (λ e. rw e (byCase (eqb own broadcast) (λ t. rw t) (λ t. rw (t, eq-eqb own own refl)))))
 
-module _ (name : ℕ) {own : ℕ} (named : own ≡ unnamed → ⊥) where
-  read-as : both (addresses name own) (not (eqb own unnamed)) ≡ addresses name own
-  unfolding both
-  read-as = rw (ne-eqb own unnamed named) (go (addresses name own))
-    where
-      go : (b : Bool) → cond b true false ≡ b
-      go true = refl
-      go false = refl
+pub read-broadcast : {name : ℕ} (own : ℕ) → name ≡ broadcast → not (eqb own unnamed) ≡ both (addresses name own) (not (eqb own unnamed))
+unfolding addresses both
+read-broadcast own at = rw at (byCase (eqb own unnamed) (λ e. rw e) (λ e. rw e))
 
-  pub read-broadcast : name ≡ broadcast → true ≡ both (addresses name own) (not (eqb own unnamed))
-  unfolding addresses
-  read-broadcast e = sym (read-as ∙ rw (e, ne-eqb own unnamed named))
-
-  pub read-named : (name ≡ broadcast → ⊥) → eqb own name ≡ both (addresses name own) (not (eqb own unnamed))
-  unfolding addresses
-  read-named other =
-      sym (read-as ∙ byCase (eqb name unnamed)
-      (λ e. rw e (ap (λ (n : ℕ). eqb own n) (sym (eqb-true name unnamed e))))
-      (λ e. rw (e, ne-eqb name broadcast other)))
+pub read-other : {name own : ℕ} → (own ≡ name → ⊥) → (name ≡ broadcast → ⊥) → false ≡ both (addresses name own) (not (eqb own unnamed))
+unfolding addresses
+read-other {name} {own} other at =
+    sym (both-false-left (not (eqb own unnamed))
+    (byCase (eqb name unnamed)
+    (λ e. rw e (ne-eqb own unnamed (λ q. other (q ∙ sym (eqb-true name unnamed e)))))
+    (λ e. rw (e, ne-eqb name broadcast at) (ne-eqb own name other))))
 
 -- ---- a record that was looked for
 

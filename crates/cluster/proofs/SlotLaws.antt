@@ -11,7 +11,7 @@ use Rattle.file.specs.Rules.Order.{either}
 use Rattle.file.specs.Rules.Layout.{recordSize}
 use Rattle.file.specs.Rules.Cluster.{Cluster, bytesIn, logicalName, configuration}
 use Rattle.file.specs.Rules.Decode.{decode}
-use Rattle.file.specs.Inner.Places.{slaveOf, filePlace, SameShape}
+use Rattle.file.specs.Inner.Places.{mostSlaves, slaveOf, filePlace, SameShape}
 use Rattle.file.specs.Inner.Accepted.{Becomes}
 use Rattle.file.proofs.Shape.{shape-count, shape-filePlaceAt}
 use Rattle.file.proofs.ReaderLaws.{becomes-decoded}
@@ -20,7 +20,7 @@ use Rattle.cluster.specs.Rules.Slaves.{isUnnamed, epochRaised}
 use Rattle.cluster.specs.Rules.Multipartner.{sentBy, sentIn, receivedIn, clusterBelow, sentDuring}
 use Rattle.cluster.specs.Rules.Round.{multipartnerEffect}
 use Rattle.cluster.specs.Inner.Carried.{Carried}
-use Rattle.cluster.specs.Inner.Slots.{slotsEffect, mostSlaves, entriesIn, RoundFilesAre, EntriesWithin, openFrom, actSends, actStores, isSender, storedBelow, StoresWithin}
+use Rattle.cluster.specs.Inner.Slots.{slotsEffect, entriesIn, RoundFilesAre, EntriesWithin, openFrom, actSends, actStores, isSender, storedBelow, StoresWithin}
 use Rattle.cluster.specs.declared.multipartner.SlotAct.{SlotAct}
 use Rattle.cluster.specs.declared.multipartner.SlotAct.the-variants as Acts
 use Rattle.cluster.proofs.Bus.{busByte-byte, mask-below, mask-next, mask-silent, Filled, filled-length, filled-start, filled-next, filled-done}
@@ -29,7 +29,7 @@ use Rattle.cluster.proofs.Untouched.{filesOf-slave, received-other}
 use Rattle.cluster.proofs.StoreLaws.{stored-length, receivedBy, received-all, stored-becomes}
 use Rattle.cluster.proofs.OpenLaws.{actor, Rest, OpenAt, OpenAll, open-start, open-within, open-next, open-set, open-later}
 use Rattle.cluster.proofs.SearchLaws.{RoundActIs, Searching, searching-start}
-use Rattle.cluster.proofs.HearLaws.{someone, someone-yes, someone-no, Hearing, hearing-start, hearing-next, heard-byte, heard-any, heard-aims, aims-within}
+use Rattle.cluster.proofs.HearLaws.{someone, someone-yes, someone-no, SlotHearing, slot-hearing-start, slot-hearing-next, heard-byte, heard-any, heard-aims, aims-within}
 
 -- ---- the round files stay where and what they are
 
@@ -107,10 +107,10 @@ module _ {f : List ℕ} {round count slot : ℕ} {starts ends : List ℕ} (r : R
 -- the first n slaves are heard, and the entries that each still has to look at are known
 pub record SlotHeard (f : List ℕ) (round count slot n bus : ℕ) (heard : Bool) (starts ends stores : List ℕ) : Type 0 where
   pub ready : Ready f round count slot starts ends
-  pub hearing : Hearing (decode f) round slot n bus heard stores
+  pub hearing : SlotHearing (decode f) round slot n bus heard stores
 
 pub heard-none : {f : List ℕ} {round count slot : ℕ} {starts ends stores : List ℕ} → Ready f round count slot starts ends → length stores ≡ mostSlaves → SlotHeard f round count slot 0 255 false starts ends stores
-heard-none {f} {round} {slot = slot} r room = record { ready = r; hearing = hearing-start (decode f) round slot room }
+heard-none {f} {round} {slot = slot} r room = record { ready = r; hearing = slot-hearing-start (decode f) round slot room }
 
 module _ {f : List ℕ} {round count slot n bus : ℕ} {heard : Bool} {starts ends stores : List ℕ} (h : SlotHeard f round count slot n bus heard starts ends stores) where
   module _ (more : n < count) where
@@ -137,7 +137,7 @@ module _ {f : List ℕ} {round count slot n bus : ℕ} {heard : Bool} {starts en
           let r = h .ready in
           record {
             ready = record { becomes = r .becomes; low = r .low; all = r .all; files = open-set (r .files) n (omega (arith, there, r .becomes .legal .count)) open-from-there };
-            hearing = hearing-next (h .hearing) there does (r .becomes .legal .count) byte any aim;
+            hearing = slot-hearing-next (h .hearing) there does (r .becomes .legal .count) byte any aim;
           }
 
   -- what `store` asks
@@ -211,7 +211,7 @@ module _ {f₀ : List ℕ} {round firework count : ℕ} {starts ends stores₀ o
   next-cluster = below-next round (decode f₀) slot ∙ rw (← (h .after .decoded), now-sent)
 
   module _ {n bus : ℕ} {heard : Bool} {stores after : List ℕ} (more : slot < slots) (heardAll : SlotHeard file round count slot n bus heard after ends stores) (over : count ≤ n) where
-    q : Hearing (decode file) round slot n bus heard stores
+    q : SlotHearing (decode file) round slot n bus heard stores
     q = heardAll .hearing
 
     left : length (decode file .slaves) ≤ n

@@ -5,7 +5,7 @@ use native.Mathlib.Omega.{arith}
 use native.Mathlib.Numerals.{add-one}
 use mathlib.Core.Path.{_≡_, refl, sym, ap, _∙_}
 use mathlib.Core.Logic.{_≢_}
-use mathlib.Core.List.{List, [], _∷_, map}
+use mathlib.Core.List.{List, map}
 use mathlib.Core.Bool.{true, cond}
 use lib.ListN.{length, getD, set, length-set}
 use lib.Dec.{eqb}
@@ -16,11 +16,11 @@ use Rattle.file.specs.Rules.Layout.{recordSize}
 use Rattle.file.specs.Rules.Cluster.{Slave, Cluster, bytesIn, documentation}
 use Rattle.file.specs.Rules.Encode.{encode}
 use Rattle.file.specs.Rules.Legal.{Legal}
-use Rattle.file.specs.Inner.Places.{noSlave, slaveOf, filePlace, putByte, SameShape, noSlaves, sameSlave}
+use Rattle.file.specs.Inner.Places.{noSlave, slaveOf, filePlace, putByte, SameShape}
 use Rattle.file.specs.Rules.Changes.{putInSlave, withSlaves}
 use Rattle.file.specs.Inner.Accepted.{Becomes}
 use Rattle.file.proofs.Order.{byCase, both-left, both-right}
-use Rattle.file.proofs.Shape.{shape-refl, shape-filePlaceAt}
+use Rattle.file.proofs.Shape.{shape-filePlaceAt}
 use Rattle.file.proofs.Stores.{store-byte}
 use Rattle.file.proofs.Kept.{legal-putByte}
 use Rattle.file.proofs.Accepted.{legal-becomes}
@@ -29,6 +29,7 @@ use Rattle.cluster.specs.Rules.Entries.{Entry, Acting, acts, acting, byt
 use Rattle.cluster.specs.Rules.Multipartner.{SlaveByte, nowhere, byteOf, within, mayStore, storePlace, storesAt, storedThere}
 use Rattle.cluster.specs.Inner.Slots.{placeIn, storedBelow}
 use Rattle.cluster.proofs.Kept.{SlaveKept, storesAt-stores, stored-kept}
+use Rattle.cluster.proofs.Changing.{firstChanged, changed-all, changed-next, changed-same, changed-at, changed-shape}
 
 -- ---- the loop
 
@@ -92,45 +93,6 @@ pub storesAt-lands : (round slot : ℕ) (s : Slave) → Lands s (storesAt round 
 unfolding storesAt
 storesAt-lands round slot s =
     byCase (isUnnamed s) (λ t. rw t stays) (λ t. rw t (store-lands s slot (acting (bytesIn s round) slot)))
-
--- ---- the first n slaves changed
-
-unfoldable pub firstChanged : (Slave → Slave) → ℕ → List Slave → List Slave
-firstChanged f zero ss = ss
-firstChanged f (suc n) [] = []
-firstChanged f (suc n) (s ∷ ss) = f s ∷ firstChanged f n ss
-
-module _ (f : Slave → Slave) where
-  changed-all : (ss : List Slave) → firstChanged f (length ss) ss ≡ map f ss
-  unfolding firstChanged
-  changed-all [] = refl
-  changed-all (s ∷ ss) = ap (λ (l : List Slave). f s ∷ l) (changed-all ss)
-
-  changed-next : (ss : List Slave) (n : ℕ) → n < length ss → set (firstChanged f n ss) n (f (getD ss n noSlave)) ≡ firstChanged f (suc n) ss
-  unfolding firstChanged
-  changed-next [] n l = absurd (omega arith)
-  changed-next (s ∷ ss) zero l = refl
-  changed-next (s ∷ ss) (suc n) l = ap (λ (x : List Slave). f s ∷ x) (changed-next ss n (omega arith))
-
-  changed-same : (ss : List Slave) (n : ℕ) → f (getD ss n noSlave) ≡ getD ss n noSlave → firstChanged f n ss ≡ firstChanged f (suc n) ss
-  unfolding firstChanged
-  changed-same [] zero e = refl
-  changed-same [] (suc n) e = refl
-  changed-same (s ∷ ss) zero e = ap (λ (x : Slave). x ∷ ss) (sym e)
-  changed-same (s ∷ ss) (suc n) e = ap (λ (x : List Slave). f s ∷ x) (changed-same ss n e)
-
-  changed-at : (ss : List Slave) (n : ℕ) → getD (firstChanged f n ss) n noSlave ≡ getD ss n noSlave
-  unfolding firstChanged
-  changed-at [] zero = refl
-  changed-at [] (suc n) = refl
-  changed-at (s ∷ ss) zero = refl
-  changed-at (s ∷ ss) (suc n) = changed-at ss n
-
-  changed-shape : ((s : Slave) → SlaveKept s (f s)) → (n : ℕ) (ss : List Slave) → SameShape ss (firstChanged f n ss)
-  unfolding firstChanged
-  changed-shape keeps zero ss = shape-refl ss
-  changed-shape keeps (suc n) [] = noSlaves
-  changed-shape keeps (suc n) (s ∷ ss) = sameSlave (keeps s .files) (changed-shape keeps n ss)
 
 -- ---- the file after the stores
 

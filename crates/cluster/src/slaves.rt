@@ -50,13 +50,13 @@ fn is_addressed(name: LogicalName, own: LogicalName) -> bool
 fn is_read(name: LogicalName, own: LogicalName) -> bool
     ensures { λ r. ⌜ r ≡ both (addresses (nameIn name) (nameIn own)) (not (eqb (nameIn own) unnamed)) ⌝ }
 {
-    if own.0 == LogicalName::UNNAMED.0 {
-        return false;
+    if own.0 == name.0 {
+        return own.0 != LogicalName::UNNAMED.0;
     }
     if name.0 == LogicalName::BROADCAST.0 {
-        return true;
+        return own.0 != LogicalName::UNNAMED.0;
     }
-    own.0 == name.0
+    false
 }
 
 // The same for a compare: none at broadcast.

@@ -2,23 +2,28 @@
 -- slave has, by the places of their files.
 -- Assumes nothing.
 use Prim.Native.Nat.{ℕ, suc, _+_, _*_, _≤_, _<_}
-use mathlib.Core.Path.{_≡_}
+use mathlib.Core.Path.{_≡_, sym, _∙_}
+use mathlib.Core.Bool.{Bool, true, false}
 use mathlib.Core.List.{List}
 use native.Mathlib.Omega.{arith}
-use borrow.Author.Tests.{le-leb}
+use borrow.Author.Tests.{le-leb, leb-true, eqb-true, eq-eqb, ne-eqb}
+use lib.Dec.{eqb, leb}
 use lib.ListN.{length, getD}
 use mir.Syntax.{w64}
 use mir.Val.{Fits}
+use Rattle.file.specs.Rules.Order.{both}
 use Rattle.file.specs.Rules.Layout.{recordSize, neededConfiguration, neededDocumentation}
 use Rattle.file.specs.Rules.Cluster.{Cluster, bytesIn, hasRecord, configuration, documentation}
 use Rattle.file.specs.Rules.Decode.{decode}
 use Rattle.file.specs.Inner.Places.{slaveOf, filePlace, configurationIndex, documentationIndex}
-use Rattle.file.specs.Inner.Accepted.{Becomes, AcceptedFile, slaveCount, Placed, fileFound, findFile, findRecord}
+use Rattle.file.specs.Inner.Accepted.{Becomes, AcceptedFile, slaveCount, Placed, fileFound, findFile, findRecord, isDocumented}
 use Rattle.file.specs.Inner.Answers.{foundFile, foundRecord}
 use Rattle.file.specs.declared.readers.FileBytes.{FileBytes}
 use Rattle.file.specs.declared.readers.FilePlace.{FilePlace}
 use Rattle.file.specs.declared.readers.FilePlace.the-variants.{Bytes, NoFile}
 use Rattle.file.specs.declared.readers.RecordPlace.the-variants.{At, NoRecord}
+use Rattle.file.proofs.Order.{both-left, both-right, both-next, both-false-left}
+use Rattle.file.proofs.PlaceLaws.{documentation-record-fits}
 use Rattle.file.proofs.ReaderLaws.{length-limit, configuration-room, documentation-room, record-missing, record-past, record-found, found-within}
 
 module _ (c : Cluster) (s n : ℕ) {r : FilePlace} (is : foundFile r ≡ findFile c s n) where
@@ -62,3 +67,23 @@ module _ {f places : List ℕ} (p : Placed f places) {s n r : ℕ} (there : s < 
 
   pub documentation-found : n ≡ documentation → r ≤ neededDocumentation → foundRecord (At (getD places (documentationIndex s) 0 + recordSize * r)) ≡ findRecord (decode f) s n r
   documentation-found same less = needed-found (decode f) s neededDocumentation same (p .at .document s there) (documentation-room (p .file) s there) less
+
+module _ {f places : List ℕ} (p : Placed f places) {s : ℕ} (n r : ℕ) (there : s < slaveCount f) {t : Bool} (is : t ≡ isDocumented n r) (yes : t ≡ true) where
+  few : r ≤ neededDocumentation
+  unfolding isDocumented
+  few = leb-true r neededDocumentation (both-right _ _ (sym is ∙ yes))
+
+  pub documented-found : foundRecord (At (getD places (documentationIndex s) 0 + recordSize * r)) ≡ findRecord (decode f) s n r
+  unfolding isDocumented
+  documented-found = documentation-found p there (eqb-true n documentation (both-left _ _ (sym is ∙ yes))) few
+
+  pub documented-fits : Fits w64 (getD places (documentationIndex s) 0 + recordSize * r)
+  documented-fits = documentation-record-fits p s there r few
+
+pub not-documented : {n : ℕ} (r : ℕ) → (n ≡ documentation → ⊥) → false ≡ isDocumented n r
+unfolding isDocumented
+not-documented {n} r other = sym (both-false-left (leb r neededDocumentation) (ne-eqb n documentation other))
+
+pub documented-by : {n : ℕ} (r : ℕ) → n ≡ documentation → leb r neededDocumentation ≡ isDocumented n r
+unfolding isDocumented
+documented-by {n} r same = sym (both-next (leb r neededDocumentation) (eq-eqb n documentation same))

@@ -6,7 +6,7 @@ ghost use Rattle.file.specs.Rules.Cluster.{logicalName, physicalName, co
 ghost use Rattle.file.specs.Rules.Decode.{decode};
 ghost use Rattle.file.specs.Inner.Places.{slaveOf};
 ghost use Rattle.file.specs.Inner.Typed.{fileIn, recordIn, nameIn, operationIn};
-ghost use Rattle.file.specs.Inner.Accepted.{AcceptedFile, slaveCount, Placed, PendingIs, findFile, findRecord};
+ghost use Rattle.file.specs.Inner.Accepted.{AcceptedFile, slaveCount, Placed, PendingIs, findFile, findRecord, isDocumented};
 ghost use Rattle.file.specs.Inner.Checked.{EntriesFit, searchDirectory};
 ghost use Rattle.file.specs.Inner.Answers.{foundFile, foundRecord};
 use crate::layout::COMPARISON_VALUE_PLACE;
@@ -194,6 +194,16 @@ pub fn write_place(
     find_record(file, slave, number, record)
 }
 
+// Whether a record is one of 0x3D that every slave has: one test, which a loop along the slaves makes once.
+fn is_documented(number: FileNumber, record: RecordNumber) -> bool
+    ensures { λ r. ⌜ r ≡ isDocumented (fileIn number) (recordIn «record») ⌝ }
+{
+    if number.0 != FileNumber::DOCUMENTATION.0 {
+        return false;
+    }
+    record.0 <= NEEDED_DOCUMENTATION
+}
+
 // The same, for a record that is to be read: those of 0x3D that every slave has need none either.
 pub fn read_place(
     file: &[u8],
@@ -205,11 +215,9 @@ pub fn read_place(
     requires { ⌜ Placed (now file) (now places) × (slave < slaveCount (now file)) ⌝ }
     ensures { λ r. ⌜ foundRecord r ≡ findRecord (decode (now (file .entry))) slave (fileIn number) (recordIn «record») ⌝ }
 {
-    if number.0 == FileNumber::DOCUMENTATION.0 {
-        if record.0 <= NEEDED_DOCUMENTATION {
-            let place = places[PLACES_EACH * slave + 1] as usize;
-            return RecordPlace::At(place + RECORD_SIZE * (record.0 as usize));
-        }
+    if is_documented(number, record) {
+        let place = places[PLACES_EACH * slave + 1] as usize;
+        return RecordPlace::At(place + RECORD_SIZE * (record.0 as usize));
     }
     write_place(file, places, slave, number, record)
 }

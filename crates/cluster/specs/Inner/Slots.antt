@@ -5,9 +5,9 @@ use mathlib.Core.List.{List, [], _∷_}
 use mathlib.Core.Bool.{Bool, true, false, cond}
 use lib.ListN.{length, getD, set}
 use lib.Dec.{eqb}
-use Rattle.file.specs.Rules.Layout.{offsetWidth, maxSlaves, recordSize}
+use Rattle.file.specs.Rules.Layout.{recordSize}
 use Rattle.file.specs.Rules.Cluster.{Slave, Cluster, bytesIn, lastRecord}
-use Rattle.file.specs.Inner.Places.{slaveOf, filePlace}
+use Rattle.file.specs.Inner.Places.{mostSlaves, slaveOf, filePlace}
 use Rattle.cluster.specs.Rules.Bus.{slots}
 use Rattle.cluster.specs.Rules.Slaves.{isUnnamed}
 use Rattle.cluster.specs.Rules.Entries.{Entry, entryThere, Acting, bytePlace}
@@ -22,10 +22,6 @@ use Rattle.cluster.specs.declared.multipartner.SlotAct.the-variants.{Sen
 -- a multipartner round whose epoch is raised already
 unfoldable pub slotsEffect : Cluster → ℕ → Effect
 slotsEffect c round = record { senders = sentDuring round c; after = clusterBelow round c slots }
-
--- the slaves that a file may have
-abbrev pub mostSlaves : ℕ
-mostSlaves = maxSlaves offsetWidth
 
 -- ---- each slave's round file: "Round r runs file r of each slave not unnamed; others take no part."
 

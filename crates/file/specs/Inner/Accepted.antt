@@ -2,10 +2,11 @@
 use Prim.Native.Nat.{ℕ, _+_, _*_, _<_}
 use mathlib.Core.Path.{_≡_}
 use mathlib.Core.List.{List}
-use mathlib.Core.Bool.{cond}
+use mathlib.Core.Bool.{Bool, cond}
 use lib.ListN.{length, getD}
-use lib.Dec.{eqb}
-use Rattle.file.specs.Rules.Layout.{recordSize}
+use lib.Dec.{eqb, leb}
+use Rattle.file.specs.Rules.Order.{both}
+use Rattle.file.specs.Rules.Layout.{recordSize, neededDocumentation}
 use Rattle.file.specs.Rules.Cluster.{Cluster, bytesIn, hasRecord, configuration, documentation, fileNumberOf, operationOf}
 use Rattle.file.specs.Rules.Encode.{encode}
 use Rattle.file.specs.Rules.Decode.{decode}
@@ -61,3 +62,7 @@ pub data FoundRecord : Type 0 where
 
 unfoldable pub findRecord : Cluster → ℕ → ℕ → ℕ → FoundRecord
 findRecord c s n r = cond (hasRecord (slaveOf c s) n r) (recordAt (filePlace c s n + recordSize * r)) noRecord
+
+-- a record of 0x3D that every slave has
+unfoldable pub isDocumented : ℕ → ℕ → Bool
+isDocumented n r = both (eqb n documentation) (leb r neededDocumentation)

@@ -6,7 +6,7 @@ use mathlib.Core.List.{List, [], _∷_}
 use mathlib.Core.Bool.{cond}
 use lib.ListN.{length, getD, set}
 use lib.Dec.{eqb}
-use Rattle.file.specs.Rules.Layout.{offsetWidth, entrySize}
+use Rattle.file.specs.Rules.Layout.{offsetWidth, entrySize, maxSlaves}
 use Rattle.file.specs.Rules.Cluster.{File, Slave, Cluster}
 use Rattle.file.specs.Rules.Encode.{slaveSize, slavesPlace}
 use Rattle.file.specs.Rules.Changes.{putInSlave, withSlaves}
@@ -36,6 +36,10 @@ filePlaceAt w c s n = filePlaceFrom w (slavesPlace w (c .slaves)) (c .slaves) s 
 -- edition 1: where the cluster's encoding keeps file n of slave s
 unfoldable pub filePlace : Cluster → ℕ → ℕ → ℕ
 filePlace c s n = filePlaceAt offsetWidth c s n
+
+-- the slaves that a file may have, in edition 1
+abbrev pub mostSlaves : ℕ
+mostSlaves = maxSlaves offsetWidth
 
 -- a list of places has a slave's two together: that of 0x08, then that of 0x3D
 abbrev pub placesEach : ℕ
