@@ -193,8 +193,8 @@ static int first_with(const char *text)
 static void texts(void)
 {
     static const char *const words[] = {
-        "accepted",  "32,768",        "mark",   "edition",    "as long as",  "header", "layout",
-        "0x3D",      "physical name", "buffer", "firework",   "length",      "check",  "operation",
+        "accepted",  "32,768",        "mark",   "edition",    "as long as",  "header",       "layout",
+        "0x3D",      "physical name", "buffer", "firework",   "length",      "firework and", "operation",
         "a read is", "0xFF",          "twice",  "naming run", "file number",
     };
     const int known = sizeof words / sizeof words[0];
@@ -239,9 +239,9 @@ static void files(void)
 
 static void written_addresses(void)
 {
-    static const uint8_t m1[] = {0x55, 0x05, 0xFF, 0x22, 0x02, 0xDA};
-    static const uint8_t m2[] = {0x55, 0x00, 0xFF, 0x21, 0x01, 0xDF};
-    static const uint8_t m4[] = {0x55, 0x02, 0x01, 0xF4, 0x01, 0xF6};
+    static const uint8_t m1[] = {0x55, 0x05, 0xFF, 0x22, 0x02, 0x8F};
+    static const uint8_t m2[] = {0x55, 0x00, 0xFF, 0x21, 0x01, 0x8A};
+    static const uint8_t m4[] = {0x55, 0x02, 0x01, 0xF4, 0x01, 0xA3};
     uint8_t frame[TTPA_FRAME_BYTES + 1];
     memset(frame, OLD, sizeof frame);
     EXPECT(ttpa_write_address(frame, sizeof frame, 5, TTPA_NAME_UNNAMED, TTPA_FILE_CONFIGURATION,
@@ -269,8 +269,8 @@ static void refused_addresses(void)
 
 static void data_frames(void)
 {
-    static const uint8_t m3[] = {0x49, 0x00, 0x00, 0x01, 0xFF, 0xFE};
-    static const uint8_t four_bytes[] = {0x49, 0x12, 0x34, 0x56, 0x7F, 0x0F};
+    static const uint8_t m3[] = {0x49, 0x00, 0x00, 0x01, 0xFF, 0xB7};
+    static const uint8_t four_bytes[] = {0x49, 0x12, 0x34, 0x56, 0x7F, 0x46};
     uint8_t frame[TTPA_FRAME_BYTES + 1];
     memset(frame, OLD, sizeof frame);
     EXPECT(ttpa_write_data(NULL, 0, 1, 2, 3, 4) == TTPA_REFUSED_SHORT_BUFFER);
@@ -284,11 +284,11 @@ static void data_frames(void)
 
 static void read_addresses(void)
 {
-    static const uint8_t m1[] = {0x55, 0x05, 0xFF, 0x22, 0x02, 0xDA, 0x00};
-    static const uint8_t m5[] = {0x55, 0x05, 0xFF, 0x22, 0x02, 0xDB};
-    static const uint8_t operation_3[] = {0x55, 0x05, 0x00, 0x23, 0x02, 0x24};
-    static const uint8_t broadcast_read[] = {0x55, 0x05, 0x00, 0x20, 0x02, 0x27};
-    static const uint8_t data[] = {0x49, 0x00, 0x00, 0x01, 0xFF, 0xFE};
+    static const uint8_t m1[] = {0x55, 0x05, 0xFF, 0x22, 0x02, 0x8F, 0x00};
+    static const uint8_t m5[] = {0x55, 0x05, 0xFF, 0x22, 0x02, 0x8E};
+    static const uint8_t operation_3[] = {0x55, 0x05, 0x00, 0x23, 0x02, 0x71};
+    static const uint8_t broadcast_read[] = {0x55, 0x05, 0x00, 0x20, 0x02, 0x72};
+    static const uint8_t data[] = {0x49, 0x00, 0x00, 0x01, 0xFF, 0xB7};
     uint8_t parts[TTPA_ADDRESS_PARTS + 1];
     memset(parts, OLD, sizeof parts);
     EXPECT(ttpa_read_address(NULL, 0, parts) == TTPA_REFUSED_FIREWORK);
@@ -317,7 +317,7 @@ static uint8_t send(const uint8_t *frame, size_t bytes)
 /* The comparison with 0, at which both slaves answer 0x00 in slot 1. */
 static void master_slave(void)
 {
-    static const uint8_t m1[] = {0x55, 0x05, 0xFF, 0x22, 0x02, 0xDA};
+    static const uint8_t m1[] = {0x55, 0x05, 0xFF, 0x22, 0x02, 0x8F};
     static const uint8_t data[] = {TTPA_FIREWORK_MSD};
     static const uint8_t pending[] = {0x05, 0x01, 0xFF, 0x22, 0x02};
     renew();
@@ -352,9 +352,9 @@ static void fireworks(void)
 
 static void refused_rounds(void)
 {
-    static const uint8_t m5[] = {0x55, 0x05, 0xFF, 0x22, 0x02, 0xDB};
-    static const uint8_t operation_3[] = {0x55, 0x05, 0x00, 0x23, 0x02, 0x24};
-    static const uint8_t broadcast_read[] = {0x55, 0x05, 0x00, 0x20, 0x02, 0x27};
+    static const uint8_t m5[] = {0x55, 0x05, 0xFF, 0x22, 0x02, 0x8E};
+    static const uint8_t operation_3[] = {0x55, 0x05, 0x00, 0x23, 0x02, 0x71};
+    static const uint8_t broadcast_read[] = {0x55, 0x05, 0x00, 0x20, 0x02, 0x72};
     renew();
     EXPECT(ttpa_round(NULL, 0, NULL, 0, NULL, 0, &senders) == TTPA_REFUSED_FILE_SIZE);
     EXPECT(ttpa_round(cluster, sizeof cluster - 1, NULL, 0, NULL, 0, &senders) == TTPA_REFUSED_LENGTH_FIELD);
@@ -369,6 +369,23 @@ static void refused_rounds(void)
     EXPECT(send(broadcast_read, sizeof broadcast_read) == TTPA_REFUSED_BROADCAST_READ);
     EXPECT(senders == OLD_SENDERS && is_old(answer, sizeof answer));
     EXPECT(memcmp(cluster, m10, sizeof m10) == 0);
+}
+
+/* The exclusive or of the four bytes alone is no check, neither of an address nor of the data of a write. */
+static void checks_without_firework(void)
+{
+    static const uint8_t m2[] = {0x55, 0x00, 0xFF, 0x21, 0x01, 0x8A};
+    static const uint8_t address[] = {0x55, 0x00, 0xFF, 0x21, 0x01, 0xDF};
+    static const uint8_t data[] = {0x49, 0x00, 0x00, 0x01, 0xFF, 0xFE};
+    uint8_t parts[TTPA_ADDRESS_PARTS];
+    uint8_t pending[sizeof cluster];
+    EXPECT(ttpa_read_address(address, sizeof address, parts) == TTPA_REFUSED_CHECK_BYTE);
+    renew();
+    EXPECT(send(address, sizeof address) == TTPA_REFUSED_CHECK_BYTE);
+    EXPECT(send(m2, sizeof m2) == TTPA_ACCEPTED);
+    memcpy(pending, cluster, sizeof pending);
+    EXPECT(send(data, sizeof data) == TTPA_REFUSED_CHECK_BYTE);
+    EXPECT(memcmp(cluster, pending, sizeof pending) == 0);
 }
 
 /* ---- naming */
@@ -479,6 +496,7 @@ int main(void)
     master_slave();
     fireworks();
     refused_rounds();
+    checks_without_firework();
     starts();
     one_name();
     all_names();

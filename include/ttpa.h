@@ -30,7 +30,7 @@ extern "C" {
 /* The version of this header and of the library made from the same sources. The archive does not carry it:
  * keep the two together. */
 #define TTPA_VERSION_MAJOR 0
-#define TTPA_VERSION_MINOR 1
+#define TTPA_VERSION_MINOR 2
 #define TTPA_VERSION_PATCH 0
 
 /* What the library takes: code and constants of all calls, and the most stack that a call uses, with its
@@ -96,7 +96,7 @@ static inline const char *ttpa_refusal_text(uint8_t number)
     case TTPA_REFUSED_FRAME_LENGTH:
         return "the frame's length does not fit its firework: 6 for an address or written data, else 1";
     case TTPA_REFUSED_CHECK_BYTE:
-        return "the frame's check byte does not fit the four bytes before it";
+        return "the frame's check byte does not fit the firework and the four bytes before it";
     case TTPA_REFUSED_OPERATION:
         return "the address frame's operation is none of read, write and execute";
     case TTPA_REFUSED_BROADCAST_READ:
@@ -123,7 +123,11 @@ static inline const char *ttpa_refusal_text(uint8_t number)
 
 /* The fireworks: a frame's first byte tells its round. MSA opens an address frame, MSD the data frame after
  * it, which has 6 bytes for a write and else this byte alone. The others are the multipartner rounds, whose
- * frame is this byte alone. */
+ * frame is this byte alone.
+ *
+ * The check byte, the last of 6, is the exclusive or of the firework and the four bytes between them. A slave
+ * that answers a read sends a record in slots 1 to 4 and its check, over MSD and these four bytes, in slot 5.
+ * Where several answer, each slot, slot 5 too, holds the bitwise and of what they send. */
 #define TTPA_FIREWORK_ROUND_0 0x78
 #define TTPA_FIREWORK_MSD 0x49
 #define TTPA_FIREWORK_ROUND_2 0xBA

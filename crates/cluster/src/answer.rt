@@ -25,7 +25,7 @@ pub const FIREWORK_SLOT: usize = 0;
 
 pub const FIRST_SLOT: usize = 1;
 
-// A record's reply: "its four bytes in slots 1 to 4 and their exclusive or in slot 5".
+// A record's reply: "its four bytes in slots 1 to 4", and their check in slot 5.
 const B0_SLOT: usize = FIRST_SLOT;
 
 const B1_SLOT: usize = FIRST_SLOT + 1;

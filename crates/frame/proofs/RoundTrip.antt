@@ -10,7 +10,7 @@ use Rattle.file.specs.Rules.Bytes.{Bytes}
 use Rattle.file.specs.Rules.Cluster.{fileNumberOf, operationOf, pb2Of, readOperation, writeOperation, executeOperation}
 use Rattle.file.specs.Rules.Order.{firstOf, both, either}
 use Rattle.file.specs.Rules.Results.{refused, done, resultOf}
-use Rattle.frame.specs.Rules.Check.{exclusiveOr, addressCheck, dataCheck}
+use Rattle.frame.specs.Rules.Check.{exclusiveOr, checkOf, addressCheck, dataCheck}
 use Rattle.frame.specs.Rules.Frames.{frameSize, frameOf, addressBytes, addressFrame, dataFrame}
 use Rattle.frame.specs.Rules.Grounds.{shortFrameBuffer, noAddress, wrongFrameLength, wrongCheck, noOperation, broadcastRead, noFileNumber}
 use Rattle.frame.specs.Rules.Reading.{Parts, parts, partsOf, readGround, readAddress}
@@ -58,7 +58,8 @@ read-writes frame buffer {epoch} {name} {file} {operation} {«record»} bytes ac
     (address-writes buffer _ _ _ _ _ w ∙
     ap (λ (l : List ℕ). (done tt, l ++ drop frameSize buffer)) (frame-of-parts frame a))
 
--- The cases M1 to M5 of document 01, "Fireworks and frames".
+-- The cases M1 to M5 of document 01, "Fireworks and frames", with the last bytes of request 1: "Cases M1 to M4 get new last bytes and
+-- M5 ends 8E".
 abbrev sixZeros : List ℕ
 sixZeros = 0 ∷ 0 ∷ 0 ∷ 0 ∷ 0 ∷ 0 ∷ []
 
@@ -68,20 +69,20 @@ pub record ReadAndWritten (frame : List ℕ) (epoch name file operation «record
   pub writes : writeAddress sixZeros epoch name file operation «record» ≡ (done tt, frame)
 
 pub record FrameCases : Type 0 where
-  -- "execute 0x08 record 2 at 0xFF, epoch 5: 55 05 FF 22 02 DA"
-  pub m1 : ReadAndWritten (0x55 ∷ 0x05 ∷ 0xFF ∷ 0x22 ∷ 0x02 ∷ 0xDA ∷ []) 5 0xFF 0x08 executeOperation 2
-  -- "write 0x08 record 1 at 0xFF, epoch 0: 55 00 FF 21 01 DF"
-  pub m2 : ReadAndWritten (0x55 ∷ 0x00 ∷ 0xFF ∷ 0x21 ∷ 0x01 ∷ 0xDF ∷ []) 0 0xFF 0x08 writeOperation 1
-  -- "its data for name 1: 49 00 00 01 FF FE"
-  pub m3 : writeData sixZeros (0x00 ∷ 0x00 ∷ 0x01 ∷ 0xFF ∷ []) ≡ (done tt, 0x49 ∷ 0x00 ∷ 0x00 ∷ 0x01 ∷ 0xFF ∷ 0xFE ∷ [])
-  -- "read 0x3D record 1 at 1, epoch 2: 55 02 01 F4 01 F6"
-  pub m4 : ReadAndWritten (0x55 ∷ 0x02 ∷ 0x01 ∷ 0xF4 ∷ 0x01 ∷ 0xF6 ∷ []) 2 1 0x3D readOperation 1
-  -- "M1 ending DB is refused, 12"
-  pub m5 : readAddress (0x55 ∷ 0x05 ∷ 0xFF ∷ 0x22 ∷ 0x02 ∷ 0xDB ∷ []) ≡ refused 12
+  -- "execute 0x08 record 2 at 0xFF, epoch 5: 55 05 FF 22 02 8F"
+  pub m1 : ReadAndWritten (0x55 ∷ 0x05 ∷ 0xFF ∷ 0x22 ∷ 0x02 ∷ 0x8F ∷ []) 5 0xFF 0x08 executeOperation 2
+  -- "write 0x08 record 1 at 0xFF, epoch 0: 55 00 FF 21 01 8A"
+  pub m2 : ReadAndWritten (0x55 ∷ 0x00 ∷ 0xFF ∷ 0x21 ∷ 0x01 ∷ 0x8A ∷ []) 0 0xFF 0x08 writeOperation 1
+  -- "its data for name 1: 49 00 00 01 FF B7"
+  pub m3 : writeData sixZeros (0x00 ∷ 0x00 ∷ 0x01 ∷ 0xFF ∷ []) ≡ (done tt, 0x49 ∷ 0x00 ∷ 0x00 ∷ 0x01 ∷ 0xFF ∷ 0xB7 ∷ [])
+  -- "read 0x3D record 1 at 1, epoch 2: 55 02 01 F4 01 A3"
+  pub m4 : ReadAndWritten (0x55 ∷ 0x02 ∷ 0x01 ∷ 0xF4 ∷ 0x01 ∷ 0xA3 ∷ []) 2 1 0x3D readOperation 1
+  -- "M5 ends 8E"
+  pub m5 : readAddress (0x55 ∷ 0x05 ∷ 0xFF ∷ 0x22 ∷ 0x02 ∷ 0x8E ∷ []) ≡ refused 12
 
 pub frame-cases : FrameCases
 unfolding resultOf readAddress readGround partsOf writeAddress writeData writeGround dataGround writeFrame addressFrame dataFrame
-    addressBytes pb2Of frameOf addressCheck dataCheck exclusiveOr firstOf shortFrameBuffer noAddress wrongFrameLength wrongCheck noOperation broadcastRead noFileNumber either both
+    addressBytes pb2Of frameOf addressCheck dataCheck checkOf exclusiveOr firstOf shortFrameBuffer noAddress wrongFrameLength wrongCheck noOperation broadcastRead noFileNumber either both
 frame-cases = record {
   m1 = record { reads = refl; writes = refl };
   m2 = record { reads = refl; writes = refl };

@@ -11,7 +11,7 @@ use lib.Bits.{xor-lt}
 use Rattle.file.specs.Rules.Cluster.{fileNumberOf, operationOf, pb2Of}
 use Rattle.file.specs.Rules.Bytes.{allEmpty, allNext, Byte, Bytes}
 use Rattle.frame.specs.Rules.Fireworks.{addressFirework, dataFirework}
-use Rattle.frame.specs.Rules.Check.{exclusiveOr, addressCheck, dataCheck}
+use Rattle.frame.specs.Rules.Check.{exclusiveOr, checkOf, addressCheck, dataCheck}
 use Rattle.frame.specs.Rules.Frames.{frameSize, frameOf, between, addressBytes, addressFrame, dataFrame}
 use Rattle.frame.specs.Rules.Grounds.{noOperation, broadcastRead}
 use Rattle.frame.specs.Rules.Reading.{parts, readAddress}
@@ -54,13 +54,18 @@ unfolding exclusiveOr
 exclusive-or-byte allEmpty = omega arith
 exclusive-or-byte (allNext b bs) = xor-lt 8 _ _ b (exclusive-or-byte bs)
 
+-- with a firework folded in
+check-byte : {firework : ℕ} {bytes : List ℕ} → Byte firework → Bytes bytes → Byte (checkOf firework bytes)
+unfolding checkOf
+check-byte f bs = exclusive-or-byte (allNext f bs)
+
 pub address-check-byte : {bytes : List ℕ} → Bytes bytes → Byte (addressCheck bytes)
 unfolding addressCheck
-address-check-byte bs = exclusive-or-byte bs
+address-check-byte bs = check-byte (omega arith) bs
 
 pub data-check-byte : {bytes : List ℕ} → Bytes bytes → Byte (dataCheck bytes)
 unfolding dataCheck
-data-check-byte bs = exclusive-or-byte bs
+data-check-byte bs = check-byte (omega arith) bs
 
 frame-bytes : {firework check : ℕ} {bytes : List ℕ} → Byte firework → Bytes bytes → Byte check → Bytes (frameOf firework bytes check)
 unfolding frameOf

@@ -2,6 +2,8 @@
 
 use crate::files;
 use compare::engine::{Engine, RunWords};
+use compare::inputs::framed;
+use model::{MSA, MSD};
 use std::hint::black_box;
 
 /// The lines of the table.
@@ -75,18 +77,18 @@ impl Workload {
             }
             ["address", slaves] => Workload::Frame {
                 file: files::small(number(slaves)?, 2, |_| 0xFF),
-                frame: vec![0x55, 0x05, 0xFF, 0x22, 0x02, 0xDA],
+                frame: framed(MSA, [0x05, 0xFF, 0x22, 0x02]),
             },
             ["read", "one", "of", slaves] => {
-                pending(number(slaves)?, |slave| slave as u8 + 1, [0x11, 0x3D << 2, 1], &[0x49])
+                pending(number(slaves)?, |slave| slave as u8 + 1, [0x11, 0x3D << 2, 1], &[MSD])
             }
-            ["read", "all", slaves] => pending(number(slaves)?, |_| 0x11, [0x11, 0x3D << 2, 1], &[0x49]),
+            ["read", "all", slaves] => pending(number(slaves)?, |_| 0x11, [0x11, 0x3D << 2, 1], &[MSD]),
             ["write", "all", slaves] => {
-                pending(number(slaves)?, |_| 0xFF, [0xFF, 0x08 << 2 | 1, 2], &[0x49, 0x80, 0, 0, 0, 0x80])
+                pending(number(slaves)?, |_| 0xFF, [0xFF, 0x08 << 2 | 1, 2], &framed(MSD, [0x80, 0, 0, 0]))
             }
             ["execute", record, "all", slaves] => {
                 let record = number(record)? as u8;
-                pending(number(slaves)?, |_| 0xFF, [0xFF, 0x08 << 2 | 2, record], &[0x49])
+                pending(number(slaves)?, |_| 0xFF, [0xFF, 0x08 << 2 | 2, record], &[MSD])
             }
             ["partner", slaves, entries] => {
                 Workload::Frame { file: files::partners(number(slaves)?, number(entries)?), frame: vec![0xBA] }

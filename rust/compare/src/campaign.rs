@@ -3,14 +3,13 @@
 use crate::case::{Call, Outcome};
 use crate::engine::{Engine, Model};
 use crate::random::Random;
+use crate::sort::Sort;
 use crate::{clusters, inputs, runs};
 use std::collections::BTreeMap;
 
 /// Cases that are printed before the rest is only counted.
 const MOST_PRINTED: u64 = 10;
 const MOST_SAMPLED_CHARACTERS: usize = 2_000;
-/// One in so many of the rounds asked for has to be a multipartner round that stores.
-const ROUNDS_FOR_A_STORE: usize = 80;
 
 /// How many calls of each kind.
 pub struct Amounts {
@@ -79,8 +78,7 @@ pub struct Campaign<'a> {
     answers: BTreeMap<(&'static str, u8), u64>,
     /// Accepted rounds in which someone sent, by firework.
     heard: BTreeMap<u8, u64>,
-    /// Multipartner rounds that altered the file beyond its epoch.
-    stored: u64,
+    sorts: BTreeMap<Sort, u64>,
     /// Whole runs that ended "all named", and "names used up".
     pub ends: [u64; 2],
     /// How many cases of each sort to print.
@@ -97,7 +95,7 @@ impl<'a> Campaign<'a> {
             failed: 0,
             answers: BTreeMap::new(),
             heard: BTreeMap::new(),
-            stored: 0,
+            sorts: BTreeMap::new(),
             ends: [0; 2],
             sample: 0,
             sampled: BTreeMap::new(),
@@ -143,7 +141,7 @@ impl<'a> Campaign<'a> {
             runs::whole_run(self, &mut Random::from_seed(seed ^ 7 ^ (run as u64) << 8), slaves);
         }
         self.ends_reached();
-        self.stores_reached(amounts.rounds / ROUNDS_FOR_A_STORE);
+        self.sorts_reached(amounts.rounds);
         self.reached();
     }
 
@@ -240,13 +238,13 @@ impl<'a> Campaign<'a> {
 
     fn note(&mut self, call: &Call, expected: &Outcome) {
         *self.answers.entry((call.kind(), expected.number)).or_insert(0) += 1;
-        if let Call::Round { file, frame, .. } = call {
+        if let Call::Round { frame, .. } = call {
             if expected.mask() != 0 {
                 *self.heard.entry(frame[0]).or_insert(0) += 1;
             }
-            if inputs::is_multipartner(frame) && expected.alters_beyond_epoch(file) {
-                self.stored += 1;
-            }
+        }
+        if let Some(sort) = Sort::of(call, expected) {
+            *self.sorts.entry(sort).or_insert(0) += 1;
         }
         self.print_sample(call, expected);
     }
@@ -278,11 +276,15 @@ impl<'a> Campaign<'a> {
         }
     }
 
-    /// Multipartner rounds must have stored what was sent, so many at least.
-    fn stores_reached(&mut self, least: usize) {
-        println!("multipartner rounds that stored: {}", self.stored);
-        if self.stored < least as u64 {
-            self.differ(&format!("fewer than {least} multipartner rounds stored"), "inputs too tame");
+    /// Calls of every sort must have been made, so many at least.
+    fn sorts_reached(&mut self, rounds: usize) {
+        for (sort, rounds_for_one) in Sort::REACHED {
+            let count = *self.sorts.get(&sort).unwrap_or(&0);
+            let least = rounds / rounds_for_one;
+            println!("{}: {count}", sort.text());
+            if count < least as u64 {
+                self.differ(&format!("{}: fewer than {least}", sort.text()), "inputs too tame");
+            }
         }
     }
 

@@ -17,10 +17,19 @@ pub fn answer_length(random: &mut Random) -> usize {
     random.one_of(&[64, 64, 64, 64, 64, 64, 65, 70, 70, 0, 63])
 }
 
-/// The four bytes between firework and check, and the check.
-pub fn framed(firework: u8, bytes: [u8; 4]) -> Vec<u8> {
-    let check = bytes[0] ^ bytes[1] ^ bytes[2] ^ bytes[3];
-    vec![firework, bytes[0], bytes[1], bytes[2], bytes[3], check]
+/// The firework, the four bytes and their check, into which the firework is folded.
+pub fn framed(firework: u8, [a, b, c, d]: [u8; 4]) -> Vec<u8> {
+    vec![firework, a, b, c, d, firework ^ a ^ b ^ c ^ d]
+}
+
+/// The same with the check of the four bytes alone, which lacks the firework.
+pub fn unfolded(firework: u8, [a, b, c, d]: [u8; 4]) -> Vec<u8> {
+    vec![firework, a, b, c, d, a ^ b ^ c ^ d]
+}
+
+/// A frame of six bytes whose check lacks the firework.
+pub fn is_unfolded(frame: &[u8]) -> bool {
+    matches!(*frame, [firework, a, b, c, d, _] if frame == unfolded(firework, [a, b, c, d]))
 }
 
 /// An address frame that speaks of the cluster, with any operation.
@@ -75,13 +84,14 @@ pub fn frame(random: &mut Random, cluster: &Cluster) -> Vec<u8> {
 }
 
 fn damage(random: &mut Random, frame: &mut Vec<u8>) {
-    match random.below(4) {
-        0 => frame.push(random.byte()),
-        1 => {
+    match (random.below(5), &frame[..]) {
+        (0, _) => frame.push(random.byte()),
+        (1, _) => {
             frame.pop();
         }
-        2 if !frame.is_empty() => frame[0] = random.byte(),
-        _ if !frame.is_empty() => {
+        (2, &[firework, a, b, c, d, _]) => *frame = unfolded(firework, [a, b, c, d]),
+        (3, [_, ..]) => frame[0] = random.byte(),
+        (_, [_, ..]) => {
             let place = random.below(frame.len());
             frame[place] ^= 1 << random.below(8);
         }

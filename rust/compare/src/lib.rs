@@ -10,3 +10,4 @@ pub mod engine;
 pub mod inputs;
 pub mod random;
 pub mod runs;
+pub mod sort;

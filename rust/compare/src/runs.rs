@@ -103,8 +103,9 @@ impl WholeRun {
         match random.below(6) {
             0 => self.step(campaign, 63),
             1 => self.frame(campaign, inputs::framed(0x55, [1, 1, 3, 1]), 64),
-            2 => self.frame(campaign, vec![0x49, 0, 0, 0, 0, 1], 64),
+            2 => self.frame(campaign, inputs::unfolded(0x49, [0, 0, 0, 0]), 64),
             3 => self.frame(campaign, vec![0x78], 0),
+            4 => self.frame(campaign, inputs::unfolded(0x55, [1, 0xFF, 0x21, 1]), 64),
             _ => {}
         }
     }

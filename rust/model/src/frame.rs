@@ -152,21 +152,22 @@ fn broadcast_read(operation: Operation, name: LogicalName) -> bool {
     operation == Operation::Read && name == LogicalName::BROADCAST
 }
 
-/// "The check is the exclusive or of the four bytes between firework and check."
-pub(crate) fn check_byte(bytes: [u8; 4]) -> u8 {
-    bytes[0] ^ bytes[1] ^ bytes[2] ^ bytes[3]
+/// "the check of MSA, of MSD data and of a slave's read reply is the exclusive or of its round's firework (0x49
+/// for a read reply) and the four bytes" (document 02, request 1)
+pub(crate) fn check_byte(firework: u8, bytes: [u8; 4]) -> u8 {
+    bytes.into_iter().fold(firework, |check, byte| check ^ byte)
 }
 
 fn framed(firework: u8, bytes: [u8; 4]) -> [u8; FRAME_BYTES] {
-    [firework, bytes[0], bytes[1], bytes[2], bytes[3], check_byte(bytes)]
+    [firework, bytes[0], bytes[1], bytes[2], bytes[3], check_byte(firework, bytes)]
 }
 
 /// The bytes between firework and check of a frame of six bytes: grounds 11 and 12.
 fn four_bytes(frame: &[u8]) -> Result<[u8; 4], Refusal> {
-    let &[_, a, b, c, d, check] = frame else {
+    let &[firework, a, b, c, d, check] = frame else {
         return Err(Refusal(11));
     };
-    if check != check_byte([a, b, c, d]) {
+    if check != check_byte(firework, [a, b, c, d]) {
         return Err(Refusal(12));
     }
     Ok([a, b, c, d])

@@ -1,8 +1,9 @@
-//! Document 01 ("The TTP/A cluster tester: file, rounds and naming run") as plain safe Rust.
+//! Document 01 ("The TTP/A cluster tester: file, rounds and naming run"), with the requests of document 02
+//! that have landed, as plain safe Rust.
 //!
-//! Written from the document, in its order, for reading and not for speed: a cluster file is taken apart
-//! into a [`Cluster`], the rules work on slaves and records, and the cluster is written out again. The
-//! engine, which works on the bytes in place, shares nothing with it but the document.
+//! Written from the documents, in the order of document 01, for reading and not for speed: a cluster file is
+//! taken apart into a [`Cluster`], the rules work on slaves and records, and the cluster is written out again.
+//! The engine, which works on the bytes in place, shares nothing with it but the documents.
 
 #![forbid(unsafe_code)]
 

@@ -1,6 +1,6 @@
 //! "What slaves do": read, write and execute of addressed slaves.
 
-use crate::frame::check_byte;
+use crate::frame::{check_byte, MSD};
 use crate::round::Bus;
 use crate::{FileNumber, LogicalName, RecordNumber, Slave};
 
@@ -16,14 +16,14 @@ fn is_addressed(slave: &Slave, name: LogicalName) -> bool {
     }
 }
 
-/// "addressed slaves, never unnamed ones, that have the record send its four bytes in slots 1 to 4 and
-/// their exclusive or in slot 5"
+/// "addressed slaves, never unnamed ones, that have the record send its four bytes in slots 1 to 4" and the
+/// check in slot 5, each that of its own bytes
 pub fn read(slaves: &[Slave], name: LogicalName, file: FileNumber, record: RecordNumber, bus: &mut Bus) {
     for slave in slaves.iter().filter(|slave| is_addressed(slave, name) && !slave.is_unnamed()) {
         let Some(&[a, b, c, d]) = slave.record(file, record) else {
             continue;
         };
-        for (slot, byte) in (1..).zip([a, b, c, d, check_byte([a, b, c, d])]) {
+        for (slot, byte) in (1..).zip([a, b, c, d, check_byte(MSD, [a, b, c, d])]) {
             bus.send(slot, byte);
         }
     }

@@ -1,4 +1,4 @@
-//! The document's own cases (M1 to M10) and rounds worked out by hand: in these someone sends.
+//! The documents' own cases (M1 to M10) and rounds worked out by hand: in these someone sends.
 
 use model::{
     listing, read_address, round, write_address, write_data, Cluster, File, FileNumber, LogicalName, Pending,
@@ -53,25 +53,64 @@ fn file_of(slaves: Vec<Slave>) -> Vec<u8> {
     Cluster { epoch: 0, pending, slaves }.encode()
 }
 
+/// M10 after the address frame of a write, M2.
+fn awaiting_data() -> Vec<u8> {
+    let mut file = bytes(M10);
+    assert_eq!(answer_to(&mut file, "5500FF21018A"), Ok((0, heard(&[]))));
+    file
+}
+
 #[test]
 fn m1_to_m5_frames() {
     let mut frame = [0xEE; 6];
     assert_eq!(write_address(&mut frame, 5, 0xFF, 0x08, 2, 2), Ok(()));
-    assert_eq!(frame, [0x55, 0x05, 0xFF, 0x22, 0x02, 0xDA]);
+    assert_eq!(frame, [0x55, 0x05, 0xFF, 0x22, 0x02, 0x8F]);
     assert_eq!(write_address(&mut frame, 0, 0xFF, 0x08, 1, 1), Ok(()));
-    assert_eq!(frame, [0x55, 0x00, 0xFF, 0x21, 0x01, 0xDF]);
+    assert_eq!(frame, [0x55, 0x00, 0xFF, 0x21, 0x01, 0x8A]);
     assert_eq!(write_data(&mut frame, [0, 0, 1, 0xFF]), Ok(()));
-    assert_eq!(frame, [0x49, 0x00, 0x00, 0x01, 0xFF, 0xFE]);
+    assert_eq!(frame, [0x49, 0x00, 0x00, 0x01, 0xFF, 0xB7]);
     assert_eq!(write_address(&mut frame, 2, 1, 0x3D, 0, 1), Ok(()));
-    assert_eq!(frame, [0x55, 0x02, 0x01, 0xF4, 0x01, 0xF6]);
-    assert_eq!(read_address(&bytes("5505FF2202DB")), Err(Refusal(12)));
+    assert_eq!(frame, [0x55, 0x02, 0x01, 0xF4, 0x01, 0xA3]);
+    assert_eq!(read_address(&bytes("5505FF22028E")), Err(Refusal(12)));
+}
+
+#[test]
+fn one_check_byte_fits() {
+    for (begun, fitting) in
+        [("5505FF2202", 0x8F), ("5500FF2101", 0x8A), ("49000001FF", 0xB7), ("550201F401", 0xA3)]
+    {
+        for check in 0x00..=0xFF {
+            let frame = format!("{begun}{check:02X}");
+            let expected = if check == fitting { Ok((0, heard(&[]))) } else { Err(Refusal(12)) };
+            assert_eq!(answer_to(&mut awaiting_data(), &frame), expected, "{frame}");
+            if !frame.starts_with("49") {
+                assert_eq!(read_address(&bytes(&frame)).is_ok(), check == fitting, "{frame}");
+            }
+        }
+    }
+}
+
+/// M1 to M4 with the exclusive or of the four bytes alone, and with the other round's firework in it.
+#[test]
+fn a_check_without_its_firework_is_refused() {
+    let mut file = awaiting_data();
+    for frame in
+        ["5505FF2202DA", "5500FF2101DF", "550201F401F6", "5505FF220293", "5500FF210196", "550201F401BF"]
+    {
+        assert_eq!(read_address(&bytes(frame)), Err(Refusal(12)), "{frame}");
+        assert_eq!(answer_to(&mut file, frame), Err(Refusal(12)), "{frame}");
+    }
+    for frame in ["49000001FFFE", "49000001FFAB"] {
+        assert_eq!(answer_to(&mut file, frame), Err(Refusal(12)), "{frame}");
+    }
+    assert_eq!(file, awaiting_data());
 }
 
 #[test]
 fn m6_equal_replies_and_m7_one_less_is_silent() {
     for (comparison_value, senders, slot) in [(0x700, 0b10, 0x00), (0x701, 0, 0xFF)] {
         let mut file = file_of(vec![slave(0xFF, 0x700, comparison_value, &[])]);
-        assert_eq!(answer_to(&mut file, "5505FF2202DA"), Ok((0, heard(&[]))));
+        assert_eq!(answer_to(&mut file, "5505FF22028F"), Ok((0, heard(&[]))));
         assert_eq!(answer_to(&mut file, "49"), Ok((senders, heard(&[slot]))));
         assert_eq!(file[8..13], [6, 1, 0xFF, 0x22, 2], "epoch, flag and pending bytes");
     }
@@ -85,15 +124,32 @@ fn m8_two_senders_yield_the_and() {
         slave(3, 2, 0, &others("00000000 3C000003")),
         slave(4, 3, 0, &others("00000000 00000000")),
     ]);
-    assert_eq!(answer_to(&mut file, "55 00 03 40 01 42"), Ok((0, heard(&[]))));
-    // The checks sent in slot 5 are F1 and 3F.
-    assert_eq!(answer_to(&mut file, "49"), Ok((0b11_1110, heard(&[0x30, 0x00, 0x00, 0x01, 0x31]))));
+    assert_eq!(answer_to(&mut file, "55 00 03 40 01 17"), Ok((0, heard(&[]))));
+    // The checks sent in slot 5 are B8 and 76.
+    assert_eq!(answer_to(&mut file, "49"), Ok((0b11_1110, heard(&[0x30, 0x00, 0x00, 0x01, 0x30]))));
+}
+
+/// Two slaves of one name send records whose exclusive ors x and y differ. Slot 5 is neither the check of the and
+/// of the records, nor 0x49 folded into the and of x and y.
+#[test]
+fn each_sender_folds_the_firework_into_its_own_check() {
+    let (x, y) = (0x01 ^ 0x0A ^ 0x10 ^ 0x40, 0x03 ^ 0x02 ^ 0x30 ^ 0x08);
+    let sent = (0x49 ^ x) & (0x49 ^ y);
+    assert_eq!((x, y, sent), (0x5B, 0x39, 0x10));
+    assert_eq!(0x49 ^ (x & y), 0x50);
+    assert_eq!(0x49 ^ 0x01 ^ 0x02 ^ 0x10, 0x5A);
+    let mut file = file_of(vec![
+        slave(3, 1, 0, &[(0x10, "00000000 010A1040")]),
+        slave(3, 2, 0, &[(0x10, "00000000 03023008")]),
+    ]);
+    assert_eq!(answer_to(&mut file, "55 00 03 40 01 17"), Ok((0, heard(&[]))));
+    assert_eq!(answer_to(&mut file, "49"), Ok((0b11_1110, heard(&[0x01, 0x02, 0x10, 0x00, sent]))));
 }
 
 #[test]
 fn m9_a_read_at_ff_is_silent() {
     let mut file = bytes(M10);
-    assert_eq!(answer_to(&mut file, "55 00 FF F4 01 0A"), Ok((0, heard(&[]))));
+    assert_eq!(answer_to(&mut file, "55 00 FF F4 01 5F"), Ok((0, heard(&[]))));
     assert_eq!(answer_to(&mut file, "49"), Ok((0, heard(&[]))));
 }
 
@@ -144,12 +200,11 @@ fn a_receive_stores_outside_record_0_only() {
 
 #[test]
 fn an_operation_stays_pending() {
-    let mut file = bytes(M10);
-    assert_eq!(answer_to(&mut file, "5500FF2101DF"), Ok((0, heard(&[]))));
-    assert_eq!(answer_to(&mut file, "4900000107 06"), Ok((0, heard(&[]))));
+    let mut file = awaiting_data();
+    assert_eq!(answer_to(&mut file, "4900000107 4F"), Ok((0, heard(&[]))));
     // Both slaves have become 7, so the same data frame finds nobody unnamed; the length still fits.
     assert_eq!((file[0x27], file[0x4B]), (7, 7));
-    assert_eq!(answer_to(&mut file, "4900000108 09"), Ok((0, heard(&[]))));
+    assert_eq!(answer_to(&mut file, "4900000108 40"), Ok((0, heard(&[]))));
     assert_eq!((file[0x27], file[0x4B]), (7, 7));
     assert_eq!(answer_to(&mut file, "49"), Err(Refusal(11)));
 }

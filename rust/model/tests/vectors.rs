@@ -1,7 +1,9 @@
-//! The model against kept cases: vectors from another reading of document 01, whole, and cases of our own.
+//! The model against kept cases: vectors from another reading of documents 01 and 02, and cases of our own.
 
 use compare::case::{bytes, hold_all, kind_of, LISTING};
 use compare::engine::Model;
+
+const EVERY_KIND: [&str; 8] = ["check", "data", "read", "round", "start", "step", "write", LISTING];
 
 /// The kinds of the cases in a text, all of which have to hold.
 fn kinds_that_hold(text: &str) -> Vec<&str> {
@@ -37,8 +39,12 @@ fn base_vectors_hold() {
 
 #[test]
 fn further_base_vectors_hold() {
-    let kinds = kinds_that_hold(include_str!("data/base-more.txt"));
-    assert_eq!(kinds, ["check", "data", "read", "round", "start", "step", "write", LISTING]);
+    assert_eq!(kinds_that_hold(include_str!("data/base-more.txt")), EVERY_KIND);
+}
+
+#[test]
+fn vectors_of_request_1_hold() {
+    assert_eq!(kinds_that_hold(include_str!("data/request-01.txt")), EVERY_KIND);
 }
 
 #[test]

@@ -43,7 +43,7 @@ pub fn write_address(frame: &mut [u8], epoch: u8, name: u8, file: u8, operation:
         return 18;
     }
     let pb2 = file << 2 | operation;
-    *frame = [MSA, epoch, name, pb2, record, epoch ^ name ^ pb2 ^ record];
+    *frame = [MSA, epoch, name, pb2, record, check_of(MSA, u32::from_be_bytes([epoch, name, pb2, record]))];
     0
 }
 
@@ -51,7 +51,7 @@ pub fn write_data(frame: &mut [u8], b0: u8, b1: u8, b2: u8, b3: u8) -> u8 {
     let Some(frame) = frame.first_chunk_mut::<FRAME_BYTES>() else {
         return 9;
     };
-    *frame = [MSD, b0, b1, b2, b3, b0 ^ b1 ^ b2 ^ b3];
+    *frame = [MSD, b0, b1, b2, b3, check_of(MSD, u32::from_be_bytes([b0, b1, b2, b3]))];
     0
 }
 
@@ -70,12 +70,19 @@ pub fn address_ground(frame: &[u8]) -> u8 {
 
 /// Grounds 11 and 12 of a frame of six bytes.
 pub fn data_ground(frame: &[u8]) -> u8 {
-    let &[_, a, b, c, d, check] = frame else {
+    let &[firework, a, b, c, d, check] = frame else {
         return 11;
     };
-    if a ^ b ^ c ^ d == check {
+    if check_of(firework, u32::from_be_bytes([a, b, c, d])) == check {
         0
     } else {
         12
     }
+}
+
+/// The check byte after four bytes, given as one number: the round's firework is folded in.
+#[inline]
+pub fn check_of(firework: u8, bytes: u32) -> u8 {
+    let halves = bytes ^ bytes >> 16;
+    (halves ^ halves >> 8) as u8 ^ firework
 }

@@ -1,6 +1,6 @@
-//! The calls of document 01 as an engineer who cares for speed writes them: on the bytes in place, one
-//! walk over the file a call, no copy of it and no allocation. It is the measure for the engine's
-//! speed, and is itself compared with the model.
+//! The calls of document 01, with the requests of document 02 that have landed, as an engineer who cares for
+//! speed writes them: on the bytes in place, one walk over the file a call, no copy of it and no allocation.
+//! It is the measure for the engine's speed, and is itself compared with the model.
 //!
 //! Each call answers 0 or the document's number. A refusal alters nothing that was lent.
 

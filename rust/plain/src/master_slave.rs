@@ -1,5 +1,6 @@
 //! The pending operation, and what addressed slaves do.
 
+use crate::frames::{check_of, MSD};
 use crate::survey::Survey;
 use crate::{u32_at, ANSWER_BYTES, CONFIGURATION, DOCUMENTATION, UNNAMED};
 
@@ -87,9 +88,8 @@ fn read_at(
         if survey.logical_name(file, slave) == name {
             if let Some(place) = place_of(slave) {
                 let sent = u32_at(file, place);
-                let folded = sent ^ sent >> 16;
                 bytes &= sent;
-                checks &= (folded ^ folded >> 8) as u8;
+                checks &= check_of(MSD, sent);
                 senders = 0b11_1110;
             }
         }

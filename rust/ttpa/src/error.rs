@@ -26,7 +26,7 @@ pub enum TtpaError {
     Firework,
     /// 11: the frame's length does not fit its firework.
     FrameLength,
-    /// 12: the check byte is wrong.
+    /// 12: the check byte is not the exclusive or of the firework and the four bytes.
     CheckByte,
     /// 13: there is no such operation.
     Operation,
@@ -110,7 +110,9 @@ impl TtpaError {
             TtpaError::FrameLength => {
                 "the frame's length does not fit its firework: 6 for an address or written data, else 1"
             }
-            TtpaError::CheckByte => "the frame's check byte does not fit the four bytes before it",
+            TtpaError::CheckByte => {
+                "the frame's check byte does not fit the firework and the four bytes before it"
+            }
             TtpaError::Operation => "the address frame's operation is none of read, write and execute",
             TtpaError::BroadcastRead => "a read is addressed to all slaves, logical name 0x00",
             TtpaError::ListedName => {

@@ -28,7 +28,8 @@ pub use run::{End, Run};
 
 /// An answer buffer has at least this many bytes; a call writes exactly these.
 pub const ANSWER_BYTES: usize = 64;
-/// An address frame and a data frame have this many bytes.
+/// An address frame and a data frame have this many bytes. The last is the check: the exclusive or of the
+/// firework and the four bytes between them.
 pub const FRAME_BYTES: usize = 6;
 
 /// What an address frame says.

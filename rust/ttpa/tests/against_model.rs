@@ -70,6 +70,7 @@ fn the_safe_functions_give_the_kept_results() {
     for text in [
         include_str!("../../model/tests/data/base.txt"),
         include_str!("../../model/tests/data/base-more.txt"),
+        include_str!("../../model/tests/data/request-01.txt"),
         include_str!("../../model/tests/data/cases.txt"),
     ] {
         let held = hold_all(&Wrapper, text);

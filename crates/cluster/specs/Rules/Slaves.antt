@@ -68,8 +68,8 @@ addressed name s = addresses name (logicalName s)
 
 -- ---- what an addressed slave sends: its bytes from slot 1 on
 
--- "Read: addressed slaves, never unnamed ones, that have the record send its four bytes in slots 1 to 4 and their exclusive or in
--- slot 5."
+-- "Read: addressed slaves, never unnamed ones, that have the record send its four bytes in slots 1 to 4 and" in slot 5 their check, each
+-- that of its own bytes (request 1: "0x49 for a read reply")
 unfoldable pub answersRead : ℕ → ℕ → ℕ → Slave → Bool
 answersRead name n r s = both (addressed name s) (both (not (isUnnamed s)) (hasRecord s n r))
 

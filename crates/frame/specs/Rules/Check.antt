@@ -1,16 +1,22 @@
--- Check bytes (document 01, "Fireworks and frames", second paragraph, and the read reply of "What slaves do").
+-- Check bytes (document 02, request 1: "From now on the check of MSA, of MSD data and of a slave's read reply is the exclusive or of its
+-- round's firework (0x49 for a read reply) and the four bytes.").
 use Prim.Native.Nat.{ℕ}
 use mathlib.Core.List.{List, [], _∷_}
 use lib.Bits.{bitXor}
+use Rattle.frame.specs.Rules.Fireworks.{addressFirework, dataFirework}
 
 unfoldable pub exclusiveOr : List ℕ → ℕ
 exclusiveOr [] = 0
 exclusiveOr (b ∷ bs) = bitXor b (exclusiveOr bs)
 
--- of an MSA: "The check is the exclusive or of the four bytes between firework and check."
-unfoldable pub addressCheck : List ℕ → ℕ
-addressCheck bytes = exclusiveOr bytes
+-- "the exclusive or of its round's firework .. and the four bytes"
+unfoldable pub checkOf : ℕ → List ℕ → ℕ
+checkOf firework bytes = exclusiveOr (firework ∷ bytes)
 
--- of an MSD's data, by the same sentence, and of a read reply: "their exclusive or in slot 5"
+-- of an MSA
+unfoldable pub addressCheck : List ℕ → ℕ
+addressCheck bytes = checkOf addressFirework bytes
+
+-- of an MSD's data, and of a read reply: "0x49 for a read reply"
 unfoldable pub dataCheck : List ℕ → ℕ
-dataCheck bytes = exclusiveOr bytes
+dataCheck bytes = checkOf dataFirework bytes

@@ -9,9 +9,9 @@ const FRESH: [u64; calls::RUN_WORDS] = [0; calls::RUN_WORDS];
 #[test]
 fn parts_are_written_on_success_only() {
     let mut parts = [FILL; 5];
-    assert_eq!(calls::read_address(&[0x55, 0x05, 0x21, 0x41, 0x03, 0x67], &mut parts), 12);
+    assert_eq!(calls::read_address(&[0x55, 0x05, 0x21, 0x41, 0x03, 0x32], &mut parts), 12);
     assert_eq!(parts, [FILL; 5]);
-    assert_eq!(calls::read_address(&[0x55, 0x05, 0x21, 0x41, 0x03, 0x66], &mut parts), 0);
+    assert_eq!(calls::read_address(&[0x55, 0x05, 0x21, 0x41, 0x03, 0x33], &mut parts), 0);
     assert_eq!(parts, [5, 0x21, 0x10, 1, 3]);
 }
 
@@ -22,9 +22,9 @@ fn frames_are_written_on_success_only() {
     assert_eq!(calls::write_data(&mut frame[..5], 1, 2, 4, 8), 9);
     assert_eq!(frame, [FILL; 6]);
     assert_eq!(calls::write_address(&mut frame, 5, 0x21, 0x10, 1, 3), 0);
-    assert_eq!(frame, [0x55, 0x05, 0x21, 0x41, 0x03, 0x66]);
+    assert_eq!(frame, [0x55, 0x05, 0x21, 0x41, 0x03, 0x33]);
     assert_eq!(calls::write_data(&mut frame, 1, 2, 4, 8), 0);
-    assert_eq!(frame, [0x49, 1, 2, 4, 8, 0x0F]);
+    assert_eq!(frame, [0x49, 1, 2, 4, 8, 0x46]);
 }
 
 #[test]

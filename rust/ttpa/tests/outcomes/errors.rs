@@ -17,7 +17,7 @@ const GROUNDS: [(TtpaError, u8, &str); 19] = [
     (TtpaError::ShortBuffer, 9, "buffer"),
     (TtpaError::Firework, 10, "firework"),
     (TtpaError::FrameLength, 11, "length"),
-    (TtpaError::CheckByte, 12, "check byte"),
+    (TtpaError::CheckByte, 12, "firework and the four bytes"),
     (TtpaError::Operation, 13, "operation"),
     (TtpaError::BroadcastRead, 14, "read"),
     (TtpaError::ListedName, 15, "0xFF"),

@@ -5,7 +5,9 @@ use ttpa::{check, round, Senders, TtpaError, ANSWER_BYTES};
 
 const LONGEST_FILE: usize = 32_768;
 /// "M1: execute 0x08 record 2 at 0xFF, epoch 5"
-const M1: [u8; 6] = [0x55, 0x05, 0xFF, 0x22, 0x02, 0xDA];
+const M1: [u8; 6] = [0x55, 0x05, 0xFF, 0x22, 0x02, 0x8F];
+/// "M2: write 0x08 record 1 at 0xFF, epoch 0"
+const M2: [u8; 6] = [0x55, 0x00, 0xFF, 0x21, 0x01, 0x8A];
 const MSD: [u8; 1] = [0x49];
 const ROUND_2: [u8; 1] = [0xBA];
 
@@ -71,12 +73,22 @@ fn a_round_is_refused_on_each_ground() {
         (&[], TtpaError::Firework),
         (&[0x54], TtpaError::Firework),
         (&[0xBA, 0x00], TtpaError::FrameLength),
-        (&[0x55, 0x05, 0xFF, 0x22, 0x02, 0xDB], TtpaError::CheckByte),
-        (&[0x55, 0x05, 0xFF, 0x23, 0x02, 0xDB], TtpaError::Operation),
-        (&[0x55, 0x05, 0x00, 0xF4, 0x01, 0xF0], TtpaError::BroadcastRead),
+        (&[0x55, 0x05, 0xFF, 0x22, 0x02, 0x8E], TtpaError::CheckByte),
+        (&[0x55, 0x05, 0xFF, 0x23, 0x02, 0x8E], TtpaError::Operation),
+        (&[0x55, 0x05, 0x00, 0xF4, 0x01, 0xA5], TtpaError::BroadcastRead),
     ];
     for (frame, ground) in frames {
         assert_refused(M10, frame, ANSWER_BYTES, ground);
+    }
+}
+
+/// The exclusive or of the four bytes alone is no check, neither of an address nor of the data of a write.
+#[test]
+fn a_check_without_its_firework_is_refused() {
+    let mut awaiting_data = M10.to_vec();
+    assert_eq!(round(&mut awaiting_data, &M2, &mut ROOMY.clone()), Ok(Senders(0)));
+    for frame in [[0x55, 0x05, 0xFF, 0x22, 0x02, 0xDA], [0x49, 0x00, 0x00, 0x01, 0xFF, 0xFE]] {
+        assert_refused(&awaiting_data, &frame, ANSWER_BYTES, TtpaError::CheckByte);
     }
 }
 

@@ -71,7 +71,7 @@ fn a_taken_name_answers_with_its_series_number() {
     let (mut file, mut answer) = (m10_with(FIRST_LOGICAL_NAME, 9), ROOMY);
     let mut run = Run::start(&[9, 8]).expect("a good list");
     assert_eq!(run.step(&mut file, &[9, 8], &mut answer), Ok(Senders(0b11_1110)));
-    assert_eq!(answer, answered(0x49, &[0x00, 0x00, 0x00, 0x07, 0x07]));
+    assert_eq!(answer, answered(0x49, &[0x00, 0x00, 0x00, 0x07, 0x4E]));
     assert_eq!(run.words(), [0, 1, 0, 0, 1, 0]);
     assert_eq!(file[EPOCH], 2);
 }

@@ -6,12 +6,12 @@ use borrow.Author.Needs.{needs}
 use Rattle.frame.proofs.check.data_check.Statement.{statement}
 use Rattle.frame.proofs.check.data_check.Tie as tie
 
-exclusive-or-requires : tie.Need-exclusive-or-requires
-exclusive-or-requires c κs = search needs
+check-of-requires : tie.Need-check-of-requires
+check-of-requires c κs = search needs
 
 returns : tie.Need-returns
 unfolding dataCheck
 returns c = search needs
 
 pub data-check-spec : {M : Type 1} → statement M
-data-check-spec = tie.close (tie.spec exclusive-or-requires returns)
+data-check-spec = tie.close (tie.spec check-of-requires returns)

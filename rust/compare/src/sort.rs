@@ -1,0 +1,76 @@
+//! Sorts of calls that random inputs must reach, besides every answer of every call.
+
+use crate::case::{Call, Outcome};
+use crate::inputs::{is_multipartner, is_unfolded};
+use model::{check, Cluster, FileNumber, Pending, RecordNumber, MSA, MSD};
+
+/// What a call is an example of.
+#[derive(Clone, Copy, PartialEq, Eq, PartialOrd, Ord)]
+pub enum Sort {
+    /// A multipartner round that alters the file beyond its epoch.
+    Stores,
+    /// An address frame whose check is that of its four bytes alone, and which is therefore not read.
+    UnfoldedNotRead,
+    /// The same in a round.
+    UnfoldedAddress,
+    /// Data of a write with such a check.
+    UnfoldedData,
+    /// A read in which several answer, and slot 5 tells that each folds the firework into its own check.
+    ChecksDiffer,
+}
+
+impl Sort {
+    /// Each sort with one in how many of the rounds asked for has to be of it.
+    pub const REACHED: [(Sort, usize); 5] = [
+        (Sort::Stores, 80),
+        (Sort::UnfoldedNotRead, 2_000),
+        (Sort::UnfoldedAddress, 80),
+        (Sort::UnfoldedData, 160),
+        (Sort::ChecksDiffer, 4_000),
+    ];
+
+    pub fn of(call: &Call, outcome: &Outcome) -> Option<Sort> {
+        match call {
+            Call::Read { frame } if outcome.number == 12 && is_unfolded(frame) => Some(Sort::UnfoldedNotRead),
+            Call::Round { frame, .. } if outcome.number == 12 && is_unfolded(frame) => {
+                Some(if frame[0] == MSA { Sort::UnfoldedAddress } else { Sort::UnfoldedData })
+            }
+            Call::Round { file, frame, .. } if is_multipartner(frame) => {
+                outcome.alters_beyond_epoch(file).then_some(Sort::Stores)
+            }
+            Call::Round { file, frame, .. } if frame == &[MSD] && outcome.mask() == SLOTS_OF_A_READ => {
+                check(file).is_ok_and(|cluster| checks_differ(&cluster)).then_some(Sort::ChecksDiffer)
+            }
+            _ => None,
+        }
+    }
+
+    pub fn text(self) -> &'static str {
+        match self {
+            Sort::Stores => "multipartner rounds that stored",
+            Sort::UnfoldedNotRead => "address frames not read, the firework missing in their check",
+            Sort::UnfoldedAddress => "address frames refused, the firework missing in their check",
+            Sort::UnfoldedData => "data frames refused, the firework missing in their check",
+            Sort::ChecksDiffer => "reads whose senders' checks differ",
+        }
+    }
+}
+
+/// Slots 1 to 5.
+const SLOTS_OF_A_READ: u64 = 0b11_1110;
+
+/// Whether the and of the checks that slaves send after the pending read is another byte than the firework
+/// folded once into the and of their records' exclusive ors.
+fn checks_differ(cluster: &Cluster) -> bool {
+    let Pending { name, pb2, pb3, .. } = cluster.pending;
+    let records = cluster
+        .slaves
+        .iter()
+        .filter(|slave| slave.logical_name() == name)
+        .filter_map(|slave| slave.record(FileNumber(pb2 / 4), RecordNumber(pb3)));
+    let (each, all) = records.fold((0xFF, 0xFF), |(each, all), record| {
+        let folded = record.iter().fold(0, |folded, byte| folded ^ byte);
+        (each & (MSD ^ folded), all & folded)
+    });
+    each != MSD ^ all
+}
