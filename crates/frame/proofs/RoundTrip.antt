@@ -69,13 +69,13 @@ pub record ReadAndWritten (frame : List ℕ) (epoch name file operation «record
   pub writes : writeAddress sixZeros epoch name file operation «record» ≡ (done tt, frame)
 
 pub record FrameCases : Type 0 where
-  -- "execute 0x08 record 2 at 0xFF, epoch 5: 55 05 FF 22 02 8F"
+  -- M1, "execute 0x08 record 2 at 0xFF, epoch 5", ends 8F
   pub m1 : ReadAndWritten (0x55 ∷ 0x05 ∷ 0xFF ∷ 0x22 ∷ 0x02 ∷ 0x8F ∷ []) 5 0xFF 0x08 executeOperation 2
-  -- "write 0x08 record 1 at 0xFF, epoch 0: 55 00 FF 21 01 8A"
+  -- M2, "write 0x08 record 1 at 0xFF, epoch 0", ends 8A
   pub m2 : ReadAndWritten (0x55 ∷ 0x00 ∷ 0xFF ∷ 0x21 ∷ 0x01 ∷ 0x8A ∷ []) 0 0xFF 0x08 writeOperation 1
-  -- "its data for name 1: 49 00 00 01 FF B7"
+  -- M3, "its data for name 1", ends B7
   pub m3 : writeData sixZeros (0x00 ∷ 0x00 ∷ 0x01 ∷ 0xFF ∷ []) ≡ (done tt, 0x49 ∷ 0x00 ∷ 0x00 ∷ 0x01 ∷ 0xFF ∷ 0xB7 ∷ [])
-  -- "read 0x3D record 1 at 1, epoch 2: 55 02 01 F4 01 A3"
+  -- M4, "read 0x3D record 1 at 1, epoch 2", ends A3
   pub m4 : ReadAndWritten (0x55 ∷ 0x02 ∷ 0x01 ∷ 0xF4 ∷ 0x01 ∷ 0xA3 ∷ []) 2 1 0x3D readOperation 1
   -- "M5 ends 8E"
   pub m5 : readAddress (0x55 ∷ 0x05 ∷ 0xFF ∷ 0x22 ∷ 0x02 ∷ 0x8E ∷ []) ≡ refused 12

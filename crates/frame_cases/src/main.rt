@@ -1,4 +1,4 @@
-// Document 01's cases of fireworks and frames, the edges of each ground, and vectors of an independent model, run against the
+// The documents' cases of fireworks and frames, the edges of each ground, and vectors of an independent model, run against the
 // code. A line of the input is one of
 //   read FRAME
 //   write BUFFER epoch name file operation record

@@ -1,5 +1,5 @@
--- The marked cases of document 01, M1 to M10, together. M6 to M9 hold of every file that meets their premises, and each has one that
--- does, with the round on it.
+-- The marked cases of document 01, M1 to M10, together, M1 to M5 with the last bytes of request 1. M6 to M9 hold of every file that
+-- meets their premises, and each has one that does, with the round on it.
 -- Assumes nothing.
 use Prim.Native.Nat.{ℕ, _+_}
 use mathlib.Core.Path.{_≡_}

@@ -51,7 +51,7 @@ impl Sort {
             Sort::UnfoldedNotRead => "address frames not read, the firework missing in their check",
             Sort::UnfoldedAddress => "address frames refused, the firework missing in their check",
             Sort::UnfoldedData => "data frames refused, the firework missing in their check",
-            Sort::ChecksDiffer => "reads whose senders' checks differ",
+            Sort::ChecksDiffer => "reads in which slot 5 tells that each sender folds the firework in",
         }
     }
 }

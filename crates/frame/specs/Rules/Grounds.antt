@@ -24,7 +24,7 @@ noAddress frame = either (eqb (length frame) 0) (not (eqb (getD frame fireworkPl
 unfoldable pub wrongFrameLength : ℕ → List ℕ → Bool
 wrongFrameLength size frame = not (eqb (length frame) size)
 
--- 12. "The check byte is wrong.", by the given check of the four bytes before it
+-- 12. "The check byte is wrong.", by the given check, that of an MSA or of an MSD's data
 unfoldable pub wrongCheck : (List ℕ → ℕ) → List ℕ → Bool
 wrongCheck check frame = not (eqb (getD frame checkPlace 0) (check (between frame)))
 

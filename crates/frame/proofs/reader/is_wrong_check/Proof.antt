@@ -1,4 +1,4 @@
--- `frame::reader::is_wrong_check` meets its contract: the check byte is compared with the check of the four bytes before it.
+-- `frame::reader::is_wrong_check` meets its contract: the check byte is compared with the check of an MSA.
 -- Assumes nothing.
 use Rattle.frame.proofs.Tests.{check-tells}
 use borrow.Author.Needs.{needs}
