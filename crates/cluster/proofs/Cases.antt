@@ -14,6 +14,7 @@ use Rattle.file.specs.Rules.Results.{done}
 use Rattle.file.specs.Rules.Cluster.{Slave, Cluster, recordOf, logicalName, physicalName, comparisonValue, unnamed}
 use Rattle.file.specs.Rules.Decode.{decode}
 use Rattle.file.proofs.Order.{byCase}
+use Rattle.frame.specs.Rules.Check.{checkOf, dataCheck}
 use Rattle.frame.specs.Rules.Fireworks.{dataFirework, roundOf, roundIn}
 use Rattle.cluster.specs.Rules.Bus.{Senders, joined, busByte, anyone, slots, maskBelow, senderMask, slotBytes, answerBytes, answerIn, nobody}
 use Rattle.cluster.specs.Rules.Slaves.{addressed, addresses, isUnnamed, Duty, reading, comparing, pendingDuty, answersRead, readReply, answersCompare, replyTo, inSlot, sentTo}
@@ -157,6 +158,14 @@ pub m8 : (file buffer : List ℕ) → roundGround file dataRound buffer ≡ 0 �
 unfolding answerIn answerBytes slotBytes sentTo inSlot replyTo readReply
 m8 file buffer fits name n r p s t two a b e f =
     ap (λ (l : List ℕ). getD l 1 0) (round-buffer file buffer fits p) ∙ ap (λ (ss : List Slave). busByte (sentTo (reading name n r) ss 1)) two ∙ rw (a, b, e, f) m8-byte
+
+-- request 1, "0x49 for a read reply": each of two slaves that answer a read folds it into its own check, and slot 5 holds the and of these
+pub read-checks : (file buffer : List ℕ) → roundGround file dataRound buffer ≡ 0 → (name n r : ℕ) → pendingDuty (decode file) ≡ reading name n r → (s t : Slave) → decode file .slaves ≡ s ∷ t ∷ [] → answersRead name n r s ≡ true → answersRead name n r t ≡ true →
+    {a b c d e f g h : ℕ} → recordOf s n r ≡ a ∷ b ∷ c ∷ d ∷ [] → recordOf t n r ≡ e ∷ f ∷ g ∷ h ∷ [] →
+    getD (roundOn file dataRound buffer .1) 5 0 ≡ busByte (checkOf 0x49 (a ∷ b ∷ c ∷ d ∷ []) ∷ checkOf 0x49 (e ∷ f ∷ g ∷ h ∷ []) ∷ [])
+unfolding answerIn answerBytes slotBytes sentTo inSlot replyTo readReply dataCheck
+read-checks file buffer fits name n r p s t two one other here there =
+    ap (λ (l : List ℕ). getD l 5 0) (round-buffer file buffer fits p) ∙ ap (λ (ss : List Slave). busByte (sentTo (reading name n r) ss 5)) two ∙ rw (one, other, here, there) refl
 
 -- ---- M9: "a read at 0xFF is silent"
 

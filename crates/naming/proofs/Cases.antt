@@ -43,6 +43,8 @@ pub record MarkedCases : Type 0 where
       (s t : Slave) → decode file .slaves ≡ s ∷ t ∷ [] → answersRead name n r s ≡ true → answersRead name n r t ≡ true →
       {bs cs : List ℕ} → recordOf s n r ≡ 0xF0 ∷ bs → recordOf t n r ≡ 0x3C ∷ cs → getD (roundOn file rounds.dataRound buffer .1) 1 0 ≡ 0x30
   pub m8-file : getD (roundOn m8File rounds.dataRound (replicate 64 0) .1) 1 0 ≡ 0x30
+  -- request 1: each sender folds 0x49 into its own check, and slot 5 holds the and of these
+  pub m8-checks : getD (roundOn m8File rounds.dataRound (replicate 64 0) .1) 5 0 ≡ 0x31
   -- M9: "a read at 0xFF is silent"
   pub m9 :
       (file buffer : List ℕ) → roundGround file rounds.dataRound buffer ≡ 0 → (n r : ℕ) → pendingDuty (decode file) ≡ reading unnamed n r →
@@ -72,6 +74,7 @@ marked-cases =
       m7-file = files.m7;
       m8 = rounds.m8;
       m8-file = files.m8;
+      m8-checks = files.m8-checks;
       m9 = rounds.m9;
       m9-file = files.m9;
       m10-accepted = account.m10-accepted;

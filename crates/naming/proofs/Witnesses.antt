@@ -11,6 +11,7 @@ use Rattle.file.specs.Rules.Bytes.{numberOf, part, allZero}
 use Rattle.file.specs.Rules.Cluster.{noOperation, broadcastRead, bytesAmong, bytesIn, lastRecord, hasRecord, recordOf, physicalName, logicalName, comparisonValue}
 use Rattle.file.specs.Rules.Decode.{decode, decodeAt, slavesAt, slaveAt, filesAt, fileAt, fileSize, offsetAt}
 use Rattle.file.specs.Rules.Grounds.{isAmong, hasRepeat, fileGrounds, fileGround, fileGroundAt, fileGroundsAt, wrongSize, wrongMark, wrongEdition, wrongLength, wrongHeader, wrongPending, brokenLayout, walkFile, tableEnd, walkSlaves, andThen, walkSlave, goodTableEntry, walkDirectory, goodEntry, endsAt, lacksNeeded, allHaveNeeded, hasNeeded, equalPhysicalNames}
+use Rattle.frame.specs.Rules.Check.{exclusiveOr, checkOf}
 use Rattle.frame.specs.Rules.Fireworks.{dataFirework, roundOf, roundIn}
 use Rattle.frame.specs.Rules.Grounds as frames
 use Rattle.cluster.specs.Rules.Bus.{joined, busByte, slotBytes, answerBytes, answerIn, nobody}
@@ -64,6 +65,11 @@ m7 = rounds.m7 m7File (replicate 64 0) refl refl (slaveAt 2 m7File 16) refl refl
 pub m8 : getD (roundOn m8File rounds.dataRound (replicate 64 0) .1) 1 0 ≡ 0x30
 unfolding m6 m8File answersRead addressed addresses hasRecord recordOf
 m8 = rounds.m8 m8File (replicate 64 0) refl 1 0x08 2 refl (slaveAt 2 m8File 16) (slaveAt 2 m8File 20) refl refl refl refl refl
+
+-- 0xB9 and 0x75
+pub m8-checks : getD (roundOn m8File rounds.dataRound (replicate 64 0) .1) 5 0 ≡ 0x31
+unfolding m8 checkOf exclusiveOr busByte joined
+m8-checks = rounds.read-checks m8File (replicate 64 0) refl 1 0x08 2 refl (slaveAt 2 m8File 16) (slaveAt 2 m8File 20) refl refl refl refl refl
 
 pub m9 : (roundOn m9File rounds.dataRound (replicate 64 0) .0 ≡ done 0) × (roundOn m9File rounds.dataRound (replicate 64 0) .1 ≡ dataFirework ∷ replicate 63 0xFF)
 unfolding m6 m9File answerIn answerBytes slotBytes nobody busByte joined

@@ -1,6 +1,5 @@
 -- `frame::check::address_check` meets its contract.
 -- Assumes nothing.
-use borrow.Author.Needs.{needs}
 use Rattle.frame.specs.Rules.Check.{addressCheck}
 use borrow.Author.Needs.{needs}
 use Rattle.frame.proofs.check.address_check.Statement.{statement}

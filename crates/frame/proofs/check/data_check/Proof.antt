@@ -1,6 +1,5 @@
 -- `frame::check::data_check` meets its contract.
 -- Assumes nothing.
-use borrow.Author.Needs.{needs}
 use Rattle.frame.specs.Rules.Check.{dataCheck}
 use borrow.Author.Needs.{needs}
 use Rattle.frame.proofs.check.data_check.Statement.{statement}
