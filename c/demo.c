@@ -1,8 +1,8 @@
 /* demo FILE: commissioning a small cluster, as firmware or test software would do it.
  *
  * Loads a cluster file, checks it, reads a record of a named slave, names the unnamed slaves while other
- * rounds go on in between, and prints what happened. examples/demo.rs of the Rust crate does the same and
- * prints the same. */
+ * rounds go on in between, runs a captured trace, and prints what happened. examples/demo.rs of the Rust crate
+ * does the same and prints the same. */
 #include <inttypes.h>
 #include <stdio.h>
 
@@ -131,6 +131,33 @@ static uint8_t name_slaves(const uint8_t *names, size_t count)
     return number;
 }
 
+/* Five frames captured on site: round 2; a write of E7 7F 00 00 to record 1 of file 0x10 of slave 01, its data
+ * broken at first (the check byte is D1); and round 2 again. */
+static const uint8_t captured[] = {
+    /* frame count and data length; then of each frame offset and length */
+    0x00, 0x05, 0x00, 0x14,
+    0x00, 0x00, 0x01, 0x00, 0x01, 0x06, 0x00, 0x07, 0x06, 0x00, 0x0D, 0x06, 0x00, 0x13, 0x01,
+    TTPA_FIREWORK_ROUND_2,
+    TTPA_FIREWORK_MSA, 0x07, 0x01, 0x41, 0x01, 0x13,
+    TTPA_FIREWORK_MSD, 0xE7, 0x7F, 0x00, 0x00, 0xD0,
+    TTPA_FIREWORK_MSD, 0xE7, 0x7F, 0x00, 0x00, 0xD1,
+    TTPA_FIREWORK_ROUND_2,
+};
+
+static void show_trace(void)
+{
+    uint64_t report[TTPA_REPORT_WORDS];
+    print_verdict("a cut trace", ttpa_trace(cluster, length, captured, sizeof captured - 1, report));
+    uint8_t number = ttpa_trace(cluster, length, captured, sizeof captured, report);
+    print_verdict("a captured trace", number);
+    if (number == TTPA_ACCEPTED) {
+        printf("MSA %" PRIu64 ", MSD %" PRIu64 ", multipartner %" PRIu64, report[TTPA_REPORT_MSA],
+               report[TTPA_REPORT_MSD], report[TTPA_REPORT_MULTIPARTNER]);
+        printf(", refused %" PRIu64 ", sum %" PRIu64 "\n", report[TTPA_REPORT_REFUSED],
+               report[TTPA_REPORT_SUM]);
+    }
+}
+
 int main(int count, char **arguments)
 {
     static const uint8_t names[] = {0x01, 0x02, 0x03, 0x04};
@@ -165,6 +192,10 @@ int main(int count, char **arguments)
     }
     number = send(round, sizeof round);
     print_verdict("round 2 after naming", number);
+    print_answer("answer");
+    show_trace();
+    number = send(round, sizeof round);
+    print_verdict("round 2 after the trace", number);
     print_answer("answer");
     print_verdict("a short answer buffer", ttpa_round(cluster, length, round, sizeof round, answer,
                                                       TTPA_ANSWER_BYTES - 1, &senders));

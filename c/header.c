@@ -1,4 +1,5 @@
-/* header: holds include/ttpa.h against document 01 and the library. The gate compiles it as C and as C++.
+/* header: holds include/ttpa.h against documents 01 and 02 and the library. The gate compiles it as C and as
+ * C++.
  *
  * Every constant is held by its value and every prototype by its exact type, or this does not compile; the
  * gate sees to it that none is left out. Every call is made, and what it returns and leaves in lent memory
@@ -40,6 +41,7 @@ VALUE(TTPA_REFUSED_LISTED_NAME, 15);
 VALUE(TTPA_REFUSED_REPEATED_NAME, 16);
 VALUE(TTPA_REFUSED_POSITION, 17);
 VALUE(TTPA_REFUSED_FILE_NUMBER, 18);
+VALUE(TTPA_REFUSED_TRACE, 19);
 
 VALUE(TTPA_FILE_BYTES, 32768);
 VALUE(TTPA_FRAME_BYTES, 6);
@@ -83,6 +85,14 @@ VALUE(TTPA_RUNNING, 0);
 VALUE(TTPA_ALL_NAMED, 1);
 VALUE(TTPA_NAMES_USED_UP, 2);
 
+VALUE(TTPA_TRACE_BYTES, 16384);
+VALUE(TTPA_REPORT_MSA, 0);
+VALUE(TTPA_REPORT_MSD, 1);
+VALUE(TTPA_REPORT_MULTIPARTNER, 2);
+VALUE(TTPA_REPORT_REFUSED, 3);
+VALUE(TTPA_REPORT_SUM, 4);
+VALUE(TTPA_REPORT_WORDS, 5);
+
 /* ---- the prototypes */
 
 typedef const char *text_type(uint8_t);
@@ -94,6 +104,7 @@ typedef uint8_t round_type(uint8_t *, size_t, const uint8_t *, size_t, uint8_t *
 typedef uint8_t start_type(const uint8_t *, size_t, uint64_t *);
 typedef uint8_t step_type(uint8_t *, size_t, uint64_t *, const uint8_t *, size_t, uint8_t *, size_t,
                           uint64_t *);
+typedef uint8_t trace_type(uint8_t *, size_t, const uint8_t *, size_t, uint64_t *);
 
 PROTOTYPE(ttpa_refusal_text, text_type);
 PROTOTYPE(ttpa_check, check_type);
@@ -103,6 +114,7 @@ PROTOTYPE(ttpa_write_data, write_data_type);
 PROTOTYPE(ttpa_round, round_type);
 PROTOTYPE(ttpa_start, start_type);
 PROTOTYPE(ttpa_step, step_type);
+PROTOTYPE(ttpa_trace, trace_type);
 
 /* ---- the comparisons */
 
@@ -195,7 +207,7 @@ static void texts(void)
     static const char *const words[] = {
         "accepted",  "32,768",        "mark",   "edition",    "as long as",  "header",       "layout",
         "0x3D",      "physical name", "buffer", "firework",   "length",      "firework and", "operation",
-        "a read is", "0xFF",          "twice",  "naming run", "file number",
+        "a read is", "0xFF",          "twice",  "naming run", "file number", "the trace",
     };
     const int known = sizeof words / sizeof words[0];
     for (int number = 0; number < known; number++) {
@@ -203,7 +215,7 @@ static void texts(void)
         EXPECT(is_printable(text) && strstr(text, words[number]) != NULL);
         EXPECT(first_with(text) == number);
     }
-    EXPECT(known == TTPA_REFUSED_FILE_NUMBER + 1);
+    EXPECT(known == TTPA_REFUSED_TRACE + 1);
     EXPECT(is_printable(ttpa_refusal_text(UINT8_MAX)));
     for (int number = known; number <= UINT8_MAX; number++) {
         EXPECT(first_with(ttpa_refusal_text((uint8_t)number)) == known);
@@ -485,6 +497,88 @@ static void refused_steps(void)
     EXPECT(memcmp(cluster, m10, sizeof m10) == 0);
 }
 
+/* ---- captured traces */
+
+/* One address frame (M1), two data frames, three multipartner frames and four that are refused: an empty one,
+ * one without a firework, and two of a wrong length. */
+static const uint8_t captured[] = {
+    /* frame count and data length; then of each frame offset and length */
+    0x00, 0x0A, 0x00, 0x0F,
+    0x00, 0x00, 0x06, 0x00, 0x06, 0x01, 0x00, 0x07, 0x01, 0x00, 0x08, 0x01, 0x00, 0x09, 0x01,
+    0x00, 0x0A, 0x01, 0x00, 0x0B, 0x00, 0x00, 0x0B, 0x01, 0x00, 0x0C, 0x01, 0x00, 0x0D, 0x02,
+    /* M1, 49, 49, BA, 54 (no firework), 78, an empty frame, 97, 55 (too short), 49 00 (too long) */
+    0x55, 0x05, 0xFF, 0x22, 0x02, 0x8F, 0x49, 0x49, 0xBA, 0x54, 0x78, 0x97, 0x55, 0x49, 0x00,
+};
+
+#define OLD_WORD UINT64_C(0xEEEEEEEEEEEEEEEE)
+
+/* The report, and a word after it. */
+static uint64_t report[TTPA_REPORT_WORDS + 1];
+
+static int report_is(uint64_t msa, uint64_t msd, uint64_t multipartner, uint64_t refused, uint64_t sum)
+{
+    return report[TTPA_REPORT_MSA] == msa && report[TTPA_REPORT_MSD] == msd &&
+           report[TTPA_REPORT_MULTIPARTNER] == multipartner && report[TTPA_REPORT_REFUSED] == refused &&
+           report[TTPA_REPORT_SUM] == sum && report[TTPA_REPORT_WORDS] == OLD_WORD;
+}
+
+static void renew_report(void)
+{
+    memset(report, OLD, sizeof report);
+}
+
+static uint8_t run_trace(const uint8_t *trace, size_t bytes)
+{
+    return ttpa_trace(cluster, sizeof cluster, trace, bytes, report);
+}
+
+/* The address frame puts the epoch to 5 and stays pending; five rounds follow. */
+static void traces(void)
+{
+    static const uint8_t no_frame[] = {0x00, 0x00, 0x00, 0x00};
+    static const uint8_t header[] = {0x0A, 0x01, 0xFF, 0x22, 0x02};
+    renew();
+    renew_report();
+    EXPECT(run_trace(captured, sizeof captured) == TTPA_ACCEPTED);
+    EXPECT(report_is(1, 2, 3, 4, 10));
+    EXPECT(memcmp(cluster, m10, EPOCH) == 0 && memcmp(cluster + EPOCH, header, sizeof header) == 0);
+    EXPECT(memcmp(cluster + EPOCH + sizeof header, m10 + EPOCH + sizeof header,
+                  sizeof m10 - EPOCH - sizeof header) == 0);
+    renew();
+    EXPECT(run_trace(no_frame, sizeof no_frame) == TTPA_ACCEPTED);
+    EXPECT(report_is(0, 0, 0, 0, 0));
+    EXPECT(memcmp(cluster, m10, sizeof m10) == 0);
+}
+
+/* Rows of empty frames, as many as fit, and one more. */
+static void longest_traces(void)
+{
+    static uint8_t empty[4 + 3 * 5461];
+    empty[0] = 5460 / 256;
+    empty[1] = 5460 % 256;
+    renew();
+    renew_report();
+    EXPECT(run_trace(empty, TTPA_TRACE_BYTES) == TTPA_ACCEPTED);
+    EXPECT(report_is(0, 0, 0, 5460, 5460));
+    renew_report();
+    empty[1]++;
+    EXPECT(run_trace(empty, sizeof empty) == TTPA_REFUSED_TRACE);
+    EXPECT(report_is(OLD_WORD, OLD_WORD, OLD_WORD, OLD_WORD, OLD_WORD));
+}
+
+static void refused_traces(void)
+{
+    renew();
+    renew_report();
+    EXPECT(ttpa_trace(NULL, 0, NULL, 0, report) == TTPA_REFUSED_FILE_SIZE);
+    EXPECT(ttpa_trace(cluster, sizeof cluster - 1, NULL, 0, report) == TTPA_REFUSED_LENGTH_FIELD);
+    EXPECT(run_trace(NULL, 0) == TTPA_REFUSED_TRACE);
+    EXPECT(run_trace(captured, 3) == TTPA_REFUSED_TRACE);
+    EXPECT(run_trace(captured, sizeof captured - 1) == TTPA_REFUSED_TRACE);
+    EXPECT(report_is(OLD_WORD, OLD_WORD, OLD_WORD, OLD_WORD, OLD_WORD));
+    EXPECT(memcmp(cluster, m10, sizeof m10) == 0);
+}
+
 int main(void)
 {
     texts();
@@ -501,6 +595,9 @@ int main(void)
     one_name();
     all_names();
     refused_steps();
+    traces();
+    longest_traces();
+    refused_traces();
     printf("%d comparisons, %d failed\n", comparisons, failures);
     return failures == 0 ? 0 : 1;
 }

@@ -2,9 +2,9 @@
  *
  * Each call is made on a stack of its own that was filled with one byte value; the deepest byte that has
  * another value afterwards is the deepest that was used. The calls are made on a cluster file of the
- * greatest length with the most slaves: every kind of frame, a whole naming run over all names, and
- * refusals. All of it runs three times: first to have the linker's work done, then with two different
- * fillings, since a byte may be written with the value that it has. */
+ * greatest length with the most slaves: every kind of frame, a whole naming run over all names, the frames
+ * again as a trace, and refusals. All of it runs three times: first to have the linker's work done, then with
+ * two different fillings, since a byte may be written with the value that it has. */
 #define _XOPEN_SOURCE 700
 #include <stdio.h>
 #include <string.h>
@@ -19,6 +19,7 @@
 #define ROUND_FILE 0x02
 #define DATA_FILE 0x10
 #define NAMES 254
+#define MOST_FRAMES 256
 #define STACK_BYTES 32768
 
 static uint8_t cluster[TTPA_FILE_BYTES];
@@ -29,6 +30,9 @@ static uint8_t answer[TTPA_ANSWER_BYTES];
 static uint64_t senders;
 static uint8_t names[NAMES];
 static uint64_t run[TTPA_RUN_WORDS];
+static uint8_t trace[TTPA_TRACE_BYTES];
+static size_t trace_bytes;
+static uint64_t report[TTPA_REPORT_WORDS];
 static uint8_t number;
 
 /* ---- a cluster file of TTPA_FILE_BYTES bytes with SLAVES slaves */
@@ -147,7 +151,12 @@ static void step_call(void)
     number = ttpa_step(cluster, sizeof cluster, run, names, sizeof names, answer, sizeof answer, &senders);
 }
 
-enum kind { NOTHING, CHECK, READ_ADDRESS, WRITE_ADDRESS, WRITE_DATA, ROUND, START, STEP, KINDS };
+static void trace_call(void)
+{
+    number = ttpa_trace(cluster, sizeof cluster, trace, trace_bytes, report);
+}
+
+enum kind { NOTHING, CHECK, READ_ADDRESS, WRITE_ADDRESS, WRITE_DATA, ROUND, START, STEP, TRACE, KINDS };
 
 struct call {
     const char *name;
@@ -163,6 +172,7 @@ static const struct call calls[KINDS] = {
     [ROUND] = {"ttpa_round", round_call},
     [START] = {"ttpa_start", start_call},
     [STEP] = {"ttpa_step", step_call},
+    [TRACE] = {"ttpa_trace", trace_call},
 };
 
 /* The most stack that a call of each kind has used. */
@@ -202,6 +212,43 @@ static void make(enum kind kind, uint8_t expected)
     most[kind] = used > most[kind] ? used : most[kind];
 }
 
+/* ---- the frames sent, kept as a captured trace */
+
+static uint8_t lengths[MOST_FRAMES];
+static uint8_t data[MOST_FRAMES * TTPA_FRAME_BYTES];
+static size_t frames;
+static size_t data_bytes;
+
+/* Carries out the frame as a round, and keeps it. */
+static void send(uint8_t expected)
+{
+    memcpy(data + data_bytes, frame, frame_bytes);
+    data_bytes += frame_bytes;
+    lengths[frames++] = (uint8_t)frame_bytes;
+    make(ROUND, expected);
+}
+
+static void put_number(size_t at, size_t value)
+{
+    trace[at] = (uint8_t)(value >> 8);
+    trace[at + 1] = (uint8_t)value;
+}
+
+static void make_trace(void)
+{
+    size_t row = 4, place = 0;
+    put_number(0, frames);
+    put_number(2, data_bytes);
+    for (size_t i = 0; i < frames; i++) {
+        put_number(row, place);
+        trace[row + 2] = lengths[i];
+        row += 3;
+        place += lengths[i];
+    }
+    memcpy(trace + row, data, data_bytes);
+    trace_bytes = row + data_bytes;
+}
+
 /* ---- all calls */
 
 static void check_files(void)
@@ -224,10 +271,10 @@ static void master_slave(uint8_t name, uint8_t file, uint8_t operation, uint8_t 
     make(WRITE_ADDRESS, TTPA_ACCEPTED);
     frame_bytes = sizeof frame;
     make(READ_ADDRESS, TTPA_ACCEPTED);
-    make(ROUND, TTPA_ACCEPTED);
+    send(TTPA_ACCEPTED);
     make(WRITE_DATA, TTPA_ACCEPTED);
     frame_bytes = operation == TTPA_OPERATION_WRITE ? sizeof frame : 1;
-    make(ROUND, TTPA_ACCEPTED);
+    send(TTPA_ACCEPTED);
 }
 
 /* Records that every slave has, and others; at one slave, at all that are named, and at the unnamed. */
@@ -258,7 +305,7 @@ static void multipartner_rounds(void)
     frame_bytes = 1;
     for (size_t i = 0; i < sizeof fireworks; i++) {
         frame[0] = fireworks[i];
-        make(ROUND, TTPA_ACCEPTED);
+        send(TTPA_ACCEPTED);
         failed |= fireworks[i] == TTPA_FIREWORK_ROUND_2 && senders == 0;
     }
 }
@@ -269,9 +316,9 @@ static void refused_frames(void)
     frame[5] ^= 1;
     frame_bytes = sizeof frame;
     make(READ_ADDRESS, TTPA_REFUSED_CHECK_BYTE);
-    make(ROUND, TTPA_REFUSED_CHECK_BYTE);
+    send(TTPA_REFUSED_CHECK_BYTE);
     frame[0] = 0;
-    make(ROUND, TTPA_REFUSED_FIREWORK);
+    send(TTPA_REFUSED_FIREWORK);
 }
 
 static void name_all(void)
@@ -289,8 +336,19 @@ static void name_all(void)
     make(STEP, TTPA_REFUSED_REPEATED_NAME);
 }
 
+static void run_trace(void)
+{
+    make_trace();
+    make(TRACE, TTPA_ACCEPTED);
+    failed |= report[TTPA_REPORT_SUM] != frames || report[TTPA_REPORT_REFUSED] != 2;
+    trace_bytes--;
+    make(TRACE, TTPA_REFUSED_TRACE);
+}
+
 static void all_calls(void)
 {
+    frames = 0;
+    data_bytes = 0;
     make_cluster();
     make(NOTHING, TTPA_ACCEPTED);
     check_files();
@@ -299,6 +357,7 @@ static void all_calls(void)
     multipartner_rounds();
     master_slave_rounds();
     refused_frames();
+    run_trace();
 }
 
 int main(void)

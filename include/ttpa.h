@@ -1,5 +1,6 @@
 /* The TTP/A cluster engine for C and C++: check a cluster file, read and write frames, carry out rounds on
- * the file and name its slaves. The words and rules are those of document 01, the scope document.
+ * the file, name its slaves and run captured traces. The words and rules are those of document 01, the scope
+ * document, and of document 02, the change requests.
  *
  * Numbers. Every call returns 0 or the number of the ground on which it refused, see enum ttpa_refusal. The
  * comment of a call gives its numbers in the order in which it checks them; the first that holds is
@@ -8,8 +9,8 @@
  * Memory. All memory is the caller's, lent until the call returns; no pointer is kept. No byte is read or
  * written outside the length that is given with a pointer.
  * - NULL: a pointer with length 0 is not followed and may be NULL. With any other length it points to that
- *   many bytes. parts, run and senders have no length and are never NULL, not in a refused call either.
- * - Alignment: run and senders as uint64_t has it, so not inside a packed structure; all others none.
+ *   many bytes. parts, run, senders and report have no length and are never NULL, not in a refused call either.
+ * - Alignment: run, senders and report as uint64_t has it, so not inside a packed structure; all others none.
  * - Overlap: what a call may write (each pointer without const) overlaps nothing else of the same call.
  * The calls keep no state, allocate nothing, never wait and always return, whatever the bytes hold. Calls on
  * different memory may run at the same time.
@@ -30,15 +31,15 @@ extern "C" {
 /* The version of this header and of the library made from the same sources. The archive does not carry it:
  * keep the two together. */
 #define TTPA_VERSION_MAJOR 0
-#define TTPA_VERSION_MINOR 2
+#define TTPA_VERSION_MINOR 3
 #define TTPA_VERSION_PATCH 0
 
 /* What the library takes: code and constants of all calls, and the most stack that a call uses, with its
  * return address and arguments. No other memory. Both are measured, and rounded up. */
-#define TTPA_CODE_BYTES 6656
-#define TTPA_STACK_BYTES 2176
+#define TTPA_CODE_BYTES 7680
+#define TTPA_STACK_BYTES 2432
 
-/* What the calls return: 0, or the number of document 01 for the ground on which something was refused. */
+/* What the calls return: 0, or the documents' number for the ground on which something was refused. */
 enum ttpa_refusal {
     TTPA_ACCEPTED = 0,
     /* a cluster file: 1 to 8 */
@@ -63,7 +64,9 @@ enum ttpa_refusal {
     TTPA_REFUSED_REPEATED_NAME = 16,
     TTPA_REFUSED_POSITION = 17,
     /* a file number handed to the writer of address frames */
-    TTPA_REFUSED_FILE_NUMBER = 18
+    TTPA_REFUSED_FILE_NUMBER = 18,
+    /* a captured trace */
+    TTPA_REFUSED_TRACE = 19
 };
 
 /* What a returned number means, for an installer's screen: English, ASCII, without a full stop, never NULL.
@@ -109,6 +112,8 @@ static inline const char *ttpa_refusal_text(uint8_t number)
         return "the stored naming run is damaged or belongs to another list of names";
     case TTPA_REFUSED_FILE_NUMBER:
         return "the file number for an address frame is above 63";
+    case TTPA_REFUSED_TRACE:
+        return "the trace is longer than 16,384 bytes, or its header, an offset or its length is wrong";
     default:
         return "refused on a ground that this version has no text for";
     }
@@ -175,6 +180,20 @@ static inline const char *ttpa_refusal_text(uint8_t number)
 #define TTPA_ALL_NAMED 1
 #define TTPA_NAMES_USED_UP 2
 
+/* The most bytes that a captured trace has. A trace is: frame count (2 bytes), data length (2); for each frame
+ * its offset in the data (2) and its length (1); then the data, which the frames fill in order without gap, and
+ * nothing more. Of two bytes the first is the most significant. A frame may be empty, a trace have no frame. */
+#define TTPA_TRACE_BYTES 16384
+
+/* The words of a trace's report, by their place in report: how many of its frames were carried out, by their
+ * firework, and how many were refused. A refused frame counts in no other word. */
+#define TTPA_REPORT_MSA 0
+#define TTPA_REPORT_MSD 1
+#define TTPA_REPORT_MULTIPARTNER 2
+#define TTPA_REPORT_REFUSED 3
+#define TTPA_REPORT_SUM 4 /* the sum of the four, which is the frame count */
+#define TTPA_REPORT_WORDS 5
+
 /* Checks a cluster file of n bytes.
  * Refuses by 1, 2, 3, 4, 5, 6, 7, 8 in this order. Writes nothing. */
 uint8_t ttpa_check(const uint8_t *file, size_t n);
@@ -205,8 +224,8 @@ uint8_t ttpa_start(const uint8_t *names, size_t n, uint64_t run[TTPA_RUN_WORDS])
 
 /* Makes the run's next round, an address frame and a data frame, on the cluster file of n bytes, over the
  * same list of m names as at the start; answer has k bytes. Between two steps other rounds may be made on
- * the file: multipartner rounds, and address frames each with its data frame, but no write to and no execute
- * of file 0x08.
+ * the file, one by one or as traces: multipartner rounds, and address frames each with its data frame, but no
+ * write to and no execute of file 0x08.
  * Refuses by 1, 2, 3, 4, 5, 6, 7, 8, 9, 15, 16, 17 in this order. On 0 file and run have moved on, and
  * answer and *senders are those of the data frame, as ttpa_round has them. In a run from ttpa_start: if the
  * index has risen, the name before it is done: it was taken already if the step was 0 before the call, else
@@ -214,6 +233,14 @@ uint8_t ttpa_start(const uint8_t *names, size_t n, uint64_t run[TTPA_RUN_WORDS])
  * nothing. */
 uint8_t ttpa_step(uint8_t *file, size_t n, uint64_t run[TTPA_RUN_WORDS], const uint8_t *names, size_t m,
                   uint8_t *answer, size_t k, uint64_t *senders);
+
+/* Runs a captured trace of m bytes on the cluster file of n bytes: its frames in order, each as ttpa_round
+ * carries it out. A frame that ttpa_round would refuse (10 to 14) is counted, and the run goes on. What slaves
+ * answer is not kept.
+ * Refuses by 1, 2, 3, 4, 5, 6, 7, 8, 19 in this order. On 0 the file is as the frames leave it, and all of
+ * report is written. */
+uint8_t ttpa_trace(uint8_t *file, size_t n, const uint8_t *trace, size_t m,
+                   uint64_t report[TTPA_REPORT_WORDS]);
 
 #ifdef __cplusplus
 }

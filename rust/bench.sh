@@ -40,7 +40,7 @@ instructions() {
 # Instructions of one workload.
 cost() {
     local times=20 once twice
-    case $2 in naming-*) times=1 ;; esac
+    case $2 in naming-* | trace-* | rounds-*) times=1 ;; esac
     once=$(instructions "$1" "$2" "$times")
     twice=$(instructions "$1" "$2" $((2 * times)))
     echo $(((twice - once) / times))

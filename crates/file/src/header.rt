@@ -21,7 +21,7 @@ use crate::layout::PENDING_PB2_PLACE;
 use crate::layout::TABLE_PLACE;
 use crate::layout::ZEROS_PLACE;
 use crate::numbers::byte_at;
-use crate::numbers::offset_at;
+use crate::numbers::u16_at;
 use crate::operations::is_broadcast_read;
 use crate::operations::is_no_operation;
 use crate::operations::operation_of;
@@ -56,7 +56,7 @@ fn wrong_length(file: &[u8]) -> bool
     requires { ⌜ HeaderFits (now file) ⌝ }
     ensures { λ r. ⌜ r ≡ wrongLength offsetWidth (now (file .entry)) ⌝ }
 {
-    offset_at(file, LENGTH_PLACE) != file.len()
+    u16_at(file, LENGTH_PLACE) != file.len()
 }
 
 // A pending operation is no operation 3 and no broadcast read.
@@ -83,7 +83,7 @@ fn wrong_header(file: &[u8]) -> bool
     if MOST_SLAVES < byte_at(file, COUNT_PLACE) {
         return true;
     }
-    if offset_at(file, TABLE_PLACE) != HEADER_SIZE {
+    if u16_at(file, TABLE_PLACE) != HEADER_SIZE {
         return true;
     }
     if byte_at(file, ZEROS_PLACE) != 0 {

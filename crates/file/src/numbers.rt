@@ -1,8 +1,8 @@
-// Bytes and several-byte numbers of the file, most significant byte first.
+// Bytes and several-byte numbers of a file or a trace, most significant byte first.
 ghost use Prim.Native.Nat.{_+_, _≤_, _<_};
 ghost use lib.ListN.{length};
 ghost use Rattle.file.specs.Inner.Numbers.{ByteAt, NumberAt};
-ghost use Rattle.file.specs.Rules.Layout.{offsetWidth, longWidth};
+ghost use Rattle.file.specs.Rules.Layout.{shortWidth, longWidth};
 
 // The byte at a place, as an index.
 pub fn byte_at(file: &[u8], at: usize) -> usize
@@ -12,10 +12,10 @@ pub fn byte_at(file: &[u8], at: usize) -> usize
     file[at] as usize
 }
 
-// The offset at a place.
-pub fn offset_at(file: &[u8], at: usize) -> usize
-    requires { ⌜ at + offsetWidth ≤ length (now file) ⌝ }
-    ensures { λ r. ⌜ NumberAt (now (file .entry)) at offsetWidth r ⌝ }
+// The two-byte number at a place, as an index.
+pub fn u16_at(file: &[u8], at: usize) -> usize
+    requires { ⌜ at + shortWidth ≤ length (now file) ⌝ }
+    ensures { λ r. ⌜ NumberAt (now (file .entry)) at shortWidth r ⌝ }
 {
     let high = byte_at(file, at);
     let low = byte_at(file, at + 1);

@@ -27,7 +27,7 @@ use crate::layout::PHYSICAL_NAME_PLACE;
 use crate::layout::RECORD_COUNT_PLACE;
 use crate::layout::RECORD_SIZE;
 use crate::numbers::byte_at;
-use crate::numbers::offset_at;
+use crate::numbers::u16_at;
 use crate::numbers::u64_at;
 use crate::operations::file_number_of;
 use crate::operations::operation_of;
@@ -131,7 +131,7 @@ fn search_directory(file: &[u8], directory: usize, count: usize, number: usize) 
     while entry < end {
         if byte_at(file, entry) == number {
             let last = byte_at(file, entry + RECORD_COUNT_PLACE);
-            let place = offset_at(file, entry + FILE_OFFSET_PLACE);
+            let place = u16_at(file, entry + FILE_OFFSET_PLACE);
             let size = RECORD_SIZE * (last + 1);
             return FilePlace::Bytes(FileBytes { place, size });
         }
@@ -146,7 +146,7 @@ pub fn find_file(file: &[u8], slave: usize, number: FileNumber) -> FilePlace
     ensures { λ r. ⌜ foundFile r ≡ findFile (decode (now (file .entry))) slave (fileIn number) ⌝ }
 {
     let entry = HEADER_SIZE + ENTRY_SIZE * slave;
-    let directory = offset_at(file, entry);
+    let directory = u16_at(file, entry);
     let count = byte_at(file, entry + FILE_COUNT_PLACE);
     search_directory(file, directory, count, number.0 as usize)
 }

@@ -54,7 +54,7 @@ impl Operation {
     pub const EXECUTE: Operation = Operation(2);
 }
 
-// Why something is turned away: document 01's number ("Grounds for turning something away").
+// Why something is turned away: document 01's number ("Grounds for turning something away"), or document 02's.
 pub struct Refusal(pub u8);
 
 impl Refusal {
@@ -93,6 +93,9 @@ impl Refusal {
     pub const RUN_POSITION: Refusal = Refusal(17);
 
     pub const FILE_NUMBER: Refusal = Refusal(18);
+
+    // Document 02 from here on: "New numbers, all joining document 01's".
+    pub const TRACE: Refusal = Refusal(19);
 }
 
 // "the slave count, 0 to 32".

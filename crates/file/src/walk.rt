@@ -19,7 +19,7 @@ use crate::layout::RECORD_COUNT_PLACE;
 use crate::layout::RECORD_SIZE;
 use crate::layout::TABLE_ZERO_PLACE;
 use crate::numbers::byte_at;
-use crate::numbers::offset_at;
+use crate::numbers::u16_at;
 use crate::types::FileNumber;
 use crate::types::PLACES_EACH;
 
@@ -40,7 +40,7 @@ fn is_next(file: &[u8], entry: usize, number: usize, last: usize, low: usize, pl
     if last < LEAST_RECORD {
         return false;
     }
-    offset_at(file, entry + FILE_OFFSET_PLACE) == place
+    u16_at(file, entry + FILE_OFFSET_PLACE) == place
 }
 
 // Whether no file number was above the last one and no file ended past the bytes: numbers and places rise, so it is enough to look at
@@ -108,7 +108,7 @@ fn stated_from_front(
     let mut entry = directory;
     while entry < end {
         if is_stated(file, entry, wanted, least) {
-            return offset_at(file, entry + FILE_OFFSET_PLACE) as u16;
+            return u16_at(file, entry + FILE_OFFSET_PLACE) as u16;
         }
         entry = entry + ENTRY_SIZE;
     }
@@ -130,7 +130,7 @@ fn stated_from_back(
     while directory < entry {
         entry = entry - ENTRY_SIZE;
         if is_stated(file, entry, wanted, least) {
-            return offset_at(file, entry + FILE_OFFSET_PLACE) as u16;
+            return u16_at(file, entry + FILE_OFFSET_PLACE) as u16;
         }
     }
     0
@@ -158,7 +158,7 @@ fn walk_slave(file: &[u8], entry: usize, place: usize) -> SlaveWalk
     ensures { λ r. ⌜ SlaveWalked (now (file .entry)) entry place (r .good) (r .end) (r .configuration) (r .documentation) ⌝ }
 {
     let count = byte_at(file, entry + FILE_COUNT_PLACE);
-    if offset_at(file, entry) != place {
+    if u16_at(file, entry) != place {
         return BROKEN;
     }
     if byte_at(file, entry + TABLE_ZERO_PLACE) != 0 {

@@ -24,6 +24,13 @@ use Rattle.cluster.specs.Rules.Round.{roundOn}
 use Rattle.cluster.specs.Inner.Answers.{answerOf}
 use Rattle.cluster.specs.declared.answer.RoundAnswer.{RoundAnswer}
 use Rattle.cluster.specs.declared.answer.RoundAnswer.the-variants as rounds
+use Rattle.trace.specs.Rules.Run.{reportWords, traceOn}
+use Rattle.trace.specs.Inner.Answers.{reportIn, tracedOf}
+use Rattle.trace.specs.Inner.Sent.{FewFrames}
+use Rattle.trace.specs.declared.report.Report.{Report}
+use Rattle.trace.specs.declared.run.TraceAnswer.{TraceAnswer}
+use Rattle.trace.specs.declared.run.TraceAnswer.the-variants as traces
+use Rattle.trace.proofs.Calls.{ran-few}
 use Rattle.naming.specs.Rules.Run.{startOver}
 use Rattle.naming.specs.Rules.Step.{ended, made, stepOn}
 use Rattle.naming.specs.Inner.Answers.{positionOf, startedOf, steppedOf, runAfter}
@@ -32,7 +39,7 @@ use Rattle.naming.specs.declared.run.Started.{Started}
 use Rattle.naming.specs.declared.run.Started.the-variants as starts
 use Rattle.naming.specs.declared.run.Stepped.{Stepped}
 use Rattle.naming.specs.declared.run.Stepped.the-variants as steps
-use Rattle.ttpa.specs.Rules.Calls.{checkCall, partsLeft, readAddressCall, writeAddressCall, writeDataCall, sendersAfter, roundCall, wordsOf, positionIn, startWords, startCall, stepSenders, stepWords, stepCall}
+use Rattle.ttpa.specs.Rules.Calls.{checkCall, partsLeft, readAddressCall, writeAddressCall, writeDataCall, sendersAfter, roundCall, reportAfter, traceCall, wordsOf, positionIn, startWords, startCall, stepSenders, stepWords, stepCall}
 
 -- ---- the checker
 
@@ -102,6 +109,28 @@ module _ (file frame answer : List ℕ) (senders : ℕ) {answer′ file′ : Lis
   round-carries {mask} e =
       let r : (done mask, answer′, file′) ≡ roundOn file frame answer = rw e at is in
       rw (← r)
+
+-- ---- a trace on a file
+
+module _ (file t report : List ℕ) {file′ : List ℕ} (a : TraceAnswer) (is : (tracedOf a, file′) ≡ traceOn file t) where
+  pub trace-refuses : {why : Refusal} → a ≡ traces.Refused why → (why .0, report, file′) ≡ traceCall file t report
+  unfolding traceCall numberIn reportAfter tracedOf
+  trace-refuses {why} e =
+      let r : (refused (why .0), file′) ≡ traceOn file t = rw e at is in
+      rw (← r)
+
+  pub trace-runs : {r : Report} {words : List ℕ} → a ≡ traces.Ran r → words ≡ reportWords (reportIn r) → (0, words, file′) ≡ traceCall file t report
+  unfolding traceCall numberIn reportAfter tracedOf
+  trace-runs {r} e same =
+      let ran : (done (reportIn r), file′) ≡ traceOn file t = rw e at is in
+      rw (← ran, same)
+
+  -- a report of few frames: its sum fits
+  pub trace-few : {r : Report} → a ≡ traces.Ran r → FewFrames (reportIn r)
+  unfolding tracedOf
+  trace-few {r} e =
+      let ran : (done (reportIn r), file′) ≡ traceOn file t = rw e at is in
+      ran-few file t (reportIn r) (rw (← ran))
 
 -- ---- a fresh run
 

@@ -2,10 +2,13 @@
 // return. Each is the call of the layer below, with the answer as a number.
 ghost use mathlib.Core.Path.{_≡_};
 ghost use mathlib.Core.List.{[], _∷_};
-ghost use Rattle.ttpa.specs.Rules.Calls.{checkCall, readAddressCall, writeAddressCall, writeDataCall, roundCall, wordsOf, positionIn, startCall, stepCall};
+ghost use Rattle.ttpa.specs.Rules.Calls.{checkCall, readAddressCall, writeAddressCall, writeDataCall, roundCall, traceCall, wordsOf, positionIn, startCall, stepCall};
 ghost use Rattle.naming.specs.Inner.Answers.{positionOf};
 ghost use Rattle.file.specs.Rules.Results.{numberIn};
 ghost use Rattle.frame.specs.Inner.Answers.{writingOf};
+ghost use Rattle.trace.specs.Rules.Run.{reportWords};
+ghost use Rattle.trace.specs.Inner.Answers.{reportIn};
+ghost use Rattle.trace.specs.Inner.Sent.{FewFrames};
 use cluster::answer::RoundAnswer;
 use cluster::round::round;
 use file::survey::FileAnswer;
@@ -24,9 +27,15 @@ use naming::run::Started;
 use naming::run::Stepped;
 use naming::run::start;
 use naming::run::step;
+use trace::report::Report;
+use trace::run::TraceAnswer;
+use trace::run::run_trace;
 
 // The parts of an address frame.
 pub const PARTS: usize = 5;
+
+// The words of a trace's report.
+pub const REPORT_WORDS: usize = 5;
 
 // The words of a run, and their places.
 pub const WORDS: usize = 6;
@@ -127,6 +136,34 @@ pub extern "C" fn ttpa_round(
         RoundAnswer::Refused(why) => why.0,
         RoundAnswer::Carried(mask) => {
             *senders = mask;
+            0
+        }
+    }
+}
+
+fn report_words(report: Report) -> [u64; REPORT_WORDS]
+    requires { ⌜ FewFrames (reportIn report) ⌝ }
+    ensures { λ r. ⌜ r ≡ reportWords (reportIn report) ⌝ }
+{
+    let sum = report.msa + report.msd + report.multipartner + report.refused;
+    [
+        report.msa,
+        report.msd,
+        report.multipartner,
+        report.refused,
+        sum,
+    ]
+}
+
+#[no_mangle]
+pub extern "C" fn ttpa_trace(file: &mut [u8], trace: &[u8], report: &mut [u64; REPORT_WORDS]) -> u8
+    ensures { λ r. ⌜ (r, now (report .exit), now (file .exit)) ≡ traceCall (now (file .entry)) (now (trace .entry)) (now (report .entry)) ⌝ }
+{
+    let done = run_trace(file, trace);
+    match done {
+        TraceAnswer::Refused(why) => why.0,
+        TraceAnswer::Ran(counts) => {
+            *report = report_words(counts);
             0
         }
     }

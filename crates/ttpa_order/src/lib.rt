@@ -2,14 +2,16 @@
 // passes them by their order: a call of `ttpa` whose parameters stood in another order would not meet the contract here.
 ghost use mathlib.Core.Path.{_≡_};
 ghost use mathlib.Core.List.{[], _∷_};
-ghost use Rattle.ttpa.specs.Rules.Calls.{checkCall, readAddressCall, writeAddressCall, writeDataCall, roundCall, startCall, stepCall};
+ghost use Rattle.ttpa.specs.Rules.Calls.{checkCall, readAddressCall, writeAddressCall, writeDataCall, roundCall, traceCall, startCall, stepCall};
 use ttpa::PARTS;
+use ttpa::REPORT_WORDS;
 use ttpa::WORDS;
 use ttpa::ttpa_check;
 use ttpa::ttpa_read_address;
 use ttpa::ttpa_round;
 use ttpa::ttpa_start;
 use ttpa::ttpa_step;
+use ttpa::ttpa_trace;
 use ttpa::ttpa_write_address;
 use ttpa::ttpa_write_data;
 
@@ -48,6 +50,12 @@ pub fn round(file: &mut [u8], frame: &[u8], answer: &mut [u8], senders: &mut u64
     ensures { λ r. ⌜ (r, now (senders .exit), now (answer .exit), now (file .exit)) ≡ roundCall (now (file .entry)) (now (frame .entry)) (now (answer .entry)) (now (senders .entry)) ⌝ }
 {
     ttpa_round(file, frame, answer, senders)
+}
+
+pub fn trace(file: &mut [u8], trace: &[u8], report: &mut [u64; REPORT_WORDS]) -> u8
+    ensures { λ r. ⌜ (r, now (report .exit), now (file .exit)) ≡ traceCall (now (file .entry)) (now (trace .entry)) (now (report .entry)) ⌝ }
+{
+    ttpa_trace(file, trace, report)
 }
 
 pub fn start(names: &[u8], run: &mut [u64; WORDS]) -> u8

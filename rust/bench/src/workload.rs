@@ -1,13 +1,13 @@
 //! What is measured. Everything is prepared before the first call.
 
 use crate::files;
-use compare::engine::{Engine, RunWords};
+use compare::engine::{Engine, ReportWords, RunWords};
 use compare::inputs::framed;
-use model::{MSA, MSD};
+use model::{encode_trace, MSA, MSD};
 use std::hint::black_box;
 
 /// The lines of the table.
-pub const TABLE: [&str; 13] = [
+pub const TABLE: [&str; 15] = [
     "check-32-2",
     "check-most",
     "address-32",
@@ -21,6 +21,8 @@ pub const TABLE: [&str; 13] = [
     "partner-32-63",
     "naming-1",
     "naming-32",
+    "trace-1000-32",
+    "rounds-1000-32",
 ];
 
 /// How the check grows in slaves, and in files of a slave; how a round grows in slaves and entries.
@@ -64,6 +66,17 @@ pub enum Workload {
         file: Vec<u8>,
         names: Vec<u8>,
     },
+    /// A captured trace.
+    Trace {
+        file: Vec<u8>,
+        trace: Vec<u8>,
+        frames: u64,
+    },
+    /// Its frames one by one.
+    Frames {
+        file: Vec<u8>,
+        frames: Vec<Vec<u8>>,
+    },
 }
 
 impl Workload {
@@ -100,6 +113,8 @@ impl Workload {
                     names: (1..=slaves as u8).collect(),
                 }
             }
+            ["trace", reads, slaves] => reads_as_trace(number(reads)?, number(slaves)?),
+            ["rounds", reads, slaves] => reads_as_rounds(number(reads)?, number(slaves)?),
             _ => return None,
         })
     }
@@ -114,6 +129,16 @@ impl Workload {
                     accepted(engine.round(black_box(file), black_box(frame), &mut answer, &mut senders));
                 }
                 Workload::Naming { file, names } => naming_run(engine, &mut file.clone(), names),
+                Workload::Trace { file, trace, frames } => {
+                    let mut report: ReportWords = [0; 5];
+                    accepted(engine.trace(black_box(file), black_box(trace), &mut report));
+                    assert_eq!(report, [*frames / 2, *frames / 2, 0, 0, *frames]);
+                }
+                Workload::Frames { file, frames } => {
+                    for frame in frames {
+                        accepted(engine.round(black_box(file), black_box(frame), &mut answer, &mut senders));
+                    }
+                }
             }
         }
         black_box(senders);
@@ -127,6 +152,26 @@ fn pending(slaves: usize, logical_name: impl Fn(usize) -> u8, operation: [u8; 3]
     file[9] = 1;
     file[10..13].copy_from_slice(&operation);
     Workload::Frame { file, frame: frame.to_vec() }
+}
+
+fn reads_as_trace(reads: usize, slaves: usize) -> Workload {
+    let frames = reads_of(reads, slaves);
+    Workload::Trace { file: named(slaves), trace: encode_trace(&frames), frames: frames.len() as u64 }
+}
+
+fn reads_as_rounds(reads: usize, slaves: usize) -> Workload {
+    Workload::Frames { file: named(slaves), frames: reads_of(reads, slaves) }
+}
+
+/// Slaves with the logical names 1, 2, …
+fn named(slaves: usize) -> Vec<u8> {
+    files::small(slaves, 2, |slave| slave as u8 + 1)
+}
+
+/// The frames of so many reads of record 1 of 0x3D, at each slave in its turn.
+fn reads_of(reads: usize, slaves: usize) -> Vec<Vec<u8>> {
+    let address = |read: usize| framed(MSA, [read as u8, (read % slaves) as u8 + 1, 0x3D << 2, 1]);
+    (0..reads).flat_map(|read| [address(read), vec![MSD]]).collect()
 }
 
 fn naming_run(engine: &dyn Engine, file: &mut [u8], names: &[u8]) {

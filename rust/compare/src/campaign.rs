@@ -4,7 +4,7 @@ use crate::case::{Call, Outcome};
 use crate::engine::{Engine, Model};
 use crate::random::Random;
 use crate::sort::Sort;
-use crate::{clusters, inputs, runs};
+use crate::{clusters, inputs, runs, traces};
 use std::collections::BTreeMap;
 
 /// Cases that are printed before the rest is only counted.
@@ -19,6 +19,7 @@ pub struct Amounts {
     pub rounds: usize,
     pub starts: usize,
     pub steps: usize,
+    pub traces: usize,
     pub runs: usize,
 }
 
@@ -30,6 +31,7 @@ impl Amounts {
         rounds: 80_000,
         starts: 10_000,
         steps: 40_000,
+        traces: 10_000,
         runs: 60,
     };
 
@@ -41,6 +43,7 @@ impl Amounts {
             rounds: self.rounds * factor,
             starts: self.starts * factor,
             steps: self.steps * factor,
+            traces: self.traces * factor,
             runs: self.runs * factor,
         }
     }
@@ -53,13 +56,14 @@ impl Amounts {
             rounds: self.rounds / divisor,
             starts: self.starts / divisor,
             steps: self.steps / divisor,
+            traces: self.traces / divisor,
             runs: self.runs / divisor,
         }
     }
 }
 
 /// The answers that each call has to be seen to give, or the inputs were too tame.
-const ANSWERS: [(&str, &[u8]); 7] = [
+const ANSWERS: [(&str, &[u8]); 8] = [
     ("check", &[0, 1, 2, 3, 4, 5, 6, 7, 8]),
     ("read", &[0, 10, 11, 12, 13, 14]),
     ("write", &[0, 9, 13, 14, 18]),
@@ -67,6 +71,7 @@ const ANSWERS: [(&str, &[u8]); 7] = [
     ("round", &[0, 1, 2, 3, 4, 5, 6, 7, 8, 9, 10, 11, 12, 13, 14]),
     ("start", &[0, 15, 16]),
     ("step", &[0, 1, 2, 3, 4, 5, 6, 7, 8, 9, 15, 16, 17]),
+    ("trace", &[0, 1, 2, 3, 4, 5, 6, 7, 8, 19]),
 ];
 
 /// Both engines, and the count of what they were asked.
@@ -135,13 +140,15 @@ impl<'a> Campaign<'a> {
         self.rounds(amounts.rounds, &mut Random::from_seed(seed ^ 4));
         self.starts(amounts.starts, &mut Random::from_seed(seed ^ 5));
         self.steps(amounts.steps, &mut Random::from_seed(seed ^ 6));
+        self.traces(amounts.traces, &mut Random::from_seed(seed ^ 8));
         for run in 0..amounts.runs {
             // Every number of slaves has its turn; 20 and 33 have no divisor in common.
             let slaves = 20 * run % (model::MOST_SLAVES + 1);
             runs::whole_run(self, &mut Random::from_seed(seed ^ 7 ^ (run as u64) << 8), slaves);
         }
         self.ends_reached();
-        self.sorts_reached(amounts.rounds);
+        self.sorts_reached(&Sort::REACHED, amounts.rounds);
+        self.sorts_reached(&Sort::REACHED_BY_TRACES, amounts.traces);
         self.reached();
     }
 
@@ -236,6 +243,23 @@ impl<'a> Campaign<'a> {
         }
     }
 
+    /// Traces on good files and on damaged ones, whose number comes before that of a broken trace.
+    fn traces(&mut self, amount: usize, random: &mut Random) {
+        for _ in 0..amount {
+            let file = any_file(random);
+            let cluster = model::check(&file).unwrap_or_else(|_| clusters::cluster_of(random, 2));
+            let trace = traces::trace(random, &cluster);
+            let outcome = self.call(&Call::Trace { file: file.clone(), trace: trace.clone() });
+            self.note_sorts(traces::sorts(&file, &trace, &outcome));
+        }
+    }
+
+    fn note_sorts(&mut self, sorts: impl IntoIterator<Item = Sort>) {
+        for sort in sorts {
+            *self.sorts.entry(sort).or_insert(0) += 1;
+        }
+    }
+
     fn note(&mut self, call: &Call, expected: &Outcome) {
         *self.answers.entry((call.kind(), expected.number)).or_insert(0) += 1;
         if let Call::Round { frame, .. } = call {
@@ -243,9 +267,7 @@ impl<'a> Campaign<'a> {
                 *self.heard.entry(frame[0]).or_insert(0) += 1;
             }
         }
-        if let Some(sort) = Sort::of(call, expected) {
-            *self.sorts.entry(sort).or_insert(0) += 1;
-        }
+        self.note_sorts(Sort::of(call, expected));
         self.print_sample(call, expected);
     }
 
@@ -277,10 +299,10 @@ impl<'a> Campaign<'a> {
     }
 
     /// Calls of every sort must have been made, so many at least.
-    fn sorts_reached(&mut self, rounds: usize) {
-        for (sort, rounds_for_one) in Sort::REACHED {
+    fn sorts_reached(&mut self, sorts: &[(Sort, usize)], calls: usize) {
+        for &(sort, calls_for_one) in sorts {
             let count = *self.sorts.get(&sort).unwrap_or(&0);
-            let least = rounds / rounds_for_one;
+            let least = calls / calls_for_one;
             println!("{}: {count}", sort.text());
             if count < least as u64 {
                 self.differ(&format!("{}: fewer than {least}", sort.text()), "inputs too tame");
@@ -346,6 +368,8 @@ fn difference(call: &Call, expected: &Outcome, got: &Outcome) -> Option<&'static
         Some("parts")
     } else if expected.run != got.run {
         Some("run")
+    } else if expected.report != got.report {
+        Some("report")
     } else {
         None
     }

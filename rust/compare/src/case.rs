@@ -1,9 +1,9 @@
 //! One call as a line of text: `round FILE FRAME answer-length = number mask FILE-after ANSWER-after`.
 //!
 //! Bytes are hexadecimal and `-` is none; other numbers are decimal, masks sixteen hexadecimal digits. The
-//! answer buffer holds EE throughout before the call. A mask that the call leaves alone is shown as 0.
+//! answer buffer holds EE throughout before the call. A mask or a report that the call leaves alone is shown as 0.
 
-use crate::engine::{Engine, RunWords};
+use crate::engine::{Engine, ReportWords, RunWords};
 use std::collections::BTreeMap;
 use std::fmt;
 
@@ -11,6 +11,9 @@ use std::fmt;
 pub const FILL: u8 = 0xEE;
 const SENDERS_BEFORE: u64 = 0xEEEE_EEEE_EEEE_EEEE;
 const RUN_BEFORE: RunWords = [SENDERS_BEFORE; 6];
+/// A report's five words between two that are not lent, so that a word too many shows.
+type FencedReport = [u64; 7];
+const REPORT_BEFORE: FencedReport = [SENDERS_BEFORE; 7];
 /// The kind of a case that holds what the listing program writes.
 pub const LISTING: &str = "list";
 /// The place of the epoch in a file.
@@ -26,6 +29,7 @@ pub enum Call {
     Round { file: Vec<u8>, frame: Vec<u8>, answer_length: usize },
     Start { names: Vec<u8> },
     Step { file: Vec<u8>, names: Vec<u8>, run: RunWords, answer_length: usize },
+    Trace { file: Vec<u8>, trace: Vec<u8> },
 }
 
 /// Everything a call answers and leaves in lent memory; None is memory that was not lent.
@@ -38,12 +42,19 @@ pub struct Outcome {
     pub buffer: Option<Vec<u8>>,
     pub parts: Option<[u8; 5]>,
     pub run: Option<RunWords>,
+    pub report: Option<FencedReport>,
 }
 
 impl Outcome {
     /// The mask, where the call set it.
     pub fn mask(&self) -> u64 {
         self.senders.filter(|&senders| senders != SENDERS_BEFORE).unwrap_or(0)
+    }
+
+    /// The report of a trace that was run.
+    pub fn report_words(&self) -> Option<ReportWords> {
+        let [_, msa, msd, multipartner, refused, sum, _] = self.report.filter(|_| self.number == 0)?;
+        Some([msa, msd, multipartner, refused, sum])
     }
 
     /// Whether the file is another than before, its epoch aside.
@@ -63,6 +74,7 @@ impl Call {
             Call::Round { .. } => "round",
             Call::Start { .. } => "start",
             Call::Step { .. } => "step",
+            Call::Trace { .. } => "trace",
         }
     }
 
@@ -87,6 +99,9 @@ impl Call {
                 lent_bytes(&mut outcome.buffer),
                 lent(&mut outcome.senders),
             ),
+            Call::Trace { trace, .. } => {
+                engine.trace(lent_bytes(&mut outcome.file), trace, lent_report(&mut outcome.report))
+            }
         };
         outcome
     }
@@ -115,6 +130,9 @@ impl Call {
                 run: Some(*run),
                 ..nothing
             },
+            Call::Trace { file, .. } => {
+                Outcome { file: Some(file.clone()), report: Some(REPORT_BEFORE), ..nothing }
+            }
         }
     }
 
@@ -144,6 +162,10 @@ impl Call {
                 decimals(&outcome.run.unwrap_or([0; 6]), ","),
                 after(&outcome.buffer)
             ),
+            Call::Trace { .. } => {
+                let report = outcome.report_words().unwrap_or([0; 5]);
+                format!("{number} {} {}", decimals(&report, " "), after(&outcome.file))
+            }
         };
         format!("{self} = {result}")
     }
@@ -172,6 +194,7 @@ impl Call {
                 run: numbers(&run.split(',').collect::<Vec<&str>>())?,
                 answer_length: length.parse().ok()?,
             }),
+            ["trace", file, trace] => Some(Call::Trace { file: bytes(file)?, trace: bytes(trace)? }),
             _ => None,
         }
     }
@@ -192,6 +215,7 @@ impl fmt::Display for Call {
             Call::Step { file, names, run, answer_length } => {
                 write!(out, "{} {} {} {answer_length}", hex(file), hex(names), decimals(run, ","))
             }
+            Call::Trace { file, trace } => write!(out, "{} {}", hex(file), hex(trace)),
         }
     }
 }
@@ -240,6 +264,10 @@ pub fn kind_of(line: &str) -> &str {
 
 fn lent<T>(memory: &mut Option<T>) -> &mut T {
     memory.as_mut().expect("memory of this call")
+}
+
+fn lent_report(fenced: &mut Option<FencedReport>) -> &mut ReportWords {
+    (&mut lent(fenced)[1..6]).try_into().expect("five words")
 }
 
 fn lent_bytes(memory: &mut Option<Vec<u8>>) -> &mut [u8] {

@@ -1,8 +1,10 @@
 //! The calls that outside code makes, each with the lent buffers of the C call and its number as answer.
 
 pub type RunWords = [u64; 6];
+/// Of the frames of a trace the numbers of MSA, MSD, multipartner and refused ones, and their sum.
+pub type ReportWords = [u64; 5];
 
-/// One implementation of the seven calls. 0 is "carried out", every other number a refusal.
+/// One implementation of the eight calls. 0 is "carried out", every other number a refusal.
 pub trait Engine {
     /// What the comparison says it ran against.
     fn name(&self) -> &'static str;
@@ -20,6 +22,7 @@ pub trait Engine {
         answer: &mut [u8],
         senders: &mut u64,
     ) -> u8;
+    fn trace(&self, file: &mut [u8], trace: &[u8], report: &mut ReportWords) -> u8;
 }
 
 /// Document 01 read as plain Rust.
@@ -73,6 +76,12 @@ impl Engine for Model {
             if let Some(mask) = mask {
                 *senders = mask;
             }
+        }))
+    }
+
+    fn trace(&self, file: &mut [u8], trace: &[u8], report: &mut ReportWords) -> u8 {
+        number(model::trace(file, trace).map(|counts| {
+            *report = [counts.msa, counts.msd, counts.multipartner, counts.refused, counts.sum()];
         }))
     }
 }
@@ -140,6 +149,14 @@ impl Engine for Plain {
     ) -> u8 {
         plain::step(file, run, names, answer, senders)
     }
+
+    fn trace(&self, file: &mut [u8], trace: &[u8], report: &mut ReportWords) -> u8 {
+        if self.nested {
+            plain::trace_in_nested_loops(file, trace, report)
+        } else {
+            plain::trace(file, trace, report)
+        }
+    }
 }
 
 /// The engine as it is linked.
@@ -185,5 +202,9 @@ impl Engine for Library {
         senders: &mut u64,
     ) -> u8 {
         ttpa::calls::step(file, run, names, answer, senders)
+    }
+
+    fn trace(&self, file: &mut [u8], trace: &[u8], report: &mut ReportWords) -> u8 {
+        ttpa::calls::trace(file, trace, report)
     }
 }

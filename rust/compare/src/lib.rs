@@ -1,13 +1,15 @@
-//! Two engines side by side: the calls they share, test cases as lines of text, random clusters, frames and
-//! positions, and the comparison itself.
+//! Two engines side by side: the calls they share, test cases as lines of text, random clusters, frames, positions
+//! and traces, and the comparison itself.
 
 #![forbid(unsafe_code)]
 
 pub mod campaign;
 pub mod case;
 pub mod clusters;
+pub mod edges;
 pub mod engine;
 pub mod inputs;
 pub mod random;
 pub mod runs;
 pub mod sort;
+pub mod traces;

@@ -81,8 +81,12 @@ impl WholeRun {
         self.hold_against_account(campaign);
     }
 
-    /// A complete round that is no write to and no execute of 0x08, with refused calls anywhere.
+    /// A complete round that is no write to and no execute of 0x08, with refused calls anywhere, now and then after a
+    /// captured trace of such rounds.
     fn other_calls(&mut self, campaign: &mut Campaign, random: &mut Random) {
+        if random.once_in(4) {
+            self.trace(campaign, random);
+        }
         self.refused(campaign, random);
         if random.once_in(2) {
             let firework = random.one_of(&inputs::MULTIPARTNER);
@@ -110,6 +114,20 @@ impl WholeRun {
         }
     }
 
+    /// Permitted rounds as one captured trace, with a refused frame before each frame of them.
+    fn trace(&mut self, campaign: &mut Campaign, random: &mut Random) {
+        let mut frames = Vec::new();
+        for _ in 0..random.between(1, 3) {
+            for frame in permitted_round(random, &self.cluster()) {
+                frames.extend([refused_frame(random), frame]);
+            }
+        }
+        let trace = model::encode_trace(&frames);
+        let outcome = campaign.call(&Call::Trace { file: self.file.clone(), trace });
+        self.file = outcome.file.expect("a lent file");
+        self.hold_against_account(campaign);
+    }
+
     /// "every logical name, the end and both counts carried in the run"
     fn hold_against_account(&self, campaign: &mut Campaign) {
         let cluster = self.cluster();
@@ -128,6 +146,31 @@ impl WholeRun {
             Call::Step { file: self.file.clone(), names: self.names.clone(), run: self.run, answer_length: 64 };
         campaign
             .differ(&format!("{what} disagrees, after which the next call would be\n{call}"), "see the case");
+    }
+}
+
+/// The frames of a complete round that demand 3 permits; none where the one drawn is not permitted.
+fn permitted_round(random: &mut Random, cluster: &Cluster) -> Vec<Vec<u8>> {
+    if random.once_in(2) {
+        return vec![vec![random.one_of(&inputs::MULTIPARTNER)]];
+    }
+    let mut cluster = cluster.clone();
+    let address = inputs::address(random, &cluster);
+    if !is_permitted(&address) {
+        return Vec::new();
+    }
+    cluster.take(&address).expect("an accepted frame");
+    let data = inputs::fitting_data(random, &cluster);
+    vec![address, data]
+}
+
+/// A frame that is refused whatever is pending: by 10, 12, 13, or 11 or 12.
+fn refused_frame(random: &mut Random) -> Vec<u8> {
+    match random.below(4) {
+        0 => Vec::new(),
+        1 => inputs::unfolded(0x55, [1, 0xFF, 0x21, 1]),
+        2 => inputs::framed(0x55, [1, 1, 3, 1]),
+        _ => inputs::unfolded(0x49, [0, 0, 0, 0]),
     }
 }
 

@@ -17,6 +17,27 @@ pub enum Sort {
     UnfoldedData,
     /// A read in which several answer, and slot 5 tells that each folds the firework into its own check.
     ChecksDiffer,
+    /// A trace that was run and has a frame of the kind: so this count of its report rises.
+    TraceWithMsa,
+    TraceWithMsd,
+    TraceWithMultipartner,
+    TraceWithRefused,
+    /// One that was run and alters the file beyond its header.
+    TraceAltersSlaves,
+    /// One that was run and has an empty frame.
+    TraceWithEmptyFrame,
+    /// One that was run and is as long as a trace may be.
+    TraceOfMostBytes,
+    /// A trace refused by 19 that is shorter than a header.
+    TraceWithoutHeader,
+    /// One that is not as long as its header says.
+    TraceOfOtherLength,
+    /// One of the stated length in which an offset is not where the frame before it ends.
+    TraceWithWrongOffset,
+    /// One of the stated length whose frames are in their order and do not end with the data.
+    TraceNotFilled,
+    /// One in which nothing is wrong but that it is too long.
+    TraceTooLong,
 }
 
 impl Sort {
@@ -29,6 +50,23 @@ impl Sort {
         (Sort::ChecksDiffer, 4_000),
     ];
 
+    /// Sorts of traces likewise, with one in how many of the traces asked for; those of naming runs do not count.
+    pub const REACHED_BY_TRACES: [(Sort, usize); 12] = [
+        (Sort::TraceWithMsa, 6),
+        (Sort::TraceWithMsd, 6),
+        (Sort::TraceWithMultipartner, 8),
+        (Sort::TraceWithRefused, 5),
+        (Sort::TraceAltersSlaves, 20),
+        (Sort::TraceWithEmptyFrame, 20),
+        (Sort::TraceOfMostBytes, 1_000),
+        (Sort::TraceWithoutHeader, 200),
+        (Sort::TraceOfOtherLength, 20),
+        (Sort::TraceWithWrongOffset, 30),
+        (Sort::TraceNotFilled, 50),
+        (Sort::TraceTooLong, 1_000),
+    ];
+
+    /// What a call is an example of, traces aside: these are sorted in `traces`.
     pub fn of(call: &Call, outcome: &Outcome) -> Option<Sort> {
         match call {
             Call::Read { frame } if outcome.number == 12 && is_unfolded(frame) => Some(Sort::UnfoldedNotRead),
@@ -52,6 +90,18 @@ impl Sort {
             Sort::UnfoldedAddress => "address frames refused, the firework missing in their check",
             Sort::UnfoldedData => "data frames refused, the firework missing in their check",
             Sort::ChecksDiffer => "reads in which slot 5 tells that each sender folds the firework in",
+            Sort::TraceWithMsa => "traces run, with an MSA",
+            Sort::TraceWithMsd => "traces run, with an MSD",
+            Sort::TraceWithMultipartner => "traces run, with a multipartner frame",
+            Sort::TraceWithRefused => "traces run, with a refused frame",
+            Sort::TraceAltersSlaves => "traces run that altered slaves",
+            Sort::TraceWithEmptyFrame => "traces run, with an empty frame",
+            Sort::TraceOfMostBytes => "traces run, of the most bytes",
+            Sort::TraceWithoutHeader => "traces refused, shorter than a header",
+            Sort::TraceOfOtherLength => "traces refused, not as long as the header says",
+            Sort::TraceWithWrongOffset => "traces refused, an offset wrong",
+            Sort::TraceNotFilled => "traces refused, their frames not ending with the data",
+            Sort::TraceTooLong => "traces refused, nothing wrong but too long",
         }
     }
 }

@@ -16,6 +16,7 @@ mod multipartner;
 mod naming;
 mod round;
 mod slaves;
+mod trace;
 
 pub use account::{closed_figures, Account, ClosedFigures};
 pub use cluster::{Cluster, File, Pending, Slave};
@@ -27,6 +28,7 @@ pub use frame::{
 pub use listing::listing;
 pub use naming::{start, step, End, Run};
 pub use round::{round, Answer, ANSWER_BYTES};
+pub use trace::{encode_trace, trace, Report, MOST_TRACE_BYTES};
 
 /// A refusal is the document's number and nothing else.
 #[derive(Clone, Copy, Debug, PartialEq, Eq)]

@@ -4,6 +4,9 @@ use compare::case::{bytes, hold_all, kind_of, LISTING};
 use compare::engine::Model;
 
 const EVERY_KIND: [&str; 8] = ["check", "data", "read", "round", "start", "step", "write", LISTING];
+/// The same from request 2 on.
+const EVERY_KIND_WITH_TRACES: [&str; 9] =
+    ["check", "data", "read", "round", "start", "step", "trace", "write", LISTING];
 
 /// The kinds of the cases in a text, all of which have to hold.
 fn kinds_that_hold(text: &str) -> Vec<&str> {
@@ -45,6 +48,11 @@ fn further_base_vectors_hold() {
 #[test]
 fn vectors_of_request_1_hold() {
     assert_eq!(kinds_that_hold(include_str!("data/request-01.txt")), EVERY_KIND);
+}
+
+#[test]
+fn vectors_of_request_2_hold() {
+    assert_eq!(kinds_that_hold(include_str!("data/request-02.txt")), EVERY_KIND_WITH_TRACES);
 }
 
 #[test]

@@ -12,9 +12,11 @@ mod multipartner;
 mod naming;
 mod nested;
 mod survey;
+mod trace;
 
 pub use frames::{read_address, write_address, write_data};
 pub use naming::{start, step};
+pub use trace::{trace, trace_in_nested_loops};
 
 use frames::{round_of, MSA, MSD};
 use master_slave::Pending;
@@ -56,18 +58,31 @@ fn round_with(
     let Some(answer) = answer.first_chunk_mut::<ANSWER_BYTES>() else {
         return 9;
     };
+    carry_out(run_partners, file, &survey, frame, answer, senders)
+}
+
+/// One frame on an accepted file: 0, or its ground of 10 to 14.
+#[inline]
+fn carry_out(
+    run_partners: impl Fn(&mut [u8], &Survey, u8, &mut [u8; ANSWER_BYTES]) -> u64,
+    file: &mut [u8],
+    survey: &Survey,
+    frame: &[u8],
+    answer: &mut [u8; ANSWER_BYTES],
+    senders: &mut u64,
+) -> u8 {
     let Some(&firework) = frame.first() else {
         return 10;
     };
     match firework {
         MSA => address_round(file, frame, answer, senders),
-        MSD => data_round(file, &survey, frame, answer, senders),
+        MSD => data_round(file, survey, frame, answer, senders),
         _ => {
             let ground = partner_ground(frame);
             if ground == 0 {
                 file[EPOCH] = file[EPOCH].wrapping_add(1);
                 *answer = silence(firework);
-                *senders = run_partners(file, &survey, round_of(firework).unwrap_or(0), answer);
+                *senders = run_partners(file, survey, round_of(firework).unwrap_or(0), answer);
             }
             ground
         }

@@ -1,6 +1,7 @@
 //! The tuned program against the model on many random calls.
 
 use compare::campaign::agrees_with_model;
+use compare::edges::hold_edges;
 use compare::engine::Plain;
 
 #[test]
@@ -11,4 +12,10 @@ fn plain_does_what_the_model_does() {
 #[test]
 fn nested_loops_do_what_the_model_does() {
     agrees_with_model(&Plain { nested: true }, 3);
+}
+
+#[test]
+fn the_edges_of_a_trace_hold() {
+    hold_edges(&Plain { nested: false });
+    hold_edges(&Plain { nested: true });
 }

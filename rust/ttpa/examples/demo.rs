@@ -1,16 +1,29 @@
 //! `demo FILE`: commissioning a small cluster, as firmware or test software would do it.
 //!
 //! Loads a cluster file, checks it, reads a record of a named slave, names the unnamed slaves while other
-//! rounds go on in between, and prints what happened. c/demo.c does the same and prints the same.
+//! rounds go on in between, runs a captured trace, and prints what happened. c/demo.c does the same and prints
+//! the same.
 
 use std::process::ExitCode;
-use ttpa::{Address, End, Run, Senders, TtpaError, ANSWER_BYTES, FRAME_BYTES};
+use ttpa::{Address, End, Report, Run, Senders, TtpaError, ANSWER_BYTES, FRAME_BYTES};
 
 const READ: u8 = 0;
 const DOCUMENTATION: u8 = 0x3D;
 const ROUND_2: [u8; 1] = [0xBA];
 const DATA_OF_A_READ: [u8; 1] = [0x49];
 const STEPS_BETWEEN_TRAFFIC: u64 = 50;
+/// Five frames captured on site: round 2; a write of E7 7F 00 00 to record 1 of file 0x10 of slave 01, its data
+/// broken at first (the check byte is D1); and round 2 again. First frame count and data length, then for each
+/// frame offset and length.
+const CAPTURED: [u8; 39] = [
+    0x00, 0x05, 0x00, 0x14, //
+    0x00, 0x00, 0x01, 0x00, 0x01, 0x06, 0x00, 0x07, 0x06, 0x00, 0x0D, 0x06, 0x00, 0x13, 0x01, //
+    0xBA, //
+    0x55, 0x07, 0x01, 0x41, 0x01, 0x13, //
+    0x49, 0xE7, 0x7F, 0x00, 0x00, 0xD0, //
+    0x49, 0xE7, 0x7F, 0x00, 0x00, 0xD1, //
+    0xBA,
+];
 
 /// The cluster file and what the last round answered.
 struct Cluster {
@@ -96,6 +109,15 @@ impl Cluster {
         println!("{end}, rounds {}, comparisons {}", run.rounds(), run.comparisons());
         Ok(())
     }
+
+    fn show_trace(&mut self) {
+        print_verdict("a cut trace", ttpa::trace(&mut self.file, &CAPTURED[..CAPTURED.len() - 1]));
+        let run = ttpa::trace(&mut self.file, &CAPTURED);
+        print_verdict("a captured trace", run);
+        if let Ok(Report { msa, msd, multipartner, refused, sum }) = run {
+            println!("MSA {msa}, MSD {msd}, multipartner {multipartner}, refused {refused}, sum {sum}");
+        }
+    }
 }
 
 fn main() -> ExitCode {
@@ -122,6 +144,9 @@ fn main() -> ExitCode {
         cluster.print_answer();
     }
     print_verdict("round 2 after naming", cluster.send(&ROUND_2));
+    cluster.print_answer();
+    cluster.show_trace();
+    print_verdict("round 2 after the trace", cluster.send(&ROUND_2));
     cluster.print_answer();
     let mut short = [0; ANSWER_BYTES - 1];
     print_verdict("a short answer buffer", ttpa::round(&mut cluster.file, &ROUND_2, &mut short));

@@ -1,9 +1,11 @@
-//! The C calls one by one, with slices in place of pointers and lengths. Each answers 0 or document 01's
+//! The C calls one by one, with slices in place of pointers and lengths. Each answers 0 or the documents'
 //! number. The rest of the crate is built on these; they are public for callers who want to lend every
 //! buffer themselves.
 
 /// The words of a run position: end, index, step, value, rounds, comparisons.
 pub const RUN_WORDS: usize = 6;
+/// The words of a trace's report: MSA, MSD, multipartner and refused frames, and their sum.
+pub const REPORT_WORDS: usize = 5;
 
 mod c {
     extern "C" {
@@ -39,6 +41,7 @@ mod c {
             k: usize,
             senders: *mut u64,
         ) -> u8;
+        pub fn ttpa_trace(file: *mut u8, n: usize, trace: *const u8, m: usize, report: *mut u64) -> u8;
     }
 }
 
@@ -106,4 +109,9 @@ pub fn step(
             senders,
         )
     }
+}
+
+/// Runs a captured trace on a file: 0, or 1 to 8 or 19.
+pub fn trace(file: &mut [u8], trace: &[u8], report: &mut [u64; REPORT_WORDS]) -> u8 {
+    unsafe { c::ttpa_trace(file.as_mut_ptr(), file.len(), trace.as_ptr(), trace.len(), report.as_mut_ptr()) }
 }

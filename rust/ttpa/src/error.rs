@@ -1,6 +1,6 @@
 use core::fmt;
 
-/// Why a call turned something away: the grounds of document 01.
+/// Why a call turned something away: the grounds of documents 01 and 02.
 #[derive(Clone, Copy, Debug, PartialEq, Eq)]
 #[non_exhaustive]
 pub enum TtpaError {
@@ -40,12 +40,14 @@ pub enum TtpaError {
     Position,
     /// 18: the file number is above 63.
     FileNumber,
+    /// 19: the trace's header, an offset or its length breaks the layout.
+    Trace,
     /// A number that this edition of the crate does not know.
     Other(u8),
 }
 
 /// The variants in the order of their numbers, from 1.
-const NUMBERED: [TtpaError; 18] = [
+const NUMBERED: [TtpaError; 19] = [
     TtpaError::FileSize,
     TtpaError::Mark,
     TtpaError::Edition,
@@ -64,6 +66,7 @@ const NUMBERED: [TtpaError; 18] = [
     TtpaError::RepeatedName,
     TtpaError::Position,
     TtpaError::FileNumber,
+    TtpaError::Trace,
 ];
 
 impl TtpaError {
@@ -71,12 +74,12 @@ impl TtpaError {
     pub(crate) fn of(number: u8) -> Result<(), TtpaError> {
         match number {
             0 => Ok(()),
-            1..=18 => Err(NUMBERED[usize::from(number) - 1]),
+            1..=19 => Err(NUMBERED[usize::from(number) - 1]),
             _ => Err(TtpaError::Other(number)),
         }
     }
 
-    /// Document 01's number.
+    /// The documents' number.
     pub fn number(self) -> u8 {
         match self {
             TtpaError::Other(number) => number,
@@ -121,6 +124,9 @@ impl TtpaError {
             TtpaError::RepeatedName => "the list of names has a name twice",
             TtpaError::Position => "the stored naming run is damaged or belongs to another list of names",
             TtpaError::FileNumber => "the file number for an address frame is above 63",
+            TtpaError::Trace => {
+                "the trace is longer than 16,384 bytes, or its header, an offset or its length is wrong"
+            }
             TtpaError::Other(_) => "refused on a ground that this version has no text for",
         }
     }
@@ -159,6 +165,7 @@ mod tests {
         assert_eq!(TtpaError::EqualPhysicalNames.number(), 8);
         assert_eq!(TtpaError::CheckByte.number(), 12);
         assert_eq!(TtpaError::Position.number(), 17);
-        assert_eq!(TtpaError::Other(19).number(), 19);
+        assert_eq!(TtpaError::Trace.number(), 19);
+        assert_eq!(TtpaError::Other(20).number(), 20);
     }
 }

@@ -1,5 +1,5 @@
 //! The TTP/A cluster engine for Rust programs: check a cluster file, read and write frames, carry out
-//! rounds on the file, name its slaves.
+//! rounds on the file, name its slaves, run captured traces.
 //!
 //! The engine keeps no state, never allocates and always returns. Everything it works on is lent to it for
 //! the time of one call. A call that refuses alters nothing it was lent.
@@ -22,9 +22,11 @@
 pub mod calls;
 mod error;
 mod run;
+mod trace;
 
 pub use error::TtpaError;
 pub use run::{End, Run};
+pub use trace::{trace, Report, MOST_TRACE_BYTES};
 
 /// An answer buffer has at least this many bytes; a call writes exactly these.
 pub const ANSWER_BYTES: usize = 64;

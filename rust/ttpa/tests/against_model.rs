@@ -3,8 +3,9 @@
 
 use compare::campaign::agrees_with_model;
 use compare::case::hold_all;
-use compare::engine::{Engine, RunWords};
-use ttpa::{Address, End, Run, Senders, TtpaError};
+use compare::edges::hold_edges;
+use compare::engine::{Engine, ReportWords, RunWords};
+use ttpa::{Address, End, Report, Run, Senders, TtpaError};
 
 /// The safe functions in the form of the C calls.
 struct Wrapper;
@@ -54,6 +55,12 @@ impl Engine for Wrapper {
             }
         }))
     }
+
+    fn trace(&self, file: &mut [u8], trace: &[u8], words: &mut ReportWords) -> u8 {
+        number(ttpa::trace(file, trace).map(|Report { msa, msd, multipartner, refused, sum }| {
+            *words = [msa, msd, multipartner, refused, sum];
+        }))
+    }
 }
 
 fn number(answer: Result<(), TtpaError>) -> u8 {
@@ -71,10 +78,16 @@ fn the_safe_functions_give_the_kept_results() {
         include_str!("../../model/tests/data/base.txt"),
         include_str!("../../model/tests/data/base-more.txt"),
         include_str!("../../model/tests/data/request-01.txt"),
+        include_str!("../../model/tests/data/request-02.txt"),
         include_str!("../../model/tests/data/cases.txt"),
     ] {
         let held = hold_all(&Wrapper, text);
         assert!(!held.made.is_empty());
         assert_eq!(held.wrong, [""; 0]);
     }
+}
+
+#[test]
+fn the_edges_of_a_trace_hold() {
+    hold_edges(&Wrapper);
 }

@@ -130,6 +130,10 @@ neededDocumentation = 2
 abbrev pub recordSize : ℕ
 recordSize = 4
 
+-- a number of two bytes, as an offset is in edition 1
+abbrev pub shortWidth : ℕ
+shortWidth = 2
+
 -- a number of two records: "32 bits each"
 abbrev pub longWidth : ℕ
 longWidth = 2 * recordSize

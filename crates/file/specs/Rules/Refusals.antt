@@ -57,3 +57,7 @@ runPositionRefusal = 17
 
 abbrev pub fileNumberRefusal : ℕ
 fileNumberRefusal = 18
+
+-- document 02: "New numbers, all joining document 01's". Job 2, a trace
+abbrev pub traceRefusal : ℕ
+traceRefusal = 19

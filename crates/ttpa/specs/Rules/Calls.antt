@@ -8,6 +8,7 @@ use Rattle.file.specs.Rules.Results.{Result, refused, done, numberIn}
 use Rattle.frame.specs.Rules.Reading.{Parts, readAddress}
 use Rattle.frame.specs.Rules.Writing.{writeAddress, writeData}
 use Rattle.cluster.specs.Rules.Round.{Answer, roundOn}
+use Rattle.trace.specs.Rules.Run.{Report, reportWords, traceOn}
 use Rattle.naming.specs.Rules.Run.{Position, startOver}
 use Rattle.naming.specs.Rules.Step.{StepDone, ended, made, stepOn}
 
@@ -39,6 +40,15 @@ sendersAfter (done mask) senders = mask
 unfoldable pub roundCall : List ℕ → List ℕ → List ℕ → ℕ → ℕ × ℕ × List ℕ × List ℕ
 roundCall file frame answer senders =
     let r = roundOn file frame answer in (numberIn (r .0), sendersAfter (r .0) senders, r .1, r .2)
+
+-- a trace on a file: number, report and file; the report's words are the numbers of MSA, MSD, multipartner and refused frames and
+-- their sum
+unfoldable pub reportAfter : Result Report → List ℕ → List ℕ
+reportAfter (refused n) report = report
+reportAfter (done r) report = reportWords r
+
+unfoldable pub traceCall : List ℕ → List ℕ → List ℕ → ℕ × List ℕ × List ℕ
+traceCall file t report = let r = traceOn file t in (numberIn (r .0), reportAfter (r .0) report, r .1)
 
 -- a run's six words, by their places
 abbrev pub endWord : ℕ

@@ -58,3 +58,13 @@ fn the_mask_of_a_step_is_written_by_a_running_run_only() {
     assert_eq!(calls::step(&mut file, &mut run, &[1], &mut answer, &mut senders), 0);
     assert_eq!((run, answer[0], senders), ([0, 0, 1, 0, 1, 0], 0x49, 0));
 }
+
+#[test]
+fn a_report_is_written_on_success_only() {
+    let (mut file, mut report) = (M10.to_vec(), [MASK_BEFORE; calls::REPORT_WORDS]);
+    assert_eq!(calls::trace(&mut file, &[0, 1, 0, 1, 0, 0, 2, 0xBA], &mut report), 19);
+    assert_eq!(calls::trace(&mut file[..15], &[0, 1, 0, 1, 0, 0, 1, 0xBA], &mut report), 1);
+    assert_eq!((&file[..], report), (M10, [MASK_BEFORE; calls::REPORT_WORDS]));
+    assert_eq!(calls::trace(&mut file, &[0, 1, 0, 1, 0, 0, 1, 0xBA], &mut report), 0);
+    assert_eq!((file[8], report), (1, [0, 0, 1, 0, 1]));
+}

@@ -4,8 +4,8 @@ use std::collections::BTreeSet;
 use std::error::Error;
 use ttpa::TtpaError;
 
-/// Each ground with its number in document 01 and a word that its text cannot do without.
-const GROUNDS: [(TtpaError, u8, &str); 19] = [
+/// Each ground with its number in the documents and a word that its text cannot do without.
+const GROUNDS: [(TtpaError, u8, &str); 20] = [
     (TtpaError::FileSize, 1, "bytes"),
     (TtpaError::Mark, 2, "mark"),
     (TtpaError::Edition, 3, "edition"),
@@ -24,7 +24,8 @@ const GROUNDS: [(TtpaError, u8, &str); 19] = [
     (TtpaError::RepeatedName, 16, "twice"),
     (TtpaError::Position, 17, "stored naming run"),
     (TtpaError::FileNumber, 18, "63"),
-    (TtpaError::Other(19), 19, "no text"),
+    (TtpaError::Trace, 19, "trace"),
+    (TtpaError::Other(20), 20, "no text"),
 ];
 
 #[test]

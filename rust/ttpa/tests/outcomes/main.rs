@@ -6,6 +6,7 @@ mod errors;
 mod frames;
 mod rounds;
 mod runs;
+mod traces;
 
 use ttpa::{TtpaError, ANSWER_BYTES};
 

@@ -11,8 +11,8 @@ byte-at-requires c κs = search needs
 returns : tie.Need-returns
 returns c = search (needs, header-count)
 
-offset-at-requires : tie.Need-offset-at-requires
-offset-at-requires c κs = search needs
+u16-at-requires : tie.Need-u16-at-requires
+u16-at-requires c κs = search needs
 
 returns-2 : tie.Need-returns-2
 returns-2 c = search (needs, header-table)
@@ -65,7 +65,7 @@ wrong-header-spec =
     (tie.spec
     byte-at-requires
     returns
-    offset-at-requires
+    u16-at-requires
     returns-2
     byte-at-requires-2
     returns-3

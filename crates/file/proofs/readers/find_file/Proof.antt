@@ -11,8 +11,8 @@ mul-entry c = search needs
 add-entry : tie.Need-add-entry
 add-entry c = search needs
 
-offset-at-requires : tie.Need-offset-at-requires
-offset-at-requires c κs = search (needs, entry-offset)
+u16-at-requires : tie.Need-u16-at-requires
+u16-at-requires c κs = search (needs, entry-offset)
 
 add-byte-at : tie.Need-add-byte-at
 add-byte-at c = search needs
@@ -35,7 +35,7 @@ find-file-spec =
     (tie.spec
     mul-entry
     add-entry
-    offset-at-requires
+    u16-at-requires
     add-byte-at
     byte-at-requires
     cast-search-directory

@@ -32,11 +32,11 @@ add-byte-at c = omega arith
 byte-at-requires-2 : tie.Need-byte-at-requires-2 Inv-loop μ-loop
 byte-at-requires-2 c κs = omega arith
 
-add-offset-at : tie.Need-add-offset-at Inv-loop μ-loop
-add-offset-at c = omega arith
+add-u16-at : tie.Need-add-u16-at Inv-loop μ-loop
+add-u16-at c = omega arith
 
-offset-at-requires : tie.Need-offset-at-requires Inv-loop μ-loop
-offset-at-requires c κs = omega arith
+u16-at-requires : tie.Need-u16-at-requires Inv-loop μ-loop
+u16-at-requires c κs = omega arith
 
 add-size : tie.Need-add-size Inv-loop μ-loop
 add-size c = omega arith
@@ -73,8 +73,8 @@ search-directory-spec =
     byte-at-requires
     add-byte-at
     byte-at-requires-2
-    add-offset-at
-    offset-at-requires
+    add-u16-at
+    u16-at-requires
     add-size
     mul-size
     returns

@@ -11,14 +11,14 @@ returns c = search (needs, next-low)
 returns-2 : tie.Need-returns-2
 returns-2 c = search (needs, next-empty)
 
-add-offset-at : tie.Need-add-offset-at
-add-offset-at c = search needs
+add-u16-at : tie.Need-add-u16-at
+add-u16-at c = search needs
 
-offset-at-requires : tie.Need-offset-at-requires
-offset-at-requires c κs = search needs
+u16-at-requires : tie.Need-u16-at-requires
+u16-at-requires c κs = search needs
 
 returns-3 : tie.Need-returns-3
 returns-3 c = search (needs, next-last)
 
 pub is-next-spec : {M : Type 1} → statement M
-is-next-spec = tie.close (tie.spec returns returns-2 add-offset-at offset-at-requires returns-3)
+is-next-spec = tie.close (tie.spec returns returns-2 add-u16-at u16-at-requires returns-3)

@@ -12,8 +12,8 @@ add-byte-at c = search needs
 byte-at-requires : tie.Need-byte-at-requires
 byte-at-requires c κs = search needs
 
-offset-at-requires : tie.Need-offset-at-requires
-offset-at-requires c κs = search needs
+u16-at-requires : tie.Need-u16-at-requires
+u16-at-requires c κs = search needs
 
 returns : tie.Need-returns
 returns c = search (needs, slave-elsewhere)
@@ -57,7 +57,7 @@ walk-slave-spec =
     (tie.spec
     add-byte-at
     byte-at-requires
-    offset-at-requires
+    u16-at-requires
     returns
     add-byte-at-2
     byte-at-requires-2

@@ -1,0 +1,170 @@
+-- Demand 3 over lists with traces, from demand 3: a trace leaves what its frames leave that are sent singly, so a list with traces
+-- leaves what the list leaves in which its frames stand for each trace.
+-- Assumes nothing.
+use Prim.Native.Nat.{ℕ}
+use mathlib.Core.Path.{_≡_, refl, sym, ap, _∙_}
+use mathlib.Core.Logic.{_≢_}
+use mathlib.Core.List.{List, [], _∷_, _++_, map}
+use mathlib.Core.Bool.{Bool, true, false}
+use lib.ListN.{replicate}
+use lib.Dec.{eqb}
+use borrow.Author.Tests.{eqb-true, eqb-false}
+use Rattle.file.specs.Rules.Bytes.{Bytes, All, All.allEmpty, All.allNext as also}
+use Rattle.file.specs.Rules.Grounds.{fileGround}
+use Rattle.file.proofs.Order.{byCase}
+use Rattle.cluster.specs.Rules.Bus.{slots}
+use Rattle.cluster.specs.Rules.Grounds.{roundBy}
+use Rattle.cluster.specs.Rules.Round.{Answer, roundGround}
+use Rattle.cluster.proofs.Rounds.{round-refused, round-facts}
+use Rattle.trace.specs.Rules.Trace.{frameCount, brokenTrace, framesOf}
+use Rattle.trace.specs.Rules.Run.{sent, afterFrames, traceGround, traceOn}
+use Rattle.trace.proofs.Runs.{frames-bytes}
+use Rattle.trace.proofs.Calls as call
+use Rattle.naming.specs.Rules.Run.{Position, fresh, startGround}
+use Rattle.naming.specs.Rules.Account.{Call, frame, Account, accountCall, accountAfter}
+use Rattle.naming.specs.Claims.Demand.{State, startOn, halfwayAfter, callOn, permitted, afterCalls, OfBytes, of-frame, Demand}
+use Rattle.naming.proofs.OverBytes.{demand-3}
+use Rattle.demand.specs.Claims.Traces.{CallOrTrace, AllBytes, in-call, in-trace, halfwayFrom, halfwayAfterTrace, afterTrace, callOrTraceOn, afterAll, frameCall, framesSingly, singly, tracesAside, TraceSentSingly, AllSentSingly, AccountTracesAside, DemandWithTraces}
+
+-- ---- frames sent singly
+
+-- what they leave
+unfoldable afterSingly : State → List (List ℕ) → State
+afterSingly s xs = record { file = afterFrames (s .file) xs; halfway = halfwayFrom (s .halfway) (s .file) xs }
+
+frames-singly :
+    (names : List ℕ) (s : State) (p : Position) (xs : List (List ℕ)) → afterCalls names s p (map frameCall xs) ≡ (afterSingly s xs, p)
+unfolding afterSingly afterCalls callOn frameCall afterFrames halfwayFrom sent
+frames-singly names s p [] = refl
+frames-singly names s p (x ∷ xs) = frames-singly names (callOn names s p (frameCall x) .0) p xs
+
+-- on a file that is refused they leave all as it was
+module _ (file : List ℕ) (some : fileGround file ≢ 0) where
+  frame-refused : (x : List ℕ) → roundGround file x (replicate slots 0) ≢ 0
+  frame-refused x z = some (round-facts file x (replicate slots 0) z .accepted)
+
+  file-stays : (xs : List (List ℕ)) → afterFrames file xs ≡ file
+  unfolding afterFrames sent
+  file-stays [] = refl
+  file-stays (x ∷ xs) = rw (round-refused file x (replicate slots 0) (frame-refused x)) (file-stays xs)
+
+  halfway-stays : (h : Bool) (xs : List (List ℕ)) → halfwayFrom h file xs ≡ h
+  unfolding halfwayFrom sent halfwayAfter
+  halfway-stays h [] = refl
+  halfway-stays h (x ∷ xs) = rw (round-refused file x (replicate slots 0) (frame-refused x)) (halfway-stays h xs)
+
+-- ---- a trace
+
+module _ (s : State) (t : List ℕ) where
+  trace-run : traceGround (s .file) t ≡ 0 → afterTrace s t ≡ afterSingly s (framesOf t)
+  unfolding afterTrace afterSingly halfwayAfterTrace
+  trace-run none = rw (call.trace-run (s .file) t none)
+
+  trace-refused : traceGround (s .file) t ≢ 0 → afterTrace s t ≡ s
+  unfolding afterTrace halfwayAfterTrace
+  trace-refused some = rw (call.trace-refused (s .file) t some)
+
+  -- a trace that breaks nothing, on a file that is refused
+  file-refused : traceGround (s .file) t ≢ 0 → brokenTrace t ≡ false → afterSingly s (framesOf t) ≡ s
+  unfolding afterSingly
+  file-refused some whole =
+      let bad : fileGround (s .file) ≢ 0 = λ z. some (call.none-holds (s .file) t z whole) in
+      rw (file-stays (s .file) bad (framesOf t), halfway-stays (s .file) bad (s .halfway) (framesOf t))
+
+pub trace-sent-singly : TraceSentSingly
+unfolding framesSingly
+trace-sent-singly names s p t =
+    byCase (eqb (traceGround (s .file) t) 0)
+    (λ z.
+    let none = eqb-true _ _ z in
+    rw (call.run-whole (s .file) t none, trace-run s t none) (frames-singly names s p (framesOf t)))
+    (λ z.
+    let some = eqb-false _ _ z in
+    byCase (brokenTrace t)
+    (λ broken. rw (broken, trace-refused s t some) (unfold afterCalls in refl))
+    (λ whole. rw (whole, trace-refused s t some) (frames-singly names s p (framesOf t) ∙ rw (file-refused s t some whole))))
+
+-- ---- lists
+
+after-append :
+    (names : List ℕ) (s : State) (p : Position) (cs ds : List Call) →
+    afterCalls names s p (cs ++ ds) ≡ afterCalls names (afterCalls names s p cs .0) (afterCalls names s p cs .1) ds
+unfolding afterCalls
+after-append names s p [] ds = refl
+after-append names s p (c ∷ cs) ds = after-append names (callOn names s p c .0) (callOn names s p c .1) cs ds
+
+pub all-sent-singly : AllSentSingly
+unfolding singly afterCalls afterAll callOrTraceOn
+all-sent-singly names s p [] = refl
+all-sent-singly names s p (CallOrTrace.call c ∷ cs) = all-sent-singly names (callOn names s p c .0) (callOn names s p c .1) cs
+all-sent-singly names s p (CallOrTrace.trace t ∷ cs) =
+    after-append names s p (framesSingly t) (singly cs) ∙ rw (trace-sent-singly names s p t) (all-sent-singly names (afterTrace s t) p cs)
+
+-- ---- the account
+
+account-append : (a : Account) (cs ds : List Call) → accountAfter a (cs ++ ds) ≡ accountAfter (accountAfter a cs) ds
+unfolding accountAfter
+account-append a [] ds = refl
+account-append a (c ∷ cs) ds = account-append (accountCall a c) cs ds
+
+frames-unaccounted : (a : Account) (xs : List (List ℕ)) → accountAfter a (map frameCall xs) ≡ a
+unfolding accountAfter accountCall frameCall
+frames-unaccounted a [] = refl
+frames-unaccounted a (x ∷ xs) = frames-unaccounted a xs
+
+trace-unaccounted : (a : Account) (t : List ℕ) → accountAfter a (framesSingly t) ≡ a
+unfolding framesSingly
+trace-unaccounted a t =
+    byCase (brokenTrace t) (λ broken. rw broken (unfold accountAfter in refl)) (λ whole. rw whole (frames-unaccounted a (framesOf t)))
+
+pub account-traces-aside : AccountTracesAside
+unfolding singly tracesAside accountAfter
+account-traces-aside a [] = refl
+account-traces-aside a (CallOrTrace.call c ∷ cs) = account-traces-aside (accountCall a c) cs
+account-traces-aside a (CallOrTrace.trace t ∷ cs) =
+    account-append a (framesSingly t) (singly cs) ∙ rw (trace-unaccounted a t) (account-traces-aside a cs)
+
+-- ---- bytes
+
+all-append : {cs ds : List Call} → All OfBytes cs → All OfBytes ds → All OfBytes (cs ++ ds)
+all-append allEmpty qs = qs
+all-append (also p ps) qs = also p (all-append ps qs)
+
+frames-of-bytes : {xs : List (List ℕ)} → All Bytes xs → All OfBytes (map frameCall xs)
+unfolding frameCall
+frames-of-bytes allEmpty = allEmpty
+frames-of-bytes (also b bs) = also (of-frame b) (frames-of-bytes bs)
+
+trace-of-bytes : {t : List ℕ} → Bytes t → All OfBytes (framesSingly t)
+unfolding framesSingly framesOf
+trace-of-bytes {t} b =
+    byCase {P = All OfBytes (framesSingly t)} (brokenTrace t) (λ broken. rw broken allEmpty) (λ whole. rw whole (frames-of-bytes (frames-bytes b 4 (frameCount t))))
+
+pub singly-of-bytes : {calls : List CallOrTrace} → All AllBytes calls → All OfBytes (singly calls)
+unfolding singly
+singly-of-bytes allEmpty = allEmpty
+singly-of-bytes (also (in-call b) bs) = also b (singly-of-bytes bs)
+singly-of-bytes (also (in-trace b) bs) = all-append (trace-of-bytes b) (singly-of-bytes bs)
+
+-- ---- the theorem
+
+-- what demand 3 says of two lists of calls that the account takes alike
+same-account :
+    {file names now : List ℕ} {p : Position} (cs ds : List Call) → ((a : Account) → accountAfter a cs ≡ accountAfter a ds) → Demand file names cs now p → Demand file names ds now p
+same-account cs ds same d =
+    record {
+      accepted = d .accepted;
+      logical = rw same at (d .logical);
+      end = rw same at (d .end);
+      rounds = rw same at (d .rounds);
+      comparisons = rw same at (d .comparisons);
+      fit = d .fit;
+      grounds = d .grounds;
+      outcome = d .outcome;
+    }
+
+pub demand-with-traces : DemandWithTraces
+demand-with-traces file b g names bytes accepted calls of-bytes may =
+    let d = demand-3 file b g names bytes accepted (singly calls) (singly-of-bytes of-bytes) may in
+    let e = same-account (singly calls) (tracesAside calls) (λ a. account-traces-aside a calls) d in
+    rw (all-sent-singly names (startOn file) (fresh names) calls) at e

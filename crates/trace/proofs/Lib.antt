@@ -1,0 +1,18 @@
+-- The laws of a trace, layer by layer; a module cites those above it. Each function's own proof stands in the folder of its source
+-- file.
+
+-- what ground 19 says of the bytes, and the loop along the rows
+pub mod Facts
+pub mod RowLaws
+-- a trace is accepted exactly where it is the encoding of its frames
+pub mod Encoded
+pub mod Examples
+pub mod RunExamples
+-- what running frames keeps, and the call
+pub mod Runs
+pub mod Calls
+-- one frame more in a report, and the loop along the frames
+pub mod ReportLaws
+pub mod RunLaws
+-- the answers are told apart
+pub mod Distinct

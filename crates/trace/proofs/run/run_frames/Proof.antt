@@ -1,0 +1,104 @@
+-- `trace::run::run_frames` meets its contract. The invariant is `Running`: the frames that are left, counted into this report on this
+-- file, give the report and the file of all frames on the first file.
+-- Assumes nothing.
+use Prim.Native.Nat.{_-_}
+use mathlib.Core.Path.{_≡_, _∙_}
+use lib.ListN.{length}
+use native.Mathlib.Omega.{arith}
+use borrow.Author.Needs.{needs}
+use Rattle.file.specs.Rules.Bytes.{part}
+use Rattle.trace.specs.Inner.Answers.{reportIn}
+use Rattle.trace.proofs.Facts.{trace-facts}
+use Rattle.trace.proofs.RunLaws.{Running, running-start, row-within, frame-within, few-frames, running-next, running-done}
+use Rattle.trace.proofs.run.run_frames.Statement.{statement}
+use Rattle.trace.proofs.run.run_frames.Tie as tie
+
+abbrev Inv-loop : tie.InvT-loop
+Inv-loop file₀ places trace dataPlace buffer₀ report₀ row₀ start₀ file buffer report row start =
+    Running file₀ trace places dataPlace row start (reportIn report) file × (length file ≡ length file₀)
+
+abbrev μ-loop : tie.MeasureT-loop
+μ-loop file₀ places trace dataPlace buffer₀ report₀ row₀ start₀ file buffer report row start = dataPlace - row
+
+u16-at-requires : tie.Need-u16-at-requires Inv-loop μ-loop
+u16-at-requires c κs = omega (arith, trace-facts _ (c .before .before .pre .1) .low)
+
+mul-data-place : tie.Need-mul-data-place Inv-loop μ-loop
+mul-data-place c = omega arith
+
+add-data-place : tie.Need-add-data-place Inv-loop μ-loop
+add-data-place c = omega arith
+
+loop-holds : tie.Need-loop-holds Inv-loop μ-loop
+loop-holds c = search (needs, running-start)
+
+add-byte-at : tie.Need-add-byte-at Inv-loop μ-loop
+add-byte-at c = omega (arith, row-within (c .before .loop .inv .0) (c .loop-test .taken))
+
+byte-at-requires : tie.Need-byte-at-requires Inv-loop μ-loop
+byte-at-requires c κs = omega (arith, row-within (c .before .loop .inv .0) (c .loop-test .taken))
+
+add-end : tie.Need-add-end Inv-loop μ-loop
+add-end c = omega (arith, frame-within (c .before .before .loop .inv .0) (c .before .loop-test .taken) (c .byte-at .ensures))
+
+sub-run-frame : tie.Need-sub-run-frame Inv-loop μ-loop
+sub-run-frame c = omega arith
+
+part-run-frame-start : tie.Need-part-run-frame-start Inv-loop μ-loop
+part-run-frame-start c = omega arith
+
+part-run-frame-end : tie.Need-part-run-frame-end Inv-loop μ-loop
+part-run-frame-end c =
+    let read = c .before in
+    omega (arith, frame-within (read .before .before .loop .inv .0) (read .before .loop-test .taken) (read .byte-at .ensures))
+
+run-frame-requires : tie.Need-run-frame-requires Inv-loop μ-loop
+run-frame-requires c κs =
+    let lent = c .before .before in
+    let read = lent .before in
+    let inv = read .before .before .loop .inv .0 in
+    (inv .placed, few-frames inv (read .before .loop-test .taken))
+
+add-row : tie.Need-add-row Inv-loop μ-loop
+add-row c = omega arith
+
+loop-less : tie.Need-loop-less Inv-loop μ-loop
+loop-less c = omega arith
+
+loop-again : tie.Need-loop-again Inv-loop μ-loop
+unfolding part
+loop-again c =
+    let sent = c .before .before in
+    let lent = sent .before .before in
+    let read = lent .before .before in
+    let inv = read .before .before .loop .inv in
+    (running-next (inv .0) (read .before .loop-test .taken) (read .byte-at .ensures) (sent .run-frame .ensures), sent .run-frame .kept .0 ∙ inv .1)
+
+same-length : tie.Need-same-length Inv-loop μ-loop
+same-length c = c .before .loop .inv .1
+
+returns : tie.Need-returns Inv-loop μ-loop
+returns c = search (needs, running-done)
+
+pub run-frames-spec : {M : Type 1} → statement M
+run-frames-spec =
+    tie.close
+    (tie.spec
+    Inv-loop
+    μ-loop
+    u16-at-requires
+    mul-data-place
+    add-data-place
+    loop-holds
+    add-byte-at
+    byte-at-requires
+    add-end
+    sub-run-frame
+    part-run-frame-start
+    part-run-frame-end
+    run-frame-requires
+    add-row
+    loop-less
+    loop-again
+    same-length
+    returns)

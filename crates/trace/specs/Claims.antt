@@ -1,0 +1,3 @@
+-- Statements of theorems.
+pub mod Encoding
+pub mod Run

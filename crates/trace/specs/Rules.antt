@@ -1,0 +1,6 @@
+-- What document 02 says of a captured trace ("Job 2. Running a captured trace."): its layout, the trace of given frames, and the frames
+-- of a given trace.
+pub mod Layout
+pub mod Encode
+pub mod Trace
+pub mod Run

@@ -1,0 +1,4 @@
+// Running a captured trace on a cluster file.
+mod layout;
+pub mod report;
+pub mod run;

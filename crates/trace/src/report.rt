@@ -1,0 +1,79 @@
+// The report of a run: "the numbers of MSA, MSD, multipartner and refused frames".
+ghost use mathlib.Core.Path.{_≡_};
+ghost use Rattle.cluster.specs.Rules.Grounds.{roundBy};
+ghost use Rattle.cluster.specs.Inner.Answers.{answerOf};
+ghost use Rattle.trace.specs.Rules.Run.{oneRefused, oneCarried, counted};
+ghost use Rattle.trace.specs.Inner.Answers.{reportIn};
+ghost use Rattle.trace.specs.Inner.Sent.{FewFrames};
+use cluster::answer::RoundAnswer;
+use frame::firework::Firework;
+use frame::firework::firework_of;
+
+pub struct Report {
+    pub msa: u64,
+    pub msd: u64,
+    pub multipartner: u64,
+    pub refused: u64,
+}
+
+pub const NO_FRAMES: Report = Report {
+    msa: 0,
+    msd: 0,
+    multipartner: 0,
+    refused: 0,
+};
+
+fn one_refused(report: Report) -> Report
+    requires { ⌜ FewFrames (reportIn report) ⌝ }
+    ensures { λ r. ⌜ reportIn r ≡ oneRefused (reportIn report) ⌝ }
+{
+    Report {
+        msa: report.msa,
+        msd: report.msd,
+        multipartner: report.multipartner,
+        refused: report.refused + 1,
+    }
+}
+
+// A frame that was carried out, by its firework. None without one is.
+fn one_carried(report: Report, frame: &[u8]) -> Report
+    requires { ⌜ FewFrames (reportIn report) ⌝ }
+    ensures { λ r. ⌜ reportIn r ≡ oneCarried (roundBy (now (frame .entry))) (reportIn report) ⌝ }
+{
+    if frame.len() == 0 {
+        return one_refused(report);
+    }
+    let firework = firework_of(frame[0]);
+    match firework {
+        Firework::None => one_refused(report),
+        Firework::Address => Report {
+            msa: report.msa + 1,
+            msd: report.msd,
+            multipartner: report.multipartner,
+            refused: report.refused,
+        },
+        Firework::Data => Report {
+            msa: report.msa,
+            msd: report.msd + 1,
+            multipartner: report.multipartner,
+            refused: report.refused,
+        },
+        Firework::Multipartner(_) => Report {
+            msa: report.msa,
+            msd: report.msd,
+            multipartner: report.multipartner + 1,
+            refused: report.refused,
+        },
+    }
+}
+
+// One frame more: "a refused frame counting as refused only".
+pub fn counted(report: Report, answer: RoundAnswer, frame: &[u8]) -> Report
+    requires { ⌜ FewFrames (reportIn report) ⌝ }
+    ensures { λ r. ⌜ reportIn r ≡ counted (answerOf answer) (roundBy (now (frame .entry))) (reportIn report) ⌝ }
+{
+    match answer {
+        RoundAnswer::Refused(_) => one_refused(report),
+        RoundAnswer::Carried(_) => one_carried(report, frame),
+    }
+}

@@ -1,0 +1,83 @@
+// A captured trace run on a cluster file: "A refused frame is counted, and the run goes on."
+ghost use mathlib.Core.Path.{_≡_};
+ghost use mathlib.Core.Bool.{false};
+ghost use Rattle.file.specs.Inner.Accepted.{Placed};
+ghost use Rattle.trace.specs.Rules.Trace.{brokenTrace};
+ghost use Rattle.trace.specs.Rules.Run.{traceOn};
+ghost use Rattle.trace.specs.Inner.Answers.{reportIn, tracedOf};
+ghost use Rattle.trace.specs.Inner.Sent.{FewFrames, FrameSent, TraceSent};
+use crate::layout::COUNT_PLACE;
+use crate::layout::HEADER_SIZE;
+use crate::layout::LENGTH_PLACE;
+use crate::layout::ROW_SIZE;
+use crate::layout::is_broken;
+use crate::report::NO_FRAMES;
+use crate::report::Report;
+use crate::report::counted;
+use cluster::answer::SLOTS;
+use cluster::round::one_frame;
+use file::numbers::byte_at;
+use file::numbers::u16_at;
+use file::survey::FileAnswer;
+use file::survey::survey;
+use file::types::PLACES;
+use file::types::Refusal;
+use file::types::SlavePlaces;
+
+pub enum TraceAnswer {
+    Refused(Refusal),
+    Ran(Report),
+}
+
+// One frame sent and counted. Nobody reads its answer: the buffer is one for all frames.
+fn run_frame(
+    file: &mut [u8],
+    places: &SlavePlaces,
+    frame: &[u8],
+    buffer: &mut [u8; SLOTS],
+    report: Report,
+) -> Report
+    requires { ⌜ Placed (now file) (now places) × FewFrames (reportIn report) ⌝ }
+    ensures { λ r. ⌜ FrameSent (now (file .entry)) (now (places .entry)) (now (frame .entry)) (reportIn report) (reportIn r) (now (file .exit)) ⌝ }
+{
+    let answer = one_frame(file, places, frame, buffer);
+    counted(report, answer, frame)
+}
+
+// The frames of a trace that does not break the layout, each sent and counted. No frame moves the slaves' files, so the places stay
+// what they are.
+fn run_frames(file: &mut [u8], places: &SlavePlaces, trace: &[u8]) -> Report
+    requires { ⌜ Placed (now file) (now places) × (brokenTrace (now trace) ≡ false) ⌝ }
+    ensures { λ r. ⌜ TraceSent (now (file .entry)) (now (trace .entry)) (reportIn r) (now (file .exit)) ⌝ }
+{
+    let data_place = HEADER_SIZE + ROW_SIZE * u16_at(trace, COUNT_PLACE);
+    let mut buffer = [0u8; SLOTS];
+    let mut report = NO_FRAMES;
+    let mut row = HEADER_SIZE;
+    let mut start = data_place;
+    while row < data_place {
+        let end = start + byte_at(trace, row + LENGTH_PLACE);
+        report = run_frame(file, places, &trace[start..end], &mut buffer, report);
+        start = end;
+        row = row + ROW_SIZE;
+    }
+    report
+}
+
+// A trace on a file: refused by its number, with the file as it was, or run, with the report. The file is checked once.
+pub fn run_trace(file: &mut [u8], trace: &[u8]) -> TraceAnswer
+    ensures { λ r. ⌜ (tracedOf r, now (file .exit)) ≡ traceOn (now (file .entry)) (now (trace .entry)) ⌝ }
+{
+    let mut places = [0u16; PLACES];
+    let surveyed = survey(file, &mut places);
+    match surveyed {
+        FileAnswer::Refused(why) => TraceAnswer::Refused(why),
+        FileAnswer::Accepted => {
+            if is_broken(trace) {
+                return TraceAnswer::Refused(Refusal::TRACE);
+            }
+            let report = run_frames(file, &places, trace);
+            TraceAnswer::Ran(report)
+        }
+    }
+}
