@@ -32,12 +32,12 @@ extern "C" {
  * keep the two together. */
 #define TTPA_VERSION_MAJOR 0
 #define TTPA_VERSION_MINOR 3
-#define TTPA_VERSION_PATCH 0
+#define TTPA_VERSION_PATCH 1
 
 /* What the library takes: code and constants of all calls, and the most stack that a call uses, with its
  * return address and arguments. No other memory. Both are measured, and rounded up. */
-#define TTPA_CODE_BYTES 7680
-#define TTPA_STACK_BYTES 2432
+#define TTPA_CODE_BYTES 7168
+#define TTPA_STACK_BYTES 2176
 
 /* What the calls return: 0, or the documents' number for the ground on which something was refused. */
 enum ttpa_refusal {
@@ -235,8 +235,8 @@ uint8_t ttpa_step(uint8_t *file, size_t n, uint64_t run[TTPA_RUN_WORDS], const u
                   uint8_t *answer, size_t k, uint64_t *senders);
 
 /* Runs a captured trace of m bytes on the cluster file of n bytes: its frames in order, each as ttpa_round
- * carries it out. A frame that ttpa_round would refuse (10 to 14) is counted, and the run goes on. What slaves
- * answer is not kept.
+ * carries it out. A frame that ttpa_round would refuse (10 to 14) is counted as refused and leaves the file as it
+ * was, and the run goes on. What slaves answer is not kept.
  * Refuses by 1, 2, 3, 4, 5, 6, 7, 8, 19 in this order. On 0 the file is as the frames leave it, and all of
  * report is written. */
 uint8_t ttpa_trace(uint8_t *file, size_t n, const uint8_t *trace, size_t m,

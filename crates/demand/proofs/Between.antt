@@ -1,4 +1,5 @@
--- There are permitted lists with traces: a trace of a permitted round fits after any permitted calls and traces and before any steps.
+-- There are permitted lists with traces: a trace of one read (0x3D record 1, at any name but 0x00) fits after any permitted calls and
+-- traces and before any steps.
 -- Assumes nothing.
 use Prim.Native.Nat.{ℕ, _≤_}
 use mathlib.Core.Path.{_≡_, refl, sym, ap, _∙_}

@@ -24,7 +24,8 @@ use Rattle.naming.specs.Rules.Run.{Position, fresh, startGround}
 use Rattle.naming.specs.Rules.Account.{Call, frame, Account, accountCall, accountAfter}
 use Rattle.naming.specs.Claims.Demand.{State, startOn, halfwayAfter, callOn, permitted, afterCalls, OfBytes, of-frame, Demand}
 use Rattle.naming.proofs.OverBytes.{demand-3}
-use Rattle.demand.specs.Claims.Traces.{CallOrTrace, AllBytes, in-call, in-trace, halfwayFrom, halfwayAfterTrace, afterTrace, callOrTraceOn, afterAll, frameCall, framesSingly, singly, tracesAside, TraceSentSingly, AllSentSingly, AccountTracesAside, DemandWithTraces}
+use Rattle.demand.specs.Claims.Traces.{CallOrTrace, AllBytes, in-call, in-trace, halfwayFrom, halfwayAfterTrace, afterTrace, callOrTraceOn, afterAll}
+use Rattle.demand.specs.Claims.Traces.{frameCall, framesSingly, singly, tracesAside, TraceSentSingly, AllSentSingly, AccountTracesAside, DemandWithTraces}
 
 -- ---- frames sent singly
 

@@ -1,5 +1,4 @@
-pub mod Table
-pub mod Rounds
+pub mod FireworkBits
 pub mod Tests
 pub mod Reading
 pub mod Writing

@@ -1,2 +1,3 @@
--- The code's answers in the terms of the rules.
+-- The code's answers in the terms of the rules, and the rule of the firework lookup.
 pub mod Answers
+pub mod FireworkBits

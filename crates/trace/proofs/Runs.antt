@@ -1,5 +1,5 @@
--- What running frames keeps, whatever they are: the sum of the report, the file's acceptance and length. That the buffer they are
--- answered in is all one, and that what is carried out has a firework.
+-- What running frames keeps, whatever they are: the sum of the report, the file's acceptance and length. That any two buffers of
+-- 64 bytes or more give the same answer and file, and that what is carried out has a firework.
 -- Assumes nothing.
 use Prim.Native.Nat.{ℕ, zero, suc, _+_, _≤_, _<_}
 use native.Mathlib.Omega.{arith}

@@ -149,6 +149,7 @@ impl<'a> Campaign<'a> {
         self.ends_reached();
         self.sorts_reached(&Sort::REACHED, amounts.rounds);
         self.sorts_reached(&Sort::REACHED_BY_TRACES, amounts.traces);
+        self.sorts_reached(&Sort::REACHED_BY_RUNS, amounts.runs);
         self.reached();
     }
 
@@ -254,7 +255,7 @@ impl<'a> Campaign<'a> {
         }
     }
 
-    fn note_sorts(&mut self, sorts: impl IntoIterator<Item = Sort>) {
+    pub(crate) fn note_sorts(&mut self, sorts: impl IntoIterator<Item = Sort>) {
         for sort in sorts {
             *self.sorts.entry(sort).or_insert(0) += 1;
         }

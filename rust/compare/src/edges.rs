@@ -1,5 +1,6 @@
 //! The edges of a captured trace. Every expected result is worked out by hand from document 02, and no trace is made
-//! by a program that knows the layout: an engine, the model too, has to give what stands here.
+//! by the model or an engine; of the long ones `uniform` writes the rows out. An engine, the model too, has to give
+//! what stands here.
 
 use crate::case::{bytes, Call, Outcome};
 use crate::engine::{Engine, ReportWords};
@@ -40,7 +41,7 @@ enum Expected {
 }
 
 /// So many edges there are.
-const EDGES: usize = 81;
+const EDGES: usize = 84;
 
 /// Panics at the first edge at which the engine does something else.
 pub fn hold_edges(engine: &dyn Engine) {
@@ -120,6 +121,8 @@ fn shortest() -> Vec<Edge> {
         broken("65,535 frames announced, none there", "FFFF 0000"),
         broken("65,535 frames and bytes announced", "FFFF FFFF"),
         broken("65,535 frames announced, the first there", "FFFF 0000 0000 00"),
+        // 4 + 3 * 21,846 = 65,542 is 6 in sixteen bits.
+        broken("21,846 frames announced, six bytes there", "5556 0000 0000"),
     ]
 }
 
@@ -176,7 +179,8 @@ fn longest() -> Vec<Edge> {
     ]
 }
 
-/// Nothing is wrong with these but their length; in the last two the header is wrong too.
+/// Of the first four only the length is wrong; the fifth also has a byte after its data; the last is not too long, but
+/// has fewer bytes than its header says.
 fn too_long() -> Vec<Edge> {
     let refused = |what, trace, bytes| long(what, trace, bytes, Expected::Refused(BROKEN));
     let mut trailing = uniform(&[1; 4_095], 0xBA);
@@ -197,6 +201,16 @@ fn too_long() -> Vec<Edge> {
     ]
 }
 
+/// 257 rows of length 255 and one of length 1, each with the offset that the lengths before it give, and no data: the
+/// lengths add up to 65,536, which is the data length 0 in sixteen bits.
+fn lengths_of_65536() -> Vec<u8> {
+    let lengths = with_last(vec![255; 257], 1);
+    let mut trace = uniform(&lengths, 0xBA);
+    trace.truncate(4 + 3 * lengths.len());
+    trace[2..4].fill(0);
+    trace
+}
+
 /// M1 and its data frame: the epoch becomes 5 and then 6. Then the same with a length altered.
 fn lengths() -> Vec<Edge> {
     let whole = run(
@@ -207,6 +221,13 @@ fn lengths() -> Vec<Edge> {
     );
     vec![
         whole,
+        run(
+            "an address frame alone",
+            "0001 0006  0000 06  5505FF22028F",
+            [1, 0, 0, 0, 1],
+            &[(EPOCH, "05"), (EPOCH + 1, M1_PENDING)],
+        ),
+        long("lengths that add up to 65,536", lengths_of_65536(), 778, Expected::Refused(BROKEN)),
         broken("the data one byte short", "0002 0007  0000 06  0006 01  5505FF22028F"),
         broken("the data one byte long", "0002 0007  0000 06  0006 01  5505FF22028F 49 49"),
         broken("one byte short, as the header says", "0002 0006  0000 06  0006 01  5505FF22028F"),
@@ -331,7 +352,7 @@ fn states() -> Vec<Edge> {
         run("an address frame alone stays pending", &one(M2), [1, 0, 0, 0, 1], &[(EPOCH + 1, M2_PENDING)]),
         on(&[(EPOCH + 1, M2_PENDING)], pending_data),
         // The second MSD finds nobody unnamed; it is carried out and alters the epoch alone.
-        run("data of a write twice", &m2_and(NAME_7, "490000010840"), [1, 2, 0, 0, 3], &after_twice),
+        run("two data frames for one write", &m2_and(NAME_7, "490000010840"), [1, 2, 0, 0, 3], &after_twice),
         // Write record 2 of 0x08 at 7, epoch 3, reaches those that the frames before it have named.
         run(
             "a later frame meets the names that an earlier one gave",

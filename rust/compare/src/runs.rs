@@ -5,6 +5,7 @@ use crate::campaign::Campaign;
 use crate::case::Call;
 use crate::engine::RunWords;
 use crate::random::Random;
+use crate::sort::Sort;
 use crate::{clusters, inputs};
 use model::{check, closed_figures, Account, Cluster, End, LogicalName, Slave};
 
@@ -124,6 +125,10 @@ impl WholeRun {
         }
         let trace = model::encode_trace(&frames);
         let outcome = campaign.call(&Call::Trace { file: self.file.clone(), trace });
+        let between = outcome
+            .report_words()
+            .is_some_and(|[msa, _, multipartner, refused, _]| msa + multipartner > 0 && refused > 0);
+        campaign.note_sorts(between.then_some(Sort::TraceBetweenSteps));
         self.file = outcome.file.expect("a lent file");
         self.hold_against_account(campaign);
     }

@@ -38,6 +38,8 @@ pub enum Sort {
     TraceNotFilled,
     /// One in which nothing is wrong but that it is too long.
     TraceTooLong,
+    /// A trace between the steps of a naming run that was run and has a round and a refused frame in it.
+    TraceBetweenSteps,
 }
 
 impl Sort {
@@ -65,6 +67,9 @@ impl Sort {
         (Sort::TraceNotFilled, 50),
         (Sort::TraceTooLong, 1_000),
     ];
+
+    /// Sorts of calls in naming runs, with one in how many of the runs asked for.
+    pub const REACHED_BY_RUNS: [(Sort, usize); 1] = [(Sort::TraceBetweenSteps, 1)];
 
     /// What a call is an example of, traces aside: these are sorted in `traces`.
     pub fn of(call: &Call, outcome: &Outcome) -> Option<Sort> {
@@ -102,6 +107,7 @@ impl Sort {
             Sort::TraceWithWrongOffset => "traces refused, an offset wrong",
             Sort::TraceNotFilled => "traces refused, their frames not ending with the data",
             Sort::TraceTooLong => "traces refused, nothing wrong but too long",
+            Sort::TraceBetweenSteps => "traces run between naming steps, with a round and a refused frame",
         }
     }
 }

@@ -56,6 +56,11 @@ fn vectors_of_request_2_hold() {
 }
 
 #[test]
+fn vectors_of_request_3_hold() {
+    assert_eq!(kinds_that_hold(include_str!("data/request-03.txt")), EVERY_KIND_WITH_TRACES);
+}
+
+#[test]
 fn cases_of_our_own_hold() {
     assert!(!kinds_that_hold(include_str!("data/cases.txt")).is_empty());
 }

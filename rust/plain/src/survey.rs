@@ -164,7 +164,7 @@ fn walk_directory(directory: &[[u8; 4]], mut place: usize) -> Option<usize> {
         number_before = number;
         place += (records >> 14) as usize + 4;
     }
-    // Numbers rise, so the last one speaks for all.
+    // Numbers only rise, so if the last one is not too high none is.
     (number_before < 64).then_some(place)
 }
 

@@ -76,6 +76,6 @@ fn parts_of(trace: &[u8]) -> Option<(&[[u8; ROW_BYTES]], &[u8])> {
         }
         place += usize::from(length);
     }
-    // Places rise, so the last one speaks for all.
+    // Places only rise, so if the last frame ends with the data none ends past it.
     (place == data_length).then_some((table, data))
 }

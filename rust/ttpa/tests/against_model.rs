@@ -80,6 +80,7 @@ fn the_safe_functions_give_the_kept_results() {
         include_str!("../../model/tests/data/request-01.txt"),
         include_str!("../../model/tests/data/request-02.txt"),
         include_str!("../../model/tests/data/cases.txt"),
+        include_str!("../../model/tests/data/request-03.txt"),
     ] {
         let held = hold_all(&Wrapper, text);
         assert!(!held.made.is_empty());

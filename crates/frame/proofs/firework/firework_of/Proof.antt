@@ -1,33 +1,29 @@
--- `frame::firework::firework_of` meets its contract: the code's table is `entries`, which antt computes.
+-- `frame::firework::firework_of` meets its contract: the round by the bits is the round by the list.
 -- Assumes nothing.
-use mathlib.Core.Path.{refl}
 use borrow.Author.Needs.{needs}
-use Rattle.frame.specs.Rules.Fireworks.{roundOf, roundIn}
 use Rattle.frame.specs.Inner.Answers.{fireworkRound}
-use Rattle.frame.proofs.Rounds.{entryOf, data-entry, address-entry, none-entry, multipartner-entry}
+use Rattle.frame.proofs.FireworkBits.{opens-none, opens-data, opens-address, opens-multipartner}
 use Rattle.frame.proofs.firework.firework_of.Statement.{statement}
 use Rattle.frame.proofs.firework.firework_of.Tie as tie
 
-array-read-match : tie.Need-array-read-match
-array-read-match c = search needs
+high-bits-requires : tie.Need-high-bits-requires
+high-bits-requires c κs = search needs
 
 returns : tie.Need-returns
-unfolding fireworkRound roundOf roundIn entryOf
-returns c = data-entry (c .before .args .byte) (search needs) (c .match .keys1)
+unfolding fireworkRound
+returns c = search (needs, opens-none)
 
 returns-2 : tie.Need-returns-2
-unfolding fireworkRound roundOf roundIn entryOf
-returns-2 c = address-entry (c .before .args .byte) (search needs) (c .match .keys2)
+unfolding fireworkRound
+returns-2 c = search (needs, opens-data)
 
 returns-3 : tie.Need-returns-3
-unfolding fireworkRound roundOf roundIn entryOf
-returns-3 c = none-entry (c .before .args .byte) (search needs) (c .match .keys3)
+unfolding fireworkRound
+returns-3 c = search (needs, opens-address)
 
 returns-4 : tie.Need-returns-4
-unfolding fireworkRound roundOf roundIn entryOf
-returns-4 c =
-    let others = c .match .rest in
-    multipartner-entry (c .before .args .byte) (search needs) _ refl (others .0 .0 .1) (others .0 .1) (others .1)
+unfolding fireworkRound
+returns-4 c = search (needs, opens-multipartner)
 
 pub firework-of-spec : {M : Type 1} → statement M
-firework-of-spec = tie.close (tie.spec array-read-match returns returns-2 returns-3 returns-4)
+firework-of-spec = tie.close (tie.spec high-bits-requires returns returns-2 returns-3 returns-4)
