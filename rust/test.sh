@@ -2,7 +2,7 @@
 # Builds and runs everything around the engine's archive: the C programs and the Rust example against their
 # expected output, the tests of the Rust crates, and the comparison of the library with the model. Before
 # that, the listing program on inputs of many lengths and on vectors. What was counted is left in target/counts
-# for .ci/least.
+# for .ci/least, and by outcome in target/outcomes.
 #
 #   rust/test.sh [--long]      TTPA_LIB_DIR: the folder of libttpa.a, default target/staticlib
 #                              TTPA_BIN_DIR: the folder of the program listing, default target/bin
@@ -229,12 +229,12 @@ rust_example() {
     fi
 }
 
-# The README shows, as a block that is set in, what a program prints.
-readme_shows() {
-    if [[ $'\n'$(sed -n 's/^    //p' README.md)$'\n' == *$'\n'"$(cat "$1")"$'\n'* ]]; then
+# A document shows, as a block that is set in, what a program prints.
+document_shows() {
+    if [[ $'\n'$(sed -n 's/^    //p' "$1")$'\n' == *$'\n'"$(cat "$2")"$'\n'* ]]; then
         pass 1
     else
-        fail "README does not show $1"
+        fail "$1 does not show $2"
     fi
 }
 
@@ -268,6 +268,8 @@ compared() {
     engine=$(sed -n 's/^engine //p' "$work/compared")
     while read -r kind made; do counted calls "$engine/$source/$kind" "$made"; done \
         < <(sed -n 's/^made //p' "$work/compared")
+    if [ "$source" != random ]; then source=vectors; fi
+    sed -n "s/^outcome /$source /p" "$work/compared" >>"$work/came"
     if [ "$engine" = library ]; then pass 1; else fail "comparison, $source: ran against $engine, not the library"; fi
 }
 
@@ -283,6 +285,43 @@ comparison() {
     for file in "${vectors[@]}"; do compared "${file##*/}" --cases "$file"; done
 }
 
+# What came of the test programs' cases: the number behind their '=', or the end of a run; of listings the numbers of refused ones.
+cases_came() {
+    grep -hE '^(check|read|write|data|round|start|step) .* = ' crates/*_cases/stdout |
+        awk '{ for (i = 1; $i != "="; i++); print "cases", $1, $(i + 1), 1 }'
+    sed -nE 's/^run .* = ([012]),.*/\1/p' crates/naming_cases/stdout |
+        awk '{ split("going-on all-named names-used-up", ends); print "cases", "run", "0/" ends[$1 + 1], 1 }'
+    sed -nE 's/^named .*/0/p; s/^refused //p' crates/listing_cases/stdout | awk '{ print "cases", "list", $1, 1 }'
+}
+
+# What came of the listings among the vectors.
+listings_came() {
+    sed -nE 's/^list .* = (refused ([0-9]+)|.*)$/0\2/p' "${vectors[@]}" | awk '{ print "vectors", "list", $1 + 0, 1 }'
+}
+
+# A table of all calls by what came of them, which docs/TESTS.md shows as it is without --long. The test programs' cases do not tell what a
+# call did that was carried out, a whole run aside.
+outcomes() {
+    { cat "$work/came" && cases_came && listings_came; } | awk '
+        function add(column, what, count) {
+            if (!(what in seen)) { seen[what] = 1; order[++rows] = what }
+            sum[column, what] += count
+        }
+        $3 ~ "/" { add($1, $2 " " substr($3, 1, index($3, "/") - 1), $4) }
+        { add($1, $2 " " $3, $4) }
+        END {
+            printf "%-5s  %-23s  %7s  %7s  %7s\n", "call", "outcome", "random", "vectors", "cases"
+            for (i = 1; i <= rows; i++) {
+                what = order[i]
+                split(what, words, " ")
+                cases = what ~ "/" && words[1] != "run" ? "-" : sum["cases", what] + 0
+                printf "%-5s  %-23s  %7d  %7d  %7s\n", words[1], words[2], sum["random", what], sum["vectors", what], cases
+            }
+        }' >target/outcomes
+    cat target/outcomes
+    if [ $# -eq 0 ]; then document_shows docs/TESTS.md target/outcomes; fi
+}
+
 require
 listing_program
 listing_vectors
@@ -294,8 +333,9 @@ header_version
 archive_needs
 sizes
 rust_example
-readme_shows c/expected.txt
-readme_shows crates/listing/stdout
+document_shows README.md c/expected.txt
+document_shows README.md crates/listing/stdout
 cargo_tests
 comparison "$@"
+outcomes "$@"
 finish

@@ -19,29 +19,24 @@ use Rattle.frame.specs.Rules.Fireworks.{dataFirework, roundOf, roundIn}
 use Rattle.cluster.specs.Rules.Bus.{Senders, joined, busByte, anyone, slots, maskBelow, senderMask, slotBytes, answerBytes, answerIn, nobody}
 use Rattle.cluster.specs.Rules.Slaves.{addressed, addresses, isUnnamed, Duty, reading, comparing, pendingDuty, answersRead, readReply, answersCompare, replyTo, inSlot, sentTo}
 use Rattle.cluster.specs.Rules.Grounds.{roundBy}
-use Rattle.cluster.specs.Rules.Round.{dataEffect, effectOf, frameOn, carriedBy, bufferBy, roundGround, roundOn}
+use Rattle.cluster.specs.Rules.Round.{effectOf, frameOn, roundGround, roundOn}
+use Rattle.cluster.specs.Claims.Cases.{dataRound, RoundCases}
 use Rattle.cluster.proofs.Bus.{mask-alike, mask-nobody, answer-alike, sendersTo-yes, sendersTo-no}
 use Rattle.cluster.specs.Inner.Carried.{sendersTo}
 use Rattle.cluster.proofs.Hearing.{inSlot-yes, inSlot-no, inSlot-nil}
 use Rattle.cluster.proofs.DataLaws.{sent-nothing}
 use Rattle.cluster.proofs.Rounds.{round-accepted}
 
--- the data frame with no write pending: the firework alone
-abbrev pub dataRound : List ℕ
-dataRound = dataFirework ∷ []
-
 -- who sends, by the pending operation
 senders-are : (c : Cluster) {o : Duty} → pendingDuty c ≡ o → frameOn c dataRound .senders ≡ sentTo o (c .slaves)
-unfolding frameOn effectOf dataEffect roundBy roundOf roundIn
+unfolding frameOn effectOf roundBy roundOf roundIn
 senders-are c p = rw p
 
 module _ (file buffer : List ℕ) (fits : roundGround file dataRound buffer ≡ 0) {o : Duty} (p : pendingDuty (decode file) ≡ o) where
   pub round-mask : roundOn file dataRound buffer .0 ≡ done (senderMask (sentTo o (decode file .slaves)))
-  unfolding carriedBy
   round-mask = rw (round-accepted file dataRound buffer fits) (ap (λ (r : Senders). done (senderMask r)) (senders-are (decode file) p))
 
   pub round-buffer : roundOn file dataRound buffer .1 ≡ answerIn buffer (answerBytes dataFirework (sentTo o (decode file .slaves)))
-  unfolding bufferBy
   round-buffer = rw (round-accepted file dataRound buffer fits) (ap (λ (r : Senders). answerIn buffer (answerBytes dataFirework r)) (senders-are (decode file) p))
 
 -- ---- M6 and M7: an execute of 0x08 record 2 at 0xFF
@@ -179,3 +174,7 @@ unfolding nobody
 m9 file buffer fits n r p =
     let quiet : (slot : ℕ) → sentTo (reading unnamed n r) (decode file .slaves) slot ≡ nobody slot = sent-nothing (reading unnamed n r) (m9-reply n r) (decode file .slaves) in
     (round-mask file buffer fits p ∙ ap (λ (k : ℕ). done k) (quiet-mask (sentTo (reading unnamed n r) (decode file .slaves)) quiet), round-buffer file buffer fits p ∙ answer-alike buffer dataFirework (sentTo (reading unnamed n r) (decode file .slaves)) nobody quiet)
+
+-- together
+pub round-cases : RoundCases
+round-cases = record { m6 = m6; m7 = m7; m8 = m8; checks = read-checks; m9 = m9 }

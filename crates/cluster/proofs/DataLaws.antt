@@ -9,7 +9,7 @@ use lib.Dec.{eqb}
 use borrow.Author.Tests.{eq-eqb, ne-eqb, not-true, not-false}
 use Rattle.file.specs.Rules.Bytes.{Byte}
 use Rattle.file.specs.Rules.Order.{both}
-use Rattle.file.specs.Rules.Layout.{pendingFlag, namesRecord, comparisonHighRecord}
+use Rattle.file.specs.Rules.Layout.{pendingFlag}
 use Rattle.file.specs.Rules.Cluster.{Slave, Cluster, configuration, documentation, operationOf, fileNumberOf, readOperation, writeOperation, executeOperation}
 use Rattle.file.specs.Rules.Decode.{decode}
 use Rattle.file.specs.Rules.Changes.{withSlaves, withEpoch}
@@ -22,9 +22,9 @@ use Rattle.cluster.specs.declared.types.RecordAddress.{RecordAddress}
 use Rattle.cluster.specs.declared.duty.Duty.{Duty as CodeDuty}
 use Rattle.cluster.specs.declared.duty.Duty.the-variants as duties
 use Rattle.cluster.specs.Rules.Bus.{senderMask, answerBytes, answerIn, nobody}
-use Rattle.cluster.specs.Rules.Slaves.{Duty, nothing, reading, writing, comparing, baptizing, executionOf, dutyBy, pendingDuty, nextEpoch, epochRaised, headerRecord, mayWrite, takesWrite, replyTo, sentTo, slaveAfter, slavesAfter}
+use Rattle.cluster.specs.Rules.Slaves.{Duty, nothing, reading, writing, comparing, baptizing, executionOf, dutyBy, pendingDuty, nextEpoch, epochRaised, mayWrite, takesWrite, replyTo, sentTo, slaveAfter, slavesAfter}
 use Rattle.cluster.specs.Rules.Grounds.{writePending}
-use Rattle.cluster.specs.Rules.Round.{dataEffect}
+use Rattle.cluster.specs.Inner.Effects.{dataEffect}
 use Rattle.cluster.specs.Inner.Carried.{sendersTo, Heard, Carried}
 use Rattle.cluster.specs.Inner.Duties.{readingAt, writingAt, executionAt, dutyAt, dutyFor, dutyEffect}
 use Rattle.cluster.proofs.Bus.{counting-start, counting-done}
@@ -66,17 +66,17 @@ module _ (name : ℕ) {n : ℕ} (r : ℕ) where
   execution-elsewhere h = rw (ne-eqb n configuration h)
 
   module _ (here : n ≡ configuration) where
-    pub execution-compare : r ≡ comparisonHighRecord → comparing name ≡ executionOf name n r
+    pub execution-compare : r ≡ 2 → comparing name ≡ executionOf name n r
     unfolding executionOf
-    execution-compare e = rw (eq-eqb n configuration here, eq-eqb r comparisonHighRecord e)
+    execution-compare e = rw (eq-eqb n configuration here, eq-eqb r 2 e)
 
-    pub execution-baptize : (r ≡ comparisonHighRecord → ⊥) → r ≡ namesRecord → baptizing name ≡ executionOf name n r
+    pub execution-baptize : (r ≡ 2 → ⊥) → r ≡ 1 → baptizing name ≡ executionOf name n r
     unfolding executionOf
-    execution-baptize two e = rw (eq-eqb n configuration here, ne-eqb r comparisonHighRecord two, eq-eqb r namesRecord e)
+    execution-baptize two e = rw (eq-eqb n configuration here, ne-eqb r 2 two, eq-eqb r 1 e)
 
-    pub execution-other : (r ≡ comparisonHighRecord → ⊥) → (r ≡ namesRecord → ⊥) → nothing ≡ executionOf name n r
+    pub execution-other : (r ≡ 2 → ⊥) → (r ≡ 1 → ⊥) → nothing ≡ executionOf name n r
     unfolding executionOf
-    execution-other two one = rw (eq-eqb n configuration here, ne-eqb r comparisonHighRecord two, ne-eqb r namesRecord one)
+    execution-other two one = rw (eq-eqb n configuration here, ne-eqb r 2 two, ne-eqb r 1 one)
 
 -- ---- the epoch
 
@@ -96,9 +96,9 @@ raised {f} c is next h = subst (λ (n : ℕ). Becomes f (withEpoch c n)) (next �
 
 pub no-documentation : {n : ℕ} (r : ℕ) → n ≡ documentation → false ≡ mayWrite n r
 unfolding mayWrite
-no-documentation {n} r e = sym (both-false-left (not (eqb r headerRecord)) (ap not (eq-eqb n documentation e)))
+no-documentation {n} r e = sym (both-false-left (not (eqb r 0x00)) (ap not (eq-eqb n documentation e)))
 
-pub no-header : {n : ℕ} (r : ℕ) → (n ≡ documentation → ⊥) → not (eqb r headerRecord) ≡ mayWrite n r
+pub no-header : {n : ℕ} (r : ℕ) → (n ≡ documentation → ⊥) → not (eqb r 0x00) ≡ mayWrite n r
 unfolding mayWrite both
 no-header {n} r h = rw (ne-eqb n documentation h)
 
@@ -135,7 +135,7 @@ execution-writes-not : (name n r : ℕ) → isWriting (executionOf name n r) ≡
 unfolding executionOf isWriting
 execution-writes-not name n r =
     byCase (eqb n configuration)
-    (λ e. byCase (eqb r comparisonHighRecord) (λ t. rw (e, t)) (λ t. byCase (eqb r namesRecord) (λ o. rw (e, t, o)) (λ o. rw (e, t, o))))
+    (λ e. byCase (eqb r 2) (λ t. rw (e, t)) (λ t. byCase (eqb r 1) (λ o. rw (e, t, o)) (λ o. rw (e, t, o))))
     (λ e. rw e)
 
 duty-writes : (name pb2 pb3 : ℕ) → isWriting (dutyBy name pb2 pb3) ≡ true → eqb (operationOf pb2) writeOperation ≡ true
@@ -217,5 +217,5 @@ raised-placed {f} p h = placed-kept p h (kept-raised (decode f) .shape)
 
 pub raised-done : {f : List ℕ} (c : Cluster) {o : Duty} (bytes : List ℕ) {firework : ℕ} {old new : List ℕ} {mask : ℕ} {file : List ℕ} → o ≡ pendingDuty c → Becomes f (epochRaised c) → Carried (dutyEffect o bytes (decode f)) firework old new mask file →
     Carried (dataEffect c bytes) firework old new mask file
-unfolding dataEffect dutyEffect epochRaised withEpoch
+unfolding dutyEffect epochRaised withEpoch
 raised-done c bytes is h k = let there = rw (is, h .decoded) at k in record { senders = there .senders; buffer = there .buffer; becomes = there .becomes }

@@ -10,7 +10,7 @@ use lib.Dec.{leb, ltb, eqb}
 use borrow.Author.Tests.{lt-ltb, le-ltb, le-leb, lt-leb, leb-true, ltb-true, ltb-false, eqb-true}
 use Rattle.file.specs.Rules.Order.{either}
 use Rattle.file.proofs.Order.{byCase, clash, both-left, both-right, both-true, both-false-left, both-false-right, both-next, either-false}
-use Rattle.cluster.specs.Rules.Entries.{Entry, lengthValues, startValues, entryOf, entryThere, receives, sends, ends, covers}
+use Rattle.cluster.specs.Rules.Entries.{Entry, entryOf, entryThere, receives, sends, ends, covers}
 use Rattle.cluster.specs.Inner.EntryForm.{codeOf, multiplexOf, multiplexIn, OperationIs, entryFrom, evaluated, isPast, Action, ending, sending, receiving, resting, actionBy, actionFrom}
 use Rattle.cluster.specs.declared.entry.Entry as Code
 use Rattle.cluster.specs.declared.entry.EntryOperation.{EntryOperation}
@@ -113,13 +113,13 @@ covers-late e slot h = covers-test (e .slot) (e .length) slot h ∙ sym (both-ne
 -- an entry's last slot is small
 pub record Short (e : Code.Entry) : Type 0 where
   pub some : 1 ≤ e .length
-  pub few : e .slot + e .length < startValues + lengthValues
+  pub few : e .slot + e .length < 64 + 16
 
 pub entry-short : (f : List ℕ) (at : ℕ) (e : Code.Entry) → entryFrom e ≡ evaluated (entryThere f at) → Short e
 unfolding entryFrom evaluated entryThere entryOf
 entry-short f at e is =
-    let start : e .slot ≡ getD f (at + 3) 0 % startValues = ap (λ (x : Entry). x .start) is in
-    let count : e .length ≡ getD f (at + 2) 0 % lengthValues + 1 = ap (λ (x : Entry). x .length) is in
+    let start : e .slot ≡ getD f (at + 3) 0 % 64 = ap (λ (x : Entry). x .start) is in
+    let count : e .length ≡ getD f (at + 2) 0 % 16 + 1 = ap (λ (x : Entry). x .length) is in
     record { some = omega arith; few = omega arith }
 
 module _ (e : Code.Entry) (slot : ℕ) (short : Short e) where

@@ -12,7 +12,6 @@ use mir.Val.{Fits as FitsIn}
 use mir.Syntax.{w8}
 use Rattle.file.specs.Rules.Bytes.{Byte, All, allEmpty, allNext}
 use Rattle.file.specs.Rules.Order as Order
-use Rattle.file.specs.Rules.Refusals.{frameLengthRefusal, checkRefusal}
 use Rattle.file.specs.Rules.Results.{refused, done, resultOf}
 use Rattle.file.specs.Rules.Layout.{pendingFlag}
 use Rattle.file.specs.Rules.Cluster.{Cluster, pb2Of, operationOf, fileNumberOf, writeOperation}
@@ -32,7 +31,7 @@ use Rattle.file.proofs.Shape.{shape-refl}
 use Rattle.file.proofs.Surveyed.{placed-kept}
 use Rattle.frame.specs.Rules.Fireworks.{Round, multipartner, msd, msa, dataFirework, addressFirework, fireworks, roundIn, roundOf}
 use Rattle.frame.specs.Rules.Check.{dataCheck}
-use Rattle.frame.specs.Rules.Frames.{frameSize, pb0Place, pb1Place, pb2Place, pb3Place, checkPlace, between}
+use Rattle.frame.specs.Rules.Frames.{frameSize, between}
 use Rattle.frame.specs.Rules.Grounds.{wrongFrameLength, wrongCheck, broadcastRead, noAddress}
 use Rattle.frame.specs.Rules.Reading.{Parts, parts, readGround, partsOf, readAddress}
 use Rattle.frame.specs.Inner.Answers.{readingOf}
@@ -44,8 +43,10 @@ use Rattle.cluster.specs.declared.msd.DataReading.{DataReading}
 use Rattle.cluster.specs.declared.msd.DataReading.the-variants as readings
 use Rattle.cluster.specs.Rules.Bus.{answerBytes, answerIn, nobody}
 use Rattle.cluster.specs.Rules.Slaves.{withAddress}
-use Rattle.cluster.specs.Rules.Grounds.{roundBy, noFirework, writePending, fireworkSize, lengthFor, wrongLengthOn, wrongCheckOn, noOperationOn, broadcastReadOn, groundsOn, frameGround}
-use Rattle.cluster.specs.Rules.Round.{Effect, addressEffect, dataEffect, effectOf, frameOn, carriedBy, bufferBy}
+use Rattle.cluster.specs.Rules.Grounds.{roundBy, writePending, groundsOn}
+use Rattle.cluster.specs.Inner.Grounds.{noFirework, fireworkSize, lengthFor, wrongLengthOn, wrongCheckOn, noOperationOn, broadcastReadOn, frameGround}
+use Rattle.cluster.specs.Rules.Round.{Effect, effectOf, frameOn}
+use Rattle.cluster.specs.Inner.Effects.{addressEffect, dataEffect}
 use Rattle.cluster.specs.Inner.Carried.{exchange}
 use Rattle.cluster.specs.Inner.Carried.{Carried, Exchanged}
 use Rattle.cluster.specs.Inner.Duties.{dataIn}
@@ -62,7 +63,7 @@ exchange-refused c frame b {g} h e n =
     record { answers = rw no′ (ap refused e); buffer = rw no′; becomes = rw no′ h }
 
 pub exchange-carried : (c : Cluster) (frame : List ℕ) {f : List ℕ} (old : List ℕ) {new : List ℕ} {mask : ℕ} → frameGround c frame ≡ 0 → Carried (frameOn c frame) (getD frame 0 0) old new mask f → Exchanged c frame old new (done mask) f
-unfolding exchange carriedBy bufferBy
+unfolding exchange
 exchange-carried c frame old z k =
     let yes′ : eqb (frameGround c frame) 0 ≡ true = eq-eqb (frameGround c frame) 0 z in
     record { answers = rw yes′ (ap done (k .senders)); buffer = rw yes′ (k .buffer); becomes = rw yes′ (k .becomes) }
@@ -127,7 +128,7 @@ nothing-between [] e = absurd (omega arith)
 nothing-between (b ∷ []) e = refl
 nothing-between (b ∷ d ∷ l) e = absurd (omega arith)
 
-data-ground : (c : Cluster) (frame : List ℕ) → roundBy frame ≡ msd → frameGround c frame ≡ cond (wrongFrameLength (cond (writePending c) frameSize fireworkSize) frame) frameLengthRefusal (cond (Order.both (writePending c) (wrongCheck dataCheck frame)) checkRefusal 0)
+data-ground : (c : Cluster) (frame : List ℕ) → roundBy frame ≡ msd → frameGround c frame ≡ cond (wrongFrameLength (cond (writePending c) frameSize fireworkSize) frame) 11 (cond (Order.both (writePending c) (wrongCheck dataCheck frame)) 12 0)
 unfolding frameGround groundsOn Order.firstOf noFirework wrongLengthOn lengthFor wrongCheckOn noOperationOn broadcastReadOn
 data-ground c frame h = rw h
 
@@ -142,7 +143,7 @@ module _ (c : Cluster) (frame : List ℕ) (isData : roundBy frame ≡ msd) {t : 
     unpending : writePending c ≡ false
     unpending = sym test ∙ not-true t idle
 
-    pub data-not-one : (length frame ≡ fireworkSize → ⊥) → refused frameLengthRefusal ≡ resultOf (frameGround c frame) (between frame)
+    pub data-not-one : (length frame ≡ fireworkSize → ⊥) → refused 11 ≡ resultOf (frameGround c frame) (between frame)
     unfolding wrongFrameLength
     data-not-one h = read-refused c frame (λ z. omega (arith, z)) (data-ground c frame isData ∙ rw (unpending, ne-eqb (length frame) fireworkSize h))
 
@@ -154,21 +155,21 @@ module _ (c : Cluster) (frame : List ℕ) (isData : roundBy frame ≡ msd) {t : 
     pending : writePending c ≡ true
     pending = sym test ∙ not-false t waits
 
-    pub data-not-six : (length frame ≡ frameSize → ⊥) → refused frameLengthRefusal ≡ resultOf (frameGround c frame) (between frame)
+    pub data-not-six : (length frame ≡ frameSize → ⊥) → refused 11 ≡ resultOf (frameGround c frame) (between frame)
     unfolding wrongFrameLength
     data-not-six h = read-refused c frame (λ z. omega (arith, z)) (data-ground c frame isData ∙ rw (pending, ne-eqb (length frame) frameSize h))
 
-    pub data-wrong : {check : ℕ} → length frame ≡ frameSize → check ≡ dataCheck (between frame) → (getD frame checkPlace 0 ≡ check → ⊥) → refused checkRefusal ≡ resultOf (frameGround c frame) (between frame)
+    pub data-wrong : {check : ℕ} → length frame ≡ frameSize → check ≡ dataCheck (between frame) → (getD frame 5 0 ≡ check → ⊥) → refused 12 ≡ resultOf (frameGround c frame) (between frame)
     unfolding wrongFrameLength wrongCheck Order.both
     data-wrong h e n =
         read-refused c frame (λ z. omega (arith, z))
-        (data-ground c frame isData ∙ rw (pending, eq-eqb (length frame) frameSize h, ne-eqb (getD frame checkPlace 0) (dataCheck (between frame)) (λ q. n (q ∙ sym e))))
+        (data-ground c frame isData ∙ rw (pending, eq-eqb (length frame) frameSize h, ne-eqb (getD frame 5 0) (dataCheck (between frame)) (λ q. n (q ∙ sym e))))
 
-    pub data-fits : {check : ℕ} → length frame ≡ frameSize → check ≡ dataCheck (between frame) → getD frame checkPlace 0 ≡ check → frameGround c frame ≡ 0
+    pub data-fits : {check : ℕ} → length frame ≡ frameSize → check ≡ dataCheck (between frame) → getD frame 5 0 ≡ check → frameGround c frame ≡ 0
     unfolding wrongFrameLength wrongCheck Order.both
-    data-fits h e n = data-ground c frame isData ∙ rw (pending, eq-eqb (length frame) frameSize h, eq-eqb (getD frame checkPlace 0) (dataCheck (between frame)) (n ∙ e))
+    data-fits h e n = data-ground c frame isData ∙ rw (pending, eq-eqb (length frame) frameSize h, eq-eqb (getD frame 5 0) (dataCheck (between frame)) (n ∙ e))
 
-    pub data-right : {check : ℕ} → length frame ≡ frameSize → check ≡ dataCheck (between frame) → getD frame checkPlace 0 ≡ check → done (between frame) ≡ resultOf (frameGround c frame) (between frame)
+    pub data-right : {check : ℕ} → length frame ≡ frameSize → check ≡ dataCheck (between frame) → getD frame 5 0 ≡ check → done (between frame) ≡ resultOf (frameGround c frame) (between frame)
     data-right h e n = read-done c frame (between frame) (data-fits h e n) refl
 
 -- ---- a data frame that was read
@@ -206,17 +207,17 @@ address-ground c frame h =
 -- what was read of a frame
 pub record PartsAre (frame : List ℕ) (epoch name number operation «record» : ℕ) : Type 0 where
   pub ground : readGround frame ≡ 0
-  pub pb0 : epoch ≡ getD frame pb0Place 0
-  pub pb1 : name ≡ getD frame pb1Place 0
-  pub pb2 : pb2Of number operation ≡ getD frame pb2Place 0
-  pub pb3 : «record» ≡ getD frame pb3Place 0
+  pub pb0 : epoch ≡ getD frame 1 0
+  pub pb1 : name ≡ getD frame 2 0
+  pub pb2 : pb2Of number operation ≡ getD frame 3 0
+  pub pb3 : «record» ≡ getD frame 4 0
 
 pub parts-facts : (frame : List ℕ) {e n m o r : ℕ} → done (parts e n m o r) ≡ readAddress frame → PartsAre frame e n m o r
 unfolding readAddress partsOf pb2Of
 parts-facts frame {e} {n} {m} {o} {r} h =
     let same : parts e n m o r ≡ partsOf frame = same-value (partsOf frame) (readGround frame) h in
-    let file : m ≡ fileNumberOf (getD frame pb2Place 0) = ap (λ (p : Parts). p .file) same in
-    let operation : o ≡ operationOf (getD frame pb2Place 0) = ap (λ (p : Parts). p .operation) same in
+    let file : m ≡ fileNumberOf (getD frame 3 0) = ap (λ (p : Parts). p .file) same in
+    let operation : o ≡ operationOf (getD frame 3 0) = ap (λ (p : Parts). p .operation) same in
     record {
       ground = no-ground (partsOf frame) (readGround frame) h;
       pb0 = ap (λ (p : Parts). p .epoch) same;
@@ -249,7 +250,7 @@ module _ (c : Cluster) (frame : List ℕ) {x : AddressReading} {epoch : ℕ} {na
       (address-pending c (getD frame 1 0) (getD frame 2 0) (getD frame 3 0) (getD frame 4 0) (byte 1) (byte 2) (byte 3) (byte 4) (facts′ .operation) (facts′ .broadcastRead))
 
   pub address-taken : {f old new : List ℕ} → Becomes f (withAddress c epoch (nameIn name) (pb2Of (fileIn number) (operationIn operation)) (recordIn record′)) → new ≡ answerIn old (answerBytes addressFirework nobody) → Exchanged c frame old new (done 0) f
-  unfolding frameOn effectOf addressEffect
+  unfolding frameOn effectOf
   address-taken {f} {old} {new} h stored =
       let effect : frameOn c frame ≡ addressEffect c frame = rw isAddress in
       let after : Becomes f (addressEffect c frame .after) = rw (← (taken .pb0), ← (taken .pb1), ← (taken .pb2), ← (taken .pb3)) h in

@@ -10,7 +10,8 @@ use lib.Dec.{eqb}
 use borrow.Author.Tests.{leb-true, not-true, eq-eqb}
 use Rattle.file.specs.Rules.Bytes.{Byte, Bytes, All, allEmpty, allNext}
 use Rattle.file.specs.Rules.Order as Order
-use Rattle.file.specs.Rules.Layout.{recordSize, newLogicalNamePlace, logicalNamePlace}
+use Rattle.file.specs.Rules.Layout.{recordSize}
+use Rattle.file.specs.Inner.Layout.{newLogicalNamePlace, logicalNamePlace}
 use Rattle.file.specs.Rules.Cluster.{File, Slave, Cluster, bytesAmong, bytesIn, configuration, documentation, physicalName, newLogicalName}
 use Rattle.file.specs.Rules.Legal.{LegalFile, LegalSlave, LegalPending, Legal}
 use Rattle.file.specs.Rules.Changes.{putInSlave, withSlaves, withEpoch, withPending}

@@ -9,6 +9,8 @@ pub mod Kept
 pub mod Untouched
 pub mod Rounds
 pub mod Replaced
+pub mod StaysPending
+pub mod UnnamedWrites
 -- loops along the slaves of a master-slave round: their replies, and their changes
 pub mod Hearing
 pub mod Changing

@@ -1,17 +1,25 @@
--- The sender mask, as the layers above read it: "bit s is set exactly when someone sent in slot s"; "bit 0 is never set".
+-- The sender mask, of any sender rule and of an accepted round: "bit s is set exactly when someone sent in slot s"; "bit 0 is never
+-- set".
 -- Assumes nothing.
 use Prim.Native.Nat.{ℕ, _/_, _%_, _^_, _<_}
 use native.Mathlib.Omega.{arith}
 use mathlib.Core.Path.{_≡_, refl, sym, ap, _∙_}
 use mathlib.Core.Logic.{_≢_, _↔_}
 use mathlib.Core.List.{List, [], _∷_}
+use lib.Dec.{eqb}
 use Rattle.file.specs.Rules.Cluster.{Slave, Cluster}
+use Rattle.file.specs.Rules.Decode.{decode}
+use Rattle.file.specs.Rules.Results.{done, resultOf}
+use Rattle.file.proofs.Order.{byCase}
+use Rattle.file.proofs.Results.{same-value}
 use Rattle.frame.specs.Rules.Fireworks.{Round, multipartner, msd, msa, noRound}
 use Rattle.cluster.specs.Rules.Bus.{Senders, anyone, slots, senderMask, nobody}
 use Rattle.cluster.specs.Rules.Slaves.{Duty, inSlot, sentTo, pendingDuty}
 use Rattle.cluster.specs.Rules.Multipartner.{sentIn, sentDuring}
 use Rattle.cluster.specs.Rules.Grounds.{roundBy}
-use Rattle.cluster.specs.Rules.Round.{addressEffect, dataEffect, multipartnerEffect, effectOf, frameOn}
+use Rattle.cluster.specs.Rules.Round.{effectOf, frameOn, roundGround, roundOn}
+use Rattle.cluster.specs.Inner.Effects.{carriedBy}
+use Rattle.cluster.specs.Claims.Mask.{BitsAreSenders, BitZeroNeverSet}
 use Rattle.cluster.proofs.Bus.{mask-below, mask-bit}
 
 pub mask-64 : (r : Senders) → senderMask r < 2 ^ 64
@@ -37,7 +45,7 @@ sentTo-zero o [] = refl
 sentTo-zero o (s ∷ ss) = sentTo-zero o ss
 
 senders-zero : (c : Cluster) (round : Round) (frame : List ℕ) → effectOf c round frame .senders 0 ≡ []
-unfolding effectOf addressEffect dataEffect multipartnerEffect sentDuring sentIn nobody
+unfolding effectOf sentDuring sentIn nobody
 senders-zero c (multipartner r) frame = refl
 senders-zero c msd frame = sentTo-zero (pendingDuty c) (c .slaves)
 senders-zero c msa frame = refl
@@ -48,3 +56,21 @@ unfolding frameOn anyone
 bit-zero c frame =
     let bit : senderMask (frameOn c frame .senders) / 2 ^ 0 % 2 ≡ 0 = sender-bit (frameOn c frame .senders) 0 (omega arith) ∙ ap anyone (senders-zero c (roundBy frame) frame) in
     omega (arith, bit)
+
+-- ---- the mask that an accepted round answers
+
+round-answer : (file frame buffer : List ℕ) → roundOn file frame buffer .0 ≡ resultOf (roundGround file frame buffer) (senderMask (frameOn (decode file) frame .senders))
+unfolding roundOn resultOf carriedBy
+round-answer file frame buffer = byCase (eqb (roundGround file frame buffer) 0) (λ e. rw e) (λ e. rw e)
+
+answered-mask : (file frame buffer : List ℕ) (mask : ℕ) → roundOn file frame buffer .0 ≡ done mask → mask ≡ senderMask (frameOn (decode file) frame .senders)
+answered-mask file frame buffer mask h =
+    same-value (senderMask (frameOn (decode file) frame .senders)) (roundGround file frame buffer) (sym h ∙ round-answer file frame buffer)
+
+pub bits-are-senders : BitsAreSenders
+bits-are-senders file frame buffer mask h =
+    let is : mask ≡ senderMask (frameOn (decode file) frame .senders) = answered-mask file frame buffer mask h in
+    rw is (record { size = mask-64 (frameOn (decode file) frame .senders); bits = sender-set (frameOn (decode file) frame .senders) })
+
+pub bit-zero-never-set : BitZeroNeverSet
+bit-zero-never-set file frame buffer mask h = rw (answered-mask file frame buffer mask h) (bit-zero (decode file) frame)

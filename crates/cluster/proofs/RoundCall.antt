@@ -7,7 +7,6 @@ use lib.ListN.{length, getD}
 use lib.Dec.{eqb}
 use borrow.Author.Tests.{eqb-true, eqb-false}
 use native.Mathlib.Omega.{arith}
-use Rattle.file.specs.Rules.Refusals.{bufferRefusal}
 use Rattle.file.specs.Rules.Results.{refused}
 use Rattle.file.specs.Rules.Encode.{encode}
 use Rattle.file.specs.Rules.Decode.{decode}
@@ -15,27 +14,28 @@ use Rattle.file.specs.Rules.Grounds.{fileGround}
 use Rattle.file.specs.Inner.Accepted.{Becomes}
 use Rattle.file.proofs.Order.{byCase}
 use Rattle.cluster.specs.Rules.Bus.{slots}
-use Rattle.cluster.specs.Rules.Grounds.{frameGround}
-use Rattle.cluster.specs.Rules.Round.{Answer, frameOn, carriedBy, bufferBy, roundGrounds, roundGround, roundOn}
+use Rattle.cluster.specs.Inner.Grounds.{frameGround}
+use Rattle.cluster.specs.Rules.Round.{Answer, frameOn, roundGround, roundOn}
+use Rattle.cluster.specs.Inner.Effects.{carriedBy, bufferBy}
 use Rattle.cluster.specs.Inner.Carried.{exchange}
 use Rattle.cluster.specs.Inner.Carried.{Exchanged}
 use Rattle.cluster.proofs.Rounds.{file-decides, buffer-decides, others-decide, round-refused, round-accepted}
 
 pub file-refused : (file frame buffer : List ℕ) {n : ℕ} → n ≡ fileGround file → (n ≡ 0 → ⊥) → (refused n, buffer, file) ≡ roundOn file frame buffer
-unfolding roundGround roundGrounds
+unfolding roundGround
 file-refused file frame buffer {n} e some =
     let here : roundGround file frame buffer ≡ fileGround file = file-decides file buffer _ (λ z. some (e ∙ z)) in
     sym (round-refused file frame buffer (λ z. some (e ∙ sym here ∙ z)) ∙ rw (here, e))
 
-pub buffer-refused : (file frame buffer : List ℕ) → fileGround file ≡ 0 → length buffer < slots → (refused bufferRefusal, buffer, file) ≡ roundOn file frame buffer
-unfolding roundGround roundGrounds
+pub buffer-refused : (file frame buffer : List ℕ) → fileGround file ≡ 0 → length buffer < slots → (refused 9, buffer, file) ≡ roundOn file frame buffer
+unfolding roundGround
 buffer-refused file frame buffer accepted short =
-    let here : roundGround file frame buffer ≡ bufferRefusal = buffer-decides file buffer _ accepted short in
-    sym (round-refused file frame buffer (λ z. let bad : _≡_ {A = ℕ} bufferRefusal 0 = sym here ∙ z in omega (arith, bad)) ∙ rw here)
+    let here : roundGround file frame buffer ≡ 9 = buffer-decides file buffer _ accepted short in
+    sym (round-refused file frame buffer (λ z. let bad : _≡_ {A = ℕ} 9 0 = sym here ∙ z in omega (arith, bad)) ∙ rw here)
 
 -- the ground of an accepted file with a buffer of 64 bytes is its frame's
 pub frame-decides : (file frame buffer : List ℕ) → fileGround file ≡ 0 → slots ≤ length buffer → roundGround file frame buffer ≡ frameGround (decode file) frame
-unfolding roundGround roundGrounds frameGround
+unfolding roundGround frameGround
 frame-decides file frame buffer accepted long = others-decide file buffer _ accepted long
 
 pub exchanged-round : (file frame : List ℕ) {old new : List ℕ} {answer : Answer} {file′ : List ℕ} → Becomes file (decode file) → slots ≤ length old → Exchanged (decode file) frame old new answer file′ → (answer, new, file′) ≡ roundOn file frame old

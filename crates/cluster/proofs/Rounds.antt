@@ -3,17 +3,17 @@
 -- Assumes nothing.
 use Prim.Native.Nat.{ℕ, _≤_, _<_}
 use native.Mathlib.Omega.{arith}
-use mathlib.Core.Path.{_≡_, sym, ap, _∙_}
+use mathlib.Core.Path.{_≡_, refl, sym, ap, _∙_}
 use mathlib.Core.Logic.{_≢_}
 use mathlib.Core.List.{List, _∷_, _++_}
 use mathlib.Core.Bool.{false}
-use lib.ListN.{length, getD, take}
-use borrow.Author.Tests.{eq-eqb, ne-eqb, lt-ltb, le-ltb, ltb-false}
+use lib.ListN.{length, getD}
+use lib.Dec.{eqb}
+use borrow.Author.Tests.{eqb-true, eqb-false, eq-eqb, ne-eqb, lt-ltb, le-ltb, ltb-false}
 use Rattle.file.specs.Rules.Bytes.{Byte, Bytes, All}
 use Rattle.file.specs.Rules.Order.{Ground, firstOf}
-use Rattle.file.specs.Rules.Refusals.{bufferRefusal}
 use Rattle.file.specs.Rules.Results.{refused}
-use Rattle.file.specs.Rules.Layout.{editionPlace, pendingFlag}
+use Rattle.file.specs.Rules.Layout.{pendingFlag}
 use Rattle.file.specs.Rules.Cluster.{Cluster, operationOf, executeOperation}
 use Rattle.file.specs.Rules.Encode.{encode}
 use Rattle.file.specs.Rules.Decode.{decode}
@@ -21,12 +21,12 @@ use Rattle.file.specs.Rules.Grounds.{fileGrounds, fileGround}
 use Rattle.file.specs.Rules.Legal.{LegalPending}
 use Rattle.file.specs.Rules.Changes.{withEpoch, withPending}
 use Rattle.file.specs.Inner.Accepted.{Becomes}
-use Rattle.file.proofs.Order.{clash, first-none, first-next, both-true, joined-next, joined-here, joined-left, joined-right}
+use Rattle.file.proofs.Order.{byCase, clash, first-none, first-next, both-true, joined-next, joined-here, joined-left, joined-right}
 use Rattle.file.proofs.Results.{file-first, file-numbered}
 use Rattle.file.proofs.Bytes.{byte-at}
 use Rattle.file.proofs.Sizes.{encodeAt-length}
 use Rattle.file.proofs.Shape.{shape-fileLength}
-use Rattle.file.proofs.Accepted.{legal-becomes, accepted-becomes}
+use Rattle.file.proofs.Accepted.{encode-bytes, legal-becomes, accepted-becomes}
 use Rattle.file.proofs.AcceptedFacts as AcceptedFacts
 use Rattle.file.proofs.Edition.{unknown-edition}
 use Rattle.frame.specs.Rules.Fireworks.{Round, multipartner, msd, msa, noRound}
@@ -34,8 +34,11 @@ use Rattle.frame.specs.Rules.Frames.{between}
 use Rattle.frame.specs.Rules.Grounds.{noOperation, broadcastRead}
 use Rattle.cluster.specs.Rules.Bus.{slots}
 use Rattle.cluster.specs.Rules.Slaves.{withAddress, epochRaised, pendingDuty}
-use Rattle.cluster.specs.Rules.Grounds.{shortAnswer, roundBy, noFirework, wrongLengthOn, wrongCheckOn, noOperationOn, broadcastReadOn, groundsOn, frameGround}
-use Rattle.cluster.specs.Rules.Round.{addressEffect, dataEffect, multipartnerEffect, effectOf, frameOn, carriedBy, bufferBy, roundGrounds, roundGround, roundOn}
+use Rattle.cluster.specs.Rules.Grounds.{shortAnswer, roundBy, groundsOn}
+use Rattle.cluster.specs.Inner.Grounds.{noFirework, lengthFor, wrongLengthOn, wrongCheckOn, noOperationOn, broadcastReadOn, frameGround}
+use Rattle.cluster.specs.Rules.Round.{effectOf, frameOn, roundGround, roundOn}
+use Rattle.cluster.specs.Inner.Effects.{dataEffect, multipartnerEffect, carriedBy, bufferBy}
+use Rattle.cluster.specs.Claims.Edition.{UnknownEditionRound}
 use Rattle.cluster.proofs.Kept.{ClusterKept, kept-refl, kept-trans, kept-epoch, kept-raised, kept-pending, kept-after, kept-below}
 
 -- ---- the grounds of a frame that is accepted
@@ -48,18 +51,26 @@ pub record Fits (c : Cluster) (round : Round) (frame : List ℕ) : Type 0 where
   pub broadcastRead : broadcastReadOn round frame ≡ false
 
 pub fits-facts : (c : Cluster) (round : Round) (frame : List ℕ) → firstOf (groundsOn c round frame) ≡ 0 → Fits c round frame
-unfolding groundsOn
-fits-facts c round frame e =
-    let f₁ = first-none 9 _ _ e in
-    let f₂ = first-none 10 _ _ (f₁ .1) in
-    let f₃ = first-none 11 _ _ (f₂ .1) in
-    let f₄ = first-none 12 _ _ (f₃ .1) in
-    let f₅ = first-none 13 _ _ (f₄ .1) in
-    record { firework = f₁ .0; size = f₂ .0; check = f₃ .0; operation = f₄ .0; broadcastRead = f₅ .0 }
+unfolding groundsOn noFirework wrongLengthOn lengthFor wrongCheckOn noOperationOn broadcastReadOn
+fits-facts c (multipartner r) frame e = record { firework = refl; size = first-none 10 _ _ e .0; check = refl; operation = refl; broadcastRead = refl }
+fits-facts c msd frame e =
+    let f₁ = first-none 10 _ _ e in
+    let f₂ = first-none 11 _ _ (f₁ .1) in
+    record { firework = refl; size = f₁ .0; check = f₂ .0; operation = refl; broadcastRead = refl }
+fits-facts c msa frame e =
+    let f₁ = first-none 10 _ _ e in
+    let f₂ = first-none 11 _ _ (f₁ .1) in
+    let f₃ = first-none 12 _ _ (f₂ .1) in
+    let f₄ = first-none 13 _ _ (f₃ .1) in
+    record { firework = refl; size = f₁ .0; check = f₂ .0; operation = f₃ .0; broadcastRead = f₄ .0 }
+fits-facts c noRound frame e = clash refl (first-none 9 _ _ e .0)
 
 pub fits-none : (c : Cluster) (round : Round) (frame : List ℕ) → Fits c round frame → firstOf (groundsOn c round frame) ≡ 0
-unfolding groundsOn firstOf
-fits-none c round frame f = rw (f .firework, f .size, f .check, f .operation, f .broadcastRead)
+unfolding groundsOn firstOf noFirework wrongLengthOn lengthFor wrongCheckOn noOperationOn broadcastReadOn
+fits-none c (multipartner r) frame f = rw (f .size)
+fits-none c msd frame f = rw (f .size, f .check)
+fits-none c msa frame f = rw (f .size, f .check, f .operation, f .broadcastRead)
+fits-none c noRound frame f = clash refl (f .firework)
 
 -- ---- what an accepted frame keeps
 
@@ -85,18 +96,16 @@ address-kept c pb0 pb1 pb2 pb3 b0 b1 b2 b3 op read =
     (kept-pending (withEpoch c pb0) pendingFlag pb1 pb2 pb3 (address-pending c pb0 pb1 pb2 pb3 b0 b1 b2 b3 op read))
 
 pub data-kept : (c : Cluster) {bytes : List ℕ} → Bytes bytes → ClusterKept c (dataEffect c bytes .after)
-unfolding dataEffect
 data-kept c bs = kept-trans (kept-raised c) (kept-after (pendingDuty c) bs (epochRaised c))
 
 pub multipartner-kept : (c : Cluster) (r : ℕ) → ClusterKept c (multipartnerEffect c r .after)
-unfolding multipartnerEffect
 multipartner-kept c r = kept-trans (kept-raised c) (kept-below r (epochRaised c) slots)
 
 between-bytes : {frame : List ℕ} → Bytes frame → Bytes (between frame)
 between-bytes bs = All.allNext (byte-at bs 1) (All.allNext (byte-at bs 2) (All.allNext (byte-at bs 3) (All.allNext (byte-at bs 4) All.allEmpty)))
 
 effect-kept : (c : Cluster) (round : Round) (frame : List ℕ) → Bytes frame → Fits c round frame → ClusterKept c (effectOf c round frame .after)
-unfolding effectOf addressEffect noOperationOn broadcastReadOn
+unfolding effectOf noOperationOn broadcastReadOn
 effect-kept c (multipartner r) frame bs f = multipartner-kept c r
 effect-kept c msd frame bs f = data-kept c (between-bytes bs)
 effect-kept c msa frame bs f =
@@ -112,16 +121,16 @@ frame-kept c frame bs e = effect-kept c (roundBy frame) frame bs (fits-facts c (
 
 module _ (file buffer : List ℕ) (others : List Ground) where
   abbrev inOrder : List Ground
-  inOrder = fileGrounds file ++ record { number = bufferRefusal; holds = shortAnswer buffer } ∷ others
+  inOrder = fileGrounds file ++ (9, shortAnswer buffer) ∷ others
 
   -- the first of them is the file's; or else the buffer's; or else one of the call's
   pub file-decides : fileGround file ≢ 0 → firstOf inOrder ≡ fileGround file
   file-decides some = joined-here (fileGrounds file) _ (file-numbered file) (λ z. some (sym (file-first file) ∙ z)) ∙ file-first file
 
-  after-file : fileGround file ≡ 0 → firstOf inOrder ≡ firstOf (record { number = bufferRefusal; holds = shortAnswer buffer } ∷ others)
+  after-file : fileGround file ≡ 0 → firstOf inOrder ≡ firstOf ((9, shortAnswer buffer) ∷ others)
   after-file accepted = joined-next (fileGrounds file) _ (file-numbered file) (file-first file ∙ accepted)
 
-  pub buffer-decides : fileGround file ≡ 0 → length buffer < slots → firstOf inOrder ≡ bufferRefusal
+  pub buffer-decides : fileGround file ≡ 0 → length buffer < slots → firstOf inOrder ≡ 9
   unfolding shortAnswer firstOf
   buffer-decides accepted short = after-file accepted ∙ rw (lt-ltb (length buffer) slots short)
 
@@ -164,7 +173,7 @@ pub record RoundFits (file frame buffer : List ℕ) : Type 0 where
   pub fits : frameGround (decode file) frame ≡ 0
 
 pub round-facts : (file frame buffer : List ℕ) → roundGround file frame buffer ≡ 0 → RoundFits file frame buffer
-unfolding roundGround roundGrounds frameGround
+unfolding roundGround frameGround
 round-facts file frame buffer e =
     let none = none-holds file buffer (groundsOn (decode file) (roundBy frame) frame) e in
     record { accepted = none .accepted; long = none .long; fits = none .rest }
@@ -175,6 +184,15 @@ round-becomes file frame buffer fb rb e =
     let given = round-facts file frame buffer e in
     let old : Becomes file (decode file) = accepted-becomes file fb (given .accepted) in
     rw (round-accepted file frame buffer e) (legal-becomes (frameOn (decode file) frame .after) (frame-kept (decode file) frame rb (given .fits) .legal (old .legal)))
+
+-- accepted or refused, a round leaves bytes
+pub round-bytes : (file frame buffer : List ℕ) → Bytes file → Bytes frame → Bytes (roundOn file frame buffer .2)
+round-bytes file frame buffer fb rb =
+    byCase (eqb (roundGround file frame buffer) 0)
+    (λ e.
+    let new = round-becomes file frame buffer fb rb (eqb-true _ _ e) in
+    rw (new .encoded) (encode-bytes (frameOn (decode file) frame .after) (new .legal)))
+    (λ e. rw (round-refused file frame buffer (eqb-false _ _ e)) fb)
 
 pub round-kept : (file frame buffer : List ℕ) → Bytes frame → roundGround file frame buffer ≡ 0 → ClusterKept (decode file) (frameOn (decode file) frame .after)
 round-kept file frame buffer rb e = frame-kept (decode file) frame rb (round-facts file frame buffer e .fits)
@@ -191,9 +209,8 @@ round-length file frame buffer fb rb e =
     ap (λ (l : List ℕ). length l) (new .encoded) ∙ encode-length (decode file) (frameOn (decode file) frame .after) (round-kept file frame buffer rb e) ∙ sym (ap (λ (l : List ℕ). length l) (old .encoded))
 
 -- a file of unknown edition: answer and buffer are the same for two files of one length with the same first three bytes
-pub round-edition : (f g frame buffer : List ℕ) → length f ≡ length g → take 3 f ≡ take 3 g → (getD f editionPlace 0 ≡ 1 → ⊥) →
-    (roundOn f frame buffer .0 ≡ roundOn g frame buffer .0) × (roundOn f frame buffer .1 ≡ roundOn g frame buffer .1)
-unfolding roundGround roundGrounds fileGround
+pub round-edition : UnknownEditionRound
+unfolding roundGround fileGround
 round-edition f g frame buffer long front other =
     let refused-f : fileGround f ≢ 0 = λ z. other (AcceptedFacts.accepted _ f .0 z .edition) in
     let same : fileGround f ≡ fileGround g = unknown-edition f g long front other in

@@ -16,7 +16,7 @@ use Rattle.file.proofs.Order.{byCase, both-left}
 use Rattle.file.proofs.ReaderLaws.{length-limit}
 use Rattle.cluster.specs.Rules.Bus.{slots}
 use Rattle.cluster.specs.Rules.Slaves.{isUnnamed}
-use Rattle.cluster.specs.Rules.Entries.{Entry, alignValues, entryOf, entryThere, entryAt, ends, covers, Acting, noEntry, acts, actingFrom, acting}
+use Rattle.cluster.specs.Rules.Entries.{Entry, entryOf, entryThere, entryAt, ends, covers, Acting, noEntry, acts, actingFrom, acting}
 use Rattle.cluster.specs.Rules.Multipartner.{sendPlace, storePlace, sendsFrom, storesAt, byteThere}
 use Rattle.cluster.specs.Inner.EntryForm.{entryFrom, evaluated, Reaches}
 use Rattle.cluster.specs.Inner.Slots.{entriesIn, placeIn, actSends, actStores, SlotActIs}
@@ -150,6 +150,6 @@ pub covering-reaches : (f : List ℕ) (at : ℕ) {slot : ℕ} (e : Code.Entry) {
     → Reaches e slot
 unfolding entryFrom evaluated entryThere entryOf covers
 covering-reaches f at {slot} e is cover inside few =
-    let align : e .address .align ≡ getD f at 0 % alignValues = ap (λ (x : Entry). x .align) is in
+    let align : e .address .align ≡ getD f at 0 % 4 = ap (λ (x : Entry). x .align) is in
     let start : e .slot ≤ slot = leb-true (e .slot) slot (both-left _ _ (sym cover ∙ inside)) in
     record { align = omega (arith, align); begun = start; inRound = few }

@@ -25,8 +25,9 @@ use Rattle.frame.proofs.Tests as Tests
 use Rattle.frame.proofs.RoundTrip.{written-reads}
 use Rattle.cluster.specs.Rules.Bus.{slots, senderMask, answerBytes, answerIn, nobody}
 use Rattle.cluster.specs.Rules.Slaves.{withAddress, epochRaised, writing, pendingDuty, sentTo, slavesAfter, replyTo}
-use Rattle.cluster.specs.Rules.Grounds.{roundBy, writePending, frameGround}
-use Rattle.cluster.specs.Rules.Round.{addressEffect, dataEffect, effectOf, frameOn, carriedBy, bufferBy, roundGround, roundOn}
+use Rattle.cluster.specs.Rules.Grounds.{roundBy, writePending}
+use Rattle.cluster.specs.Inner.Grounds.{frameGround}
+use Rattle.cluster.specs.Rules.Round.{effectOf, frameOn, roundGround, roundOn}
 use Rattle.cluster.proofs.Bus.{mask-nobody, answer-alike}
 use Rattle.cluster.proofs.DataLaws.{sent-nothing, pending-writes}
 use Rattle.cluster.proofs.Cases.{quiet-mask}
@@ -48,7 +49,7 @@ address-round (b ∷ bs) e = rw e
 -- a frame that the reader takes apart, sent
 pub address-sent : (file frame buffer : List ℕ) (epoch name number operation «record» : ℕ) → fileGround file ≡ 0 → slots ≤ length buffer → done (parts epoch name number operation «record») ≡ readAddress frame →
     roundOn file frame buffer ≡ (done 0, answerIn buffer (answerBytes addressFirework nobody), encode (withAddress (decode file) epoch name (pb2Of number operation) «record»))
-unfolding readGround frameOn effectOf addressEffect carriedBy bufferBy
+unfolding readGround frameOn effectOf
 address-sent file frame buffer epoch name number operation «record» accepted long reads =
     let facts : PartsAre frame epoch name number operation «record» = parts-facts frame reads in
     let first : getD frame 0 0 ≡ addressFirework = Tests.address-first frame (first-none 9 _ _ (facts .ground) .0) in
@@ -88,7 +89,7 @@ module _ (b₀ b₁ b₂ b₃ : ℕ) where
   -- the frame that the data writer writes for these bytes, sent with a write pending
   pub data-sent : (file buffer : List ℕ) (name n r : ℕ) → fileGround file ≡ 0 → slots ≤ length buffer → pendingDuty (decode file) ≡ writing name n r →
       roundOn file (dataFrame bytes) buffer ≡ (done 0, answerIn buffer (answerBytes dataFirework nobody), encode (slavesAfter (writing name n r) bytes (epochRaised (decode file))))
-  unfolding frameOn effectOf dataEffect carriedBy bufferBy
+  unfolding frameOn effectOf
   data-sent file buffer name n r accepted long p =
       let quiet : (slot : ℕ) → sentTo (writing name n r) (decode file .slaves) slot ≡ nobody slot = nobody-sends name n r (decode file) in
       let fits : frameGround (decode file) (dataFrame bytes) ≡ 0 = frame-fits (decode file) (pending-writes (decode file) p) in

@@ -14,7 +14,8 @@ use mir.Val.{Fits}
 use mir.Syntax.{w8}
 use Rattle.file.specs.Rules.Bytes.{Bytes, allEmpty, allNext, part}
 use Rattle.file.specs.Rules.Order.{both}
-use Rattle.file.specs.Rules.Layout.{recordSize, logicalNamePlace}
+use Rattle.file.specs.Rules.Layout.{recordSize}
+use Rattle.file.specs.Inner.Layout.{logicalNamePlace}
 use Rattle.file.specs.Rules.Cluster.{Slave, Cluster, hasRecord, recordOf, logicalName, physicalName, comparisonValue, newLogicalName, configuration, documentation, unnamed, broadcast}
 use Rattle.file.specs.Rules.Encode.{encode}
 use Rattle.file.specs.Inner.Places.{noSlave, slaveOf, filePlace, putByte, putBytes}

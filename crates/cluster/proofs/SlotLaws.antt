@@ -18,7 +18,7 @@ use Rattle.file.proofs.ReaderLaws.{becomes-decoded}
 use Rattle.cluster.specs.Rules.Bus.{Senders, joined, busByte, anyone, maskBelow, slots, senderMask}
 use Rattle.cluster.specs.Rules.Slaves.{isUnnamed, epochRaised}
 use Rattle.cluster.specs.Rules.Multipartner.{sentBy, sentIn, receivedIn, clusterBelow, sentDuring}
-use Rattle.cluster.specs.Rules.Round.{multipartnerEffect}
+use Rattle.cluster.specs.Inner.Effects.{multipartnerEffect}
 use Rattle.cluster.specs.Inner.Carried.{Carried}
 use Rattle.cluster.specs.Inner.Slots.{slotsEffect, entriesIn, RoundFilesAre, EntriesWithin, openFrom, actSends, actStores, isSender, storedBelow, StoresWithin}
 use Rattle.cluster.specs.declared.multipartner.SlotAct.{SlotAct}
@@ -271,5 +271,5 @@ running-done old {slot} h left =
 -- the whole round, from the file whose epoch is raised
 pub raised-carries : (c : Cluster) {f : List ℕ} (round : ℕ) {firework : ℕ} {old new : List ℕ} {mask : ℕ} {file : List ℕ} → Becomes f (epochRaised c)
     → Carried (slotsEffect (decode f) round) firework old new mask file → Carried (multipartnerEffect c round) firework old new mask file
-unfolding multipartnerEffect slotsEffect
+unfolding slotsEffect
 raised-carries c round h carried = rw (h .decoded) at carried

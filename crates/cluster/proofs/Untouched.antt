@@ -18,7 +18,7 @@ use Rattle.cluster.specs.Rules.Bus.{busByte, slots}
 use Rattle.cluster.specs.Rules.Slaves.{withAddress, epochRaised, Duty, nothing, reading, writing, comparing, baptizing, pendingDuty, takesWrite, takesName, named, replaced, slaveAfter, slavesAfter}
 use Rattle.cluster.specs.Rules.Multipartner.{storesAt, storedThere, receivedIn, sentIn, clusterBelow}
 use Rattle.cluster.specs.Rules.Grounds.{roundBy}
-use Rattle.cluster.specs.Rules.Round.{addressEffect, dataEffect, multipartnerEffect, effectOf, frameOn}
+use Rattle.cluster.specs.Rules.Round.{effectOf, frameOn}
 use Rattle.cluster.proofs.Kept.{storesAt-stores, stored-other}
 
 -- the bytes of file n, slave by slave
@@ -90,7 +90,7 @@ after-other {n} {o} leaves bytes c = filesOf-map n (slaveAfter o bytes) (slaveAf
 -- ---- any round
 
 effect-other : (n : ℕ) → Unstored n → (c : Cluster) (round : Round) → (round ≡ msd → Leaves n (pendingDuty c)) → (frame : List ℕ) → filesOf n (effectOf c round frame .after .slaves) ≡ filesOf n (c .slaves)
-unfolding effectOf addressEffect withAddress withPending dataEffect multipartnerEffect epochRaised withEpoch
+unfolding effectOf withAddress withPending epochRaised withEpoch
 effect-other n out c (multipartner r) leaves frame = below-other r (epochRaised c) slots n out
 effect-other n out c msd leaves frame = after-other (leaves refl) (between frame) (epochRaised c)
 effect-other n out c msa leaves frame = refl

@@ -5,7 +5,7 @@ ghost use Prim.Native.Nat.{_+_, _^_, _≤_, _<_};
 ghost use lib.ListN.{length};
 ghost use Rattle.file.specs.Rules.Bytes.{part};
 ghost use Rattle.file.specs.Rules.Layout.{recordSize};
-ghost use Rattle.cluster.specs.Rules.Bus.{slots, firstSlot, senderMask, answerBytes, answerIn, nobody};
+ghost use Rattle.cluster.specs.Rules.Bus.{slots, senderMask, answerBytes, answerIn, nobody};
 ghost use Rattle.cluster.specs.Rules.Slaves.{readReply};
 ghost use Rattle.cluster.specs.Inner.Carried.{sendersTo, said};
 use file::layout::RECORD_SIZE;
@@ -80,7 +80,7 @@ pub fn silence(buffer: &mut [u8], firework: u8)
 // One more sender, which sends a byte in slot 1.
 pub fn send_byte(buffer: &mut [u8], byte: u8)
     requires { ⌜ slots ≤ length (now buffer) ⌝ }
-    ensures { λ _. ⌜ now (buffer .exit) ≡ said (now (buffer .entry)) firstSlot (byte ∷ []) ⌝ }
+    ensures { λ _. ⌜ now (buffer .exit) ≡ said (now (buffer .entry)) 1 (byte ∷ []) ⌝ }
 {
     buffer[FIRST_SLOT] = buffer[FIRST_SLOT] & byte;
 }
@@ -88,7 +88,7 @@ pub fn send_byte(buffer: &mut [u8], byte: u8)
 // One more sender, which sends the record at a place and its check in slots 1 to 5.
 pub fn send_record(buffer: &mut [u8], file: &[u8], place: usize)
     requires { ⌜ (slots ≤ length (now buffer)) × (place + recordSize ≤ length (now file)) ⌝ }
-    ensures { λ _. ⌜ now (buffer .exit) ≡ said (now (buffer .entry)) firstSlot (readReply (part (now (file .entry)) place recordSize)) ⌝ }
+    ensures { λ _. ⌜ now (buffer .exit) ≡ said (now (buffer .entry)) 1 (readReply (part (now (file .entry)) place recordSize)) ⌝ }
 {
     let b0 = file[place];
     let b1 = file[place + 1];

@@ -6,7 +6,7 @@ ghost use Rattle.file.specs.Rules.Legal.{LegalPending};
 ghost use Rattle.file.specs.Inner.Accepted.{Placed};
 ghost use Rattle.frame.specs.Rules.Fireworks.{dataFirework};
 ghost use Rattle.cluster.specs.Rules.Bus.{slots};
-ghost use Rattle.cluster.specs.Rules.Round.{dataEffect};
+ghost use Rattle.cluster.specs.Inner.Effects.{dataEffect};
 ghost use Rattle.cluster.specs.Inner.Carried.{Carried};
 ghost use Rattle.cluster.specs.Inner.Duties.{afterAddress, roundData};
 use crate::msa::become_pending;

@@ -9,10 +9,10 @@ ghost use Rattle.file.specs.Rules.Decode.{decode};
 ghost use Rattle.file.specs.Inner.Accepted.{AcceptedFile, slaveCount, Placed};
 ghost use Rattle.cluster.specs.Rules.Bus.{slots, joined};
 ghost use Rattle.cluster.specs.Rules.Entries.{Acting};
-ghost use Rattle.cluster.specs.Rules.Multipartner.{firstStored, mayStore};
+ghost use Rattle.cluster.specs.Rules.Multipartner.{mayStore};
 ghost use Rattle.cluster.specs.Inner.EntryForm.{entryFrom, Reaches};
 ghost use Rattle.cluster.specs.Inner.Carried.{Carried};
-ghost use Rattle.cluster.specs.Rules.Round.{multipartnerEffect};
+ghost use Rattle.cluster.specs.Inner.Effects.{multipartnerEffect};
 ghost use Rattle.cluster.specs.Inner.Slots.{slotsEffect, RoundFileIs, RoundFilesAre, EntriesWithin, openFrom, findByte, foundByte, SlotActIs, actSends, actStores, isSender, storedBelow, StoresWithin};
 use crate::answer::FIREWORK_SLOT;
 use crate::answer::FIRST_SLOT;
@@ -244,7 +244,7 @@ fn run_slots(
     firework: u8,
     buffer: &mut [u8],
 ) -> u64
-    requires { ⌜ Placed (now file) (now places) × (round < firstStored) × (slots ≤ length (now buffer)) ⌝ }
+    requires { ⌜ Placed (now file) (now places) × (round < 0x10) × (slots ≤ length (now buffer)) ⌝ }
     ensures { λ r. ⌜ Carried (slotsEffect (decode (now (file .entry))) round) firework (now (buffer .entry)) (now (buffer .exit)) r (now (file .exit)) ⌝ }
 {
     let count = slave_count(file);
@@ -298,7 +298,7 @@ pub fn carry_multipartner(
     firework: u8,
     buffer: &mut [u8],
 ) -> u64
-    requires { ⌜ Placed (now file) (now places) × (round < firstStored) × (slots ≤ length (now buffer)) ⌝ }
+    requires { ⌜ Placed (now file) (now places) × (round < 0x10) × (slots ≤ length (now buffer)) ⌝ }
     ensures { λ r. ⌜ Carried (multipartnerEffect (decode (now (file .entry))) round) firework (now (buffer .entry)) (now (buffer .exit)) r (now (file .exit)) ⌝ }
 {
     raise_epoch(file);

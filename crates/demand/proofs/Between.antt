@@ -2,14 +2,13 @@
 -- traces and before any steps.
 -- Assumes nothing.
 use Prim.Native.Nat.{ℕ, _≤_}
-use mathlib.Core.Path.{_≡_, refl, sym, ap, _∙_}
-use mathlib.Core.List.{List, [], _∷_, _++_, map, append-assoc}
+use mathlib.Core.Path.{_≡_, refl, ap, _∙_}
+use mathlib.Core.List.{List, [], _∷_, _++_, map}
 use mathlib.Core.Bool.{true, false}
 use native.Mathlib.Omega.{arith}
 use lib.ListN.{length, replicate}
 use Rattle.file.specs.Rules.Bytes.{Byte, Bytes, All, All.allEmpty, All.allNext as also}
 use Rattle.file.specs.Rules.Cluster.{broadcast, documentation, readOperation}
-use Rattle.file.specs.Rules.Layout.{seriesRecord}
 use Rattle.file.specs.Rules.Grounds.{fileGround}
 use Rattle.frame.specs.Rules.Fireworks.{dataFirework}
 use Rattle.frame.specs.Rules.Frames.{addressFrame, addressBytes, frameOf}
@@ -24,15 +23,9 @@ use Rattle.naming.specs.Rules.Account.{Call}
 use Rattle.naming.specs.Claims.Demand.{startOn, permitted}
 use Rattle.naming.proofs.Lists.{IsStep, readFrame, read-between}
 use Rattle.demand.specs.Claims.Traces.{CallOrTrace, AllBytes, frameCall, framesSingly, singly}
-use Rattle.demand.proofs.Traces.{singly-of-bytes}
+use Rattle.demand.proofs.Traces.{singly-append, singly-of-bytes}
 
 -- ---- what lists with traces stand for
-
-singly-append : (cs ds : List CallOrTrace) → singly (cs ++ ds) ≡ singly cs ++ singly ds
-unfolding singly
-singly-append [] ds = refl
-singly-append (CallOrTrace.call c ∷ cs) ds = ap (λ (l : List Call). c ∷ l) (singly-append cs ds)
-singly-append (CallOrTrace.trace t ∷ cs) ds = rw (singly-append cs ds) (sym (append-assoc (framesSingly t) (singly cs) (singly ds)))
 
 singly-calls : (ds : List Call) → singly (map CallOrTrace.call ds) ≡ ds
 unfolding singly
@@ -64,7 +57,7 @@ read-frames epoch name e n =
     record {
       each =
           also
-          (record { bytes = address-bytes epoch name documentation readOperation seriesRecord e n (omega arith) (omega arith) (omega arith); short = omega arith })
+          (record { bytes = address-bytes epoch name documentation readOperation 1 e n (omega arith) (omega arith) (omega arith); short = omega arith })
           (also (record { bytes = also {a = dataFirework} (omega arith) allEmpty; short = omega arith }) allEmpty);
       whole = rw encoded-length (omega arith);
     }

@@ -2,3 +2,7 @@
 pub mod Traces
 -- there are such lists
 pub mod Between
+-- demand 3 over the C calls
+pub mod Calls
+-- what stays pending over lists of calls
+pub mod Pending

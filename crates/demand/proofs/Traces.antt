@@ -4,7 +4,7 @@
 use Prim.Native.Nat.{ℕ}
 use mathlib.Core.Path.{_≡_, refl, sym, ap, _∙_}
 use mathlib.Core.Logic.{_≢_}
-use mathlib.Core.List.{List, [], _∷_, _++_, map}
+use mathlib.Core.List.{List, [], _∷_, _++_, map, append-assoc}
 use mathlib.Core.Bool.{Bool, true, false}
 use lib.ListN.{replicate}
 use lib.Dec.{eqb}
@@ -23,14 +23,14 @@ use Rattle.trace.proofs.Calls as call
 use Rattle.naming.specs.Rules.Run.{Position, fresh, startGround}
 use Rattle.naming.specs.Rules.Account.{Call, frame, Account, accountCall, accountAfter}
 use Rattle.naming.specs.Claims.Demand.{State, startOn, halfwayAfter, callOn, permitted, afterCalls, OfBytes, of-frame, Demand}
-use Rattle.naming.proofs.OverBytes.{demand-3}
+use Rattle.naming.proofs.OverBytes.{demand-3, throughout}
 use Rattle.demand.specs.Claims.Traces.{CallOrTrace, AllBytes, in-call, in-trace, halfwayFrom, halfwayAfterTrace, afterTrace, callOrTraceOn, afterAll}
 use Rattle.demand.specs.Claims.Traces.{frameCall, framesSingly, singly, tracesAside, TraceSentSingly, AllSentSingly, AccountTracesAside, DemandWithTraces}
 
 -- ---- frames sent singly
 
 -- what they leave
-unfoldable afterSingly : State → List (List ℕ) → State
+unfoldable pub afterSingly : State → List (List ℕ) → State
 afterSingly s xs = record { file = afterFrames (s .file) xs; halfway = halfwayFrom (s .halfway) (s .file) xs }
 
 frames-singly :
@@ -41,7 +41,7 @@ frames-singly names s p (x ∷ xs) = frames-singly names (callOn names s p (fram
 
 -- on a file that is refused they leave all as it was
 module _ (file : List ℕ) (some : fileGround file ≢ 0) where
-  frame-refused : (x : List ℕ) → roundGround file x (replicate slots 0) ≢ 0
+  pub frame-refused : (x : List ℕ) → roundGround file x (replicate slots 0) ≢ 0
   frame-refused x z = some (round-facts file x (replicate slots 0) z .accepted)
 
   file-stays : (xs : List (List ℕ)) → afterFrames file xs ≡ file
@@ -57,16 +57,16 @@ module _ (file : List ℕ) (some : fileGround file ≢ 0) where
 -- ---- a trace
 
 module _ (s : State) (t : List ℕ) where
-  trace-run : traceGround (s .file) t ≡ 0 → afterTrace s t ≡ afterSingly s (framesOf t)
+  pub trace-run : traceGround (s .file) t ≡ 0 → afterTrace s t ≡ afterSingly s (framesOf t)
   unfolding afterTrace afterSingly halfwayAfterTrace
   trace-run none = rw (call.trace-run (s .file) t none)
 
-  trace-refused : traceGround (s .file) t ≢ 0 → afterTrace s t ≡ s
+  pub trace-refused : traceGround (s .file) t ≢ 0 → afterTrace s t ≡ s
   unfolding afterTrace halfwayAfterTrace
   trace-refused some = rw (call.trace-refused (s .file) t some)
 
   -- a trace that breaks nothing, on a file that is refused
-  file-refused : traceGround (s .file) t ≢ 0 → brokenTrace t ≡ false → afterSingly s (framesOf t) ≡ s
+  pub file-refused : traceGround (s .file) t ≢ 0 → brokenTrace t ≡ false → afterSingly s (framesOf t) ≡ s
   unfolding afterSingly
   file-refused some whole =
       let bad : fileGround (s .file) ≢ 0 = λ z. some (call.none-holds (s .file) t z whole) in
@@ -93,6 +93,12 @@ after-append :
 unfolding afterCalls
 after-append names s p [] ds = refl
 after-append names s p (c ∷ cs) ds = after-append names (callOn names s p c .0) (callOn names s p c .1) cs ds
+
+pub singly-append : (cs ds : List CallOrTrace) → singly (cs ++ ds) ≡ singly cs ++ singly ds
+unfolding singly
+singly-append [] ds = refl
+singly-append (CallOrTrace.call c ∷ cs) ds = ap (λ (l : List Call). c ∷ l) (singly-append cs ds)
+singly-append (CallOrTrace.trace t ∷ cs) ds = rw (singly-append cs ds) (sym (append-assoc (framesSingly t) (singly cs) (singly ds)))
 
 pub all-sent-singly : AllSentSingly
 unfolding singly afterCalls afterAll callOrTraceOn
@@ -164,8 +170,24 @@ same-account cs ds same d =
       outcome = d .outcome;
     }
 
-pub demand-with-traces : DemandWithTraces
-demand-with-traces file b g names bytes accepted calls of-bytes may =
-    let d = demand-3 file b g names bytes accepted (singly calls) (singly-of-bytes of-bytes) may in
+-- what it says of the frames sent singly, said of the traces
+of-traces :
+    (file names : List ℕ) (calls : List CallOrTrace) →
+    Demand file names (singly calls) (afterCalls names (startOn file) (fresh names) (singly calls) .0 .file) (afterCalls names (startOn file) (fresh names) (singly calls) .1) →
+    Demand file names (tracesAside calls) (afterAll names (startOn file) (fresh names) calls .0 .file) (afterAll names (startOn file) (fresh names) calls .1)
+of-traces file names calls d =
     let e = same-account (singly calls) (tracesAside calls) (λ a. account-traces-aside a calls) d in
     rw (all-sent-singly names (startOn file) (fresh names) calls) at e
+
+pub demand-with-traces : DemandWithTraces
+demand-with-traces file b g names bytes accepted calls of-bytes may =
+    of-traces file names calls (demand-3 file b g names bytes accepted (singly calls) (singly-of-bytes of-bytes) may)
+
+-- Throughout: after the calls at the front of a permitted list, wherever it is cut.
+pub throughout-with-traces :
+    (file : List ℕ) → Bytes file → fileGround file ≡ 0 → (names : List ℕ) → Bytes names → startGround names ≡ 0 → (cs ds : List CallOrTrace) →
+    All AllBytes cs → permitted names (startOn file) (fresh names) (singly (cs ++ ds)) ≡ true →
+    Demand file names (tracesAside cs) (afterAll names (startOn file) (fresh names) cs .0 .file) (afterAll names (startOn file) (fresh names) cs .1)
+throughout-with-traces file b g names bytes accepted cs ds of-bytes may =
+    of-traces file names cs
+    (throughout file b g names bytes accepted (singly cs) (singly ds) (singly-of-bytes of-bytes) (rw (singly-append cs ds) at may))

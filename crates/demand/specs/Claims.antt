@@ -1,2 +1,4 @@
--- Statements of theorems.
+-- Statements of theorems: demand 3 over lists with traces and over the C calls, and what stays pending over lists of calls.
 pub mod Traces
+pub mod Calls
+pub mod Pending

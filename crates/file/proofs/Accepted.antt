@@ -3,22 +3,21 @@
 -- Assumes nothing.
 use Prim.Native.Nat.{ℕ}
 use mathlib.Core.Path.{_≡_, refl, sym, subst}
-use mathlib.Core.Logic.{_↔_}
 use mathlib.Core.List.{List}
 use Rattle.file.specs.Rules.Bytes.{Bytes}
 use Rattle.file.specs.Rules.Cluster.{Cluster}
 use Rattle.file.specs.Rules.Encode.{encode}
 use Rattle.file.specs.Rules.Decode.{decode}
 use Rattle.file.specs.Rules.Legal.{Legal}
-use Rattle.file.specs.Rules.Results.{done}
 use Rattle.file.specs.Rules.Grounds.{fileGround, loadGround, loadVerdict}
+use Rattle.file.specs.Claims.Accepted.{AcceptedExactly, LoadedExactly, ClusterComesBack, FileComesBack}
 use Rattle.file.specs.Inner.Accepted.{Becomes}
 use Rattle.file.proofs.Results.{result-done, no-ground}
 use Rattle.file.proofs.Width.{edition1}
 use Rattle.file.proofs.RoundTrip
 
 -- a legal cluster comes back from its encoding
-pub decode-encode : (c : Cluster) → Legal c → decode (encode c) ≡ c
+pub decode-encode : ClusterComesBack
 unfolding decode encode
 decode-encode c l = RoundTrip.decode-encode edition1 c l
 
@@ -33,7 +32,7 @@ unfolding encode
 encode-bytes c l = RoundTrip.encode-bytes edition1 c l
 
 -- an accepted file comes back from its cluster
-pub encode-decode : (f : List ℕ) → Bytes f → fileGround f ≡ 0 → encode (decode f) ≡ f
+pub encode-decode : FileComesBack
 unfolding fileGround encode decode
 encode-decode f b g = RoundTrip.encode-decode edition1 f b g
 
@@ -43,7 +42,7 @@ unfolding fileGround decode
 accepted-legal f b g = RoundTrip.accepted-legal edition1 f b g
 
 -- bytes are accepted exactly where they are the encoding of a legal cluster
-pub accepted-exactly : (f : List ℕ) → Bytes f → (fileGround f ≡ 0) ↔ ((c : Cluster) × Legal c × (f ≡ encode c))
+pub accepted-exactly : AcceptedExactly
 accepted-exactly f b = (
   λ g. (decode f, accepted-legal f b g, sym (encode-decode f b g)),
   λ (c, l, e). subst (λ (h : List ℕ). fileGround h ≡ 0) (sym e) (encode-accepted c l),
@@ -58,7 +57,7 @@ accepted-becomes f b g =
     record { accepted = g; decoded = refl; encoded = sym (encode-decode f b g); legal = accepted-legal f b g }
 
 -- the same of the checker's call
-pub load-accepts : (f : List ℕ) → Bytes f → (loadVerdict f ≡ done tt) ↔ ((c : Cluster) × Legal c × (f ≡ encode c))
+pub load-accepts : LoadedExactly
 unfolding loadVerdict loadGround
 load-accepts f b = (
   λ v. accepted-exactly f b .0 (no-ground tt (fileGround f) (sym v)),

@@ -12,7 +12,8 @@ use native.Mathlib.Omega.{arith}
 use borrow.Author.Tests.{leb-true, le-leb, ltb-false, le-ltb, eqb-true, eqb-false, eq-eqb, ne-eqb, not-false}
 use Rattle.file.specs.Rules.Bytes.{All}
 use Rattle.file.specs.Rules.Order.{both, either}
-use Rattle.file.specs.Rules.Layout.{editionOf, editionPlace, lengthPlace}
+use Rattle.file.specs.Rules.Layout.{editionOf}
+use Rattle.file.specs.Inner.Layout.{lengthPlace}
 use Rattle.file.specs.Rules.Cluster.{Slave, bytesIn, lastRecord, configuration, documentation, physicalName, operationOf, readOperation, broadcast, noOperation}
 use Rattle.file.specs.Rules.Cluster
 use Rattle.file.specs.Rules.Decode.{offsetAt, decodeAt}
@@ -124,7 +125,7 @@ names-distinct w f = (no-repeat _, distinct-no-repeat)
 pub record Accepted (w : ℕ) (f : List ℕ) : Type 0 where
   pub size : SizeFacts w f
   pub mark : MarkFacts f
-  pub edition : getD f editionPlace 0 ≡ editionOf w
+  pub edition : getD f 2 0 ≡ editionOf w
   pub stated : offsetAt w f (lengthPlace w) ≡ length f
   pub header : HeaderFacts w f
   pub layout : walkFile w f ≡ Walk.to (length f)

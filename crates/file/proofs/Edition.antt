@@ -9,9 +9,10 @@ use mathlib.Core.Bool.{true, not}
 use lib.ListN.{length, getD, take}
 use lib.Seq.{getD-take}
 use borrow.Author.Tests.{ne-eqb}
-use Rattle.file.specs.Rules.Layout.{offsetWidth, editionPlace, editionOf}
+use Rattle.file.specs.Rules.Layout.{offsetWidth, editionOf}
 use Rattle.file.specs.Rules.Grounds.{wrongSize, wrongMark, wrongEdition, fileGroundsAt, fileGroundAt, fileGround, loadGround, loadVerdict}
 use Rattle.file.specs.Rules.Results.{resultOf}
+use Rattle.file.specs.Claims.Edition.{UnknownEdition, UnknownEditionAnswer}
 use Rattle.file.proofs.Order.{clash, first-alike}
 
 -- files with the same first bytes agree in each of them
@@ -22,7 +23,7 @@ pub unknown-edition-at :
     (w : ℕ) (f g : List ℕ)
     → length f ≡ length g
     → take 3 f ≡ take 3 g
-    → (getD f editionPlace 0 ≡ editionOf w → ⊥)
+    → (getD f 2 0 ≡ editionOf w → ⊥)
     → fileGroundAt w f ≡ fileGroundAt w g
 unfolding fileGroundAt fileGroundsAt wrongSize wrongMark wrongEdition
 unknown-edition-at w f g long front other =
@@ -34,13 +35,11 @@ unknown-edition-at w f g long front other =
     (λ _. first-alike 2 _ _ (rw (e₀, e₁)) (λ _. first-alike 3 _ _ (rw e₂) (λ p. clash refused p)))
 
 -- edition 1
-pub unknown-edition :
-    (f g : List ℕ) → length f ≡ length g → take 3 f ≡ take 3 g → (getD f editionPlace 0 ≡ 1 → ⊥) → fileGround f ≡ fileGround g
+pub unknown-edition : UnknownEdition
 unfolding fileGround
 unknown-edition f g long front other = unknown-edition-at offsetWidth f g long front other
 
 -- So the checker's call answers the same.
-pub unknown-edition-answer :
-    (f g : List ℕ) → length f ≡ length g → take 3 f ≡ take 3 g → (getD f editionPlace 0 ≡ 1 → ⊥) → loadVerdict f ≡ loadVerdict g
+pub unknown-edition-answer : UnknownEditionAnswer
 unfolding loadVerdict loadGround
 unknown-edition-answer f g long first other = ap (λ (n : ℕ). resultOf n tt) (unknown-edition f g long first other)

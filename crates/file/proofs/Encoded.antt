@@ -11,7 +11,8 @@ use lib.ListN.{length, getD}
 use lib.Dec.{leb}
 use borrow.Author.Tests.{leb-true, le-leb}
 use Rattle.file.specs.Rules.Bytes.{All, Bytes}
-use Rattle.file.specs.Rules.Layout.{countPlace, epochPlace, flagPlace, pendingNamePlace, pendingPB2Place, pendingPB3Place, zerosLength, headerSize, entrySize, maxSlaves, maxLength}
+use Rattle.file.specs.Rules.Layout.{zerosLength, headerSize, entrySize, maxSlaves, maxLength}
+use Rattle.file.specs.Inner.Layout.{epochPlace, flagPlace, pendingNamePlace, pendingPB2Place, pendingPB3Place}
 use Rattle.file.specs.Rules.Cluster.{Slave, Cluster}
 use Rattle.file.specs.Rules.Encode.{slavesBytes, table, slavesPlace, fileLength, header, encodeAt}
 use Rattle.file.specs.Rules.Decode.{offsetAt, slavesAt, decodeAt}
@@ -89,7 +90,7 @@ module _ {w : ℕ} (wide : Width w) where
     pub accepted-encoded : Bytes f → Accepted w f → Encoded w f (decodeAt w f)
     unfolding walkFile tableEnd decodeAt slavesPlace fileLength offsetAt
     accepted-encoded b a =
-        let n : ℕ = getD f countPlace 0 in
+        let n : ℕ = getD f 3 0 in
         let came = tested-arrives (leb (tableEnd w f) (length f)) _ (a .layout) in
         let fits : tableEnd w f ≤ length f = leb-true _ _ (came .0) in
         let count : length (slavesAt w f (headerSize w) n) ≡ n = length-slavesAt w f (headerSize w) n in
@@ -148,7 +149,7 @@ module _ {w : ℕ} (wide : Width w) where
     unfolding decodeAt
     encoded-decode {c} short e =
         let h : HeaderBytes w f c = e .header in
-        let read : slavesAt w f (headerSize w) (getD f countPlace 0) ≡ c .slaves =
+        let read : slavesAt w f (headerSize w) (getD f 3 0) ≡ c .slaves =
         ap (λ (n : ℕ). slavesAt w f (headerSize w) n) (h .count) ∙ slaves-read (wide .two) short (c .slaves) (e .slaves)
         in
         rw (h .epoch, h .flag, h .name, h .pb2, h .pb3, read)

@@ -6,7 +6,7 @@ use mathlib.Core.Path.{_≡_}
 use mathlib.Core.List.{List, _++_}
 use lib.ListN.{length, replicate, length-append}
 use Rattle.file.specs.Rules.Bytes.{All, Byte, Bytes}
-use Rattle.file.specs.Rules.Layout.{fillLength, zerosLength, entrySize, maxFileNumber}
+use Rattle.file.specs.Rules.Layout.{fillLength, zerosLength, entrySize}
 use Rattle.file.specs.Rules.Cluster.{File, Slave, Cluster, lastRecord}
 use Rattle.file.specs.Rules.Encode.{directoryEntry, directory, contents, slaveSize, slaveBytes, slavesBytes, slavesSize, tableEntry, table, slavesPlace, fileLength, header, encodeAt}
 use Rattle.file.specs.Rules.Legal.{LegalFile, Rising, LegalAt}
@@ -41,7 +41,7 @@ directory-is-bytes w place (All.allNext {a = x} {l = xs} l ls) h =
     all-append (entry-is-bytes w l (omega arith)) (directory-is-bytes w (place + length (x .bytes)) ls (omega arith))
 
 -- files of rising numbers are at most 64
-pub files-few : {low : ℕ} {xs : List File} → Rising low xs → All LegalFile xs → low ≤ suc maxFileNumber → low + length xs ≤ suc maxFileNumber
+pub files-few : {low : ℕ} {xs : List File} → Rising low xs → All LegalFile xs → low ≤ suc 63 → low + length xs ≤ suc 63
 files-few Rising.end All.allEmpty h = omega arith
 files-few (Rising.next {x = x} {xs = xs} n r) (All.allNext l ls) h = omega (arith, l .number, files-few r ls (omega (arith, l .number)))
 

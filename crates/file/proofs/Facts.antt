@@ -12,8 +12,10 @@ use lib.Seq.{drop-cons}
 use lib.Dec.{eqb}
 use Rattle.file.specs.Rules.Order.{both}
 use Rattle.file.specs.Rules.Bytes.{part, allZero}
-use Rattle.file.specs.Rules.Layout.{mark₀, mark₁, editionOf, editionPlace, countPlace, tablePlace, lengthPlace, flagPlace, pendingNamePlace}
-use Rattle.file.specs.Rules.Layout.{pendingPB2Place, zerosPlace, zerosLength, headerSize, entrySize, fillLength, maxSlaves, maxLength, maxFileNumber}
+use Rattle.file.specs.Rules.Layout.{editionOf}
+use Rattle.file.specs.Inner.Layout.{lengthPlace, flagPlace, pendingNamePlace}
+use Rattle.file.specs.Rules.Layout.{zerosLength, headerSize, entrySize, fillLength, maxSlaves, maxLength}
+use Rattle.file.specs.Inner.Layout.{pendingPB2Place, zerosPlace}
 use Rattle.file.specs.Rules.Cluster.{noOperation}
 use Rattle.file.specs.Rules.Decode.{offsetAt, fileSize}
 use Rattle.file.specs.Rules.Grounds.{wrongSize, wrongMark, wrongEdition, wrongLength, wrongHeader, wrongPending, goodEntry, goodTableEntry}
@@ -42,24 +44,24 @@ unfolding wrongSize
 size-yes w f h = either-false (le-ltb _ _ (h .low)) (le-ltb _ _ (h .high))
 
 pub record MarkFacts (f : List ℕ) : Type 0 where
-  pub first : getD f 0 0 ≡ mark₀
-  pub second : getD f 1 0 ≡ mark₁
+  pub first : getD f 0 0 ≡ 0x54
+  pub second : getD f 1 0 ≡ 0x41
 
 pub mark-facts : (f : List ℕ) → wrongMark f ≡ false → MarkFacts f
 unfolding wrongMark
 mark-facts f e =
-    let b : both (eqb (getD f 0 0) mark₀) (eqb (getD f 1 0) mark₁) ≡ true = not-false _ e in
+    let b : both (eqb (getD f 0 0) 0x54) (eqb (getD f 1 0) 0x41) ≡ true = not-false _ e in
     record { first = eqb-true _ _ (both-left _ _ b); second = eqb-true _ _ (both-right _ _ b) }
 
 pub mark-yes : (f : List ℕ) → MarkFacts f → wrongMark f ≡ false
 unfolding wrongMark
 mark-yes f h = not-yes (both-true (eq-eqb _ _ (h .first)) (eq-eqb _ _ (h .second)))
 
-pub edition-facts : (w : ℕ) (f : List ℕ) → wrongEdition w f ≡ false → getD f editionPlace 0 ≡ editionOf w
+pub edition-facts : (w : ℕ) (f : List ℕ) → wrongEdition w f ≡ false → getD f 2 0 ≡ editionOf w
 unfolding wrongEdition
 edition-facts w f e = eqb-true _ _ (not-false _ e)
 
-pub edition-yes : (w : ℕ) (f : List ℕ) → getD f editionPlace 0 ≡ editionOf w → wrongEdition w f ≡ false
+pub edition-yes : (w : ℕ) (f : List ℕ) → getD f 2 0 ≡ editionOf w → wrongEdition w f ≡ false
 unfolding wrongEdition
 edition-yes w f h = not-yes (eq-eqb _ _ h)
 
@@ -81,8 +83,8 @@ unfolding wrongLength
 length-yes w f h = not-yes (eq-eqb _ _ h)
 
 pub record HeaderFacts (w : ℕ) (f : List ℕ) : Type 0 where
-  pub count : getD f countPlace 0 ≤ maxSlaves w
-  pub table : offsetAt w f tablePlace ≡ headerSize w
+  pub count : getD f 3 0 ≤ maxSlaves w
+  pub table : offsetAt w f 4 ≡ headerSize w
   pub zeros : allZero (part f (zerosPlace w) (zerosLength w)) ≡ true
   pub pending : wrongPending (getD f (flagPlace w) 0) (getD f (pendingNamePlace w) 0) (getD f (pendingPB2Place w) 0) ≡ false
 
@@ -126,7 +128,7 @@ zeros-none f at = refl
 -- the facts of a good directory entry
 pub record EntryFacts (w : ℕ) (f : List ℕ) (d low place : ℕ) : Type 0 where
   pub rising : low ≤ getD f d 0
-  pub number : getD f d 0 ≤ maxFileNumber
+  pub number : getD f d 0 ≤ 63
   pub records : 1 ≤ getD f (d + 1) 0
   pub zeros : allZero (part f (d + 2) (fillLength w)) ≡ true
   pub offset : offsetAt w f (d + w) ≡ place

@@ -6,18 +6,19 @@ use mathlib.Core.Path.{_≡_, refl}
 use mathlib.Core.List.{List, [], _∷_, _++_}
 use lib.ListN.{length, getD, replicate}
 use Rattle.file.specs.Rules.Bytes.{bytesOf}
-use Rattle.file.specs.Rules.Layout.{mark₀, mark₁, editionOf, editionPlace, countPlace, tablePlace, lengthPlace, epochPlace, flagPlace, pendingNamePlace, pendingPB2Place, pendingPB3Place, zerosPlace, zerosLength, headerSize}
+use Rattle.file.specs.Rules.Layout.{editionOf, zerosLength, headerSize}
+use Rattle.file.specs.Inner.Layout.{lengthPlace, epochPlace, flagPlace, pendingNamePlace, pendingPB2Place, pendingPB3Place, zerosPlace}
 use Rattle.file.specs.Rules.Cluster.{Cluster}
 use Rattle.file.specs.Rules.Encode.{fileLength, header}
 use Rattle.file.proofs.Sizes.{bytesOf-length}
 use Rattle.file.proofs.Stands.{Stands, stands-at, stands-byte, stands-left, stands-right, stands-append, stands-next}
 
 pub record HeaderBytes (w : ℕ) (f : List ℕ) (c : Cluster) : Type 0 where
-  pub first : getD f 0 0 ≡ mark₀
-  pub second : getD f 1 0 ≡ mark₁
-  pub edition : getD f editionPlace 0 ≡ editionOf w
-  pub count : getD f countPlace 0 ≡ length (c .slaves)
-  pub table : Stands f tablePlace (bytesOf w (headerSize w))
+  pub first : getD f 0 0 ≡ 0x54
+  pub second : getD f 1 0 ≡ 0x41
+  pub edition : getD f 2 0 ≡ editionOf w
+  pub count : getD f 3 0 ≡ length (c .slaves)
+  pub table : Stands f 4 (bytesOf w (headerSize w))
   pub stated : Stands f (lengthPlace w) (bytesOf w (fileLength w (c .slaves)))
   pub epoch : getD f (epochPlace w) 0 ≡ c .epoch
   pub flag : getD f (flagPlace w) 0 ≡ c .flag
@@ -33,7 +34,7 @@ module _ {w : ℕ} {f : List ℕ} {c : Cluster} where
       let zeros : List ℕ = replicate (zerosLength w) 0 in
       let pending : List ℕ = c .epoch ∷ c .flag ∷ c .pendingName ∷ c .pendingPB2 ∷ c .pendingPB3 ∷ [] in
       let stated : List ℕ = bytesOf w (fileLength w (c .slaves)) in
-      let front : List ℕ = mark₀ ∷ mark₁ ∷ editionOf w ∷ length (c .slaves) ∷ [] in
+      let front : List ℕ = 0x54 ∷ 0x41 ∷ editionOf w ∷ length (c .slaves) ∷ [] in
       let s₀ = stands-left front (bytesOf w (headerSize w) ++ (stated ++ (pending ++ zeros))) s in
       let s₁ = stands-right front (bytesOf w (headerSize w) ++ (stated ++ (pending ++ zeros))) s in
       let s₂ : Stands f (lengthPlace w) (stated ++ (pending ++ zeros)) =

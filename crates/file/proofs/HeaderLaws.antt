@@ -71,7 +71,7 @@ module _ {f : List ℕ} {a : Bool} (is₁ : a ≡ wrongSize 2 f) where
 
 -- after a good header the other three grounds decide
 pub after-header : (f : List ℕ) → GoodHeader 2 f → fileGround f ≡
-    firstOf (record { number = 6; holds = brokenLayout 2 f } ∷ record { number = 7; holds = lacksNeeded 2 f } ∷ record { number = 8; holds = equalPhysicalNames 2 f } ∷ [])
+    firstOf ((6, brokenLayout 2 f) ∷ (7, lacksNeeded 2 f) ∷ (8, equalPhysicalNames 2 f) ∷ [])
 unfolding fileGround fileGroundAt fileGroundsAt firstOf
 after-header f h = rw (h .size, h .mark, h .edition, h .lengthField, h .rest)
 

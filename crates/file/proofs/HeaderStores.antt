@@ -8,7 +8,8 @@ use mathlib.Core.List.{List, [], _∷_, _++_, append-assoc}
 use lib.ListN.{length, getD, set, replicate, length-append}
 use lib.Seq.{getD-append-add}
 use Rattle.file.specs.Rules.Bytes.{bytesOf}
-use Rattle.file.specs.Rules.Layout.{mark₀, mark₁, editionOf, countPlace, epochPlace, flagPlace, pendingNamePlace, pendingPB2Place, pendingPB3Place, headerSize, zerosLength}
+use Rattle.file.specs.Rules.Layout.{editionOf, headerSize, zerosLength}
+use Rattle.file.specs.Inner.Layout.{epochPlace, flagPlace, pendingNamePlace, pendingPB2Place, pendingPB3Place}
 use Rattle.file.specs.Rules.Cluster.{Slave, Cluster}
 use Rattle.file.specs.Rules.Encode.{slavesBytes, table, slavesPlace, fileLength, header, encodeAt}
 use Rattle.file.specs.Inner.Places.{slaveOf, filePlaceAt, putByte, putBytes}
@@ -18,7 +19,7 @@ use Rattle.file.proofs.Stores.{set-append-add}
 
 -- the encoding by its free fields: what stands before them and behind them depends on the slaves alone
 front : ℕ → List Slave → List ℕ
-front w ss = (mark₀ ∷ mark₁ ∷ editionOf w ∷ length ss ∷ []) ++ (bytesOf w (headerSize w) ++ bytesOf w (fileLength w ss))
+front w ss = (0x54 ∷ 0x41 ∷ editionOf w ∷ length ss ∷ []) ++ (bytesOf w (headerSize w) ++ bytesOf w (fileLength w ss))
 
 behind : ℕ → List Slave → List ℕ
 behind w ss = replicate (zerosLength w) 0 ++ (table w (slavesPlace w ss) ss ++ slavesBytes w (slavesPlace w ss) ss)
@@ -45,7 +46,7 @@ field-store w c d place j b e slaves stored =
     rw (e, by-fields w c, by-fields w d, slaves, ← front-length w (c .slaves), set-append-add (front w (c .slaves)) (fields c (behind w (c .slaves))) j b, stored)
 
 module _ (w : ℕ) (c : Cluster) where
-  pub read-count : getD (encodeAt w c) countPlace 0 ≡ length (c .slaves)
+  pub read-count : getD (encodeAt w c) 3 0 ≡ length (c .slaves)
   unfolding encodeAt header
   read-count = refl
 

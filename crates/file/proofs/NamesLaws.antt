@@ -13,7 +13,7 @@ use Rattle.file.specs.Rules.Order.{either}
 use Rattle.file.specs.Rules.Bytes.{All}
 use Rattle.file.specs.Inner.Numbers.{NumberAt}
 use Rattle.file.specs.Rules.Grounds.{isAmong, hasRepeat}
-use Rattle.file.specs.Rules.Layout.{physicalNamePlace, longWidth}
+use Rattle.file.specs.Inner.Layout.{physicalNamePlace, longWidth}
 use Rattle.file.specs.Inner.Places.{placesEach, documentationIndex}
 use Rattle.file.specs.Inner.Checked.{documentationPlaces, nameAt, NameStands, namesAt, NamesStand}
 use Rattle.file.proofs.Bytes.{all-at}

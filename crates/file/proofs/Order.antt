@@ -96,7 +96,7 @@ either-false-right a b p = go a p
     go false q = q
 
 -- the first ground that holds: it holds, or it does not and the rest decides
-pub first-next : (g : Ground) (gs : List Ground) → g .holds ≡ false → firstOf (g ∷ gs) ≡ firstOf gs
+pub first-next : (g : Ground) (gs : List Ground) → g .1 ≡ false → firstOf (g ∷ gs) ≡ firstOf gs
 unfolding firstOf
 first-next g gs p = rw p
 
@@ -105,7 +105,7 @@ unfolding firstOf
 first-end = refl
 
 -- no ground holds: the first does not, and no other does
-pub first-none : (n : ℕ) (b : Bool) (gs : List Ground) → firstOf (record { number = suc n; holds = b } ∷ gs) ≡ 0 → (b ≡ false) × (firstOf gs ≡ 0)
+pub first-none : (n : ℕ) (b : Bool) (gs : List Ground) → firstOf ((suc n, b) ∷ gs) ≡ 0 → (b ≡ false) × (firstOf gs ≡ 0)
 unfolding firstOf
 first-none n true gs p = absurd (suc-ne-zero n p)
 first-none n false gs p = (refl, p)
@@ -115,7 +115,7 @@ pub first-alike :
     (n : ℕ) {a b : Bool} (gs hs : List Ground)
     → a ≡ b
     → (a ≡ false → firstOf gs ≡ firstOf hs)
-    → firstOf (record { number = n; holds = a } ∷ gs) ≡ firstOf (record { number = n; holds = b } ∷ hs)
+    → firstOf ((n, a) ∷ gs) ≡ firstOf ((n, b) ∷ hs)
 unfolding firstOf
 first-alike n {a} {b} gs hs e r = rw (sym e) (go a r)
   where
@@ -127,18 +127,18 @@ first-alike n {a} {b} gs hs e r = rw (sym e) (go a r)
 
 -- a ground's number is not 0, which is no ground's
 abbrev pub Numbered : Ground → Type 0
-Numbered g = eqb (g .number) 0 ≡ false
+Numbered g = eqb (g .0) 0 ≡ false
 
 -- the first of two lists, one after the other: that of the first list, or, where none of it holds, that of the second
 pub joined-first : (gs hs : List Ground) → All Numbered gs → firstOf (gs ++ hs) ≡ cond (eqb (firstOf gs) 0) (firstOf hs) (firstOf gs)
 unfolding firstOf
 joined-first [] hs allEmpty = refl
-joined-first (g ∷ gs) hs (allNext n ns) = go (g .holds) (joined-first gs hs ns)
+joined-first (g ∷ gs) hs (allNext n ns) = go (g .1) (joined-first gs hs ns)
   where
     go :
         (b : Bool)
         → firstOf (gs ++ hs) ≡ cond (eqb (firstOf gs) 0) (firstOf hs) (firstOf gs)
-        → cond b (g .number) (firstOf (gs ++ hs)) ≡ cond (eqb (cond b (g .number) (firstOf gs)) 0) (firstOf hs) (cond b (g .number) (firstOf gs))
+        → cond b (g .0) (firstOf (gs ++ hs)) ≡ cond (eqb (cond b (g .0) (firstOf gs)) 0) (firstOf hs) (cond b (g .0) (firstOf gs))
     go true rest = rw n
     go false rest = rest
 

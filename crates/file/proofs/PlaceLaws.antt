@@ -7,7 +7,8 @@ use mathlib.Core.List.{List}
 use lib.ListN.{length, getD}
 use mir.Syntax.{w64}
 use mir.Val.{Fits}
-use Rattle.file.specs.Rules.Layout.{recordSize, neededConfiguration, neededDocumentation, longWidth}
+use Rattle.file.specs.Rules.Layout.{recordSize}
+use Rattle.file.specs.Inner.Layout.{neededConfiguration, neededDocumentation, longWidth}
 use Rattle.file.specs.Inner.Places.{configurationIndex, documentationIndex}
 use Rattle.file.specs.Inner.Accepted.{slaveCount, Placed}
 use Rattle.file.proofs.ReaderLaws.{length-limit, configuration-within, documentation-within}

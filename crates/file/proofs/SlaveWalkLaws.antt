@@ -10,7 +10,8 @@ use lib.ListN.{length, getD, take, set, length-set}
 use lib.Seq.{take-suc-set, append-snoc}
 use Rattle.file.specs.Rules.Bytes.{numberOf, part}
 use Rattle.file.specs.Inner.Numbers.{ByteAt, NumberAt}
-use Rattle.file.specs.Rules.Layout.{offsetWidth, headerSize, entrySize, neededConfiguration, neededDocumentation}
+use Rattle.file.specs.Rules.Layout.{offsetWidth, headerSize, entrySize}
+use Rattle.file.specs.Inner.Layout.{neededConfiguration, neededDocumentation}
 use Rattle.file.specs.Rules.Cluster.{configuration, documentation}
 use Rattle.file.specs.Rules.Decode.{offsetAt}
 use Rattle.file.specs.Rules.Grounds.{broken, to, andThen, goodTableEntry, walkDirectory, walkSlave, walkSlaves}

@@ -12,7 +12,8 @@ use lib.Dec.{leb, eqb}
 use Rattle.file.specs.Rules.Order.{both, either}
 use Rattle.file.specs.Rules.Bytes.{All, allEmpty, numberOf, part}
 use Rattle.file.specs.Rules.Bytes
-use Rattle.file.specs.Rules.Layout.{entrySize, neededConfiguration, neededDocumentation}
+use Rattle.file.specs.Rules.Layout.{entrySize}
+use Rattle.file.specs.Inner.Layout.{neededConfiguration, neededDocumentation}
 use Rattle.file.specs.Rules.Cluster.{File, Slave, lastRecord, bytesAmong, bytesIn, physicalName, configuration, documentation}
 use Rattle.file.specs.Rules.Encode.{slaveSize}
 use Rattle.file.specs.Rules.Decode.{fileSize, slaveAt, slavesAt}

@@ -9,7 +9,8 @@ use mathlib.Core.List.{List}
 use lib.ListN.{length, getD, set}
 use lib.Seq.{sets}
 use Rattle.file.specs.Rules.Bytes.{Byte, Bytes}
-use Rattle.file.specs.Rules.Layout.{offsetWidth, headerSize, recordSize, logicalNamePlace, epochPlace, flagPlace, pendingNamePlace, pendingPB2Place, pendingPB3Place}
+use Rattle.file.specs.Rules.Layout.{offsetWidth, headerSize, recordSize}
+use Rattle.file.specs.Inner.Layout.{logicalNamePlace, epochPlace, flagPlace, pendingNamePlace, pendingPB2Place, pendingPB3Place}
 use Rattle.file.specs.Rules.Cluster.{Cluster, fileNumberOf, operationOf, bytesIn, configuration, documentation, newLogicalName, hasRecord}
 use Rattle.file.specs.Rules.Encode.{encode}
 use Rattle.file.specs.Rules.Decode.{decode, decodeAt}

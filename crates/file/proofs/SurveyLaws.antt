@@ -12,7 +12,6 @@ use lib.Seq.{getD-take}
 use Rattle.file.specs.Rules.Order.{firstOf}
 use Rattle.file.specs.Rules.Bytes.{All, Bytes}
 use Rattle.file.specs.Inner.Numbers.{ByteAt}
-use Rattle.file.specs.Rules.Layout.{countPlace}
 use Rattle.file.specs.Rules.Cluster.{physicalName}
 use Rattle.file.specs.Rules.Decode.{slavesAt, decodeAt, decode}
 use Rattle.file.specs.Rules.Results.{refused, done, resultOf}
@@ -47,10 +46,10 @@ pub whole : {f places : List ℕ} {good : Bool} → BodyWalked f good places →
 whole w e = w .whole e
 
 -- the count is within the bytes, and a list of places has room for it
-pub count-within : {f : List ℕ} → GoodHeader 2 f → countPlace < length f
+pub count-within : {f : List ℕ} → GoodHeader 2 f → 3 < length f
 count-within {f} h = omega (arith, header-sizes f h)
 
-pub count-fits : {f places : List ℕ} {n : ℕ} → GoodHeader 2 f → PlacesFit places → ByteAt f countPlace n → placesEach * n ≤ length places
+pub count-fits : {f places : List ℕ} {n : ℕ} → GoodHeader 2 f → PlacesFit places → ByteAt f 3 n → placesEach * n ≤ length places
 count-fits {f} {places} {n} h fit k = omega (arith, header-sizes f h, k .is, fit .room)
 
 pub file-fits : {f : List ℕ} → GoodHeader 2 f → length f ≤ 32768
@@ -66,7 +65,7 @@ walk-file : (f : List ℕ) → 16 + 4 * getD f 3 0 ≤ length f → walkFile 2 f
 unfolding walkFile tableEnd
 walk-file f h = rw (le-leb (16 + 4 * getD f 3 0) (length f) h)
 
-pub body-short : {f : List ℕ} {n : ℕ} (places : List ℕ) → ByteAt f countPlace n → length f < 16 + 4 * n → BodyWalked f false places
+pub body-short : {f : List ℕ} {n : ℕ} (places : List ℕ) → ByteAt f 3 n → length f < 16 + 4 * n → BodyWalked f false places
 unfolding walkFile tableEnd
 body-short {f} {n} places k h =
     let past : length f < 16 + 4 * getD f 3 0 = omega (arith, k .is) in
@@ -75,7 +74,7 @@ body-short {f} {n} places k h =
       whole = λ t. clash t refl;
     }
 
-module _ {f : List ℕ} {n : ℕ} {good : Bool} {end : ℕ} {places : List ℕ} (k : ByteAt f countPlace n) (fits : 16 + 4 * n ≤ length f) (w : SlavesWalked f n good end places) where
+module _ {f : List ℕ} {n : ℕ} {good : Bool} {end : ℕ} {places : List ℕ} (k : ByteAt f 3 n) (fits : 16 + 4 * n ≤ length f) (w : SlavesWalked f n good end places) where
   whole-is : walkFile 2 f ≡ walkOf good end
   whole-is =
       let count = k .is in
@@ -108,14 +107,14 @@ module _ {f places : List ℕ} (h : WholeWalk f places) where
       (λ t. rw t at (h .walk))
       (λ t. broken-arrives (rw t at (h .walk)))
 
-  pub whole-count-within : countPlace < length f
+  pub whole-count-within : 3 < length f
   whole-count-within = count-within (h .header)
 
-  pub whole-count-fits : {n : ℕ} → PlacesFit places → ByteAt f countPlace n → placesEach * n ≤ length places
+  pub whole-count-fits : {n : ℕ} → PlacesFit places → ByteAt f 3 n → placesEach * n ≤ length places
   whole-count-fits fit k = count-fits (h .header) fit k
 
   abbrev stated-places : List ℕ
-  stated-places = take (placesEach * getD f countPlace 0) places
+  stated-places = take (placesEach * getD f 3 0) places
 
   lacks : lacksNeeded 2 f ≡ isAmong 0 stated-places
   unfolding lacksNeeded decodeAt
@@ -130,7 +129,7 @@ module _ {f places : List ℕ} (h : WholeWalk f places) where
       rw (h .stated) (stated-names 2 f 16 (16 + 4 * getD f 3 0) (getD f 3 0) (length f) (omega arith) slaves-walk (rw (h .stated) at e))
 
   -- the code's count and its tests are values of its own, with their equations
-  module _ {n : ℕ} (count : ByteAt f countPlace n) {a : Bool} (missing : a ≡ isAmong 0 (take (placesEach * n) places)) where
+  module _ {n : ℕ} (count : ByteAt f 3 n) {a : Bool} (missing : a ≡ isAmong 0 (take (placesEach * n) places)) where
     missing-is : a ≡ isAmong 0 stated-places
     missing-is = rw (count .is) at missing
 
@@ -166,7 +165,7 @@ unfolding firstOf slavesGround
 after-layout {f} w = rw (after-header f (w .header), layout-whole 2 f .1 (w .walk))
 
 -- where neither holds, no place is missing
-none-missing : {f places : List ℕ} → WholeWalk f places → slavesGround f ≡ 0 → isAmong 0 (take (placesEach * getD f countPlace 0) places) ≡ false
+none-missing : {f places : List ℕ} → WholeWalk f places → slavesGround f ≡ 0 → isAmong 0 (take (placesEach * getD f 3 0) places) ≡ false
 unfolding slavesGround firstOf
 none-missing {f} w e =
     byCase (lacksNeeded 2 f)

@@ -1,6 +1,7 @@
 -- Words of the contracts: the typed numbers, places in the file, the accepted file, the code's answers, and what the checker's parts
 -- promise one another.
 pub mod Typed
+pub mod Layout
 pub mod Numbers
 pub mod Places
 pub mod Accepted

@@ -7,6 +7,5 @@ pub mod Decode
 pub mod Changes
 pub mod Legal
 pub mod Order
-pub mod Refusals
 pub mod Results
 pub mod Grounds

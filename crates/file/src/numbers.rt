@@ -2,7 +2,7 @@
 ghost use Prim.Native.Nat.{_+_, _≤_, _<_};
 ghost use lib.ListN.{length};
 ghost use Rattle.file.specs.Inner.Numbers.{ByteAt, NumberAt};
-ghost use Rattle.file.specs.Rules.Layout.{shortWidth, longWidth};
+ghost use Rattle.file.specs.Inner.Layout.{shortWidth, longWidth};
 
 // The byte at a place, as an index.
 pub fn byte_at(file: &[u8], at: usize) -> usize

@@ -3,7 +3,7 @@ ghost use mathlib.Core.Path.{_≡_};
 ghost use Prim.Native.Nat.{_+_, _*_, _≤_};
 ghost use lib.ListN.{length};
 ghost use Rattle.file.specs.Inner.Numbers.{ByteAt};
-ghost use Rattle.file.specs.Rules.Layout.{offsetWidth, headerSize, recordCountPlace, maxLength};
+ghost use Rattle.file.specs.Rules.Layout.{offsetWidth, headerSize, maxLength};
 ghost use Rattle.file.specs.Inner.Typed.{fileIn};
 ghost use Rattle.file.specs.Inner.Places.{placesEach};
 ghost use Rattle.file.specs.Inner.Checked.{EntriesFit, nextEntry, fitsSoFar, states, statedPlace, Arrives, DirectoryWalked, SlaveWalked, SlavesWalked};
@@ -31,7 +31,7 @@ pub struct Walk {
 
 // Whether a directory entry may come next: its file number is low or more, it counts records, and its offset is the running place.
 fn is_next(file: &[u8], entry: usize, number: usize, last: usize, low: usize, place: usize) -> bool
-    requires { ⌜ EntriesFit (now file) entry 1 × ByteAt (now file) entry number × ByteAt (now file) (entry + recordCountPlace) last ⌝ }
+    requires { ⌜ EntriesFit (now file) entry 1 × ByteAt (now file) entry number × ByteAt (now file) (entry + 1) last ⌝ }
     ensures { λ r. ⌜ r ≡ nextEntry offsetWidth (now (file .entry)) entry low place ⌝ }
 {
     if number < low {

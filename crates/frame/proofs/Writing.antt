@@ -10,7 +10,6 @@ use lib.Dec.{eqb}
 use native.Mathlib.Omega.{arith}
 use Rattle.file.specs.Rules.Order.{firstOf}
 use Rattle.file.specs.Rules.Bytes.{Byte}
-use Rattle.file.specs.Rules.Layout.{maxFileNumber}
 use Rattle.file.specs.Rules.Cluster.{pb2Of}
 use Rattle.frame.specs.Rules.Fireworks.{addressFirework, dataFirework}
 use Rattle.frame.specs.Rules.Check.{addressCheck, dataCheck}
@@ -28,7 +27,7 @@ unfolding frameOf
 stored buffer f a b c d e h = sets-eq (f ∷ a ∷ b ∷ c ∷ d ∷ e ∷ []) buffer 0 h
 
 -- file number and operation join to a byte
-pub joined-byte : (file operation : ℕ) {t : Bool} → file ≤ maxFileNumber → t ≡ noOperation operation → t ≡ false → Byte (pb2Of file operation)
+pub joined-byte : (file operation : ℕ) {t : Bool} → file ≤ 63 → t ≡ noOperation operation → t ≡ false → Byte (pb2Of file operation)
 unfolding pb2Of
 joined-byte file operation fits known known-so = omega (arith, operation-low operation known known-so)
 

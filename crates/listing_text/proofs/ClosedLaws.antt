@@ -8,13 +8,13 @@ use mathlib.Core.List.{List, [], _∷_, _++_, append-nil, append-assoc}
 use mathlib.Core.Bool.{true, false, cond}
 use native.Mathlib.Omega.{arith}
 use native.Mathlib.Nat.{zero-add}
-use lib.ListN.{length, getD, take, drop, length-map}
+use lib.ListN.{length, getD, drop, length-map}
 use lib.Seq.{getD-drop}
 use lib.Dec.{eqb}
 use borrow.Author.Tests.{eq-eqb, ne-eqb, eqb-true, eqb-false}
 use Rattle.file.specs.Rules.Bytes.{Bytes}
 use Rattle.file.specs.Rules.Decode.{decode}
-use Rattle.file.specs.Rules.Layout.{offsetWidth, editionPlace}
+use Rattle.file.specs.Rules.Layout.{offsetWidth}
 use Rattle.file.specs.Rules.Grounds.{fileGround, loadGround}
 use Rattle.file.specs.Rules.Legal.{Legal}
 use Rattle.file.proofs.AcceptedFacts.{accepted}
@@ -27,8 +27,9 @@ use Rattle.naming.specs.Rules.Rounds.{sent}
 use Rattle.naming.specs.Rules.Run.{Position, running, fresh, PassPlace, nextRound, countLimit, lastStep}
 use Rattle.naming.specs.Rules.Step.{StepDone, madeBy, stepGround, stepOn, roundSent}
 use Rattle.file.specs.Rules.Results.{Result, done}
-use Rattle.cluster.specs.Rules.Round.{carriedBy}
-use Rattle.naming.specs.Rules.Account.{Named, Account, step, namesOf, namesIn, accountOf, accountCall, accountAfter, oneRound, notYet, comparisonsOf, comparisonsAfter, falling, unnamedAmong, namesHeld, namingRounds, namingComparisons, endingRounds}
+use Rattle.file.specs.Rules.Order.{firstOf}
+use Rattle.naming.specs.Rules.Account.{StepArguments, step, argumentsGround}
+use Rattle.naming.specs.Rules.Account.{Named, Account, namesOf, namesIn, accountOf, accountCall, accountAfter, oneRound, comparisonsOf, comparisonsAfter, falling, unnamedAmong, namesHeld, namingRounds, namingComparisons, endingRounds}
 use Rattle.naming.specs.Rules.Figures.{roundsFor, comparisonsFor, namesAfter}
 use Rattle.naming.specs.Claims.Demand.{State, startOn, callOn, permittedCall, of-step}
 use Rattle.naming.proofs.Places.{LegalPlace, inner, at-baptize, step-lt}
@@ -45,6 +46,7 @@ use Rattle.naming.proofs.ByteLaws.{Good, viewIn, Allowed, byte-laws, step-groun
 use Rattle.naming.proofs.StepLaws.{step-made}
 use Rattle.listing_text.specs.Rules.Text.{nameLine, totalsLine, refusedLine}
 use Rattle.listing_text.specs.Rules.Listing.{allNames, ListState, isMade, givesName, withoutName, withName, listStep, listSteps, mostSteps, startState, endState, withTotals, listing, fileListed}
+use Rattle.listing_text.specs.Claims.Edition.{UnknownEditionListed}
 use Rattle.listing_text.specs.Claims.Closed.{lines, namesGiven, closedListing, ListingClosed}
 use Rattle.listing_text.proofs.ListLaws.{length-names}
 use Rattle.listing_text.proofs.GivingLaws.{names-accepted, toGive, NoneGiven, OneGiven, Gives, none-given, one-given, RoundMade, nothing-left, account-round}
@@ -90,7 +92,7 @@ record Beside (slaves : List Named) (t : ListState) (a : Account) : Type 0 where
   begun : t .begun ≡ a .done
   after-step : t .lines ++ lines (toGive a) ≡ lines (namesGiven slaves)
   counted : t .given + length (toGive a) ≡ length (namesGiven slaves)
-  spent : (a .end ≡ notYet → ⊥) → toGive a ≡ []
+  spent : (a .end ≡ 0 → ⊥) → toGive a ≡ []
 
 -- what a step of a run under way leaves
 record Steps (slaves : List Named) (s : Result StepDone × Position × List ℕ × List ℕ) (b : Account) : Type 0 where
@@ -106,24 +108,31 @@ module _ (slaves : List Named) (few : namingRounds * length slaves + endingRound
   module _
       (file : List ℕ) (p : Position) (buffer : List ℕ) {a : Account} (h : Tied slaves file p a) (long : shortAnswer buffer ≡ false)
       (m : p .end ≡ running) where
+    abbrev arguments : StepArguments
+    arguments = record { buffer = buffer }
+
+    none : (ss : List Named) → argumentsGround ss arguments ≡ 0
+    unfolding argumentsGround firstOf
+    none ss = rw long
+
     ground : stepGround file p allNames buffer ≡ 0
     unfolding startOn
     ground =
-        step-ground allNames names-accepted (startOn file) p buffer (h .good) long
+        step-ground allNames names-accepted (startOn file) p arguments (h .good) (none _)
         (stays-fit State allNames viewIn Good (Allowed allNames) (callOn allNames) (byte-laws allNames names-accepted) _ _ _
         (rounds-few slaves allNames names-accepted few) (comparisons-few slaves allNames few) (startOn file, p) a h)
 
-    allowed : Allowed allNames (startOn file) p (step buffer)
+    allowed : Allowed allNames (startOn file) p (step arguments)
     unfolding permittedCall startOn
     allowed = record { bytes = of-step; may = rw ground }
 
     tied-on : Tied slaves (stepOn file p allNames buffer .3) (stepOn file p allNames buffer .1) (oneRound a)
     unfolding runCalls accountAfter accountCall callOn startOn
     tied-on =
-        rw long at
+        rw (none (a .slaves)) at
         (all-calls State allNames viewIn Good (Allowed allNames) (callOn allNames) (byte-laws allNames names-accepted) _ _ _
         (rounds-few slaves allNames names-accepted few) (comparisons-few slaves allNames few) (startOn file, p) a
-        (step buffer ∷ []) h (one-more allowed all-made))
+        (step arguments ∷ []) h (one-more allowed all-made))
 
     long-on : shortAnswer (roundSent file (sent (nextRound allNames p)) buffer .1) ≡ false
     unfolding startOn shortAnswer
@@ -132,7 +141,7 @@ module _ (slaves : List Named) (few : namingRounds * length slaves + endingRound
         (buffer-long _ _ buffer long)
 
     made-on : isMade (done (madeBy (roundSent file (sent (nextRound allNames p)) buffer .0))) ≡ true
-    unfolding startOn shortAnswer carriedBy madeBy isMade
+    unfolding startOn shortAnswer madeBy isMade
     made-on = rw (round-is file buffer (h .good .bytes) (h .good .accepted) long (tie-sendable (h .tie) m))
 
     steps : Steps slaves (stepOn file p allNames buffer) (oneRound a)
@@ -209,7 +218,7 @@ module _ (slaves : List Named) (few : namingRounds * length slaves + endingRound
   unfolding comparisonsOf viewIn startOn lines
   complete {t} {a} h n =
       let g = tie-agree (h .tied .tie) in
-      let over : a .end ≡ notYet → ⊥ = λ e. n (g .end ∙ e) in
+      let over : a .end ≡ 0 → ⊥ = λ e. n (g .end ∙ e) in
       let d = tally-ended (h .tied .tally) over in
       let none : toGive a ≡ [] = h .spent over in
       record {
@@ -326,13 +335,12 @@ pub listing-refused : (file : List ℕ) → (fileGround file ≡ 0 → ⊥) → 
 unfolding listing fileListed loadGround
 listing-refused file some = let e = refused-test file some in (rw e, rw e)
 
-accepted-edition : (file : List ℕ) → fileGround file ≡ 0 → getD file editionPlace 0 ≡ 1
+accepted-edition : (file : List ℕ) → fileGround file ≡ 0 → getD file 2 0 ≡ 1
 unfolding fileGround
 accepted-edition file e = accepted offsetWidth file .0 e .edition
 
 -- An unknown edition is refused before any offset is followed: the listing depends on nothing but length and the first three bytes.
-pub unknown-edition-listed :
-    (f g : List ℕ) → length f ≡ length g → take 3 f ≡ take 3 g → (getD f editionPlace 0 ≡ 1 → ⊥) → listing f ≡ listing g
+pub unknown-edition-listed : UnknownEditionListed
 unknown-edition-listed f g long front other =
     let same = unknown-edition f g long front other in
     let none : fileGround f ≡ 0 → ⊥ = λ e. other (accepted-edition f e) in

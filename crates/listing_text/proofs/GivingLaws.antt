@@ -13,7 +13,7 @@ use Rattle.file.specs.Rules.Cluster.{unnamed, broadcast}
 use Rattle.file.specs.Rules.Grounds.{isAmong, hasRepeat}
 use Rattle.file.proofs.Order.{byCase, either-false}
 use Rattle.naming.specs.Rules.Run.{lastStep, unfitName}
-use Rattle.naming.specs.Rules.Account.{Named, Account, notYet, endWith, give, oneRound, namingRounds, namingComparisons, endingRounds}
+use Rattle.naming.specs.Rules.Account.{Named, Account, endWith, give, oneRound, namingRounds, namingComparisons, endingRounds}
 use Rattle.naming.specs.Rules.Figures.{freeNames, givings}
 use Rattle.naming.proofs.Rounds.{account, goes-on, taken-round, giving-round, ending-round}
 use Rattle.naming.proofs.Start.{Names}
@@ -76,30 +76,30 @@ pub data Gives (a b : Account) : Type 0 where
 -- and what any round does: one more is made, and where it ends the run no name is left to be given
 pub record RoundMade (a b : Account) : Type 0 where
   pub rounds : b .rounds ≡ suc (a .rounds)
-  pub spent : (b .end ≡ notYet → ⊥) → toGive b ≡ []
+  pub spent : (b .end ≡ 0 → ⊥) → toGive b ≡ []
   pub gives : Gives a b
 
 -- with no name left none is to be given
-pub nothing-left : (ws held ns : List ℕ) → (endWith ns ≡ notYet → ⊥) → givings ws (freeNames held ns) ≡ []
+pub nothing-left : (ws held ns : List ℕ) → (endWith ns ≡ 0 → ⊥) → givings ws (freeNames held ns) ≡ []
 unfolding endWith freeNames
 nothing-left ws held [] f = no-names ws
 nothing-left ws held (n ∷ ns) f = absurd (f refl)
 
 module _ (n : ℕ) (ns : List ℕ) (slaves : List Named) (held : List ℕ) (rounds done k : ℕ) where
   goes-gives : (ws : List ℕ) → (k ≡ lastStep → ⊥) →
-      RoundMade (account (n ∷ ns) ws slaves held notYet rounds done k) (account (n ∷ ns) ws slaves held notYet (suc rounds) done (suc k))
+      RoundMade (account (n ∷ ns) ws slaves held 0 rounds done k) (account (n ∷ ns) ws slaves held 0 (suc rounds) done (suc k))
   unfolding toGive
   goes-gives ws l = record { rounds = refl; spent = λ f. absurd (f refl); gives = none-given (record { within = l; same = refl; compared = refl }) }
 
   taken-gives : (ws : List ℕ) → isAmong n held ≡ true → k < 1 →
-      RoundMade (account (n ∷ ns) ws slaves held notYet rounds done k) (account ns ws slaves held (endWith ns) (suc rounds) (done + 0) 0)
+      RoundMade (account (n ∷ ns) ws slaves held 0 rounds done k) (account ns ws slaves held (endWith ns) (suc rounds) (done + 0) 0)
   unfolding toGive freeNames
   taken-gives ws t w =
       let l : k ≡ lastStep → ⊥ = omega arith in
       record { rounds = refl; spent = nothing-left ws held ns; gives = none-given (record { within = l; same = rw t; compared = omega arith }) }
 
   giving-gives : (p : ℕ) (ps : List ℕ) → isAmong n held ≡ false → suc k ≡ namingRounds →
-      RoundMade (account (n ∷ ns) (p ∷ ps) slaves held notYet rounds done k)
+      RoundMade (account (n ∷ ns) (p ∷ ps) slaves held 0 rounds done k)
       (account ns ps (map (give p n) slaves) held (endWith ns) (suc rounds) (done + namingComparisons) 0)
   unfolding toGive givings freeNames
   giving-gives p ps f e =
@@ -107,14 +107,14 @@ module _ (n : ℕ) (ns : List ℕ) (slaves : List Named) (held : List ℕ) (roun
       record { rounds = refl; spent = nothing-left ps held ns; gives = one-given (record { last = l; next = rw f; compared = refl; over = refl }) }
 
   ending-gives : suc k ≡ endingRounds →
-      RoundMade (account (n ∷ ns) [] slaves held notYet rounds done k) (account (n ∷ ns) [] slaves held 1 (suc rounds) done (suc k))
+      RoundMade (account (n ∷ ns) [] slaves held 0 rounds done k) (account (n ∷ ns) [] slaves held 1 (suc rounds) done (suc k))
   unfolding toGive givings
   ending-gives e =
       let l : k ≡ lastStep → ⊥ = omega arith in
       record { rounds = refl; spent = λ f. refl; gives = none-given (record { within = l; same = refl; compared = refl }) }
 
   free-gives : (ws : List ℕ) → isAmong n held ≡ false → k < length-of-pass false ws →
-      RoundMade (account (n ∷ ns) ws slaves held notYet rounds done k) (oneRound (account (n ∷ ns) ws slaves held notYet rounds done k))
+      RoundMade (account (n ∷ ns) ws slaves held 0 rounds done k) (oneRound (account (n ∷ ns) ws slaves held 0 rounds done k))
   unfolding length-of-pass
   free-gives [] f w =
       byCase (eqb (suc k) endingRounds)
@@ -133,7 +133,7 @@ module _ (n : ℕ) (ns : List ℕ) (slaves : List Named) (held : List ℕ) (roun
       rw (goes-on n ns (p ∷ ps) slaves held rounds done k f m tt) (goes-gives (p ∷ ps) l))
 
 -- every round of an account that has not ended
-pub account-round : {R C : ℕ} {F : List Named} {a : Account} → Tally R C F a → a .end ≡ notYet → RoundMade a (oneRound a)
+pub account-round : {R C : ℕ} {F : List Named} {a : Account} → Tally R C F a → a .end ≡ 0 → RoundMade a (oneRound a)
 account-round (in-pass {n = n} {rounds = rounds} {done = done} {k = k} {ns = ns} {ws = ws} {held = held} {slaves = slaves} d) e =
     byCase (isAmong n held)
     (λ t.

@@ -16,7 +16,7 @@ use Rattle.file.specs.Rules.Results.{Result, refused, done}
 use Rattle.cluster.specs.Rules.Bus.{slots}
 use Rattle.cluster.proofs.Rounds.{none-holds}
 use Rattle.naming.specs.Rules.Run.{Position, running, fresh, runGrounds, PassPlace, PassPlace.poll, ask, giveName, giveHigh, giveLow, PassPlace.baptize, least, bit, high, low, reply, placeOf, askOrGive, giveOf, moveOn, onward, nextName, endAllNamed, advance, lastStep}
-use Rattle.naming.specs.Rules.Step.{StepDone, ended, made, stepGrounds, stepGround, stepMade, stepOn}
+use Rattle.naming.specs.Rules.Step.{StepDone, ended, made, stepGround, stepMade, stepOn}
 use Rattle.naming.specs.Inner.Answers.{positionOf, steppedOf, runAfter}
 use Rattle.file.specs.declared.types.Refusal.{Refusal}
 use Rattle.file.specs.Rules.Grounds.{loadGround, loadVerdict}
@@ -31,7 +31,7 @@ use Rattle.naming.proofs.RunLaws.{Runs, runs}
 use Rattle.listing_text.specs.Rules.Text.{nameLine, totalsLine, refusedLine}
 use Rattle.listing_text.specs.Inner.Puts.{Puts, PutsAtMost}
 use Rattle.listing_text.specs.Rules.Text.{lineSize, totalsSize}
-use Rattle.listing_text.specs.Rules.Listing.{allNames, namesFrom, nameCount, firstName, ListState, isMade, givesName, withoutName, withName, listStep, listSteps, mostSteps, startState, endState, withTotals, listing, fileListed, listed}
+use Rattle.listing_text.specs.Rules.Listing.{allNames, namesFrom, nameCount, ListState, isMade, givesName, withoutName, withName, listStep, listSteps, mostSteps, startState, endState, withTotals, listing, fileListed, listed}
 use Rattle.listing_text.specs.Inner.ListRuns.{stateOf, Room, StateIs, Moves, StepListed}
 use Rattle.listing_text.specs.Rules.Listing.{textSize}
 use Rattle.listing_text.specs.declared.run.ListProgress.{ListProgress}
@@ -73,7 +73,7 @@ record Moved (names : List ℕ) (p q : Position) : Type 0 where
 
 made-moved :
     (f buffer names : List ℕ) (p : Position) {mask : ℕ} {q : Position} {new file : List ℕ} → (done (made mask), q, new, file) ≡ stepOn f p names buffer → Moved names p q
-unfolding stepOn stepMade stepGround stepGrounds advance
+unfolding stepOn stepMade stepGround advance
 made-moved f buffer names p {mask} {q} {new} {file} e =
     byCase (eqb (stepGround f p names buffer) 0)
     (λ t.
@@ -230,8 +230,8 @@ module _
 pub record Naming (names : List ℕ) (name i : ℕ) : Type 0 where
   pub room : length names ≡ nameCount
   pub within : i ≤ nameCount
-  pub next : name ≡ i + firstName
-  pub first : take i names ≡ namesFrom i firstName
+  pub next : name ≡ i + 0x01
+  pub first : take i names ≡ namesFrom i 0x01
 
 from-snoc : (n a : ℕ) → namesFrom (suc n) a ≡ namesFrom n a ++ ((a + n) ∷ [])
 unfolding namesFrom
@@ -240,7 +240,7 @@ from-snoc (suc n) a =
     let e : a + suc n ≡ suc a + n = omega arith in
     rw e (ap (λ (l : List ℕ). a ∷ l) (from-snoc n (suc a)))
 
-pub naming-start : Naming (replicate nameCount 0) firstName 0
+pub naming-start : Naming (replicate nameCount 0) 0x01 0
 unfolding namesFrom
 naming-start = record { room = length-replicate {A = ℕ} nameCount 0; within = omega arith; next = refl; first = refl }
 
@@ -249,12 +249,12 @@ module _ {names : List ℕ} {name i : ℕ} (h : Naming names name i) where
   naming-next more =
       let n = h .next in
       let one : i + 1 ≡ suc i = omega arith in
-      let is : firstName + i ≡ name = omega arith in
+      let is : 0x01 + i ≡ name = omega arith in
       record {
         room = length-set names i name ∙ h .room;
         within = omega arith;
         next = omega arith;
-        first = rw (one, take-suc-set names i name (rw (h .room) more), h .first, from-snoc i firstName, is);
+        first = rw (one, take-suc-set names i name (rw (h .room) more), h .first, from-snoc i 0x01, is);
       }
 
   pub naming-end : nameCount ≤ i → names ≡ allNames

@@ -10,7 +10,7 @@ use lib.ListN.{length, getD, set, drop, length-set, length-append, drop-of-lengt
 use lib.Seq.{drop-cons, sets}
 use lib.Dec.{ltb}
 use Rattle.file.proofs.Order.{byCase}
-use Rattle.listing_text.specs.Rules.Text.{letters, space, newline, hexBits, hexBase, decimalBase, digit, hex, decimalIn, decimal, field, nameDigits, physicalDigits, nameLine, totalsLine, refusedLine}
+use Rattle.listing_text.specs.Rules.Text.{letters, space, newline, digit, hex, decimalIn, decimal, field, nameLine, totalsLine, refusedLine}
 use Rattle.listing_text.specs.Inner.Puts.{Puts, PutsAtMost}
 use Rattle.listing_text.specs.Rules.Text.{mostDigits, lineSize}
 
@@ -71,7 +71,7 @@ pub spelling-start : (old : List ℕ) (at digits value : ℕ) → Spelling old a
 spelling-start old at digits value = record { fewer = omega arith; sum = refl; room = refl; rest = refl }
 
 module _ {old text : List ℕ} {at digits value place left : ℕ} (h : Spelling old at digits value text place left) where
-  pub spelling-next : {d : ℕ} → 0 < left → d ≡ digit (value / 2 ^ (hexBits * (left - 1)) % hexBase) → Spelling old at digits value (set text place d) (place + 1) (left - 1)
+  pub spelling-next : {d : ℕ} → 0 < left → d ≡ digit (value / 2 ^ (4 * (left - 1)) % 16) → Spelling old at digits value (set text place d) (place + 1) (left - 1)
   spelling-next {d} more is =
       let back : suc (left - 1) ≡ left = omega arith in
       let one : place + 1 ≡ suc place = omega arith in
@@ -86,7 +86,7 @@ module _ {old text : List ℕ} {at digits value place left : ℕ} (h : Spelling 
       }
     where
       opened : (k : ℕ) → sets text place (hex (suc k) value) ≡ sets old at (hex digits value) →
-          sets (set text place (digit (value / 2 ^ (hexBits * k) % hexBase))) (suc place) (hex k value) ≡ sets old at (hex digits value)
+          sets (set text place (digit (value / 2 ^ (4 * k) % 16))) (suc place) (hex k value) ≡ sets old at (hex digits value)
       opened k e = unfold hex in e
 
   pub spelling-end : at + digits ≤ length old → left ≤ 0 → PutsAtMost digits (hex digits value) old at text place
@@ -108,54 +108,54 @@ unfolding decimalIn
 fuel-free zero k n p q = absurd (omega arith)
 fuel-free (suc j) zero n p q = absurd (omega arith)
 fuel-free (suc j) (suc k) n p q =
-    byCase (ltb n decimalBase) (λ e. rw e)
-    (λ e. let big : decimalBase ≤ n = ltb-false n decimalBase e in rw (e, fuel-free j k (n / decimalBase) (omega arith) (omega arith)))
+    byCase (ltb n 10) (λ e. rw e)
+    (λ e. let big : 10 ≤ n = ltb-false n 10 e in rw (e, fuel-free j k (n / 10) (omega arith) (omega arith)))
 
-pub decimal-small : {n : ℕ} → n < decimalBase → decimal n ≡ digit n ∷ []
+pub decimal-small : {n : ℕ} → n < 10 → decimal n ≡ digit n ∷ []
 unfolding decimal decimalIn
-decimal-small {n} h = rw (lt-ltb n decimalBase h)
+decimal-small {n} h = rw (lt-ltb n 10 h)
 
-pub decimal-more : {n : ℕ} → decimalBase ≤ n → decimal n ≡ decimal (n / decimalBase) ++ (digit (n % decimalBase) ∷ [])
+pub decimal-more : {n : ℕ} → 10 ≤ n → decimal n ≡ decimal (n / 10) ++ (digit (n % 10) ∷ [])
 unfolding decimal decimalIn
 decimal-more {n} h =
-    rw (le-ltb n decimalBase h)
-    (ap (λ (l : List ℕ). l ++ (digit (n % decimalBase) ∷ [])) (fuel-free n (suc (n / decimalBase)) (n / decimalBase) (omega arith) (omega arith)))
+    rw (le-ltb n 10 h)
+    (ap (λ (l : List ℕ). l ++ (digit (n % 10) ∷ [])) (fuel-free n (suc (n / 10)) (n / 10) (omega arith) (omega arith)))
 
-pub decimal-few : (k n : ℕ) → n < decimalBase ^ suc k → length (decimal n) ≤ suc k
+pub decimal-few : (k n : ℕ) → n < 10 ^ suc k → length (decimal n) ≤ suc k
 decimal-few zero n h = rw (decimal-small {n = n} (omega arith)) (omega arith)
 decimal-few (suc k) n h =
-    byCase (ltb n decimalBase) (λ e. rw (decimal-small {n = n} (ltb-true n decimalBase e)) (omega arith))
+    byCase (ltb n 10) (λ e. rw (decimal-small {n = n} (ltb-true n 10 e)) (omega arith))
     (λ e.
-    let front : length (decimal (n / decimalBase)) ≤ suc k = decimal-few k (n / decimalBase) (tenth n (decimalBase ^ suc k) (rw pow-suc at h)) in
-    rw (decimal-more {n = n} (ltb-false n decimalBase e), length-append) (omega arith))
+    let front : length (decimal (n / 10)) ≤ suc k = decimal-few k (n / 10) (tenth n (10 ^ suc k) (rw pow-suc at h)) in
+    rw (decimal-more {n = n} (ltb-false n 10 e), length-append) (omega arith))
   where
-    tenth : (n m : ℕ) → n < m * decimalBase → n / decimalBase < m
+    tenth : (n m : ℕ) → n < m * 10 → n / 10 < m
     tenth n m h = omega arith
 
 -- a number of 64 bits has at most 20 digits, those but the last are at most 19
 decimal-fits : (n : ℕ) → n < 2 ^ 64 → length (decimal n) ≤ mostDigits
 decimal-fits n h = decimal-few (mostDigits - 1) n (omega arith)
 
-tenth-fits : (n : ℕ) → n < 2 ^ 64 → suc (length (decimal (n / decimalBase))) ≤ mostDigits
-tenth-fits n h = let few = decimal-few (mostDigits - 2) (n / decimalBase) (omega arith) in omega arith
+tenth-fits : (n : ℕ) → n < 2 ^ 64 → suc (length (decimal (n / 10))) ≤ mostDigits
+tenth-fits n h = let few = decimal-few (mostDigits - 2) (n / 10) (omega arith) in omega arith
 
 at-most : {n : ℕ} {old new : List ℕ} {at next : ℕ} → n < 2 ^ 64 → Puts (decimal n) old at new next → PutsAtMost mostDigits (decimal n) old at new next
 at-most {n} small p = let few = decimal-fits n small in record { puts = p; most = omega (arith, p .place) }
 
 pub puts-digit :
-    {n d : ℕ} {old new : List ℕ} {at next : ℕ} → n < decimalBase → d ≡ digit n → Puts (d ∷ []) old at new next →
+    {n d : ℕ} {old new : List ℕ} {at next : ℕ} → n < 10 → d ≡ digit n → Puts (d ∷ []) old at new next →
     PutsAtMost mostDigits (decimal n) old at new next
 puts-digit {n} h e p = let small : n < 2 ^ 64 = omega arith in at-most small (rw (decimal-small {n = n} h, ← e) p)
 
 -- the digits but the last leave room for the last
 pub tenth-room :
     {n : ℕ} {old mid : List ℕ} {at next : ℕ} → n < 2 ^ 64 → at + mostDigits ≤ length old →
-    PutsAtMost mostDigits (decimal (n / decimalBase)) old at mid next → next < length mid
+    PutsAtMost mostDigits (decimal (n / 10)) old at mid next → next < length mid
 tenth-room {n} small fits p = let few = tenth-fits n small in omega (arith, p .puts .place, p .puts .room)
 
 pub puts-decimal :
-    {n d : ℕ} {old mid new : List ℕ} {at next last : ℕ} → n < 2 ^ 64 → decimalBase ≤ n →
-    PutsAtMost mostDigits (decimal (n / decimalBase)) old at mid next → d ≡ digit (n % decimalBase) → Puts (d ∷ []) mid next new last →
+    {n d : ℕ} {old mid new : List ℕ} {at next last : ℕ} → n < 2 ^ 64 → 10 ≤ n →
+    PutsAtMost mostDigits (decimal (n / 10)) old at mid next → d ≡ digit (n % 10) → Puts (d ∷ []) mid next new last →
     PutsAtMost mostDigits (decimal n) old at new last
 puts-decimal {n} small h front e back = at-most small (rw (decimal-more {n = n} h, ← e) (puts-then (front .puts) back))
 
@@ -168,8 +168,8 @@ unfolding field
 puts-field n p q = record { puts = puts-then p (q .puts); most = omega (arith, p .place, q .most) }
 
 pub puts-name :
-    (name physical comparisons : ℕ) {at p q r s next : ℕ} {old t u v w new : List ℕ} → PutsAtMost nameDigits (hex nameDigits name) old at t p →
-    Puts (space ∷ []) t p u q → PutsAtMost physicalDigits (hex physicalDigits physical) u q v r →
+    (name physical comparisons : ℕ) {at p q r s next : ℕ} {old t u v w new : List ℕ} → PutsAtMost 2 (hex 2 name) old at t p →
+    Puts (space ∷ []) t p u q → PutsAtMost 16 (hex 16 physical) u q v r →
     PutsAtMost (1 + mostDigits) (field (space ∷ []) comparisons) v r w s → Puts (newline ∷ []) w s new next →
     PutsAtMost lineSize (nameLine name physical comparisons) old at new next
 unfolding nameLine letters

@@ -1,2 +1,3 @@
--- Statements of theorems.
+-- Statements of theorems: the listing in closed form, and that of an unknown edition.
 pub mod Closed
+pub mod Edition

@@ -3,9 +3,10 @@ ghost use mathlib.Core.Path.{_≡_};
 ghost use mathlib.Core.List.{[], _∷_};
 ghost use Prim.Native.Nat.{_+_, _≤_, _<_};
 ghost use lib.ListN.{length};
-ghost use Rattle.listing_text.specs.Rules.Text.{hexBase, physicalDigits, hex, decimal, field, nameLine, totalsLine, refusedLine};
+ghost use Rattle.listing_text.specs.Rules.Text.{hex, decimal, field, nameLine, totalsLine, refusedLine};
 ghost use Rattle.listing_text.specs.Inner.Puts.{Puts, PutsAtMost};
-ghost use Rattle.listing_text.specs.Rules.Text.{mostDigits, lineSize, totalsSize, refusedSize};
+ghost use Rattle.listing_text.specs.Rules.Text.{mostDigits, lineSize, totalsSize};
+ghost use Rattle.listing_text.specs.Inner.Puts.{refusedSize};
 ghost use Rattle.listing_text.specs.Rules.Text.{digit as Text·digit};
 
 const DECIMAL_BASE: u64 = 10;
@@ -31,7 +32,7 @@ pub const TOTALS_SIZE: usize = 6 + 10 + 8 + 3 * MOST_DIGITS + 1;
 
 // In capitals.
 fn digit(d: u64) -> u8
-    requires { ⌜ d < hexBase ⌝ }
+    requires { ⌜ d < 16 ⌝ }
     ensures { λ r. ⌜ r ≡ Text·digit d ⌝ }
 {
     if d < DECIMAL_BASE {
@@ -62,7 +63,7 @@ fn put_bytes(text: &mut [u8], at: usize, bytes: &[u8]) -> usize
 
 // The last digits of a number.
 fn put_hex(text: &mut [u8], at: usize, digits: u64, value: u64) -> usize
-    requires { ⌜ (at + digits ≤ length (now text)) × (digits ≤ physicalDigits) ⌝ }
+    requires { ⌜ (at + digits ≤ length (now text)) × (digits ≤ 16) ⌝ }
     ensures { λ r. ⌜ PutsAtMost digits (hex digits value) (now (text .entry)) at (now (text .exit)) r ⌝ }
 {
     let mut place = at;

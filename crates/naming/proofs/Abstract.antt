@@ -2,9 +2,10 @@
 -- calls leave alone what the run rests on, keeps step with the plain account over every list of calls.
 -- Assumes nothing.
 use Prim.Native.Nat.{ℕ, suc, _+_, _/_, _%_, _^_, _≤_, _<_}
-use mathlib.Core.Path.{_≡_, refl, sym, _∙_}
+use mathlib.Core.Path.{_≡_, refl, sym, ap, _∙_}
+use mathlib.Core.Logic.{_≢_}
 use mathlib.Core.List.{List, [], _∷_, map}
-use mathlib.Core.Bool.{true, false}
+use mathlib.Core.Bool.{false}
 use native.Mathlib.Omega.{arith}
 use lib.ListN.{length, drop, getD}
 use lib.Seq.{getD-drop}
@@ -17,8 +18,7 @@ use Rattle.naming.specs.Inner.View.{SlaveView, changeAll, answers}
 use Rattle.naming.specs.Rules.Rounds.{RunRound, RunRound.poll as pollOf, writeName, writeHigh, writeLow, compare, RunRound.baptize as baptizeAll, half}
 use Rattle.naming.specs.Rules.Run.{Position, running, namesUsedUp, PassPlace, high, low, reply, placeOf, roundAt, nextRound, advance, unfitPosition, countLimit, lastStep, bits, tried}
 use Rattle.naming.specs.Inner.PassPlaces.{stepOf}
-use Rattle.cluster.specs.Rules.Grounds.{shortAnswer}
-use Rattle.naming.specs.Rules.Account.{namingComparisons, Named, Account, Call, step, frame, notYet, accountCall, accountAfter, oneRound, comparisonsOf, comparisonsAfter}
+use Rattle.naming.specs.Rules.Account.{namingComparisons, Named, Account, StepArguments, Call, step, frame, argumentsGround, accountCall, accountAfter, oneRound, comparisonsOf, comparisonsAfter}
 use Rattle.naming.proofs.Places.{LegalPlace, inner, at-poll, at-ask, at-name, at-high, at-low, at-baptize, place-of-step, step-lt}
 use Rattle.naming.proofs.Search.{tried-small}
 use Rattle.naming.proofs.Facts.{Fit}
@@ -54,16 +54,18 @@ pub record Left (S : Type 0) (view : S → List SlaveView) (Good : S → Type 0)
 pub record Laws
     (S : Type 0) (names : List ℕ) (view : S → List SlaveView) (Good : S → Type 0) (Allowed : S → Position → Call → Type 0)
     (call : S → Position → Call → S × Position) : Type 0 where
-  -- a step whose buffer is too short, and a step of an ended run, alter nothing
-  pub short : (s : S) (p : Position) (buffer : List ℕ) → Good s → shortAnswer buffer ≡ true → call s p (step buffer) ≡ (s, p)
+  -- a step that its own arguments refuse, and a step of an ended run, alter nothing
+  pub turned :
+      (s : S) (p : Position) (arguments : StepArguments) → Good s → argumentsGround (map namedOf (view s)) arguments ≢ 0 →
+      call s p (step arguments) ≡ (s, p)
   pub idle :
-      (s : S) (p : Position) (buffer : List ℕ) → Good s → shortAnswer buffer ≡ false → unfitPosition names p ≡ false →
-      (p .end ≡ running → ⊥) → call s p (step buffer) ≡ (s, p)
+      (s : S) (p : Position) (arguments : StepArguments) → Good s → argumentsGround (map namedOf (view s)) arguments ≡ 0 →
+      unfitPosition names p ≡ false → (p .end ≡ running → ⊥) → call s p (step arguments) ≡ (s, p)
   -- any other step makes its round and moves on by the answer
   pub steps :
-      (s : S) (p : Position) (buffer : List ℕ) → Good s → Allowed s p (step buffer) → shortAnswer buffer ≡ false →
-      unfitPosition names p ≡ false → p .end ≡ running → Sendable (nextRound names p) →
-      Stepped S names view Good s p (call s p (step buffer))
+      (s : S) (p : Position) (arguments : StepArguments) → Good s → Allowed s p (step arguments) →
+      argumentsGround (map namedOf (view s)) arguments ≡ 0 → unfitPosition names p ≡ false → p .end ≡ running →
+      Sendable (nextRound names p) → Stepped S names view Good s p (call s p (step arguments))
   -- a frame of others, refused or not, leaves each slave's names, and an unnamed slave whole, and the run
   pub others :
       (s : S) (p : Position) (bytes buffer : List ℕ) → Good s → Allowed s p (frame bytes buffer) →
@@ -96,7 +98,7 @@ tie-step (over o) m = absurd (omega (arith, o .some))
 tie-idle : {names : List ℕ} {vs : List SlaveView} {p : Position} {a : Account} → Tie names vs p a → (p .end ≡ running → ⊥) → oneRound a ≡ a
 unfolding oneRound
 tie-idle (going i) n = absurd (n refl)
-tie-idle (over {end = end} o) n = let z : end ≡ notYet → ⊥ = omega (arith, o .some) in rw (ne-eqb end notYet z)
+tie-idle (over {end = end} o) n = let z : end ≡ 0 → ⊥ = omega (arith, o .some) in rw (ne-eqb end 0 z)
 
 -- rounds of others
 tie-others : {names : List ℕ} {vs ws : List SlaveView} {p : Position} {a : Account} → Same vs ws → Tie names vs p a → Tie names ws p a
@@ -161,12 +163,12 @@ pub record Short (R C : ℕ) (a : Account) : Type 0 where
   pub rounds : a .rounds < R
   pub done : a .done ≤ C
 
-pub tally-running : {R C : ℕ} {F : List Named} {a : Account} → Tally R C F a → a .end ≡ notYet → Short R C a
+pub tally-running : {R C : ℕ} {F : List Named} {a : Account} → Tally R C F a → a .end ≡ 0 → Short R C a
 tally-running (in-pass {n = n} {rounds = rounds} {done = done} {k = k} {ns = ns} {ws = ws} {held = held} d) e =
     record { rounds = omega (arith, d .all, d .within, pass-due n ns ws held); done = omega (arith, d .comparisons) }
 tally-running (ended d) e = absurd (omega (arith, d .some))
 
-pub tally-ended : {R C : ℕ} {F : List Named} {a : Account} → Tally R C F a → (a .end ≡ notYet → ⊥) → Done R C F (a .slaves) (a .end) (a .rounds) (a .done) (a .k)
+pub tally-ended : {R C : ℕ} {F : List Named} {a : Account} → Tally R C F a → (a .end ≡ 0 → ⊥) → Done R C F (a .slaves) (a .end) (a .rounds) (a .done) (a .k)
 tally-ended (in-pass d) n = absurd (n refl)
 tally-ended (ended d) n = d
 
@@ -181,7 +183,7 @@ comparisons-most k = omega arith
 
 -- no ground 17
 tie-fit :
-    {names : List ℕ} {vs : List SlaveView} {p : Position} {a : Account} (R C : ℕ) → Tie names vs p a → (a .end ≡ notYet → Short R C a) →
+    {names : List ℕ} {vs : List SlaveView} {p : Position} {a : Account} (R C : ℕ) → Tie names vs p a → (a .end ≡ 0 → Short R C a) →
     R < countLimit → C + namingComparisons < countLimit → unfitPosition names p ≡ false
 unfolding unfitPosition
 tie-fit {names} R C (going {index = index} {step = k} {rounds = rounds} {comparisons = comparisons} {n = n} {done = done} {ns = ns} i) s r c =
@@ -232,29 +234,34 @@ module _
   stays-fit w a h = tie-fit R C (h .tie) (tally-running (h .tally)) few fewer
 
   running-step :
-      (w : S × Position) (a : Account) (buffer : List ℕ) → Between S names view Good R C F w a → Allowed (w .0) (w .1) (step buffer) → shortAnswer buffer ≡ false →
-      w .1 .end ≡ running → Between S names view Good R C F (call (w .0) (w .1) (step buffer)) (oneRound a)
-  running-step w a buffer h allowed long m =
+      (w : S × Position) (a : Account) (arguments : StepArguments) → Between S names view Good R C F w a → Allowed (w .0) (w .1) (step arguments) →
+      argumentsGround (map namedOf (view (w .0))) arguments ≡ 0 → w .1 .end ≡ running →
+      Between S names view Good R C F (call (w .0) (w .1) (step arguments)) (oneRound a)
+  running-step w a arguments h allowed free m =
       record { good = st .good; tie = rw (st .views, st .moved) (tie-step (h .tie) m); tally = tally-round R C F (h .tally) }
     where
-      st : Stepped S names view Good (w .0) (w .1) (call (w .0) (w .1) (step buffer))
-      st = laws .steps (w .0) (w .1) buffer (h .good) allowed long (stays-fit w a h) m (tie-sendable (h .tie) m)
+      st : Stepped S names view Good (w .0) (w .1) (call (w .0) (w .1) (step arguments))
+      st = laws .steps (w .0) (w .1) arguments (h .good) allowed free (stays-fit w a h) m (tie-sendable (h .tie) m)
 
   idle-step :
-      (w : S × Position) (a : Account) (buffer : List ℕ) → Between S names view Good R C F w a → shortAnswer buffer ≡ false → (w .1 .end ≡ running → ⊥) →
-      Between S names view Good R C F (call (w .0) (w .1) (step buffer)) (oneRound a)
-  idle-step w a buffer h long n = rw (laws .idle (w .0) (w .1) buffer (h .good) long (stays-fit w a h) n, tie-idle (h .tie) n) h
+      (w : S × Position) (a : Account) (arguments : StepArguments) → Between S names view Good R C F w a →
+      argumentsGround (map namedOf (view (w .0))) arguments ≡ 0 → (w .1 .end ≡ running → ⊥) →
+      Between S names view Good R C F (call (w .0) (w .1) (step arguments)) (oneRound a)
+  idle-step w a arguments h free n = rw (laws .idle (w .0) (w .1) arguments (h .good) free (stays-fit w a h) n, tie-idle (h .tie) n) h
 
   one-call : (w : S × Position) (a : Account) (c : Call) → Between S names view Good R C F w a → Allowed (w .0) (w .1) c → Between S names view Good R C F (call (w .0) (w .1) c) (accountCall a c)
   unfolding accountCall
-  one-call w a (step buffer) h allowed =
-      byCase (shortAnswer buffer)
-      (λ t. rw (t, laws .short (w .0) (w .1) buffer (h .good) t) h)
-      (λ f.
-      rw f
+  one-call w a (step arguments) h allowed =
+      let same : argumentsGround (map namedOf (view (w .0))) arguments ≡ argumentsGround (a .slaves) arguments =
+      ap (λ (l : List Named). argumentsGround l arguments) (tie-agree (h .tie) .names) in
+      byCase (eqb (argumentsGround (a .slaves) arguments) 0)
+      (λ t.
+      let none = same ∙ eqb-true _ _ t in
+      rw t
       (byCase (eqb (w .1 .end) running)
-      (λ t. running-step w a buffer h allowed f (eqb-true _ _ t))
-      (λ g. idle-step w a buffer h f (eqb-false _ _ g))))
+      (λ e. running-step w a arguments h allowed none (eqb-true _ _ e))
+      (λ e. idle-step w a arguments h none (eqb-false _ _ e))))
+      (λ f. rw (f, laws .turned (w .0) (w .1) arguments (h .good) (λ z. eqb-false _ _ f (sym same ∙ z))) h)
   one-call w a (frame bytes buffer) h allowed =
       let o : Left S view Good (w .0) (w .1) (call (w .0) (w .1) (frame bytes buffer)) = laws .others (w .0) (w .1) bytes buffer (h .good) allowed in
       record { good = o .good; tie = rw (o .stays) (tie-others (o .same) (h .tie)); tally = h .tally }

@@ -2,13 +2,13 @@
 -- Assumes nothing.
 use Prim.Native.Nat.{ℕ}
 use mathlib.Core.Path.{_≡_, refl, sym, _∙_}
+use mathlib.Core.Logic.{_≢_}
 use mathlib.Core.List.{List, [], _∷_, map}
 use mathlib.Core.Bool.{Bool, true, false, not}
 use native.Mathlib.Omega.{arith}
 use lib.ListN.{getD}
 use lib.Dec.{eqb}
 use borrow.Author.Tests.{eqb-true, eqb-false, eq-eqb, ne-eqb, ltb-true, ltb-false, not-true}
-use Rattle.file.specs.Rules.Refusals.{bufferRefusal}
 use Rattle.file.specs.Rules.Results.{done}
 use Rattle.file.specs.Rules.Bytes.{Bytes}
 use Rattle.file.specs.Rules.Order.{firstOf, both}
@@ -16,24 +16,24 @@ use Rattle.file.specs.Rules.Cluster.{Slave, Cluster, bytesIn, configuration, ph
 use Rattle.file.specs.Rules.Decode.{decode}
 use Rattle.file.specs.Rules.Grounds.{fileGround}
 use Rattle.file.specs.Inner.Accepted.{Becomes}
-use Rattle.file.proofs.Order.{byCase, clash}
+use Rattle.file.proofs.Order.{byCase, clash, first-none}
 use Rattle.file.proofs.Accepted.{encode-bytes}
 use Rattle.frame.specs.Rules.Fireworks.{Round, multipartner, msd, msa, noRound}
-use Rattle.frame.specs.Rules.Frames.{pb1Place, pb2Place, pb3Place, between}
+use Rattle.frame.specs.Rules.Frames.{between}
 use Rattle.file.specs.Rules.Changes.{withEpoch, withPending}
 use Rattle.cluster.specs.Rules.Bus.{slots}
 use Rattle.cluster.specs.Rules.Slaves.{withAddress, epochRaised, pendingDuty, dutyBy, executionOf}
 use Rattle.cluster.specs.Rules.Grounds.{shortAnswer, roundBy}
-use Rattle.cluster.specs.Rules.Round.{addressEffect, dataEffect, multipartnerEffect, effectOf, frameOn, carriedBy, roundGround, roundOn}
+use Rattle.cluster.specs.Rules.Round.{effectOf, frameOn, roundGround, roundOn}
 use Rattle.cluster.proofs.Rounds.{buffer-decides, others-decide, round-refused, round-accepted, round-becomes, round-kept}
 use Rattle.cluster.proofs.Untouched.{filesOf, Unstored, Leaves, by-nothing, by-read, by-write, below-other, after-other}
 use Rattle.naming.specs.Inner.View.{SlaveView, viewOf, view}
 use Rattle.naming.specs.Rules.Rounds.{sent}
 use Rattle.naming.specs.Rules.Run.{Position, running, unfitPosition, namesGrounds, runGrounds, nextRound}
-use Rattle.naming.specs.Rules.Step.{stepGrounds, stepGround, stepMade, stepOn, roundSent}
-use Rattle.naming.specs.Rules.Account.{Call, step, frame}
+use Rattle.naming.specs.Rules.Step.{stepGround, stepMade, stepOn, roundSent}
+use Rattle.naming.specs.Rules.Account.{Named, StepArguments, Call, step, frame, argumentsGround}
 use Rattle.naming.specs.Claims.Demand.{State, halfwayAfter, callOn, changesConfiguration, permittedFrame, permittedCall, OfBytes, of-frame}
-use Rattle.naming.proofs.Answers.{same-refl}
+use Rattle.naming.proofs.Answers.{namedOf, same-refl}
 use Rattle.naming.proofs.Start.{Names}
 use Rattle.naming.proofs.Abstract.{Laws, Stepped, Left, Sendable}
 use Rattle.naming.proofs.SlaveViews.{view-alike}
@@ -55,44 +55,67 @@ pub record Allowed (names : List ℕ) (s : State) (p : Position) (c : Call) : Ty
 
 -- ---- steps
 
+-- a step's own arguments have no ground but their buffer's
+long-buffer : (slaves : List Named) (arguments : StepArguments) → argumentsGround slaves arguments ≡ 0 → shortAnswer (arguments .buffer) ≡ false
+unfolding argumentsGround
+long-buffer slaves arguments none = first-none 8 _ _ none .0
+
+short-buffer : (slaves : List Named) (arguments : StepArguments) → argumentsGround slaves arguments ≢ 0 → shortAnswer (arguments .buffer) ≡ true
+unfolding argumentsGround firstOf
+short-buffer slaves arguments some = byCase (shortAnswer (arguments .buffer)) (λ t. t) (λ f. absurd (some (rw f)))
+
 module _ (names : List ℕ) (n : Names names) where
   -- the names are accepted, so a step's grounds are its buffer's and its position's
   run-ground : (p : Position) → unfitPosition names p ≡ false → firstOf (runGrounds names p) ≡ 0
   unfolding runGrounds namesGrounds firstOf
   run-ground p fit = rw (n .fit, n .different, fit)
 
-  pub step-ground : (s : State) (p : Position) (buffer : List ℕ) → Good s → shortAnswer buffer ≡ false → unfitPosition names p ≡ false →
-      stepGround (s .file) p names buffer ≡ 0
-  unfolding stepGround stepGrounds shortAnswer
-  step-ground s p buffer good long fit =
-      others-decide (s .file) buffer (runGrounds names p) (good .accepted) (ltb-false _ _ long) ∙ run-ground p fit
+  pub step-ground :
+      (s : State) (p : Position) (arguments : StepArguments) → Good s → argumentsGround (map namedOf (viewIn s)) arguments ≡ 0 →
+      unfitPosition names p ≡ false → stepGround (s .file) p names (arguments .buffer) ≡ 0
+  unfolding stepGround shortAnswer
+  step-ground s p arguments good none fit =
+      let long = long-buffer (map namedOf (viewIn s)) arguments none in
+      others-decide (s .file) (arguments .buffer) (runGrounds names p) (good .accepted) (ltb-false _ _ long) ∙ run-ground p fit
 
-  pub short-ground : (s : State) (p : Position) (buffer : List ℕ) → Good s → shortAnswer buffer ≡ true → stepGround (s .file) p names buffer ≡ bufferRefusal
-  unfolding stepGround stepGrounds shortAnswer
-  short-ground s p buffer good short = buffer-decides (s .file) buffer (runGrounds names p) (good .accepted) (ltb-true _ _ short)
+  pub arguments-ground :
+      (s : State) (p : Position) (arguments : StepArguments) → Good s → argumentsGround (map namedOf (viewIn s)) arguments ≢ 0 →
+      stepGround (s .file) p names (arguments .buffer) ≡ argumentsGround (map namedOf (viewIn s)) arguments
+  unfolding stepGround argumentsGround firstOf shortAnswer
+  arguments-ground s p arguments good some =
+      let short = short-buffer (map namedOf (viewIn s)) arguments some in
+      buffer-decides (s .file) (arguments .buffer) (runGrounds names p) (good .accepted) (ltb-true _ _ short) ∙ rw short
 
-  short-step : (s : State) (p : Position) (buffer : List ℕ) → Good s → shortAnswer buffer ≡ true → callOn names s p (step buffer) ≡ (s, p)
+  refused-step :
+      (s : State) (p : Position) (arguments : StepArguments) → Good s → argumentsGround (map namedOf (viewIn s)) arguments ≢ 0 →
+      callOn names s p (step arguments) ≡ (s, p)
   unfolding callOn stepOn
-  short-step s p buffer good short = rw (short-ground s p buffer good short)
+  refused-step s p arguments good some = rw (arguments-ground s p arguments good some, ne-eqb _ _ some)
 
-  idle-step : (s : State) (p : Position) (buffer : List ℕ) → Good s → shortAnswer buffer ≡ false → unfitPosition names p ≡ false →
-      (p .end ≡ running → ⊥) → callOn names s p (step buffer) ≡ (s, p)
+  idle-step :
+      (s : State) (p : Position) (arguments : StepArguments) → Good s → argumentsGround (map namedOf (viewIn s)) arguments ≡ 0 →
+      unfitPosition names p ≡ false → (p .end ≡ running → ⊥) → callOn names s p (step arguments) ≡ (s, p)
   unfolding callOn stepOn
-  idle-step s p buffer good long fit over = rw (step-ground s p buffer good long fit, ne-eqb (p .end) running over)
+  idle-step s p arguments good none fit over = rw (step-ground s p arguments good none fit, ne-eqb (p .end) running over)
 
-  closed-step : (s : State) (p : Position) (buffer : List ℕ) → stepGround (s .file) p names buffer ≡ 0 → permittedCall names s p (step buffer) ≡ true → not (s .halfway) ≡ true
+  closed-step :
+      (s : State) (p : Position) (arguments : StepArguments) → stepGround (s .file) p names (arguments .buffer) ≡ 0 →
+      permittedCall names s p (step arguments) ≡ true → not (s .halfway) ≡ true
   unfolding permittedCall
-  closed-step s p buffer g may = rw g at may
+  closed-step s p arguments g may = rw g at may
 
-  running-step : (s : State) (p : Position) (buffer : List ℕ) → Good s → Allowed names s p (step buffer) → shortAnswer buffer ≡ false →
-      unfitPosition names p ≡ false → p .end ≡ running → Sendable (nextRound names p) →
-      Stepped State names viewIn Good s p (callOn names s p (step buffer))
+  running-step :
+      (s : State) (p : Position) (arguments : StepArguments) → Good s → Allowed names s p (step arguments) →
+      argumentsGround (map namedOf (viewIn s)) arguments ≡ 0 → unfitPosition names p ≡ false → p .end ≡ running →
+      Sendable (nextRound names p) → Stepped State names viewIn Good s p (callOn names s p (step arguments))
   unfolding callOn stepOn stepMade viewIn
-  running-step s p buffer good allowed long fit run send =
-      let g : stepGround (s .file) p names buffer ≡ 0 = step-ground s p buffer good long fit in
+  running-step s p arguments good allowed none fit run send =
+      let buffer : List ℕ = arguments .buffer in
+      let g : stepGround (s .file) p names buffer ≡ 0 = step-ground s p arguments good none fit in
+      let long = long-buffer (map namedOf (viewIn s)) arguments none in
       let m : Made (s .file) (nextRound names p) (roundSent (s .file) (sent (nextRound names p)) buffer) =
-      round-made (s .file) buffer (good .bytes) (good .accepted) (unfold shortAnswer in long) send in
-      let closed : s .halfway ≡ false = not-true (s .halfway) (closed-step s p buffer g (allowed .may)) in
+      round-made (s .file) buffer (good .bytes) (good .accepted) long send in
+      let closed : s .halfway ≡ false = not-true (s .halfway) (closed-step s p arguments g (allowed .may)) in
       rw (g, eq-eqb (p .end) running run)
       (record {
         good = record { bytes = m .bytes; accepted = m .accepted; apart = λ h. clash h closed };
@@ -140,7 +163,7 @@ module _ (c : Cluster) (bytes : List ℕ) where
   -- a permitted frame leaves every configuration
   frame-leaves : (h : Bool) (round : Round) → permittedFrame h round bytes ≡ true → (h ≡ true → Leaves configuration (pendingDuty c)) →
       filesOf configuration (effectOf c round bytes .after .slaves) ≡ filesOf configuration (c .slaves)
-  unfolding permittedFrame effectOf multipartnerEffect dataEffect addressEffect withAddress withPending epochRaised withEpoch
+  unfolding permittedFrame effectOf withAddress withPending epochRaised withEpoch
   frame-leaves true (multipartner r) p l = clash p refl
   frame-leaves true msd p l = after-other (l refl) (between bytes) (epochRaised c)
   frame-leaves true msa p l = clash p refl
@@ -153,14 +176,14 @@ module _ (c : Cluster) (bytes : List ℕ) where
   -- and what is pending when its round is half done
   next-leaves : (h : Bool) (mask : ℕ) (round : Round) → permittedFrame h round bytes ≡ true → halfwayAfter h (done mask) round ≡ true →
       Leaves configuration (pendingDuty (effectOf c round bytes .after))
-  unfolding permittedFrame halfwayAfter effectOf addressEffect withAddress withPending pendingDuty
+  unfolding permittedFrame halfwayAfter effectOf withAddress withPending pendingDuty
   next-leaves true mask (multipartner r) p l = clash p refl
   next-leaves true mask msd p l = clash l refl
   next-leaves true mask msa p l = clash p refl
   next-leaves true mask noRound p l = clash p refl
   next-leaves false mask (multipartner r) p l = clash l refl
   next-leaves false mask msd p l = clash p refl
-  next-leaves false mask msa p l = operation-leaves (getD bytes pb1Place 0) (getD bytes pb2Place 0) (getD bytes pb3Place 0) (not-true (changesConfiguration (getD bytes pb2Place 0)) p)
+  next-leaves false mask msa p l = operation-leaves (getD bytes 2 0) (getD bytes 3 0) (getD bytes 4 0) (not-true (changesConfiguration (getD bytes 3 0)) p)
   next-leaves false mask noRound p l = clash p refl
 
 -- a frame of others, refused or accepted
@@ -180,7 +203,7 @@ module _ (names : List ℕ) (s : State) (p : Position) (bytes buffer : List ℕ)
   frame-pending : roundGround (s .file) bytes buffer ≡ 0 → permittedFrame (s .halfway) (roundBy bytes) bytes ≡ true →
       halfwayAfter (s .halfway) (roundOn (s .file) bytes buffer .0) (roundBy bytes) ≡ true →
       Leaves configuration (pendingDuty (frameOn (decode (s .file)) bytes .after))
-  unfolding frameOn carriedBy
+  unfolding frameOn
   frame-pending g may h =
       next-leaves (decode (s .file)) bytes (s .halfway) _ (roundBy bytes) may (rw (round-accepted (s .file) bytes buffer g) at h)
 
@@ -218,7 +241,7 @@ module _ (names : List ℕ) (s : State) (p : Position) (bytes buffer : List ℕ)
 pub byte-laws : (names : List ℕ) → Names names → Laws State names viewIn Good (Allowed names) (callOn names)
 byte-laws names n =
     record {
-      short = short-step names n;
+      turned = refused-step names n;
       idle = idle-step names n;
       steps = running-step names n;
       others = λ s p bytes buffer good allowed. any-frame names s p bytes buffer good allowed;

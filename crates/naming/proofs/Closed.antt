@@ -12,7 +12,7 @@ use borrow.Author.Tests.{lt-ltb, le-ltb, ltb-false}
 use Rattle.file.specs.Rules.Grounds.{isAmong}
 use Rattle.file.proofs.Order.{byCase}
 use Rattle.naming.specs.Rules.Account.{namingRounds, namingComparisons, endingRounds, endingComparisons}
-use Rattle.naming.specs.Rules.Figures.{takenNames, freeNames, beforeFree, takenTried, roundsOf, comparisonsIn}
+use Rattle.naming.specs.Rules.Figures.{takenNames, freeNames, beforeFree, takenTried}
 use Rattle.naming.proofs.Tally.{due, dueComparisons}
 
 -- the taken names before free name number u + 1
@@ -108,8 +108,12 @@ due-figure held (n ∷ ns) (p ∷ ps) =
     rw (f, figure-free namingRounds endingRounds held (length ps) n ns f, before-free held n ns (length ps) f, due-figure held ns ps) (omega arith))
 
 -- the rounds due are 200 min(u, f), plus 4 if u < f, plus one for each taken name tried
+abbrev pub roundsOf : List ℕ → ℕ → List ℕ → ℕ
+roundsOf held u names =
+    let f = length (freeNames held names) in namingRounds * min u f + cond (ltb u f) endingRounds 0 + takenTried held u names
+
 pub due-rounds : (held names ws : List ℕ) → due held names ws ≡ roundsOf held (length ws) names
-unfolding roundsOf figure
+unfolding figure
 due-rounds held names ws = due-figure held names ws ∙ rw tried-before
 
 -- the comparisons due are 65 min(u, f), plus 1 if u < f
@@ -125,8 +129,11 @@ comparisons-figure held (n ∷ ns) (p ∷ ps) =
     (λ t. rw (t, figure-taken namingComparisons endingComparisons held (suc (length ps)) n ns t) (comparisons-figure held ns (p ∷ ps)))
     (λ f. rw (f, figure-free namingComparisons endingComparisons held (length ps) n ns f, comparisons-figure held ns ps))
 
+abbrev pub comparisonsIn : List ℕ → ℕ → List ℕ → ℕ
+comparisonsIn held u names = let f = length (freeNames held names) in namingComparisons * min u f + cond (ltb u f) endingComparisons 0
+
 pub due-comparisons : (held names ws : List ℕ) → dueComparisons held names ws ≡ comparisonsIn held (length ws) names
-unfolding comparisonsIn figure
+unfolding figure
 due-comparisons held names ws = comparisons-figure held names ws
 
 -- bounds

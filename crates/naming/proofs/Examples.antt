@@ -13,41 +13,14 @@ use Rattle.file.specs.Rules.Decode.{decode, decodeAt, slavesAt, slaveAt, filesA
 use Rattle.naming.specs.Rules.Rounds.{sent, Sent, atUnnamed}
 use Rattle.naming.specs.Rules.Run.{Position, nextRound, roundAt, placeOf, askOrGive, questionOf, partOf, giveOf, tried}
 use Rattle.cluster.specs.Rules.Grounds.{shortAnswer}
-use Rattle.naming.specs.Rules.Account.{Named, namesOf, namesIn, Account, step as stepWith, accountCall, accountAfter, accountOf, comparisonsOf, comparisonsAfter, oneRound, pass, freePass, goOn, passDone, runEnds, give, falling, insert, unnamedAmong, namesHeld, endWith}
+use Rattle.naming.specs.Rules.Account.{namesOf, namesIn, Account, Call, Call.step as stepBy, argumentsGround, accountCall, accountAfter, accountOf, comparisonsOf, comparisonsAfter, oneRound, pass, freePass, goOn, passDone, give, falling, insert, unnamedAmong, namesHeld, endWith}
+use Rattle.naming.specs.Claims.Files.{m10File}
+use Rattle.naming.specs.Claims.Cases.{answerBuffer, from, slave, figures}
 
--- n names from a on
-pub from : ℕ → ℕ → List ℕ
-from zero a = []
-from (suc n) a = a ∷ from n (suc a)
-
-pub slave : ℕ → ℕ → Named
-slave p n = record { physical = p; logical = n }
-
+-- so many rounds of an account
 pub rounds : ℕ → Account → Account
 rounds zero a = a
 rounds (suc n) a = rounds n (oneRound a)
-
--- an account's names, end, rounds and comparisons
-pub record Figures : Type 0 where
-  pub slaves : List Named
-  pub end : ℕ
-  pub rounds : ℕ
-  pub comparisons : ℕ
-
-pub figures : Account → Figures
-figures a = record { slaves = a .slaves; end = a .end; rounds = a .rounds; comparisons = comparisonsOf a }
-
--- case M10: "the 96-byte file"
-pub m10File : List ℕ
-m10File =
-    0x54 ∷ 0x41 ∷ 0x01 ∷ 0x02 ∷ 0x00 ∷ 0x10 ∷ 0x00 ∷ 0x60 ∷ 0 ∷ 0 ∷ 0 ∷ 0 ∷ 0 ∷ 0 ∷ 0 ∷ 0 ∷
-    0x00 ∷ 0x18 ∷ 0x02 ∷ 0x00 ∷ 0x00 ∷ 0x3C ∷ 0x02 ∷ 0x00 ∷
-    0x08 ∷ 0x03 ∷ 0x00 ∷ 0x20 ∷ 0x3D ∷ 0x02 ∷ 0x00 ∷ 0x30 ∷
-    0 ∷ 0 ∷ 0 ∷ 0 ∷ 0 ∷ 0 ∷ 0 ∷ 0xFF ∷ 0 ∷ 0 ∷ 0 ∷ 0 ∷ 0 ∷ 0 ∷ 0 ∷ 0 ∷
-    0 ∷ 0 ∷ 0 ∷ 0 ∷ 0 ∷ 0 ∷ 0 ∷ 0x07 ∷ 0 ∷ 0 ∷ 0 ∷ 0x10 ∷
-    0x08 ∷ 0x03 ∷ 0x00 ∷ 0x44 ∷ 0x3D ∷ 0x02 ∷ 0x00 ∷ 0x54 ∷
-    0 ∷ 0 ∷ 0 ∷ 0 ∷ 0 ∷ 0 ∷ 0 ∷ 0xFF ∷ 0 ∷ 0 ∷ 0 ∷ 0 ∷ 0 ∷ 0 ∷ 0 ∷ 0 ∷
-    0 ∷ 0 ∷ 0 ∷ 0 ∷ 0 ∷ 0 ∷ 0 ∷ 0x07 ∷ 0 ∷ 0 ∷ 0 ∷ 0xA0 ∷ []
 
 m10-length : length m10File ≡ 96
 unfolding m10File
@@ -58,8 +31,11 @@ unfolding m10File fileGround fileGroundAt fileGroundsAt firstOf both either wron
 m10-accepted = refl
 
 -- steps with a buffer of 64 bytes or more make rounds
+abbrev pub stepWith : List ℕ → Call
+stepWith buffer = stepBy (record { buffer = buffer })
+
 step-round : (buffer : List ℕ) → shortAnswer buffer ≡ false → (a : Account) → accountCall a (stepWith buffer) ≡ oneRound a
-unfolding accountCall
+unfolding accountCall argumentsGround firstOf
 step-round buffer long a = rw long
 
 steps-rounds :
@@ -77,29 +53,29 @@ m10-rounds :
       rounds = 404;
       comparisons = 131;
     }
-unfolding m10File decode decodeAt slavesAt slaveAt filesAt fileAt fileSize offsetAt part numberOf namesIn namesOf physicalName logicalName bytesIn bytesAmong figures rounds from slave comparisonsOf comparisonsAfter oneRound pass freePass goOn passDone runEnds give accountOf falling insert unnamedAmong namesHeld endWith isAmong either
+unfolding m10File decode decodeAt slavesAt slaveAt filesAt fileAt fileSize offsetAt part numberOf namesIn namesOf physicalName logicalName bytesIn bytesAmong figures rounds from slave comparisonsOf comparisonsAfter oneRound pass freePass goOn passDone give accountOf falling insert unnamedAmong namesHeld endWith isAmong either
 m10-rounds = refl
 
-long-buffer : shortAnswer (replicate 64 0) ≡ false
+long-buffer : shortAnswer answerBuffer ≡ false
 unfolding shortAnswer
 long-buffer = refl
 
 -- the names and counts of its account after 404 steps: "named 2 compares 131 rounds 404"
 pub m10 :
-    figures (accountAfter (accountOf (namesIn (decode m10File)) (from 254 1)) (replicate 404 (stepWith (replicate 64 0)))) ≡
+    figures (accountAfter (accountOf (namesIn (decode m10File)) (from 254 1)) (replicate 404 (stepWith answerBuffer))) ≡
     record {
       slaves = slave 0x0000000700000010 2 ∷ slave 0x00000007000000A0 1 ∷ [];
       end = 1;
       rounds = 404;
       comparisons = 131;
     }
-m10 = ap figures (steps-rounds (replicate 64 0) long-buffer 404 (accountOf (namesIn (decode m10File)) (from 254 1))) ∙ m10-rounds
+m10 = ap figures (steps-rounds answerBuffer long-buffer 404 (accountOf (namesIn (decode m10File)) (from 254 1))) ∙ m10-rounds
 
 -- names 5 and 7 for slaves of which one holds 5 and one, with physical name 0, is unnamed: "names used up" after 1 + 200 rounds
 small :
     figures (rounds 300 (accountOf (slave 9 5 ∷ slave 0 0xFF ∷ []) (5 ∷ 7 ∷ []))) ≡
     record { slaves = slave 9 5 ∷ slave 0 7 ∷ []; end = 2; rounds = 201; comparisons = 65 }
-unfolding figures rounds from slave comparisonsOf comparisonsAfter oneRound pass freePass goOn passDone runEnds give accountOf falling insert unnamedAmong namesHeld endWith isAmong either
+unfolding figures rounds from slave comparisonsOf comparisonsAfter oneRound pass freePass goOn passDone give accountOf falling insert unnamedAmong namesHeld endWith isAmong either
 small = refl
 
 -- the rounds that a run over names 5 and 7 sends

@@ -20,38 +20,38 @@ use Rattle.file.specs.Rules.Changes.{withPending}
 use Rattle.file.proofs.Order.{both-left, both-right, both-true}
 use Rattle.frame.specs.Rules.Fireworks.{Round, multipartner, msd, msa, roundOf, roundIn, dataFirework}
 use Rattle.frame.specs.Rules.Check.{addressCheck}
-use Rattle.frame.specs.Rules.Frames.{frameOf, pb2Place, addressBytes, addressFrame}
+use Rattle.frame.specs.Rules.Frames.{frameOf, addressBytes, addressFrame}
 use Rattle.frame.specs.Rules.Grounds.{wrongFrameLength, wrongCheck, noOperation, broadcastRead}
 use Rattle.frame.proofs.Written.{address-bytes}
 use Rattle.cluster.specs.Rules.Slaves.{withAddress}
-use Rattle.cluster.specs.Rules.Grounds.{shortAnswer, roundBy, noFirework, writePending, lengthFor, wrongLengthOn, wrongCheckOn, noOperationOn, broadcastReadOn, frameGround}
+use Rattle.cluster.specs.Rules.Grounds.{shortAnswer, roundBy, writePending}
+use Rattle.cluster.specs.Inner.Grounds.{noFirework, lengthFor, wrongLengthOn, wrongCheckOn, noOperationOn, broadcastReadOn, frameGround}
 use Rattle.file.specs.Rules.Cluster.{Cluster, broadcast, documentation, readOperation, pb2Of}
 use Rattle.file.specs.Rules.Decode.{decode}
-use Rattle.cluster.specs.Rules.Round.{addressEffect, effectOf, frameOn, carriedBy, roundGround, roundOn}
+use Rattle.cluster.specs.Rules.Round.{effectOf, frameOn, roundGround, roundOn}
 use Rattle.cluster.proofs.Rounds.{fits-none, round-accepted, round-becomes}
-use Rattle.file.specs.Rules.Layout.{seriesRecord}
 use Rattle.naming.specs.Rules.Run.{Position, fresh, startGround}
 use Rattle.naming.specs.Rules.Step.{stepGround}
-use Rattle.naming.specs.Rules.Account.{Call, step, frame}
+use Rattle.naming.specs.Rules.Account.{StepArguments, Call, step, frame}
 use Rattle.naming.specs.Claims.Demand.{State, startOn, halfwayAfter, callOn, changesConfiguration, permittedFrame, permittedCall, permitted, afterCalls, OfBytes}
 use Rattle.naming.proofs.StepRound.{round-fits}
 use Rattle.naming.proofs.OverBytes.{demand-3, bytes-after}
 
 pub data IsStep : Call → Type 0 where
-  is-step : {buffer : List ℕ} → IsStep (step buffer)
+  is-step : {arguments : StepArguments} → IsStep (step arguments)
 
 -- a step keeps a round of others as it was, done or half done
-step-halfway : (names : List ℕ) (s : State) (p : Position) (buffer : List ℕ) → callOn names s p (step buffer) .0 .halfway ≡ s .halfway
+step-halfway : (names : List ℕ) (s : State) (p : Position) (arguments : StepArguments) → callOn names s p (step arguments) .0 .halfway ≡ s .halfway
 unfolding callOn
-step-halfway names s p buffer = refl
+step-halfway names s p arguments = refl
 
 -- every list of steps is permitted
 pub steps-permitted : (names : List ℕ) (s : State) (p : Position) {cs : List Call} → s .halfway ≡ false → All IsStep cs → permitted names s p cs ≡ true
 unfolding permitted permittedCall
 steps-permitted names s p closed allEmpty = rw closed
-steps-permitted names s p closed (allNext {l = cs} (is-step {buffer}) h) =
-    both-true (may (eqb (stepGround (s .file) p names buffer) 0))
-    (steps-permitted names (callOn names s p (step buffer) .0) (callOn names s p (step buffer) .1) (step-halfway names s p buffer ∙ closed) h)
+steps-permitted names s p closed (allNext {l = cs} (is-step {arguments}) h) =
+    both-true (may (eqb (stepGround (s .file) p names (arguments .buffer)) 0))
+    (steps-permitted names (callOn names s p (step arguments) .0) (callOn names s p (step arguments) .1) (step-halfway names s p arguments ∙ closed) h)
   where
     may : (t : Bool) → cond t (not (s .halfway)) true ≡ true
     may true = rw closed
@@ -82,9 +82,8 @@ any-mask h mask msd = refl
 any-mask h mask msa = refl
 any-mask h mask Round.noRound = refl
 
-accepted-halfway : (h : Bool) (file bytes buffer : List ℕ) (round : Round) → roundGround file bytes buffer ≡ 0 → roundBy bytes ≡ round →
+pub accepted-halfway : (h : Bool) (file bytes buffer : List ℕ) (round : Round) → roundGround file bytes buffer ≡ 0 → roundBy bytes ≡ round →
     halfwayAfter h (roundOn file bytes buffer .0) (roundBy bytes) ≡ halfwayAfter h (done 0) round
-unfolding carriedBy
 accepted-halfway h file bytes buffer round g m = rw (round-accepted file bytes buffer g, m) (any-mask h _ round)
 
 -- an accepted multipartner frame is permitted where no round is half done
@@ -99,7 +98,7 @@ multipartner-permitted names s p bytes buffer r closed g m =
 -- and an accepted address frame that does not change the configuration, with the accepted data frame after it
 pub round-permitted :
     (names : List ℕ) (s : State) (p : Position) (address buffer content buffer′ : List ℕ) → s .halfway ≡ false →
-    roundGround (s .file) address buffer ≡ 0 → roundBy address ≡ msa → changesConfiguration (getD address pb2Place 0) ≡ false →
+    roundGround (s .file) address buffer ≡ 0 → roundBy address ≡ msa → changesConfiguration (getD address 3 0) ≡ false →
     roundGround (roundOn (s .file) address buffer .2) content buffer′ ≡ 0 → roundBy content ≡ msd →
     permitted names s p (frame address buffer ∷ frame content buffer′ ∷ []) ≡ true
 unfolding permitted permittedCall callOn
@@ -132,20 +131,20 @@ round-0-fits file buffer g long = round-fits file (0x78 ∷ []) buffer g long (r
 
 -- and a read of 0x3D record 1 at a name other than 0x00, with the data frame after it
 abbrev pub readFrame : ℕ → ℕ → List ℕ
-readFrame epoch name = addressFrame epoch name documentation readOperation seriesRecord
+readFrame epoch name = addressFrame epoch name documentation readOperation 1
 
 module _ (epoch name : ℕ) where
   read-round : roundBy (readFrame epoch name) ≡ msa
   unfolding addressFrame frameOf roundBy roundOf roundIn
   read-round = refl
 
-  read-keeps : changesConfiguration (getD (readFrame epoch name) pb2Place 0) ≡ false
+  read-keeps : changesConfiguration (getD (readFrame epoch name) 3 0) ≡ false
   unfolding addressFrame addressBytes frameOf pb2Of changesConfiguration both
   read-keeps = refl
 
   read-check : (c : Cluster) → wrongCheckOn c msa (readFrame epoch name) ≡ false
   unfolding wrongCheckOn wrongCheck addressFrame addressBytes frameOf
-  read-check c = let k = addressCheck (epoch ∷ name ∷ pb2Of documentation readOperation ∷ seriesRecord ∷ []) in rw (eq-eqb k k refl)
+  read-check c = let k = addressCheck (epoch ∷ name ∷ pb2Of documentation readOperation ∷ 1 ∷ []) in rw (eq-eqb k k refl)
 
   read-frame : (c : Cluster) → (name ≡ broadcast → ⊥) → frameGround c (readFrame epoch name) ≡ 0
   unfolding frameGround
@@ -165,7 +164,7 @@ module _ (epoch name : ℕ) where
   unfolding frameOn
   read-pending c =
       rw read-round
-      (unfold effectOf addressEffect withAddress withPending writePending both addressFrame addressBytes frameOf pb2Of in refl)
+      (unfold effectOf withAddress withPending writePending both addressFrame addressBytes frameOf pb2Of in refl)
 
   data-round : roundBy (dataFirework ∷ []) ≡ msd
   unfolding roundBy roundOf roundIn
@@ -201,8 +200,8 @@ module _ (epoch name : ℕ) where
       of-bytes =
           let d : documentation ≤ 63 = omega arith in
           let o : readOperation ≤ 3 = omega arith in
-          let r : Byte seriesRecord = omega arith in
-          address-bytes epoch name documentation readOperation seriesRecord e n d o r
+          let r : Byte 1 = omega arith in
+          address-bytes epoch name documentation readOperation 1 e n d o r
 
       after : Becomes (roundOn (s .file) (readFrame epoch name) buffer .2) (frameOn (decode (s .file)) (readFrame epoch name) .after)
       after = round-becomes (s .file) (readFrame epoch name) buffer b of-bytes first

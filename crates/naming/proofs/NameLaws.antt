@@ -11,7 +11,6 @@ use lib.ListN.{length, getD, drop, set, replicate, length-set, length-replicate,
 use lib.Seq.{drop-cons, drop-length, getD-set-same, getD-set-other}
 use lib.Dec.{eqb}
 use Rattle.file.specs.Rules.Order.{firstOf, either}
-use Rattle.file.specs.Rules.Refusals.{listedNameRefusal, nameTwiceRefusal}
 use Rattle.file.specs.Rules.Results.{refused, done, resultOf}
 use Rattle.file.specs.Rules.Cluster.{unnamed, broadcast}
 use Rattle.file.specs.Rules.Grounds.{isAmong, hasRepeat}
@@ -121,12 +120,12 @@ seen-end {l} {i = i} h past =
 -- ---- the first of the two that holds
 
 module _ (l : List ℕ) {a : Bool} (is : a ≡ unfitName l) where
-  pub names-unfit : a ≡ true → listedNameRefusal ≡ startGround l
+  pub names-unfit : a ≡ true → 15 ≡ startGround l
   unfolding startGround namesGrounds firstOf
   names-unfit e = rw (← is, e)
 
   module _ (fit : a ≡ false) {b : Bool} (is₂ : b ≡ hasRepeat l) where
-    pub names-twice : b ≡ true → nameTwiceRefusal ≡ startGround l
+    pub names-twice : b ≡ true → 16 ≡ startGround l
     unfolding startGround namesGrounds firstOf
     names-twice e = rw (← is, fit, ← is₂, e)
 

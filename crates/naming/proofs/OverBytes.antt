@@ -2,27 +2,27 @@
 -- run. And that it holds throughout such a list, after each of its calls: there too the file is accepted and no step meets ground 17.
 -- Assumes nothing.
 use Prim.Native.Nat.{ℕ}
-use mathlib.Core.Path.{_≡_, refl, sym, _∙_}
+use mathlib.Core.Path.{_≡_, refl, sym, ap, _∙_}
 use mathlib.Core.List.{List, [], _∷_, _++_, map, append-nil}
-use mathlib.Core.Bool.{true, false, cond}
+use mathlib.Core.Bool.{true, false}
+use lib.Dec.{eqb}
+use borrow.Author.Tests.{eqb-true, eqb-false}
 use Rattle.file.specs.Rules.Bytes.{Bytes, All, allEmpty, allNext}
 use Rattle.file.specs.Rules.Decode.{decode}
-use Rattle.file.specs.Rules.Refusals.{bufferRefusal}
 use Rattle.file.specs.Rules.Grounds.{fileGround}
 use Rattle.file.specs.Rules.Legal.{Legal}
 use Rattle.file.proofs.Order.{byCase, both-left, both-right, clash}
 use Rattle.file.proofs.Accepted.{accepted-legal}
 use Rattle.naming.specs.Rules.Run.{Position, fresh, startGround, unfitPosition}
 use Rattle.naming.specs.Rules.Step.{stepGround}
-use Rattle.cluster.specs.Rules.Grounds.{shortAnswer}
-use Rattle.naming.specs.Rules.Account.{Call, namesIn, accountOf, accountAfter}
+use Rattle.naming.specs.Rules.Account.{Named, StepArguments, Call, argumentsGround, namesIn, accountOf, accountAfter}
 use Rattle.naming.specs.Claims.Demand.{State, startOn, callOn, permittedCall, permitted, afterCalls, OfBytes, Demand, DemandThree}
 use Rattle.naming.proofs.Answers.{namedOf}
 use Rattle.naming.proofs.Start.{Names}
 use Rattle.naming.proofs.Abstract.{Permitted, all-made, one-more, runCalls}
 use Rattle.naming.proofs.Demand.{Holds, demand}
 use Rattle.naming.proofs.FromFile.{names-of-view, legal-slaves, legal-few, accepted-names}
-use Rattle.naming.proofs.ByteLaws.{Good, viewIn, Allowed, byte-laws, step-ground, short-ground}
+use Rattle.naming.proofs.ByteLaws.{Good, viewIn, Allowed, byte-laws, step-ground, arguments-ground}
 
 -- the walk along file and run is the abstract one
 same-calls : (names : List ℕ) (s : State) (p : Position) (cs : List Call) → runCalls State (callOn names) (s, p) cs ≡ afterCalls names s p cs
@@ -71,14 +71,16 @@ module _ (file names : List ℕ) (b : Bytes file) (g : fileGround file ≡ 0) (n
       (rw start-seen (legal-slaves (decode file) legal)) (rw start-seen (legal-few (decode file) legal)) calls may in
       rw (start-seen, same-calls names (startOn file) (fresh names) calls) at all
 
-  -- a step's only ground is its buffer's
-  only-nine :
-      (s : State) (p : Position) → Good s → unfitPosition names p ≡ false → (buffer : List ℕ) →
-      stepGround (s .file) p names buffer ≡ cond (shortAnswer buffer) bufferRefusal 0
-  only-nine s p good fit buffer =
-      byCase (shortAnswer buffer)
-      (λ t. rw t (short-ground names n s p buffer good t))
-      (λ f. rw f (step-ground names n s p buffer good f fit))
+  -- a step's only ground is that of its own arguments
+  own-ground :
+      (s : State) (p : Position) → Good s → unfitPosition names p ≡ false → (arguments : StepArguments) →
+      stepGround (s .file) p names (arguments .buffer) ≡ argumentsGround (namesIn (decode (s .file))) arguments
+  own-ground s p good fit arguments =
+      let same : argumentsGround (map namedOf (viewIn s)) arguments ≡ argumentsGround (namesIn (decode (s .file))) arguments =
+      ap (λ (l : List Named). argumentsGround l arguments) (seen s) in
+      byCase (eqb (argumentsGround (map namedOf (viewIn s)) arguments) 0)
+      (λ t. let none = eqb-true _ _ t in step-ground names n s p arguments good none fit ∙ sym none ∙ same)
+      (λ f. arguments-ground names n s p arguments good (eqb-false _ _ f) ∙ same)
 
   holds-demand :
       (calls : List Call) → Permitted State (Allowed names) (callOn names) (startOn file, fresh names) calls →
@@ -93,7 +95,7 @@ module _ (file names : List ℕ) (b : Bytes file) (g : fileGround file ≡ 0) (n
         rounds = h .agree .rounds;
         comparisons = h .agree .comparisons;
         fit = h .fit;
-        grounds = only-nine (afterCalls names (startOn file) (fresh names) calls .0) (afterCalls names (startOn file) (fresh names) calls .1) (h .good) (h .fit);
+        grounds = own-ground (afterCalls names (startOn file) (fresh names) calls .0) (afterCalls names (startOn file) (fresh names) calls .1) (h .good) (h .fit);
         outcome = rw now at (h .outcome);
       }
 

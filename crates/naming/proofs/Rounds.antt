@@ -8,7 +8,7 @@ use native.Mathlib.Omega.{arith}
 use lib.Dec.{eqb}
 use borrow.Author.Tests.{eq-eqb, ne-eqb}
 use Rattle.file.specs.Rules.Grounds.{isAmong}
-use Rattle.naming.specs.Rules.Account.{Named, Account, notYet, endWith, goOn, passDone, runEnds, give, freePass, pass, oneRound, namingRounds, namingComparisons, endingRounds}
+use Rattle.naming.specs.Rules.Account.{Named, Account, endWith, goOn, passDone, give, freePass, pass, oneRound, namingRounds, namingComparisons, endingRounds}
 
 abbrev pub account : List ℕ → List ℕ → List Named → List ℕ → ℕ → ℕ → ℕ → ℕ → Account
 account left waiting slaves held end rounds done k =
@@ -21,7 +21,7 @@ Goes (p ∷ ps) k = Unit {0}
 
 pub goes-on :
     (n : ℕ) (ns ws : List ℕ) (slaves : List Named) (held : List ℕ) (rounds done k : ℕ) → isAmong n held ≡ false → suc k < namingRounds → Goes ws k →
-    oneRound (account (n ∷ ns) ws slaves held notYet rounds done k) ≡ account (n ∷ ns) ws slaves held notYet (suc rounds) done (suc k)
+    oneRound (account (n ∷ ns) ws slaves held 0 rounds done k) ≡ account (n ∷ ns) ws slaves held 0 (suc rounds) done (suc k)
 unfolding oneRound pass freePass goOn
 goes-on n ns [] slaves held rounds done k free l g = rw (free, g)
 goes-on n ns (p ∷ ps) slaves held rounds done k free l g = rw (free, ne-eqb (suc k) namingRounds (λ (e : suc k ≡ namingRounds). omega arith))
@@ -29,20 +29,20 @@ goes-on n ns (p ∷ ps) slaves held rounds done k free l g = rw (free, ne-eqb (s
 -- the account's last round of a pass: of a taken name, of one that is given, of the run
 pub taken-round :
     (n : ℕ) (ns ws : List ℕ) (slaves : List Named) (held : List ℕ) (rounds done k : ℕ) → isAmong n held ≡ true →
-    oneRound (account (n ∷ ns) ws slaves held notYet rounds done k) ≡ account ns ws slaves held (endWith ns) (suc rounds) (done + 0) 0
+    oneRound (account (n ∷ ns) ws slaves held 0 rounds done k) ≡ account ns ws slaves held (endWith ns) (suc rounds) (done + 0) 0
 unfolding oneRound pass passDone
 taken-round n ns ws slaves held rounds done k t = rw t
 
 pub giving-round :
     (n : ℕ) (ns : List ℕ) (p : ℕ) (ps : List ℕ) (slaves : List Named) (held : List ℕ) (rounds done k : ℕ) → isAmong n held ≡ false →
     suc k ≡ namingRounds →
-    oneRound (account (n ∷ ns) (p ∷ ps) slaves held notYet rounds done k) ≡
+    oneRound (account (n ∷ ns) (p ∷ ps) slaves held 0 rounds done k) ≡
     account ns ps (map (give p n) slaves) held (endWith ns) (suc rounds) (done + namingComparisons) 0
 unfolding oneRound pass freePass passDone
 giving-round n ns p ps slaves held rounds done k f e = rw (f, eq-eqb (suc k) namingRounds e)
 
 pub ending-round :
     (n : ℕ) (ns : List ℕ) (slaves : List Named) (held : List ℕ) (rounds done k : ℕ) → isAmong n held ≡ false → suc k ≡ endingRounds →
-    oneRound (account (n ∷ ns) [] slaves held notYet rounds done k) ≡ account (n ∷ ns) [] slaves held 1 (suc rounds) done (suc k)
-unfolding oneRound pass freePass runEnds
+    oneRound (account (n ∷ ns) [] slaves held 0 rounds done k) ≡ account (n ∷ ns) [] slaves held 1 (suc rounds) done (suc k)
+unfolding oneRound pass freePass goOn
 ending-round n ns slaves held rounds done k f e = rw (f, eq-eqb (suc k) endingRounds e)

@@ -9,7 +9,6 @@ use borrow.Author.Tests.{eq-eqb, ne-eqb, le-ltb, ltb-true, ltb-false, leb-false,
 use lib.ListN.{length, getD}
 use lib.Dec.{eqb, ltb}
 use Rattle.file.specs.Rules.Order.{firstOf, either}
-use Rattle.file.specs.Rules.Refusals.{listedNameRefusal, nameTwiceRefusal, runPositionRefusal}
 use Rattle.file.specs.Rules.Results.{done}
 use Rattle.file.specs.Rules.Bytes.{Byte, Bytes}
 use Rattle.file.specs.Rules.Cluster.{Cluster, pb2Of, writeOperation, broadcast, unnamed}
@@ -24,7 +23,8 @@ use Rattle.frame.specs.Rules.Frames.{between, dataFrame, frameOf}
 use Rattle.cluster.specs.Rules.Bus.{slots}
 use Rattle.cluster.specs.Rules.Slaves.{withAddress, nextEpoch}
 use Rattle.cluster.specs.Rules.Grounds.{shortAnswer}
-use Rattle.cluster.specs.Rules.Round.{carriedBy, bufferBy, dataEffect, effectOf, frameOn}
+use Rattle.cluster.specs.Rules.Round.{effectOf, frameOn}
+use Rattle.cluster.specs.Inner.Effects.{dataEffect}
 use Rattle.cluster.specs.Inner.Carried.{Carried}
 use Rattle.cluster.specs.Inner.Duties.{afterAddress, roundData}
 use Rattle.cluster.proofs.Kept.{nextEpoch-byte}
@@ -47,25 +47,25 @@ use Rattle.naming.proofs.PositionLaws.{place-ask, place-give}
 -- ---- grounds 15 to 17
 
 chosen :
-    (a b t : Bool) (g : ℕ) → g ≡ firstOf (record { number = listedNameRefusal; holds = a } ∷ record { number = nameTwiceRefusal; holds = b } ∷ []) →
+    (a b t : Bool) (g : ℕ) → g ≡ firstOf ((15, a) ∷ (16, b) ∷ []) →
     firstOf
-    (record { number = listedNameRefusal; holds = a } ∷
-    record { number = nameTwiceRefusal; holds = b } ∷
-    record { number = runPositionRefusal; holds = t } ∷ []) ≡ cond (eqb g 0) (cond t runPositionRefusal 0) g
+    ((15, a) ∷
+    (16, b) ∷
+    (17, t) ∷ []) ≡ cond (eqb g 0) (cond t 17 0) g
 unfolding firstOf
 chosen true b t g e = rw e
 chosen false true t g e = rw e
 chosen false false t g e = rw e
 
 module _ (names : List ℕ) (p : Position) {g : ℕ} (is : g ≡ startGround names) where
-  run-chosen : firstOf (runGrounds names p) ≡ cond (eqb g 0) (cond (unfitPosition names p) runPositionRefusal 0) g
+  run-chosen : firstOf (runGrounds names p) ≡ cond (eqb g 0) (cond (unfitPosition names p) 17 0) g
   unfolding runGrounds namesGrounds startGround
   run-chosen = chosen _ _ (unfitPosition names p) g is
 
   pub run-names : (g ≡ 0 → ⊥) → g ≡ firstOf (runGrounds names p)
   run-names n = sym (run-chosen ∙ rw (ne-eqb g 0 n))
 
-  pub run-unfit : {t : Bool} → g ≡ 0 → t ≡ unfitPosition names p → t ≡ true → runPositionRefusal ≡ firstOf (runGrounds names p)
+  pub run-unfit : {t : Bool} → g ≡ 0 → t ≡ unfitPosition names p → t ≡ true → 17 ≡ firstOf (runGrounds names p)
   run-unfit e u y = sym (run-chosen ∙ rw (eq-eqb g 0 e, ← u, y))
 
   pub run-fits : {t : Bool} → g ≡ 0 → t ≡ unfitPosition names p → t ≡ false → 0 ≡ firstOf (runGrounds names p)
@@ -140,8 +140,8 @@ pub record Runs (names : List ℕ) (p : Position) : Type 0 where
 pub runs : {names : List ℕ} {p : Position} → firstOf (runGrounds names p) ≡ 0 → p .end ≡ running → Runs names p
 unfolding runGrounds namesGrounds unfitPosition
 runs {names} {p} e m =
-    let first = first-none (listedNameRefusal - 1) _ _ e in
-    let third = first-none (runPositionRefusal - 1) _ _ (first-none (nameTwiceRefusal - 1) _ _ (first .1) .1) in
+    let first = first-none (15 - 1) _ _ e in
+    let third = first-none (17 - 1) _ _ (first-none (16 - 1) _ _ (first .1) .1) in
     let outside = either-false-right _ _ (third .0) in
     let inside = both-false-next _ (eq-eqb (p .end) running m) (either-false-right _ _ outside) in
     let later = either-false-right _ _ inside in
@@ -232,7 +232,7 @@ module _
       {new file : List ℕ} {mask : ℕ} {q : Position} {b : Bool} →
       Carried (dataEffect (askedFor (decode f) r) (roundData r)) dataFirework buffer new mask file → b ≡ isReply (done mask) →
       q ≡ moveOn (placeOf (p .step)) (length names) p b → (done (made mask), q, new, file) ≡ stepMade f p names buffer
-  unfolding stepMade advance madeBy carriedBy bufferBy
+  unfolding stepMade advance madeBy
   step-is carry replied moved =
       let o = nextRound names p in
       let good = placed .file in

@@ -5,7 +5,7 @@ use mathlib.Core.Path.{_≡_, refl}
 use mathlib.Core.List.{[], _∷_}
 use native.Mathlib.Omega.{arith}
 use Rattle.file.specs.Rules.Bytes.{bytesOf}
-use Rattle.file.specs.Rules.Layout.{recordSize, namesRecord, comparisonHighRecord}
+use Rattle.file.specs.Rules.Layout.{recordSize}
 use Rattle.file.specs.Rules.Cluster.{unnamed, writeOperation, executeOperation}
 use Rattle.naming.specs.Rules.Rounds.{writeHigh, writeLow, half, comparisonRounds, sent, atUnnamed}
 use Rattle.naming.specs.Rules.Rounds.{RunRound.poll as pollOf}
@@ -39,7 +39,7 @@ pub part-low : (r : MasterSlaveRound) (v : ℕ) {k : ℕ} → k ≡ 1 → Sends 
 unfolding askedBy partOf
 part-low r v e s = rw e s
 
-pub part-reply : (r : MasterSlaveRound) (v k : ℕ) → (k ≡ 0 → ⊥) → (k ≡ 1 → ⊥) → Sends r (atUnnamed executeOperation comparisonHighRecord []) → Sends r (sent (askedBy (partOf k) v))
+pub part-reply : (r : MasterSlaveRound) (v k : ℕ) → (k ≡ 0 → ⊥) → (k ≡ 1 → ⊥) → Sends r (atUnnamed executeOperation 2 []) → Sends r (sent (askedBy (partOf k) v))
 unfolding askedBy partOf sent
 part-reply r v zero n m s = absurd (n refl)
 part-reply r v (suc zero) n m s = absurd (m refl)
@@ -48,7 +48,7 @@ part-reply r v (suc (suc k)) n m s = s
 -- ---- the rounds that give a name
 
 module _ (r : MasterSlaveRound) (name v : ℕ) where
-  pub give-name : {k : ℕ} → k ≡ giveStep → Sends r (atUnnamed writeOperation namesRecord (0 ∷ 0 ∷ name ∷ unnamed ∷ [])) → Sends r (sent (roundAt (placeOf k) name v))
+  pub give-name : {k : ℕ} → k ≡ giveStep → Sends r (atUnnamed writeOperation 1 (0 ∷ 0 ∷ name ∷ unnamed ∷ [])) → Sends r (sent (roundAt (placeOf k) name v))
   unfolding roundAt placeOf askOrGive giveOf sent
   give-name e s = rw e s
 
@@ -60,7 +60,7 @@ module _ (r : MasterSlaveRound) (name v : ℕ) where
   unfolding roundAt placeOf askOrGive giveOf
   give-low e s = rw e s
 
-  baptize-at : (j : ℕ) → 3 ≤ j → Sends r (atUnnamed executeOperation namesRecord []) → Sends r (sent (roundAt (giveOf j) name v))
+  baptize-at : (j : ℕ) → 3 ≤ j → Sends r (atUnnamed executeOperation 1 []) → Sends r (sent (roundAt (giveOf j) name v))
   unfolding roundAt giveOf sent
   baptize-at zero h s = absurd (omega arith)
   baptize-at (suc zero) h s = absurd (omega arith)
@@ -69,7 +69,7 @@ module _ (r : MasterSlaveRound) (name v : ℕ) where
 
   pub give-baptize :
       (k : ℕ) → giveStep ≤ k → (k ≡ giveStep → ⊥) → (k ≡ giveStep + 1 → ⊥) → (k ≡ giveStep + 2 → ⊥) →
-      Sends r (atUnnamed executeOperation namesRecord []) → Sends r (sent (roundAt (placeOf k) name v))
+      Sends r (atUnnamed executeOperation 1 []) → Sends r (sent (roundAt (placeOf k) name v))
   give-baptize k h n m l s = rw (place-give k h) (baptize-at (k - giveStep) (late k h n m l) s)
     where
       late : (k : ℕ) → giveStep ≤ k → (k ≡ giveStep → ⊥) → (k ≡ giveStep + 1 → ⊥) → (k ≡ giveStep + 2 → ⊥) → 3 ≤ k - giveStep

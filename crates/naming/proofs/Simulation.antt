@@ -19,7 +19,7 @@ use Rattle.naming.specs.Inner.View.{SlaveView, unnamedChange, changeAll,
 use Rattle.naming.specs.Rules.Rounds.{RunRound, RunRound.poll as pollOf, writeName, writeHigh, writeLow, compare, half}
 use Rattle.naming.specs.Rules.Run.{Position, running, fresh, endAt, PassPlace, PassPlace.poll, ask, giveName, giveHigh, giveLow, PassPlace.baptize, Question, least, bit, Part, high, low, reply, tried, roundAt, onward, nextName, endAllNamed, moveOn, bits}
 use Rattle.naming.specs.Inner.PassPlaces.{stepOf, questionNumber, partNumber}
-use Rattle.naming.specs.Rules.Account.{Named, Account, comparisonsAfter, endWith, give, oneRound, notYet, namingRounds, namingComparisons, endingRounds}
+use Rattle.naming.specs.Rules.Account.{Named, Account, comparisonsAfter, endWith, give, oneRound, namingRounds, namingComparisons, endingRounds}
 use Rattle.naming.proofs.Places.{LegalQuestion, of-least, of-bit, Inner, LegalPlace, inner, at-poll, at-ask, at-name, at-high, at-low, at-baptize, afterBit, afterPlace, step-after, legal-after, step-lt, comparisons-next}
 use Rattle.naming.proofs.Places.{comparing as counting}
 use Rattle.naming.proofs.Search.{cleared, cleared-all, cleared-none, answered, tried-small, halves}
@@ -88,7 +88,7 @@ pub data Tie (names : List ℕ) : List SlaveView → Position → Account → Ty
   going :
       {vs : List SlaveView} {l : PassPlace} {index step value rounds comparisons n done : ℕ} {ns ws held : List ℕ} {slaves : List Named} →
       At names vs l index step value rounds comparisons n ns ws slaves held done →
-      Tie names vs (position running index step value rounds comparisons) (account (n ∷ ns) ws slaves held notYet rounds done step)
+      Tie names vs (position running index step value rounds comparisons) (account (n ∷ ns) ws slaves held 0 rounds done step)
   over :
       {vs : List SlaveView} {end index step value rounds comparisons done k : ℕ} {left ws held : List ℕ} {slaves : List Named} →
       Over names vs end index comparisons slaves done k →
@@ -147,7 +147,7 @@ go-on :
     Inner l → isAmong n held ≡ false → Goes ws step → Quiet o → x < 2 ^ bits → Known (afterPlace l) n held x ws →
     OfUnnamed (Told (afterPlace l) n x) (changeAll o vs) →
     Tie names (changeAll o vs) (onward (position running index step value rounds comparisons) x (counting l))
-    (oneRound (account (n ∷ ns) ws slaves held notYet rounds done step))
+    (oneRound (account (n ∷ ns) ws slaves held 0 rounds done step))
 unfolding onward
 go-on {names} {vs} {l} {index} {step} {value} {rounds} {comparisons} {n} {done} {ns} {ws} {held} {slaves} {o} x i here free g q small known heard =
     let k : stepOf (afterPlace l) ≡ suc (stepOf l) = step-after here in
@@ -209,7 +209,7 @@ Moves names vs l index step value rounds comparisons n ns ws slaves held done =
     At names vs l index step value rounds comparisons n ns ws slaves held done →
     Tie names (changeAll (roundAt l n value) vs)
     (moveOn l (length names) (position running index step value rounds comparisons) (answers (roundAt l n value) vs))
-    (oneRound (account (n ∷ ns) ws slaves held notYet rounds done step))
+    (oneRound (account (n ∷ ns) ws slaves held 0 rounds done step))
 
 module _
     (names : List ℕ) (vs : List SlaveView) (index step value rounds comparisons n : ℕ) (ns ws : List ℕ) (slaves : List Named) (held : List ℕ)
@@ -231,7 +231,7 @@ module _
       goes (q ∷ qs) = tt
 
       taken : isAmong n held ≡ true →
-          Tie names (changeAll (pollOf n) vs) (nextName (length names) (position running index step value rounds comparisons)) (oneRound (account (n ∷ ns) ws slaves held notYet rounds done step))
+          Tie names (changeAll (pollOf n) vs) (nextName (length names) (position running index step value rounds comparisons)) (oneRound (account (n ∷ ns) ws slaves held 0 rounds done step))
       taken t =
           let c : comparisons ≡ done + 0 = i .counted ∙ rw (i .place) in
           rw (taken-round n ns ws slaves held rounds done step t)

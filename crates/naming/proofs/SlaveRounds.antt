@@ -12,7 +12,7 @@ use lib.Dec.{eqb, leb}
 use borrow.Author.Tests.{ne-eqb, le-leb}
 use Rattle.file.specs.Rules.Bytes.{All, allEmpty, allNext, bytesOf}
 use Rattle.file.specs.Rules.Order.{both, either}
-use Rattle.file.specs.Rules.Layout.{recordSize, seriesRecord, namesRecord, comparisonHighRecord, comparisonLowRecord}
+use Rattle.file.specs.Rules.Layout.{recordSize}
 use Rattle.file.specs.Rules.Cluster.{Slave, bytesIn, configuration, documentation, hasRecord, recordOf, lastRecord, logicalName, newLogicalName, comparisonValue, unnamed, broadcast, pb2Of}
 use Rattle.file.specs.Rules.Legal.{LegalSlave}
 use Rattle.file.specs.Rules.Changes.{putInSlave}
@@ -30,10 +30,10 @@ use Rattle.naming.proofs.SlaveViews.{viewBy, view-by, halves-by, wrote-
 
 -- the rules' operation of each of the run's rounds
 unfoldable pub carriedOut : RunRound → Slaves.Duty
-carriedOut (poll n) = Slaves.reading n documentation seriesRecord
-carriedOut (writeName n) = Slaves.writing unnamed configuration namesRecord
-carriedOut (writeHigh h) = Slaves.writing unnamed configuration comparisonHighRecord
-carriedOut (writeLow l) = Slaves.writing unnamed configuration comparisonLowRecord
+carriedOut (poll n) = Slaves.reading n documentation 1
+carriedOut (writeName n) = Slaves.writing unnamed configuration 1
+carriedOut (writeHigh h) = Slaves.writing unnamed configuration 2
+carriedOut (writeLow l) = Slaves.writing unnamed configuration 3
 carriedOut compare = Slaves.comparing unnamed
 carriedOut baptize = Slaves.baptizing unnamed
 

@@ -6,7 +6,6 @@ use mathlib.Core.List.{List}
 use borrow.Author.Tests.{eq-eqb, ne-eqb}
 use lib.ListN.{length}
 use Rattle.file.specs.Rules.Order.{firstOf}
-use Rattle.file.specs.Rules.Refusals.{bufferRefusal}
 use Rattle.file.specs.Rules.Results.{Result, refused, done}
 use Rattle.file.specs.Inner.Surveyed.{Surveyed}
 use Rattle.file.specs.Inner.Answers.{checkedOf}
@@ -17,7 +16,7 @@ use Rattle.file.proofs.Surveyed.{survey-accepted, survey-refused}
 use Rattle.cluster.specs.Rules.Bus.{slots}
 use Rattle.cluster.proofs.Rounds.{file-decides, buffer-decides, others-decide}
 use Rattle.naming.specs.Rules.Run.{Position, running, runGrounds}
-use Rattle.naming.specs.Rules.Step.{StepDone, ended, stepGrounds, stepGround, stepMade, stepOn}
+use Rattle.naming.specs.Rules.Step.{StepDone, ended, stepGround, stepMade, stepOn}
 use Rattle.naming.specs.Inner.Answers.{StepGoes}
 use Rattle.naming.proofs.StepLaws.{step-refused}
 
@@ -27,20 +26,20 @@ step-ready long is fits runs = record { long = long; accepted = sym is ∙ fits;
 
 module _ (f : List ℕ) (p : Position) (names buffer : List ℕ) {a : FileAnswer} {places : List ℕ} (s : Surveyed f (checkedOf a) places) where
   pub step-turned : {w : Refusal} → a ≡ answers.Refused w → (refused (w .0), p, buffer, f) ≡ stepOn f p names buffer
-  unfolding stepGround stepGrounds
+  unfolding stepGround
   step-turned {w} e =
       let by = survey-refused s e in
       let here = file-decides f buffer (runGrounds names p) (λ z. by .1 (by .0 ∙ z)) in
       sym (step-refused f p names buffer (λ z. by .1 (by .0 ∙ sym here ∙ z)) ∙ rw (here, by .0))
 
   module _ (accepted : a ≡ answers.Accepted) where
-    pub step-short : length buffer < slots → (refused bufferRefusal, p, buffer, f) ≡ stepOn f p names buffer
-    unfolding stepOn stepGround stepGrounds
+    pub step-short : length buffer < slots → (refused 9, p, buffer, f) ≡ stepOn f p names buffer
+    unfolding stepOn stepGround
     step-short h = rw (buffer-decides f buffer (runGrounds names p) (survey-accepted s accepted) h)
 
     module _ (long : slots ≤ length buffer) {g : ℕ} (is : g ≡ firstOf (runGrounds names p)) where
       ground-is : stepGround f p names buffer ≡ g
-      unfolding stepGround stepGrounds
+      unfolding stepGround
       ground-is = others-decide f buffer (runGrounds names p) (survey-accepted s accepted) long ∙ sym is
 
       pub step-unfit : (g ≡ 0 → ⊥) → (refused g, p, buffer, f) ≡ stepOn f p names buffer

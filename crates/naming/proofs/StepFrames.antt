@@ -19,8 +19,9 @@ use Rattle.frame.specs.Rules.Frames.{frameOf, addressBytes, addressFrame, dataF
 use Rattle.frame.specs.Rules.Grounds.{wrongFrameLength, wrongCheck, noOperation, broadcastRead}
 use Rattle.frame.proofs.Written.{address-bytes, data-bytes}
 use Rattle.cluster.specs.Rules.Slaves.{withAddress, nextEpoch, epochRaised, pendingDuty, sentTo, slavesAfter, slaveAfter}
-use Rattle.cluster.specs.Rules.Grounds.{roundBy, noFirework, writePending, lengthFor, wrongLengthOn, wrongCheckOn, noOperationOn, broadcastReadOn, frameGround}
-use Rattle.cluster.specs.Rules.Round.{addressEffect, dataEffect, effectOf, frameOn}
+use Rattle.cluster.specs.Rules.Grounds.{roundBy, writePending}
+use Rattle.cluster.specs.Inner.Grounds.{noFirework, lengthFor, wrongLengthOn, wrongCheckOn, noOperationOn, broadcastReadOn, frameGround}
+use Rattle.cluster.specs.Rules.Round.{effectOf, frameOn}
 use Rattle.cluster.proofs.Kept.{nextEpoch-byte}
 use Rattle.cluster.proofs.Rounds.{fits-none}
 use Rattle.naming.specs.Rules.Rounds.{RunRound, poll, writeName, writeHigh, writeLow, compare, baptize, Sent, sent, atUnnamed}
@@ -86,7 +87,7 @@ module _ (c : Cluster) {o : RunRound} (f : Sendable o) where
       frameOn c (addressSent c (sent o)) .after ≡
       withAddress c (nextEpoch (c .epoch)) (sent o .name) (pb2Of (sent o .file) (sent o .operation)) (sent o .«record»)
   unfolding frameOn
-  address-after = rw address-round (unfold effectOf addressEffect addressSent addressFrame addressBytes frameOf in refl)
+  address-after = rw address-round (unfold effectOf addressSent addressFrame addressBytes frameOf in refl)
 
   pub address-sent-bytes : Bytes (addressSent c (sent o))
   unfolding addressSent
@@ -179,7 +180,7 @@ module _ (c : Cluster) where
   -- who sends, and what the slaves become
   pub data-senders : (o : RunRound) → frameOn (asked c o) (dataSent (sent o)) .senders ≡ sentTo (carriedOut o) (c .slaves)
   unfolding frameOn
-  data-senders o = rw (data-round o) (unfold effectOf dataEffect in rw (asked-pending o) (unfold asked withAddress withPending withEpoch in refl))
+  data-senders o = rw (data-round o) (unfold effectOf in rw (asked-pending o) (unfold asked withAddress withPending withEpoch in refl))
 
   data-content : (o : RunRound) (ss : List Slave) → map (slaveAfter (carriedOut o) (between (dataSent (sent o)))) ss ≡ map (slaveAfter (carriedOut o) (sent o .content)) ss
   unfolding carriedOut slaveAfter dataSent sent atUnnamed dataFrame frameOf bytesOf
@@ -194,5 +195,5 @@ module _ (c : Cluster) where
   unfolding frameOn
   data-slaves o =
       rw (data-round o)
-      (unfold effectOf dataEffect slavesAfter in
+      (unfold effectOf slavesAfter in
       rw (asked-pending o) (unfold epochRaised withSlaves asked withAddress withPending withEpoch in data-content o (c .slaves)))

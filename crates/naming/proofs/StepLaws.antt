@@ -6,17 +6,17 @@ use Prim.Native.Nat.{ℕ}
 use mathlib.Core.Path.{_≡_, sym, _∙_}
 use mathlib.Core.Logic.{_≢_}
 use mathlib.Core.List.{List}
-use lib.ListN.{length, getD, take}
 use borrow.Author.Tests.{eq-eqb, ne-eqb}
-use Rattle.file.specs.Rules.Layout.{offsetWidth, editionPlace}
+use Rattle.file.specs.Rules.Layout.{offsetWidth}
 use Rattle.file.specs.Rules.Grounds.{fileGround}
-use Rattle.file.specs.Rules.Results.{Result, refused, done}
+use Rattle.file.specs.Rules.Results.{refused, done}
 use Rattle.file.proofs.AcceptedFacts as AcceptedFacts
 use Rattle.file.proofs.Edition.{unknown-edition}
 use Rattle.cluster.proofs.Rounds.{file-decides}
 use Rattle.naming.specs.Rules.Rounds.{sent}
 use Rattle.naming.specs.Rules.Run.{Position, running, nextRound, advance}
-use Rattle.naming.specs.Rules.Step.{StepDone, ended, madeBy, stepGrounds, stepGround, stepMade, stepOn, roundSent, isReply}
+use Rattle.naming.specs.Rules.Step.{ended, madeBy, stepGround, stepMade, stepOn, roundSent, isReply}
+use Rattle.naming.specs.Claims.Edition.{UnknownEditionStep}
 
 module _ (file : List ℕ) (p : Position) (names buffer : List ℕ) where
   pub step-refused : stepGround file p names buffer ≢ 0 → stepOn file p names buffer ≡ (refused (stepGround file p names buffer), p, buffer, file)
@@ -37,16 +37,9 @@ module _ (file : List ℕ) (p : Position) (names buffer : List ℕ) where
   unfolding stepOn stepMade
   step-made g m = rw (g, eq-eqb (p .end) running m)
 
--- a file of unknown edition: answer, position and buffer are the same for two files of one length with the same first three bytes
-pub record Alike (x y : Result StepDone × Position × List ℕ × List ℕ) : Type 0 where
-  pub answer : x .0 ≡ y .0
-  pub position : x .1 ≡ y .1
-  pub buffer : x .2 ≡ y .2
-
-pub step-edition :
-    (f g : List ℕ) (p : Position) (names buffer : List ℕ) → length f ≡ length g → take 3 f ≡ take 3 g → (getD f editionPlace 0 ≡ 1 → ⊥) →
-    Alike (stepOn f p names buffer) (stepOn g p names buffer)
-unfolding stepGround stepGrounds fileGround
+-- a file of unknown edition
+pub step-edition : UnknownEditionStep
+unfolding stepGround fileGround
 step-edition f g p names buffer long front other =
     let refused-f : fileGround f ≢ 0 = λ z. other (AcceptedFacts.accepted offsetWidth f .0 z .edition) in
     let same : fileGround f ≡ fileGround g = unknown-edition f g long front other in

@@ -19,10 +19,12 @@ use Rattle.file.specs.Rules.Legal.{LegalSlave}
 use Rattle.file.specs.Inner.Accepted.{Becomes}
 use Rattle.file.proofs.Accepted.{accepted-becomes, encode-bytes}
 use Rattle.frame.specs.Rules.Fireworks.{dataFirework}
-use Rattle.cluster.specs.Rules.Bus.{Senders, slots, firstSlot, anyone, senderMask, answerBytes, answerIn}
+use Rattle.cluster.specs.Rules.Bus.{Senders, slots, anyone, senderMask, answerBytes, answerIn}
 use Rattle.cluster.specs.Rules.Slaves.{sentTo}
-use Rattle.cluster.specs.Rules.Grounds.{shortAnswer, frameGround}
-use Rattle.cluster.specs.Rules.Round.{Effect, Answer, frameOn, carriedBy, bufferBy, roundGround, roundOn}
+use Rattle.cluster.specs.Rules.Grounds.{shortAnswer}
+use Rattle.cluster.specs.Inner.Grounds.{frameGround}
+use Rattle.cluster.specs.Rules.Round.{Effect, Answer, frameOn, roundGround, roundOn}
+use Rattle.cluster.specs.Inner.Effects.{carriedBy, bufferBy}
 use Rattle.cluster.proofs.Bus.{mask-bit, answerBytes-length, answer-length}
 use Rattle.cluster.proofs.Rounds.{round-accepted, round-becomes}
 use Rattle.cluster.proofs.RoundCall.{frame-decides}
@@ -40,23 +42,23 @@ unfolding shortAnswer
 round-fits file frame buffer good long fits = frame-decides file frame buffer good (ltb-false (length buffer) slots long) ∙ fits
 
 -- the buffer of an accepted frame stays as long
-pub buffer-long : (e : Effect) (firework : ℕ) (buffer : List ℕ) → shortAnswer buffer ≡ false → shortAnswer (bufferBy e firework buffer) ≡ false
-unfolding shortAnswer bufferBy
-buffer-long e firework buffer long =
+pub buffer-long : (r : Senders) (firework : ℕ) (buffer : List ℕ) → shortAnswer buffer ≡ false → shortAnswer (answerIn buffer (answerBytes firework r)) ≡ false
+unfolding shortAnswer
+buffer-long r firework buffer long =
     let l : slots ≤ length buffer = ltb-false (length buffer) slots long in
-    rw (answer-length buffer firework (e .senders) l) long
+    rw (answer-length buffer firework r l) long
 
 -- of two answers in a buffer the second stays
 answered-twice : (e d : Effect) (firework last : ℕ) (buffer : List ℕ) → bufferBy e last (bufferBy d firework buffer) ≡ bufferBy e last buffer
-unfolding bufferBy answerIn
+unfolding answerIn
 answered-twice e d firework last buffer =
     ap (λ (l : List ℕ). answerBytes last (e .senders) ++ l)
     (drop-at (answerBytes firework (d .senders)) (drop slots buffer) slots (answerBytes-length firework (d .senders)))
 
 -- bit 1 of the mask
-bit-one : (r : Senders) (b : Bool) → anyone (r firstSlot) ≡ cond b 1 0 → isReply (done (senderMask r)) ≡ b
+bit-one : (r : Senders) (b : Bool) → anyone (r 1) ≡ cond b 1 0 → isReply (done (senderMask r)) ≡ b
 unfolding isReply senderMask
-bit-one r b e = rw (mask-bit r slots firstSlot (omega arith), e) (go b)
+bit-one r b e = rw (mask-bit r slots 1 (omega arith), e) (go b)
   where
     go : (t : Bool) → eqb (cond t 1 0) 1 ≡ t
     go true = refl
@@ -102,7 +104,7 @@ module _ (f : List ℕ) {o : RunRound} (buffer : List ℕ) (bytes : Bytes f) (go
       rw (first-becomes .decoded) at (round-becomes (first .2) (dataSent (sent o)) (first .1) first-bytes (data-sent-bytes s) second-ground)
 
   second-answer : second .0 ≡ done (senderMask (sentTo (carriedOut o) (decode f .slaves)))
-  unfolding second carriedBy
+  unfolding second
   second-answer =
       rw (round-accepted (first .2) (dataSent (sent o)) (first .1) second-ground, first-becomes .decoded, data-senders (decode f) o)
 

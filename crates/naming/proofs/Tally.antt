@@ -9,7 +9,7 @@ use lib.Dec.{eqb}
 use borrow.Author.Tests.{eqb-true, eqb-false, ne-eqb}
 use Rattle.file.specs.Rules.Grounds.{isAmong}
 use Rattle.file.proofs.Order.{byCase, either-false-left, either-false-right}
-use Rattle.naming.specs.Rules.Account.{Named, Account, notYet, endWith, give, oneRound, comparisonsAfter, namingRounds, namingComparisons, endingRounds, endingComparisons}
+use Rattle.naming.specs.Rules.Account.{Named, Account, endWith, give, oneRound, comparisonsAfter, namingRounds, namingComparisons, endingRounds, endingComparisons}
 use Rattle.naming.specs.Rules.Figures.{freeNames, givings, nameGiven, renamed}
 use Rattle.naming.proofs.Facts.{Falling, fall-first, fall-others, not-among}
 use Rattle.naming.proofs.Rounds.{account, goes-on, taken-round, giving-round, ending-round}
@@ -52,7 +52,7 @@ pub record Done (R C : ℕ) (F : List Named) (slaves : List Named) (end rounds d
 pub data Tally (R C : ℕ) (F : List Named) : Account → Type 0 where
   in-pass :
       {n rounds done k : ℕ} {ns ws held : List ℕ} {slaves : List Named} → Due R C F n ns ws slaves held rounds done k →
-      Tally R C F (account (n ∷ ns) ws slaves held notYet rounds done k)
+      Tally R C F (account (n ∷ ns) ws slaves held 0 rounds done k)
   ended :
       {end rounds done k : ℕ} {left ws held : List ℕ} {slaves : List Named} → Done R C F slaves end rounds done k →
       Tally R C F (account left ws slaves held end rounds done k)
@@ -136,7 +136,7 @@ module _ (R C : ℕ) (F : List Named) where
 
   goes-on-pass :
       (n : ℕ) (ns ws : List ℕ) (slaves : List Named) (held : List ℕ) (rounds done k : ℕ) → Due R C F n ns ws slaves held rounds done k →
-      suc k < length-of-pass (isAmong n held) ws → Tally R C F (account (n ∷ ns) ws slaves held notYet (suc rounds) done (suc k))
+      suc k < length-of-pass (isAmong n held) ws → Tally R C F (account (n ∷ ns) ws slaves held 0 (suc rounds) done (suc k))
   goes-on-pass n ns ws slaves held rounds done k d l =
       let e : Due R C F n ns ws slaves held (suc rounds) done (suc k) =
       record { all = omega (arith, d .all); within = l; comparisons = d .comparisons; names = d .names; falls = d .falls } in
@@ -177,7 +177,7 @@ module _ (R C : ℕ) (F : List Named) where
 
   free-pass :
       (n : ℕ) (ns ws : List ℕ) (slaves : List Named) (held : List ℕ) (rounds done k : ℕ) → Due R C F n ns ws slaves held rounds done k →
-      isAmong n held ≡ false → Tally R C F (oneRound (account (n ∷ ns) ws slaves held notYet rounds done k))
+      isAmong n held ≡ false → Tally R C F (oneRound (account (n ∷ ns) ws slaves held 0 rounds done k))
   unfolding length-of-pass
   free-pass n ns [] slaves held rounds done k d f =
       let w : k < endingRounds = rw f at (d .within) in
@@ -204,7 +204,7 @@ module _ (R C : ℕ) (F : List Named) where
   ended-stays : (left ws : List ℕ) (slaves : List Named) (held : List ℕ) (end rounds done k : ℕ) → 0 < end →
       oneRound (account left ws slaves held end rounds done k) ≡ account left ws slaves held end rounds done k
   unfolding oneRound
-  ended-stays left ws slaves held end rounds done k h = let n : end ≡ notYet → ⊥ = omega arith in rw (ne-eqb end notYet n)
+  ended-stays left ws slaves held end rounds done k h = let n : end ≡ 0 → ⊥ = omega arith in rw (ne-eqb end 0 n)
 
   -- a round keeps the tally
   pub tally-round : {a : Account} → Tally R C F a → Tally R C F (oneRound a)

@@ -1,2 +1,5 @@
--- Statements of theorems.
+-- Statements of theorems: demand 3, an unknown edition, and the marked cases.
 pub mod Demand
+pub mod Edition
+pub mod Files
+pub mod Cases

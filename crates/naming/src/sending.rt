@@ -13,7 +13,7 @@ ghost use Rattle.file.specs.Inner.Typed.{recordIn, nameIn};
 ghost use Rattle.file.specs.Inner.Accepted.{Placed};
 ghost use Rattle.frame.specs.Rules.Fireworks.{dataFirework};
 ghost use Rattle.cluster.specs.Rules.Bus.{slots};
-ghost use Rattle.cluster.specs.Rules.Round.{dataEffect};
+ghost use Rattle.cluster.specs.Inner.Effects.{dataEffect};
 ghost use Rattle.cluster.specs.Inner.Carried.{Carried};
 ghost use Rattle.cluster.specs.Inner.Duties.{roundData};
 ghost use Rattle.naming.specs.Rules.Rounds.{half, poll, writeHigh, writeLow, sent, atUnnamed};

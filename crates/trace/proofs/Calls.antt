@@ -11,8 +11,7 @@ use lib.Dec.{eqb}
 use borrow.Author.Tests.{eqb-true, eqb-false, eq-eqb, ne-eqb}
 use Rattle.file.specs.Rules.Bytes.{Bytes}
 use Rattle.file.specs.Rules.Order.{firstOf}
-use Rattle.file.specs.Rules.Layout.{offsetWidth, editionPlace}
-use Rattle.file.specs.Rules.Refusals.{traceRefusal}
+use Rattle.file.specs.Rules.Layout.{offsetWidth}
 use Rattle.file.specs.Rules.Results.{Result, refused, done}
 use Rattle.file.specs.Rules.Grounds.{fileGrounds, fileGround}
 use Rattle.file.specs.Inner.Answers.{checkedOf}
@@ -39,11 +38,11 @@ module _ (file t : List ℕ) where
   unfolding traceGround traceGrounds
   file-decides some = joined-here (fileGrounds file) _ (file-numbered file) (λ z. some (sym (file-first file) ∙ z)) ∙ file-first file
 
-  after-file : fileGround file ≡ 0 → traceGround file t ≡ firstOf (record { number = traceRefusal; holds = brokenTrace t } ∷ [])
+  after-file : fileGround file ≡ 0 → traceGround file t ≡ firstOf ((19, brokenTrace t) ∷ [])
   unfolding traceGround traceGrounds
   after-file accepted = joined-next (fileGrounds file) _ (file-numbered file) (file-first file ∙ accepted)
 
-  pub layout-decides : fileGround file ≡ 0 → brokenTrace t ≡ true → traceGround file t ≡ traceRefusal
+  pub layout-decides : fileGround file ≡ 0 → brokenTrace t ≡ true → traceGround file t ≡ 19
   unfolding firstOf
   layout-decides accepted broken = after-file accepted ∙ rw broken
 
@@ -85,10 +84,10 @@ module _ (t : List ℕ) {file places : List ℕ} {a : FileAnswer} (s : Surveyed 
       sym (trace-refused file t (λ z. ground .1 (ground .0 ∙ sym here ∙ z)) ∙ rw (here, ground .0))
 
   module _ (accepted : a ≡ answers.Accepted) {broken : Bool} (is : broken ≡ brokenTrace t) where
-    pub call-broken : broken ≡ true → (refused traceRefusal, file) ≡ traceOn file t
+    pub call-broken : broken ≡ true → (refused 19, file) ≡ traceOn file t
     call-broken e =
-        let here : traceGround file t ≡ traceRefusal = layout-decides file t (survey-accepted s accepted) (sym is ∙ e) in
-        sym (trace-refused file t (λ z. let bad : _≡_ {A = ℕ} traceRefusal 0 = sym here ∙ z in omega (arith, bad)) ∙ rw here)
+        let here : traceGround file t ≡ 19 = layout-decides file t (survey-accepted s accepted) (sym is ∙ e) in
+        sym (trace-refused file t (λ z. let bad : _≡_ {A = ℕ} 19 0 = sym here ∙ z in omega (arith, bad)) ∙ rw here)
 
     pub call-run : {r : Report} {after : List ℕ} → broken ≡ false → TraceSent file t r after → (done r, after) ≡ traceOn file t
     call-run e x = rw (x .report, x .after) (sym (trace-run file t (none-holds file t (survey-accepted s accepted) (sym is ∙ e))))

@@ -20,8 +20,9 @@ use Rattle.frame.specs.Rules.Grounds as frames
 use Rattle.cluster.specs.Rules.Bus.{anyone, maskBelow, senderMask, nobody}
 use Rattle.cluster.specs.Rules.Slaves.{withAddress, nextEpoch, epochRaised, executionOf, dutyBy, pendingDuty, sentTo, slavesAfter}
 use Rattle.cluster.specs.Rules.Multipartner.{sentBy, sentDuring, sentIn, receivedIn, clusterBelow}
-use Rattle.cluster.specs.Rules.Grounds.{shortAnswer, roundBy, noFirework, writePending, lengthFor, wrongLengthOn, wrongCheckOn, noOperationOn, broadcastReadOn, groundsOn}
-use Rattle.cluster.specs.Rules.Round.{addressEffect, dataEffect, multipartnerEffect, effectOf, frameOn, carriedBy, roundGrounds, roundGround, roundOn}
+use Rattle.cluster.specs.Rules.Grounds.{shortAnswer, roundBy, writePending, groundsOn}
+use Rattle.cluster.specs.Inner.Grounds.{noFirework, lengthFor, wrongLengthOn, wrongCheckOn, noOperationOn, broadcastReadOn}
+use Rattle.cluster.specs.Rules.Round.{effectOf, frameOn, roundGround, roundOn}
 use Rattle.trace.specs.Rules.Trace.{frameCount, dataLength, offsetIn, lengthIn, dataPlace, wholeRows, brokenTrace, framesFrom, framesOf}
 use Rattle.trace.specs.Rules.Run.{sent, afterFrames, Report, oneRefused, oneCarried, counted, reportFrom, traceGrounds, traceGround, traceOn}
 
@@ -69,21 +70,21 @@ encoded-again = refl
 
 -- an empty frame is refused by 10
 empty-refused : sent least [] .0 ≡ refused 10
-unfolding encoded-again sent roundOn roundGround roundGrounds shortAnswer groundsOn roundBy noFirework wrongLengthOn wrongCheckOn noOperationOn broadcastReadOn
+unfolding encoded-again sent roundOn roundGround shortAnswer groundsOn roundBy noFirework wrongLengthOn wrongCheckOn noOperationOn broadcastReadOn
 empty-refused = refl
 
 -- an MSA, execute 0x08 record 2 at 0xFF
 address-carried : sent least (0x55 ∷ 0x05 ∷ 0xFF ∷ 0x22 ∷ 0x02 ∷ 0x8F ∷ []) .0 ≡ done 0
-unfolding empty-refused lengthFor roundOf roundIn frames.wrongFrameLength frames.wrongCheck addressCheck checkOf exclusiveOr noOperation broadcastRead frameOn effectOf addressEffect withAddress withEpoch withPending carriedBy senderMask maskBelow nobody anyone
+unfolding empty-refused lengthFor roundOf roundIn frames.wrongFrameLength frames.wrongCheck addressCheck checkOf exclusiveOr noOperation broadcastRead frameOn effectOf withAddress withEpoch withPending senderMask maskBelow nobody anyone
 address-carried = refl
 
 -- an MSD with nothing pending, a multipartner frame
 data-carried : sent least (0x49 ∷ []) .0 ≡ done 0
-unfolding address-carried writePending dataEffect sentTo pendingDuty dutyBy executionOf slavesAfter epochRaised nextEpoch withSlaves
+unfolding address-carried writePending sentTo pendingDuty dutyBy executionOf slavesAfter epochRaised nextEpoch withSlaves
 data-carried = refl
 
 multipartner-carried : sent least (0x78 ∷ []) .0 ≡ done 0
-unfolding data-carried multipartnerEffect sentDuring sentIn sentBy receivedIn clusterBelow
+unfolding data-carried sentDuring sentIn sentBy receivedIn clusterBelow
 multipartner-carried = refl
 
 pub run-examples : RunExamples

@@ -20,7 +20,8 @@ use Rattle.file.proofs.Surveyed.{placed-kept}
 use Rattle.file.proofs.Order.{byCase}
 use Rattle.file.proofs.NumberLaws.{byte-number}
 use Rattle.cluster.specs.Rules.Bus.{slots}
-use Rattle.cluster.specs.Rules.Grounds.{roundBy, frameGround}
+use Rattle.cluster.specs.Rules.Grounds.{roundBy}
+use Rattle.cluster.specs.Inner.Grounds.{frameGround}
 use Rattle.cluster.specs.Rules.Round.{Answer}
 use Rattle.cluster.specs.Inner.Carried.{exchange}
 use Rattle.cluster.specs.Inner.Carried.{Exchanged}

@@ -19,11 +19,12 @@ use Rattle.file.specs.Rules.Grounds.{fileGround}
 use Rattle.file.specs.Inner.Accepted.{Becomes}
 use Rattle.file.proofs.Order.{byCase, clash}
 use Rattle.file.proofs.Bytes.{bytes-part}
-use Rattle.file.proofs.Accepted.{encode-bytes, accepted-becomes}
+use Rattle.file.proofs.Accepted.{accepted-becomes}
 use Rattle.cluster.specs.Rules.Bus.{slots}
-use Rattle.cluster.specs.Rules.Grounds.{shortAnswer, roundBy, noFirework, groundsOn, frameGround}
-use Rattle.cluster.specs.Rules.Round.{Answer, roundGrounds, roundGround, roundOn}
-use Rattle.cluster.proofs.Rounds.{fits-facts, round-facts, round-refused, round-accepted, round-becomes, round-length}
+use Rattle.cluster.specs.Rules.Grounds.{shortAnswer, roundBy, groundsOn}
+use Rattle.cluster.specs.Inner.Grounds.{noFirework, frameGround}
+use Rattle.cluster.specs.Rules.Round.{Answer, roundGround, roundOn}
+use Rattle.cluster.proofs.Rounds.{fits-facts, round-facts, round-refused, round-accepted, round-becomes, round-bytes, round-length}
 use Rattle.frame.specs.Rules.Fireworks.{Round, noRound}
 use Rattle.trace.specs.Rules.Layout.{rowSize}
 use Rattle.trace.specs.Rules.Trace.{dataPlace, offsetIn, lengthIn, framesFrom}
@@ -65,7 +66,7 @@ pub record SameButBuffer (x y : Answer × List ℕ × List ℕ) : Type 0 where
 -- with any two buffers of 64 bytes or more a frame has the same answer and leaves the same file
 module _ (file frame b b′ : List ℕ) (long : slots ≤ length b) (long′ : slots ≤ length b′) where
   same-ground : roundGround file frame b ≡ roundGround file frame b′
-  unfolding roundGround roundGrounds shortAnswer
+  unfolding roundGround shortAnswer
   same-ground = rw (le-ltb (length b) slots long, le-ltb (length b′) slots long′)
 
   pub any-buffer : SameButBuffer (roundOn file frame b) (roundOn file frame b′)
@@ -129,7 +130,7 @@ sent-kept file frame b g fb =
     let fits = eqb-true _ _ e in
     let new = round-becomes file frame buffer b fb fits in
     record {
-      bytes = rw (new .encoded) (encode-bytes _ (new .legal));
+      bytes = round-bytes file frame buffer b fb;
       accepted = new .accepted;
       length = round-length file frame buffer b fb fits;
     })

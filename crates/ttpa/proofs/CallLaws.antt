@@ -39,7 +39,7 @@ use Rattle.naming.specs.declared.run.Started.{Started}
 use Rattle.naming.specs.declared.run.Started.the-variants as starts
 use Rattle.naming.specs.declared.run.Stepped.{Stepped}
 use Rattle.naming.specs.declared.run.Stepped.the-variants as steps
-use Rattle.ttpa.specs.Rules.Calls.{checkCall, partsLeft, readAddressCall, writeAddressCall, writeDataCall, sendersAfter, roundCall, reportAfter, traceCall, wordsOf, positionIn, startWords, startCall, stepSenders, stepWords, stepCall}
+use Rattle.ttpa.specs.Rules.Calls.{lentAfter, checkCall, partBytes, readAddressCall, writeAddressCall, writeDataCall, roundCall, traceCall, wordsOf, positionIn, startCall, stepSenders, stepWords, stepCall}
 
 -- ---- the checker
 
@@ -58,7 +58,7 @@ check-refuses f {why = why} is e =
 -- ---- the reader
 
 pub read-refuses : (f old : List ℕ) {a : AddressReading} {why : Refusal} → readingOf a ≡ readAddress f → a ≡ readings.Refused why → (why .0, old) ≡ readAddressCall f old
-unfolding readAddressCall numberIn partsLeft readingOf
+unfolding readAddressCall numberIn lentAfter partBytes readingOf
 read-refuses f old {why = why} is e =
     let r : refused (why .0) ≡ readAddress f = rw e at is in
     rw (← r)
@@ -67,7 +67,7 @@ pub read-parts :
     (f old : List ℕ) {a : AddressReading} {epoch : ℕ} {name : LogicalName} {file : FileNumber} {operation : Operation} {record′ : RecordNumber} →
     readingOf a ≡ readAddress f → a ≡ readings.Address epoch name file operation record′ →
     (0, epoch ∷ name .0 ∷ file .0 ∷ operation .0 ∷ record′ .0 ∷ []) ≡ readAddressCall f old
-unfolding readAddressCall numberIn partsLeft readingOf
+unfolding readAddressCall numberIn lentAfter partBytes readingOf
 read-parts f old {epoch = epoch} {name = name} {file = file} {operation = operation} {record′ = record′} is e =
     let r : done (parts epoch (name .0) (file .0) (operation .0) (record′ .0)) ≡ readAddress f = rw e at is in
     rw (← r)
@@ -99,13 +99,13 @@ data-written old bytes is e = rw (← is, e)
 
 module _ (file frame answer : List ℕ) (senders : ℕ) {answer′ file′ : List ℕ} (a : RoundAnswer) (is : (answerOf a, answer′, file′) ≡ roundOn file frame answer) where
   pub round-refuses : {why : Refusal} → a ≡ rounds.Refused why → (why .0, senders, answer′, file′) ≡ roundCall file frame answer senders
-  unfolding roundCall numberIn sendersAfter answerOf
+  unfolding roundCall numberIn lentAfter answerOf
   round-refuses {why} e =
       let r : (refused (why .0), answer′, file′) ≡ roundOn file frame answer = rw e at is in
       rw (← r)
 
   pub round-carries : {mask : ℕ} → a ≡ rounds.Carried mask → (0, mask, answer′, file′) ≡ roundCall file frame answer senders
-  unfolding roundCall numberIn sendersAfter answerOf
+  unfolding roundCall numberIn lentAfter answerOf
   round-carries {mask} e =
       let r : (done mask, answer′, file′) ≡ roundOn file frame answer = rw e at is in
       rw (← r)
@@ -114,13 +114,13 @@ module _ (file frame answer : List ℕ) (senders : ℕ) {answer′ file′ : Lis
 
 module _ (file t report : List ℕ) {file′ : List ℕ} (a : TraceAnswer) (is : (tracedOf a, file′) ≡ traceOn file t) where
   pub trace-refuses : {why : Refusal} → a ≡ traces.Refused why → (why .0, report, file′) ≡ traceCall file t report
-  unfolding traceCall numberIn reportAfter tracedOf
+  unfolding traceCall numberIn lentAfter tracedOf
   trace-refuses {why} e =
       let r : (refused (why .0), file′) ≡ traceOn file t = rw e at is in
       rw (← r)
 
   pub trace-runs : {r : Report} {words : List ℕ} → a ≡ traces.Ran r → words ≡ reportWords (reportIn r) → (0, words, file′) ≡ traceCall file t report
-  unfolding traceCall numberIn reportAfter tracedOf
+  unfolding traceCall numberIn lentAfter tracedOf
   trace-runs {r} e same =
       let ran : (done (reportIn r), file′) ≡ traceOn file t = rw e at is in
       rw (← ran, same)
@@ -136,13 +136,13 @@ module _ (file t report : List ℕ) {file′ : List ℕ} (a : TraceAnswer) (is :
 
 module _ (names run : List ℕ) (a : Started) (is : startedOf a ≡ startOver names) where
   pub start-refuses : {why : Refusal} → a ≡ starts.Refused why → (why .0, run) ≡ startCall names run
-  unfolding startCall numberIn startWords startedOf
+  unfolding startCall numberIn lentAfter startedOf
   start-refuses {why} e =
       let r : refused (why .0) ≡ startOver names = rw e at is in
       rw (← r)
 
   pub start-begins : {p : RunPosition} → a ≡ starts.Fresh p → {words : List ℕ} → words ≡ wordsOf (positionOf p) → (0, words) ≡ startCall names run
-  unfolding startCall numberIn startWords startedOf
+  unfolding startCall numberIn lentAfter startedOf
   start-begins {p} e same =
       let r : done (positionOf p) ≡ startOver names = rw e at is in
       rw (← r, same)

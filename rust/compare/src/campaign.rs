@@ -4,6 +4,7 @@ use crate::case::{Call, Outcome};
 use crate::engine::{Engine, Model};
 use crate::random::Random;
 use crate::sort::Sort;
+use crate::tally::Tally;
 use crate::{clusters, inputs, runs, traces};
 use std::collections::BTreeMap;
 
@@ -62,30 +63,16 @@ impl Amounts {
     }
 }
 
-/// The answers that each call has to be seen to give, or the inputs were too tame.
-const ANSWERS: [(&str, &[u8]); 8] = [
-    ("check", &[0, 1, 2, 3, 4, 5, 6, 7, 8]),
-    ("read", &[0, 10, 11, 12, 13, 14]),
-    ("write", &[0, 9, 13, 14, 18]),
-    ("data", &[0, 9]),
-    ("round", &[0, 1, 2, 3, 4, 5, 6, 7, 8, 9, 10, 11, 12, 13, 14]),
-    ("start", &[0, 15, 16]),
-    ("step", &[0, 1, 2, 3, 4, 5, 6, 7, 8, 9, 15, 16, 17]),
-    ("trace", &[0, 1, 2, 3, 4, 5, 6, 7, 8, 19]),
-];
-
 /// Both engines, and the count of what they were asked.
 pub struct Campaign<'a> {
     engine: &'a dyn Engine,
     model: &'a dyn Engine,
     pub passed: u64,
     pub failed: u64,
-    answers: BTreeMap<(&'static str, u8), u64>,
+    pub tally: Tally,
     /// Accepted rounds in which someone sent, by firework.
     heard: BTreeMap<u8, u64>,
     sorts: BTreeMap<Sort, u64>,
-    /// Whole runs that ended "all named", and "names used up".
-    pub ends: [u64; 2],
     /// How many cases of each sort to print.
     sample: u64,
     sampled: BTreeMap<(&'static str, u8, Option<u8>, bool), u64>,
@@ -98,10 +85,9 @@ impl<'a> Campaign<'a> {
             model,
             passed: 0,
             failed: 0,
-            answers: BTreeMap::new(),
+            tally: Tally::default(),
             heard: BTreeMap::new(),
             sorts: BTreeMap::new(),
-            ends: [0; 2],
             sample: 0,
             sampled: BTreeMap::new(),
         }
@@ -146,20 +132,10 @@ impl<'a> Campaign<'a> {
             let slaves = 20 * run % (model::MOST_SLAVES + 1);
             runs::whole_run(self, &mut Random::from_seed(seed ^ 7 ^ (run as u64) << 8), slaves);
         }
-        self.ends_reached();
         self.sorts_reached(&Sort::REACHED, amounts.rounds);
         self.sorts_reached(&Sort::REACHED_BY_TRACES, amounts.traces);
         self.sorts_reached(&Sort::REACHED_BY_RUNS, amounts.runs);
         self.reached();
-    }
-
-    /// How many calls of each kind were made, and how many whole runs.
-    pub fn made(&self) -> BTreeMap<&'static str, u64> {
-        let mut made = BTreeMap::from([("run", self.ends.iter().sum())]);
-        for (&(kind, _), count) in &self.answers {
-            *made.entry(kind).or_insert(0) += count;
-        }
-        made
     }
 
     fn checks(&mut self, amount: usize, random: &mut Random) {
@@ -262,7 +238,7 @@ impl<'a> Campaign<'a> {
     }
 
     fn note(&mut self, call: &Call, expected: &Outcome) {
-        *self.answers.entry((call.kind(), expected.number)).or_insert(0) += 1;
+        self.tally.note(call, expected);
         if let Call::Round { frame, .. } = call {
             if expected.mask() != 0 {
                 *self.heard.entry(frame[0]).or_insert(0) += 1;
@@ -290,15 +266,6 @@ impl<'a> Campaign<'a> {
         }
     }
 
-    /// Runs must have ended in both ways.
-    fn ends_reached(&mut self) {
-        let [all_named, names_used_up] = self.ends;
-        println!("runs ended all named {all_named}, names used up {names_used_up}");
-        if all_named == 0 || names_used_up == 0 {
-            self.differ("runs ended in one way only", "inputs too tame");
-        }
-    }
-
     /// Calls of every sort must have been made, so many at least.
     fn sorts_reached(&mut self, sorts: &[(Sort, usize)], calls: usize) {
         for &(sort, calls_for_one) in sorts {
@@ -311,17 +278,13 @@ impl<'a> Campaign<'a> {
         }
     }
 
-    /// Every answer must have occurred, and someone must have sent in every kind of round.
+    /// Every outcome must have come about and no other, and someone must have sent in every kind of round.
     fn reached(&mut self) {
-        for (kind, numbers) in ANSWERS {
-            let counts: Vec<u64> =
-                numbers.iter().map(|&number| *self.answers.get(&(kind, number)).unwrap_or(&0)).collect();
-            let shown: Vec<String> =
-                numbers.iter().zip(&counts).map(|(n, count)| format!("{n}: {count}")).collect();
-            println!("{kind} answers {}", shown.join(", "));
-            if counts.contains(&0) {
-                self.differ(&format!("{kind} never gave one of its answers"), "inputs too tame");
-            }
+        for outcome in self.tally.missing() {
+            self.differ(&format!("{outcome} never came about"), "inputs too tame");
+        }
+        for outcome in self.tally.impossible() {
+            self.differ(&format!("{outcome} came about"), "no such outcome");
         }
         for firework in inputs::MULTIPARTNER.into_iter().chain([model::MSD]) {
             let count = *self.heard.get(&firework).unwrap_or(&0);

@@ -4,7 +4,7 @@
 //! answer buffer holds EE throughout before the call. A mask or a report that the call leaves alone is shown as 0.
 
 use crate::engine::{Engine, ReportWords, RunWords};
-use std::collections::BTreeMap;
+use crate::tally::Tally;
 use std::fmt;
 
 /// What lent memory holds before a call, so that a byte too many shows.
@@ -220,9 +220,34 @@ impl fmt::Display for Call {
     }
 }
 
-/// A kept case: Ok, or what differs. An engine passes when the line it gives is the line that was kept and
-/// a refusal has left lent memory alone.
-pub fn hold_against(engine: &dyn Engine, line: &str) -> Result<(), String> {
+/// What came of the kept cases of a text.
+#[derive(Default)]
+pub struct Held {
+    /// The calls of the cases that hold.
+    pub tally: Tally,
+    pub passed: u64,
+    /// What differs, one text a case.
+    pub wrong: Vec<String>,
+}
+
+/// Makes the call of every kept case. Listings are no call of an engine and are left out.
+pub fn hold_all(engine: &dyn Engine, text: &str) -> Held {
+    let mut held = Held::default();
+    for line in text.lines().filter(|line| kind_of(line) != LISTING) {
+        match hold_against(engine, line) {
+            Ok((call, outcome)) => {
+                held.tally.note(&call, &outcome);
+                held.passed += 1;
+            }
+            Err(what) => held.wrong.push(what),
+        }
+    }
+    held
+}
+
+/// A kept case: the call and what came of it, or what differs. An engine passes when the line it gives is the line that
+/// was kept and a refusal has left lent memory alone.
+fn hold_against(engine: &dyn Engine, line: &str) -> Result<(Call, Outcome), String> {
     let (left, _) = line.split_once('=').ok_or("a case has a '='")?;
     let call = Call::parse(left).ok_or("no call of the known kinds")?;
     let outcome = call.make(engine);
@@ -230,31 +255,10 @@ pub fn hold_against(engine: &dyn Engine, line: &str) -> Result<(), String> {
     if given != line.trim_end() {
         return Err(format!("expected {line}\n     got {given}"));
     }
-    if outcome.number != 0 && (Outcome { number: 0, ..outcome }) != call.before() {
+    if outcome.number != 0 && (Outcome { number: 0, ..outcome.clone() }) != call.before() {
         return Err(format!("a refusal altered lent memory: {line}"));
     }
-    Ok(())
-}
-
-/// What came of the kept cases of a text.
-pub struct Held<'a> {
-    /// How many calls of each kind were made.
-    pub made: BTreeMap<&'a str, u64>,
-    /// What differs, one text a case.
-    pub wrong: Vec<String>,
-}
-
-/// Makes the call of every kept case. Listings are no call of an engine and are left out.
-pub fn hold_all<'a>(engine: &dyn Engine, text: &'a str) -> Held<'a> {
-    let mut held = Held { made: BTreeMap::new(), wrong: Vec::new() };
-    for line in text.lines() {
-        let kind = kind_of(line);
-        if kind != LISTING {
-            *held.made.entry(kind).or_insert(0) += 1;
-            held.wrong.extend(hold_against(engine, line).err());
-        }
-    }
-    held
+    Ok((call, outcome))
 }
 
 /// The first word of a case.

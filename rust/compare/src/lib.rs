@@ -12,4 +12,5 @@ pub mod inputs;
 pub mod random;
 pub mod runs;
 pub mod sort;
+pub mod tally;
 pub mod traces;

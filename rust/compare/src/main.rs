@@ -2,13 +2,13 @@
 //!
 //! Built with the feature `library` it is the linked library, otherwise the plain program. With `--cases`
 //! it runs kept cases instead; with `--sample` it also prints N cases of each sort. It prints `engine NAME`
-//! first, then `made KIND N` for each kind of call. The last line is `N passed, M failed`; the status is 1
-//! on a difference, and where no call was made.
+//! first, then `made KIND N` for each kind of call and `outcome KIND NUMBER N` for each outcome, as `tally`
+//! names them. The last line is `N passed, M failed`; the status is 1 on a difference, and where no call
+//! was made.
 
 use compare::campaign::{Amounts, Campaign};
 use compare::case::hold_all;
 use compare::engine::{Engine, Model};
-use std::collections::BTreeMap;
 use std::process::ExitCode;
 
 #[cfg(feature = "library")]
@@ -41,7 +41,7 @@ fn main() -> ExitCode {
 fn campaign(amounts: &Amounts, seed: u64, sample: u64) -> (u64, u64) {
     let mut campaign = Campaign::new(ENGINE, &Model).with_sample(sample);
     campaign.all(amounts, seed);
-    print_made(&campaign.made());
+    campaign.tally.print();
     (campaign.passed, campaign.failed)
 }
 
@@ -55,11 +55,6 @@ fn cases(path: &str) -> (u64, u64) {
     };
     let held = hold_all(ENGINE, &text);
     held.wrong.iter().for_each(|what| println!("{what}"));
-    print_made(&held.made);
-    let failed = held.wrong.len() as u64;
-    (held.made.values().sum::<u64>() - failed, failed)
-}
-
-fn print_made(made: &BTreeMap<&str, u64>) {
-    made.iter().for_each(|(kind, count)| println!("made {kind} {count}"));
+    held.tally.print();
+    (held.passed, held.wrong.len() as u64)
 }

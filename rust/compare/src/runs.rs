@@ -39,7 +39,7 @@ pub fn whole_run(campaign: &mut Campaign, random: &mut Random, slaves: usize) {
     }
     // A step of an ended run alters nothing.
     whole.step(campaign, 64);
-    campaign.ends[usize::from(figures.end == End::NamesUsedUp)] += 1;
+    campaign.tally.note_run(figures.end);
     let [end, .., rounds, comparisons] = whole.run;
     if (end, rounds, comparisons) != (figures.end.number(), figures.rounds, figures.comparisons) {
         whole.report(campaign, "the closed figures");

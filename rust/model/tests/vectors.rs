@@ -11,7 +11,7 @@ const EVERY_KIND_WITH_TRACES: [&str; 9] =
 /// The kinds of the cases in a text, all of which have to hold.
 fn kinds_that_hold(text: &str) -> Vec<&str> {
     let held = hold_all(&Model, text);
-    let mut kinds: Vec<&str> = held.made.into_keys().collect();
+    let mut kinds: Vec<&str> = held.tally.kinds().into_keys().collect();
     let mut wrong = held.wrong;
     for line in text.lines().filter(|line| kind_of(line) == LISTING) {
         kinds.push(LISTING);

@@ -83,7 +83,7 @@ fn the_safe_functions_give_the_kept_results() {
         include_str!("../../model/tests/data/request-03.txt"),
     ] {
         let held = hold_all(&Wrapper, text);
-        assert!(!held.made.is_empty());
+        assert!(held.passed > 0);
         assert_eq!(held.wrong, [""; 0]);
     }
 }

@@ -10,6 +10,7 @@ use Rattle.cluster.specs.Rules.Round.{Answer}
 use Rattle.cluster.specs.Inner.Duties.{dataIn}
 
 -- to a frame: document 01's number, or the mask
+-- "If an answer is an enum, a definition gives this paper's number and values for each of its cases. The promises use this definition."
 unfoldable pub answerOf : RoundAnswer → Answer
 answerOf (answers.Refused why) = refused (why .0)
 answerOf (answers.Carried mask) = done mask

@@ -11,10 +11,10 @@ use Rattle.file.specs.Rules.Results.{refused}
 use Rattle.file.specs.Rules.Cluster.{Slave, Cluster}
 use Rattle.file.specs.Rules.Changes.{withSlaves}
 use Rattle.file.specs.Inner.Accepted.{Becomes}
-use Rattle.frame.specs.Rules.Frames.{fireworkPlace}
-use Rattle.cluster.specs.Rules.Grounds.{frameGround}
-use Rattle.cluster.specs.Rules.Bus.{Senders, slots, firstSlot, anyone, senderMask, answerBytes, answerIn}
-use Rattle.cluster.specs.Rules.Round.{Effect, frameOn, Answer, carriedBy, bufferBy}
+use Rattle.cluster.specs.Inner.Grounds.{frameGround}
+use Rattle.cluster.specs.Rules.Bus.{Senders, slots, anyone, senderMask, answerBytes, answerIn}
+use Rattle.cluster.specs.Rules.Round.{Effect, frameOn, Answer}
+use Rattle.cluster.specs.Inner.Effects.{carriedBy, bufferBy}
 
 -- an accepted frame carried out: the mask, the buffer and the file
 pub record Carried (effect : Effect) (firework : ℕ) (old new : List ℕ) (mask : ℕ) (file : List ℕ) : Type 0 where
@@ -27,7 +27,7 @@ unfoldable pub exchange : Cluster → List ℕ → List ℕ → Answer × List �
 exchange c frame buffer =
     let ground = frameGround c frame in
     let effect = frameOn c frame in
-    cond (eqb ground 0) (carriedBy effect, bufferBy effect (getD frame fireworkPlace 0) buffer, effect .after) (refused ground, buffer, c)
+    cond (eqb ground 0) (carriedBy effect, bufferBy effect (getD frame 0 0) buffer, effect .after) (refused ground, buffer, c)
 
 -- one frame of any bytes on an accepted file: answer, buffer and file are those of `exchange`
 pub record Exchanged (c : Cluster) (frame old new : List ℕ) (answer : Answer) (file : List ℕ) : Type 0 where
@@ -37,7 +37,7 @@ pub record Exchanged (c : Cluster) (frame old new : List ℕ) (answer : Answer) 
 
 -- someone sends in each of the slots 1 to last, and in no other
 unfoldable pub sendersTo : ℕ → Senders
-sendersTo last slot = cond (both (leb firstSlot slot) (leb slot last)) (0 ∷ []) []
+sendersTo last slot = cond (both (leb 1 slot) (leb slot last)) (0 ∷ []) []
 
 -- a sender's bytes joined into a buffer from a place on
 unfoldable pub said : List ℕ → ℕ → List ℕ → List ℕ
@@ -59,7 +59,7 @@ reachOf last (b ∷ bs) = length (b ∷ bs)
 
 -- one slave's part in a read or a compare: its reply joined into the buffer
 pub record Replied (reply old new : List ℕ) (last next : ℕ) : Type 0 where
-  pub buffer : new ≡ said old firstSlot reply
+  pub buffer : new ≡ said old 1 reply
   pub reach : next ≡ reachOf last reply
 
 -- the cluster with the slave at an index replaced

@@ -6,7 +6,7 @@ use mathlib.Core.Bool.{Bool, not, cond}
 use lib.Dec.{leb}
 use Rattle.file.specs.Rules.Order.{both}
 use Rattle.cluster.specs.Rules.Bus.{slots}
-use Rattle.cluster.specs.Rules.Entries.{Entry, alignValues, receive, send, receiveSync, receiveSpeedup, sendSpeedup, endOfRound, executeAndEnd, receives, sends, ends}
+use Rattle.cluster.specs.Rules.Entries.{Entry, receives, sends, ends}
 use Rattle.cluster.specs.declared.entry.Entry as Code
 use Rattle.cluster.specs.declared.entry.EntryOperation.{EntryOperation}
 use Rattle.cluster.specs.declared.entry.EntryOperation.the-variants.{Receive, Send, ReceiveSync, Execute, ReceiveSpeedup, SendSpeedup, EndOfRound, ExecuteAndEnd, ReceiveMux4, SendMux4, ReceiveMux8, SendMux8, ReceiveSpeedupMux4, SendSpeedupMux4, ReceiveMux8High, SendMux8High}
@@ -48,14 +48,14 @@ abbrev pub firstMultiplexed : ℕ
 firstMultiplexed = receiveMux4
 
 unfoldable pub codeOf : EntryOperation → ℕ
-codeOf Receive = receive
-codeOf Send = send
-codeOf ReceiveSync = receiveSync
+codeOf Receive = 0
+codeOf Send = 1
+codeOf ReceiveSync = 2
 codeOf Execute = execute
-codeOf ReceiveSpeedup = receiveSpeedup
-codeOf SendSpeedup = sendSpeedup
-codeOf EndOfRound = endOfRound
-codeOf ExecuteAndEnd = executeAndEnd
+codeOf ReceiveSpeedup = 4
+codeOf SendSpeedup = 5
+codeOf EndOfRound = 6
+codeOf ExecuteAndEnd = 7
 codeOf (ReceiveMux4 m) = receiveMux4
 codeOf (SendMux4 m) = sendMux4
 codeOf (ReceiveMux8 m) = receiveMux8
@@ -118,7 +118,7 @@ evaluated e =
 
 -- a slot of the round that the entry reaches: its byte place is small
 pub record Reaches (e : Code.Entry) (slot : ℕ) : Type 0 where
-  pub align : e .address .align < alignValues
+  pub align : e .address .align < 4
   pub begun : e .slot ≤ slot
   pub inRound : slot < slots
 

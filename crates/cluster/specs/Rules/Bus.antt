@@ -13,18 +13,15 @@ joined bus [] = bus
 joined bus (b ∷ bs) = joined (bitAnd bus b) bs
 
 -- "each slot's byte, 0xFF where nobody sent"
-abbrev pub silentByte : ℕ
-silentByte = 0xFF
-
 unfoldable pub busByte : List ℕ → ℕ
-busByte bytes = joined silentByte bytes
+busByte bytes = joined 0xFF bytes
 
 -- 1 where someone sent, 0 where nobody did
 unfoldable pub anyone : List ℕ → ℕ
 anyone [] = 0
 anyone (b ∷ bs) = 1
 
--- "a 64-bit number whose bit s is set exactly when someone sent in slot s", of the slots below n
+-- "The answer holds a 64-bit number whose bit s is set exactly when someone sent in slot s": of the slots below n
 unfoldable pub maskBelow : Senders → ℕ → ℕ
 maskBelow r zero = 0
 maskBelow r (suc n) = anyone (r n) * 2 ^ n + maskBelow r n
@@ -32,9 +29,6 @@ maskBelow r (suc n) = anyone (r n) * 2 ^ n + maskBelow r n
 -- slots 0 to 63; slot 0 is the firework's
 abbrev pub slots : ℕ
 slots = 64
-
-abbrev pub firstSlot : ℕ
-firstSlot = 1
 
 unfoldable pub senderMask : Senders → ℕ
 senderMask r = maskBelow r slots
@@ -46,7 +40,7 @@ slotBytes r s (suc n) = busByte (r s) ∷ slotBytes r (suc s) n
 
 -- "the buffer's first 64 bytes become the firework, then each slot's byte, 0xFF where nobody sent"
 unfoldable pub answerBytes : ℕ → Senders → List ℕ
-answerBytes firework r = firework ∷ slotBytes r firstSlot (slots - firstSlot)
+answerBytes firework r = firework ∷ slotBytes r 1 (slots - 1)
 
 -- "Past the bytes a call writes, a buffer keeps its content."
 unfoldable pub answerIn : List ℕ → List ℕ → List ℕ

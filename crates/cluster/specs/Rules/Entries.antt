@@ -8,8 +8,8 @@ use Rattle.file.specs.Rules.Order.{both, either}
 use Rattle.file.specs.Rules.Layout.{recordSize}
 use Rattle.file.specs.Rules.Cluster.{lastRecord}
 
--- "byte 0 file number (six high bits) and align; byte 1 record; byte 2 operation (four high bits) and length minus one; byte 3
--- multiplex (two high bits) and start slot"
+-- "From record 1, each record is an entry, its places chosen here: byte 0 file number (six high bits) and align; byte 1 record;
+-- byte 2 operation (four high bits) and length minus one; byte 3 multiplex (two high bits) and start slot."
 pub record Entry : Type 0 where
   pub file : ℕ
   pub align : ℕ
@@ -19,27 +19,9 @@ pub record Entry : Type 0 where
   pub multiplex : ℕ
   pub start : ℕ
 
--- how many values the low bits of bytes 0, 2 and 3 have
-abbrev pub alignValues : ℕ
-alignValues = 4
-
-abbrev pub lengthValues : ℕ
-lengthValues = 16
-
-abbrev pub startValues : ℕ
-startValues = 64
-
+-- the low bits of bytes 0, 2 and 3 are two, four and six
 unfoldable pub entryOf : ℕ → ℕ → ℕ → ℕ → Entry
-entryOf b₀ b₁ b₂ b₃ =
-    record {
-      file = b₀ / alignValues;
-      align = b₀ % alignValues;
-      «record» = b₁;
-      operation = b₂ / lengthValues;
-      length = b₂ % lengthValues + 1;
-      multiplex = b₃ / startValues;
-      start = b₃ % startValues;
-    }
+entryOf b₀ b₁ b₂ b₃ = record { file = b₀ / 4; align = b₀ % 4; «record» = b₁; operation = b₂ / 16; length = b₂ % 16 + 1; multiplex = b₃ / 64; start = b₃ % 64 }
 
 -- the entry of the four bytes from a place on
 unfoldable pub entryThere : List ℕ → ℕ → Entry
@@ -49,43 +31,21 @@ entryThere bytes at = entryOf (getD bytes at 0) (getD bytes (at + 1) 0) (getD by
 unfoldable pub entryAt : List ℕ → ℕ → Entry
 entryAt rodl k = entryThere rodl (recordSize * k)
 
--- "Operations are those of 002, table 4: 0, 2, 4 receive; 1, 5 send; 6, 7 end; 3 and 8 to 15 cover their slots and do nothing.": the
--- codes of those that do something
-abbrev pub receive : ℕ
-receive = 0
-
-abbrev pub send : ℕ
-send = 1
-
-abbrev pub receiveSync : ℕ
-receiveSync = 2
-
-abbrev pub receiveSpeedup : ℕ
-receiveSpeedup = 4
-
-abbrev pub sendSpeedup : ℕ
-sendSpeedup = 5
-
-abbrev pub endOfRound : ℕ
-endOfRound = 6
-
-abbrev pub executeAndEnd : ℕ
-executeAndEnd = 7
-
+-- "Operations are those of 002, table 4: 0, 2, 4 receive; 1, 5 send; 6, 7 end; 3 and 8 to 15 cover their slots and do nothing."
 unfoldable pub receives : ℕ → Bool
-receives operation = either (eqb operation receive) (either (eqb operation receiveSync) (eqb operation receiveSpeedup))
+receives operation = either (eqb operation 0) (either (eqb operation 2) (eqb operation 4))
 
 unfoldable pub sends : ℕ → Bool
-sends operation = either (eqb operation send) (eqb operation sendSpeedup)
+sends operation = either (eqb operation 1) (eqb operation 5)
 
 unfoldable pub ends : ℕ → Bool
-ends operation = either (eqb operation endOfRound) (eqb operation executeAndEnd)
+ends operation = either (eqb operation 6) (eqb operation 7)
 
 -- the entry covers the slots from its start, as many as its length
 unfoldable pub covers : Entry → ℕ → Bool
 covers e slot = both (leb (e .start) slot) (ltb slot (e .start + e .length))
 
--- "the first entry before the end that covers it acts", of n records from k on
+-- "Slots 1 to 63 run in order; in each, the first entry before the end that covers it acts.": of n records from k on
 pub data Acting : Type 0 where
   noEntry : Acting
   acts : Entry → Acting
@@ -97,11 +57,8 @@ actingFrom rodl slot k (suc n) =
     cond (ends (entryAt rodl k .operation)) noEntry (cond (covers (entryAt rodl k) slot) (acts (entryAt rodl k)) rest)
 
 -- "From record 1, each record is an entry"
-abbrev pub firstEntry : ℕ
-firstEntry = 1
-
 unfoldable pub acting : List ℕ → ℕ → Acting
-acting rodl slot = actingFrom rodl slot firstEntry (lastRecord rodl)
+acting rodl slot = actingFrom rodl slot 1 (lastRecord rodl)
 
 -- "The byte place is 4 × record + align + (slot − start)."
 unfoldable pub bytePlace : Entry → ℕ → ℕ

@@ -24,18 +24,11 @@ within s e slot = ltb (bytePlace e slot) (length (bytesIn s (e .file)))
 -- where an entry sends from
 unfoldable pub sendPlace : Slave → ℕ → Acting → SlaveByte
 sendPlace s slot noEntry = nowhere
-sendPlace s slot (acts e) =
-    cond (both (sends (e .operation)) (within s e slot)) (byteOf (e .file) (bytePlace e slot)) nowhere
+sendPlace s slot (acts e) = cond (both (sends (e .operation)) (within s e slot)) (byteOf (e .file) (bytePlace e slot)) nowhere
 
 -- "a receive stores only in files 0x10 to 0x3C, outside record 0x00"
-abbrev pub firstStored : ℕ
-firstStored = 0x10
-
-abbrev pub lastStored : ℕ
-lastStored = 0x3C
-
 unfoldable pub mayStore : Entry → ℕ → Bool
-mayStore e slot = both (leb firstStored (e .file)) (both (leb (e .file) lastStored) (leb recordSize (bytePlace e slot)))
+mayStore e slot = both (leb 0x10 (e .file)) (both (leb (e .file) 0x3C) (leb recordSize (bytePlace e slot)))
 
 -- where an entry stores
 unfoldable pub storePlace : Slave → ℕ → Acting → SlaveByte
@@ -65,7 +58,7 @@ unfoldable pub sentBy : ℕ → ℕ → List Slave → List ℕ
 sentBy round slot [] = []
 sentBy round slot (s ∷ ss) = byteThere s (sendsFrom round slot s) ++ sentBy round slot ss
 
--- "Slots 1 to 63 run in order": nobody sends in slot 0
+-- "Slots 1 to 63 run in order": nobody sends in slot 0, "bit 0 is never set"
 unfoldable pub sentIn : ℕ → ℕ → Cluster → List ℕ
 sentIn round zero c = []
 sentIn round (suc slot) c = sentBy round (suc slot) (c .slaves)
@@ -77,10 +70,10 @@ receivedIn round slot c (b ∷ bs) =
     withSlaves c (map (λ (s : Slave). storedThere s (storesAt round slot s) (busByte (b ∷ bs))) (c .slaves))
 
 -- the cluster after the slots below n
+-- "Senders read first, then receivers store, if someone sent."
 unfoldable pub clusterBelow : ℕ → Cluster → ℕ → Cluster
 clusterBelow round c zero = c
-clusterBelow round c (suc n) =
-    let before = clusterBelow round c n in receivedIn round n before (sentIn round n before)
+clusterBelow round c (suc n) = let before = clusterBelow round c n in receivedIn round n before (sentIn round n before)
 
 -- who sends in each slot
 unfoldable pub sentDuring : ℕ → Cluster → Senders

@@ -5,7 +5,7 @@ use mathlib.Core.Bool.{Bool, cond, not}
 use lib.ListN.{take, drop}
 use lib.Dec.{eqb, leb}
 use Rattle.file.specs.Rules.Order.{both}
-use Rattle.file.specs.Rules.Layout.{pendingFlag, recordSize, namesRecord, logicalNamePlace, comparisonHighRecord}
+use Rattle.file.specs.Rules.Layout.{pendingFlag, recordSize}
 use Rattle.file.specs.Rules.Cluster.{Slave, Cluster, configuration, documentation, hasRecord, recordOf, physicalName, newLogicalName, logicalName, comparisonValue, unnamed, broadcast, fileNumberOf, operationOf, readOperation, writeOperation, executeOperation}
 use Rattle.file.specs.Rules.Changes.{putInSlave, withSlaves, withEpoch, withPending}
 use Rattle.frame.specs.Rules.Check.{dataCheck}
@@ -17,11 +17,8 @@ unfoldable pub withAddress : Cluster → ℕ → ℕ → ℕ → ℕ → Cluster
 withAddress c pb0 pb1 pb2 pb3 = withPending (withEpoch c pb0) pendingFlag pb1 pb2 pb3
 
 -- "Any other round first adds 1 to the epoch, 255 going to 0."
-abbrev pub epochs : ℕ
-epochs = 256
-
 unfoldable pub nextEpoch : ℕ → ℕ
-nextEpoch epoch = (epoch + 1) % epochs
+nextEpoch epoch = (epoch + 1) % 256
 
 unfoldable pub epochRaised : Cluster → Cluster
 epochRaised c = withEpoch c (nextEpoch (c .epoch))
@@ -30,17 +27,13 @@ epochRaised c = withEpoch c (nextEpoch (c .epoch))
 -- nothing that a slave does something for
 pub data Duty : Type 0 where
   nothing : Duty
-  reading : ℕ → ℕ → ℕ → Duty
-  writing : ℕ → ℕ → ℕ → Duty
-  comparing : ℕ → Duty
-  baptizing : ℕ → Duty
+  reading writing : ℕ → ℕ → ℕ → Duty
+  comparing baptizing : ℕ → Duty
 
 -- "Execute 0x08 record 2", "Record 1", "Any other: nothing."
 unfoldable pub executionOf : ℕ → ℕ → ℕ → Duty
 executionOf name n r =
-    cond (eqb n configuration)
-    (cond (eqb r comparisonHighRecord) (comparing name) (cond (eqb r namesRecord) (baptizing name) nothing))
-    nothing
+    cond (eqb n configuration) (cond (eqb r 2) (comparing name) (cond (eqb r 1) (baptizing name) nothing)) nothing
 
 -- the operation of a logical name, PB2 and PB3
 unfoldable pub dutyBy : ℕ → ℕ → ℕ → Duty
@@ -60,8 +53,7 @@ isUnnamed s = eqb (logicalName s) unnamed
 
 -- "Addressed are: at 0xFF the unnamed, at 0x00 all others, else those of that logical name": a slave by its own logical name
 unfoldable pub addresses : ℕ → ℕ → Bool
-addresses name own =
-    cond (eqb name unnamed) (eqb own unnamed) (cond (eqb name broadcast) (not (eqb own unnamed)) (eqb own name))
+addresses name own = cond (eqb name unnamed) (eqb own unnamed) (cond (eqb name broadcast) (not (eqb own unnamed)) (eqb own name))
 
 unfoldable pub addressed : ℕ → Slave → Bool
 addressed name s = addresses name (logicalName s)
@@ -77,18 +69,14 @@ unfoldable pub readReply : List ℕ → List ℕ
 readReply bytes = bytes ++ (dataCheck bytes ∷ [])
 
 -- "Execute 0x08 record 2: addressed slaves with physical name at least IDCV send 0x00 in slot 1, but none at 0x00."
-abbrev pub compareReply : ℕ
-compareReply = 0x00
-
 unfoldable pub answersCompare : ℕ → Slave → Bool
-answersCompare name s =
-    both (not (eqb name broadcast)) (both (addressed name s) (leb (comparisonValue s) (physicalName s)))
+answersCompare name s = both (not (eqb name broadcast)) (both (addressed name s) (leb (comparisonValue s) (physicalName s)))
 
 unfoldable pub replyTo : Duty → Slave → List ℕ
 replyTo nothing s = []
 replyTo (reading name n r) s = cond (answersRead name n r s) (readReply (recordOf s n r)) []
 replyTo (writing name n r) s = []
-replyTo (comparing name) s = cond (answersCompare name s) (compareReply ∷ []) []
+replyTo (comparing name) s = cond (answersCompare name s) (0x00 ∷ []) []
 replyTo (baptizing name) s = []
 
 -- the byte of such a reply in a slot
@@ -97,6 +85,7 @@ inSlot reply zero = []
 inSlot reply (suc k) = take 1 (drop k reply)
 
 -- the bytes that the slaves send in a slot
+-- "Only slaves count as senders; bit 0 is never set.": no other bytes than theirs, and `inSlot` has none in slot 0
 unfoldable pub sentTo : Duty → List Slave → ℕ → List ℕ
 sentTo o [] slot = []
 sentTo o (s ∷ ss) slot = inSlot (replyTo o s) slot ++ sentTo o ss slot
@@ -109,21 +98,19 @@ replaced s n k [] = s
 replaced s n k (b ∷ bs) = replaced (putInSlave s n k b) n (suc k) bs
 
 -- "Write: addressed slaves that have the record replace all four bytes, except in 0x3D and in any record 0x00."
-abbrev pub headerRecord : ℕ
-headerRecord = 0x00
-
 unfoldable pub mayWrite : ℕ → ℕ → Bool
-mayWrite n r = both (not (eqb n documentation)) (not (eqb r headerRecord))
+mayWrite n r = both (not (eqb n documentation)) (not (eqb r 0x00))
 
+-- "The sentence of 001 that writes ignore the logical name is read here as: unnamed slaves take writes at 0xFF."
 unfoldable pub takesWrite : ℕ → ℕ → ℕ → Slave → Bool
 takesWrite name n r s = both (addressed name s) (both (hasRecord s n r) (mayWrite n r))
 
--- "Record 1: those with physical name equal to IDCV take the new logical name."
+-- "Record 1: those with physical name equal to IDCV take the new logical name.", which record 1 of 0x08 holds in byte 3
 unfoldable pub takesName : ℕ → Slave → Bool
 takesName name s = both (addressed name s) (eqb (physicalName s) (comparisonValue s))
 
 unfoldable pub named : Slave → Slave
-named s = putInSlave s configuration logicalNamePlace (newLogicalName s)
+named s = putInSlave s configuration (recordSize + 3) (newLogicalName s)
 
 unfoldable pub slaveAfter : Duty → List ℕ → Slave → Slave
 slaveAfter nothing bytes s = s

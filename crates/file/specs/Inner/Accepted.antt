@@ -6,7 +6,8 @@ use mathlib.Core.Bool.{Bool, cond}
 use lib.ListN.{length, getD}
 use lib.Dec.{eqb, leb}
 use Rattle.file.specs.Rules.Order.{both}
-use Rattle.file.specs.Rules.Layout.{recordSize, neededDocumentation}
+use Rattle.file.specs.Rules.Layout.{recordSize}
+use Rattle.file.specs.Inner.Layout.{neededDocumentation}
 use Rattle.file.specs.Rules.Cluster.{Cluster, bytesIn, hasRecord, configuration, documentation, fileNumberOf, operationOf}
 use Rattle.file.specs.Rules.Encode.{encode}
 use Rattle.file.specs.Rules.Decode.{decode}

@@ -8,6 +8,7 @@ use Rattle.file.specs.declared.readers.RecordPlace.the-variants.{At, NoR
 use Rattle.file.specs.declared.survey.FileAnswer.{FileAnswer}
 use Rattle.file.specs.declared.survey.FileAnswer.the-variants.{Accepted, Refused}
 
+-- "If an answer is an enum, a definition gives this paper's number and values for each of its cases. The promises use this definition."
 unfoldable pub checkedOf : FileAnswer → Result (Unit {0})
 checkedOf Accepted = done tt
 checkedOf (Refused r) = refused (r .0)

@@ -6,9 +6,9 @@ use mathlib.Core.Bool.{Bool, true, false, cond}
 use lib.ListN.{length, getD, take}
 use lib.Dec.{eqb, leb}
 use Rattle.file.specs.Rules.Order.{firstOf, both}
-use Rattle.file.specs.Rules.Refusals.{neededFileRefusal, physicalNamesRefusal}
-use Rattle.file.specs.Rules.Layout.{offsetWidth, countPlace, headerSize, entrySize, fileCountPlace, recordCountPlace, fileOffsetPlace}
-use Rattle.file.specs.Rules.Layout.{fillPlace, fillLength, maxSlaves, maxFileNumber, minRecord, neededConfiguration, neededDocumentation, maxLength, physicalNamePlace, longWidth}
+use Rattle.file.specs.Rules.Layout.{offsetWidth, headerSize, entrySize}
+use Rattle.file.specs.Rules.Layout.{fillLength, maxSlaves, maxLength}
+use Rattle.file.specs.Inner.Layout.{neededConfiguration, neededDocumentation, physicalNamePlace, longWidth}
 use Rattle.file.specs.Rules.Cluster.{configuration, documentation}
 use Rattle.file.specs.Rules.Bytes.{All, numberOf, part, allZero}
 use Rattle.file.specs.Rules.Decode.{offsetAt, fileSize}
@@ -42,13 +42,13 @@ pub record HeaderChecked (f : List ℕ) (n : ℕ) : Type 0 where
 
 -- the directory entry at d states file n with at least so many records
 unfoldable pub states : List ℕ → ℕ → ℕ → ℕ → Bool
-states f n least d = both (eqb (getD f d 0) n) (leb least (getD f (d + recordCountPlace) 0))
+states f n least d = both (eqb (getD f d 0) n) (leb least (getD f (d + 1) 0))
 
 -- the place that the last of k directory entries from d on states for it, else the one kept so far
 unfoldable pub statedPlace : ℕ → List ℕ → ℕ → ℕ → ℕ → ℕ → ℕ → ℕ
 statedPlace w f n least kept d zero = kept
 statedPlace w f n least kept d (suc k) =
-    statedPlace w f n least (cond (states f n least d) (offsetAt w f (d + fileOffsetPlace w)) kept) (d + entrySize w) k
+    statedPlace w f n least (cond (states f n least d) (offsetAt w f (d + w)) kept) (d + entrySize w) k
 
 -- a walk as the code returns it
 unfoldable pub walkOf : Bool → ℕ → Walk
@@ -60,12 +60,12 @@ walkOf false place = broken
 unfoldable pub nextEntry : ℕ → List ℕ → ℕ → ℕ → ℕ → Bool
 nextEntry w f d low place =
     both (leb low (getD f d 0))
-    (both (leb minRecord (getD f (d + recordCountPlace) 0))
-    (both (allZero (part f (d + fillPlace) (fillLength w))) (eqb (offsetAt w f (d + fileOffsetPlace w)) place)))
+    (both (leb 1 (getD f (d + 1) 0))
+    (both (allZero (part f (d + 2) (fillLength w))) (eqb (offsetAt w f (d + w)) place)))
 
 -- And what the last entry says for those before it: file numbers below low are file numbers, and the place is within the bytes.
 unfoldable pub fitsSoFar : List ℕ → ℕ → ℕ → Bool
-fitsSoFar f low place = both (leb low (suc maxFileNumber)) (leb place (length f))
+fitsSoFar f low place = both (leb low (suc 63)) (leb place (length f))
 
 -- the walk of the k entries of the directory at d
 pub record DirectoryWalked (f : List ℕ) (d k : ℕ) (good : Bool) (end : ℕ) : Type 0 where
@@ -79,7 +79,7 @@ pub record Arrives (f : List ℕ) (d k : ℕ) : Type 0 where
 
 -- the place that the slave of the table entry at t states for file n
 unfoldable pub statedIn : ℕ → List ℕ → ℕ → ℕ → ℕ → ℕ
-statedIn w f n least t = statedPlace w f n least 0 (offsetAt w f t) (getD f (t + fileCountPlace w) 0)
+statedIn w f n least t = statedPlace w f n least 0 (offsetAt w f t) (getD f (t + w) 0)
 
 -- the places that k table entries from t on state: of each slave that of 0x08, then that of 0x3D
 unfoldable pub statedPlaces : ℕ → List ℕ → ℕ → ℕ → List ℕ
@@ -114,7 +114,7 @@ pub record PlacesFit (places : List ℕ) : Type 0 where
 pub record WholeWalk (f places : List ℕ) : Type 0 where
   pub header : GoodHeader offsetWidth f
   pub walk : walkFile offsetWidth f ≡ to (length f)
-  pub stated : take (placesEach * getD f countPlace 0) places ≡ statedPlaces offsetWidth f (headerSize offsetWidth) (getD f countPlace 0)
+  pub stated : take (placesEach * getD f 3 0) places ≡ statedPlaces offsetWidth f (headerSize offsetWidth) (getD f 3 0)
 
 -- the layout is broken, or walked whole
 pub record BodyWalked (f : List ℕ) (good : Bool) (places : List ℕ) : Type 0 where
@@ -123,14 +123,14 @@ pub record BodyWalked (f : List ℕ) (good : Bool) (places : List ℕ) : Type 0 
 
 -- the first of grounds 7 and 8 that holds
 unfoldable pub slavesGround : List ℕ → ℕ
-slavesGround f = firstOf (record { number = neededFileRefusal; holds = lacksNeeded offsetWidth f } ∷ record { number = physicalNamesRefusal; holds = equalPhysicalNames offsetWidth f } ∷ [])
+slavesGround f = firstOf ((7, lacksNeeded offsetWidth f) ∷ (8, equalPhysicalNames offsetWidth f) ∷ [])
 
 -- what the k directory entries from d on state for file n
 unfoldable pub searchDirectory : ℕ → List ℕ → ℕ → ℕ → ℕ → FoundFile
 searchDirectory w f n d zero = FoundFile.noFile
 searchDirectory w f n d (suc k) =
     cond (eqb (getD f d 0) n)
-    (fileFound (offsetAt w f (d + fileOffsetPlace w)) (fileSize (getD f (d + recordCountPlace) 0)))
+    (fileFound (offsetAt w f (d + w)) (fileSize (getD f (d + 1) 0)))
     (searchDirectory w f n (d + entrySize w) k)
 
 -- ---- the physical names at the stated places of 0x3D

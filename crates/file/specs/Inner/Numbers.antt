@@ -3,7 +3,7 @@ use Prim.Native.Nat.{ℕ, _^_, _<_}
 use mathlib.Core.Path.{_≡_}
 use mathlib.Core.List.{List}
 use lib.ListN.{getD}
-use Rattle.file.specs.Rules.Bytes.{byteValues, Byte, numberOf, part}
+use Rattle.file.specs.Rules.Bytes.{Byte, numberOf, part}
 
 -- b is the byte at a place of the list
 pub record ByteAt (l : List ℕ) (at b : ℕ) : Type 0 where
@@ -13,4 +13,4 @@ pub record ByteAt (l : List ℕ) (at b : ℕ) : Type 0 where
 -- n is the number in the w bytes at a place of the list
 pub record NumberAt (l : List ℕ) (at w n : ℕ) : Type 0 where
   pub is : n ≡ numberOf (part l at w)
-  pub below : n < byteValues ^ w
+  pub below : n < 256 ^ w

@@ -11,24 +11,22 @@ pub data All {A : Type 0} (P : A → Type 0) : List A → Type 0 where
   allNext : {a : A} {l : List A} → P a → All P l → All P (a ∷ l)
 
 -- a byte is a number below 256
-abbrev pub byteValues : ℕ
-byteValues = 256
-
 abbrev pub Byte : ℕ → Type 0
-Byte b = b < byteValues
+Byte b = b < 256
 
 abbrev pub Bytes : List ℕ → Type 0
 Bytes l = All Byte l
 
 -- the number that the bytes spell, most significant byte first
+-- "Bytes with 0x, and the bytes of frames and files in the cases, are hexadecimal, other numbers decimal; several-byte numbers .."
 unfoldable pub numberOf : List ℕ → ℕ
 numberOf [] = 0
-numberOf (b ∷ bs) = b * byteValues ^ length bs + numberOf bs
+numberOf (b ∷ bs) = b * 256 ^ length bs + numberOf bs
 
 -- the number in w bytes, most significant byte first
 unfoldable pub bytesOf : ℕ → ℕ → List ℕ
 bytesOf zero n = []
-bytesOf (suc w) n = n / byteValues ^ w ∷ bytesOf w (n % byteValues ^ w)
+bytesOf (suc w) n = n / 256 ^ w ∷ bytesOf w (n % 256 ^ w)
 
 -- the n elements from a place on
 unfoldable pub part : List ℕ → ℕ → ℕ → List ℕ

@@ -6,9 +6,10 @@ use lib.ListN.{length, getD}
 use lib.Dec.{eqb, leb, ltb}
 use Rattle.file.specs.Rules.Order.{both}
 use Rattle.file.specs.Rules.Bytes.{numberOf, part}
-use Rattle.file.specs.Rules.Layout.{recordSize, longWidth, physicalNamePlace, newLogicalNamePlace, logicalNamePlace, comparisonValuePlace}
+use Rattle.file.specs.Rules.Layout.{recordSize}
 
 -- a file: its number, and its bytes, the four of record 0x00 first
+-- "record 0x00 is its header, of free content"
 pub record File : Type 0 where
   pub number : ℕ
   pub bytes : List ℕ
@@ -53,18 +54,18 @@ recordOf s n r = part (bytesIn s n) (recordSize * r) recordSize
 
 -- "Records 1 and 2 of 0x3D are the physical name: series number, then serial number, 32 bits each"
 unfoldable pub physicalName : Slave → ℕ
-physicalName s = numberOf (part (bytesIn s documentation) physicalNamePlace longWidth)
+physicalName s = numberOf (part (bytesIn s documentation) recordSize (2 * recordSize))
 
--- "record 1 holds the new logical name in byte 2 and the logical name in byte 3"
+-- "In 0x08 (layout of 004): record 1 holds the new logical name in byte 2 and the logical name in byte 3"
 unfoldable pub newLogicalName : Slave → ℕ
-newLogicalName s = getD (bytesIn s configuration) newLogicalNamePlace 0
+newLogicalName s = getD (bytesIn s configuration) (recordSize + 2) 0
 
 unfoldable pub logicalName : Slave → ℕ
-logicalName s = getD (bytesIn s configuration) logicalNamePlace 0
+logicalName s = getD (bytesIn s configuration) (recordSize + 3) 0
 
 -- "records 2 and 3 hold the comparison value IDCV"
 unfoldable pub comparisonValue : Slave → ℕ
-comparisonValue s = numberOf (part (bytesIn s configuration) comparisonValuePlace longWidth)
+comparisonValue s = numberOf (part (bytesIn s configuration) (recordSize * 2) (2 * recordSize))
 
 -- "Logical name 0xFF is "unnamed", 0x00 is broadcast."
 abbrev pub unnamed : ℕ
@@ -73,18 +74,16 @@ unnamed = 0xFF
 abbrev pub broadcast : ℕ
 broadcast = 0x00
 
--- PB2 ("Fireworks and frames"): "file number in the six high bits, operation in the two low. Our values: 0 read, 1 write, 2 execute"
-abbrev pub operationValues : ℕ
-operationValues = 4
-
+-- "The text and figure of 002 differ on PB2; the figure holds: file number in the six high bits, operation in the two low."
+-- "Our values: 0 read, 1 write, 2 execute."
 abbrev pub fileNumberOf : ℕ → ℕ
-fileNumberOf pb2 = pb2 / operationValues
+fileNumberOf pb2 = pb2 / 4
 
 abbrev pub operationOf : ℕ → ℕ
-operationOf pb2 = pb2 % operationValues
+operationOf pb2 = pb2 % 4
 
 unfoldable pub pb2Of : ℕ → ℕ → ℕ
-pb2Of file operation = operationValues * file + operation
+pb2Of file operation = 4 * file + operation
 
 abbrev pub readOperation : ℕ
 readOperation = 0
@@ -96,13 +95,11 @@ abbrev pub executeOperation : ℕ
 executeOperation = 2
 
 -- an operation above these is none: operation 3, or any above it
+-- 13. "An address frame, read or to be written, has operation 3, or above 3 when handed to the writer."
 unfoldable pub noOperation : ℕ → Bool
 noOperation operation = ltb executeOperation operation
 
--- "operation 3", the one that PB2 can hold beside these
-abbrev pub unusedOperation : ℕ
-unusedOperation = 3
-
 -- a read that is addressed to 0x00
+-- 14. "A read, received or to be written, is addressed to 0x00."
 unfoldable pub broadcastRead : ℕ → ℕ → Bool
 broadcastRead operation name = both (eqb operation readOperation) (eqb name broadcast)

@@ -4,7 +4,7 @@ use Prim.Native.Nat.{ℕ, zero, suc, _+_, _*_}
 use mathlib.Core.List.{List, [], _∷_}
 use lib.ListN.{getD}
 use Rattle.file.specs.Rules.Bytes.{numberOf, part}
-use Rattle.file.specs.Rules.Layout.{offsetWidth, countPlace, epochPlace, flagPlace, pendingNamePlace, pendingPB2Place, pendingPB3Place, headerSize, entrySize, fileCountPlace, recordCountPlace, fileOffsetPlace, recordSize}
+use Rattle.file.specs.Rules.Layout.{offsetWidth, headerSize, entrySize, recordSize}
 use Rattle.file.specs.Rules.Cluster.{File, Slave, Cluster}
 
 -- a number of the offset's width at a place
@@ -15,34 +15,27 @@ offsetAt w f at = numberOf (part f at w)
 unfoldable pub fileSize : ℕ → ℕ
 fileSize r = recordSize * (r + 1)
 
--- the file of the directory entry at d
+-- the file of the directory entry at d: its number, its record count behind that, its offset from byte 2 on (w in general)
 unfoldable pub fileAt : ℕ → List ℕ → ℕ → File
-fileAt w f d = record { number = getD f d 0; bytes = part f (offsetAt w f (d + fileOffsetPlace w)) (fileSize (getD f (d + recordCountPlace) 0)) }
+fileAt w f d = record { number = getD f d 0; bytes = part f (offsetAt w f (d + w)) (fileSize (getD f (d + 1) 0)) }
 
 -- the files of the k directory entries from d on
 unfoldable pub filesAt : ℕ → List ℕ → ℕ → ℕ → List File
 filesAt w f d zero = []
 filesAt w f d (suc k) = fileAt w f d ∷ filesAt w f (d + entrySize w) k
 
--- the slave of the table entry at t
+-- the slave of the table entry at t: its directory's offset, its file count behind that
 unfoldable pub slaveAt : ℕ → List ℕ → ℕ → Slave
-slaveAt w f t = record { files = filesAt w f (offsetAt w f t) (getD f (t + fileCountPlace w) 0) }
+slaveAt w f t = record { files = filesAt w f (offsetAt w f t) (getD f (t + w) 0) }
 
 -- the slaves of the n table entries from t on
 unfoldable pub slavesAt : ℕ → List ℕ → ℕ → ℕ → List Slave
 slavesAt w f t zero = []
 slavesAt w f t (suc n) = slaveAt w f t ∷ slavesAt w f (t + entrySize w) n
 
+-- bytes 8 to 12 in edition 1 are the epoch, the pending flag, the pending logical name, PB2 and PB3; byte 3 is the slave count
 unfoldable pub decodeAt : ℕ → List ℕ → Cluster
-decodeAt w f =
-    record {
-      epoch = getD f (epochPlace w) 0;
-      flag = getD f (flagPlace w) 0;
-      pendingName = getD f (pendingNamePlace w) 0;
-      pendingPB2 = getD f (pendingPB2Place w) 0;
-      pendingPB3 = getD f (pendingPB3Place w) 0;
-      slaves = slavesAt w f (headerSize w) (getD f countPlace 0);
-    }
+decodeAt w f = record { epoch = getD f (4 + 2 * w) 0; flag = getD f (5 + 2 * w) 0; pendingName = getD f (6 + 2 * w) 0; pendingPB2 = getD f (7 + 2 * w) 0; pendingPB3 = getD f (8 + 2 * w) 0; slaves = slavesAt w f (headerSize w) (getD f 3 0) }
 
 -- edition 1
 unfoldable pub decode : List ℕ → Cluster

@@ -4,7 +4,7 @@ use Prim.Native.Nat.{ℕ, _+_, _*_}
 use mathlib.Core.List.{List, [], _∷_, _++_}
 use lib.ListN.{length, replicate}
 use Rattle.file.specs.Rules.Bytes.{bytesOf}
-use Rattle.file.specs.Rules.Layout.{offsetWidth, mark₀, mark₁, editionOf, headerSize, entrySize, fillLength, zerosLength}
+use Rattle.file.specs.Rules.Layout.{offsetWidth, editionOf, headerSize, entrySize, fillLength, zerosLength}
 use Rattle.file.specs.Rules.Cluster.{File, Slave, Cluster, lastRecord}
 
 -- "A directory entry is 4 bytes: file number 0 to 63, strictly rising; record count r, 1 to 255; offset (2)." (the bounds and the
@@ -59,7 +59,7 @@ fileLength w ss = slavesPlace w ss + slavesSize w ss
 -- file's length; 8 the epoch; 9 the pending flag, 0 or 1; 10 to 12 the pending logical name, PB2 and PB3; 13 to 15 zero"
 unfoldable pub header : ℕ → Cluster → List ℕ
 header w c =
-    (mark₀ ∷ mark₁ ∷ editionOf w ∷ length (c .slaves) ∷ []) ++
+    (0x54 ∷ 0x41 ∷ editionOf w ∷ length (c .slaves) ∷ []) ++
     (bytesOf w (headerSize w) ++
     (bytesOf w (fileLength w (c .slaves)) ++
     ((c .epoch ∷ c .flag ∷ c .pendingName ∷ c .pendingPB2 ∷ c .pendingPB3 ∷ []) ++ replicate (zerosLength w) 0)))
@@ -67,8 +67,7 @@ header w c =
 -- "After the table come, slave by slave, its directory and its files in order, without gap, up to the last byte."
 unfoldable pub encodeAt : ℕ → Cluster → List ℕ
 encodeAt w c =
-    header w c ++
-    (table w (slavesPlace w (c .slaves)) (c .slaves) ++ slavesBytes w (slavesPlace w (c .slaves)) (c .slaves))
+    header w c ++ (table w (slavesPlace w (c .slaves)) (c .slaves) ++ slavesBytes w (slavesPlace w (c .slaves)) (c .slaves))
 
 -- edition 1
 unfoldable pub encode : Cluster → List ℕ

@@ -6,9 +6,8 @@ use lib.ListN.{length, getD}
 use lib.Dec.{eqb, leb, ltb}
 use Rattle.file.specs.Rules.Bytes.{part, allZero}
 use Rattle.file.specs.Rules.Order.{Ground, firstOf, both, either}
-use Rattle.file.specs.Rules.Refusals.{sizeRefusal, markRefusal, editionRefusal, lengthRefusal, headerRefusal, layoutRefusal, neededFileRefusal, physicalNamesRefusal}
-use Rattle.file.specs.Rules.Layout.{offsetWidth, markPlace₀, markPlace₁, mark₀, mark₁, editionOf, editionPlace, countPlace, tablePlace, lengthPlace, flagPlace, pendingFlag, pendingNamePlace, pendingPB2Place, zerosPlace, zerosLength}
-use Rattle.file.specs.Rules.Layout.{headerSize, entrySize, fillLength, fileCountPlace, recordCountPlace, fillPlace, fileOffsetPlace, maxSlaves, maxLength, maxFileNumber, minRecord, neededConfiguration, neededDocumentation}
+use Rattle.file.specs.Rules.Layout.{offsetWidth, editionOf, pendingFlag, zerosLength}
+use Rattle.file.specs.Rules.Layout.{headerSize, entrySize, fillLength, maxSlaves, maxLength}
 use Rattle.file.specs.Rules.Cluster.{Slave, bytesIn, lastRecord, configuration, documentation, physicalName, operationOf, noOperation, broadcastRead}
 use Rattle.file.specs.Rules.Decode.{offsetAt, fileSize, decodeAt}
 use Rattle.file.specs.Rules.Results.{Result, resultOf}
@@ -21,15 +20,15 @@ wrongSize w f = either (ltb (length f) (headerSize w)) (ltb (maxLength w) (lengt
 
 -- 2. "The mark is wrong."
 unfoldable pub wrongMark : List ℕ → Bool
-wrongMark f = not (both (eqb (getD f markPlace₀ 0) mark₀) (eqb (getD f markPlace₁ 0) mark₁))
+wrongMark f = not (both (eqb (getD f 0 0) 0x54) (eqb (getD f 1 0) 0x41))
 
 -- 3. "The edition is not 1."
 unfoldable pub wrongEdition : ℕ → List ℕ → Bool
-wrongEdition w f = not (eqb (getD f editionPlace 0) (editionOf w))
+wrongEdition w f = not (eqb (getD f 2 0) (editionOf w))
 
--- 4. "The length field is not the file's length."
+-- 4. "The length field is not the file's length.": in edition 1 it begins at byte 6
 unfoldable pub wrongLength : ℕ → List ℕ → Bool
-wrongLength w f = not (eqb (offsetAt w f (lengthPlace w)) (length f))
+wrongLength w f = not (eqb (offsetAt w f (4 + w)) (length f))
 
 -- "the flag is above 1, or the flag is 1 with operation 3 or with a broadcast read"
 unfoldable pub wrongPending : ℕ → ℕ → ℕ → Bool
@@ -37,13 +36,14 @@ wrongPending flag name pb2 =
     either (ltb pendingFlag flag)
     (both (eqb flag pendingFlag) (either (noOperation (operationOf pb2)) (broadcastRead (operationOf pb2) name)))
 
--- 5. "The count is above 32, the table offset is not 16, a header zero is not zero, the flag .."
+-- 5. "The count is above 32, the table offset is not 16, a header zero is not zero, the flag ..": the count is byte 3, the offset begins
+-- at byte 4; in edition 1 the zeros begin at byte 13, and the flag, the pending logical name and PB2 are bytes 9, 10 and 11
 unfoldable pub wrongHeader : ℕ → List ℕ → Bool
 wrongHeader w f =
-    either (ltb (maxSlaves w) (getD f countPlace 0))
-    (either (not (eqb (offsetAt w f tablePlace) (headerSize w)))
-    (either (not (allZero (part f (zerosPlace w) (zerosLength w))))
-    (wrongPending (getD f (flagPlace w) 0) (getD f (pendingNamePlace w) 0) (getD f (pendingPB2Place w) 0))))
+    either (ltb (maxSlaves w) (getD f 3 0))
+    (either (not (eqb (offsetAt w f 4) (headerSize w)))
+    (either (not (allZero (part f (9 + 2 * w) (zerosLength w))))
+    (wrongPending (getD f (5 + 2 * w) 0) (getD f (6 + 2 * w) 0) (getD f (7 + 2 * w) 0))))
 
 -- ---- 6: the layout, walked entry by entry along the running place, the one legal value of the next offset
 
@@ -62,29 +62,29 @@ andThen (to place) k = k place
 unfoldable pub goodEntry : ℕ → List ℕ → ℕ → ℕ → ℕ → Bool
 goodEntry w f d low place =
     both (leb low (getD f d 0))
-    (both (leb (getD f d 0) maxFileNumber)
-    (both (leb minRecord (getD f (d + recordCountPlace) 0))
-    (both (allZero (part f (d + fillPlace) (fillLength w)))
-    (both (eqb (offsetAt w f (d + fileOffsetPlace w)) place) (leb (place + fileSize (getD f (d + recordCountPlace) 0)) (length f))))))
+    (both (leb (getD f d 0) 63)
+    (both (leb 1 (getD f (d + 1) 0))
+    (both (allZero (part f (d + 2) (fillLength w)))
+    (both (eqb (offsetAt w f (d + w)) place) (leb (place + fileSize (getD f (d + 1) 0)) (length f))))))
 
 -- k directory entries from d on, file numbers from low on, the next file at the place
 unfoldable pub walkDirectory : ℕ → List ℕ → ℕ → ℕ → ℕ → ℕ → Walk
 walkDirectory w f d low place zero = to place
 walkDirectory w f d low place (suc k) =
-    let rest = walkDirectory w f (d + entrySize w) (suc (getD f d 0)) (place + fileSize (getD f (d + recordCountPlace) 0)) k in
+    let rest = walkDirectory w f (d + entrySize w) (suc (getD f d 0)) (place + fileSize (getD f (d + 1) 0)) k in
     cond (goodEntry w f d low place) rest broken
 
 -- the table entry at t is good: its offset is the place, its zeros are zero, and its directory ends within the bytes
 unfoldable pub goodTableEntry : ℕ → List ℕ → ℕ → ℕ → Bool
 goodTableEntry w f t place =
     both (eqb (offsetAt w f t) place)
-    (both (allZero (part f (t + fileCountPlace w + 1) (suc (fillLength w))))
-    (leb (place + entrySize w * getD f (t + fileCountPlace w) 0) (length f)))
+    (both (allZero (part f (t + w + 1) (suc (fillLength w))))
+    (leb (place + entrySize w * getD f (t + w) 0) (length f)))
 
 -- the slave of the table entry at t, its directory at the place
 unfoldable pub walkSlave : ℕ → List ℕ → ℕ → ℕ → Walk
 walkSlave w f t place =
-    let files = walkDirectory w f place 0 (place + entrySize w * getD f (t + fileCountPlace w) 0) (getD f (t + fileCountPlace w) 0) in
+    let files = walkDirectory w f place 0 (place + entrySize w * getD f (t + w) 0) (getD f (t + w) 0) in
     cond (goodTableEntry w f t place) files broken
 
 -- n slaves from the table entry at t on
@@ -94,11 +94,11 @@ walkSlaves w f t place (suc n) = andThen (walkSlave w f t place) (λ next. walkS
 
 -- the whole file: the table ends within the bytes, and the slaves end with the last byte
 unfoldable pub tableEnd : ℕ → List ℕ → ℕ
-tableEnd w f = headerSize w + entrySize w * getD f countPlace 0
+tableEnd w f = headerSize w + entrySize w * getD f 3 0
 
 unfoldable pub walkFile : ℕ → List ℕ → Walk
 walkFile w f =
-    let slaves = walkSlaves w f (headerSize w) (tableEnd w f) (getD f countPlace 0) in
+    let slaves = walkSlaves w f (headerSize w) (tableEnd w f) (getD f 3 0) in
     cond (leb (tableEnd w f) (length f)) slaves broken
 
 unfoldable pub endsAt : Walk → ℕ → Bool
@@ -113,7 +113,7 @@ brokenLayout w f = not (endsAt (walkFile w f) (length f))
 
 -- "Every slave has file 0x08 (configuration) with r at least 3 and file 0x3D (documentation, 000) with r at least 2."
 unfoldable pub hasNeeded : Slave → Bool
-hasNeeded s = both (leb neededConfiguration (lastRecord (bytesIn s configuration))) (leb neededDocumentation (lastRecord (bytesIn s documentation)))
+hasNeeded s = both (leb 3 (lastRecord (bytesIn s configuration))) (leb 2 (lastRecord (bytesIn s documentation)))
 
 unfoldable pub allHaveNeeded : List Slave → Bool
 allHaveNeeded [] = true
@@ -137,16 +137,11 @@ equalPhysicalNames w f = hasRepeat (map physicalName (decodeAt w f .slaves))
 
 -- ---- "Checked in this order"
 
+-- "Equal logical names do not refuse a file.": none of these grounds is about a logical name
 unfoldable pub fileGroundsAt : ℕ → List ℕ → List Ground
 fileGroundsAt w f =
-    record { number = sizeRefusal; holds = wrongSize w f } ∷
-    record { number = markRefusal; holds = wrongMark f } ∷
-    record { number = editionRefusal; holds = wrongEdition w f } ∷
-    record { number = lengthRefusal; holds = wrongLength w f } ∷
-    record { number = headerRefusal; holds = wrongHeader w f } ∷
-    record { number = layoutRefusal; holds = brokenLayout w f } ∷
-    record { number = neededFileRefusal; holds = lacksNeeded w f } ∷
-    record { number = physicalNamesRefusal; holds = equalPhysicalNames w f } ∷ []
+    (1, wrongSize w f) ∷ (2, wrongMark f) ∷ (3, wrongEdition w f) ∷ (4, wrongLength w f) ∷ (5, wrongHeader w f) ∷
+    (6, brokenLayout w f) ∷ (7, lacksNeeded w f) ∷ (8, equalPhysicalNames w f) ∷ []
 
 -- the number by which a file is refused, 0 where it is accepted
 unfoldable pub fileGroundAt : ℕ → List ℕ → ℕ

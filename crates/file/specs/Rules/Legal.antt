@@ -4,15 +4,15 @@ use mathlib.Core.Path.{_≡_}
 use mathlib.Core.List.{List, [], _∷_, map}
 use lib.ListN.{length}
 use Rattle.file.specs.Rules.Bytes.{Byte, Bytes, All}
-use Rattle.file.specs.Rules.Layout.{offsetWidth, pendingFlag, maxSlaves, maxLength, maxFileNumber, minRecord, maxRecord, neededConfiguration, neededDocumentation, recordSize}
-use Rattle.file.specs.Rules.Cluster.{File, Slave, Cluster, bytesIn, lastRecord, configuration, documentation, physicalName, operationOf, readOperation, unusedOperation, broadcast}
+use Rattle.file.specs.Rules.Layout.{offsetWidth, pendingFlag, maxSlaves, maxLength, recordSize}
+use Rattle.file.specs.Rules.Cluster.{File, Slave, Cluster, bytesIn, lastRecord, configuration, documentation, physicalName, operationOf, readOperation, broadcast}
 use Rattle.file.specs.Rules.Encode.{fileLength}
 
 -- "file number 0 to 63", "record count r, 1 to 255", "A file is 4(r + 1) bytes"
 pub record LegalFile (x : File) : Type 0 where
-  pub number : x .number ≤ maxFileNumber
-  pub some : minRecord ≤ lastRecord (x .bytes)
-  pub most : lastRecord (x .bytes) ≤ maxRecord
+  pub number : x .number ≤ 63
+  pub some : 1 ≤ lastRecord (x .bytes)
+  pub most : lastRecord (x .bytes) ≤ 255
   pub whole : length (x .bytes) ≡ recordSize * (lastRecord (x .bytes) + 1)
   pub bytes : Bytes (x .bytes)
 
@@ -25,8 +25,8 @@ pub data Rising : ℕ → List File → Type 0 where
 pub record LegalSlave (s : Slave) : Type 0 where
   pub rising : Rising 0 (s .files)
   pub files : All LegalFile (s .files)
-  pub configured : neededConfiguration ≤ lastRecord (bytesIn s configuration)
-  pub documented : neededDocumentation ≤ lastRecord (bytesIn s documentation)
+  pub configured : 3 ≤ lastRecord (bytesIn s configuration)
+  pub documented : 2 ≤ lastRecord (bytesIn s documentation)
 
 -- no element of the list stands there twice
 pub data Distinct : List ℕ → Type 0 where
@@ -40,7 +40,7 @@ pub record LegalPending (c : Cluster) : Type 0 where
   pub name : Byte (c .pendingName)
   pub pb2 : Byte (c .pendingPB2)
   pub pb3 : Byte (c .pendingPB3)
-  pub operation : c .flag ≡ pendingFlag → operationOf (c .pendingPB2) ≡ unusedOperation → ⊥
+  pub operation : c .flag ≡ pendingFlag → operationOf (c .pendingPB2) ≡ 3 → ⊥
   pub broadcastRead : c .flag ≡ pendingFlag → operationOf (c .pendingPB2) ≡ readOperation → c .pendingName ≡ broadcast → ⊥
 
 pub record LegalAt (w : ℕ) (c : Cluster) : Type 0 where

@@ -16,6 +16,7 @@ fireworkRound fireworks.Data = msd
 fireworkRound fireworks.Address = msa
 fireworkRound fireworks.None = noRound
 
+-- "If an answer is an enum, a definition gives this paper's number and values for each of its cases. The promises use this definition."
 unfoldable pub readingOf : AddressReading → Result Parts
 readingOf (readings.Refused why) = refused (why .0)
 readingOf (readings.Address epoch name file operation «record») =

@@ -1,5 +1,6 @@
--- The firework lookup as the code makes it (document 02, request 3: "worked out from the byte's bits, with no table and no list of the
--- eight"). Its meaning is the list of document 01, `Rules.Fireworks`; that the two agree is law `by-bits` of `proofs/FireworkBits`.
+-- The firework lookup as the code makes it. Document 02, request 3: "However it is done now, the lookup is to be worked out from the
+-- byte's bits, with no table and no list of the eight." Its meaning is the list of document 01, `Rules.Fireworks`; that the two agree is
+-- law `by-bits` of `proofs/FireworkBits`.
 use Prim.Native.Nat.{ℕ, _*_, _/_, _%_}
 use mathlib.Core.Bool.{cond}
 use lib.Bits.{bitXor}

@@ -9,7 +9,8 @@ unfoldable pub exclusiveOr : List ℕ → ℕ
 exclusiveOr [] = 0
 exclusiveOr (b ∷ bs) = bitXor b (exclusiveOr bs)
 
--- "the exclusive or of its round's firework .. and the four bytes"
+-- document 01: "The check is the exclusive or of the four bytes between firework and check."; by request 1 with the firework
+-- "From now on the check .. is the exclusive or of its round's firework .. and the four bytes."
 unfoldable pub checkOf : ℕ → List ℕ → ℕ
 checkOf firework bytes = exclusiveOr (firework ∷ bytes)
 

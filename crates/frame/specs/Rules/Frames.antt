@@ -10,32 +10,13 @@ use Rattle.frame.specs.Rules.Check.{addressCheck, dataCheck}
 abbrev pub frameSize : ℕ
 frameSize = 6
 
--- the places of a frame's bytes: "0x55, PB0 epoch, PB1 logical name, PB2, PB3 record number, check"
-abbrev pub fireworkPlace : ℕ
-fireworkPlace = 0
-
-abbrev pub pb0Place : ℕ
-pb0Place = 1
-
-abbrev pub pb1Place : ℕ
-pb1Place = 2
-
-abbrev pub pb2Place : ℕ
-pb2Place = 3
-
-abbrev pub pb3Place : ℕ
-pb3Place = 4
-
-abbrev pub checkPlace : ℕ
-checkPlace = 5
-
 -- firework, four bytes, check
 unfoldable pub frameOf : ℕ → List ℕ → ℕ → List ℕ
 frameOf firework bytes check = firework ∷ (bytes ++ (check ∷ []))
 
--- the "four bytes between firework and check"
+-- the "four bytes between firework and check": PB0 to PB3 are bytes 1 to 4, the check is byte 5
 abbrev pub between : List ℕ → List ℕ
-between frame = getD frame pb0Place 0 ∷ getD frame pb1Place 0 ∷ getD frame pb2Place 0 ∷ getD frame pb3Place 0 ∷ []
+between frame = getD frame 1 0 ∷ getD frame 2 0 ∷ getD frame 3 0 ∷ getD frame 4 0 ∷ []
 
 -- "PB0 epoch, PB1 logical name, PB2, PB3 record number"
 unfoldable pub addressBytes : ℕ → ℕ → ℕ → ℕ → ℕ → List ℕ

@@ -3,14 +3,14 @@ use Prim.Native.Nat.{ℕ}
 use mathlib.Core.List.{List, [], _∷_}
 use lib.ListN.{getD}
 use Rattle.file.specs.Rules.Order.{firstOf}
-use Rattle.file.specs.Rules.Refusals.{fireworkRefusal, frameLengthRefusal, checkRefusal, operationRefusal, broadcastReadRefusal}
 use Rattle.file.specs.Rules.Results.{Result, resultOf}
 use Rattle.file.specs.Rules.Cluster.{fileNumberOf, operationOf}
 use Rattle.frame.specs.Rules.Check.{addressCheck}
-use Rattle.frame.specs.Rules.Frames.{frameSize, pb0Place, pb1Place, pb2Place, pb3Place}
+use Rattle.frame.specs.Rules.Frames.{frameSize}
 use Rattle.frame.specs.Rules.Grounds.{noAddress, wrongFrameLength, wrongCheck, noOperation, broadcastRead}
 
 -- what an address frame says
+-- "A file number, a record number and a logical name are never taken for one another.": each by its name here, by its own type in code
 pub record Parts : Type 0 where
   pub epoch : ℕ
   pub name : ℕ
@@ -25,21 +25,14 @@ parts epoch name file operation «record» =
 -- "Checked in this order"
 unfoldable pub readGround : List ℕ → ℕ
 readGround frame =
-    let name = getD frame pb1Place 0 in
-    let operation = operationOf (getD frame pb2Place 0) in
-    firstOf
-    (record { number = fireworkRefusal; holds = noAddress frame } ∷
-    record { number = frameLengthRefusal; holds = wrongFrameLength frameSize frame } ∷
-    record { number = checkRefusal; holds = wrongCheck addressCheck frame } ∷
-    record { number = operationRefusal; holds = noOperation operation } ∷
-    record { number = broadcastReadRefusal; holds = broadcastRead operation name } ∷
-    [])
+    let name = getD frame 2 0 in let operation = operationOf (getD frame 3 0) in
+    firstOf ((10, noAddress frame) ∷ (11, wrongFrameLength frameSize frame) ∷ (12, wrongCheck addressCheck frame) ∷
+    (13, noOperation operation) ∷ (14, broadcastRead operation name) ∷ [])
 
 -- "0x55, PB0 epoch, PB1 logical name, PB2, PB3 record number, check"
 unfoldable pub partsOf : List ℕ → Parts
 partsOf frame =
-    let pb2 = getD frame pb2Place 0 in
-    parts (getD frame pb0Place 0) (getD frame pb1Place 0) (fileNumberOf pb2) (operationOf pb2) (getD frame pb3Place 0)
+    let pb2 = getD frame 3 0 in parts (getD frame 1 0) (getD frame 2 0) (fileNumberOf pb2) (operationOf pb2) (getD frame 4 0)
 
 unfoldable pub readAddress : List ℕ → Result Parts
 readAddress frame = resultOf (readGround frame) (partsOf frame)

@@ -5,7 +5,6 @@ use mathlib.Core.Bool.{cond}
 use lib.ListN.{drop}
 use lib.Dec.{eqb}
 use Rattle.file.specs.Rules.Order.{firstOf}
-use Rattle.file.specs.Rules.Refusals.{bufferRefusal, operationRefusal, broadcastReadRefusal, fileNumberRefusal}
 use Rattle.file.specs.Rules.Results.{Result, resultOf}
 use Rattle.frame.specs.Rules.Frames.{frameSize, addressFrame, dataFrame}
 use Rattle.frame.specs.Rules.Grounds.{shortFrameBuffer, noOperation, broadcastRead, noFileNumber}
@@ -17,19 +16,15 @@ writeFrame ground frame buffer = (resultOf ground tt, cond (eqb ground 0) (frame
 -- "Checked in this order"
 unfoldable pub writeGround : List ℕ → ℕ → ℕ → ℕ → ℕ
 writeGround buffer name file operation =
-    firstOf
-    (record { number = bufferRefusal; holds = shortFrameBuffer buffer } ∷
-    record { number = operationRefusal; holds = noOperation operation } ∷
-    record { number = broadcastReadRefusal; holds = broadcastRead operation name } ∷
-    record { number = fileNumberRefusal; holds = noFileNumber file } ∷
-    [])
+    firstOf ((9, shortFrameBuffer buffer) ∷ (13, noOperation operation) ∷ (14, broadcastRead operation name) ∷
+    (18, noFileNumber file) ∷ [])
 
 unfoldable pub writeAddress : List ℕ → ℕ → ℕ → ℕ → ℕ → ℕ → Result (Unit {0}) × List ℕ
 writeAddress buffer epoch name file operation «record» =
     writeFrame (writeGround buffer name file operation) (addressFrame epoch name file operation «record») buffer
 
 unfoldable pub dataGround : List ℕ → ℕ
-dataGround buffer = firstOf (record { number = bufferRefusal; holds = shortFrameBuffer buffer } ∷ [])
+dataGround buffer = firstOf ((9, shortFrameBuffer buffer) ∷ [])
 
 unfoldable pub writeData : List ℕ → List ℕ → Result (Unit {0}) × List ℕ
 writeData buffer bytes = writeFrame (dataGround buffer) (dataFrame bytes) buffer

@@ -4,6 +4,11 @@ use mathlib.Core.List.{List}
 use mathlib.Core.Path.{_≡_}
 use lib.ListN.{length}
 use lib.Seq.{sets}
+use Rattle.listing_text.specs.Rules.Text.{mostDigits}
+
+-- the bytes of a refused file's line
+abbrev pub refusedSize : ℕ
+refusedSize = 8 + mostDigits + 1
 
 -- bytes put into a text from a place on: the text, and the place after them
 pub record Puts (bytes old : List ℕ) (at : ℕ) (new : List ℕ) (next : ℕ) : Type 0 where

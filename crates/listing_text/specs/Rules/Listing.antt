@@ -20,17 +20,11 @@ namesFrom zero a = []
 namesFrom (suc n) a = a ∷ namesFrom n (suc a)
 
 -- "names 0x01 to 0xFE"
-abbrev pub firstName : ℕ
-firstName = 0x01
-
-abbrev pub lastName : ℕ
-lastName = 0xFE
-
 abbrev pub nameCount : ℕ
-nameCount = lastName - firstName + 1
+nameCount = 0xFE - 0x01 + 1
 
 unfoldable pub allNames : List ℕ
-allNames = namesFrom nameCount firstName
+allNames = namesFrom nameCount 0x01
 
 -- a run under way: file, run and answer buffer as the last step left them, the comparisons made when this pass began, how many
 -- names were given, and their lines
@@ -58,19 +52,12 @@ withoutName t s = record { file = s .3; run = s .1; buffer = s .2; begun = t .be
 
 unfoldable pub withName : ListState → Result StepDone × Position × List ℕ × List ℕ → ListState
 withName t s =
-    record {
-      file = s .3;
-      run = s .1;
-      buffer = s .2;
-      begun = s .1 .comparisons;
-      given = suc (t .given);
-      lines = t .lines ++ nameLine (getD allNames (t .run .index) 0) (t .run .value) (s .1 .comparisons - t .begun);
-    }
+    let line = nameLine (getD allNames (t .run .index) 0) (t .run .value) (s .1 .comparisons - t .begun) in
+    record { file = s .3; run = s .1; buffer = s .2; begun = s .1 .comparisons; given = suc (t .given); lines = t .lines ++ line }
 
 unfoldable pub listStep : ListState → ListState
 listStep t =
-    let s = stepOn (t .file) (t .run) allNames (t .buffer) in
-    cond (givesName (s .0) (t .run)) (withName t s) (withoutName t s)
+    let s = stepOn (t .file) (t .run) allNames (t .buffer) in cond (givesName (s .0) (t .run)) (withName t s) (withoutName t s)
 
 -- steps until the run has ended, at most so many
 unfoldable pub listSteps : ℕ → ListState → ListState
@@ -81,9 +68,9 @@ listSteps (suc n) t = let rest = listSteps n (listStep t) in cond (eqb (t .run .
 abbrev pub mostSteps : ℕ
 mostSteps = nameCount * namingRounds
 
+-- "It reads one file from standard input and runs names 0x01 to 0xFE."
 unfoldable pub startState : List ℕ → ListState
-startState file =
-    record { file = file; run = fresh allNames; buffer = replicate slots 0; begun = 0; given = 0; lines = [] }
+startState file = record { file = file; run = fresh allNames; buffer = replicate slots 0; begun = 0; given = 0; lines = [] }
 
 unfoldable pub endState : List ℕ → ListState
 endState file = listSteps mostSteps (startState file)

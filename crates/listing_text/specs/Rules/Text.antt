@@ -19,31 +19,21 @@ space = code " "
 abbrev pub newline : ℕ
 newline = code "\n"
 
-abbrev pub decimalBase : ℕ
-decimalBase = 10
-
--- the bits of a hexadecimal digit, and its values
-abbrev pub hexBits : ℕ
-hexBits = 4
-
-abbrev pub hexBase : ℕ
-hexBase = 2 ^ hexBits
-
 -- a digit below 16, in capitals
 unfoldable pub digit : ℕ → ℕ
-digit d = cond (ltb d decimalBase) (code "0" + d) (code "A" + (d - decimalBase))
+digit d = cond (ltb d 10) (code "0" + d) (code "A" + (d - 10))
 
 -- the last k hexadecimal digits of a number, the most significant first
 unfoldable pub hex : ℕ → ℕ → List ℕ
 hex zero n = []
-hex (suc k) n = digit (n / 2 ^ (hexBits * k) % hexBase) ∷ hex k n
+hex (suc k) n = digit (n / 2 ^ (4 * k) % 16) ∷ hex k n
 
 -- a number in decimal: its digits but the last, and the last; fuel says how many there may be
 unfoldable pub decimalIn : ℕ → ℕ → List ℕ
 decimalIn zero n = []
 decimalIn (suc fuel) n =
-    let front = decimalIn fuel (n / decimalBase) in
-    cond (ltb n decimalBase) (digit n ∷ []) (front ++ (digit (n % decimalBase) ∷ []))
+    let front = decimalIn fuel (n / 10) in
+    cond (ltb n 10) (digit n ∷ []) (front ++ (digit (n % 10) ∷ []))
 
 unfoldable pub decimal : ℕ → List ℕ
 decimal n = decimalIn (suc n) n
@@ -52,17 +42,10 @@ decimal n = decimalIn (suc n) n
 unfoldable pub field : List ℕ → ℕ → List ℕ
 field word n = word ++ decimal n
 
--- "in two and sixteen hex digits"
-abbrev pub nameDigits : ℕ
-nameDigits = 2
-
-abbrev pub physicalDigits : ℕ
-physicalDigits = 16
-
--- "one line for each name given"
+-- "Fields: name, physical name, that pass's comparisons, ..; one line for each name given", the first two "in two and sixteen hex digits"
 unfoldable pub nameLine : ℕ → ℕ → ℕ → List ℕ
 nameLine name physical comparisons =
-    hex nameDigits name ++ (space ∷ (hex physicalDigits physical ++ (field (letters " ") comparisons ++ (newline ∷ []))))
+    hex 2 name ++ (space ∷ (hex 16 physical ++ (field (letters " ") comparisons ++ (newline ∷ []))))
 
 -- "then one line of totals, decimal: names given, comparisons, rounds of the run"
 unfoldable pub totalsLine : ℕ → ℕ → ℕ → List ℕ
@@ -79,12 +62,9 @@ refusedLine ground = field (letters "refused ") ground ++ (newline ∷ [])
 abbrev pub mostDigits : ℕ
 mostDigits = 20
 
--- the bytes of a line: two spaces and a newline, and its digits; and of the line of totals and of that of a refused file
+-- the bytes of a line: its digits, two spaces and a newline; and of the line of totals
 abbrev pub lineSize : ℕ
-lineSize = nameDigits + physicalDigits + mostDigits + 3
+lineSize = 2 + 16 + mostDigits + 3
 
 abbrev pub totalsSize : ℕ
 totalsSize = 6 + 10 + 8 + 3 * mostDigits + 1
-
-abbrev pub refusedSize : ℕ
-refusedSize = 8 + mostDigits + 1

@@ -8,18 +8,17 @@ use lib.ListN.{getD}
 use lib.Dec.{eqb}
 use Rattle.file.specs.Rules.Bytes.{Bytes, All}
 use Rattle.file.specs.Rules.Order.{both}
-use Rattle.file.specs.Rules.Refusals.{bufferRefusal}
 use Rattle.file.specs.Rules.Results.{refused, done}
 use Rattle.file.specs.Rules.Cluster.{configuration, fileNumberOf, operationOf, readOperation}
 use Rattle.file.specs.Rules.Decode.{decode}
 use Rattle.file.specs.Rules.Grounds.{fileGround}
 use Rattle.frame.specs.Rules.Fireworks.{Round, multipartner, msd, msa, noRound}
-use Rattle.frame.specs.Rules.Frames.{pb2Place}
-use Rattle.cluster.specs.Rules.Grounds.{shortAnswer, roundBy}
+use Rattle.cluster.specs.Rules.Grounds.{roundBy}
 use Rattle.cluster.specs.Rules.Round.{Answer, roundGround, roundOn}
 use Rattle.naming.specs.Rules.Run.{Position, fresh, startGround, unfitPosition}
 use Rattle.naming.specs.Rules.Step.{stepGround, stepOn}
-use Rattle.naming.specs.Rules.Account.{Call, step, frame, namesIn, accountOf, accountAfter, comparisonsOf}
+use Rattle.naming.specs.Rules.Account.{StepArguments, Call, step, frame, argumentsGround}
+use Rattle.naming.specs.Rules.Account.{namesIn, accountOf, accountAfter, comparisonsOf}
 use Rattle.naming.specs.Rules.Figures.{Outcome}
 
 -- the file as the last call left it, and whether a round of others is half done: its MSA accepted, its MSD still to come
@@ -40,8 +39,8 @@ halfwayAfter h (done mask) noRound = h
 
 -- "each call gets the file as the last call left it, each step also the run as the last step left it and the unchanged names"
 unfoldable pub callOn : List ℕ → State → Position → Call → State × Position
-callOn names s p (step buffer) =
-    let r = stepOn (s .file) p names buffer in (record { file = r .3; halfway = s .halfway }, r .1)
+callOn names s p (step arguments) =
+    let r = stepOn (s .file) p names (arguments .buffer) in (record { file = r .3; halfway = s .halfway }, r .1)
 callOn names s p (frame bytes buffer) =
     let r = roundOn (s .file) bytes buffer in
     (record { file = r .2; halfway = halfwayAfter (s .halfway) (r .0) (roundBy bytes) }, p)
@@ -59,12 +58,12 @@ permittedFrame true msa bytes = false
 permittedFrame true noRound bytes = false
 permittedFrame false (multipartner r) bytes = true
 permittedFrame false msd bytes = false
-permittedFrame false msa bytes = not (changesConfiguration (getD bytes pb2Place 0))
+permittedFrame false msa bytes = not (changesConfiguration (getD bytes 3 0))
 permittedFrame false noRound bytes = false
 
 -- a call: a refused one always; an accepted step within no round of others
 unfoldable pub permittedCall : List ℕ → State → Position → Call → Bool
-permittedCall names s p (step buffer) = cond (eqb (stepGround (s .file) p names buffer) 0) (not (s .halfway)) true
+permittedCall names s p (step arguments) = cond (eqb (stepGround (s .file) p names (arguments .buffer)) 0) (not (s .halfway)) true
 permittedCall names s p (frame bytes buffer) =
     cond (eqb (roundGround (s .file) bytes buffer) 0) (permittedFrame (s .halfway) (roundBy bytes) bytes) true
 
@@ -81,11 +80,11 @@ afterCalls names s p (c ∷ cs) = afterCalls names (callOn names s p c .0) (call
 
 -- a frame is bytes
 pub data OfBytes : Call → Type 0 where
-  of-step : {buffer : List ℕ} → OfBytes (step buffer)
+  of-step : {arguments : StepArguments} → OfBytes (step arguments)
   of-frame : {bytes buffer : List ℕ} → Bytes bytes → OfBytes (frame bytes buffer)
 
 -- "Demand 3 compares every logical name, the end and both counts carried in the run with this account"; the file stays accepted,
--- ground 17 does not hold, a step that comes next meets no ground but 9, and the closed figures
+-- ground 17 does not hold, a step that comes next meets no ground but that of its own arguments, and the closed figures
 pub record Demand (file names : List ℕ) (calls : List Call) (now : List ℕ) (p : Position) : Type 0 where
   pub accepted : fileGround now ≡ 0
   pub logical : namesIn (decode now) ≡ accountAfter (accountOf (namesIn (decode file)) names) calls .slaves
@@ -93,10 +92,12 @@ pub record Demand (file names : List ℕ) (calls : List Call) (now : List ℕ) (
   pub rounds : p .rounds ≡ accountAfter (accountOf (namesIn (decode file)) names) calls .rounds
   pub comparisons : p .comparisons ≡ comparisonsOf (accountAfter (accountOf (namesIn (decode file)) names) calls)
   pub fit : unfitPosition names p ≡ false
-  pub grounds : (buffer : List ℕ) → stepGround now p names buffer ≡ cond (shortAnswer buffer) bufferRefusal 0
+  pub grounds :
+      (arguments : StepArguments) → stepGround now p names (arguments .buffer) ≡ argumentsGround (namesIn (decode now)) arguments
   pub outcome : Outcome (namesIn (decode file)) names (namesIn (decode now)) (p .end) (p .rounds) (p .comparisons)
 
 -- Demand 3: "It is one claim about the whole list of calls, not one for each."
+-- "Demand 3 shuts out: a master that says "all named" before polling; .. counts not made."
 abbrev pub DemandThree : Type 0
 DemandThree =
     -- "It starts from an accepted file"

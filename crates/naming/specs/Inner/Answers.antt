@@ -36,6 +36,7 @@ positionOf r =
       comparisons = r .comparisons;
     }
 
+-- "If an answer is an enum, a definition gives this paper's number and values for each of its cases. The promises use this definition."
 unfoldable pub startedOf : Started → Result Position
 startedOf (starts.Refused why) = refused (why .0)
 startedOf (starts.Fresh run) = done (positionOf run)

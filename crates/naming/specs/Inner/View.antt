@@ -6,7 +6,6 @@ use mathlib.Core.Bool.{Bool, false, cond, not}
 use lib.Dec.{eqb, leb}
 use Rattle.file.specs.Rules.Bytes.{numberOf}
 use Rattle.file.specs.Rules.Order.{both, either}
-use Rattle.file.specs.Rules.Layout.{comparisonHighRecord, comparisonLowRecord}
 use Rattle.file.specs.Rules.Cluster.{Slave, Cluster, recordOf, physicalName, logicalName, newLogicalName, configuration, unnamed}
 use Rattle.naming.specs.Rules.Rounds.{RunRound, poll, writeName, writeHigh, writeLow, compare, baptize, half}
 
@@ -24,8 +23,8 @@ viewOf s =
       physical = physicalName s;
       logical = logicalName s;
       newName = newLogicalName s;
-      high = numberOf (recordOf s configuration comparisonHighRecord);
-      low = numberOf (recordOf s configuration comparisonLowRecord);
+      high = numberOf (recordOf s configuration 2);
+      low = numberOf (recordOf s configuration 3);
     }
 
 unfoldable pub view : Cluster → List SlaveView

@@ -4,6 +4,7 @@ use Prim.Native.Nat.{ℕ, suc, _+_, _-_, _/_, min}
 use mathlib.Core.List.{List, [], _∷_, map}
 use mathlib.Core.Bool.{cond}
 use lib.Dec.{eqb, ltb}
+use Rattle.file.specs.Rules.Order.{firstOf}
 use Rattle.file.specs.Rules.Cluster.{Slave, Cluster, physicalName, logicalName, unnamed}
 use Rattle.file.specs.Rules.Grounds.{isAmong}
 use Rattle.cluster.specs.Rules.Grounds.{shortAnswer}
@@ -21,7 +22,8 @@ unfoldable pub namesIn : Cluster → List Named
 namesIn c = map namesOf (c .slaves)
 
 -- "It keeps the names left, the unnamed physical names in falling order, each slave's logical name, the names held at the start,
--- the end, both totals and k, the rounds of this pass." Of the comparisons it keeps those of the passes done.
+-- the end, both totals and k, the rounds of this pass." The end is 0 (none yet), 1 ("all named") or 2 ("names used up"); of the
+-- comparisons it keeps those of the passes done.
 pub record Account : Type 0 where
   pub left : List ℕ
   pub waiting : List ℕ
@@ -31,16 +33,6 @@ pub record Account : Type 0 where
   pub rounds : ℕ
   pub done : ℕ
   pub k : ℕ
-
--- the end: none yet, "all named", "names used up"
-abbrev pub notYet : ℕ
-notYet = 0
-
-abbrev pub allNamedEnd : ℕ
-allNamedEnd = 1
-
-abbrev pub usedUpEnd : ℕ
-usedUpEnd = 2
 
 -- "A pass for a name held at the start is 1 round. For a free one it is 200 rounds and 65 comparisons ..; if none is left it is 4
 -- and 1"
@@ -57,11 +49,8 @@ abbrev pub endingComparisons : ℕ
 endingComparisons = 1
 
 -- "After k rounds of a pass, k at least 1, it has made (k − 1)/3 comparisons, rounded down, at most 65."
-abbrev pub roundsEach : ℕ
-roundsEach = 3
-
 unfoldable pub comparisonsAfter : ℕ → ℕ
-comparisonsAfter k = min namingComparisons ((k - 1) / roundsEach)
+comparisonsAfter k = min namingComparisons ((k - 1) / 3)
 
 -- the total of comparisons
 unfoldable pub comparisonsOf : Account → ℕ
@@ -89,95 +78,59 @@ namesHeld ss = map (λ (s : Named). s .logical) ss
 
 -- the end with those names left: "with no name left, also at the start, the end is "names used up""
 unfoldable pub endWith : List ℕ → ℕ
-endWith [] = usedUpEnd
-endWith (n ∷ ns) = notYet
+endWith [] = 2
+endWith (n ∷ ns) = 0
 
--- "fed the file and names at the start"
+-- "The plain account it is measured against is fed the file and names at the start"
 unfoldable pub accountOf : List Named → List ℕ → Account
-accountOf slaves names =
-    record {
-      left = names;
-      waiting = falling (unnamedAmong slaves);
-      slaves = slaves;
-      held = namesHeld slaves;
-      end = endWith names;
-      rounds = 0;
-      done = 0;
-      k = 0;
-    }
+accountOf slaves names = record { left = names; waiting = falling (unnamedAmong slaves); slaves = slaves; held = namesHeld slaves; end = endWith names; rounds = 0; done = 0; k = 0 }
 
 -- ---- a round of a step: "adds 1 to the rounds and to k"
 
--- the pass goes on
-unfoldable pub goOn : Account → Account
-goOn a =
-    record {
-      left = a .left;
-      waiting = a .waiting;
-      slaves = a .slaves;
-      held = a .held;
-      end = a .end;
-      rounds = suc (a .rounds);
-      done = a .done;
-      k = suc (a .k);
-    }
+-- the pass goes on, with that end
+unfoldable pub goOn : Account → ℕ → Account
+goOn a end = record { left = a .left; waiting = a .waiting; slaves = a .slaves; held = a .held; end = end; rounds = suc (a .rounds); done = a .done; k = suc (a .k) }
 
 -- "Any other pass done drops its name and puts k to 0; with no name left .. the end is "names used up""
 unfoldable pub passDone : Account → List ℕ → List ℕ → List Named → ℕ → Account
-passDone a left waiting slaves more =
-    record {
-      left = left;
-      waiting = waiting;
-      slaves = slaves;
-      held = a .held;
-      end = endWith left;
-      rounds = suc (a .rounds);
-      done = a .done + more;
-      k = 0;
-    }
-
--- "if none is left it is 4 and 1 and ends the run, "all named""
-unfoldable pub runEnds : Account → Account
-runEnds a =
-    record {
-      left = a .left;
-      waiting = a .waiting;
-      slaves = a .slaves;
-      held = a .held;
-      end = allNamedEnd;
-      rounds = suc (a .rounds);
-      done = a .done;
-      k = suc (a .k);
-    }
+passDone a left waiting slaves more = record { left = left; waiting = waiting; slaves = slaves; held = a .held; end = endWith left; rounds = suc (a .rounds); done = a .done + more; k = 0 }
 
 -- "its last round gives the name to the greatest physical name"
 unfoldable pub give : ℕ → ℕ → Named → Named
 give p n s = record { physical = s .physical; logical = cond (eqb (s .physical) p) n (s .logical) }
 
+-- "if none is left it is 4 and 1 and ends the run, "all named""
 unfoldable pub freePass : Account → ℕ → List ℕ → List ℕ → Account
-freePass a n ns [] = cond (eqb (suc (a .k)) endingRounds) (runEnds a) (goOn a)
+freePass a n ns [] = cond (eqb (suc (a .k)) endingRounds) (goOn a 1) (goOn a (a .end))
 freePass a n ns (p ∷ ps) =
-    cond (eqb (suc (a .k)) namingRounds) (passDone a ns ps (map (give p n) (a .slaves)) namingComparisons) (goOn a)
+    cond (eqb (suc (a .k)) namingRounds) (passDone a ns ps (map (give p n) (a .slaves)) namingComparisons) (goOn a (a .end))
 
 unfoldable pub pass : Account → List ℕ → Account
 pass a [] = a
 pass a (n ∷ ns) = cond (isAmong n (a .held)) (passDone a ns (a .waiting) (a .slaves) 0) (freePass a n ns (a .waiting))
 
--- "Each step that no numbered ground refuses .., until the end"
+-- "Each step that no numbered ground refuses for those arguments, until the end, adds 1 to the rounds and to k."
 unfoldable pub oneRound : Account → Account
-oneRound a = cond (eqb (a .end) notYet) (pass a (a .left)) a
+oneRound a = cond (eqb (a .end) 0) (pass a (a .left)) a
 
 -- ---- the calls
 
--- "each call's arguments other than file, run and names": a step's answer buffer, a frame's bytes and its answer buffer
+-- "then each call's arguments other than file, run and names": of a step its answer buffer, of a frame its bytes and its answer buffer
+pub record StepArguments : Type 0 where
+  pub buffer : List ℕ
+
 pub data Call : Type 0 where
-  step : List ℕ → Call
+  step : StepArguments → Call
   frame : List ℕ → List ℕ → Call
 
--- 9 is the one ground that a step's arguments other than file, run and names can meet. "Refused calls and others' rounds change nothing
--- here."
+-- the ground that refuses a step "for those arguments", the slaves being as the account has them, 0 if there is none: 9 is the one
+-- that they can meet
+unfoldable pub argumentsGround : List Named → StepArguments → ℕ
+argumentsGround slaves arguments = firstOf ((9, shortAnswer (arguments .buffer)) ∷ [])
+
+-- "Each step that no numbered ground refuses for those arguments"; "Refused calls and others' rounds change nothing here."
 unfoldable pub accountCall : Account → Call → Account
-accountCall a (step buffer) = cond (shortAnswer buffer) a (oneRound a)
+accountCall a (step arguments) = cond (eqb (argumentsGround (a .slaves) arguments) 0) (oneRound a) a
 accountCall a (frame bytes buffer) = a
 
 unfoldable pub accountAfter : Account → List Call → Account

@@ -29,17 +29,6 @@ unfoldable pub takenTried : List ℕ → ℕ → List ℕ → ℕ
 takenTried held u names =
     cond (ltb u (length (freeNames held names))) (length (takenNames held (beforeFree held u names))) (length (takenNames held names))
 
--- 200 min(u, f), plus 4 if u < f, plus one for each taken name tried
-unfoldable pub roundsOf : List ℕ → ℕ → List ℕ → ℕ
-roundsOf held u names =
-    namingRounds * min u (length (freeNames held names)) + cond (ltb u (length (freeNames held names))) endingRounds 0 +
-    takenTried held u names
-
--- 65 min(u, f), plus 1 if u < f
-unfoldable pub comparisonsIn : List ℕ → ℕ → List ℕ → ℕ
-comparisonsIn held u names =
-    namingComparisons * min u (length (freeNames held names)) + cond (ltb u (length (freeNames held names))) endingComparisons 0
-
 -- the names given: the greatest physical names "in falling order", by the free names in list order, while both last
 unfoldable pub givings : List ℕ → List ℕ → List Named
 givings [] ns = []
@@ -56,15 +45,19 @@ unfoldable pub renamed : List Named → Named → Named
 renamed gs s = record { physical = s .physical; logical = nameGiven gs (s .physical) (s .logical) }
 
 unfoldable pub namesAfter : List Named → List ℕ → List Named
-namesAfter slaves names =
-    map (renamed (givings (falling (unnamedAmong slaves)) (freeNames (namesHeld slaves) names))) slaves
+namesAfter slaves names = map (renamed (givings (falling (unnamedAmong slaves)) (freeNames (namesHeld slaves) names))) slaves
 
--- the rounds and comparisons of the whole run, u being the count of the unnamed slaves
+-- the rounds of the whole run: "200 min(u, f), plus 4 if u < f, plus one for each taken name tried"
 unfoldable pub roundsFor : List Named → List ℕ → ℕ
-roundsFor slaves names = roundsOf (namesHeld slaves) (length (unnamedAmong slaves)) names
+roundsFor slaves names =
+    let held = namesHeld slaves in let u = length (unnamedAmong slaves) in let f = length (freeNames held names) in
+    namingRounds * min u f + cond (ltb u f) endingRounds 0 + takenTried held u names
 
+-- and its comparisons: "65 min(u, f), plus 1 if u < f"
 unfoldable pub comparisonsFor : List Named → List ℕ → ℕ
-comparisonsFor slaves names = comparisonsIn (namesHeld slaves) (length (unnamedAmong slaves)) names
+comparisonsFor slaves names =
+    let u = length (unnamedAmong slaves) in let f = length (freeNames (namesHeld slaves) names) in
+    namingComparisons * min u f + cond (ltb u f) endingComparisons 0
 
 -- what a run over these names that began with these slaves has come to, by its end mark, its counts and the slaves now: it has
 -- ended exactly when its rounds are the figure, and then comparisons and names are theirs

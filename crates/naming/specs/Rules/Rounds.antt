@@ -2,7 +2,7 @@
 use Prim.Native.Nat.{ℕ, _^_}
 use mathlib.Core.List.{List, [], _∷_}
 use Rattle.file.specs.Rules.Bytes.{bytesOf}
-use Rattle.file.specs.Rules.Layout.{recordSize, seriesRecord, namesRecord, comparisonHighRecord, comparisonLowRecord}
+use Rattle.file.specs.Rules.Layout.{recordSize}
 use Rattle.file.specs.Rules.Cluster.{configuration, documentation, unnamed, readOperation, writeOperation, executeOperation}
 
 -- the values of one half: 32 bits
@@ -16,12 +16,8 @@ comparisonRounds = 3
 -- the rounds of a naming run: read 0x3D record 1 at a name; at 0xFF write record 1 with a name, record 2 or 3 with a half,
 -- execute record 2, execute record 1
 pub data RunRound : Type 0 where
-  poll : ℕ → RunRound
-  writeName : ℕ → RunRound
-  writeHigh : ℕ → RunRound
-  writeLow : ℕ → RunRound
-  compare : RunRound
-  baptize : RunRound
+  poll writeName writeHigh writeLow : ℕ → RunRound
+  compare baptize : RunRound
 
 -- what the master sends: logical name, file, operation and record of the address frame, and the data of a write
 pub record Sent : Type 0 where
@@ -36,9 +32,9 @@ atUnnamed operation r content =
     record { name = unnamed; file = configuration; operation = operation; «record» = r; content = content }
 
 unfoldable pub sent : RunRound → Sent
-sent (poll n) = record { name = n; file = documentation; operation = readOperation; «record» = seriesRecord; content = [] }
-sent (writeName n) = atUnnamed writeOperation namesRecord (0 ∷ 0 ∷ n ∷ unnamed ∷ [])
-sent (writeHigh h) = atUnnamed writeOperation comparisonHighRecord (bytesOf recordSize h)
-sent (writeLow l) = atUnnamed writeOperation comparisonLowRecord (bytesOf recordSize l)
-sent compare = atUnnamed executeOperation comparisonHighRecord []
-sent baptize = atUnnamed executeOperation namesRecord []
+sent (poll n) = record { name = n; file = documentation; operation = readOperation; «record» = 1; content = [] }
+sent (writeName n) = atUnnamed writeOperation 1 (0 ∷ 0 ∷ n ∷ unnamed ∷ [])
+sent (writeHigh h) = atUnnamed writeOperation 2 (bytesOf recordSize h)
+sent (writeLow l) = atUnnamed writeOperation 3 (bytesOf recordSize l)
+sent compare = atUnnamed executeOperation 2 []
+sent baptize = atUnnamed executeOperation 1 []

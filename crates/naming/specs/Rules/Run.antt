@@ -7,7 +7,6 @@ use lib.ListN.{length, getD}
 use lib.Dec.{eqb, leb, ltb}
 use lib.Bits.{bitOr}
 use Rattle.file.specs.Rules.Order.{Ground, firstOf, both, either}
-use Rattle.file.specs.Rules.Refusals.{listedNameRefusal, nameTwiceRefusal, runPositionRefusal}
 use Rattle.file.specs.Rules.Results.{Result, resultOf}
 use Rattle.file.specs.Rules.Cluster.{unnamed, broadcast}
 use Rattle.file.specs.Rules.Grounds.{hasRepeat}
@@ -50,21 +49,16 @@ pub data Question : Type 0 where
 
 -- "A comparison is three rounds at 0xFF: write record 2, write record 3, execute record 2."
 pub data Part : Type 0 where
-  high : Part
-  low : Part
-  reply : Part
+  high low reply : Part
 
 -- "read 0x3D record 1 there", the comparisons, "Then write 00 00 name FF to record 1, the value to records 2 and 3, execute
 -- record 1."
 pub data PassPlace : Type 0 where
   poll : PassPlace
   ask : Question → Part → PassPlace
-  giveName : PassPlace
-  giveHigh : PassPlace
-  giveLow : PassPlace
-  baptize : PassPlace
+  giveName giveHigh giveLow baptize : PassPlace
 
--- the bits of a value: "from bit 63 down to bit 0"
+-- the bits of a value: "from bit 63 down to bit 0", "64 comparisons"
 abbrev pub bits : ℕ
 bits = 64
 
@@ -98,13 +92,10 @@ unfoldable pub placeOf : ℕ → PassPlace
 placeOf zero = poll
 placeOf (suc n) = askOrGive n
 
--- "write 00 00 name FF to record 1, the value to records 2 and 3, execute record 1": four rounds, whose last ends the pass
-abbrev pub givingRounds : ℕ
-givingRounds = 4
-
+-- the last step of a pass: "write 00 00 name FF to record 1, the value to records 2 and 3, execute record 1" are four rounds
 -- "(place of the pass's next round, 0 to 199)"
 abbrev pub lastStep : ℕ
-lastStep = giveStep + givingRounds - 1
+lastStep = giveStep + 4 - 1
 
 -- ---- the next round of a running position
 
@@ -114,6 +105,7 @@ tried least value = 0
 tried (bit b) value = bitOr value (2 ^ b)
 
 -- the round at a place, for a name and the value so far
+-- "Slips seen in drafts: finding the least name ..; trusting the last IDCV sent, which may hold a dropped bit.": giveHigh and giveLow send the value
 unfoldable pub roundAt : PassPlace → ℕ → ℕ → RunRound
 roundAt poll name value = pollOf name
 roundAt (ask q high) name value = writeHigh (tried q value / half)
@@ -131,41 +123,20 @@ nextRound names p = roundAt (placeOf (p .step)) (getD names (p .index) 0) (p .va
 
 -- to the pass's next round, with a value and so many more comparisons made
 unfoldable pub onward : Position → ℕ → ℕ → Position
-onward p value more =
-    record {
-      end = p .end;
-      index = p .index;
-      step = suc (p .step);
-      value = value;
-      rounds = suc (p .rounds);
-      comparisons = p .comparisons + more;
-    }
+onward p value more = record { end = p .end; index = p .index; step = suc (p .step); value = value; rounds = suc (p .rounds); comparisons = p .comparisons + more }
 
 -- "A name done raises the index and puts the step to 0"
 unfoldable pub nextName : ℕ → Position → Position
-nextName count p =
-    record {
-      end = endAt count (suc (p .index));
-      index = suc (p .index);
-      step = 0;
-      value = p .value;
-      rounds = suc (p .rounds);
-      comparisons = p .comparisons;
-    }
+nextName count p = record { end = endAt count (suc (p .index)); index = suc (p .index); step = 0; value = p .value; rounds = suc (p .rounds); comparisons = p .comparisons }
 
 -- "silence ends the run, "all named""; ""all named" leaves both"
 unfoldable pub endAllNamed : Position → Position
-endAllNamed p =
-    record {
-      end = allNamed;
-      index = p .index;
-      step = p .step;
-      value = p .value;
-      rounds = suc (p .rounds);
-      comparisons = suc (p .comparisons);
-    }
+endAllNamed p = record { end = allNamed; index = p .index; step = p .step; value = p .value; rounds = suc (p .rounds); comparisons = suc (p .comparisons) }
 
--- "a reply in slot 1 means taken, go to the next name"; "silence ends the run"; "the value set to 0"; "keeping the bit on a reply"
+-- "For each name: read 0x3D record 1 there; a reply in slot 1 means taken, go to the next name."
+-- "Else compare with 0; silence ends the run, "all named"."
+-- "Else, the value set to 0, from bit 63 down to bit 0, compare with the value so far with that bit set, keeping the bit on a
+-- reply: 64 comparisons."
 unfoldable pub moveOn : PassPlace → ℕ → Position → Bool → Position
 moveOn poll count p answered = cond answered (nextName count p) (onward p (p .value) 0)
 moveOn (ask q high) count p answered = onward p (p .value) 0
@@ -190,7 +161,7 @@ unfitName (n ∷ ns) = either (either (eqb n broadcast) (eqb n unnamed)) (unfitN
 -- 16. "A listed name occurs twice.", and the two in their order
 unfoldable pub namesGrounds : List ℕ → List Ground
 namesGrounds names =
-    record { number = listedNameRefusal; holds = unfitName names } ∷ record { number = nameTwiceRefusal; holds = hasRepeat names } ∷ []
+    (15, unfitName names) ∷ (16, hasRepeat names) ∷ []
 
 -- "either count 1,000,000 or more"
 abbrev pub countLimit : ℕ
@@ -212,7 +183,7 @@ unfoldable pub startGround : List ℕ → ℕ
 startGround names = firstOf (namesGrounds names)
 
 unfoldable pub runGrounds : List ℕ → Position → List Ground
-runGrounds names p = namesGrounds names ++ (record { number = runPositionRefusal; holds = unfitPosition names p } ∷ [])
+runGrounds names p = namesGrounds names ++ ((17, unfitPosition names p) ∷ [])
 
 -- making a fresh run
 unfoldable pub startOver : List ℕ → Result Position

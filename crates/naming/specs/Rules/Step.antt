@@ -3,15 +3,13 @@ use Prim.Native.Nat.{ℕ, _/_, _%_, _^_}
 use mathlib.Core.List.{List, [], _∷_, _++_}
 use mathlib.Core.Bool.{Bool, false, cond}
 use lib.Dec.{eqb}
-use Rattle.file.specs.Rules.Order.{Ground, firstOf}
-use Rattle.file.specs.Rules.Refusals.{bufferRefusal}
+use Rattle.file.specs.Rules.Order.{firstOf}
 use Rattle.file.specs.Rules.Results.{Result, refused, done}
 use Rattle.file.specs.Rules.Cluster.{Cluster, writeOperation}
 use Rattle.file.specs.Rules.Decode.{decode}
 use Rattle.file.specs.Rules.Grounds.{fileGrounds}
 use Rattle.frame.specs.Rules.Fireworks.{dataFirework}
 use Rattle.frame.specs.Rules.Frames.{addressFrame, dataFrame}
-use Rattle.cluster.specs.Rules.Bus.{firstSlot}
 use Rattle.cluster.specs.Rules.Slaves.{nextEpoch}
 use Rattle.cluster.specs.Rules.Grounds.{shortAnswer}
 use Rattle.cluster.specs.Rules.Round.{Answer, roundOn}
@@ -29,13 +27,12 @@ dataSent s = cond (eqb (s .operation) writeOperation) (dataFrame (s .content)) (
 -- the two frames on a file, one after the other: the answer and buffer of the data frame, and the file
 unfoldable pub roundSent : List ℕ → Sent → List ℕ → Answer × List ℕ × List ℕ
 roundSent file s buffer =
-    let first = roundOn file (addressSent (decode file) s) buffer in
-    roundOn (first .2) (dataSent s) (first .1)
+    let first = roundOn file (addressSent (decode file) s) buffer in roundOn (first .2) (dataSent s) (first .1)
 
 -- "a reply in slot 1": bit 1 of the mask
 unfoldable pub isReply : Answer → Bool
 isReply (refused n) = false
-isReply (done mask) = eqb (mask / 2 ^ firstSlot % 2) 1
+isReply (done mask) = eqb (mask / 2 ^ 1 % 2) 1
 
 -- a step that is not refused: that of an ended run, or one that made its round, with the mask of its data frame
 pub data StepDone : Type 0 where
@@ -49,13 +46,11 @@ madeBy (refused n) = made 0
 madeBy (done mask) = made mask
 
 -- "Checked in this order": the file's grounds, the buffer's, the names' and the position's
-unfoldable pub stepGrounds : List ℕ → Position → List ℕ → List ℕ → List Ground
-stepGrounds file p names buffer = fileGrounds file ++ record { number = bufferRefusal; holds = shortAnswer buffer } ∷ runGrounds names p
-
 unfoldable pub stepGround : List ℕ → Position → List ℕ → List ℕ → ℕ
-stepGround file p names buffer = firstOf (stepGrounds file p names buffer)
+stepGround file p names buffer = firstOf (fileGrounds file ++ (9, shortAnswer buffer) ∷ runGrounds names p)
 
 -- a step of a running position: answer, position, buffer and file
+-- "It holds a position in the caller's list of names and moves one complete master-slave round a step"
 unfoldable pub stepMade : List ℕ → Position → List ℕ → List ℕ → Result StepDone × Position × List ℕ × List ℕ
 stepMade file p names buffer =
     let round = roundSent file (sent (nextRound names p)) buffer in

@@ -9,6 +9,7 @@ abbrev pub reportIn : Code.Report → Report
 reportIn r = record { msa = r .msa; msd = r .msd; multipartner = r .multipartner; refused = r .refused }
 
 -- to a trace: a number, or the report
+-- "If an answer is an enum, a definition gives this paper's number and values for each of its cases. The promises use this definition."
 unfoldable pub tracedOf : TraceAnswer → Result Report
 tracedOf (answers.Refused why) = refused (why .0)
 tracedOf (answers.Ran report) = done (reportIn report)

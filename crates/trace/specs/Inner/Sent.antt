@@ -2,7 +2,6 @@
 use Prim.Native.Nat.{ℕ, _^_, _<_}
 use mathlib.Core.Path.{_≡_}
 use mathlib.Core.List.{List}
-use Rattle.file.specs.Rules.Bytes.{byteValues}
 use Rattle.file.specs.Inner.Accepted.{Placed}
 use Rattle.cluster.specs.Rules.Grounds.{roundBy}
 use Rattle.trace.specs.Rules.Layout.{countWidth}
@@ -11,7 +10,7 @@ use Rattle.trace.specs.Rules.Run.{sent, afterFrames, Report, noFrames, s
 
 -- fewer frames than 2 bytes can count
 abbrev pub FewFrames : Report → Type 0
-FewFrames r = sumOf r < byteValues ^ countWidth
+FewFrames r = sumOf r < 256 ^ countWidth
 
 -- one frame sent and counted: the report and the file, whose slaves have the same places
 pub record FrameSent (file places frame : List ℕ) (old new : Report) (file′ : List ℕ) : Type 0 where

@@ -6,7 +6,6 @@ use mathlib.Core.Bool.{cond}
 use lib.ListN.{replicate}
 use lib.Dec.{eqb}
 use Rattle.file.specs.Rules.Order.{Ground, firstOf}
-use Rattle.file.specs.Rules.Refusals.{traceRefusal}
 use Rattle.file.specs.Rules.Results.{Result, refused, done}
 use Rattle.file.specs.Rules.Grounds.{fileGrounds}
 use Rattle.frame.specs.Rules.Fireworks.{Round}
@@ -26,8 +25,9 @@ unfoldable pub afterFrames : List ℕ → List (List ℕ) → List ℕ
 afterFrames file [] = file
 afterFrames file (x ∷ xs) = afterFrames (sent file x .2) xs
 
--- ---- the report: "the numbers of MSA, MSD, multipartner and refused frames and their sum"
+-- ---- the report
 
+-- "The report returned holds the numbers of MSA, MSD, multipartner and refused frames and their sum"
 pub record Report : Type 0 where
   pub msa : ℕ
   pub msd : ℕ
@@ -68,12 +68,12 @@ reportFrom r file (x ∷ xs) = reportFrom (counted (sent file x .0) (roundBy x) 
 
 -- "New numbers, all joining document 01's: 19, a trace whose header, offsets or length break this layout, after 8."
 unfoldable pub traceGrounds : List ℕ → List ℕ → List Ground
-traceGrounds file t = fileGrounds file ++ record { number = traceRefusal; holds = brokenTrace t } ∷ []
+traceGrounds file t = fileGrounds file ++ (19, brokenTrace t) ∷ []
 
 unfoldable pub traceGround : List ℕ → List ℕ → ℕ
 traceGround file t = firstOf (traceGrounds file t)
 
--- a trace run on a file: the answer, with the report, and the file
+-- a trace run on a file: the answer, with the report, and the file. "A refusal returns its number and alters nothing lent"
 unfoldable pub traceOn : List ℕ → List ℕ → Result Report × List ℕ
 traceOn file t =
     let ground = traceGround file t in

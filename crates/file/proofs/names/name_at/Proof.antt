@@ -4,7 +4,7 @@ use Prim.Native.Nat.{_+_, _^_, _≤_, _<_}
 use native.Mathlib.Omega.{arith}
 use denote.Ref.{now}
 use lib.ListN.{length, getD}
-use Rattle.file.specs.Rules.Layout.{physicalNamePlace, longWidth}
+use Rattle.file.specs.Inner.Layout.{physicalNamePlace, longWidth}
 use Rattle.file.specs.Inner.Places.{documentationIndex}
 use Rattle.file.specs.Inner.Checked.{nameAt}
 use Rattle.file.proofs.NamesLaws.{name-within}

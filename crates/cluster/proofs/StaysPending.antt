@@ -1,0 +1,99 @@
+-- What is pending: an accepted MSA sets it, and nothing else does.
+-- Assumes nothing.
+use Prim.Native.Nat.{ℕ, zero, suc}
+use mathlib.Core.Path.{_≡_, refl, sym, _∙_, subst}
+use mathlib.Core.Logic.{_≢_}
+use mathlib.Core.List.{List, [], _∷_}
+use lib.Dec.{eqb}
+use borrow.Author.Tests.{eqb-true, eqb-false}
+use Rattle.file.specs.Rules.Bytes.{Bytes, All, allEmpty, allNext}
+use Rattle.file.specs.Rules.Cluster.{Cluster}
+use Rattle.file.specs.Rules.Decode.{decode}
+use Rattle.file.specs.Rules.Changes.{withSlaves, withEpoch, withPending}
+use Rattle.file.proofs.Order.{byCase}
+use Rattle.frame.specs.Rules.Fireworks.{Round, multipartner, msd, msa, noRound}
+use Rattle.cluster.specs.Rules.Bus.{slots}
+use Rattle.cluster.specs.Rules.Slaves.{withAddress, epochRaised, slavesAfter}
+use Rattle.cluster.specs.Rules.Multipartner.{receivedIn, sentIn, clusterBelow}
+use Rattle.cluster.specs.Rules.Grounds.{roundBy}
+use Rattle.cluster.specs.Rules.Round.{effectOf, frameOn, roundGround, roundOn}
+use Rattle.cluster.specs.Claims.Pending.{fileAfter, AcceptedMsa, noCalls, oneMore, Pending, Addressed, MsaBecomesPending, StaysPending}
+use Rattle.cluster.proofs.Rounds.{round-refused, round-becomes, round-bytes}
+
+-- the same is pending in both
+abbrev Alike : Cluster → Cluster → Type 0
+Alike c d = Pending d (c .flag) (c .pendingName) (c .pendingPB2) (c .pendingPB3)
+
+alike-refl : (c : Cluster) → Alike c c
+alike-refl c = record { isFlag = refl; isName = refl; isPB2 = refl; isPB3 = refl }
+
+alike-trans : (c d e : Cluster) → Alike c d → Alike d e → Alike c e
+alike-trans c d e p q =
+    record {
+      isFlag = q .isFlag ∙ p .isFlag;
+      isName = q .isName ∙ p .isName;
+      isPB2 = q .isPB2 ∙ p .isPB2;
+      isPB3 = q .isPB3 ∙ p .isPB3;
+    }
+
+-- ---- a frame that is no MSA
+
+received-alike : (round slot : ℕ) (c : Cluster) (sent : List ℕ) → Alike c (receivedIn round slot c sent)
+unfolding receivedIn withSlaves
+received-alike round slot c [] = alike-refl c
+received-alike round slot c (b ∷ bs) = record { isFlag = refl; isName = refl; isPB2 = refl; isPB3 = refl }
+
+below-alike : (round : ℕ) (c : Cluster) (n : ℕ) → Alike c (clusterBelow round c n)
+unfolding clusterBelow
+below-alike round c zero = alike-refl c
+below-alike round c (suc n) =
+    alike-trans c (clusterBelow round c n) (receivedIn round n (clusterBelow round c n) (sentIn round n (clusterBelow round c n)))
+    (below-alike round c n) (received-alike round n (clusterBelow round c n) (sentIn round n (clusterBelow round c n)))
+
+raised-alike : (c : Cluster) → Alike c (epochRaised c)
+unfolding epochRaised withEpoch
+raised-alike c = record { isFlag = refl; isName = refl; isPB2 = refl; isPB3 = refl }
+
+effect-alike : (c : Cluster) (round : Round) (frame : List ℕ) → round ≢ msa → Alike c (effectOf c round frame .after)
+unfolding effectOf slavesAfter withSlaves epochRaised withEpoch
+effect-alike c (multipartner r) frame other =
+    alike-trans c (epochRaised c) (clusterBelow r (epochRaised c) slots) (raised-alike c) (below-alike r (epochRaised c) slots)
+effect-alike c msd frame other = record { isFlag = refl; isName = refl; isPB2 = refl; isPB3 = refl }
+effect-alike c msa frame other = absurd (other refl)
+effect-alike c noRound frame other = alike-refl c
+
+frame-alike : (c : Cluster) (frame : List ℕ) → roundBy frame ≢ msa → Alike c (frameOn c frame .after)
+unfolding frameOn
+frame-alike c frame other = effect-alike c (roundBy frame) frame other
+
+-- ---- one call
+
+call-alike : (file frame buffer : List ℕ) → Bytes file → Bytes frame → (AcceptedMsa file frame buffer → ⊥) → Alike (decode file) (decode (roundOn file frame buffer .2))
+call-alike file frame buffer fb rb none =
+    byCase (eqb (roundGround file frame buffer) 0)
+    (λ e.
+    let accepted : roundGround file frame buffer ≡ 0 = eqb-true (roundGround file frame buffer) 0 e in
+    let new = round-becomes file frame buffer fb rb accepted in
+    subst (λ (d : Cluster). Alike (decode file) d) (sym (new .decoded))
+    (frame-alike (decode file) frame (λ is. none (record { isMsa = is; accepted = accepted }))))
+    (λ e. rw (round-refused file frame buffer (eqb-false (roundGround file frame buffer) 0 e)) (alike-refl (decode file)))
+
+-- ---- the claims
+
+msa-after : (c : Cluster) (frame : List ℕ) → roundBy frame ≡ msa → Addressed (frameOn c frame .after) frame
+unfolding frameOn effectOf withAddress withPending withEpoch
+msa-after c frame is = rw is (record { epoch = refl; pending = record { isFlag = refl; isName = refl; isPB2 = refl; isPB3 = refl } })
+
+pub msa-becomes-pending : MsaBecomesPending
+msa-becomes-pending file frame buffer fb rb m =
+    let new = round-becomes file frame buffer fb rb (m .accepted) in
+    subst (λ (d : Cluster). Addressed d frame) (sym (new .decoded)) (msa-after (decode file) frame (m .isMsa))
+
+pub stays-pending : StaysPending
+unfolding fileAfter
+stays-pending file [] fb allEmpty noCalls = alike-refl (decode file)
+stays-pending file (c ∷ cs) fb (allNext rb rest) (oneMore none later) =
+    let now : List ℕ = roundOn file (c .frame) (c .buffer) .2 in
+    alike-trans (decode file) (decode now) (decode (fileAfter now cs))
+    (call-alike file (c .frame) (c .buffer) fb rb none)
+    (stays-pending now cs (round-bytes file (c .frame) (c .buffer) fb rb) rest later)

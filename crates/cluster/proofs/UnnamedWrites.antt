@@ -1,0 +1,72 @@
+-- A write at 0xFF, carried out: every unnamed slave that has the record takes it.
+-- Assumes nothing.
+use Prim.Native.Nat.{ℕ, zero, suc, _<_}
+use native.Mathlib.Omega.{arith}
+use mathlib.Core.Path.{_≡_, refl, ap, _∙_}
+use mathlib.Core.Logic.{_≢_}
+use mathlib.Core.List.{List, [], _∷_, map}
+use mathlib.Core.Bool.{true, not}
+use lib.ListN.{length, getD}
+use borrow.Author.Tests.{eq-eqb, ne-eqb}
+use Rattle.file.specs.Rules.Layout.{pendingFlag}
+use Rattle.file.specs.Rules.Cluster.{Slave, Cluster, hasRecord, recordOf, logicalName, unnamed, documentation, fileNumberOf, operationOf, pb2Of, writeOperation}
+use Rattle.file.specs.Rules.Decode.{decode}
+use Rattle.file.specs.Rules.Changes.{withSlaves, withEpoch}
+use Rattle.file.proofs.Order.{both-true}
+use Rattle.frame.specs.Rules.Fireworks.{msd}
+use Rattle.frame.specs.Rules.Frames.{between}
+use Rattle.cluster.specs.Rules.Slaves.{epochRaised, Duty, writing, dutyBy, pendingDuty, addresses, addressed, mayWrite, takesWrite, slaveAfter, slavesAfter}
+use Rattle.cluster.specs.Rules.Grounds.{roundBy}
+use Rattle.cluster.specs.Rules.Round.{effectOf, frameOn, roundOn}
+use Rattle.cluster.specs.Claims.Pending.{Pending}
+use Rattle.cluster.specs.Claims.Writes.{slaveIn, UnnamedTakeWrites}
+use Rattle.cluster.proofs.Rounds.{round-becomes}
+use Rattle.cluster.proofs.Replaced.{write-taken}
+
+-- ---- the operation
+
+write-by : (name n r : ℕ) {pb2 : ℕ} → pb2 ≡ pb2Of n writeOperation → dutyBy name pb2 r ≡ writing name n r
+unfolding dutyBy pb2Of
+write-by name n r {pb2} e =
+    let operation : operationOf pb2 ≡ writeOperation = omega (arith, e) in
+    let file : fileNumberOf pb2 ≡ n = omega (arith, e) in
+    rw (operation, file)
+
+write-pending : (c : Cluster) (name n r : ℕ) → Pending c pendingFlag name (pb2Of n writeOperation) r → pendingDuty c ≡ writing name n r
+unfolding pendingDuty
+write-pending c name n r p =
+    rw (eq-eqb (c .flag) pendingFlag (p .isFlag))
+    (write-by (c .pendingName) n (c .pendingPB3) (p .isPB2) ∙ ap (λ (m : ℕ). writing m n (c .pendingPB3)) (p .isName) ∙ ap (λ (m : ℕ). writing name n m) (p .isPB3))
+
+-- ---- the slaves
+
+slaves-after : (c : Cluster) (frame : List ℕ) {o : Duty} → roundBy frame ≡ msd → pendingDuty c ≡ o → frameOn c frame .after .slaves ≡ map (slaveAfter o (between frame)) (c .slaves)
+unfolding frameOn effectOf slavesAfter withSlaves epochRaised withEpoch
+slaves-after c frame is p = rw (is, p)
+
+mapped-at : (f : Slave → Slave) (ss : List Slave) (i : ℕ) (d : Slave) → i < length ss → getD (map f ss) i d ≡ f (getD ss i d)
+mapped-at f [] i d h = absurd (omega arith)
+mapped-at f (s ∷ ss) zero d h = refl
+mapped-at f (s ∷ ss) (suc i) d h = mapped-at f ss i d (omega arith)
+
+takes : (n r : ℕ) (s : Slave) → logicalName s ≡ unnamed → hasRecord s n r ≡ true → n ≢ documentation → r ≢ 0x00 → takesWrite unnamed n r s ≡ true
+unfolding takesWrite addressed addresses mayWrite
+takes n r s own has file «record» =
+    both-true (eq-eqb (logicalName s) unnamed own)
+    (both-true has (both-true (ap not (ne-eqb n documentation file)) (ap not (ne-eqb r 0x00 «record»))))
+
+-- ---- the claim
+
+pub unnamed-take-writes : UnnamedTakeWrites
+unfolding slaveIn
+unnamed-take-writes file frame buffer n r fb rb w i here own has =
+    let new = round-becomes file frame buffer fb rb (w .accepted) in
+    let s : Slave = slaveIn file i in
+    let slaves : decode (roundOn file frame buffer .2) .slaves ≡ map (slaveAfter (writing unnamed n r) (between frame)) (decode file .slaves) =
+    ap (λ (c : Cluster). c .slaves) (new .decoded) ∙ slaves-after (decode file) frame (w .isMsd) (write-pending (decode file) unnamed n r (w .pending))
+    in
+    let at : slaveIn (roundOn file frame buffer .2) i ≡ slaveAfter (writing unnamed n r) (between frame) s =
+    ap (λ (ss : List Slave). getD ss i (record { files = [] })) slaves ∙ mapped-at (slaveAfter (writing unnamed n r) (between frame)) (decode file .slaves) i (record { files = [] }) here
+    in
+    ap (λ (t : Slave). recordOf t n r) at
+    ∙ write-taken unnamed n r (between frame) s refl (takes n r s own has (w .notDocumentation) (w .notHeader)) .here

@@ -1,0 +1,292 @@
+-- Demand 3 over the C calls, from demand 3 over lists with traces: a C call leaves in file and words what the rules' call leaves in file
+-- and position, and returns 0 exactly where no ground holds, so that the same lists are permitted.
+-- Assumes nothing.
+use Prim.Native.Nat.{ℕ}
+use mathlib.Core.Path.{_≡_, refl, sym, ap, _∙_}
+use mathlib.Core.Logic.{_≢_}
+use mathlib.Core.List.{List, [], _∷_, _++_, map, append-nil, map-append}
+use mathlib.Core.Bool.{Bool, true, false, cond}
+use lib.ListN.{replicate}
+use lib.Dec.{eqb}
+use borrow.Author.Tests.{eqb-true, eqb-false, ne-eqb}
+use Rattle.file.specs.Rules.Bytes.{All, All.allEmpty, All.allNext as also}
+use Rattle.file.specs.Rules.Order.{both}
+use Rattle.file.specs.Rules.Results.{refused, done, resultOf, numberIn}
+use Rattle.file.specs.Rules.Grounds.{fileGround, loadGround, loadVerdict}
+use Rattle.file.proofs.Order.{byCase, both-true, both-next}
+use Rattle.file.proofs.Results.{result-done}
+use Rattle.cluster.specs.Rules.Bus.{slots}
+use Rattle.cluster.specs.Rules.Grounds.{roundBy}
+use Rattle.cluster.specs.Rules.Round.{Answer, roundGround, roundOn}
+use Rattle.cluster.proofs.Rounds.{round-refused, round-accepted}
+use Rattle.trace.specs.Rules.Trace.{brokenTrace, framesOf}
+use Rattle.trace.specs.Rules.Run.{sent, afterFrames, traceGround, traceOn}
+use Rattle.trace.proofs.Calls as call
+use Rattle.naming.specs.Rules.Run.{Position, running, fresh, startGround, startOver}
+use Rattle.naming.specs.Rules.Step.{madeBy, stepGround, stepOn}
+use Rattle.naming.specs.Rules.Account.{Call, Call.step as stepBy, Call.frame as frameOf}
+use Rattle.naming.specs.Claims.Demand.{State, startOn, halfwayAfter, callOn, of-step, of-frame, Demand}
+use Rattle.naming.specs.Claims.Demand as rules
+use Rattle.naming.proofs.Lists.{accepted-halfway}
+use Rattle.naming.proofs.StepLaws.{step-refused, step-ended, step-made}
+use Rattle.ttpa.specs.Rules.Calls.{lentAfter, checkCall, startCall, stepCall, stepWords, roundCall, traceCall, wordsOf, positionIn}
+use Rattle.demand.specs.Claims.Traces.{CallOrTrace, AllBytes, in-call, in-trace, halfwayFrom, halfwayAfterTrace, afterTrace}
+use Rattle.demand.specs.Claims.Traces.{callOrTraceOn, afterAll, frameCall, framesSingly, singly, tracesAside}
+use Rattle.demand.specs.Claims.Calls.{CCall, ttpaStep, ttpaRound, ttpaTrace, GivenBytes, given-step, given-frame, given-trace, Memory, returned, memoryAfter, afterCalls}
+use Rattle.demand.specs.Claims.Calls.{permittedFrames, permittedCall, halfwayOn, permitted, callsFed, CallsDemand, started}
+use Rattle.demand.specs.Claims.Calls.{DemandOverCalls, ThroughoutCalls, IsStep, is-step, StepsPermitted}
+use Rattle.demand.proofs.Traces.{afterSingly, frame-refused, trace-run, trace-refused, file-refused, throughout-with-traces}
+
+-- ---- numbers and words
+
+number-result : {A : Type 0} (ground : ℕ) (value : A) → numberIn (resultOf ground value) ≡ ground
+unfolding numberIn resultOf
+number-result ground value = byCase (eqb ground 0) (λ z. rw z (sym (eqb-true ground 0 z))) (λ z. rw z)
+
+position-back : (p : Position) → positionIn (wordsOf p) ≡ p
+unfolding positionIn wordsOf
+position-back p = refl
+
+step-number : (file : List ℕ) (p : Position) (names buffer : List ℕ) → numberIn (stepOn file p names buffer .0) ≡ stepGround file p names buffer
+unfolding numberIn
+step-number file p names buffer =
+    byCase (eqb (stepGround file p names buffer) 0)
+    (λ z.
+    let none = eqb-true _ _ z in
+    byCase (eqb (p .end) running)
+    (λ e. rw (step-made file p names buffer none (eqb-true _ _ e)) (sym none))
+    (λ e. rw (step-ended file p names buffer none (eqb-false _ _ e)) (sym none)))
+    (λ z. rw (step-refused file p names buffer (eqb-false _ _ z)))
+
+made-words : (a : Answer) (p : Position) (run : List ℕ) → stepWords (done (madeBy a)) p run ≡ wordsOf p
+unfolding stepWords madeBy
+made-words (refused n) p run = refl
+made-words (done mask) p run = refl
+
+step-words :
+    (file : List ℕ) (p : Position) (names buffer : List ℕ) →
+    stepWords (stepOn file p names buffer .0) (stepOn file p names buffer .1) (wordsOf p) ≡ wordsOf (stepOn file p names buffer .1)
+unfolding stepWords
+step-words file p names buffer =
+    byCase (eqb (stepGround file p names buffer) 0)
+    (λ z.
+    let none = eqb-true _ _ z in
+    byCase (eqb (p .end) running)
+    (λ e. rw (step-made file p names buffer none (eqb-true _ _ e)) (made-words _ _ (wordsOf p)))
+    (λ e. rw (step-ended file p names buffer none (eqb-false _ _ e))))
+    (λ z. rw (step-refused file p names buffer (eqb-false _ _ z)))
+
+round-number : (file bytes buffer : List ℕ) → numberIn (roundOn file bytes buffer .0) ≡ roundGround file bytes buffer
+unfolding numberIn
+round-number file bytes buffer =
+    byCase (eqb (roundGround file bytes buffer) 0)
+    (λ z. let none = eqb-true _ _ z in rw (round-accepted file bytes buffer none) (sym none))
+    (λ z. rw (round-refused file bytes buffer (eqb-false _ _ z)))
+
+trace-number : (file t : List ℕ) → numberIn (traceOn file t .0) ≡ traceGround file t
+unfolding numberIn
+trace-number file t =
+    byCase (eqb (traceGround file t) 0)
+    (λ z. let none = eqb-true _ _ z in rw (call.trace-run file t none) (sym none))
+    (λ z. rw (call.trace-refused file t (eqb-false _ _ z)))
+
+-- ---- a call
+
+-- file and position as the C calls hold them
+abbrev pub memoryOf : State → Position → Memory
+memoryOf s p = record { file = s .file; run = wordsOf p }
+
+-- a C call's arguments, as the rules' calls have them
+unfoldable pub argumentsOf : CCall → CallOrTrace
+argumentsOf (ttpaStep arguments senders) = CallOrTrace.call (stepBy arguments)
+argumentsOf (ttpaRound bytes buffer senders) = CallOrTrace.call (frameOf bytes buffer)
+argumentsOf (ttpaTrace t report) = CallOrTrace.trace t
+
+-- the ground of a call
+unfoldable groundOf : List ℕ → State → Position → CCall → ℕ
+groundOf names s p (ttpaStep arguments senders) = stepGround (s .file) p names (arguments .buffer)
+groundOf names s p (ttpaRound bytes buffer senders) = roundGround (s .file) bytes buffer
+groundOf names s p (ttpaTrace t report) = traceGround (s .file) t
+
+module _ (names : List ℕ) (s : State) (p : Position) where
+  call-number : (c : CCall) → returned names (memoryOf s p) c ≡ groundOf names s p c
+  unfolding returned groundOf stepCall roundCall traceCall
+  call-number (ttpaStep arguments senders) = rw (position-back p) (step-number (s .file) p names (arguments .buffer))
+  call-number (ttpaRound bytes buffer senders) = round-number (s .file) bytes buffer
+  call-number (ttpaTrace t report) = trace-number (s .file) t
+
+  call-memory : (c : CCall) → memoryAfter names (memoryOf s p) c ≡ memoryOf (callOrTraceOn names s p (argumentsOf c) .0) (callOrTraceOn names s p (argumentsOf c) .1)
+  unfolding memoryAfter argumentsOf callOrTraceOn callOn afterTrace stepCall roundCall traceCall
+  call-memory (ttpaStep arguments senders) = rw (position-back p, step-words (s .file) p names (arguments .buffer))
+  call-memory (ttpaRound bytes buffer senders) = refl
+  call-memory (ttpaTrace t report) = refl
+
+  call-halfway : (c : CCall) → cond (eqb (groundOf names s p c) 0) (halfwayOn (s .halfway) (memoryOf s p) c) (s .halfway) ≡ callOrTraceOn names s p (argumentsOf c) .0 .halfway
+  unfolding groundOf halfwayOn argumentsOf callOrTraceOn callOn afterTrace
+  call-halfway (ttpaStep arguments senders) =
+      byCase (eqb (stepGround (s .file) p names (arguments .buffer)) 0) (λ z. rw z) (λ z. rw z)
+  call-halfway (ttpaRound bytes buffer senders) =
+      byCase (eqb (roundGround (s .file) bytes buffer) 0)
+      (λ z. rw z (sym (accepted-halfway (s .halfway) (s .file) bytes buffer (roundBy bytes) (eqb-true _ _ z) refl)))
+      (λ z. rw (z, round-refused (s .file) bytes buffer (eqb-false _ _ z)) (unfold halfwayAfter in refl))
+  call-halfway (ttpaTrace t report) =
+      byCase (eqb (traceGround (s .file) t) 0)
+      (λ z. rw (z, call.trace-run (s .file) t (eqb-true _ _ z)) (unfold halfwayAfterTrace in refl))
+      (λ z. rw (z, call.trace-refused (s .file) t (eqb-false _ _ z)) (unfold halfwayAfterTrace in refl))
+
+-- ---- lists
+
+calls-memory :
+    (names : List ℕ) (s : State) (p : Position) (cs : List CCall) →
+    afterCalls names (memoryOf s p) cs ≡ memoryOf (afterAll names s p (map argumentsOf cs) .0) (afterAll names s p (map argumentsOf cs) .1)
+unfolding afterCalls afterAll
+calls-memory names s p [] = refl
+calls-memory names s p (c ∷ cs) =
+    rw (call-memory names s p c)
+    (calls-memory names (callOrTraceOn names s p (argumentsOf c) .0) (callOrTraceOn names s p (argumentsOf c) .1) cs)
+
+-- ---- permitted
+
+both-both : (a b c : Bool) → both a (both b c) ≡ both (both a b) c
+unfolding both
+both-both true b c = refl
+both-both false b c = refl
+
+-- frames sent singly, in front of other calls
+frames-front :
+    (names : List ℕ) (s : State) (p : Position) (xs : List (List ℕ)) (ds : List Call) →
+    rules.permitted names s p (map frameCall xs ++ ds) ≡ both (permittedFrames (s .halfway) (s .file) xs) (rules.permitted names (afterSingly s xs) p ds)
+unfolding permittedFrames afterSingly afterFrames halfwayFrom rules.permitted rules.permittedCall callOn frameCall sent
+frames-front names s p [] ds = sym (both-next _ refl)
+frames-front names s p (x ∷ xs) ds =
+    rw (round-number (s .file) x (replicate slots 0), frames-front names (callOn names s p (frameCall x) .0) p xs ds)
+    (both-both _ _ _)
+
+-- those of a trace on a file that is refused
+frames-refused : (file : List ℕ) → fileGround file ≢ 0 → (h : Bool) (xs : List (List ℕ)) → permittedFrames h file xs ≡ true
+unfolding permittedFrames sent numberIn halfwayAfter
+frames-refused file some h [] = refl
+frames-refused file some h (x ∷ xs) =
+    let none = frame-refused file some x in
+    rw (round-refused file x (replicate slots 0) none, ne-eqb _ _ none) (both-true refl (frames-refused file some h xs))
+
+trace-front :
+    (names : List ℕ) (s : State) (p : Position) (t : List ℕ) (ds : List Call) →
+    rules.permitted names s p (framesSingly t ++ ds) ≡
+    both (cond (eqb (traceGround (s .file) t) 0) (permittedFrames (s .halfway) (s .file) (framesOf t)) true) (rules.permitted names (afterTrace s t) p ds)
+unfolding framesSingly
+trace-front names s p t ds =
+    byCase (eqb (traceGround (s .file) t) 0)
+    (λ z.
+    let none = eqb-true _ _ z in
+    rw (z, call.run-whole (s .file) t none, trace-run s t none) (frames-front names s p (framesOf t) ds))
+    (λ z.
+    let some = eqb-false _ _ z in
+    byCase (brokenTrace t)
+    (λ broken. rw (z, broken, trace-refused s t some) (sym (both-next _ refl)))
+    (λ whole.
+    let bad : fileGround (s .file) ≢ 0 = λ g. some (call.none-holds (s .file) t g whole) in
+    rw (z, whole, trace-refused s t some)
+    (frames-front names s p (framesOf t) ds ∙ rw (frames-refused (s .file) bad (s .halfway) (framesOf t), file-refused s t some whole))))
+
+-- a call in front of others
+call-front :
+    (names : List ℕ) (s : State) (p : Position) (c : CCall) (cs : List CCall) →
+    rules.permitted names s p (singly (map argumentsOf (c ∷ cs))) ≡
+    both (cond (eqb (groundOf names s p c) 0) (permittedCall (s .halfway) (memoryOf s p) c) true)
+    (rules.permitted names (callOrTraceOn names s p (argumentsOf c) .0) (callOrTraceOn names s p (argumentsOf c) .1) (singly (map argumentsOf cs)))
+unfolding groundOf permittedCall argumentsOf callOrTraceOn singly
+call-front names s p (ttpaStep arguments senders) cs = unfold rules.permitted rules.permittedCall in refl
+call-front names s p (ttpaRound bytes buffer senders) cs = unfold rules.permitted rules.permittedCall in refl
+call-front names s p (ttpaTrace t report) cs = trace-front names s p t (singly (map argumentsOf cs))
+
+-- the lists permitted here are those that the rules permit, so all that `naming/proofs/Lists` and `Between` permit
+pub same-permitted :
+    (names : List ℕ) (s : State) (p : Position) (cs : List CCall) →
+    permitted (s .halfway) names (memoryOf s p) cs ≡ rules.permitted names s p (singly (map argumentsOf cs))
+unfolding permitted rules.permitted singly
+same-permitted names s p [] = refl
+same-permitted names s p (c ∷ cs) =
+    rw (
+      call-number names s p c,
+      call-halfway names s p c,
+      call-memory names s p c,
+      same-permitted names (callOrTraceOn names s p (argumentsOf c) .0) (callOrTraceOn names s p (argumentsOf c) .1) cs,
+    )
+    (sym (call-front names s p c cs))
+
+-- ---- the theorem
+
+all-given : {cs : List CCall} → All GivenBytes cs → All AllBytes (map argumentsOf cs)
+unfolding argumentsOf
+all-given allEmpty = allEmpty
+all-given (also given-step gs) = also (in-call of-step) (all-given gs)
+all-given (also (given-frame b) gs) = also (in-call (of-frame b)) (all-given gs)
+all-given (also (given-trace b) gs) = also (in-trace b) (all-given gs)
+
+calls-fed : (cs : List CCall) → tracesAside (map argumentsOf cs) ≡ callsFed cs
+unfolding tracesAside callsFed argumentsOf
+calls-fed [] = refl
+calls-fed (ttpaStep arguments senders ∷ cs) = ap (λ (l : List Call). stepBy arguments ∷ l) (calls-fed cs)
+calls-fed (ttpaRound bytes buffer senders ∷ cs) = ap (λ (l : List Call). frameOf bytes buffer ∷ l) (calls-fed cs)
+calls-fed (ttpaTrace t report ∷ cs) = calls-fed cs
+
+check-number : (file : List ℕ) → checkCall file ≡ fileGround file
+unfolding checkCall loadVerdict loadGround
+check-number file = number-result (fileGround file) tt
+
+start-number : (names run : List ℕ) → startCall names run .0 ≡ startGround names
+unfolding startCall startOver
+start-number names run = number-result (startGround names) (fresh names)
+
+start-memory : (file names run : List ℕ) → startGround names ≡ 0 → started file names run ≡ memoryOf (startOn file) (fresh names)
+unfolding startCall startOver lentAfter startOn
+start-memory file names run none = rw (result-done {value = fresh names} none)
+
+start-permitted :
+    (file names run : List ℕ) → startGround names ≡ 0 → (calls : List CCall) → permitted false names (started file names run) calls ≡ true →
+    rules.permitted names (startOn file) (fresh names) (singly (map argumentsOf calls)) ≡ true
+unfolding startOn
+start-permitted file names run none calls may =
+    sym (same-permitted names (startOn file) (fresh names) calls) ∙ rw (start-memory file names run none) at may
+
+-- what demand 3 says of file and position, said of file and words
+in-words :
+    {file names : List ℕ} (calls : List CCall) (s : State) (p : Position) → Demand file names (tracesAside (map argumentsOf calls)) (s .file) p →
+    CallsDemand file names calls (memoryOf s p)
+unfolding wordsOf positionIn
+in-words {file} {names} calls s p d =
+    record {
+      logical = rw (calls-fed calls) at (d .logical);
+      end = rw (calls-fed calls) at (d .end);
+      rounds = rw (calls-fed calls) at (d .rounds);
+      comparisons = rw (calls-fed calls) at (d .comparisons);
+      accepted = check-number (s .file) ∙ d .accepted;
+      next = λ arguments senders. call-number names s p (ttpaStep arguments senders) ∙ unfold groundOf in d .grounds arguments;
+      outcome = d .outcome;
+    }
+
+pub throughout-calls : ThroughoutCalls
+throughout-calls file b checked names n run fresh-run calls more given may =
+    let none : startGround names ≡ 0 = sym (start-number names run) ∙ fresh-run in
+    let d = throughout-with-traces file b (sym (check-number file) ∙ checked) names n none (map argumentsOf calls) (map argumentsOf more) (all-given given)
+    (rw (map-append argumentsOf calls more) at (start-permitted file names run none (calls ++ more) may)) in
+    let after = afterAll names (startOn file) (fresh names) (map argumentsOf calls) in
+    rw (start-memory file names run none, calls-memory names (startOn file) (fresh names) calls) (in-words calls (after .0) (after .1) d)
+
+-- and of the whole list
+pub demand-over-calls : DemandOverCalls
+demand-over-calls file b checked names n run fresh-run calls given may =
+    throughout-calls file b checked names n run fresh-run calls [] given (rw (append-nil calls) may)
+
+-- ---- there are such lists
+
+steps-from : (names : List ℕ) (m : Memory) {calls : List CCall} → All IsStep calls → permitted false names m calls ≡ true
+unfolding permitted permittedCall halfwayOn
+steps-from names m allEmpty = refl
+steps-from names m (also (is-step {arguments} {senders}) steps) =
+    let rest = steps-from names (memoryAfter names m (ttpaStep arguments senders)) steps in
+    byCase (eqb (returned names m (ttpaStep arguments senders)) 0) (λ z. rw z (both-true refl rest)) (λ z. rw z (both-true refl rest))
+
+pub steps-permitted : StepsPermitted
+steps-permitted names m calls steps = steps-from names m steps

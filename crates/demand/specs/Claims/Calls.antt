@@ -1,0 +1,154 @@
+-- Demand 3 (document 01, "The naming run", third paragraph) over the C calls that a program makes: ttpa_check, ttpa_start and then
+-- any list of ttpa_step, ttpa_round and ttpa_trace, on the bytes of the file and the six stored words, judged by the numbers
+-- returned. What each call does is `ttpa/specs/Rules/Calls`, which the contracts of the C functions cite.
+use Prim.Native.Nat.{ℕ}
+use mathlib.Core.Path.{_≡_}
+use mathlib.Core.List.{List, [], _∷_, _++_}
+use mathlib.Core.Bool.{Bool, true, false, cond, not}
+use lib.Dec.{eqb}
+use Rattle.file.specs.Rules.Bytes.{Bytes, All}
+use Rattle.file.specs.Rules.Order.{both}
+use Rattle.file.specs.Rules.Results.{done, numberIn}
+use Rattle.file.specs.Rules.Decode.{decode}
+use Rattle.cluster.specs.Rules.Grounds.{roundBy}
+use Rattle.trace.specs.Rules.Trace.{framesOf}
+use Rattle.trace.specs.Rules.Run.{sent}
+use Rattle.naming.specs.Rules.Account.{StepArguments, argumentsGround, Call, Call.step as stepBy, Call.frame as frameOf}
+use Rattle.naming.specs.Rules.Account.{Named, namesIn, Account, accountOf, accountAfter, comparisonsOf}
+use Rattle.naming.specs.Rules.Figures.{Outcome}
+use Rattle.naming.specs.Claims.Demand.{halfwayAfter, permittedFrame}
+use Rattle.ttpa.specs.Rules.Calls.{checkCall, startCall, stepCall, roundCall, traceCall, positionIn}
+use Rattle.demand.specs.Claims.Traces.{halfwayFrom}
+
+-- a call, by all that it is handed except file, run and names: a step's arguments and the senders' word; a frame, the answer
+-- buffer and the senders' word; a trace and the report's words. The other C calls, ttpa_start aside, write neither file nor run.
+pub data CCall : Type 0 where
+  ttpaStep : StepArguments → ℕ → CCall
+  ttpaRound : List ℕ → List ℕ → ℕ → CCall
+  ttpaTrace : List ℕ → List ℕ → CCall
+
+-- a frame and a trace are bytes
+pub data GivenBytes : CCall → Type 0 where
+  given-step : {arguments : StepArguments} {senders : ℕ} → GivenBytes (ttpaStep arguments senders)
+  given-frame : {bytes buffer : List ℕ} {senders : ℕ} → Bytes bytes → GivenBytes (ttpaRound bytes buffer senders)
+  given-trace : {t report : List ℕ} → Bytes t → GivenBytes (ttpaTrace t report)
+
+-- ---- carried out
+
+-- the memory that the calls share: the bytes of the file, the words of the run
+pub record Memory : Type 0 where
+  pub file : List ℕ
+  pub run : List ℕ
+
+-- the number that a call returns
+unfoldable pub returned : List ℕ → Memory → CCall → ℕ
+returned names m (ttpaStep arguments senders) = stepCall (m .file) (m .run) names (arguments .buffer) senders .0
+returned names m (ttpaRound bytes buffer senders) = roundCall (m .file) bytes buffer senders .0
+returned names m (ttpaTrace t report) = traceCall (m .file) t report .0
+
+-- and what it leaves there: "each call gets the file as the last call left it, each step also the run as the last step left it and
+-- the unchanged names, and nobody else writes these meanwhile"
+unfoldable pub memoryAfter : List ℕ → Memory → CCall → Memory
+memoryAfter names m (ttpaStep arguments senders) =
+    let r = stepCall (m .file) (m .run) names (arguments .buffer) senders in record { file = r .4; run = r .2 }
+memoryAfter names m (ttpaRound bytes buffer senders) = record { file = roundCall (m .file) bytes buffer senders .3; run = m .run }
+memoryAfter names m (ttpaTrace t report) = record { file = traceCall (m .file) t report .2; run = m .run }
+
+unfoldable pub afterCalls : List ℕ → Memory → List CCall → Memory
+afterCalls names m [] = m
+afterCalls names m (c ∷ cs) = afterCalls names (memoryAfter names m c) cs
+
+-- ---- permitted, h being whether a round of others is half done: its MSA accepted, its MSD still to come
+
+-- the frames of a trace, judged as ttpa_round with a buffer of 64 bytes answers them, "sent singly in order"
+unfoldable pub permittedFrames : Bool → List ℕ → List (List ℕ) → Bool
+permittedFrames h file [] = true
+permittedFrames h file (x ∷ xs) =
+    let rest = permittedFrames (halfwayAfter h (sent file x .0) (roundBy x)) (sent file x .2) xs in
+    both (cond (eqb (numberIn (sent file x .0)) 0) (permittedFrame h (roundBy x) x) true) rest
+
+-- a call that returns 0: "A complete round is an accepted MSA followed directly, refused calls aside, by an accepted MSD, or a
+-- multipartner frame"; a step stands within no such round
+unfoldable pub permittedCall : Bool → Memory → CCall → Bool
+permittedCall h m (ttpaStep arguments senders) = not h
+permittedCall h m (ttpaRound bytes buffer senders) = permittedFrame h (roundBy bytes) bytes
+permittedCall h m (ttpaTrace t report) = permittedFrames h (m .file) (framesOf t)
+
+-- whether a round of others is half done after it
+unfoldable pub halfwayOn : Bool → Memory → CCall → Bool
+halfwayOn h m (ttpaStep arguments senders) = h
+halfwayOn h m (ttpaRound bytes buffer senders) = halfwayAfter h (done 0) (roundBy bytes)
+halfwayOn h m (ttpaTrace t report) = halfwayFrom h (m .file) (framesOf t)
+
+-- "every list of steps, permitted rounds .. and refused steps and frames": each judged where it comes, one that returns another
+-- number than 0 being permitted and changing nothing, and no round left half done
+unfoldable pub permitted : Bool → List ℕ → Memory → List CCall → Bool
+permitted h names m [] = not h
+permitted h names m (c ∷ cs) =
+    let carried = eqb (returned names m c) 0 in
+    let rest = permitted (cond carried (halfwayOn h m c) h) names (memoryAfter names m c) cs in
+    both (cond carried (permittedCall h m c) true) rest
+
+-- ---- the account
+
+-- the calls that it is fed: "each call's arguments other than file, run and names"; a trace is others' rounds, which "change
+-- nothing here"
+unfoldable pub callsFed : List CCall → List Call
+callsFed [] = []
+callsFed (ttpaStep arguments senders ∷ cs) = stepBy arguments ∷ callsFed cs
+callsFed (ttpaRound bytes buffer senders ∷ cs) = frameOf bytes buffer ∷ callsFed cs
+callsFed (ttpaTrace t report ∷ cs) = callsFed cs
+
+-- the slaves' names in a file, and the account after the calls
+abbrev pub slavesIn : List ℕ → List Named
+slavesIn file = namesIn (decode file)
+
+abbrev pub accounted : List ℕ → List ℕ → List CCall → Account
+accounted file names calls = accountAfter (accountOf (slavesIn file) names) (callsFed calls)
+
+-- ---- the claim
+
+-- what the memory then holds: "Demand 3 compares every logical name, the end and both counts carried in the run with this
+-- account"; the file stays accepted; a step that comes next returns the ground of its own arguments, so 0 or 9; the closed figures
+pub record CallsDemand (file names : List ℕ) (calls : List CCall) (m : Memory) : Type 0 where
+  pub logical : slavesIn (m .file) ≡ accounted file names calls .slaves
+  pub end : positionIn (m .run) .end ≡ accounted file names calls .end
+  pub rounds : positionIn (m .run) .rounds ≡ accounted file names calls .rounds
+  pub comparisons : positionIn (m .run) .comparisons ≡ comparisonsOf (accounted file names calls)
+  pub accepted : checkCall (m .file) ≡ 0
+  pub next :
+      (arguments : StepArguments) (senders : ℕ) →
+      returned names m (ttpaStep arguments senders) ≡ argumentsGround (slavesIn (m .file)) arguments
+  pub outcome :
+      Outcome (slavesIn file) names (slavesIn (m .file))
+      (positionIn (m .run) .end) (positionIn (m .run) .rounds) (positionIn (m .run) .comparisons)
+
+-- the file, and the words that ttpa_start leaves: whatever they were before, if it returns 0
+abbrev pub started : List ℕ → List ℕ → List ℕ → Memory
+started file names run = record { file = file; run = startCall names run .1 }
+
+-- Demand 3 over the C calls: "It is one claim about the whole list of calls, not one for each."
+abbrev pub DemandOverCalls : Type 0
+DemandOverCalls =
+    -- "It starts from an accepted file": ttpa_check returns 0
+    (file : List ℕ) → Bytes file → checkCall file ≡ 0 →
+    -- "and list of names and a fresh run": ttpa_start returns 0
+    (names : List ℕ) → Bytes names → (run : List ℕ) → startCall names run .0 ≡ 0 →
+    -- "every list of steps, permitted rounds (complete ones, but no write to or execute of 0x08) and refused steps and frames"
+    (calls : List CCall) → All GivenBytes calls → permitted false names (started file names run) calls ≡ true →
+    CallsDemand file names calls (afterCalls names (started file names run) calls)
+
+-- And it holds throughout, after each call of such a list: after those at its front, wherever it is cut.
+abbrev pub ThroughoutCalls : Type 0
+ThroughoutCalls =
+    (file : List ℕ) → Bytes file → checkCall file ≡ 0 →
+    (names : List ℕ) → Bytes names → (run : List ℕ) → startCall names run .0 ≡ 0 →
+    (calls more : List CCall) → All GivenBytes calls → permitted false names (started file names run) (calls ++ more) ≡ true →
+    CallsDemand file names calls (afterCalls names (started file names run) calls)
+
+-- The claims are of many lists: every list of steps is permitted.
+pub data IsStep : CCall → Type 0 where
+  is-step : {arguments : StepArguments} {senders : ℕ} → IsStep (ttpaStep arguments senders)
+
+abbrev pub StepsPermitted : Type 0
+StepsPermitted = (names : List ℕ) (m : Memory) (calls : List CCall) → All IsStep calls → permitted false names m calls ≡ true

@@ -1,0 +1,10 @@
+-- The listing of a file of an unknown edition: as in the file's own claim, no offset of it is followed.
+use Prim.Native.Nat.{ℕ}
+use mathlib.Core.Path.{_≡_}
+use mathlib.Core.List.{List}
+use lib.ListN.{length, getD, take}
+use Rattle.listing_text.specs.Rules.Listing.{listing}
+
+-- it is the same for two files of one length and the same first three bytes, the last of them no edition
+abbrev pub UnknownEditionListed : Type 0
+UnknownEditionListed = (f g : List ℕ) → length f ≡ length g → take 3 f ≡ take 3 g → (getD f 2 0 ≡ 1 → ⊥) → listing f ≡ listing g

@@ -1,0 +1,28 @@
+-- "A refusal returns its number and alters nothing lent" (document 01, "Grounds for turning something away"), for every C call: where the
+-- number that it returns is not 0, everything lent to it is what it was. The check of a file is lent nothing that a call could alter.
+use Prim.Native.Nat.{ℕ}
+use mathlib.Core.Path.{_≡_}
+use mathlib.Core.Logic.{_≢_}
+use mathlib.Core.List.{List}
+use Rattle.ttpa.specs.Rules.Calls.{readAddressCall, writeAddressCall, writeDataCall, roundCall, traceCall, startCall, stepCall}
+
+pub record RefusalsAlterNothing : Type 0 where
+  -- the five parts
+  pub readAddress : (frame parts : List ℕ) (n : ℕ) → n ≢ 0 → readAddressCall frame parts .0 ≡ n → readAddressCall frame parts ≡ (n, parts)
+  -- the frame's buffer
+  pub writeAddress :
+      (frame : List ℕ) (epoch name file operation «record» n : ℕ) → n ≢ 0 →
+      writeAddressCall frame epoch name file operation «record» .0 ≡ n → writeAddressCall frame epoch name file operation «record» ≡ (n, frame)
+  pub writeData : (frame bytes : List ℕ) (n : ℕ) → n ≢ 0 → writeDataCall frame bytes .0 ≡ n → writeDataCall frame bytes ≡ (n, frame)
+  -- senders, answer buffer and file
+  pub round :
+      (file frame answer : List ℕ) (senders n : ℕ) → n ≢ 0 →
+      roundCall file frame answer senders .0 ≡ n → roundCall file frame answer senders ≡ (n, senders, answer, file)
+  -- report and file
+  pub trace : (file t report : List ℕ) (n : ℕ) → n ≢ 0 → traceCall file t report .0 ≡ n → traceCall file t report ≡ (n, report, file)
+  -- the run
+  pub start : (names run : List ℕ) (n : ℕ) → n ≢ 0 → startCall names run .0 ≡ n → startCall names run ≡ (n, run)
+  -- senders, run, answer buffer and file
+  pub step :
+      (file run names answer : List ℕ) (senders n : ℕ) → n ≢ 0 →
+      stepCall file run names answer senders .0 ≡ n → stepCall file run names answer senders ≡ (n, senders, run, answer, file)

@@ -1,0 +1,112 @@
+//! `reach CRATES CLAIMS`: counts what a reader has to believe, and fails where a definition of Rules or Claims is reached by
+//! nothing, where a C call's contract reaches one of Inner, or where the document of claims does not have the figures.
+//!
+//! The last line is `N passed, M failed`; the status is 1 if something failed.
+
+use reach::source::{contracts, module, theorems, Contract, Module};
+use reach::{within, Folder, Specs};
+use std::collections::BTreeMap;
+use std::fs;
+use std::io;
+use std::path::{Path, PathBuf};
+use std::process::ExitCode;
+
+fn main() -> ExitCode {
+    let arguments: Vec<String> = std::env::args().skip(1).collect();
+    let [crates, claims] = &arguments[..] else {
+        eprintln!("usage: reach CRATES CLAIMS");
+        return ExitCode::from(2);
+    };
+    match wrong(Path::new(crates), Path::new(claims)) {
+        Ok(wrong) => {
+            wrong.iter().for_each(|what| println!("failed: {what}"));
+            println!("{} passed, {} failed", u8::from(wrong.is_empty()), wrong.len());
+            ExitCode::from(u8::from(!wrong.is_empty()))
+        }
+        Err(error) => {
+            eprintln!("{error}");
+            ExitCode::from(2)
+        }
+    }
+}
+
+fn wrong(crates: &Path, claims: &Path) -> io::Result<Vec<String>> {
+    let specs = Specs::new(modules(crates)?);
+    let calls = specs
+        .from_contracts(&contracts(&fs::read_to_string(crates.join("ttpa/src/lib.rt"))?, |heading| {
+            heading.contains("extern \"C\"")
+        }));
+    let listing = fs::read_to_string(crates.join("listing_text/src/run.rt"))?;
+    let listing = specs.from_contracts(&contracts(&listing, |heading| heading.starts_with("pub fn list(")));
+    let claimed = specs.from_claims(&all_theorems(crates)?);
+    let every = calls.iter().chain(&listing).chain(&claimed).cloned().collect();
+    let mut wrong = Vec::new();
+    for folder in [Folder::Rules, Folder::Claims] {
+        let unreached = specs.unreached(folder, &every);
+        wrong.extend(unreached.iter().map(|(path, name)| format!("nothing reaches {path} {name}")));
+    }
+    wrong.extend(
+        within(Folder::Inner, &calls).iter().map(|(path, name)| format!("a C call reaches {path} {name}")),
+    );
+    let document = fs::read_to_string(claims)?;
+    for (from, reached) in
+        [("the C calls", &calls), ("the listing", &listing), ("the claims", &claimed), ("all", &every)]
+    {
+        let sizes = Folder::ALL.map(|folder| specs.size(folder, reached));
+        let figures = sizes.map(|size| format!("{} in {}", size.definitions, size.lines)).join(" | ");
+        let row = format!("| {from} | {figures} |");
+        println!("{row}");
+        if !document.lines().any(|line| line == row) {
+            wrong.push(format!("not in {}: {row}", claims.display()));
+        }
+    }
+    Ok(wrong)
+}
+
+fn modules(crates: &Path) -> io::Result<BTreeMap<String, Module>> {
+    let mut modules = BTreeMap::new();
+    for (name, folder) in folders(crates)? {
+        for kind in Folder::ALL {
+            for path in files(&folder.join("specs").join(kind.name()))? {
+                let inside = path.strip_prefix(folder.join("specs")).unwrap_or(&path).with_extension("");
+                modules.insert(format!("{name}/{}", inside.display()), module(&fs::read_to_string(&path)?));
+            }
+        }
+    }
+    Ok(modules)
+}
+
+fn all_theorems(crates: &Path) -> io::Result<Vec<Contract>> {
+    let mut found = Vec::new();
+    for (_, folder) in folders(crates)? {
+        for path in files(&folder.join("proofs"))? {
+            found.extend(theorems(&fs::read_to_string(&path)?));
+        }
+    }
+    Ok(found)
+}
+
+fn folders(crates: &Path) -> io::Result<Vec<(String, PathBuf)>> {
+    let entries: io::Result<Vec<_>> = fs::read_dir(crates)?.collect();
+    Ok(entries?
+        .into_iter()
+        .map(|entry| (entry.file_name().to_string_lossy().into_owned(), entry.path()))
+        .collect())
+}
+
+/// The .antt files of a folder and of those in it; none where there is no such folder.
+fn files(folder: &Path) -> io::Result<Vec<PathBuf>> {
+    let mut found = Vec::new();
+    if !folder.is_dir() {
+        return Ok(found);
+    }
+    for entry in fs::read_dir(folder)? {
+        let path = entry?.path();
+        if path.is_dir() {
+            found.extend(files(&path)?);
+        } else if path.extension().is_some_and(|extension| extension == "antt") {
+            found.push(path);
+        }
+    }
+    Ok(found)
+}
