@@ -34,7 +34,7 @@ use Rattle.demand.specs.Claims.Traces.{CallOrTrace, AllBytes, in-call, i
 use Rattle.demand.specs.Claims.Traces.{callOrTraceOn, afterAll, frameCall, framesSingly, singly, tracesAside}
 use Rattle.demand.specs.Claims.Calls.{CCall, ttpaStep, ttpaRound, ttpaTrace, GivenBytes, given-step, given-frame, given-trace, Memory, returned, memoryAfter, afterCalls}
 use Rattle.demand.specs.Claims.Calls.{permittedFrames, permittedCall, halfwayOn, permitted, callsFed, CallsDemand, started}
-use Rattle.demand.specs.Claims.Calls.{DemandOverCalls, ThroughoutCalls, IsStep, is-step, StepsPermitted}
+use Rattle.demand.specs.Claims.Calls.{DemandOverCalls, ThroughoutCalls, IsStep, is-step, StepsPermitted, memoryOf, argumentsOf, SamePermitted}
 use Rattle.demand.proofs.Traces.{afterSingly, frame-refused, trace-run, trace-refused, file-refused, throughout-with-traces}
 
 -- ---- numbers and words
@@ -91,16 +91,6 @@ trace-number file t =
     (λ z. rw (call.trace-refused file t (eqb-false _ _ z)))
 
 -- ---- a call
-
--- file and position as the C calls hold them
-abbrev pub memoryOf : State → Position → Memory
-memoryOf s p = record { file = s .file; run = wordsOf p }
-
--- a C call's arguments, as the rules' calls have them
-unfoldable pub argumentsOf : CCall → CallOrTrace
-argumentsOf (ttpaStep arguments senders) = CallOrTrace.call (stepBy arguments)
-argumentsOf (ttpaRound bytes buffer senders) = CallOrTrace.call (frameOf bytes buffer)
-argumentsOf (ttpaTrace t report) = CallOrTrace.trace t
 
 -- the ground of a call
 unfoldable groundOf : List ℕ → State → Position → CCall → ℕ
@@ -201,9 +191,7 @@ call-front names s p (ttpaRound bytes buffer senders) cs = unfold rules.permitte
 call-front names s p (ttpaTrace t report) cs = trace-front names s p t (singly (map argumentsOf cs))
 
 -- the lists permitted here are those that the rules permit, so all that `naming/proofs/Lists` and `Between` permit
-pub same-permitted :
-    (names : List ℕ) (s : State) (p : Position) (cs : List CCall) →
-    permitted (s .halfway) names (memoryOf s p) cs ≡ rules.permitted names s p (singly (map argumentsOf cs))
+pub same-permitted : SamePermitted
 unfolding permitted rules.permitted singly
 same-permitted names s p [] = refl
 same-permitted names s p (c ∷ cs) =

@@ -113,6 +113,15 @@ impl Specs {
         reached
     }
 
+    /// Names that a module takes from another one of these which does not have them.
+    pub fn lost(&self) -> Vec<(&str, &Place)> {
+        let all = self
+            .modules
+            .iter()
+            .flat_map(|(path, module)| module.imports.values().map(move |place| (&path[..], place)));
+        all.filter(|(_, place)| self.modules.contains_key(&place.0) && self.defined(place).is_none()).collect()
+    }
+
     /// The definitions of a folder that are not among those reached.
     pub fn unreached(&self, folder: Folder, reached: &BTreeSet<Place>) -> Vec<Place> {
         let all = self.modules.iter().filter(|(path, _)| Folder::of(path) == Some(folder));
@@ -189,6 +198,21 @@ mod tests {
         ]);
         let reached = specs.from_contracts(&contracts(CALLS, |_| true));
         assert_eq!(specs.size(Folder::Rules, &reached), Size { definitions: 2, lines: 4 });
+    }
+
+    #[test]
+    fn a_name_that_is_not_there_is_lost() {
+        let specs = specs(&[
+            (
+                "ttpa/Rules/Calls",
+                "use Rattle.file.specs.Rules.Cluster.{ground, gone}\nunfoldable pub call : ℕ\ncall = ground\n",
+            ),
+            ("file/Rules/Cluster", "unfoldable pub ground : ℕ\nground = 0\n"),
+        ]);
+        assert_eq!(
+            specs.lost(),
+            [("ttpa/Rules/Calls", &("file/Rules/Cluster".to_string(), "gone".to_string()))]
+        );
     }
 
     #[test]

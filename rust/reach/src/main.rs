@@ -4,8 +4,8 @@
 //! The last line is `N passed, M failed`; the status is 1 if something failed.
 
 use reach::source::{contracts, module, theorems, Contract, Module};
-use reach::{within, Folder, Specs};
-use std::collections::BTreeMap;
+use reach::{within, Folder, Place, Specs};
+use std::collections::{BTreeMap, BTreeSet};
 use std::fs;
 use std::io;
 use std::path::{Path, PathBuf};
@@ -39,7 +39,7 @@ fn wrong(crates: &Path, claims: &Path) -> io::Result<Vec<String>> {
     let listing = fs::read_to_string(crates.join("listing_text/src/run.rt"))?;
     let listing = specs.from_contracts(&contracts(&listing, |heading| heading.starts_with("pub fn list(")));
     let claimed = specs.from_claims(&all_theorems(crates)?);
-    let every = calls.iter().chain(&listing).chain(&claimed).cloned().collect();
+    let every: BTreeSet<Place> = calls.iter().chain(&listing).chain(&claimed).cloned().collect();
     let mut wrong = Vec::new();
     for folder in [Folder::Rules, Folder::Claims] {
         let unreached = specs.unreached(folder, &every);
@@ -48,10 +48,16 @@ fn wrong(crates: &Path, claims: &Path) -> io::Result<Vec<String>> {
     wrong.extend(
         within(Folder::Inner, &calls).iter().map(|(path, name)| format!("a C call reaches {path} {name}")),
     );
+    wrong.extend(specs.lost().iter().map(|(module, (path, name))| format!("{module}: no {name} in {path}")));
     let document = fs::read_to_string(claims)?;
-    for (from, reached) in
-        [("the C calls", &calls), ("the listing", &listing), ("the claims", &claimed), ("all", &every)]
-    {
+    let mut rows = vec![
+        ("the C calls".to_string(), calls),
+        ("the listing".to_string(), listing),
+        ("the claims".to_string(), claimed),
+        ("all".to_string(), every.clone()),
+    ];
+    rows.extend(by_crate(&every));
+    for (from, reached) in &rows {
         let sizes = Folder::ALL.map(|folder| specs.size(folder, reached));
         let figures = sizes.map(|size| format!("{} in {}", size.definitions, size.lines)).join(" | ");
         let row = format!("| {from} | {figures} |");
@@ -61,6 +67,16 @@ fn wrong(crates: &Path, claims: &Path) -> io::Result<Vec<String>> {
         }
     }
     Ok(wrong)
+}
+
+/// The definitions reached, apart by crate.
+fn by_crate(every: &BTreeSet<Place>) -> Vec<(String, BTreeSet<Place>)> {
+    let mut apart: BTreeMap<String, BTreeSet<Place>> = BTreeMap::new();
+    for place in every {
+        let name = place.0.split('/').next().unwrap_or(&place.0);
+        apart.entry(format!("`{name}`")).or_default().insert(place.clone());
+    }
+    apart.into_iter().collect()
 }
 
 fn modules(crates: &Path) -> io::Result<BTreeMap<String, Module>> {

@@ -69,12 +69,13 @@ pub fn contracts(text: &str, wanted: impl Fn(&str) -> bool) -> Vec<Contract> {
     found
 }
 
-/// The statements of a module of proofs: the lines that give a name its type.
+/// The theorems of a module of proofs that have a claim as their type: the lines that give a name one word as its type.
 pub fn theorems(text: &str) -> Vec<Contract> {
     let imports = imports(text, "use ");
     let stated =
-        text.lines().map(without_comment).filter(|line| line.starts_with("pub ") && line.contains(" : "));
-    stated.map(|line| Contract { words: words(line), imports: imports.clone() }).collect()
+        text.lines().map(without_comment).filter_map(|line| line.strip_prefix("pub ")?.split_once(" : "));
+    let claims = stated.map(|(_, claim)| claim).filter(|claim| !claim.contains(' '));
+    claims.map(|claim| Contract { words: words(claim), imports: imports.clone() }).collect()
 }
 
 /// The name that a line declares.
@@ -117,6 +118,8 @@ fn imports(text: &str, start: &str) -> BTreeMap<String, Place> {
         };
         for name in names.trim_end_matches(['}', ';']).split(',').map(str::trim) {
             let (there, here) = name.split_once(" as ").unwrap_or((name, name));
+            // `Type.constructor` is that constructor
+            let there = there.rsplit('.').next().unwrap_or(there);
             imports.insert(here.to_string(), (module.clone(), there.to_string()));
         }
     }

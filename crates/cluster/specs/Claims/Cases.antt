@@ -1,5 +1,5 @@
 -- The cases M6 to M9 of document 01, "What slaves do": on every file on which a data frame without data is accepted, with the operation
--- pending that the case names.
+-- pending that the case names; M6 and M7 on such a file of one slave, M8 of two, M9 of any number.
 use Prim.Native.Nat.{ℕ, _+_}
 use mathlib.Core.Path.{_≡_}
 use mathlib.Core.List.{List, [], _∷_}

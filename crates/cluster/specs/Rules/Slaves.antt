@@ -105,7 +105,7 @@ mayWrite n r = both (not (eqb n documentation)) (not (eqb r 0x00))
 unfoldable pub takesWrite : ℕ → ℕ → ℕ → Slave → Bool
 takesWrite name n r s = both (addressed name s) (both (hasRecord s n r) (mayWrite n r))
 
--- "Record 1: those with physical name equal to IDCV take the new logical name.", which record 1 of 0x08 holds in byte 3
+-- "Record 1: those with physical name equal to IDCV take the new logical name.": byte 2 of record 1 of 0x08 goes to its byte 3
 unfoldable pub takesName : ℕ → Slave → Bool
 takesName name s = both (addressed name s) (eqb (physicalName s) (comparisonValue s))
 

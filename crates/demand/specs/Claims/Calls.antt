@@ -3,7 +3,7 @@
 -- returned. What each call does is `ttpa/specs/Rules/Calls`, which the contracts of the C functions cite.
 use Prim.Native.Nat.{ℕ}
 use mathlib.Core.Path.{_≡_}
-use mathlib.Core.List.{List, [], _∷_, _++_}
+use mathlib.Core.List.{List, [], _∷_, _++_, map}
 use mathlib.Core.Bool.{Bool, true, false, cond, not}
 use lib.Dec.{eqb}
 use Rattle.file.specs.Rules.Bytes.{Bytes, All}
@@ -16,9 +16,10 @@ use Rattle.trace.specs.Rules.Run.{sent}
 use Rattle.naming.specs.Rules.Account.{StepArguments, argumentsGround, Call, Call.step as stepBy, Call.frame as frameOf}
 use Rattle.naming.specs.Rules.Account.{Named, namesIn, Account, accountOf, accountAfter, comparisonsOf}
 use Rattle.naming.specs.Rules.Figures.{Outcome}
-use Rattle.naming.specs.Claims.Demand.{halfwayAfter, permittedFrame}
-use Rattle.ttpa.specs.Rules.Calls.{checkCall, startCall, stepCall, roundCall, traceCall, positionIn}
-use Rattle.demand.specs.Claims.Traces.{halfwayFrom}
+use Rattle.naming.specs.Rules.Run.{Position}
+use Rattle.naming.specs.Claims.Demand.{State, halfwayAfter, permittedFrame, permitted as permittedByRules}
+use Rattle.ttpa.specs.Rules.Calls.{checkCall, startCall, stepCall, roundCall, traceCall, wordsOf, positionIn}
+use Rattle.demand.specs.Claims.Traces.{CallOrTrace, halfwayFrom, singly}
 
 -- a call, by all that it is handed except file, run and names: a step's arguments and the senders' word; a frame, the answer
 -- buffer and the senders' word; a trace and the report's words. The other C calls, ttpa_start aside, write neither file nor run.
@@ -152,3 +153,18 @@ pub data IsStep : CCall → Type 0 where
 
 abbrev pub StepsPermitted : Type 0
 StepsPermitted = (names : List ℕ) (m : Memory) (calls : List CCall) → All IsStep calls → permitted false names m calls ≡ true
+
+-- And the lists permitted are exactly those that demand 3 permits over files and positions, so rounds and traces too: the memory that
+-- holds a file and a position, and the calls without the words that they write.
+abbrev pub memoryOf : State → Position → Memory
+memoryOf s p = record { file = s .file; run = wordsOf p }
+
+unfoldable pub argumentsOf : CCall → CallOrTrace
+argumentsOf (ttpaStep arguments senders) = CallOrTrace.call (stepBy arguments)
+argumentsOf (ttpaRound bytes buffer senders) = CallOrTrace.call (frameOf bytes buffer)
+argumentsOf (ttpaTrace t report) = CallOrTrace.trace t
+
+abbrev pub SamePermitted : Type 0
+SamePermitted =
+    (names : List ℕ) (s : State) (p : Position) (calls : List CCall) →
+    permitted (s .halfway) names (memoryOf s p) calls ≡ permittedByRules names s p (singly (map argumentsOf calls))

@@ -47,13 +47,13 @@ renamed gs s = record { physical = s .physical; logical = nameGiven gs (s .physi
 unfoldable pub namesAfter : List Named → List ℕ → List Named
 namesAfter slaves names = map (renamed (givings (falling (unnamedAmong slaves)) (freeNames (namesHeld slaves) names))) slaves
 
--- the rounds of the whole run: "200 min(u, f), plus 4 if u < f, plus one for each taken name tried"
+-- the rounds of the whole run: 200 min(u, f), plus 4 if u < f, plus one for each taken name tried
 unfoldable pub roundsFor : List Named → List ℕ → ℕ
 roundsFor slaves names =
     let held = namesHeld slaves in let u = length (unnamedAmong slaves) in let f = length (freeNames held names) in
     namingRounds * min u f + cond (ltb u f) endingRounds 0 + takenTried held u names
 
--- and its comparisons: "65 min(u, f), plus 1 if u < f"
+-- and its comparisons: 65 min(u, f), plus 1 if u < f
 unfoldable pub comparisonsFor : List Named → List ℕ → ℕ
 comparisonsFor slaves names =
     let u = length (unnamedAmong slaves) in let f = length (freeNames (namesHeld slaves) names) in
