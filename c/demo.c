@@ -1,14 +1,16 @@
 /* demo FILE: commissioning a small cluster, as firmware or test software would do it.
  *
  * Loads a cluster file, checks it, reads a record of a named slave, names the unnamed slaves while other
- * rounds go on in between, runs a captured trace, and prints what happened. examples/demo.rs of the Rust crate
- * does the same and prints the same. */
+ * rounds go on in between, runs a captured trace, plans who sends in which slot, and prints what happened.
+ * examples/demo.rs of the Rust crate does the same and prints the same. */
 #include <inttypes.h>
 #include <stdio.h>
 
 #include "ttpa.h"
 
 #define STEPS_BETWEEN_TRAFFIC 50
+/* the master's own logical name */
+#define MASTER 0x80
 
 /* The cluster file and what the last round answered. One byte more than a file may have, so that a longer
  * one is seen and refused. */
@@ -158,6 +160,64 @@ static void show_trace(void)
     }
 }
 
+/* A complete master-slave round that writes a record: the data frame has its four bytes. */
+static uint8_t write_record(uint8_t name, uint8_t file, uint8_t record, const uint8_t *bytes)
+{
+    uint8_t frame[TTPA_FRAME_BYTES];
+    uint8_t number = ttpa_write_address(frame, sizeof frame, 1, name, file, TTPA_OPERATION_WRITE, record);
+    if (number == TTPA_ACCEPTED) {
+        number = send(frame, sizeof frame);
+    }
+    if (number == TTPA_ACCEPTED) {
+        number = ttpa_write_data(frame, sizeof frame, bytes[0], bytes[1], bytes[2], bytes[3]);
+    }
+    if (number == TTPA_ACCEPTED) {
+        number = send(frame, sizeof frame);
+    }
+    return number;
+}
+
+/* The rounds that an owner file has rows of. */
+static const int owned[] = {0, 2, 3, 4, 6, 7};
+#define OWNED (sizeof owned / sizeof owned[0])
+
+/* For each round who sends in which slot, the master in slot 0; 0x00 is nobody, or a slave of that name. A row ends
+ * where the next begins, the last one with the file. */
+static void print_plan(const uint8_t *owners, size_t bytes)
+{
+    for (size_t i = 0; i < OWNED; i++) {
+        size_t begin = (size_t)TTPA_OWNER_RECORD_BYTES * owners[TTPA_OWNER_INDEX + owned[i]];
+        size_t end = bytes;
+        if (i + 1 < OWNED) {
+            end = (size_t)TTPA_OWNER_RECORD_BYTES * owners[TTPA_OWNER_INDEX + owned[i + 1]];
+        }
+        printf("round %d:", owned[i]);
+        for (size_t slot = 0; slot < end - begin; slot++) {
+            if (owners[begin + slot] != 0x00) {
+                printf(" %zu=%02X", slot, (unsigned)owners[begin + slot]);
+            }
+        }
+        printf("\n");
+    }
+}
+
+/* Slaves 01 and 02 both send in slot 2 of round 2. Then 02 is given slot 4: the entry of its list for round 2
+ * sends from file 0x10, record 1, one byte, in slot 4. */
+static void show_owners(void)
+{
+    static const uint8_t entry[] = {0x10 << 2, 0x01, 0x10, 4};
+    uint8_t owners[TTPA_OWNER_BYTES];
+    uint64_t bytes;
+    print_verdict("an owner file", ttpa_owner(cluster, length, MASTER, owners, sizeof owners, &bytes));
+    print_verdict("slot 4 for 02", write_record(0x02, 0x02, 1, entry));
+    print_verdict("an owner file in 39 bytes", ttpa_owner(cluster, length, MASTER, owners, 39, &bytes));
+    uint8_t number = ttpa_owner(cluster, length, MASTER, owners, sizeof owners, &bytes);
+    print_verdict("an owner file", number);
+    if (number == TTPA_ACCEPTED) {
+        print_plan(owners, (size_t)bytes);
+    }
+}
+
 int main(int count, char **arguments)
 {
     static const uint8_t names[] = {0x01, 0x02, 0x03, 0x04};
@@ -196,6 +256,10 @@ int main(int count, char **arguments)
     show_trace();
     number = send(round, sizeof round);
     print_verdict("round 2 after the trace", number);
+    print_answer("answer");
+    show_owners();
+    number = send(round, sizeof round);
+    print_verdict("round 2 as planned", number);
     print_answer("answer");
     print_verdict("a short answer buffer", ttpa_round(cluster, length, round, sizeof round, answer,
                                                       TTPA_ANSWER_BYTES - 1, &senders));

@@ -42,6 +42,8 @@ VALUE(TTPA_REFUSED_REPEATED_NAME, 16);
 VALUE(TTPA_REFUSED_POSITION, 17);
 VALUE(TTPA_REFUSED_FILE_NUMBER, 18);
 VALUE(TTPA_REFUSED_TRACE, 19);
+VALUE(TTPA_REFUSED_TWO_SENDERS, 20);
+VALUE(TTPA_REFUSED_OWNER_BUFFER, 21);
 
 VALUE(TTPA_FILE_BYTES, 32768);
 VALUE(TTPA_FRAME_BYTES, 6);
@@ -93,6 +95,10 @@ VALUE(TTPA_REPORT_REFUSED, 3);
 VALUE(TTPA_REPORT_SUM, 4);
 VALUE(TTPA_REPORT_WORDS, 5);
 
+VALUE(TTPA_OWNER_BYTES, 396);
+VALUE(TTPA_OWNER_RECORD_BYTES, 4);
+VALUE(TTPA_OWNER_INDEX, 4);
+
 /* ---- the prototypes */
 
 typedef const char *text_type(uint8_t);
@@ -105,6 +111,7 @@ typedef uint8_t start_type(const uint8_t *, size_t, uint64_t *);
 typedef uint8_t step_type(uint8_t *, size_t, uint64_t *, const uint8_t *, size_t, uint8_t *, size_t,
                           uint64_t *);
 typedef uint8_t trace_type(uint8_t *, size_t, const uint8_t *, size_t, uint64_t *);
+typedef uint8_t owner_type(const uint8_t *, size_t, uint8_t, uint8_t *, size_t, uint64_t *);
 
 PROTOTYPE(ttpa_refusal_text, text_type);
 PROTOTYPE(ttpa_check, check_type);
@@ -115,6 +122,7 @@ PROTOTYPE(ttpa_round, round_type);
 PROTOTYPE(ttpa_start, start_type);
 PROTOTYPE(ttpa_step, step_type);
 PROTOTYPE(ttpa_trace, trace_type);
+PROTOTYPE(ttpa_owner, owner_type);
 
 /* ---- the comparisons */
 
@@ -207,7 +215,8 @@ static void texts(void)
     static const char *const words[] = {
         "accepted",  "32,768",        "mark",   "edition",    "as long as",  "header",       "layout",
         "0x3D",      "physical name", "buffer", "firework",   "length",      "firework and", "operation",
-        "a read is", "0xFF",          "twice",  "naming run", "file number", "the trace",
+        "a read is", "0xFF",          "twice",  "naming run", "file number", "the trace",    "two slaves",
+        "owner file",
     };
     const int known = sizeof words / sizeof words[0];
     for (int number = 0; number < known; number++) {
@@ -215,7 +224,7 @@ static void texts(void)
         EXPECT(is_printable(text) && strstr(text, words[number]) != NULL);
         EXPECT(first_with(text) == number);
     }
-    EXPECT(known == TTPA_REFUSED_TRACE + 1);
+    EXPECT(known == TTPA_REFUSED_OWNER_BUFFER + 1);
     EXPECT(is_printable(ttpa_refusal_text(UINT8_MAX)));
     for (int number = known; number <= UINT8_MAX; number++) {
         EXPECT(first_with(ttpa_refusal_text((uint8_t)number)) == known);
@@ -579,6 +588,101 @@ static void refused_traces(void)
     EXPECT(memcmp(cluster, m10, sizeof m10) == 0);
 }
 
+/* ---- owner files */
+
+/* Three slaves, each with a list for round 2 and a file 0x10 of 8 bytes. The first, 0x21, sends in slots 1 and
+ * 2, the second, 0x22, in slot 4; the third, unnamed, would send in slot 2. */
+static const uint8_t partners[] = {
+    0x54, 0x41, 0x01, 0x03, 0x00, 0x10, 0x00, 0xD0, 0x00, 0x00, 0x00, 0x00, 0x00, 0x00, 0x00, 0x00,
+    0x00, 0x1C, 0x04, 0x00, 0x00, 0x58, 0x04, 0x00, 0x00, 0x94, 0x04, 0x00,
+    /* the first slave at 0x1C: its directory, then its list, 0x08, 0x10 and 0x3D */
+    0x02, 0x01, 0x00, 0x2C, 0x08, 0x03, 0x00, 0x34, 0x10, 0x01, 0x00, 0x44, 0x3D, 0x02, 0x00, 0x4C,
+    0x00, 0x00, 0x00, 0x00, 0x40, 0x01, 0x11, 0x01,
+    0x00, 0x00, 0x00, 0x00, 0x00, 0x00, 0x00, 0x21, 0x00, 0x00, 0x00, 0x00, 0x00, 0x00, 0x00, 0x00,
+    0x00, 0x00, 0x00, 0x00, 0xA1, 0xA2, 0x00, 0x00,
+    0x00, 0x00, 0x00, 0x00, 0x00, 0x00, 0x00, 0x07, 0x00, 0x00, 0x00, 0x01,
+    /* the second at 0x58 */
+    0x02, 0x01, 0x00, 0x68, 0x08, 0x03, 0x00, 0x70, 0x10, 0x01, 0x00, 0x80, 0x3D, 0x02, 0x00, 0x88,
+    0x00, 0x00, 0x00, 0x00, 0x40, 0x01, 0x10, 0x04,
+    0x00, 0x00, 0x00, 0x00, 0x00, 0x00, 0x00, 0x22, 0x00, 0x00, 0x00, 0x00, 0x00, 0x00, 0x00, 0x00,
+    0x00, 0x00, 0x00, 0x00, 0xB1, 0xB2, 0x00, 0x00,
+    0x00, 0x00, 0x00, 0x00, 0x00, 0x00, 0x00, 0x07, 0x00, 0x00, 0x00, 0x02,
+    /* the third at 0x94 */
+    0x02, 0x01, 0x00, 0xA4, 0x08, 0x03, 0x00, 0xAC, 0x10, 0x01, 0x00, 0xBC, 0x3D, 0x02, 0x00, 0xC4,
+    0x00, 0x00, 0x00, 0x00, 0x40, 0x01, 0x10, 0x02,
+    0x00, 0x00, 0x00, 0x00, 0x00, 0x00, 0x00, 0xFF, 0x00, 0x00, 0x00, 0x00, 0x00, 0x00, 0x00, 0x00,
+    0x00, 0x00, 0x00, 0x00, 0xC1, 0xC2, 0x00, 0x00,
+    0x00, 0x00, 0x00, 0x00, 0x00, 0x00, 0x00, 0x07, 0x00, 0x00, 0x00, 0x03,
+};
+
+/* Where the third slave's logical name stands. */
+#define THIRD_NAME 0xB3
+
+/* Their owner file for a master named 0x11: round 2 has five slots, so two records from record 4 on. */
+static const uint8_t owners[] = {
+    0x00, 0x00, 0x00, 0x00, 0x03, 0x00, 0x04, 0x06, 0x07, 0x00, 0x08, 0x09,
+    0x11, 0x00, 0x00, 0x00, 0x11, 0x21, 0x21, 0x00, 0x22, 0x00, 0x00, 0x00,
+    0x11, 0x00, 0x00, 0x00, 0x11, 0x00, 0x00, 0x00, 0x11, 0x00, 0x00, 0x00, 0x11, 0x00, 0x00, 0x00,
+};
+
+static uint8_t owner_buffer[TTPA_OWNER_BYTES + 1];
+static uint64_t owner_length;
+
+static uint8_t write_owner(const uint8_t *file, size_t bytes, size_t buffer_bytes)
+{
+    memset(owner_buffer, OLD, sizeof owner_buffer);
+    owner_length = OLD_WORD;
+    return ttpa_owner(file, bytes, 0x11, owner_buffer, buffer_bytes, &owner_length);
+}
+
+/* The owner file stands in the front of the buffer, and after it nothing is written. */
+static int owner_is(const uint8_t *expected, size_t bytes)
+{
+    return owner_length == bytes && memcmp(owner_buffer, expected, bytes) == 0 &&
+           is_old(owner_buffer + bytes, sizeof owner_buffer - bytes);
+}
+
+/* The call refuses by the number and writes nothing. */
+static int owner_refused(const uint8_t *file, size_t bytes, size_t buffer_bytes, uint8_t number)
+{
+    return write_owner(file, bytes, buffer_bytes) == number && owner_length == OLD_WORD &&
+           is_old(owner_buffer, sizeof owner_buffer);
+}
+
+static void owner_files(void)
+{
+    static const uint8_t nobody[] = {
+        0x00, 0x00, 0x00, 0x00, 0x03, 0x00, 0x04, 0x05, 0x06, 0x00, 0x07, 0x08,
+        0x11, 0x00, 0x00, 0x00, 0x11, 0x00, 0x00, 0x00, 0x11, 0x00, 0x00, 0x00,
+        0x11, 0x00, 0x00, 0x00, 0x11, 0x00, 0x00, 0x00, 0x11, 0x00, 0x00, 0x00,
+    };
+    EXPECT(ttpa_check(partners, sizeof partners) == TTPA_ACCEPTED);
+    EXPECT(write_owner(partners, sizeof partners, sizeof owner_buffer) == TTPA_ACCEPTED);
+    EXPECT(owner_is(owners, sizeof owners));
+    EXPECT(write_owner(partners, sizeof partners, sizeof owners) == TTPA_ACCEPTED);
+    EXPECT(owner_is(owners, sizeof owners));
+    EXPECT(owners[TTPA_OWNER_INDEX + 2] * TTPA_OWNER_RECORD_BYTES == 16);
+    EXPECT(write_owner(m10, sizeof m10, TTPA_OWNER_BYTES) == TTPA_ACCEPTED);
+    EXPECT(owner_is(nobody, sizeof nobody));
+}
+
+static void refused_owners(void)
+{
+    uint8_t clashing[sizeof partners];
+    memcpy(clashing, partners, sizeof partners);
+    clashing[THIRD_NAME] = 0x23;
+    EXPECT(ttpa_owner(NULL, 0, 0x11, NULL, 0, &owner_length) == TTPA_REFUSED_FILE_SIZE);
+    EXPECT(owner_refused(clashing, sizeof clashing - 1, 0, TTPA_REFUSED_LENGTH_FIELD));
+    EXPECT(owner_refused(clashing, sizeof clashing, 0, TTPA_REFUSED_TWO_SENDERS));
+    EXPECT(owner_refused(clashing, sizeof clashing, TTPA_OWNER_BYTES, TTPA_REFUSED_TWO_SENDERS));
+    clashing[THIRD_NAME] = 0x21;
+    EXPECT(owner_refused(clashing, sizeof clashing, TTPA_OWNER_BYTES, TTPA_REFUSED_TWO_SENDERS));
+    EXPECT(owner_refused(partners, sizeof partners, 0, TTPA_REFUSED_OWNER_BUFFER));
+    EXPECT(owner_refused(partners, sizeof partners, sizeof owners - 1, TTPA_REFUSED_OWNER_BUFFER));
+    EXPECT(ttpa_owner(partners, sizeof partners, 0x11, NULL, 0, &owner_length) == TTPA_REFUSED_OWNER_BUFFER);
+    EXPECT(owner_length == OLD_WORD);
+}
+
 int main(void)
 {
     texts();
@@ -598,6 +702,8 @@ int main(void)
     traces();
     longest_traces();
     refused_traces();
+    owner_files();
+    refused_owners();
     printf("%d comparisons, %d failed\n", comparisons, failures);
     return failures == 0 ? 0 : 1;
 }

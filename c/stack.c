@@ -3,8 +3,8 @@
  * Each call is made on a stack of its own that was filled with one byte value; the deepest byte that has
  * another value afterwards is the deepest that was used. The calls are made on a cluster file of the
  * greatest length with the most slaves: every kind of frame, a whole naming run over all names, the frames
- * again as a trace, and refusals. All of it runs three times: first to have the linker's work done, then with
- * two different fillings, since a byte may be written with the value that it has. */
+ * again as a trace, owner files, and refusals. All of it runs three times: first to have the linker's work done,
+ * then with two different fillings, since a byte may be written with the value that it has. */
 #define _XOPEN_SOURCE 700
 #include <stdio.h>
 #include <string.h>
@@ -33,6 +33,9 @@ static uint64_t run[TTPA_RUN_WORDS];
 static uint8_t trace[TTPA_TRACE_BYTES];
 static size_t trace_bytes;
 static uint64_t report[TTPA_REPORT_WORDS];
+static uint8_t owner[TTPA_OWNER_BYTES];
+static size_t owner_bytes;
+static uint64_t owner_length;
 static uint8_t number;
 
 /* ---- a cluster file of TTPA_FILE_BYTES bytes with SLAVES slaves */
@@ -156,7 +159,12 @@ static void trace_call(void)
     number = ttpa_trace(cluster, sizeof cluster, trace, trace_bytes, report);
 }
 
-enum kind { NOTHING, CHECK, READ_ADDRESS, WRITE_ADDRESS, WRITE_DATA, ROUND, START, STEP, TRACE, KINDS };
+static void owner_call(void)
+{
+    number = ttpa_owner(cluster, sizeof cluster, 0xFE, owner, owner_bytes, &owner_length);
+}
+
+enum kind { NOTHING, CHECK, READ_ADDRESS, WRITE_ADDRESS, WRITE_DATA, ROUND, START, STEP, TRACE, OWNER, KINDS };
 
 struct call {
     const char *name;
@@ -173,6 +181,7 @@ static const struct call calls[KINDS] = {
     [START] = {"ttpa_start", start_call},
     [STEP] = {"ttpa_step", step_call},
     [TRACE] = {"ttpa_trace", trace_call},
+    [OWNER] = {"ttpa_owner", owner_call},
 };
 
 /* The most stack that a call of each kind has used. */
@@ -345,6 +354,17 @@ static void run_trace(void)
     make(TRACE, TTPA_REFUSED_TRACE);
 }
 
+/* Before the naming run only the first slave has a name, and sends in slots 1 to 16: a row of 17 slots, five
+ * records; with the three before it and five rows of one record, 52 bytes. After it all send, and many in one slot. */
+static void write_owner(uint8_t expected)
+{
+    owner_bytes = sizeof owner;
+    make(OWNER, expected);
+    owner_bytes = 51;
+    make(OWNER, expected == TTPA_ACCEPTED ? TTPA_REFUSED_OWNER_BUFFER : expected);
+    failed |= expected == TTPA_ACCEPTED && owner_length != 52;
+}
+
 static void all_calls(void)
 {
     frames = 0;
@@ -353,7 +373,9 @@ static void all_calls(void)
     make(NOTHING, TTPA_ACCEPTED);
     check_files();
     multipartner_rounds();
+    write_owner(TTPA_ACCEPTED);
     name_all();
+    write_owner(TTPA_REFUSED_TWO_SENDERS);
     multipartner_rounds();
     master_slave_rounds();
     refused_frames();

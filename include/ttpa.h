@@ -1,6 +1,6 @@
 /* The TTP/A cluster engine for C and C++: check a cluster file, read and write frames, carry out rounds on
- * the file, name its slaves and run captured traces. The words and rules are those of document 01, the scope
- * document, and of document 02, the change requests.
+ * the file, name its slaves, run captured traces and write the owner file. The words and rules are those of
+ * document 01, the scope document, and of document 02, the change requests.
  *
  * Numbers. Every call returns 0 or the number of the ground on which it refused, see enum ttpa_refusal. The
  * comment of a call gives its numbers in the order in which it checks them; the first that holds is
@@ -9,8 +9,10 @@
  * Memory. All memory is the caller's, lent until the call returns; no pointer is kept. No byte is read or
  * written outside the length that is given with a pointer.
  * - NULL: a pointer with length 0 is not followed and may be NULL. With any other length it points to that
- *   many bytes. parts, run, senders and report have no length and are never NULL, not in a refused call either.
- * - Alignment: run, senders and report as uint64_t has it, so not inside a packed structure; all others none.
+ *   many bytes. parts, run, senders, report and length are lent without a length and are never NULL, not in a
+ *   refused call either.
+ * - Alignment: run, senders, report and length as uint64_t has it, so not inside a packed structure; all
+ *   others none.
  * - Overlap: what a call may write (each pointer without const) overlaps nothing else of the same call.
  * The calls keep no state, allocate nothing, never wait and always return, whatever the bytes hold. Calls on
  * different memory may run at the same time.
@@ -31,12 +33,12 @@ extern "C" {
 /* The version of this header and of the library made from the same sources. The archive does not carry it:
  * keep the two together. */
 #define TTPA_VERSION_MAJOR 0
-#define TTPA_VERSION_MINOR 3
-#define TTPA_VERSION_PATCH 1
+#define TTPA_VERSION_MINOR 4
+#define TTPA_VERSION_PATCH 0
 
 /* What the library takes: code and constants of all calls, and the most stack that a call uses, with its
  * return address and arguments. No other memory. Both are measured, and rounded up. */
-#define TTPA_CODE_BYTES 7168
+#define TTPA_CODE_BYTES 8448
 #define TTPA_STACK_BYTES 2176
 
 /* What the calls return: 0, or the documents' number for the ground on which something was refused. */
@@ -51,7 +53,7 @@ enum ttpa_refusal {
     TTPA_REFUSED_LAYOUT = 6,
     TTPA_REFUSED_NEEDED_FILE = 7,
     TTPA_REFUSED_EQUAL_PHYSICAL_NAMES = 8,
-    /* a buffer to be written */
+    /* the buffer for an answer or a frame */
     TTPA_REFUSED_SHORT_BUFFER = 9,
     /* a frame: 10 to 14, and 18 below */
     TTPA_REFUSED_FIREWORK = 10,
@@ -66,7 +68,10 @@ enum ttpa_refusal {
     /* a file number handed to the writer of address frames */
     TTPA_REFUSED_FILE_NUMBER = 18,
     /* a captured trace */
-    TTPA_REFUSED_TRACE = 19
+    TTPA_REFUSED_TRACE = 19,
+    /* an owner file: the cluster it is for, and the buffer for it */
+    TTPA_REFUSED_TWO_SENDERS = 20,
+    TTPA_REFUSED_OWNER_BUFFER = 21
 };
 
 /* What a returned number means, for an installer's screen: English, ASCII, without a full stop, never NULL.
@@ -114,6 +119,10 @@ static inline const char *ttpa_refusal_text(uint8_t number)
         return "the file number for an address frame is above 63";
     case TTPA_REFUSED_TRACE:
         return "the trace is longer than 16,384 bytes, or its header, an offset or its length is wrong";
+    case TTPA_REFUSED_TWO_SENDERS:
+        return "two slaves send in one slot of a round, so that the slot has no single owner";
+    case TTPA_REFUSED_OWNER_BUFFER:
+        return "the buffer is too short for this cluster's owner file";
     default:
         return "refused on a ground that this version has no text for";
     }
@@ -194,6 +203,17 @@ static inline const char *ttpa_refusal_text(uint8_t number)
 #define TTPA_REPORT_SUM 4 /* the sum of the four, which is the frame count */
 #define TTPA_REPORT_WORDS 5
 
+/* The most bytes that an owner file (file 0x0B) has, the bytes of its records, and where its index begins. It
+ * tells who sends in which slot of each multipartner round: record 0x00 is zeros; records 1 and 2 are the index,
+ * a byte for each of rounds 0 to 7: the record where the round's row begins, 0x00 for rounds 1 and 5, which have
+ * none. The rows follow in the order of the rounds, from record 3 on. A row has a byte for each slot from 0 up to
+ * the last in which a slave sends: the master's name for slot 0, else the logical name of the slave that sends,
+ * 0x00 where none does (or one that is named 0x00); then zeros up to a whole record. It ends where the next row
+ * begins, the last one with the file; that of a round in which nobody sends is one record, slot 0 alone. */
+#define TTPA_OWNER_BYTES 396
+#define TTPA_OWNER_RECORD_BYTES 4
+#define TTPA_OWNER_INDEX 4
+
 /* Checks a cluster file of n bytes.
  * Refuses by 1, 2, 3, 4, 5, 6, 7, 8 in this order. Writes nothing. */
 uint8_t ttpa_check(const uint8_t *file, size_t n);
@@ -241,6 +261,17 @@ uint8_t ttpa_step(uint8_t *file, size_t n, uint64_t run[TTPA_RUN_WORDS], const u
  * report is written. */
 uint8_t ttpa_trace(uint8_t *file, size_t n, const uint8_t *trace, size_t m,
                    uint64_t report[TTPA_REPORT_WORDS]);
+
+/* Writes the owner file of the cluster file of n bytes into the front of the k bytes at buffer, with the name
+ * master, any byte, for slot 0 of each round. A slave sends in a slot if it would put a byte there in the round
+ * as ttpa_round carries it out: unnamed slaves and entries that cannot send do not count, though an entry that
+ * covers a slot and cannot send there still hides later ones of its list. TTPA_OWNER_BYTES are enough for every
+ * cluster.
+ * Refuses by 1, 2, 3, 4, 5, 6, 7, 8, 20, 21 in this order; 20 counts slaves, also those of one name, and 21 is
+ * for a buffer shorter than this cluster's owner file. On 0 *length is the length of the owner file, and the
+ * first *length bytes of buffer, and no other, are written. */
+uint8_t ttpa_owner(const uint8_t *file, size_t n, uint8_t master, uint8_t *buffer, size_t k,
+                   uint64_t *length);
 
 #ifdef __cplusplus
 }

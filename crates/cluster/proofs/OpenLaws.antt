@@ -66,7 +66,7 @@ pub record Rest (c : Cluster) (round s k left at end : ℕ) : Type 0 where
   pub lies : 0 < entriesIn round (slaveOf c s) → at ≡ filePlace c s round + recordSize * k
   pub runsNone : entriesIn round (slaveOf c s) ≡ 0 → at ≡ 0
 
-rest-start : {c : Cluster} {round s start end : ℕ} → RoundFileIs c round s start end → Rest c round s 1 (entriesIn round (slaveOf c s)) start end
+pub rest-start : {c : Cluster} {round s start end : ℕ} → RoundFileIs c round s start end → Rest c round s 1 (entriesIn round (slaveOf c s)) start end
 rest-start {c} {round} {s} {start} is =
     record {
       some = omega arith;

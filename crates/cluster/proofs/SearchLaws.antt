@@ -17,7 +17,7 @@ use Rattle.file.proofs.ReaderLaws.{length-limit}
 use Rattle.cluster.specs.Rules.Bus.{slots}
 use Rattle.cluster.specs.Rules.Slaves.{isUnnamed}
 use Rattle.cluster.specs.Rules.Entries.{Entry, entryOf, entryThere, entryAt, ends, covers, Acting, noEntry, acts, actingFrom, acting}
-use Rattle.cluster.specs.Rules.Multipartner.{sendPlace, storePlace, sendsFrom, storesAt, byteThere}
+use Rattle.cluster.specs.Rules.Multipartner.{sendPlace, storePlace, plansFrom, sendsFrom, storesAt, byteThere}
 use Rattle.cluster.specs.Inner.EntryForm.{entryFrom, evaluated, Reaches}
 use Rattle.cluster.specs.Inner.Slots.{entriesIn, placeIn, actSends, actStores, SlotActIs}
 use Rattle.cluster.specs.declared.entry.Entry as Code
@@ -26,8 +26,8 @@ use Rattle.cluster.specs.declared.multipartner.SlotAct.the-variants as A
 use Rattle.cluster.proofs.SlotActLaws.{act-evaluated}
 use Rattle.cluster.proofs.OpenLaws.{acting-end, acting-here, acting-next, acting-none, actor, Rest, rest-within, rest-next, rest-entry, OpenAt}
 
-actor-sends : (round slot : ℕ) (s : Slave) → sendPlace s slot (actor round slot s) ≡ sendsFrom round slot s
-unfolding actor entriesIn actingFrom acting sendPlace sendsFrom
+pub actor-sends : (round slot : ℕ) (s : Slave) → sendPlace s slot (actor round slot s) ≡ sendsFrom round slot s
+unfolding actor entriesIn actingFrom acting sendPlace plansFrom sendsFrom
 actor-sends round slot s = byCase (isUnnamed s) (λ t. rw t) (λ t. rw t)
 
 actor-stores : (round slot : ℕ) (s : Slave) → storePlace s slot (actor round slot s) ≡ storesAt round slot s

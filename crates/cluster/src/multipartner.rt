@@ -52,7 +52,7 @@ pub struct RoundFiles {
     pub ends: [usize; MOST_SLAVES],
 }
 
-fn round_file(file: &[u8], places: &SlavePlaces, slave: usize, round: FileNumber) -> RoundFile
+pub fn round_file(file: &[u8], places: &SlavePlaces, slave: usize, round: FileNumber) -> RoundFile
     requires { ⌜ Placed (now file) (now places) × (slave < slaveCount (now file)) ⌝ }
     ensures { λ r. ⌜ RoundFileIs (decode (now (file .entry))) (fileIn round) slave (r .start) (r .end) ⌝ }
 {

@@ -96,6 +96,10 @@ impl Refusal {
 
     // Document 02 from here on: "New numbers, all joining document 01's".
     pub const TRACE: Refusal = Refusal(19);
+
+    pub const TWO_SENDERS: Refusal = Refusal(20);
+
+    pub const OWNER_BUFFER: Refusal = Refusal(21);
 }
 
 // "the slave count, 0 to 32".

@@ -31,6 +31,10 @@ use Rattle.trace.specs.declared.report.Report.{Report}
 use Rattle.trace.specs.declared.run.TraceAnswer.{TraceAnswer}
 use Rattle.trace.specs.declared.run.TraceAnswer.the-variants as traces
 use Rattle.trace.proofs.Calls.{ran-few}
+use Rattle.owner.specs.Rules.Writing.{ownerOn}
+use Rattle.owner.specs.Inner.Answers.{writtenOf}
+use Rattle.owner.specs.declared.write.OwnerAnswer.{OwnerAnswer}
+use Rattle.owner.specs.declared.write.OwnerAnswer.the-variants as owners
 use Rattle.naming.specs.Rules.Run.{startOver}
 use Rattle.naming.specs.Rules.Step.{ended, made, stepOn}
 use Rattle.naming.specs.Inner.Answers.{positionOf, startedOf, steppedOf, runAfter}
@@ -39,7 +43,7 @@ use Rattle.naming.specs.declared.run.Started.{Started}
 use Rattle.naming.specs.declared.run.Started.the-variants as starts
 use Rattle.naming.specs.declared.run.Stepped.{Stepped}
 use Rattle.naming.specs.declared.run.Stepped.the-variants as steps
-use Rattle.ttpa.specs.Rules.Calls.{lentAfter, checkCall, partBytes, readAddressCall, writeAddressCall, writeDataCall, roundCall, traceCall, wordsOf, positionIn, startCall, stepSenders, stepWords, stepCall}
+use Rattle.ttpa.specs.Rules.Calls.{lentAfter, checkCall, partBytes, readAddressCall, writeAddressCall, writeDataCall, roundCall, traceCall, ownerCall, wordsOf, positionIn, startCall, stepSenders, stepWords, stepCall}
 
 -- ---- the checker
 
@@ -131,6 +135,22 @@ module _ (file t report : List ℕ) {file′ : List ℕ} (a : TraceAnswer) (is :
   trace-few {r} e =
       let ran : (done (reportIn r), file′) ≡ traceOn file t = rw e at is in
       ran-few file t (reportIn r) (rw (← ran))
+
+-- ---- the owner file
+
+module _ (file : List ℕ) (master : ℕ) (buffer : List ℕ) (length : ℕ) {name : ℕ} (same : name ≡ master) {buffer′ : List ℕ} (a : OwnerAnswer)
+    (is : (writtenOf a, buffer′) ≡ ownerOn file name buffer) where
+  pub owner-refuses : {why : Refusal} → a ≡ owners.Refused why → (why .0, length, buffer′) ≡ ownerCall file master buffer length
+  unfolding ownerCall numberIn lentAfter writtenOf
+  owner-refuses {why} e =
+      let r : (refused (why .0), buffer′) ≡ ownerOn file master buffer = rw (e, same) at is in
+      rw (← r)
+
+  pub owner-writes : {written : ℕ} → a ≡ owners.Written written → (0, written, buffer′) ≡ ownerCall file master buffer length
+  unfolding ownerCall numberIn lentAfter writtenOf
+  owner-writes {written} e =
+      let r : (done written, buffer′) ≡ ownerOn file master buffer = rw (e, same) at is in
+      rw (← r)
 
 -- ---- a fresh run
 

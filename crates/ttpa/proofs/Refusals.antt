@@ -12,9 +12,10 @@ use Rattle.frame.specs.Rules.Frames.{addressFrame, dataFrame}
 use Rattle.frame.specs.Rules.Writing.{writeFrame, writeGround, writeAddress, dataGround, writeData}
 use Rattle.cluster.specs.Rules.Round.{roundGround, roundOn}
 use Rattle.trace.specs.Rules.Run.{traceGround, traceOn}
+use Rattle.owner.specs.Rules.Writing.{ownerGround, ownerOn}
 use Rattle.naming.specs.Rules.Run.{running, startOver}
 use Rattle.naming.specs.Rules.Step.{stepGround, stepMade, stepOn}
-use Rattle.ttpa.specs.Rules.Calls.{lentAfter, partBytes, readAddressCall, writeAddressCall, writeDataCall, roundCall, traceCall, positionIn, wordsOf, startCall, stepSenders, stepWords, stepCall}
+use Rattle.ttpa.specs.Rules.Calls.{lentAfter, partBytes, readAddressCall, writeAddressCall, writeDataCall, roundCall, traceCall, ownerCall, positionIn, wordsOf, startCall, stepSenders, stepWords, stepCall}
 use Rattle.ttpa.specs.Claims.Refusals.{RefusalsAlterNothing}
 
 -- ---- a frame read or written
@@ -36,7 +37,7 @@ write-kept ground frame buffer n some e =
     (λ t. absurd (some (sym (rw t at e))))
     (λ t. let same : ground ≡ n = rw t at e in rw (t, same))
 
--- ---- a frame or a trace on a file
+-- ---- a frame or a trace on a file, and its owner file
 
 round-kept :
     (file frame answer : List ℕ) (senders n : ℕ) → n ≢ 0 → roundCall file frame answer senders .0 ≡ n →
@@ -53,6 +54,15 @@ trace-kept file t report n some e =
     byCase (eqb (traceGround file t) 0)
     (λ x. absurd (some (sym (rw x at e))))
     (λ x. let same : traceGround file t ≡ n = rw x at e in rw (x, same))
+
+owner-kept :
+    (file : List ℕ) (master : ℕ) (buffer : List ℕ) (length n : ℕ) → n ≢ 0 → ownerCall file master buffer length .0 ≡ n →
+    ownerCall file master buffer length ≡ (n, length, buffer)
+unfolding ownerCall ownerOn numberIn lentAfter
+owner-kept file master buffer length n some e =
+    byCase (eqb (ownerGround file master buffer) 0)
+    (λ x. absurd (some (sym (rw x at e))))
+    (λ x. let same : ownerGround file master buffer ≡ n = rw x at e in rw (x, same))
 
 -- ---- a run
 
@@ -79,6 +89,7 @@ refusals-alter-nothing =
       writeData = λ frame bytes n some e. write-kept (dataGround frame) (dataFrame bytes) frame n some e;
       round = round-kept;
       trace = trace-kept;
+      owner = owner-kept;
       start = λ names run n some e. lent-kept (startOver names) run wordsOf n some e;
       step = step-kept;
     }

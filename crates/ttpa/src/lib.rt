@@ -2,7 +2,7 @@
 // return. Each is the call of the layer below, with the answer as a number.
 ghost use mathlib.Core.Path.{_≡_};
 ghost use mathlib.Core.List.{[], _∷_};
-ghost use Rattle.ttpa.specs.Rules.Calls.{checkCall, readAddressCall, writeAddressCall, writeDataCall, roundCall, traceCall, wordsOf, positionIn, startCall, stepCall};
+ghost use Rattle.ttpa.specs.Rules.Calls.{checkCall, readAddressCall, writeAddressCall, writeDataCall, roundCall, traceCall, ownerCall, wordsOf, positionIn, startCall, stepCall};
 ghost use Rattle.naming.specs.Inner.Answers.{positionOf};
 ghost use Rattle.file.specs.Rules.Results.{numberIn};
 ghost use Rattle.frame.specs.Inner.Answers.{writingOf};
@@ -27,6 +27,8 @@ use naming::run::Started;
 use naming::run::Stepped;
 use naming::run::start;
 use naming::run::step;
+use owner::write::OwnerAnswer;
+use owner::write::write_owner;
 use trace::report::Report;
 use trace::run::TraceAnswer;
 use trace::run::run_trace;
@@ -164,6 +166,20 @@ pub extern "C" fn ttpa_trace(file: &mut [u8], trace: &[u8], report: &mut [u64; R
         TraceAnswer::Refused(why) => why.0,
         TraceAnswer::Ran(counts) => {
             *report = report_words(counts);
+            0
+        }
+    }
+}
+
+#[no_mangle]
+pub extern "C" fn ttpa_owner(file: &[u8], master: u8, buffer: &mut [u8], length: &mut u64) -> u8
+    ensures { λ r. ⌜ (r, now (length .exit), now (buffer .exit)) ≡ ownerCall (now (file .entry)) master (now (buffer .entry)) (now (length .entry)) ⌝ }
+{
+    let done = write_owner(file, LogicalName::new(master), buffer);
+    match done {
+        OwnerAnswer::Refused(why) => why.0,
+        OwnerAnswer::Written(written) => {
+            *length = written as u64;
             0
         }
     }

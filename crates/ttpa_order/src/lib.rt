@@ -2,11 +2,12 @@
 // passes them by their order: a call of `ttpa` whose parameters stood in another order would not meet the contract here.
 ghost use mathlib.Core.Path.{_≡_};
 ghost use mathlib.Core.List.{[], _∷_};
-ghost use Rattle.ttpa.specs.Rules.Calls.{checkCall, readAddressCall, writeAddressCall, writeDataCall, roundCall, traceCall, startCall, stepCall};
+ghost use Rattle.ttpa.specs.Rules.Calls.{checkCall, readAddressCall, writeAddressCall, writeDataCall, roundCall, traceCall, ownerCall, startCall, stepCall};
 use ttpa::PARTS;
 use ttpa::REPORT_WORDS;
 use ttpa::WORDS;
 use ttpa::ttpa_check;
+use ttpa::ttpa_owner;
 use ttpa::ttpa_read_address;
 use ttpa::ttpa_round;
 use ttpa::ttpa_start;
@@ -56,6 +57,12 @@ pub fn trace(file: &mut [u8], trace: &[u8], report: &mut [u64; REPORT_WORDS]) ->
     ensures { λ r. ⌜ (r, now (report .exit), now (file .exit)) ≡ traceCall (now (file .entry)) (now (trace .entry)) (now (report .entry)) ⌝ }
 {
     ttpa_trace(file, trace, report)
+}
+
+pub fn owner(file: &[u8], master: u8, buffer: &mut [u8], length: &mut u64) -> u8
+    ensures { λ r. ⌜ (r, now (length .exit), now (buffer .exit)) ≡ ownerCall (now (file .entry)) master (now (buffer .entry)) (now (length .entry)) ⌝ }
+{
+    ttpa_owner(file, master, buffer, length)
 }
 
 pub fn start(names: &[u8], run: &mut [u64; WORDS]) -> u8

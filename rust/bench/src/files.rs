@@ -1,8 +1,9 @@
 //! The cluster files of the workloads.
 
-use model::{Cluster, File, FileNumber, LogicalName, Pending, Slave, MOST_BYTES};
+use model::{Cluster, File, FileNumber, LogicalName, Pending, Slave, MOST_BYTES, MOST_SLAVES};
 
 const ROUND_FILE: u8 = 2;
+const ROUND_FILES: [u8; 6] = [0, 2, 3, 4, 6, 7];
 const DATA_FILE: u8 = 0x10;
 /// Enough for a byte in each of the slots 1 to 63 after record 0x00.
 const DATA_RECORDS: usize = 16;
@@ -43,16 +44,9 @@ pub fn most_entries() -> Vec<u8> {
 pub fn partners(slaves: usize, entries: usize) -> Vec<u8> {
     let slave = |number: usize| {
         let mut list = vec![0; 4];
-        let mut slot = 0;
-        for entry in 0..entries {
-            let first_of_next_slot = entry * SLOTS / entries == slot;
-            if first_of_next_slot {
-                slot += 1;
-            }
-            let covered = if first_of_next_slot { slot } else { 1 };
-            list.extend(entry_of(covered, covered % slaves == number));
+        for slot in spread(entries) {
+            list.extend(entry_of(slot, slot % slaves == number));
         }
-        assert_eq!(slot, SLOTS);
         let data = vec![number as u8 | 0x40; 4 * (DATA_RECORDS + 1)];
         Slave {
             files: vec![
@@ -64,6 +58,65 @@ pub fn partners(slaves: usize, entries: usize) -> Vec<u8> {
         }
     };
     encode((0..slaves).map(slave).collect())
+}
+
+/// A slave that sends one byte in each of the slots 1 to 63 of every round, an entry for each slot.
+pub fn owner_of_all() -> Vec<u8> {
+    let list: Vec<u8> = (1..=SLOTS).flat_map(|slot| from_documentation(slot, true)).collect();
+    encode(vec![with_lists(0, &ROUND_FILES.map(|round| (round, list.clone())))])
+}
+
+/// 32 slaves with as many entries as 32,768 bytes hold: one round file each, of which the rounds have five or six. In
+/// each round every slot has one sender, these slaves taking turns, and the others receive there. As in [`partners`],
+/// the slots are covered for the first time by entries spread over the whole list.
+pub fn most_owners() -> Vec<u8> {
+    let slave = |number: usize, entries: usize| {
+        let round = number % ROUND_FILES.len();
+        let sharing = (MOST_SLAVES - round).div_ceil(ROUND_FILES.len());
+        let sends = |slot: usize| slot % sharing == number / ROUND_FILES.len();
+        let list: Vec<u8> =
+            spread(entries).into_iter().flat_map(|slot| from_documentation(slot, sends(slot))).collect();
+        with_lists(number, &[(ROUND_FILES[round], list)])
+    };
+    let least = (0..MOST_SLAVES).map(|number| slave(number, SLOTS)).collect();
+    let more = (MOST_BYTES - encode(least).len()) / 4;
+    let entries = |number: usize| SLOTS + more / MOST_SLAVES + usize::from(number < more % MOST_SLAVES);
+    let file = encode((0..MOST_SLAVES).map(|number| slave(number, entries(number))).collect());
+    assert_eq!(file.len(), MOST_BYTES);
+    file
+}
+
+/// A slave of the name that follows its number, with these lists and no file but the two it needs.
+fn with_lists(number: usize, lists: &[(u8, Vec<u8>)]) -> Slave {
+    let round_file = |(round, list): &(u8, Vec<u8>)| File {
+        number: FileNumber(*round),
+        bytes: [vec![0; 4], list.clone()].concat(),
+    };
+    let mut files: Vec<File> = lists.iter().map(round_file).collect();
+    files.extend([configuration(number as u8 + 1), documentation(number)]);
+    Slave { files }
+}
+
+/// The slot of each entry of a list that covers all slots.
+fn spread(entries: usize) -> Vec<usize> {
+    let mut slot = 0;
+    let mut next = |entry: usize| {
+        let first_of_next_slot = entry * SLOTS / entries == slot;
+        slot += usize::from(first_of_next_slot);
+        if first_of_next_slot {
+            slot
+        } else {
+            1
+        }
+    };
+    let slots = (0..entries).map(&mut next).collect();
+    assert_eq!(slot, SLOTS);
+    slots
+}
+
+/// One slot, its byte the first of file 0x3D; a receive stores nothing there.
+fn from_documentation(slot: usize, sends: bool) -> [u8; 4] {
+    [FileNumber::DOCUMENTATION.0 << 2, 0, u8::from(sends) << 4, slot as u8]
 }
 
 /// One slot, its byte at its own place of the data file behind record 0x00.

@@ -7,7 +7,7 @@ use model::{encode_trace, MSA, MSD};
 use std::hint::black_box;
 
 /// The lines of the table.
-pub const TABLE: [&str; 15] = [
+pub const TABLE: [&str; 18] = [
     "check-32-2",
     "check-most",
     "address-32",
@@ -23,6 +23,9 @@ pub const TABLE: [&str; 15] = [
     "naming-32",
     "trace-1000-32",
     "rounds-1000-32",
+    "owner-1",
+    "owner-most",
+    "owner-none-32",
 ];
 
 /// How the check grows in slaves, and in files of a slave; how a round grows in slaves and entries.
@@ -51,6 +54,8 @@ pub const GROWTH: [&str; 22] = [
     "naming-8",
 ];
 
+const MOST_OWNER_BYTES: usize = 396;
+
 /// The calls of one workload, with the memory they are lent.
 pub enum Workload {
     Check {
@@ -76,6 +81,10 @@ pub enum Workload {
     Frames {
         file: Vec<u8>,
         frames: Vec<Vec<u8>>,
+    },
+    /// The owner file of a cluster.
+    Owner {
+        file: Vec<u8>,
     },
 }
 
@@ -114,6 +123,9 @@ impl Workload {
                 }
             }
             ["trace", reads, slaves] => reads_as_trace(number(reads)?, number(slaves)?),
+            ["owner", "1"] => Workload::Owner { file: files::owner_of_all() },
+            ["owner", "most"] => Workload::Owner { file: files::most_owners() },
+            ["owner", "none", slaves] => Workload::Owner { file: named(number(slaves)?) },
             ["rounds", reads, slaves] => reads_as_rounds(number(reads)?, number(slaves)?),
             _ => return None,
         })
@@ -133,6 +145,12 @@ impl Workload {
                     let mut report: ReportWords = [0; 5];
                     accepted(engine.trace(black_box(file), black_box(trace), &mut report));
                     assert_eq!(report, [*frames / 2, *frames / 2, 0, 0, *frames]);
+                }
+                Workload::Owner { file } => {
+                    let mut buffer = [0; MOST_OWNER_BYTES];
+                    let mut length = 0;
+                    accepted(engine.owner(black_box(file), 0x63, &mut buffer, &mut length));
+                    black_box((buffer, length));
                 }
                 Workload::Frames { file, frames } => {
                     for frame in frames {

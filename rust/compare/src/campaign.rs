@@ -5,7 +5,7 @@ use crate::engine::{Engine, Model};
 use crate::random::Random;
 use crate::sort::Sort;
 use crate::tally::Tally;
-use crate::{clusters, inputs, runs, traces};
+use crate::{clusters, inputs, owners, runs, traces};
 use std::collections::BTreeMap;
 
 /// Cases that are printed before the rest is only counted.
@@ -21,6 +21,7 @@ pub struct Amounts {
     pub starts: usize,
     pub steps: usize,
     pub traces: usize,
+    pub owners: usize,
     pub runs: usize,
 }
 
@@ -33,6 +34,7 @@ impl Amounts {
         starts: 10_000,
         steps: 40_000,
         traces: 10_000,
+        owners: 10_000,
         runs: 60,
     };
 
@@ -45,6 +47,7 @@ impl Amounts {
             starts: self.starts * factor,
             steps: self.steps * factor,
             traces: self.traces * factor,
+            owners: self.owners * factor,
             runs: self.runs * factor,
         }
     }
@@ -58,6 +61,7 @@ impl Amounts {
             starts: self.starts / divisor,
             steps: self.steps / divisor,
             traces: self.traces / divisor,
+            owners: self.owners / divisor,
             runs: self.runs / divisor,
         }
     }
@@ -127,6 +131,7 @@ impl<'a> Campaign<'a> {
         self.starts(amounts.starts, &mut Random::from_seed(seed ^ 5));
         self.steps(amounts.steps, &mut Random::from_seed(seed ^ 6));
         self.traces(amounts.traces, &mut Random::from_seed(seed ^ 8));
+        self.owners(amounts.owners, &mut Random::from_seed(seed ^ 9));
         for run in 0..amounts.runs {
             // Every number of slaves has its turn; 20 and 33 have no divisor in common.
             let slaves = 20 * run % (model::MOST_SLAVES + 1);
@@ -134,6 +139,7 @@ impl<'a> Campaign<'a> {
         }
         self.sorts_reached(&Sort::REACHED, amounts.rounds);
         self.sorts_reached(&Sort::REACHED_BY_TRACES, amounts.traces);
+        self.sorts_reached(&Sort::REACHED_BY_OWNERS, amounts.owners);
         self.sorts_reached(&Sort::REACHED_BY_RUNS, amounts.runs);
         self.reached();
     }
@@ -228,6 +234,36 @@ impl<'a> Campaign<'a> {
             let trace = traces::trace(random, &cluster);
             let outcome = self.call(&Call::Trace { file: file.clone(), trace: trace.clone() });
             self.note_sorts(traces::sorts(&file, &trace, &outcome));
+        }
+    }
+
+    /// Owner files, half of them of clusters in which slots are dealt out, more than a quarter of damaged files.
+    fn owners(&mut self, amount: usize, random: &mut Random) {
+        for _ in 0..amount {
+            let file = match random.below(6) {
+                0..=2 => owners::planned(random).encode(),
+                3 => clusters::damaged(random),
+                _ => any_file(random),
+            };
+            let master = random.one_of(&[0x00, 0x01, 0x63, 0xFF]);
+            let buffer_length = owners::buffer_length(random, &file);
+            let call = Call::Owner { file: file.clone(), master, buffer_length };
+            let outcome = self.call(&call);
+            self.note_sorts(owners::sorts(&call, &outcome));
+            if outcome.number == 0 {
+                self.planned_round(random, file);
+            }
+        }
+    }
+
+    /// In a round as it runs someone sends in exactly the slots that have a sender in the plan.
+    fn planned_round(&mut self, random: &mut Random, file: Vec<u8>) {
+        let frame = vec![random.one_of(&inputs::MULTIPARTNER)];
+        let planned = owners::planned_mask(&file, frame[0]);
+        let call = Call::Round { file, frame, answer_length: 64 };
+        let outcome = self.call(&call);
+        if outcome.mask() != planned {
+            self.differ(&format!("the plan has {planned:016X}\n{}", call.line(&outcome)), "see the case");
         }
     }
 
@@ -334,6 +370,8 @@ fn difference(call: &Call, expected: &Outcome, got: &Outcome) -> Option<&'static
         Some("run")
     } else if expected.report != got.report {
         Some("report")
+    } else if expected.length != got.length {
+        Some("length")
     } else {
         None
     }

@@ -1,7 +1,8 @@
 //! One call as a line of text: `round FILE FRAME answer-length = number mask FILE-after ANSWER-after`.
 //!
 //! Bytes are hexadecimal and `-` is none; other numbers are decimal, masks sixteen hexadecimal digits. The
-//! answer buffer holds EE throughout before the call. A mask or a report that the call leaves alone is shown as 0.
+//! answer buffer, and that for an owner file, hold EE throughout before the call. A mask, a report or a length that the
+//! call leaves alone is shown as 0.
 
 use crate::engine::{Engine, ReportWords, RunWords};
 use crate::tally::Tally;
@@ -10,6 +11,7 @@ use std::fmt;
 /// What lent memory holds before a call, so that a byte too many shows.
 pub const FILL: u8 = 0xEE;
 const SENDERS_BEFORE: u64 = 0xEEEE_EEEE_EEEE_EEEE;
+const LENGTH_BEFORE: u64 = SENDERS_BEFORE;
 const RUN_BEFORE: RunWords = [SENDERS_BEFORE; 6];
 /// A report's five words between two that are not lent, so that a word too many shows.
 type FencedReport = [u64; 7];
@@ -30,6 +32,7 @@ pub enum Call {
     Start { names: Vec<u8> },
     Step { file: Vec<u8>, names: Vec<u8>, run: RunWords, answer_length: usize },
     Trace { file: Vec<u8>, trace: Vec<u8> },
+    Owner { file: Vec<u8>, master: u8, buffer_length: usize },
 }
 
 /// Everything a call answers and leaves in lent memory; None is memory that was not lent.
@@ -38,11 +41,12 @@ pub struct Outcome {
     pub number: u8,
     pub senders: Option<u64>,
     pub file: Option<Vec<u8>>,
-    /// The frame buffer of a writer, or the answer buffer.
+    /// The frame buffer of a writer, the answer buffer, or the buffer for an owner file.
     pub buffer: Option<Vec<u8>>,
     pub parts: Option<[u8; 5]>,
     pub run: Option<RunWords>,
     pub report: Option<FencedReport>,
+    pub length: Option<u64>,
 }
 
 impl Outcome {
@@ -55,6 +59,11 @@ impl Outcome {
     pub fn report_words(&self) -> Option<ReportWords> {
         let [_, msa, msd, multipartner, refused, sum, _] = self.report.filter(|_| self.number == 0)?;
         Some([msa, msd, multipartner, refused, sum])
+    }
+
+    /// How many bytes of an owner file were written.
+    pub fn written(&self) -> Option<u64> {
+        self.length.filter(|_| self.number == 0)
     }
 
     /// Whether the file is another than before, its epoch aside.
@@ -75,6 +84,7 @@ impl Call {
             Call::Start { .. } => "start",
             Call::Step { .. } => "step",
             Call::Trace { .. } => "trace",
+            Call::Owner { .. } => "owner",
         }
     }
 
@@ -101,6 +111,9 @@ impl Call {
             ),
             Call::Trace { trace, .. } => {
                 engine.trace(lent_bytes(&mut outcome.file), trace, lent_report(&mut outcome.report))
+            }
+            Call::Owner { file, master, .. } => {
+                engine.owner(file, *master, lent_bytes(&mut outcome.buffer), lent(&mut outcome.length))
             }
         };
         outcome
@@ -132,6 +145,9 @@ impl Call {
             },
             Call::Trace { file, .. } => {
                 Outcome { file: Some(file.clone()), report: Some(REPORT_BEFORE), ..nothing }
+            }
+            Call::Owner { buffer_length, .. } => {
+                Outcome { buffer: answer(*buffer_length), length: Some(LENGTH_BEFORE), ..nothing }
             }
         }
     }
@@ -166,6 +182,9 @@ impl Call {
                 let report = outcome.report_words().unwrap_or([0; 5]);
                 format!("{number} {} {}", decimals(&report, " "), after(&outcome.file))
             }
+            Call::Owner { .. } => {
+                format!("{number} {} {}", outcome.written().unwrap_or(0), after(&outcome.buffer))
+            }
         };
         format!("{self} = {result}")
     }
@@ -195,6 +214,11 @@ impl Call {
                 answer_length: length.parse().ok()?,
             }),
             ["trace", file, trace] => Some(Call::Trace { file: bytes(file)?, trace: bytes(trace)? }),
+            ["owner", file, master, length] => Some(Call::Owner {
+                file: bytes(file)?,
+                master: master.parse().ok()?,
+                buffer_length: length.parse().ok()?,
+            }),
             _ => None,
         }
     }
@@ -216,6 +240,9 @@ impl fmt::Display for Call {
                 write!(out, "{} {} {} {answer_length}", hex(file), hex(names), decimals(run, ","))
             }
             Call::Trace { file, trace } => write!(out, "{} {}", hex(file), hex(trace)),
+            Call::Owner { file, master, buffer_length } => {
+                write!(out, "{} {master} {buffer_length}", hex(file))
+            }
         }
     }
 }

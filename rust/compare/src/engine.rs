@@ -4,7 +4,7 @@ pub type RunWords = [u64; 6];
 /// Of the frames of a trace the numbers of MSA, MSD, multipartner and refused ones, and their sum.
 pub type ReportWords = [u64; 5];
 
-/// One implementation of the eight calls. 0 is "carried out", every other number a refusal.
+/// One implementation of the nine calls. 0 is "carried out", every other number a refusal.
 pub trait Engine {
     /// What the comparison says it ran against.
     fn name(&self) -> &'static str;
@@ -23,6 +23,7 @@ pub trait Engine {
         senders: &mut u64,
     ) -> u8;
     fn trace(&self, file: &mut [u8], trace: &[u8], report: &mut ReportWords) -> u8;
+    fn owner(&self, file: &[u8], master: u8, buffer: &mut [u8], length: &mut u64) -> u8;
 }
 
 /// Document 01 read as plain Rust.
@@ -83,6 +84,11 @@ impl Engine for Model {
         number(model::trace(file, trace).map(|counts| {
             *report = [counts.msa, counts.msd, counts.multipartner, counts.refused, counts.sum()];
         }))
+    }
+
+    fn owner(&self, file: &[u8], master: u8, buffer: &mut [u8], length: &mut u64) -> u8 {
+        let written = model::owner(file, model::LogicalName(master), buffer);
+        number(written.map(|bytes| *length = bytes as u64))
     }
 }
 
@@ -157,6 +163,10 @@ impl Engine for Plain {
             plain::trace(file, trace, report)
         }
     }
+
+    fn owner(&self, file: &[u8], master: u8, buffer: &mut [u8], length: &mut u64) -> u8 {
+        plain::owner(file, master, buffer, length)
+    }
 }
 
 /// The engine as it is linked.
@@ -206,5 +216,9 @@ impl Engine for Library {
 
     fn trace(&self, file: &mut [u8], trace: &[u8], report: &mut ReportWords) -> u8 {
         ttpa::calls::trace(file, trace, report)
+    }
+
+    fn owner(&self, file: &[u8], master: u8, buffer: &mut [u8], length: &mut u64) -> u8 {
+        ttpa::calls::owner(file, master, buffer, length)
     }
 }

@@ -1,5 +1,5 @@
 //! Two engines side by side: the calls they share, test cases as lines of text, random clusters, frames, positions
-//! and traces, and the comparison itself.
+//! and traces, the edges of traces and owner files, and the comparison itself.
 
 #![forbid(unsafe_code)]
 
@@ -9,6 +9,8 @@ pub mod clusters;
 pub mod edges;
 pub mod engine;
 pub mod inputs;
+pub mod owner_edges;
+pub mod owners;
 pub mod random;
 pub mod runs;
 pub mod sort;

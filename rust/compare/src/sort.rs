@@ -38,6 +38,32 @@ pub enum Sort {
     TraceNotFilled,
     /// One in which nothing is wrong but that it is too long.
     TraceTooLong,
+    /// An owner file that was written and in which a row does not fill its last record.
+    OwnerPadded,
+    /// One in which a round's last sender is in slot 63.
+    OwnerOfMostSlots,
+    /// One in which a slave named 0x00 sends.
+    OwnerNamedZero,
+    /// One in which a slave named 0x00 sends in the last slot of a row.
+    OwnerZeroLast,
+    /// One in which nobody sends in a round, and someone in another.
+    OwnerWithoutSenders,
+    /// One in which nobody sends in a slot before the last.
+    OwnerWithGap,
+    /// One in which every round has a row of several records.
+    OwnerOfLongRows,
+    /// One written into a buffer of exactly its bytes.
+    OwnerFits,
+    /// One refused by 21 where one byte more would do.
+    OwnerOneShort,
+    /// One refused by 20 where the buffer is empty.
+    OwnerClashBeforeShort,
+    /// One refused by 20 where only slaves of one name send in one slot.
+    OwnerClashOfOneName,
+    /// One refused by 20 for round 7 alone.
+    OwnerClashInLastRound,
+    /// One that was written although two slaves would clash if unnamed ones took part.
+    OwnerWithUnnamed,
     /// A trace between the steps of a naming run that was run and has a round and a refused frame in it.
     TraceBetweenSteps,
 }
@@ -68,10 +94,27 @@ impl Sort {
         (Sort::TraceTooLong, 1_000),
     ];
 
+    /// Sorts of owner files, with one in how many of those asked for.
+    pub const REACHED_BY_OWNERS: [(Sort, usize); 13] = [
+        (Sort::OwnerPadded, 10),
+        (Sort::OwnerOfMostSlots, 20),
+        (Sort::OwnerNamedZero, 20),
+        (Sort::OwnerZeroLast, 40),
+        (Sort::OwnerWithoutSenders, 20),
+        (Sort::OwnerWithGap, 20),
+        (Sort::OwnerOfLongRows, 50),
+        (Sort::OwnerFits, 20),
+        (Sort::OwnerOneShort, 40),
+        (Sort::OwnerClashBeforeShort, 300),
+        (Sort::OwnerClashOfOneName, 400),
+        (Sort::OwnerClashInLastRound, 300),
+        (Sort::OwnerWithUnnamed, 150),
+    ];
+
     /// Sorts of calls in naming runs, with one in how many of the runs asked for.
     pub const REACHED_BY_RUNS: [(Sort, usize); 1] = [(Sort::TraceBetweenSteps, 1)];
 
-    /// What a call is an example of, traces aside: these are sorted in `traces`.
+    /// What a call is an example of, traces and owner files aside: these are sorted in `traces` and `owners`.
     pub fn of(call: &Call, outcome: &Outcome) -> Option<Sort> {
         match call {
             Call::Read { frame } if outcome.number == 12 && is_unfolded(frame) => Some(Sort::UnfoldedNotRead),
@@ -107,6 +150,19 @@ impl Sort {
             Sort::TraceWithWrongOffset => "traces refused, an offset wrong",
             Sort::TraceNotFilled => "traces refused, their frames not ending with the data",
             Sort::TraceTooLong => "traces refused, nothing wrong but too long",
+            Sort::OwnerPadded => "owner files written, a row padded",
+            Sort::OwnerOfMostSlots => "owner files written, with a row of 64 slots",
+            Sort::OwnerNamedZero => "owner files written, with a sender named 0x00",
+            Sort::OwnerZeroLast => "owner files written, with a sender named 0x00 in a row's last slot",
+            Sort::OwnerWithoutSenders => "owner files written, with a round without senders and one with some",
+            Sort::OwnerWithGap => "owner files written, with a slot before a row's last that nobody sends in",
+            Sort::OwnerOfLongRows => "owner files written, every row of several records",
+            Sort::OwnerFits => "owner files written, the buffer just long enough",
+            Sort::OwnerOneShort => "owner files refused, the buffer one byte too short",
+            Sort::OwnerClashBeforeShort => "owner files refused, two senders in a slot and no buffer",
+            Sort::OwnerClashOfOneName => "owner files refused, only slaves of one name sending in one slot",
+            Sort::OwnerClashInLastRound => "owner files refused, two senders in round 7 alone",
+            Sort::OwnerWithUnnamed => "owner files written, in which unnamed slaves would clash",
             Sort::TraceBetweenSteps => "traces run between naming steps, with a round and a refused frame",
         }
     }

@@ -7,7 +7,7 @@ use std::collections::BTreeMap;
 
 /// Each kind of call with what it can do when it is carried out, and the numbers that can refuse it. A whole run is a
 /// kind of its own.
-const OUTCOMES: [(&str, &[&str], &[u8]); 9] = [
+const OUTCOMES: [(&str, &[&str], &[u8]); 10] = [
     ("check", &[PLAIN], &[1, 2, 3, 4, 5, 6, 7, 8]),
     ("read", &["read", "write", "execute"], &[10, 11, 12, 13, 14]),
     ("write", &["read", "write", "execute"], &[9, 13, 14, 18]),
@@ -51,6 +51,7 @@ const OUTCOMES: [(&str, &[&str], &[u8]); 9] = [
         &[1, 2, 3, 4, 5, 6, 7, 8, 9, 15, 16, 17],
     ),
     ("trace", &["no-frames", "none-refused", "some-refused", "all-refused"], &[1, 2, 3, 4, 5, 6, 7, 8, 19]),
+    ("owner", &[PLAIN], &[1, 2, 3, 4, 5, 6, 7, 8, 20, 21]),
     (RUN, &[ALL_NAMED, USED_UP], &[]),
 ];
 /// A call that does one thing only.
@@ -137,7 +138,7 @@ fn shown((kind, number, done): Came) -> String {
 /// What a call did that was carried out.
 fn done(call: &Call, outcome: &Outcome) -> &'static str {
     match call {
-        Call::Check { .. } | Call::Data { .. } => PLAIN,
+        Call::Check { .. } | Call::Data { .. } | Call::Owner { .. } => PLAIN,
         Call::Read { .. } => operation(outcome.parts.map_or(0, |parts| parts[3])),
         Call::Write { parts, .. } => operation(parts[3]),
         Call::Round { file, frame, .. } => in_round(file, frame, outcome),

@@ -14,6 +14,7 @@ mod frame;
 mod listing;
 mod multipartner;
 mod naming;
+mod owner;
 mod round;
 mod slaves;
 mod trace;
@@ -27,6 +28,7 @@ pub use frame::{
 };
 pub use listing::listing;
 pub use naming::{start, step, End, Run};
+pub use owner::{owner, senders_of};
 pub use round::{round, Answer, ANSWER_BYTES};
 pub use trace::{encode_trace, trace, Report, MOST_TRACE_BYTES};
 

@@ -86,12 +86,21 @@ fn acting(list: &[Entry], slot: usize, operation: EntryOperation) -> Option<&Ent
 }
 
 fn send(slave: &Slave, list: &[Entry], slot: usize, bus: &mut Bus) {
-    let Some(entry) = acting(list, slot, EntryOperation::Send) else {
-        return;
-    };
-    if let Some(&byte) = slave.file(entry.file).and_then(|file| file.bytes.get(entry.place(slot))) {
+    if let Some(byte) = sent(slave, list, slot) {
         bus.send(slot, byte);
     }
+}
+
+/// The byte that a slave sends in a slot. "A place outside the file, or in a file not there, does nothing"
+fn sent(slave: &Slave, list: &[Entry], slot: usize) -> Option<u8> {
+    let entry = acting(list, slot, EntryOperation::Send)?;
+    slave.file(entry.file)?.bytes.get(entry.place(slot)).copied()
+}
+
+/// Whether a slave has a byte to send in a slot of a round. "Slots 1 to 63 run"
+pub fn would_send(slave: &Slave, round: u8, slot: usize) -> bool {
+    let list = slave.file(FileNumber(round)).map(round_descriptor_list).unwrap_or_default();
+    (1..ANSWER_BYTES).contains(&slot) && !slave.is_unnamed() && sent(slave, &list, slot).is_some()
 }
 
 /// "a receive stores only in files 0x10 to 0x3C, outside record 0x00"

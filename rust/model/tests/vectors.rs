@@ -8,6 +8,10 @@ const EVERY_KIND: [&str; 8] = ["check", "data", "read", "round", "start", "step"
 const EVERY_KIND_WITH_TRACES: [&str; 9] =
     ["check", "data", "read", "round", "start", "step", "trace", "write", LISTING];
 
+/// The same from request 4 on.
+const EVERY_KIND_WITH_OWNERS: [&str; 10] =
+    ["check", "data", "owner", "read", "round", "start", "step", "trace", "write", LISTING];
+
 /// The kinds of the cases in a text, all of which have to hold.
 fn kinds_that_hold(text: &str) -> Vec<&str> {
     let held = hold_all(&Model, text);
@@ -58,6 +62,11 @@ fn vectors_of_request_2_hold() {
 #[test]
 fn vectors_of_request_3_hold() {
     assert_eq!(kinds_that_hold(include_str!("data/request-03.txt")), EVERY_KIND_WITH_TRACES);
+}
+
+#[test]
+fn vectors_of_request_4_hold() {
+    assert_eq!(kinds_that_hold(include_str!("data/request-04.txt")), EVERY_KIND_WITH_OWNERS);
 }
 
 #[test]

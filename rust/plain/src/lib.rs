@@ -11,11 +11,13 @@ mod master_slave;
 mod multipartner;
 mod naming;
 mod nested;
+mod owner;
 mod survey;
 mod trace;
 
 pub use frames::{read_address, write_address, write_data};
 pub use naming::{start, step};
+pub use owner::owner;
 pub use trace::{trace, trace_in_nested_loops};
 
 use frames::{round_of, MSA, MSD};

@@ -1,6 +1,7 @@
 //! Grounds 1 to 8 in one walk, which keeps where each slave has the two files every round asks for.
 
 use crate::{u32_at, u64_at, CONFIGURATION, DOCUMENTATION};
+use std::ops::Range;
 
 const HEADER_BYTES: usize = 16;
 const MOST_BYTES: usize = 32_768;
@@ -80,7 +81,7 @@ impl Survey {
         false
     }
 
-    pub fn slaves(&self) -> std::ops::Range<usize> {
+    pub fn slaves(&self) -> Range<usize> {
         0..self.count.min(MOST_SLAVES)
     }
 
@@ -103,12 +104,16 @@ impl Survey {
 
     /// Where a slave keeps a file, and how many bytes it has.
     pub fn find(&self, file: &[u8], slave: usize, number: u8) -> Option<(usize, usize)> {
-        let entry = u32_at(file, HEADER_BYTES + 4 * slave);
-        let directory = (entry >> 16) as usize;
-        let entries = file[directory..directory + directory_bytes(entry)].as_chunks().0;
         // Numbers rise, so the search ends at the first that is not below.
-        let entry = entries.iter().find(|entry| entry[0] >= number)?;
-        (entry[0] == number).then_some((place_in(entry), 4 * usize::from(entry[1]) + 4))
+        let entry = directory_of(file, slave).iter().find(|entry| entry[0] >= number)?;
+        (entry[0] == number).then_some((place_in(entry), size_in(entry)))
+    }
+
+    /// The numbers of a slave's files and the range of their bytes, in rising order.
+    pub fn files<'a>(&self, file: &'a [u8], slave: usize) -> impl Iterator<Item = (u8, Range<usize>)> + 'a {
+        directory_of(file, slave)
+            .iter()
+            .map(|entry| (entry[0], place_in(entry)..place_in(entry) + size_in(entry)))
     }
 
     /// Where the bytes of file 0x3D begin.
@@ -182,6 +187,18 @@ fn documentation_in(directory: &[[u8; 4]]) -> u16 {
         Some(entry) if entry[0] == DOCUMENTATION && entry[1] >= 2 => place_in(entry) as u16,
         _ => 0,
     }
+}
+
+/// The directory entries of a slave.
+fn directory_of(file: &[u8], slave: usize) -> &[[u8; 4]] {
+    let entry = u32_at(file, HEADER_BYTES + 4 * slave);
+    let directory = (entry >> 16) as usize;
+    file[directory..directory + directory_bytes(entry)].as_chunks().0
+}
+
+/// How many bytes the file of a directory entry has.
+fn size_in(entry: &[u8; 4]) -> usize {
+    4 * usize::from(entry[1]) + 4
 }
 
 /// The place that a directory entry states.

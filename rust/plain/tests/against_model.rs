@@ -3,6 +3,7 @@
 use compare::campaign::agrees_with_model;
 use compare::edges::hold_edges;
 use compare::engine::Plain;
+use compare::owner_edges::hold_owner_edges;
 
 #[test]
 fn plain_does_what_the_model_does() {
@@ -18,4 +19,9 @@ fn nested_loops_do_what_the_model_does() {
 fn the_edges_of_a_trace_hold() {
     hold_edges(&Plain { nested: false });
     hold_edges(&Plain { nested: true });
+}
+
+#[test]
+fn the_edges_of_an_owner_file_hold() {
+    hold_owner_edges(&Plain { nested: false });
 }

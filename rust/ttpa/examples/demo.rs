@@ -1,17 +1,22 @@
 //! `demo FILE`: commissioning a small cluster, as firmware or test software would do it.
 //!
 //! Loads a cluster file, checks it, reads a record of a named slave, names the unnamed slaves while other
-//! rounds go on in between, runs a captured trace, and prints what happened. c/demo.c does the same and prints
-//! the same.
+//! rounds go on in between, runs a captured trace, plans who sends in which slot, and prints what happened.
+//! c/demo.c does the same and prints the same.
 
 use std::process::ExitCode;
-use ttpa::{Address, End, Report, Run, Senders, TtpaError, ANSWER_BYTES, FRAME_BYTES};
+use ttpa::{
+    Address, End, Owners, Report, Run, Senders, TtpaError, ANSWER_BYTES, FRAME_BYTES, MOST_OWNER_BYTES,
+};
 
 const READ: u8 = 0;
+const WRITE: u8 = 1;
 const DOCUMENTATION: u8 = 0x3D;
 const ROUND_2: [u8; 1] = [0xBA];
 const DATA_OF_A_READ: [u8; 1] = [0x49];
 const STEPS_BETWEEN_TRAFFIC: u64 = 50;
+/// The master's own logical name.
+const MASTER: u8 = 0x80;
 /// Five frames captured on site: round 2; a write of E7 7F 00 00 to record 1 of file 0x10 of slave 01, its data
 /// broken at first (the check byte is D1); and round 2 again. First frame count and data length, then for each
 /// frame offset and length.
@@ -56,6 +61,15 @@ impl Cluster {
         ttpa::write_address(&mut frame, &Address { epoch: 1, name, file, operation: READ, record })?;
         self.send(&frame)?;
         self.send(&DATA_OF_A_READ)
+    }
+
+    /// A complete master-slave round that writes a record: the data frame has its four bytes.
+    fn write_record(&mut self, name: u8, file: u8, record: u8, bytes: [u8; 4]) -> Result<(), TtpaError> {
+        let mut frame = [0; FRAME_BYTES];
+        ttpa::write_address(&mut frame, &Address { epoch: 1, name, file, operation: WRITE, record })?;
+        self.send(&frame)?;
+        ttpa::write_data(&mut frame, bytes)?;
+        self.send(&frame)
     }
 
     /// Each slot in which someone sent, with its byte.
@@ -118,6 +132,31 @@ impl Cluster {
             println!("MSA {msa}, MSD {msd}, multipartner {multipartner}, refused {refused}, sum {sum}");
         }
     }
+
+    /// Slaves 01 and 02 both send in slot 2 of round 2. Then 02 is given slot 4: the entry of its list for round 2
+    /// sends from file 0x10, record 1, one byte, in slot 4.
+    fn show_owners(&mut self) {
+        let mut buffer = [0; MOST_OWNER_BYTES];
+        print_verdict("an owner file", ttpa::owner(&self.file, MASTER, &mut buffer));
+        print_verdict("slot 4 for 02", self.write_record(0x02, 0x02, 1, [0x10 << 2, 0x01, 0x10, 4]));
+        print_verdict("an owner file in 39 bytes", ttpa::owner(&self.file, MASTER, &mut buffer[..39]));
+        let owners = ttpa::owner(&self.file, MASTER, &mut buffer);
+        print_verdict("an owner file", owners);
+        if let Ok(owners) = owners {
+            print_plan(owners);
+        }
+    }
+}
+
+/// For each round who sends in which slot, the master in slot 0.
+fn print_plan(owners: Owners) {
+    for round in 0..8 {
+        if let Some(row) = owners.row(round) {
+            let names = row.iter().enumerate().filter(|&(_, &name)| name != 0x00);
+            let shown: String = names.map(|(slot, name)| format!(" {slot}={name:02X}")).collect();
+            println!("round {round}:{shown}");
+        }
+    }
 }
 
 fn main() -> ExitCode {
@@ -147,6 +186,9 @@ fn main() -> ExitCode {
     cluster.print_answer();
     cluster.show_trace();
     print_verdict("round 2 after the trace", cluster.send(&ROUND_2));
+    cluster.print_answer();
+    cluster.show_owners();
+    print_verdict("round 2 as planned", cluster.send(&ROUND_2));
     cluster.print_answer();
     let mut short = [0; ANSWER_BYTES - 1];
     print_verdict("a short answer buffer", ttpa::round(&mut cluster.file, &ROUND_2, &mut short));

@@ -6,6 +6,10 @@
 pub const RUN_WORDS: usize = 6;
 /// The words of a trace's report: MSA, MSD, multipartner and refused frames, and their sum.
 pub const REPORT_WORDS: usize = 5;
+/// The bytes of a record of an owner file.
+pub const OWNER_RECORD_BYTES: usize = 4;
+/// Where the index of an owner file begins.
+pub const OWNER_INDEX: usize = 4;
 
 mod c {
     extern "C" {
@@ -42,6 +46,14 @@ mod c {
             senders: *mut u64,
         ) -> u8;
         pub fn ttpa_trace(file: *mut u8, n: usize, trace: *const u8, m: usize, report: *mut u64) -> u8;
+        pub fn ttpa_owner(
+            file: *const u8,
+            n: usize,
+            master: u8,
+            buffer: *mut u8,
+            k: usize,
+            length: *mut u64,
+        ) -> u8;
     }
 }
 
@@ -114,4 +126,9 @@ pub fn step(
 /// Runs a captured trace on a file: 0, or 1 to 8 or 19.
 pub fn trace(file: &mut [u8], trace: &[u8], report: &mut [u64; REPORT_WORDS]) -> u8 {
     unsafe { c::ttpa_trace(file.as_mut_ptr(), file.len(), trace.as_ptr(), trace.len(), report.as_mut_ptr()) }
+}
+
+/// Writes the owner file of a cluster file: 0, or 1 to 8, 20 or 21.
+pub fn owner(file: &[u8], master: u8, buffer: &mut [u8], length: &mut u64) -> u8 {
+    unsafe { c::ttpa_owner(file.as_ptr(), file.len(), master, buffer.as_mut_ptr(), buffer.len(), length) }
 }

@@ -42,12 +42,16 @@ pub enum TtpaError {
     FileNumber,
     /// 19: the trace's header, an offset or its length breaks the layout.
     Trace,
+    /// 20: two slaves send in one slot of a round.
+    TwoSenders,
+    /// 21: the buffer is too short for the owner file.
+    OwnerBuffer,
     /// A number that this edition of the crate does not know.
     Other(u8),
 }
 
 /// The variants in the order of their numbers, from 1.
-const NUMBERED: [TtpaError; 19] = [
+const NUMBERED: [TtpaError; 21] = [
     TtpaError::FileSize,
     TtpaError::Mark,
     TtpaError::Edition,
@@ -67,6 +71,8 @@ const NUMBERED: [TtpaError; 19] = [
     TtpaError::Position,
     TtpaError::FileNumber,
     TtpaError::Trace,
+    TtpaError::TwoSenders,
+    TtpaError::OwnerBuffer,
 ];
 
 impl TtpaError {
@@ -74,7 +80,7 @@ impl TtpaError {
     pub(crate) fn of(number: u8) -> Result<(), TtpaError> {
         match number {
             0 => Ok(()),
-            1..=19 => Err(NUMBERED[usize::from(number) - 1]),
+            1..=21 => Err(NUMBERED[usize::from(number) - 1]),
             _ => Err(TtpaError::Other(number)),
         }
     }
@@ -127,6 +133,10 @@ impl TtpaError {
             TtpaError::Trace => {
                 "the trace is longer than 16,384 bytes, or its header, an offset or its length is wrong"
             }
+            TtpaError::TwoSenders => {
+                "two slaves send in one slot of a round, so that the slot has no single owner"
+            }
+            TtpaError::OwnerBuffer => "the buffer is too short for this cluster's owner file",
             TtpaError::Other(_) => "refused on a ground that this version has no text for",
         }
     }
@@ -166,6 +176,8 @@ mod tests {
         assert_eq!(TtpaError::CheckByte.number(), 12);
         assert_eq!(TtpaError::Position.number(), 17);
         assert_eq!(TtpaError::Trace.number(), 19);
-        assert_eq!(TtpaError::Other(20).number(), 20);
+        assert_eq!(TtpaError::TwoSenders.number(), 20);
+        assert_eq!(TtpaError::OwnerBuffer.number(), 21);
+        assert_eq!(TtpaError::Other(22).number(), 22);
     }
 }

@@ -1,5 +1,5 @@
 //! The TTP/A cluster engine for Rust programs: check a cluster file, read and write frames, carry out
-//! rounds on the file, name its slaves, run captured traces.
+//! rounds on the file, name its slaves, run captured traces, write the owner file.
 //!
 //! The engine keeps no state, never allocates and always returns. Everything it works on is lent to it for
 //! the time of one call. A call that refuses alters nothing it was lent.
@@ -21,10 +21,12 @@
 
 pub mod calls;
 mod error;
+mod owner;
 mod run;
 mod trace;
 
 pub use error::TtpaError;
+pub use owner::{owner, Owners, MOST_OWNER_BYTES};
 pub use run::{End, Run};
 pub use trace::{trace, Report, MOST_TRACE_BYTES};
 

@@ -5,6 +5,7 @@ use compare::campaign::agrees_with_model;
 use compare::case::hold_all;
 use compare::edges::hold_edges;
 use compare::engine::{Engine, ReportWords, RunWords};
+use compare::owner_edges::hold_owner_edges;
 use ttpa::{Address, End, Report, Run, Senders, TtpaError};
 
 /// The safe functions in the form of the C calls.
@@ -61,6 +62,10 @@ impl Engine for Wrapper {
             *words = [msa, msd, multipartner, refused, sum];
         }))
     }
+
+    fn owner(&self, file: &[u8], master: u8, buffer: &mut [u8], length: &mut u64) -> u8 {
+        number(ttpa::owner(file, master, buffer).map(|owners| *length = owners.bytes().len() as u64))
+    }
 }
 
 fn number(answer: Result<(), TtpaError>) -> u8 {
@@ -81,6 +86,7 @@ fn the_safe_functions_give_the_kept_results() {
         include_str!("../../model/tests/data/request-02.txt"),
         include_str!("../../model/tests/data/cases.txt"),
         include_str!("../../model/tests/data/request-03.txt"),
+        include_str!("../../model/tests/data/request-04.txt"),
     ] {
         let held = hold_all(&Wrapper, text);
         assert!(held.passed > 0);
@@ -91,4 +97,9 @@ fn the_safe_functions_give_the_kept_results() {
 #[test]
 fn the_edges_of_a_trace_hold() {
     hold_edges(&Wrapper);
+}
+
+#[test]
+fn the_edges_of_an_owner_file_hold() {
+    hold_owner_edges(&Wrapper);
 }

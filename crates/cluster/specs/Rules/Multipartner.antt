@@ -36,10 +36,15 @@ storePlace s slot noEntry = nowhere
 storePlace s slot (acts e) =
     cond (both (receives (e .operation)) (both (mayStore e slot) (within s e slot))) (byteOf (e .file) (bytePlace e slot)) nowhere
 
--- "Round r runs file r of each slave not unnamed; others take no part.": where a slave sends from in a slot, and where it stores
-unfoldable pub sendsFrom : ℕ → ℕ → Slave → SlaveByte
-sendsFrom round slot s = cond (isUnnamed s) nowhere (sendPlace s slot (acting (bytesIn s round) slot))
+-- "Round r runs file r of each slave not unnamed; others take no part.": where a slave's round file has it send from in a slot
+unfoldable pub plansFrom : ℕ → ℕ → Slave → SlaveByte
+plansFrom round slot s = cond (isUnnamed s) nowhere (sendPlace s slot (acting (bytesIn s round) slot))
 
+-- which is where it sends from
+unfoldable pub sendsFrom : ℕ → ℕ → Slave → SlaveByte
+sendsFrom round slot s = plansFrom round slot s
+
+-- and where it stores
 unfoldable pub storesAt : ℕ → ℕ → Slave → SlaveByte
 storesAt round slot s = cond (isUnnamed s) nowhere (storePlace s slot (acting (bytesIn s round) slot))
 

@@ -22,7 +22,8 @@ use Rattle.ttpa.specs.Rules.Calls.{checkCall, startCall, stepCall, roundCall, t
 use Rattle.demand.specs.Claims.Traces.{CallOrTrace, halfwayFrom, singly}
 
 -- a call, by all that it is handed except file, run and names: a step's arguments and the senders' word; a frame, the answer
--- buffer and the senders' word; a trace and the report's words. The other C calls, ttpa_start aside, write neither file nor run.
+-- buffer and the senders' word; a trace and the report's words. The other C calls, ttpa_start aside, write neither file nor run:
+-- ttpa_owner only reads the file.
 pub data CCall : Type 0 where
   ttpaStep : StepArguments → ℕ → CCall
   ttpaRound : List ℕ → List ℕ → ℕ → CCall

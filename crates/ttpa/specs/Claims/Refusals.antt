@@ -4,7 +4,7 @@ use Prim.Native.Nat.{ℕ}
 use mathlib.Core.Path.{_≡_}
 use mathlib.Core.Logic.{_≢_}
 use mathlib.Core.List.{List}
-use Rattle.ttpa.specs.Rules.Calls.{readAddressCall, writeAddressCall, writeDataCall, roundCall, traceCall, startCall, stepCall}
+use Rattle.ttpa.specs.Rules.Calls.{readAddressCall, writeAddressCall, writeDataCall, roundCall, traceCall, ownerCall, startCall, stepCall}
 
 pub record RefusalsAlterNothing : Type 0 where
   -- the five parts
@@ -20,6 +20,10 @@ pub record RefusalsAlterNothing : Type 0 where
       roundCall file frame answer senders .0 ≡ n → roundCall file frame answer senders ≡ (n, senders, answer, file)
   -- report and file
   pub trace : (file t report : List ℕ) (n : ℕ) → n ≢ 0 → traceCall file t report .0 ≡ n → traceCall file t report ≡ (n, report, file)
+  -- length and buffer
+  pub owner :
+      (file : List ℕ) (master : ℕ) (buffer : List ℕ) (length n : ℕ) → n ≢ 0 →
+      ownerCall file master buffer length .0 ≡ n → ownerCall file master buffer length ≡ (n, length, buffer)
   -- the run
   pub start : (names run : List ℕ) (n : ℕ) → n ≢ 0 → startCall names run .0 ≡ n → startCall names run ≡ (n, run)
   -- senders, run, answer buffer and file

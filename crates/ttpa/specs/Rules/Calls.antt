@@ -1,4 +1,4 @@
--- The C calls (include/ttpa.h): 0 or document 01's number, and what lent memory holds then. "A refusal returns its number and alters
+-- The C calls (include/ttpa.h): 0 or the documents' number, and what lent memory holds then. "A refusal returns its number and alters
 -- nothing lent".
 use Prim.Native.Nat.{ℕ}
 use mathlib.Core.List.{List, [], _∷_}
@@ -9,6 +9,7 @@ use Rattle.frame.specs.Rules.Reading.{Parts, readAddress}
 use Rattle.frame.specs.Rules.Writing.{writeAddress, writeData}
 use Rattle.cluster.specs.Rules.Round.{roundOn}
 use Rattle.trace.specs.Rules.Run.{reportWords, traceOn}
+use Rattle.owner.specs.Rules.Writing.{ownerOn}
 use Rattle.naming.specs.Rules.Run.{Position, startOver}
 use Rattle.naming.specs.Rules.Step.{StepDone, ended, made, stepOn}
 
@@ -46,6 +47,10 @@ roundCall file frame answer senders =
 -- their sum
 unfoldable pub traceCall : List ℕ → List ℕ → List ℕ → ℕ × List ℕ × List ℕ
 traceCall file t report = let r = traceOn file t in (numberIn (r .0), lentAfter (r .0) report reportWords, r .1)
+
+-- the owner file of a file: number, length and buffer
+unfoldable pub ownerCall : List ℕ → ℕ → List ℕ → ℕ → ℕ × ℕ × List ℕ
+ownerCall file master buffer length = let r = ownerOn file master buffer in (numberIn (r .0), lentAfter (r .0) length (λ (written : ℕ). written), r .1)
 
 -- a run's six words, by their places
 unfoldable pub wordsOf : Position → List ℕ

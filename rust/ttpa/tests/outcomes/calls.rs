@@ -68,3 +68,13 @@ fn a_report_is_written_on_success_only() {
     assert_eq!(calls::trace(&mut file, &[0, 1, 0, 1, 0, 0, 1, 0xBA], &mut report), 0);
     assert_eq!((file[8], report), (1, [0, 0, 1, 0, 1]));
 }
+
+#[test]
+fn the_length_of_an_owner_file_is_written_on_success_only() {
+    let (mut buffer, mut length) = ([FILL; 37], MASK_BEFORE);
+    assert_eq!(calls::owner(M10, 0x80, &mut buffer[..35], &mut length), 21);
+    assert_eq!(calls::owner(&M10[..15], 0x80, &mut buffer, &mut length), 1);
+    assert_eq!((buffer, length), ([FILL; 37], MASK_BEFORE));
+    assert_eq!(calls::owner(M10, 0x80, &mut buffer, &mut length), 0);
+    assert_eq!((buffer[calls::OWNER_INDEX], buffer[12], buffer[36], length), (3, 0x80, FILL, 36));
+}

@@ -5,7 +5,7 @@ use std::error::Error;
 use ttpa::TtpaError;
 
 /// Each ground with its number in the documents and a word that its text cannot do without.
-const GROUNDS: [(TtpaError, u8, &str); 20] = [
+const GROUNDS: [(TtpaError, u8, &str); 22] = [
     (TtpaError::FileSize, 1, "bytes"),
     (TtpaError::Mark, 2, "mark"),
     (TtpaError::Edition, 3, "edition"),
@@ -25,7 +25,9 @@ const GROUNDS: [(TtpaError, u8, &str); 20] = [
     (TtpaError::Position, 17, "stored naming run"),
     (TtpaError::FileNumber, 18, "63"),
     (TtpaError::Trace, 19, "trace"),
-    (TtpaError::Other(20), 20, "no text"),
+    (TtpaError::TwoSenders, 20, "two slaves send"),
+    (TtpaError::OwnerBuffer, 21, "owner file"),
+    (TtpaError::Other(22), 22, "no text"),
 ];
 
 #[test]

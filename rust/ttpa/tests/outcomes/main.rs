@@ -4,6 +4,7 @@
 mod calls;
 mod errors;
 mod frames;
+mod owners;
 mod rounds;
 mod runs;
 mod traces;

@@ -1,0 +1,168 @@
+-- A round's owners and masks, slave by slave.
+-- Assumes nothing.
+use Prim.Native.Nat.{ℕ, zero, suc, _+_, _≤_, _<_}
+use native.Mathlib.Omega.{arith}
+use native.Mathlib.Numerals.{add-one}
+use mathlib.Core.Path.{_≡_, refl, sym, ap, _∙_}
+use mathlib.Core.List.{List, [], _∷_, _++_}
+use mathlib.Core.Bool.{Bool, true, false, not, cond}
+use lib.ListN.{length, getD, set, take, replicate, length-set, length-replicate, getD-replicate}
+use lib.Seq.{getD-set-other, take-all}
+use lib.Dec.{eqb, leb}
+use borrow.Author.Tests.{ne-eqb, le-leb}
+use lib.Bits.{bitAnd, bitOr, bitXor}
+use Rattle.file.specs.Rules.Order.{both, either}
+use Rattle.file.specs.Rules.Cluster.{Slave, logicalName}
+use Rattle.file.specs.Inner.Places.{noSlave}
+use Rattle.file.proofs.Order.{byCase}
+use Rattle.cluster.specs.Rules.Bus.{slots}
+use Rattle.owner.specs.Rules.Plan.{sendsIn, sendersAmong, sendersIn}
+use Rattle.owner.specs.Rules.OwnerFile.{noOwner, nameOf, ownerOf}
+use Rattle.owner.specs.Inner.Masks.{isSet, Marks}
+use Rattle.owner.specs.Inner.Planned.{plannedIn, OwnerPut, someone, twoThere, RoundPlanned}
+use Rattle.owner.proofs.MaskLaws.{set-or, set-and, set-free, set-none}
+
+-- ---- one slave more
+
+-- the slave alone, if it sends
+abbrev alone : Bool → Slave → List Slave
+alone sends s = cond sends (s ∷ []) []
+
+among-next : (round slot : ℕ) (ss : List Slave) (n : ℕ) → n < length ss
+    → sendersAmong round slot (take (suc n) ss) ≡ sendersAmong round slot (take n ss) ++ alone (sendsIn round slot (getD ss n noSlave)) (getD ss n noSlave)
+unfolding sendersAmong
+among-next round slot [] n l = absurd (omega arith)
+among-next round slot (s ∷ ss) zero l = byCase (sendsIn round slot s) (λ e. rw e) (λ e. rw e)
+among-next round slot (s ∷ ss) (suc n) l =
+    byCase (sendsIn round slot s)
+    (λ e. rw e (ap (λ (x : List Slave). s ∷ x) (among-next round slot ss n (omega arith))))
+    (λ e. rw e (among-next round slot ss n (omega arith)))
+
+senders-next : (round : ℕ) (ss : List Slave) (n : ℕ) → n < length ss → (slot : ℕ)
+    → sendersIn round slot (take (suc n) ss) ≡ sendersIn round slot (take n ss) ++ alone (plannedIn round (getD ss n noSlave) slot) (getD ss n noSlave)
+unfolding sendersIn plannedIn
+senders-next round ss n l zero = refl
+senders-next round ss n l (suc slot) = among-next round (suc slot) ss n l
+
+more-none : (n : ℕ) → eqb (suc n) 0 ≡ false
+more-none n = ne-eqb (suc n) 0 (λ e. omega (arith, e))
+
+two-least : (n : ℕ) → leb 2 (suc (suc n)) ≡ true
+two-least n = le-leb 2 (suc (suc n)) (omega arith)
+
+some-next : (before : List Slave) (s : Slave) (sends : Bool) → not (eqb (length (before ++ alone sends s)) 0) ≡ either (not (eqb (length before) 0)) sends
+unfolding either
+some-next [] s true = refl
+some-next [] s false = refl
+some-next (b ∷ bs) s sends = rw (more-none (length (bs ++ alone sends s)), more-none (length bs))
+
+two-next : (before : List Slave) (s : Slave) (sends : Bool)
+    → leb 2 (length (before ++ alone sends s)) ≡ either (leb 2 (length before)) (both (not (eqb (length before) 0)) sends)
+unfolding either both
+two-next [] s true = refl
+two-next [] s false = refl
+two-next (a ∷ []) s true = refl
+two-next (a ∷ []) s false = refl
+two-next (a ∷ b ∷ bs) s sends = rw (two-least (length (bs ++ alone sends s)), two-least (length bs))
+
+name-next : (before : List Slave) (s : Slave) (sends : Bool)
+    → nameOf (before ++ alone sends s) ≡ cond (both sends (not (not (eqb (length before) 0)))) (logicalName s) (nameOf before)
+unfolding nameOf both
+name-next [] s true = refl
+name-next [] s false = refl
+name-next (b ∷ bs) s true = rw (more-none (length bs))
+name-next (b ∷ bs) s false = refl
+
+-- ---- the loop
+
+-- of the slaves before index n
+pub record RoundPlanning (ss : List Slave) (master round : ℕ) (row : List ℕ) (senders clashes n : ℕ) : Type 0 where
+  pub most : n ≤ length ss
+  pub planned : RoundPlanned (take n ss) master round row senders clashes
+
+pub round-start : (ss : List Slave) (round : ℕ) (zeros : List ℕ) (master : ℕ) → zeros ≡ replicate slots noOwner
+    → RoundPlanning ss (getD (set zeros 0 master) 0 0) round (set zeros 0 master) 0 0 0
+round-start ss round zeros master is =
+    record {
+      most = omega arith;
+      planned =
+          record {
+            room = length-set zeros 0 master ∙ (ap length is ∙ length-replicate slots noOwner);
+            owners = first;
+            sends = record { each = λ slot l. set-none slot ∙ nobody slot };
+            twice = record { each = λ slot l. set-none slot ∙ none slot };
+          };
+    }
+  where
+    first : (slot : ℕ) → slot < slots → getD (set zeros 0 master) slot 0 ≡ ownerOf (getD (set zeros 0 master) 0 0) round (take 0 ss) slot
+    first zero l = unfold ownerOf in refl
+    first (suc slot) l =
+        unfold ownerOf sendersIn sendersAmong nameOf in
+        getD-set-other zeros 0 (suc slot) master 0 (λ e. omega (arith, e)) ∙ (ap (λ (x : List ℕ). getD x (suc slot) 0) is ∙ getD-replicate slots (suc slot) noOwner 0 l)
+
+    nobody : (slot : ℕ) → false ≡ someone round (take 0 ss) slot
+    nobody zero = unfold someone sendersIn in refl
+    nobody (suc slot) = unfold someone sendersIn sendersAmong in refl
+
+    none : (slot : ℕ) → false ≡ twoThere round (take 0 ss) slot
+    none zero = unfold twoThere sendersIn in refl
+    none (suc slot) = unfold twoThere sendersIn sendersAmong in refl
+
+module _ {ss : List Slave} {master round : ℕ} {row : List ℕ} {senders clashes n : ℕ} (h : RoundPlanning ss master round row senders clashes n) where
+  module _ {mask : ℕ} {new : List ℕ} {name : ℕ} (more : n < length ss) (sends : Marks mask (plannedIn round (getD ss n noSlave)))
+      (own : name ≡ logicalName (getD ss n noSlave)) (put : OwnerPut row new (bitAnd mask (bitXor senders 0xFFFFFFFFFFFFFFFF)) name) where
+    abbrev before : ℕ → List Slave
+    before slot = sendersIn round slot (take n ss)
+
+    abbrev planned : ℕ → Bool
+    planned slot = plannedIn round (getD ss n noSlave) slot
+
+    sent-bit : (slot : ℕ) → slot < slots → isSet senders slot ≡ not (eqb (length (before slot)) 0)
+    unfolding someone
+    sent-bit slot l = h .planned .sends .each slot l
+
+    twice-bit : (slot : ℕ) → slot < slots → isSet clashes slot ≡ leb 2 (length (before slot))
+    unfolding twoThere
+    twice-bit slot l = h .planned .twice .each slot l
+
+    some-bit : (slot : ℕ) → slot < slots → isSet (bitOr senders mask) slot ≡ someone round (take (suc n) ss) slot
+    unfolding someone
+    some-bit slot l =
+        set-or senders mask slot
+        ∙ (rw (sent-bit slot l, sends .each slot l, senders-next round ss n more slot) (sym (some-next (before slot) (getD ss n noSlave) (planned slot))))
+
+    two-bit : (slot : ℕ) → slot < slots → isSet (bitOr clashes (bitAnd senders mask)) slot ≡ twoThere round (take (suc n) ss) slot
+    unfolding twoThere
+    two-bit slot l =
+        set-or clashes (bitAnd senders mask) slot
+        ∙ (rw (set-and senders mask slot, twice-bit slot l, sent-bit slot l, sends .each slot l, senders-next round ss n more slot)
+        (sym (two-next (before slot) (getD ss n noSlave) (planned slot))))
+
+    put-bit : (slot : ℕ) → slot < slots → getD new slot 0 ≡ cond (both (planned slot) (not (not (eqb (length (before slot)) 0)))) name (getD row slot 0)
+    put-bit slot l =
+        put .at slot l
+        ∙ (rw (set-and mask (bitXor senders 0xFFFFFFFFFFFFFFFF) slot, set-free senders slot l, sends .each slot l, sent-bit slot l))
+
+    owner-next : (slot : ℕ) → slot < slots → getD new slot 0 ≡ ownerOf master round (take (suc n) ss) slot
+    owner-next zero l = put-bit zero l ∙ (unfold plannedIn both ownerOf in h .planned .owners zero l)
+    owner-next (suc slot) l =
+        put-bit (suc slot) l
+        ∙ (rw (h .planned .owners (suc slot) l, own)
+        (unfold ownerOf in rw (senders-next round ss n more (suc slot)) (sym (name-next (before (suc slot)) (getD ss n noSlave) (planned (suc slot))))))
+
+    pub round-next : RoundPlanning ss master round new (bitOr senders mask) (bitOr clashes (bitAnd senders mask)) (n + 1)
+    round-next =
+        rw add-one
+        (record {
+          most = more;
+          planned =
+              record {
+                room = put .room ∙ h .planned .room;
+                owners = owner-next;
+                sends = record { each = some-bit };
+                twice = record { each = two-bit };
+              };
+        })
+
+  pub round-done : {first : ℕ} → length ss ≤ n → first ≡ master → RoundPlanned ss first round row senders clashes
+  round-done over is = rw (is, ← take-all n ss over) (h .planned)

@@ -1,0 +1,4 @@
+-- Statements of theorems.
+pub mod Rounds
+pub mod Sizes
+pub mod Call

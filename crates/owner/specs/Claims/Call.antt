@@ -1,0 +1,29 @@
+-- What the call leaves in the buffer, and the call on a file of unknown edition.
+use Prim.Native.Nat.{ℕ, _+_, _*_, _<_}
+use mathlib.Core.Path.{_≡_}
+use mathlib.Core.List.{List}
+use mathlib.Core.Bool.{true}
+use lib.ListN.{length, getD, take}
+use Rattle.file.specs.Rules.Layout.{recordSize}
+use Rattle.file.specs.Rules.Results.{done}
+use Rattle.file.specs.Rules.Decode.{decode}
+use Rattle.owner.specs.Rules.Plan.{rounds, isOwned}
+use Rattle.owner.specs.Rules.OwnerFile.{rowOf}
+use Rattle.owner.specs.Rules.Writing.{ownerOn}
+use Rattle.owner.specs.Claims.Rounds.{OwnerRuns}
+
+-- the byte of a buffer that stands for a slot of a round, by the round's index byte
+abbrev pub slotByte : List ℕ → ℕ → ℕ → ℕ
+slotByte buffer round slot = getD buffer (recordSize * getD buffer (recordSize + round) 0 + slot) 0
+
+-- in the buffer that the call leaves, the byte of every slot from 1 on of every row is who sends there in the round as it runs
+abbrev pub BufferRuns : Type 0
+BufferRuns =
+    (file : List ℕ) (master : ℕ) (buffer : List ℕ) (n : ℕ) → ownerOn file master buffer .0 ≡ done n → (round : ℕ) → round < rounds → isOwned round ≡ true
+    → (slot : ℕ) → 0 < slot → slot < length (rowOf master (decode file .slaves) round)
+    → OwnerRuns (decode file) round slot (slotByte (ownerOn file master buffer .1) round slot)
+
+-- on a file of unknown edition its answer depends on the file's length and first three bytes alone
+abbrev pub UnknownEdition : Type 0
+UnknownEdition =
+    (f g : List ℕ) (m n : ℕ) (a b : List ℕ) → length f ≡ length g → take 3 f ≡ take 3 g → (getD f 2 0 ≡ 1 → ⊥) → ownerOn f m a .0 ≡ ownerOn g n b .0

@@ -1,0 +1,126 @@
+// The rows of all rounds, and the index of where they begin.
+ghost use mathlib.Core.Path.{_≡_};
+ghost use Prim.Native.Nat.{_+_, _<_};
+ghost use lib.ListN.{replicate};
+ghost use Rattle.file.specs.Rules.Decode.{decode};
+ghost use Rattle.file.specs.Inner.Typed.{fileIn, nameIn};
+ghost use Rattle.file.specs.Inner.Accepted.{Placed};
+ghost use Rattle.cluster.specs.Rules.Bus.{slots};
+ghost use Rattle.owner.specs.Rules.Plan.{rounds, isOwned};
+ghost use Rattle.owner.specs.Rules.OwnerFile.{noOwner};
+ghost use Rattle.owner.specs.Inner.Planned.{RowWritten, headRoom, rowsRoom, RoundsWritten};
+use crate::masks::NO_SLOTS;
+use crate::masks::last_slot;
+use crate::plan::plan_round;
+use cluster::answer::SLOTS;
+use file::layout::RECORD_SIZE;
+use file::types::FileNumber;
+use file::types::LogicalName;
+use file::types::SlavePlaces;
+
+// "the eight index bytes"
+pub const ROUNDS: usize = 8;
+
+// The two that are no multipartner rounds, MSD and MSA.
+const DATA_ROUND: usize = 1;
+
+const ADDRESS_ROUND: usize = 5;
+
+// Record 0x00 and the index, records 1 and 2.
+pub const HEAD_SIZE: usize = RECORD_SIZE + ROUNDS;
+
+// "from record 3"
+const FIRST_ROW_RECORD: usize = 3;
+
+// Room for the rows: all slots of each round.
+pub const ROWS_ROOM: usize = ROUNDS * SLOTS;
+
+// "For each of rounds 0, 2, 3, 4, 6 and 7".
+fn is_owned(round: usize) -> bool
+    ensures { λ r. ⌜ r ≡ isOwned round ⌝ }
+{
+    if round == DATA_ROUND {
+        return false;
+    }
+    round != ADDRESS_ROUND
+}
+
+// What is written so far: how many bytes of rows, and whether two slaves send in one slot.
+pub struct Rows {
+    pub length: usize,
+    pub clash: bool,
+}
+
+// A round's row, padded, in front of zeros.
+fn write_row(
+    file: &[u8],
+    places: &SlavePlaces,
+    master: LogicalName,
+    round: FileNumber,
+    row: &mut [u8],
+) -> Rows
+    requires { ⌜ Placed (now file) (now places) × (now row ≡ replicate slots noOwner) ⌝ }
+    ensures { λ r. ⌜ RowWritten (decode (now (file .entry)) .slaves) (nameIn master) (fileIn round) (now (row .exit)) (r .length) (r .clash) ⌝ }
+{
+    let plan = plan_round(file, places, master, round, row);
+    let last = last_slot(plan.senders);
+    Rows {
+        length: RECORD_SIZE * (last / RECORD_SIZE + 1),
+        clash: plan.clashes != NO_SLOTS,
+    }
+}
+
+// One round more: its index byte and its row. Rounds 1 and 5 have no row, and their index byte stays 0x00.
+fn write_round(
+    file: &[u8],
+    places: &SlavePlaces,
+    master: LogicalName,
+    round: usize,
+    before: Rows,
+    head: &mut [u8],
+    rows: &mut [u8],
+) -> Rows
+    requires { ⌜ Placed (now file) (now places) × (round < rounds) × RoundsWritten (decode (now file) .slaves) (nameIn master) round (now head) (now rows) (before .length) (before .clash) ⌝ }
+    ensures { λ r. ⌜ RoundsWritten (decode (now (file .entry)) .slaves) (nameIn master) (round + 1) (now (head .exit)) (now (rows .exit)) (r .length) (r .clash) ⌝ }
+{
+    if !is_owned(round) {
+        return before;
+    }
+    let start = before.length;
+    let end = start + SLOTS;
+    head[RECORD_SIZE + round] = (FIRST_ROW_RECORD + start / RECORD_SIZE) as u8;
+    let row = write_row(
+        file,
+        places,
+        master,
+        FileNumber(round as u8),
+        &mut rows[start..end],
+    );
+    Rows {
+        length: start + row.length,
+        clash: before.clash | row.clash,
+    }
+}
+
+// All rounds: the head and the rows of the owner file.
+pub fn write_rounds(
+    file: &[u8],
+    places: &SlavePlaces,
+    master: LogicalName,
+    head: &mut [u8],
+    rows: &mut [u8],
+) -> Rows
+    requires { ⌜ Placed (now file) (now places) × (now head ≡ replicate headRoom noOwner) × (now rows ≡ replicate rowsRoom noOwner) ⌝ }
+    ensures { λ r. ⌜ RoundsWritten (decode (now (file .entry)) .slaves) (nameIn master) rounds (now (head .exit)) (now (rows .exit)) (r .length) (r .clash) ⌝ }
+{
+    let mut written = Rows {
+        length: 0,
+        clash: false,
+    };
+    let mut round = 0;
+    while round < ROUNDS {
+        written = write_round(file, places, master, round, written, head, rows);
+        round = round + 1;
+    }
+    written
+}
