@@ -1,7 +1,8 @@
 /* demo FILE: commissioning a small cluster, as firmware or test software would do it.
  *
- * Loads a cluster file, checks it, reads a record of a named slave, names the unnamed slaves while other
- * rounds go on in between, runs a captured trace, plans who sends in which slot, and prints what happened.
+ * Loads a cluster file, checks it, reads a record of a named slave, has a foreign master try to name slaves by a
+ * write, names the unnamed slaves while other rounds go on in between, runs a captured trace, plans who sends in
+ * which slot, and prints what happened.
  * examples/demo.rs of the Rust crate does the same and prints the same. */
 #include <inttypes.h>
 #include <stdio.h>
@@ -11,6 +12,8 @@
 #define STEPS_BETWEEN_TRAFFIC 50
 /* the master's own logical name */
 #define MASTER 0x80
+/* where the demo's file has the logical name of its second slave, which is unnamed */
+#define SECOND_NAME 0x7B
 
 /* The cluster file and what the last round answered. One byte more than a file may have, so that a longer
  * one is seen and refused. */
@@ -46,6 +49,15 @@ static void print_bytes(const char *what, const uint8_t *bytes, size_t count)
         printf(" %02X", (unsigned)bytes[i]);
     }
     printf("\n");
+}
+
+/* Two slaves of one name: such a file is not loaded. */
+static void show_equal_names(void)
+{
+    uint8_t name = cluster[SECOND_NAME];
+    cluster[SECOND_NAME] = 0x01;
+    print_verdict("a file with 01 twice", ttpa_check(cluster, length));
+    cluster[SECOND_NAME] = name;
 }
 
 /* Each slot in which someone sent, with its byte. */
@@ -177,6 +189,17 @@ static uint8_t write_record(uint8_t name, uint8_t file, uint8_t record, const ui
     return number;
 }
 
+/* A foreign master writes record 1 of 0x08 of the unnamed slaves, with 05 where their logical name stands. It stays
+ * FF: only the execute of that record, which ends a naming, renames. */
+static void show_foreign_write(void)
+{
+    static const uint8_t record[] = {0x00, 0x00, 0x05, 0x05};
+    print_verdict("a foreign master's write at FF",
+                  write_record(TTPA_NAME_UNNAMED, TTPA_FILE_CONFIGURATION, 1, record));
+    print_verdict("read of 05", read_record(0x05, TTPA_FILE_DOCUMENTATION, 2));
+    print_answer("answer");
+}
+
 /* The rounds that an owner file has rows of. */
 static const int owned[] = {0, 2, 3, 4, 6, 7};
 #define OWNED (sizeof owned / sizeof owned[0])
@@ -235,6 +258,7 @@ int main(int count, char **arguments)
     if (number != TTPA_ACCEPTED) {
         return 1;
     }
+    show_equal_names();
     show_frames();
     number = read_record(0x01, TTPA_FILE_DOCUMENTATION, 2);
     print_verdict("read of 01", number);
@@ -242,6 +266,7 @@ int main(int count, char **arguments)
     number = send(round, sizeof round);
     print_verdict("round 2 before naming", number);
     print_answer("answer");
+    show_foreign_write();
     print_verdict("names with a repeat", ttpa_start(bad_names, sizeof bad_names, run));
     number = name_slaves(names, sizeof names);
     print_verdict("naming", number);

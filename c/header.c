@@ -44,6 +44,7 @@ VALUE(TTPA_REFUSED_FILE_NUMBER, 18);
 VALUE(TTPA_REFUSED_TRACE, 19);
 VALUE(TTPA_REFUSED_TWO_SENDERS, 20);
 VALUE(TTPA_REFUSED_OWNER_BUFFER, 21);
+VALUE(TTPA_REFUSED_EQUAL_LOGICAL_NAMES, 22);
 
 VALUE(TTPA_FILE_BYTES, 32768);
 VALUE(TTPA_FRAME_BYTES, 6);
@@ -216,7 +217,7 @@ static void texts(void)
         "accepted",  "32,768",        "mark",   "edition",    "as long as",  "header",       "layout",
         "0x3D",      "physical name", "buffer", "firework",   "length",      "firework and", "operation",
         "a read is", "0xFF",          "twice",  "naming run", "file number", "the trace",    "two slaves",
-        "owner file",
+        "owner file", "logical name;",
     };
     const int known = sizeof words / sizeof words[0];
     for (int number = 0; number < known; number++) {
@@ -224,7 +225,7 @@ static void texts(void)
         EXPECT(is_printable(text) && strstr(text, words[number]) != NULL);
         EXPECT(first_with(text) == number);
     }
-    EXPECT(known == TTPA_REFUSED_OWNER_BUFFER + 1);
+    EXPECT(known == TTPA_REFUSED_EQUAL_LOGICAL_NAMES + 1);
     EXPECT(is_printable(ttpa_refusal_text(UINT8_MAX)));
     for (int number = known; number <= UINT8_MAX; number++) {
         EXPECT(first_with(ttpa_refusal_text((uint8_t)number)) == known);
@@ -254,6 +255,32 @@ static void files(void)
     EXPECT(check_with(19, 1) == TTPA_REFUSED_LAYOUT);
     EXPECT(check_with(28, 0x3C) == TTPA_REFUSED_NEEDED_FILE);
     EXPECT(check_with(sizeof m10 - 1, 0x10) == TTPA_REFUSED_EQUAL_PHYSICAL_NAMES);
+}
+
+static void name_both(uint8_t name)
+{
+    renew();
+    cluster[FIRST_NAME] = name;
+    cluster[SECOND_NAME] = name;
+}
+
+/* Two slaves of one name: loading refuses it, 0xFF aside and after 8; a round does not. */
+static void equal_names(void)
+{
+    static const uint8_t round[] = {TTPA_FIREWORK_ROUND_2};
+    static const uint8_t refused[] = {0x00, 0x01, 0xFE};
+    for (size_t i = 0; i < sizeof refused; i++) {
+        name_both(refused[i]);
+        EXPECT(ttpa_check(cluster, sizeof cluster) == TTPA_REFUSED_EQUAL_LOGICAL_NAMES);
+        EXPECT(ttpa_round(cluster, sizeof cluster, round, sizeof round, answer, sizeof answer, &senders) ==
+               TTPA_ACCEPTED);
+        EXPECT(ttpa_check(cluster, sizeof cluster) == TTPA_REFUSED_EQUAL_LOGICAL_NAMES);
+        cluster[sizeof cluster - 1] = 0x10;
+        EXPECT(ttpa_check(cluster, sizeof cluster) == TTPA_REFUSED_EQUAL_PHYSICAL_NAMES);
+    }
+    name_both(0x05);
+    cluster[SECOND_NAME] = 0x06;
+    EXPECT(ttpa_check(cluster, sizeof cluster) == TTPA_ACCEPTED);
 }
 
 /* ---- frames: cases M1 to M5, and the order of the grounds */
@@ -407,6 +434,21 @@ static void checks_without_firework(void)
     memcpy(pending, cluster, sizeof pending);
     EXPECT(send(data, sizeof data) == TTPA_REFUSED_CHECK_BYTE);
     EXPECT(memcmp(cluster, pending, sizeof pending) == 0);
+}
+
+/* A foreign master writes 11 22 33 05 to record 1 of 0x08 at 0xFF: bytes 0 to 2 are replaced, and nobody is 05. */
+static void written_names(void)
+{
+    static const uint8_t m2[] = {0x55, 0x00, 0xFF, 0x21, 0x01, 0x8A};
+    static const uint8_t data[] = {0x49, 0x11, 0x22, 0x33, 0x05, 0x4C};
+    static const uint8_t record[] = {0x11, 0x22, 0x33, TTPA_NAME_UNNAMED};
+    renew();
+    EXPECT(send(m2, sizeof m2) == TTPA_ACCEPTED);
+    EXPECT(send(data, sizeof data) == TTPA_ACCEPTED);
+    EXPECT(senders == 0 && silent_from(TTPA_FIREWORK_MSD, 1));
+    EXPECT(memcmp(cluster + FIRST_NAME - 3, record, sizeof record) == 0);
+    EXPECT(memcmp(cluster + SECOND_NAME - 3, record, sizeof record) == 0);
+    EXPECT(memcmp(cluster + FIRST_NAME + 1, m10 + FIRST_NAME + 1, SECOND_NAME - 3 - (FIRST_NAME + 1)) == 0);
 }
 
 /* ---- naming */
@@ -687,6 +729,7 @@ int main(void)
 {
     texts();
     files();
+    equal_names();
     written_addresses();
     refused_addresses();
     data_frames();
@@ -695,6 +738,7 @@ int main(void)
     fireworks();
     refused_rounds();
     checks_without_firework();
+    written_names();
     starts();
     one_name();
     all_names();

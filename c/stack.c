@@ -41,6 +41,8 @@ static uint8_t number;
 /* ---- a cluster file of TTPA_FILE_BYTES bytes with SLAVES slaves */
 
 static size_t end;
+/* where file 0x08 of the last slave begins */
+static size_t last_configuration;
 
 static void put(unsigned byte)
 {
@@ -74,6 +76,7 @@ static void put_slave(unsigned slave, size_t data_last)
 {
     size_t place = end + 4 * ENTRY_BYTES;
     place = put_entry(ROUND_FILE, 2, place);
+    last_configuration = place;
     place = put_entry(TTPA_FILE_CONFIGURATION, 3, place);
     place = put_entry(DATA_FILE, data_last, place);
     put_entry(TTPA_FILE_DOCUMENTATION, 2, place);
@@ -263,10 +266,14 @@ static void make_trace(void)
 static void check_files(void)
 {
     uint8_t *serial = &cluster[sizeof cluster - 1];
+    uint8_t *last_name = &cluster[last_configuration + 7];
     make(CHECK, TTPA_ACCEPTED);
     *serial = 0;
     make(CHECK, TTPA_REFUSED_EQUAL_PHYSICAL_NAMES);
     *serial = SLAVES - 1;
+    *last_name = 0x01;
+    make(CHECK, TTPA_REFUSED_EQUAL_LOGICAL_NAMES);
+    *last_name = TTPA_NAME_UNNAMED;
     cluster[HEADER_BYTES + 3] = 1;
     make(CHECK, TTPA_REFUSED_LAYOUT);
     cluster[HEADER_BYTES + 3] = 0;
@@ -295,9 +302,11 @@ static void master_slave_rounds(void)
             master_slave(0x01, files[i], TTPA_OPERATION_READ, record);
             master_slave(TTPA_NAME_UNNAMED, files[i], TTPA_OPERATION_READ, record);
         }
-        master_slave(0x01, files[i], TTPA_OPERATION_WRITE, 2);
-        master_slave(TTPA_NAME_BROADCAST, files[i], TTPA_OPERATION_WRITE, 2);
-        master_slave(TTPA_NAME_UNNAMED, files[i], TTPA_OPERATION_WRITE, 2);
+        for (uint8_t record = 1; record <= 2; record++) {
+            master_slave(0x01, files[i], TTPA_OPERATION_WRITE, record);
+            master_slave(TTPA_NAME_BROADCAST, files[i], TTPA_OPERATION_WRITE, record);
+            master_slave(TTPA_NAME_UNNAMED, files[i], TTPA_OPERATION_WRITE, record);
+        }
     }
     for (uint8_t record = 1; record <= 3; record++) {
         master_slave(TTPA_NAME_BROADCAST, TTPA_FILE_CONFIGURATION, TTPA_OPERATION_EXECUTE, record);

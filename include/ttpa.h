@@ -33,12 +33,12 @@ extern "C" {
 /* The version of this header and of the library made from the same sources. The archive does not carry it:
  * keep the two together. */
 #define TTPA_VERSION_MAJOR 0
-#define TTPA_VERSION_MINOR 4
+#define TTPA_VERSION_MINOR 5
 #define TTPA_VERSION_PATCH 0
 
 /* What the library takes: code and constants of all calls, and the most stack that a call uses, with its
  * return address and arguments. No other memory. Both are measured, and rounded up. */
-#define TTPA_CODE_BYTES 8448
+#define TTPA_CODE_BYTES 8704
 #define TTPA_STACK_BYTES 2176
 
 /* What the calls return: 0, or the documents' number for the ground on which something was refused. */
@@ -71,7 +71,9 @@ enum ttpa_refusal {
     TTPA_REFUSED_TRACE = 19,
     /* an owner file: the cluster it is for, and the buffer for it */
     TTPA_REFUSED_TWO_SENDERS = 20,
-    TTPA_REFUSED_OWNER_BUFFER = 21
+    TTPA_REFUSED_OWNER_BUFFER = 21,
+    /* a cluster file that is loaded from outside, see ttpa_check */
+    TTPA_REFUSED_EQUAL_LOGICAL_NAMES = 22
 };
 
 /* What a returned number means, for an installer's screen: English, ASCII, without a full stop, never NULL.
@@ -123,6 +125,8 @@ static inline const char *ttpa_refusal_text(uint8_t number)
         return "two slaves send in one slot of a round, so that the slot has no single owner";
     case TTPA_REFUSED_OWNER_BUFFER:
         return "the buffer is too short for this cluster's owner file";
+    case TTPA_REFUSED_EQUAL_LOGICAL_NAMES:
+        return "two slaves have the same logical name; 0xFF (unnamed) alone may occur more than once";
     default:
         return "refused on a ground that this version has no text for";
     }
@@ -168,7 +172,8 @@ static inline const char *ttpa_refusal_text(uint8_t number)
 #define TTPA_NAME_BROADCAST 0x00
 #define TTPA_NAME_UNNAMED 0xFF
 
-/* The files that every slave has. */
+/* The files that every slave has. Record 1 of 0x08 has the new logical name in byte 2 and the logical name in byte
+ * 3, which no write changes: a slave takes its new logical name by an execute of that record alone. */
 #define TTPA_FILE_CONFIGURATION 0x08
 #define TTPA_FILE_DOCUMENTATION 0x3D
 
@@ -214,8 +219,10 @@ static inline const char *ttpa_refusal_text(uint8_t number)
 #define TTPA_OWNER_RECORD_BYTES 4
 #define TTPA_OWNER_INDEX 4
 
-/* Checks a cluster file of n bytes.
- * Refuses by 1, 2, 3, 4, 5, 6, 7, 8 in this order. Writes nothing. */
+/* Checks a cluster file of n bytes that comes from outside. Two slaves of one logical name (0x00 counts, 0xFF
+ * does not) are refused here alone: rounds that baptize may bring such a file about, and every other call takes
+ * it.
+ * Refuses by 1, 2, 3, 4, 5, 6, 7, 8, 22 in this order. Writes nothing. */
 uint8_t ttpa_check(const uint8_t *file, size_t n);
 
 /* Reads an address frame of n bytes into parts.
@@ -244,8 +251,8 @@ uint8_t ttpa_start(const uint8_t *names, size_t n, uint64_t run[TTPA_RUN_WORDS])
 
 /* Makes the run's next round, an address frame and a data frame, on the cluster file of n bytes, over the
  * same list of m names as at the start; answer has k bytes. Between two steps other rounds may be made on
- * the file, one by one or as traces: multipartner rounds, and address frames each with its data frame, but no
- * write to and no execute of file 0x08.
+ * the file, one by one or as traces: multipartner rounds, and address frames each with its data frame, but of
+ * file 0x08 only reads, and writes of record 1 at another name than 0xFF.
  * Refuses by 1, 2, 3, 4, 5, 6, 7, 8, 9, 15, 16, 17 in this order. On 0 file and run have moved on, and
  * answer and *senders are those of the data frame, as ttpa_round has them. In a run from ttpa_start: if the
  * index has risen, the name before it is done: it was taken already if the step was 0 before the call, else

@@ -20,9 +20,9 @@ use Rattle.file.proofs.Order.{byCase, clash, both-left, both-right}
 use Rattle.file.proofs.Shape.{files-refl, files-trans, shape-refl, shape-trans, shape-count, shape-fileLength, slave-put}
 use Rattle.file.proofs.Puts.{inSlave-other, inSlave-physicalName}
 use Rattle.file.proofs.Kept.{slave-legal, legal-withEpoch, legal-withPending}
-use Rattle.file.proofs.Bytes.{byte-at}
+use Rattle.file.proofs.Bytes.{all-take, byte-at}
 use Rattle.cluster.specs.Rules.Bus.{busByte}
-use Rattle.cluster.specs.Rules.Slaves.{nextEpoch, epochRaised, isUnnamed, Duty, nothing, reading, writing, comparing, baptizing, mayWrite, takesWrite, takesName, named, replaced, slaveAfter, slavesAfter}
+use Rattle.cluster.specs.Rules.Slaves.{nextEpoch, epochRaised, isUnnamed, Duty, nothing, reading, writing, comparing, baptizing, mayWrite, isNameRecord, written, takesWrite, takesName, named, replaced, slaveAfter, slavesAfter}
 use Rattle.cluster.specs.Rules.Entries.{Entry, Acting, acts, acting, bytePlace, receives}
 use Rattle.cluster.specs.Rules.Multipartner.{SlaveByte, nowhere, byteOf, within, mayStore, storePlace, storesAt, storedThere, receivedIn, sentIn, clusterBelow}
 use Rattle.cluster.proofs.Bus.{busByte-byte}
@@ -81,13 +81,25 @@ takesWrite-file name n r s e same =
     let test : not (eqb n documentation) ≡ true = both-left _ _ (both-right _ _ (both-right _ _ e)) in
     clash (eq-eqb n documentation same) (not-true _ test)
 
+-- and never one of a record 0x00
+pub takesWrite-record : (name n r : ℕ) (s : Slave) → takesWrite name n r s ≡ true → r ≢ 0x00
+unfolding takesWrite mayWrite
+takesWrite-record name n r s e same =
+    let test : not (eqb r 0x00) ≡ true = both-right _ _ (both-right _ _ (both-right _ _ e)) in
+    clash (eq-eqb r 0x00 same) (not-true _ test)
+
+-- what a record takes of bytes is bytes
+pub written-bytes : (n r : ℕ) {bs : List ℕ} → Bytes bs → Bytes (written n r bs)
+unfolding written
+written-bytes n r bytes = byCase (isNameRecord n r) (λ e. rw e (all-take 3 bytes)) (λ e. rw e bytes)
+
 pub slaveAfter-kept : (o : Duty) {bs : List ℕ} → Bytes bs → (s : Slave) → SlaveKept s (slaveAfter o bs s)
 unfolding slaveAfter
 slaveAfter-kept nothing bytes s = slave-refl s
 slaveAfter-kept (reading name n r) bytes s = slave-refl s
 slaveAfter-kept (writing name n r) bytes s =
     byCase (takesWrite name n r s)
-    (λ e. rw e (replaced-kept s n (recordSize * r) (takesWrite-file name n r s e) bytes))
+    (λ e. rw e (replaced-kept s n (recordSize * r) (takesWrite-file name n r s e) (written-bytes n r bytes)))
     (λ e. rw e (slave-refl s))
 slaveAfter-kept (comparing name) bytes s = slave-refl s
 slaveAfter-kept (baptizing name) bytes s =

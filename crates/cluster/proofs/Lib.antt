@@ -11,6 +11,7 @@ pub mod Rounds
 pub mod Replaced
 pub mod StaysPending
 pub mod UnnamedWrites
+pub mod Renaming
 -- loops along the slaves of a master-slave round: their replies, and their changes
 pub mod Hearing
 pub mod Changing

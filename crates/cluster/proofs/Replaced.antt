@@ -1,36 +1,69 @@
--- What a write leaves in a slave: exactly its four bytes in the record, every other record and file as it was; a slave that does not
--- take the write is as it was.
+-- What a write leaves in a slave: its bytes in the record, every other record and file and the logical name as they were; a slave that
+-- does not take the write is as it was.
 -- Assumes nothing.
-use Prim.Native.Nat.{ℕ, suc, _+_, _*_, _≤_}
+use Prim.Native.Nat.{ℕ, suc, _+_, _*_, _≤_, _<_}
 use native.Mathlib.Omega.{arith}
-use mathlib.Core.Path.{_≡_, refl}
+use mathlib.Core.Path.{_≡_, refl, sym, ap, _∙_}
 use mathlib.Core.Logic.{_≢_}
-use mathlib.Core.List.{List, [], _∷_, _++_, append-assoc}
+use mathlib.Core.List.{List, [], _∷_, _++_}
 use mathlib.Core.Bool.{true, false}
-use lib.ListN.{length, take, drop}
-use lib.Seq.{sets, sets-eq, length-take-le, drop-at, take-append-seam}
+use lib.ListN.{length, getD, take, drop, length-take, drop-of-length-le}
+use lib.Seq.{sets, drop-cons}
+use lib.Dec.{eqb}
+use borrow.Author.Tests.{eqb-true, eqb-false}
 use Rattle.file.specs.Rules.Layout.{recordSize}
 use Rattle.file.specs.Rules.Bytes.{part}
-use Rattle.file.specs.Rules.Cluster.{Slave, bytesIn, recordOf}
-use Rattle.file.proofs.Order.{both-left, both-right}
-use Rattle.file.proofs.Puts.{inSlave-same, part-sets, hasRecord-fits}
-use Rattle.cluster.specs.Rules.Slaves.{writing, replaced, takesWrite, slaveAfter}
+use Rattle.file.specs.Rules.Cluster.{Slave, bytesIn, recordOf, configuration, logicalName}
+use Rattle.file.specs.Rules.Changes.{putInSlave}
+use Rattle.file.specs.Rules.Order.{both}
+use Rattle.file.proofs.Order.{byCase, both-left, both-right}
+use Rattle.file.proofs.Bytes.{getD-part}
+use Rattle.file.proofs.NumberLaws.{part-length}
+use Rattle.file.proofs.Puts.{inSlave-same, part-sets, getD-sets, sets-part, sets-again, hasRecord-fits}
+use Rattle.cluster.specs.Rules.Slaves.{writing, isNameRecord, written, replaced, takesWrite, slaveAfter}
+use Rattle.cluster.specs.Claims.Writes.{recordAfter}
+use Rattle.cluster.proofs.Kept.{takesWrite-record}
 use Rattle.cluster.proofs.Untouched.{replaced-other}
 
-replaced-sets : (s : Slave) (n k : ℕ) (bs : List ℕ) → bytesIn (replaced s n k bs) n ≡ sets (bytesIn s n) k bs
+-- ---- the bytes that a record takes
+
+pub written-name : (bytes : List ℕ) → written configuration 1 bytes ≡ take 3 bytes
+unfolding written isNameRecord both
+written-name bytes = refl
+
+pub written-most : (n r : ℕ) (bytes : List ℕ) → length (written n r bytes) ≤ length bytes
+unfolding written
+written-most n r bytes =
+    byCase (isNameRecord n r) (λ e. rw (e, length-take) (omega arith)) (λ e. rw e (omega arith))
+
+pub replaced-sets : (s : Slave) (n k : ℕ) (bs : List ℕ) → bytesIn (replaced s n k bs) n ≡ sets (bytesIn s n) k bs
 unfolding replaced
 replaced-sets s n k [] = refl
-replaced-sets s n k (b ∷ bs) = rw (replaced-sets (Rattle.file.specs.Rules.Changes.putInSlave s n k b) n (suc k) bs, inSlave-same n k b s)
+replaced-sets s n k (b ∷ bs) = rw (replaced-sets (putInSlave s n k b) n (suc k) bs, inSlave-same n k b s)
 
-sets-part : (l : List ℕ) (k : ℕ) (bs : List ℕ) → k + length bs ≤ length l → part (sets l k bs) k (length bs) ≡ bs
-unfolding part
-sets-part l k bs fits =
-    let e : length (take k l) ≡ k = length-take-le k l (omega arith) in
-    rw (sets-eq bs l k fits, append-assoc, drop-at (take k l) (bs ++ drop (k + length bs) l) k e, take-append-seam)
+-- three bytes and the fourth as it was
+three-again : (l : List ℕ) (k a b c : ℕ) → k + 4 ≤ length l → part (sets l k (a ∷ b ∷ c ∷ [])) k 4 ≡ a ∷ b ∷ c ∷ drop 3 (part l k 4)
+three-again l k a b c fits =
+    let last : ℕ = getD l (k + 3) 0 in
+    let four : length (part l k 4) ≡ 4 = part-length l k 4 fits in
+    let rest : drop 3 (part l k 4) ≡ last ∷ [] =
+    drop-cons (part l k 4) 3 0 (omega arith) ∙ rw (getD-part l k 4 3 (omega arith), drop-of-length-le (part l k 4) {i = 4} (omega arith)) in
+    rw (← sets-again l k (a ∷ b ∷ c ∷ []), rest) (sets-part l k (a ∷ b ∷ c ∷ last ∷ []) fits)
 
--- a slave that takes the write, and one that does not
+record-written : (n r : ℕ) (l : List ℕ) (k : ℕ) (bytes : List ℕ) → length bytes ≡ 4 → k + 4 ≤ length l → part (sets l k (written n r bytes)) k 4 ≡ recordAfter n r (part l k 4) bytes
+unfolding written recordAfter
+record-written n r l k (a ∷ b ∷ c ∷ d ∷ []) four fits =
+    byCase (isNameRecord n r) (λ e. rw e (three-again l k a b c fits)) (λ e. rw e (sets-part l k (a ∷ b ∷ c ∷ d ∷ []) fits))
+record-written n r l k [] four fits = absurd (omega arith)
+record-written n r l k (a ∷ []) four fits = absurd (omega arith)
+record-written n r l k (a ∷ b ∷ []) four fits = absurd (omega arith)
+record-written n r l k (a ∷ b ∷ c ∷ []) four fits = absurd (omega arith)
+record-written n r l k (a ∷ b ∷ c ∷ d ∷ e ∷ bytes) four fits = absurd (omega arith)
+
+-- ---- a slave that takes the write, and one that does not
+
 pub record WriteTaken (s t : Slave) (n r : ℕ) (bytes : List ℕ) : Type 0 where
-  pub here : recordOf t n r ≡ bytes
+  pub here : recordOf t n r ≡ recordAfter n r (recordOf s n r) bytes
   pub others : (r′ : ℕ) → r′ ≢ r → recordOf t n r′ ≡ recordOf s n r′
   pub files : (n′ : ℕ) → n′ ≢ n → bytesIn t n′ ≡ bytesIn s n′
 
@@ -38,15 +71,40 @@ pub write-taken : (name n r : ℕ) (bytes : List ℕ) (s : Slave) → length byt
 unfolding slaveAfter recordOf takesWrite
 write-taken name n r bytes s four e =
     let has = both-left _ _ (both-right _ _ e) in
-    let fits = hasRecord-fits s n r has in
-    let all = replaced-sets s n (recordSize * r) bytes in
-    let there : part (sets (bytesIn s n) (recordSize * r) bytes) (recordSize * r) (length bytes) ≡ bytes = sets-part (bytesIn s n) (recordSize * r) bytes (omega (arith, fits)) in
+    let all = replaced-sets s n (recordSize * r) (written n r bytes) in
     rw e (record {
-      here = rw all (rw four at there);
-      others = λ r′ differ. rw all (part-sets (bytesIn s n) (recordSize * r) bytes (recordSize * r′) recordSize (λ h. omega arith));
-      files = λ n′ differ. replaced-other s n (recordSize * r) bytes n′ differ;
+      here = rw all (record-written n r (bytesIn s n) (recordSize * r) bytes four (hasRecord-fits s n r has));
+      others = λ r′ differ. rw all (part-sets (bytesIn s n) (recordSize * r) (written n r bytes) (recordSize * r′) recordSize (λ h. omega (arith, written-most n r bytes)));
+      files = λ n′ differ. replaced-other s n (recordSize * r) (written n r bytes) n′ differ;
     })
 
 pub write-left : (name n r : ℕ) (bytes : List ℕ) (s : Slave) → takesWrite name n r s ≡ false → slaveAfter (writing name n r) bytes s ≡ s
 unfolding slaveAfter
 write-left name n r bytes s e = rw e
+
+-- ---- the logical name stays
+
+-- the bytes that a record of 0x08 takes end in front of the logical name or begin after it
+name-outside : (r : ℕ) (bytes : List ℕ) → r ≢ 0x00 → 7 < 4 * r + length (written configuration r bytes) → 7 < 4 * r
+name-outside r bytes some h =
+    byCase (eqb r 1)
+    (λ e.
+    let one : r ≡ 1 = eqb-true r 1 e in
+    let most : length (written configuration r bytes) ≤ 3 = rw (one, written-name bytes, length-take) (omega arith) in
+    absurd (omega arith))
+    (λ e. let other : r ≢ 1 = eqb-false r 1 e in omega (arith, some, other))
+
+pub write-keeps-name : (name n r : ℕ) (bytes : List ℕ) (s : Slave) → logicalName (slaveAfter (writing name n r) bytes s) ≡ logicalName s
+unfolding slaveAfter logicalName
+write-keeps-name name n r bytes s =
+    byCase (takesWrite name n r s)
+    (λ e.
+    rw e
+    (byCase (eqb n configuration)
+    (λ t.
+    let same : n ≡ configuration = eqb-true n configuration t in
+    rw (same, replaced-sets s configuration (recordSize * r) (written configuration r bytes))
+    (getD-sets (bytesIn s configuration) (recordSize * r) (written configuration r bytes) 7
+    (λ h. name-outside r bytes (takesWrite-record name n r s e) (omega arith))))
+    (λ t. rw (replaced-other s n (recordSize * r) (written n r bytes) configuration (λ z. eqb-false n configuration t (sym z))))))
+    (λ e. rw e)

@@ -101,7 +101,7 @@ data-kept c bs = kept-trans (kept-raised c) (kept-after (pendingDuty c) bs (epoc
 pub multipartner-kept : (c : Cluster) (r : ℕ) → ClusterKept c (multipartnerEffect c r .after)
 multipartner-kept c r = kept-trans (kept-raised c) (kept-below r (epochRaised c) slots)
 
-between-bytes : {frame : List ℕ} → Bytes frame → Bytes (between frame)
+pub between-bytes : {frame : List ℕ} → Bytes frame → Bytes (between frame)
 between-bytes bs = All.allNext (byte-at bs 1) (All.allNext (byte-at bs 2) (All.allNext (byte-at bs 3) (All.allNext (byte-at bs 4) All.allEmpty)))
 
 effect-kept : (c : Cluster) (round : Round) (frame : List ℕ) → Bytes frame → Fits c round frame → ClusterKept c (effectOf c round frame .after)

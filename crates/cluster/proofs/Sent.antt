@@ -1,6 +1,6 @@
 -- Frames that the writers wrote, sent on an accepted file with a buffer of 64 bytes: an address frame leaves exactly its epoch, name,
--- file, operation and record pending; a data frame, with a write pending, puts exactly its four bytes into each addressed slave that
--- may store them, and changes nothing else but the epoch.
+-- file, operation and record pending; a data frame, with a write pending, puts exactly its bytes into each addressed slave that may
+-- store them, as the rule of a write says, and changes nothing else but the epoch.
 -- Assumes nothing.
 use Prim.Native.Nat.{ℕ, _≤_}
 use native.Mathlib.Omega.{arith}
@@ -74,7 +74,7 @@ module _ (b₀ b₁ b₂ b₃ : ℕ) where
   abbrev bytes : List ℕ
   bytes = b₀ ∷ b₁ ∷ b₂ ∷ b₃ ∷ []
 
-  data-round : roundBy (dataFrame bytes) ≡ msd
+  pub data-round : roundBy (dataFrame bytes) ≡ msd
   unfolding roundBy roundOf roundIn dataFrame frameOf
   data-round = refl
 
@@ -82,7 +82,7 @@ module _ (b₀ b₁ b₂ b₃ : ℕ) where
   unfolding dataFrame frameOf
   between-data = refl
 
-  frame-fits : (c : Cluster) → writePending c ≡ true → frameGround c (dataFrame bytes) ≡ 0
+  pub frame-fits : (c : Cluster) → writePending c ≡ true → frameGround c (dataFrame bytes) ≡ 0
   unfolding dataFrame frameOf
   frame-fits c w = data-fits c (dataFrame bytes) data-round (sym w) refl {check = dataCheck bytes} refl refl refl
 

@@ -6,7 +6,7 @@ use mathlib.Core.Path.{_≡_, refl, sym, ap, _∙_, subst}
 use mathlib.Core.Logic.{_≢_}
 use mathlib.Core.List.{List, [], _∷_}
 use mathlib.Core.Bool.{Bool, true, false, cond, not}
-use lib.ListN.{length, set, length-append}
+use lib.ListN.{length, getD, set, length-append}
 use lib.Seq.{set-getD, set-set, sets}
 use lib.Dec.{eqb, leb}
 use borrow.Author.Tests.{eqb-true, eq-eqb, ne-eqb, le-leb, lt-leb, not-true, not-false}
@@ -26,10 +26,12 @@ use Rattle.file.specs.declared.readers.RecordPlace.{RecordPlace}
 use Rattle.file.specs.declared.readers.RecordPlace.the-variants.{At, NoRecord}
 use Rattle.file.proofs.Order.{byCase, clash, both-true, both-left, both-next, both-false-left, both-false-right}
 use Rattle.file.proofs.Stores.{read-record}
-use Rattle.file.proofs.Puts.{putByte-slave-same, putByte-count, hasRecord-fits}
+use Rattle.file.proofs.Puts.{putByte-slave-same, putByte-count, sets-again, hasRecord-fits}
 use Rattle.file.proofs.ReaderLaws.{place-within}
 use Rattle.file.proofs.StoreLaws.{becomes-record}
-use Rattle.cluster.specs.Rules.Slaves.{addresses, addressed, isUnnamed, reading, writing, comparing, baptizing, answersRead, readReply, answersCompare, replyTo, mayWrite, takesWrite, takesName, named, replaced, slaveAfter}
+use Rattle.cluster.specs.Rules.Slaves.{addresses, addressed, isUnnamed, reading, writing, comparing, baptizing, answersRead, readReply, answersCompare, replyTo, mayWrite, isNameRecord, written, takesWrite, takesName, named, replaced, slaveAfter}
+use Rattle.cluster.proofs.Kept.{written-bytes}
+use Rattle.cluster.proofs.Replaced.{written-most}
 use Rattle.cluster.proofs.Hearing.{recordOf-length}
 use Rattle.cluster.specs.Inner.Carried.{said, reachOf, Replied, withSlave}
 use Rattle.cluster.specs.Inner.Duties.{dataIn, DataPut}
@@ -243,11 +245,43 @@ pub data-bytes : (d : DataBytes) → Fits w8 (d .b0) → Fits w8 (d .b1) → Fit
 data-bytes d f₀ f₁ f₂ f₃ =
     allNext {a = d .b0} (omega arith) (allNext {a = d .b1} (omega arith) (allNext {a = d .b2} (omega arith) (allNext {a = d .b3} (omega arith) allEmpty)))
 
+-- a record that holds the logical name, by its two numbers
+pub other-file : (n r : ℕ) → (n ≡ configuration → ⊥) → false ≡ isNameRecord n r
+unfolding isNameRecord
+other-file n r differ = sym (both-false-left (eqb r 1) (ne-eqb n configuration differ))
+
+pub name-record : (n r : ℕ) → n ≡ configuration → eqb r 1 ≡ isNameRecord n r
+unfolding isNameRecord
+name-record n r same = sym (both-next (eqb r 1) (eq-eqb n configuration same))
+
+-- the byte kept, and the byte given
+pub byte-kept : {t : Bool} (old byte : ℕ) {b : Bool} → t ≡ b → t ≡ true → old ≡ cond b old byte
+byte-kept old byte is e = rw (← is, e)
+
+pub byte-given : {t : Bool} (old byte : ℕ) {b : Bool} → t ≡ b → t ≡ false → byte ≡ cond b old byte
+byte-given old byte is e = rw (← is, e)
+
+-- four bytes with the last as it was are three
+pub data-stored : (f : List ℕ) (place n r : ℕ) (d : DataBytes) {last : ℕ} {new : List ℕ} → last ≡ cond (isNameRecord n r) (getD f (place + 3) 0) (d .b3) →
+    new ≡ sets f place (d .b0 ∷ d .b1 ∷ d .b2 ∷ last ∷ []) → new ≡ sets f place (written n r (dataIn d))
+unfolding written
+data-stored f place n r d {last} is stored =
+    byCase (isNameRecord n r)
+    (λ e.
+    let kept : last ≡ getD f (place + 3) 0 = is ∙ rw e in
+    stored ∙ rw (e, kept) (sets-again f place (d .b0 ∷ d .b1 ∷ d .b2 ∷ [])))
+    (λ e.
+    let given : last ≡ d .b3 = is ∙ rw e in
+    stored ∙ rw (e, given))
+
+pub data-written : (n r : ℕ) (d : DataBytes) → Fits w8 (d .b0) → Fits w8 (d .b1) → Fits w8 (d .b2) → Fits w8 (d .b3) → Bytes (written n r (dataIn d))
+data-written n r d f₀ f₁ f₂ f₃ = written-bytes n r (data-bytes d f₀ f₁ f₂ f₃)
+
 after-unwritten : (name n r : ℕ) (bytes : List ℕ) (s : Slave) → takesWrite name n r s ≡ false → slaveAfter (writing name n r) bytes s ≡ s
 unfolding slaveAfter
 after-unwritten name n r bytes s e = rw e
 
-after-written : (name n r : ℕ) (bytes : List ℕ) (s : Slave) → takesWrite name n r s ≡ true → slaveAfter (writing name n r) bytes s ≡ replaced s n (recordSize * r) bytes
+after-written : (name n r : ℕ) (bytes : List ℕ) (s : Slave) → takesWrite name n r s ≡ true → slaveAfter (writing name n r) bytes s ≡ replaced s n (recordSize * r) (written n r bytes)
 unfolding slaveAfter
 after-written name n r bytes s e = rw e
 
@@ -272,17 +306,19 @@ module _ {f : List ℕ} {c : Cluster} (h : Becomes f c) (s name n r : ℕ) {own 
       (after-unwritten name n r bytes (slaveOf c s)
       (takesWrite-as name n r (slaveOf c s) named′ ∙ both-false-right (addresses name own) (both-false-left (mayWrite n r) (missing-facts c s n r e is))))
 
-  pub write-found : not t ≡ false → mayWrite n r ≡ true → length bytes ≡ 4 → s < length (c .slaves) → {x : RecordPlace} {place : ℕ} {new : List ℕ} → foundRecord x ≡ findRecord c s n r → x ≡ At place → DataPut f new place bytes →
+  pub write-found : not t ≡ false → mayWrite n r ≡ true → length bytes ≡ 4 → s < length (c .slaves) → {x : RecordPlace} {place : ℕ} {new : List ℕ} → foundRecord x ≡ findRecord c s n r → x ≡ At place → DataPut f new place (written n r bytes) →
       Becomes new (withSlave c s (slaveAfter (writing name n r) bytes (slaveOf c s)))
   write-found yes′ may four inside {place = place} {new} e is put =
       let found : Found c s n r place = found-facts c s n r e is in
       let takes : takesWrite name n r (slaveOf c s) ≡ true =
       takesWrite-as name n r (slaveOf c s) named′ ∙ both-true (sym test ∙ not-false t yes′) (both-true (found .has) may)
       in
-      let there : new ≡ sets f (filePlace c s n + recordSize * r) bytes = put .stored ∙ ap (λ (p : ℕ). sets f p bytes) (found .at) in
-      let becomes : Becomes new (putBytes c s n (recordSize * r) bytes) = rw there (becomes-record h s n r (mayWrite-file n r may) (put .all) four (found .has)) in
-      let after : putBytes c s n (recordSize * r) bytes ≡ withSlave c s (slaveAfter (writing name n r) bytes (slaveOf c s)) =
-      putBytes-replaced c s n (recordSize * r) bytes inside ∙ ap (λ (y : Slave). withSlave c s y) (sym (after-written name n r bytes (slaveOf c s) takes))
+      let new-bytes : List ℕ = written n r bytes in
+      let most : length new-bytes ≤ 4 = omega (arith, written-most n r bytes) in
+      let there : new ≡ sets f (filePlace c s n + recordSize * r) new-bytes = put .stored ∙ ap (λ (p : ℕ). sets f p new-bytes) (found .at) in
+      let becomes : Becomes new (putBytes c s n (recordSize * r) new-bytes) = rw there (becomes-record h s n r (mayWrite-file n r may) (put .all) most (found .has)) in
+      let after : putBytes c s n (recordSize * r) new-bytes ≡ withSlave c s (slaveAfter (writing name n r) bytes (slaveOf c s)) =
+      putBytes-replaced c s n (recordSize * r) new-bytes inside ∙ ap (λ (y : Slave). withSlave c s y) (sym (after-written name n r bytes (slaveOf c s) takes))
       in
       subst (λ (d : Cluster). Becomes new d) after becomes
 

@@ -15,7 +15,7 @@ use Rattle.file.proofs.Puts.{inSlave-other}
 use Rattle.frame.specs.Rules.Fireworks.{Round, multipartner, msd, msa, noRound}
 use Rattle.frame.specs.Rules.Frames.{between}
 use Rattle.cluster.specs.Rules.Bus.{busByte, slots}
-use Rattle.cluster.specs.Rules.Slaves.{withAddress, epochRaised, Duty, nothing, reading, writing, comparing, baptizing, pendingDuty, takesWrite, takesName, named, replaced, slaveAfter, slavesAfter}
+use Rattle.cluster.specs.Rules.Slaves.{withAddress, epochRaised, Duty, nothing, reading, writing, comparing, baptizing, pendingDuty, written, takesWrite, takesName, named, replaced, slaveAfter, slavesAfter}
 use Rattle.cluster.specs.Rules.Multipartner.{storesAt, storedThere, receivedIn, sentIn, clusterBelow}
 use Rattle.cluster.specs.Rules.Grounds.{roundBy}
 use Rattle.cluster.specs.Rules.Round.{effectOf, frameOn}
@@ -78,7 +78,7 @@ unfolding slaveAfter named
 slaveAfter-other by-nothing bytes s = refl
 slaveAfter-other by-read bytes s = refl
 slaveAfter-other {n} (by-write {name} {m} {r} differ) bytes s =
-    byCase (takesWrite name m r s) (λ e. rw e (replaced-other s m (recordSize * r) bytes n differ)) (λ e. rw e)
+    byCase (takesWrite name m r s) (λ e. rw e (replaced-other s m (recordSize * r) (written m r bytes) n differ)) (λ e. rw e)
 slaveAfter-other by-compare bytes s = refl
 slaveAfter-other {n} (by-baptize {name} differ) bytes s =
     byCase (takesName name s) (λ e. rw e (inSlave-other configuration (recordSize + 3) (newLogicalName s) s n differ)) (λ e. rw e)

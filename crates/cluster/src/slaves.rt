@@ -1,9 +1,9 @@
 // What one slave does in the data part of a master-slave round, in a file that is known to be accepted.
 ghost use mathlib.Core.Path.{_≡_};
-ghost use mathlib.Core.Bool.{true, not};
+ghost use mathlib.Core.Bool.{true, cond, not};
 ghost use mathlib.Core.List.{[]};
 ghost use Prim.Native.Nat.{_+_, _≤_, _<_};
-ghost use lib.ListN.{length};
+ghost use lib.ListN.{length, getD};
 ghost use lib.Dec.{eqb};
 ghost use Rattle.file.specs.Rules.Order.{both};
 ghost use Rattle.file.specs.Rules.Layout.{recordSize};
@@ -13,7 +13,7 @@ ghost use Rattle.file.specs.Inner.Places.{slaveOf};
 ghost use Rattle.file.specs.Inner.Typed.{fileIn, recordIn, nameIn};
 ghost use Rattle.file.specs.Inner.Accepted.{slaveCount, Placed, Becomes};
 ghost use Rattle.cluster.specs.Rules.Bus.{slots};
-ghost use Rattle.cluster.specs.Rules.Slaves.{addresses, mayWrite, comparing, baptizing, replyTo, slaveAfter};
+ghost use Rattle.cluster.specs.Rules.Slaves.{addresses, mayWrite, isNameRecord, written, comparing, baptizing, replyTo, slaveAfter};
 ghost use Rattle.cluster.specs.Inner.Carried.{Replied, withSlave};
 ghost use Rattle.cluster.specs.Inner.Duties.{readingAt, writingAt, dataIn, DataPut};
 use crate::answer::CHECK_SLOT;
@@ -28,7 +28,9 @@ use file::readers::logical_name;
 use file::readers::physical_name;
 use file::readers::read_place;
 use file::readers::write_place;
+use file::types::FileNumber;
 use file::types::LogicalName;
+use file::types::RecordNumber;
 use file::types::SlavePlaces;
 use file::writers::store_record;
 use file::writers::take_new_name;
@@ -124,15 +126,40 @@ pub fn compare_slave(
     COMPARE_SLOT
 }
 
-// The data put into the record at a place.
-fn put_data(file: &mut [u8], place: usize, bytes: DataBytes)
-    requires { ⌜ place + recordSize ≤ length (now file) ⌝ }
-    ensures { λ _. ⌜ DataPut (now (file .entry)) (now (file .exit)) place (dataIn bytes) ⌝ }
+// Whether a record is the one that holds the logical name.
+fn is_name_record(number: FileNumber, record: RecordNumber) -> bool
+    ensures { λ r. ⌜ r ≡ isNameRecord (fileIn number) (recordIn «record») ⌝ }
 {
-    store_record(file, place, bytes.b0, bytes.b1, bytes.b2, bytes.b3);
+    if number.0 != FileNumber::CONFIGURATION.0 {
+        return false;
+    }
+    record.0 == RecordNumber::NAMES.0
 }
 
-// Write: an addressed slave that has the record replaces all four bytes, by these.
+// The place of the logical name in the record that holds it.
+const NAME_BYTE: usize = 3;
+
+// The last byte that a write leaves in the record at a place: a logical name that stands there is kept.
+fn last_byte(file: &[u8], place: usize, address: RecordAddress, byte: u8) -> u8
+    requires { ⌜ place + recordSize ≤ length (now file) ⌝ }
+    ensures { λ r. ⌜ r ≡ cond (isNameRecord (fileIn (address .number)) (recordIn (address .«record»))) (getD (now (file .entry)) (place + 3) 0) byte ⌝ }
+{
+    if is_name_record(address.number, address.record) {
+        return file[place + NAME_BYTE];
+    }
+    byte
+}
+
+// The data put into the record at a place.
+fn put_data(file: &mut [u8], place: usize, address: RecordAddress, bytes: DataBytes)
+    requires { ⌜ place + recordSize ≤ length (now file) ⌝ }
+    ensures { λ _. ⌜ DataPut (now (file .entry)) (now (file .exit)) place (written (fileIn (address .number)) (recordIn (address .«record»)) (dataIn bytes)) ⌝ }
+{
+    let last = last_byte(file, place, address, bytes.b3);
+    store_record(file, place, bytes.b0, bytes.b1, bytes.b2, last);
+}
+
+// Write: an addressed slave that has the record replaces its bytes by these, the logical name aside.
 pub fn write_slave(
     file: &mut [u8],
     places: &SlavePlaces,
@@ -151,7 +178,7 @@ pub fn write_slave(
     let RecordPlace::At(place) = found else {
         return;
     };
-    put_data(file, place, bytes);
+    put_data(file, place, address, bytes);
 }
 
 // Execute of record 1: an addressed slave whose physical name is the comparison value takes its new logical name.

@@ -4,17 +4,19 @@
 use Prim.Native.Nat.{ℕ}
 use mathlib.Core.Path.{_≡_, refl, sym, ap, _∙_}
 use mathlib.Core.Logic.{_≢_}
+use native.Mathlib.Omega.{arith}
 use mathlib.Core.List.{List, [], _∷_, _++_, map, append-nil, map-append}
 use mathlib.Core.Bool.{Bool, true, false, cond}
 use lib.ListN.{replicate}
 use lib.Dec.{eqb}
 use borrow.Author.Tests.{eqb-true, eqb-false, ne-eqb}
-use Rattle.file.specs.Rules.Bytes.{All, All.allEmpty, All.allNext as also}
+use Rattle.file.specs.Rules.Bytes.{Bytes, All, All.allEmpty, All.allNext as also}
 use Rattle.file.specs.Rules.Order.{both}
 use Rattle.file.specs.Rules.Results.{refused, done, resultOf, numberIn}
-use Rattle.file.specs.Rules.Grounds.{fileGround, loadGround, loadVerdict}
+use Rattle.file.specs.Rules.Layout.{offsetWidth}
+use Rattle.file.specs.Rules.Grounds.{fileGround, equalLogicalNames, loadGround, loadVerdict}
 use Rattle.file.proofs.Order.{byCase, both-true, both-next}
-use Rattle.file.proofs.Results.{result-done}
+use Rattle.file.proofs.Results.{file-most, load-first, load-last, load-file, result-done}
 use Rattle.cluster.specs.Rules.Bus.{slots}
 use Rattle.cluster.specs.Rules.Grounds.{roundBy}
 use Rattle.cluster.specs.Rules.Round.{Answer, roundGround, roundOn}
@@ -28,12 +30,13 @@ use Rattle.naming.specs.Rules.Account.{Call, Call.step as stepBy, Call.frame as
 use Rattle.naming.specs.Claims.Demand.{State, startOn, halfwayAfter, callOn, of-step, of-frame, Demand}
 use Rattle.naming.specs.Claims.Demand as rules
 use Rattle.naming.proofs.Lists.{accepted-halfway}
+use Rattle.naming.proofs.HeldOnce.{demand-loadable}
 use Rattle.naming.proofs.StepLaws.{step-refused, step-ended, step-made}
 use Rattle.ttpa.specs.Rules.Calls.{lentAfter, checkCall, startCall, stepCall, stepWords, roundCall, traceCall, wordsOf, positionIn}
 use Rattle.demand.specs.Claims.Traces.{CallOrTrace, AllBytes, in-call, in-trace, halfwayFrom, halfwayAfterTrace, afterTrace}
 use Rattle.demand.specs.Claims.Traces.{callOrTraceOn, afterAll, frameCall, framesSingly, singly, tracesAside}
 use Rattle.demand.specs.Claims.Calls.{CCall, ttpaStep, ttpaRound, ttpaTrace, GivenBytes, given-step, given-frame, given-trace, Memory, returned, memoryAfter, afterCalls}
-use Rattle.demand.specs.Claims.Calls.{permittedFrames, permittedCall, halfwayOn, permitted, callsFed, CallsDemand, started}
+use Rattle.demand.specs.Claims.Calls.{permittedFrames, permittedCall, halfwayOn, permitted, callsFed, TakenByRounds, loads, equalNames, CallsDemand, started}
 use Rattle.demand.specs.Claims.Calls.{DemandOverCalls, ThroughoutCalls, IsStep, is-step, StepsPermitted, memoryOf, argumentsOf, SamePermitted}
 use Rattle.demand.proofs.Traces.{afterSingly, frame-refused, trace-run, trace-refused, file-refused, throughout-with-traces}
 
@@ -126,7 +129,7 @@ module _ (names : List ℕ) (s : State) (p : Position) where
 
 -- ---- lists
 
-calls-memory :
+pub calls-memory :
     (names : List ℕ) (s : State) (p : Position) (cs : List CCall) →
     afterCalls names (memoryOf s p) cs ≡ memoryOf (afterAll names s p (map argumentsOf cs) .0) (afterAll names s p (map argumentsOf cs) .1)
 unfolding afterCalls afterAll
@@ -205,7 +208,7 @@ same-permitted names s p (c ∷ cs) =
 
 -- ---- the theorem
 
-all-given : {cs : List CCall} → All GivenBytes cs → All AllBytes (map argumentsOf cs)
+pub all-given : {cs : List CCall} → All GivenBytes cs → All AllBytes (map argumentsOf cs)
 unfolding argumentsOf
 all-given allEmpty = allEmpty
 all-given (also given-step gs) = also (in-call of-step) (all-given gs)
@@ -219,9 +222,25 @@ calls-fed (ttpaStep arguments senders ∷ cs) = ap (λ (l : List Call). stepBy a
 calls-fed (ttpaRound bytes buffer senders ∷ cs) = ap (λ (l : List Call). frameOf bytes buffer ∷ l) (calls-fed cs)
 calls-fed (ttpaTrace t report ∷ cs) = calls-fed cs
 
-check-number : (file : List ℕ) → checkCall file ≡ fileGround file
-unfolding checkCall loadVerdict loadGround
-check-number file = number-result (fileGround file) tt
+check-number : (file : List ℕ) → checkCall file ≡ loadGround file
+unfolding checkCall loadVerdict
+check-number file = number-result (loadGround file) tt
+
+-- ttpa_check returns 0 or 22 exactly for the files that none of grounds 1 to 8 refuses
+runs-accepted : {file : List ℕ} → TakenByRounds file → fileGround file ≡ 0
+runs-accepted {file} (loads e) = load-file file (sym (check-number file) ∙ e)
+runs-accepted {file} (equalNames e) =
+    byCase (eqb (fileGround file) 0)
+    (λ z. eqb-true _ _ z)
+    (λ z.
+    let own : 22 ≡ fileGround file = sym e ∙ check-number file ∙ load-first file (eqb-false _ _ z) in
+    absurd (omega (arith, file-most file)))
+
+accepted-runs : {file : List ℕ} → fileGround file ≡ 0 → TakenByRounds file
+accepted-runs {file} g =
+    byCase (equalLogicalNames offsetWidth file)
+    (λ t. equalNames (check-number file ∙ load-last file g ∙ rw t))
+    (λ t. loads (check-number file ∙ load-last file g ∙ rw t))
 
 start-number : (names run : List ℕ) → startCall names run .0 ≡ startGround names
 unfolding startCall startOver
@@ -240,16 +259,17 @@ start-permitted file names run none calls may =
 
 -- what demand 3 says of file and position, said of file and words
 in-words :
-    {file names : List ℕ} (calls : List CCall) (s : State) (p : Position) → Demand file names (tracesAside (map argumentsOf calls)) (s .file) p →
+    {file names : List ℕ} → Bytes file → Bytes names → startGround names ≡ 0 → (calls : List CCall) (s : State) (p : Position) → Demand file names (tracesAside (map argumentsOf calls)) (s .file) p →
     CallsDemand file names calls (memoryOf s p)
 unfolding wordsOf positionIn
-in-words {file} {names} calls s p d =
+in-words {file} {names} b n none calls s p d =
     record {
       logical = rw (calls-fed calls) at (d .logical);
       end = rw (calls-fed calls) at (d .end);
       rounds = rw (calls-fed calls) at (d .rounds);
       comparisons = rw (calls-fed calls) at (d .comparisons);
-      accepted = check-number (s .file) ∙ d .accepted;
+      accepted = accepted-runs (d .accepted);
+      loaded = λ e. check-number (s .file) ∙ demand-loadable b (sym (check-number file) ∙ e) n none d;
       next = λ arguments senders. call-number names s p (ttpaStep arguments senders) ∙ unfold groundOf in d .grounds arguments;
       outcome = d .outcome;
     }
@@ -257,10 +277,10 @@ in-words {file} {names} calls s p d =
 pub throughout-calls : ThroughoutCalls
 throughout-calls file b checked names n run fresh-run calls more given may =
     let none : startGround names ≡ 0 = sym (start-number names run) ∙ fresh-run in
-    let d = throughout-with-traces file b (sym (check-number file) ∙ checked) names n none (map argumentsOf calls) (map argumentsOf more) (all-given given)
+    let d = throughout-with-traces file b (runs-accepted checked) names n none (map argumentsOf calls) (map argumentsOf more) (all-given given)
     (rw (map-append argumentsOf calls more) at (start-permitted file names run none (calls ++ more) may)) in
     let after = afterAll names (startOn file) (fresh names) (map argumentsOf calls) in
-    rw (start-memory file names run none, calls-memory names (startOn file) (fresh names) calls) (in-words calls (after .0) (after .1) d)
+    rw (start-memory file names run none, calls-memory names (startOn file) (fresh names) calls) (in-words b n none calls (after .0) (after .1) d)
 
 -- and of the whole list
 pub demand-over-calls : DemandOverCalls

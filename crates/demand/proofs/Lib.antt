@@ -4,5 +4,6 @@ pub mod Traces
 pub mod Between
 -- demand 3 over the C calls
 pub mod Calls
--- what stays pending over lists of calls
+-- what stays pending, and who is renamed, over lists of calls
 pub mod Pending
+pub mod Renaming

@@ -2,17 +2,25 @@
 -- each other between legal clusters and accepted files.
 -- Assumes nothing.
 use Prim.Native.Nat.{ℕ}
-use mathlib.Core.Path.{_≡_, refl, sym, subst}
+use native.Mathlib.Omega.{arith}
+use mathlib.Core.Path.{_≡_, refl, sym, _∙_, subst}
+use mathlib.Core.Logic.{_↔_}
+use mathlib.Core.Bool.{false}
+use borrow.Author.Tests.{eqb-true, eqb-false}
+use lib.Dec.{eqb}
+use Rattle.file.specs.Rules.Layout.{offsetWidth}
 use mathlib.Core.List.{List}
 use Rattle.file.specs.Rules.Bytes.{Bytes}
-use Rattle.file.specs.Rules.Cluster.{Cluster}
+use Rattle.file.specs.Rules.Cluster.{Cluster, logicalNames}
 use Rattle.file.specs.Rules.Encode.{encode}
 use Rattle.file.specs.Rules.Decode.{decode}
-use Rattle.file.specs.Rules.Legal.{Legal}
-use Rattle.file.specs.Rules.Grounds.{fileGround, loadGround, loadVerdict}
-use Rattle.file.specs.Claims.Accepted.{AcceptedExactly, LoadedExactly, ClusterComesBack, FileComesBack}
+use Rattle.file.specs.Rules.Legal.{Legal, Distinct}
+use Rattle.file.specs.Rules.Grounds.{fileGround, heldNames, equalLogicalNames, loadGround, loadVerdict}
+use Rattle.file.specs.Claims.Accepted.{AcceptedExactly, LoadedExactly, FileGroundsFirst, ClusterComesBack, FileComesBack}
 use Rattle.file.specs.Inner.Accepted.{Becomes}
-use Rattle.file.proofs.Results.{result-done, no-ground}
+use Rattle.file.proofs.Order.{byCase}
+use Rattle.file.proofs.Results.{load-first, load-last, load-file, load-names, file-most, result-done, result-refused, no-ground, that-ground}
+use Rattle.file.proofs.AcceptedFacts.{no-repeat, distinct-no-repeat}
 use Rattle.file.proofs.Width.{edition1}
 use Rattle.file.proofs.RoundTrip
 
@@ -56,10 +64,51 @@ pub accepted-becomes : (f : List ℕ) → Bytes f → fileGround f ≡ 0 → Bec
 accepted-becomes f b g =
     record { accepted = g; decoded = refl; encoded = sym (encode-decode f b g); legal = accepted-legal f b g }
 
--- the same of the checker's call
+-- ---- on loading
+
+-- ground 22 of an accepted file, by its cluster
+held-once : (f : List ℕ) → (equalLogicalNames offsetWidth f ≡ false) ↔ Distinct (heldNames (logicalNames (decode f)))
+unfolding equalLogicalNames decode
+held-once f = (no-repeat _, distinct-no-repeat)
+
 pub load-accepts : LoadedExactly
-unfolding loadVerdict loadGround
+unfolding loadVerdict
 load-accepts f b = (
-  λ v. accepted-exactly f b .0 (no-ground tt (fileGround f) (sym v)),
-  λ legal. result-done (accepted-exactly f b .1 legal),
+  λ v.
+      let none : loadGround f ≡ 0 = no-ground tt (loadGround f) (sym v) in
+      let g : fileGround f ≡ 0 = load-file f none in
+      (decode f, accepted-legal f b g, held-once f .0 (load-names f none), sym (encode-decode f b g)),
+  λ (c, l, once, e).
+      let g : fileGround f ≡ 0 = accepted-exactly f b .1 (c, l, e) in
+      let is : decode f ≡ c = rw e (decode-encode c l) in
+      let names : equalLogicalNames offsetWidth f ≡ false = held-once f .1 (subst (λ (d : Cluster). Distinct (heldNames (logicalNames d))) (sym is) once) in
+      result-done (load-last f g ∙ rw names),
 )
+
+pub file-grounds-first : FileGroundsFirst
+unfolding loadVerdict
+file-grounds-first f =
+    record {
+      first = λ some. rw (load-first f some) (sym (result-refused tt some));
+      last = (
+        λ v.
+            let by : 22 ≡ loadGround f = that-ground tt 22 (loadGround f) (sym v) .0 in
+            let g : fileGround f ≡ 0 = only-then by in
+            (g, λ once. let z : _≡_ {A = ℕ} 22 0 = by ∙ load-last f g ∙ rw (held-once f .1 once) in omega arith),
+        λ (g, twice). rw (held-twice g twice) (sym (result-refused tt (λ z. omega arith))),
+      );
+    }
+  where
+    held-twice : fileGround f ≡ 0 → (Distinct (heldNames (logicalNames (decode f))) → ⊥) → loadGround f ≡ 22
+    held-twice g twice =
+        byCase (equalLogicalNames offsetWidth f)
+        (λ t. load-last f g ∙ rw t)
+        (λ t. absurd (twice (held-once f .0 t)))
+
+    only-then : 22 ≡ loadGround f → fileGround f ≡ 0
+    only-then by =
+        byCase (eqb (fileGround f) 0)
+        (λ t. eqb-true (fileGround f) 0 t)
+        (λ t.
+        let z : 22 ≡ fileGround f = by ∙ load-first f (eqb-false (fileGround f) 0 t) in
+        absurd (omega (arith, file-most f)))

@@ -101,7 +101,7 @@ unfolding isAmong
 not-among n [] p = All.allEmpty
 not-among n (m ∷ ms) p = All.allNext (eqb-false n m (either-false-left _ _ p)) (not-among n ms (either-false-right _ _ p))
 
-among-not : (n : ℕ) {ms : List ℕ} → All (λ m. n ≡ m → ⊥) ms → isAmong n ms ≡ false
+pub among-not : (n : ℕ) {ms : List ℕ} → All (λ m. n ≡ m → ⊥) ms → isAmong n ms ≡ false
 unfolding isAmong
 among-not n All.allEmpty = refl
 among-not n (All.allNext p q) = either-false (ne-eqb n _ p) (among-not n q)

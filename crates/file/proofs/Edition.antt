@@ -10,10 +10,12 @@ use lib.ListN.{length, getD, take}
 use lib.Seq.{getD-take}
 use borrow.Author.Tests.{ne-eqb}
 use Rattle.file.specs.Rules.Layout.{offsetWidth, editionOf}
-use Rattle.file.specs.Rules.Grounds.{wrongSize, wrongMark, wrongEdition, fileGroundsAt, fileGroundAt, fileGround, loadGround, loadVerdict}
+use Rattle.file.specs.Rules.Grounds.{wrongSize, wrongMark, wrongEdition, fileGroundsAt, fileGroundAt, fileGround, loadVerdict}
 use Rattle.file.specs.Rules.Results.{resultOf}
 use Rattle.file.specs.Claims.Edition.{UnknownEdition, UnknownEditionAnswer}
 use Rattle.file.proofs.Order.{clash, first-alike}
+use Rattle.file.proofs.Results.{load-first}
+use Rattle.file.proofs.AcceptedFacts.{accepted}
 
 -- files with the same first bytes agree in each of them
 pub same-front : (n : ℕ) (f g : List ℕ) → take n f ≡ take n g → (i : ℕ) → i < n → getD f i 0 ≡ getD g i 0
@@ -39,7 +41,15 @@ pub unknown-edition : UnknownEdition
 unfolding fileGround
 unknown-edition f g long front other = unknown-edition-at offsetWidth f g long front other
 
--- So the checker's call answers the same.
+-- So the checker's call answers the same: a file of an unknown edition is refused by a ground of its own.
+refused-edition : (f : List ℕ) → (getD f 2 0 ≡ 1 → ⊥) → fileGround f ≡ 0 → ⊥
+unfolding fileGround
+refused-edition f other g = other (accepted offsetWidth f .0 g .edition)
+
 pub unknown-edition-answer : UnknownEditionAnswer
-unfolding loadVerdict loadGround
-unknown-edition-answer f g long first other = ap (λ (n : ℕ). resultOf n tt) (unknown-edition f g long first other)
+unfolding loadVerdict
+unknown-edition-answer f g long first other =
+    let here : getD f 2 0 ≡ getD g 2 0 = same-front 3 f g first 2 (omega arith) in
+    let other′ : getD g 2 0 ≡ 1 → ⊥ = λ z. other (here ∙ z) in
+    ap (λ (n : ℕ). resultOf n tt)
+    (load-first f (refused-edition f other) ∙ unknown-edition f g long first other ∙ sym (load-first g (refused-edition g other′)))

@@ -9,7 +9,7 @@ use lib.Seq.{getD-set-same}
 use Rattle.file.specs.Rules.Bytes.{Bytes, All, allEmpty, allNext}
 use Rattle.file.specs.Rules.Layout.{offsetWidth, maxSlaves, maxLength}
 use Rattle.file.specs.Inner.Layout.{logicalNamePlace}
-use Rattle.file.specs.Rules.Cluster.{Slave, Cluster, bytesIn, lastRecord, configuration, physicalName, logicalName}
+use Rattle.file.specs.Rules.Cluster.{Slave, Cluster, bytesIn, lastRecord, configuration, physicalName, logicalName, logicalNames}
 use Rattle.file.specs.Rules.Encode.{encode}
 use Rattle.file.specs.Rules.Decode.{decode}
 use Rattle.file.specs.Rules.Changes.{putInSlave, withSlaves}
@@ -20,6 +20,8 @@ use Rattle.file.specs.Inner.Accepted.{Becomes}
 use Rattle.file.proofs.Shape.{shape-refl, shape-count, shape-fileLength, slave-put}
 use Rattle.file.proofs.Puts.{inSlave-same, inSlave-physicalName}
 use Rattle.file.proofs.Kept.{slave-legal}
+use Rattle.file.specs.Rules.Grounds.{hasRepeat, heldNames, equalLogicalNames}
+use Rattle.file.proofs.Results.{load-last}
 use Rattle.file.proofs.Accepted.{accepted-legal, legal-becomes}
 
 -- ---- the slaves: their shape and physical names stay, and they stay legal
@@ -49,7 +51,7 @@ configuration-long : {s : Slave} → LegalSlave s → logicalNamePlace < length 
 unfolding lastRecord
 configuration-long l = omega (arith, l .configured)
 
-name-held : (s : Slave) (n : ℕ) → LegalSlave s → logicalName (putInSlave s configuration logicalNamePlace n) ≡ n
+pub name-held : (s : Slave) (n : ℕ) → LegalSlave s → logicalName (putInSlave s configuration logicalNamePlace n) ≡ n
 unfolding logicalName
 name-held s n l =
     rw (inSlave-same configuration logicalNamePlace n s) (getD-set-same (bytesIn s configuration) logicalNamePlace n 0 (configuration-long l))
@@ -91,10 +93,19 @@ cluster-legal c {names} bs l =
 pub any-names-accepted : AnyNamesAccepted
 unfolding withNames withSlaves
 any-names-accepted file names b accepted bs each =
-    let l : Legal (decode file) = accepted-legal file b accepted in
-    let d : Cluster = withSlaves (decode file) (renamed (decode file .slaves) names) in
-    let new : Becomes (encode d) d = legal-becomes d (cluster-legal (decode file) bs l) in
-    record {
-      accepted = new .accepted;
-      held = ap (λ (c : Cluster). map logicalName (c .slaves)) (new .decoded) ∙ renamed-logical names (l .slaves) each;
-    }
+    record { accepted = new .accepted; held = held; loaded = load-last (encode d) (new .accepted) ∙ rw twice }
+  where
+    d : Cluster
+    d = withSlaves (decode file) (renamed (decode file .slaves) names)
+
+    l : Legal (decode file)
+    l = accepted-legal file b accepted
+
+    new : Becomes (encode d) d
+    new = legal-becomes d (cluster-legal (decode file) bs l)
+
+    held : logicalNames (decode (encode d)) ≡ names
+    held = unfold logicalNames in (ap (λ (c : Cluster). map logicalName (c .slaves)) (new .decoded) ∙ renamed-logical names (l .slaves) each)
+
+    twice : equalLogicalNames offsetWidth (encode d) ≡ hasRepeat (heldNames names)
+    twice = unfold equalLogicalNames decode in ap (λ (ns : List ℕ). hasRepeat (heldNames ns)) held

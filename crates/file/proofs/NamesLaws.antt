@@ -5,11 +5,8 @@ use mathlib.Core.Path.{_≡_, refl, sym, ap, _∙_}
 use mathlib.Core.List.{List, [], _∷_, map}
 use mathlib.Core.Bool.{Bool, true, false}
 use native.Mathlib.Omega.{arith}
-use borrow.Author.Tests.{eqb-true, eqb-false}
 use lib.ListN.{length, getD, take, drop, set, replicate, length-set, length-drop, length-replicate, drop-of-length-le}
-use lib.Seq.{drop-cons, drop-length, take-all, getD-set-same, getD-set-other}
-use lib.Dec.{eqb}
-use Rattle.file.specs.Rules.Order.{either}
+use lib.Seq.{drop-cons, drop-length, take-all}
 use Rattle.file.specs.Rules.Bytes.{All}
 use Rattle.file.specs.Inner.Numbers.{NumberAt}
 use Rattle.file.specs.Rules.Grounds.{isAmong, hasRepeat}
@@ -18,7 +15,8 @@ use Rattle.file.specs.Inner.Places.{placesEach, documentationIndex}
 use Rattle.file.specs.Inner.Checked.{documentationPlaces, nameAt, NameStands, namesAt, NamesStand}
 use Rattle.file.proofs.Bytes.{all-at}
 use Rattle.file.proofs.LookingLaws.{Looking, looking-here, looking-next, looking-end, few-once, repeat-after}
-use Rattle.file.proofs.Order.{byCase, clash, either-left, either-right, either-next, either-false}
+use Rattle.file.proofs.Marks.{Marked, marked-none, marked-add, marked-new}
+use Rattle.file.proofs.Order.{either-left, either-false}
 
 -- ---- the names in order
 
@@ -60,22 +58,26 @@ module _ (f docs : List ℕ) {name i : ℕ} (h : Looking name (map (nameAt f) do
     pub named-next : (here ≡ name → ⊥) → Looking name (map (nameAt f) docs) (i + 1)
     named-next other = looking-next h there (λ e. other (is ∙ sym (name-of f docs i more) ∙ e))
 
--- ---- the comparison: the remainders of the names from i on are kept, and none of these names occurs twice
+-- ---- the comparison: the marks are the remainders of the names from i on, and none of these names occurs twice
+
+-- equal names have equal remainders
+abbrev pub remainder : ℕ → ℕ
+remainder n = n % 255
 
 pub record Comparing (l : List ℕ) (seen : List Bool) (i : ℕ) : Type 0 where
   pub room : length seen ≡ 255
   pub within : i ≤ length l
-  pub remainders : (n : ℕ) → isAmong n (drop i l) ≡ true → getD seen (n % 255) false ≡ true
+  pub marks : Marked seen (map remainder (drop i l))
   pub single : hasRepeat (drop i l) ≡ false
 
-pub comparing-start : (l : List ℕ) {seen : List Bool} {i : ℕ} → length seen ≡ 255 → i ≡ length l → Comparing l seen i
-unfolding isAmong hasRepeat
-comparing-start l {seen} {i} long last =
+pub comparing-start : (l : List ℕ) {i : ℕ} → i ≡ length l → Comparing l (replicate 255 false) i
+unfolding hasRepeat
+comparing-start l {i} last =
     let none : drop i l ≡ [] = rw (last, drop-length l) in
     record {
-      room = long;
+      room = length-replicate 255 false;
       within = omega arith;
-      remainders = λ n e. clash (rw none at e) refl;
+      marks = rw none (marked-none 255);
       single = rw none;
     }
 
@@ -86,34 +88,24 @@ module _ {l : List ℕ} {seen : List Bool} {i : ℕ} (h : Comparing l seen i) (m
       let first : drop (i - 1) l ≡ getD l (i - 1) 0 ∷ drop (suc (i - 1)) l = drop-cons l (i - 1) 0 (let w = h .within in omega arith) in
       rw (back, ← is) at first
 
+  fits : remainder name < length seen
+  fits = rw (h .room) (omega arith)
+
   -- a remainder that is new
-  pub comparing-new : {seen-before : Bool} → seen-before ≡ getD seen (name % 255) false → seen-before ≡ false → isAmong name (drop i l) ≡ false
-  comparing-new is-seen e = byCase (isAmong name (drop i l)) (λ t. clash (h .remainders name t) (sym is-seen ∙ e)) (λ t. t)
+  pub comparing-new : getD seen (remainder name) false ≡ false → isAmong name (drop i l) ≡ false
+  comparing-new e = marked-new remainder name (drop i l) (h .marks) fits e
 
   pub comparing-here : isAmong name (drop i l) ≡ true → true ≡ hasRepeat l
   unfolding hasRepeat
   comparing-here e = sym (repeat-after (i - 1) l (rw before (either-left (hasRepeat (drop i l)) e)))
 
-  kept-next : (n : ℕ) → isAmong n (drop (i - 1) l) ≡ true → getD (set seen (name % 255) true) (n % 255) false ≡ true
-  unfolding isAmong
-  kept-next n e =
-      byCase (eqb (n % 255) (name % 255))
-      (λ t. rw (eqb-true (n % 255) (name % 255) t) (getD-set-same seen (name % 255) true false (omega (arith, h .room))))
-      (λ t.
-      let apart : n % 255 ≡ name % 255 → ⊥ = eqb-false (n % 255) (name % 255) t in
-      let kept = getD-set-other seen (name % 255) (n % 255) true false apart in
-      let among : either (eqb n name) (isAmong n (drop i l)) ≡ true = rw before at e in
-      byCase (eqb n name)
-      (λ s. absurd (apart (ap (λ (x : ℕ). x % 255) (eqb-true n name s))))
-      (λ s. kept ∙ h .remainders n (sym (either-next (isAmong n (drop i l)) s) ∙ among)))
-
-  pub comparing-next : isAmong name (drop i l) ≡ false → Comparing l (set seen (name % 255) true) (i - 1)
+  pub comparing-next : isAmong name (drop i l) ≡ false → Comparing l (set seen (remainder name) true) (i - 1)
   unfolding hasRepeat
   comparing-next e =
       record {
-        room = length-set seen (name % 255) true ∙ h .room;
+        room = length-set seen (remainder name) true ∙ h .room;
         within = let w = h .within in omega arith;
-        remainders = kept-next;
+        marks = rw before (marked-add (h .marks) (remainder name) fits);
         single = rw before (either-false e (h .single));
       }
 
@@ -199,7 +191,7 @@ compared-start f places e =
     record {
       inside = omega arith;
       room = length-replicate 255 false;
-      names = comparing-start (namesAt f places) (length-replicate 255 false) (e ∙ sym (length-names-at f places));
+      names = comparing-start (namesAt f places) (e ∙ sym (length-names-at f places));
     }
 
 pub compared-end : {f places : List ℕ} {seen : List Bool} {i : ℕ} → Compared f places seen i → i ≤ 0 → false ≡ hasRepeat (namesAt f places)
@@ -220,7 +212,7 @@ module _ {f places : List ℕ} {seen : List Bool} {i : ℕ} (h : Compared f plac
   among = rw (after places i (h .inside), names-after f (documentationPlaces places) i)
 
   pub equal-new : getD seen (name % 255) false ≡ false → isAmong name (namesAt f (take (length places - placesEach * i) (drop (placesEach * i) places))) ≡ false
-  equal-new e = among ∙ comparing-new (h .names) more in-order refl e
+  equal-new e = among ∙ comparing-new (h .names) more in-order e
 
   module _ {t : Bool} (found : t ≡ isAmong name (namesAt f (take (length places - placesEach * i) (drop (placesEach * i) places)))) where
     pub equal-here : t ≡ true → true ≡ hasRepeat (namesAt f places)

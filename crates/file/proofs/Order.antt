@@ -1,7 +1,8 @@
 -- Laws of tests that are joined, and of the first ground that holds. A test's facts are read and made through these, so that no
 -- proof opens `both`, `either` or `firstOf`.
 -- Assumes nothing.
-use Prim.Native.Nat.{ℕ, suc}
+use Prim.Native.Nat.{ℕ, suc, _≤_}
+use native.Mathlib.Omega.{arith}
 use native.Mathlib.Nat.{suc-ne-zero}
 use mathlib.Core.Path.{_≡_, refl, sym, _∙_}
 use mathlib.Core.List.{List, [], _∷_, _++_}
@@ -122,6 +123,16 @@ first-alike n {a} {b} gs hs e r = rw (sym e) (go a r)
     go : (x : Bool) → (x ≡ false → firstOf gs ≡ firstOf hs) → cond x n (firstOf gs) ≡ cond x n (firstOf hs)
     go true q = refl
     go false q = q refl
+
+-- no number above the highest of the list
+pub first-most : (most : ℕ) {gs : List Ground} → All (λ g. g .0 ≤ most) gs → firstOf gs ≤ most
+unfolding firstOf
+first-most most allEmpty = omega arith
+first-most most (allNext {a = g} {l = gs} h hs) = go (g .1) (first-most most hs)
+  where
+    go : (b : Bool) → firstOf gs ≤ most → cond b (g .0) (firstOf gs) ≤ most
+    go true rest = h
+    go false rest = rest
 
 -- ---- lists of grounds that are joined
 

@@ -8,7 +8,7 @@ use mathlib.Core.Logic.{_≢_}
 use mathlib.Core.List.{List, [], _∷_, _++_, map, append-assoc}
 use mathlib.Core.Bool.{true, false}
 use lib.ListN.{length, getD, set, take, drop, List·getD-eq-default}
-use lib.Seq.{getD-set-same, getD-set-other, set-out, drop-set-lt, drop-set-add, take-set-le, map-set-same, sets, sets-eq, length-take-le, drop-at, take-append-seam}
+use lib.Seq.{getD-set-same, getD-set-other, set-out, drop-set-lt, drop-set-add, take-set-le, map-set-same, sets, sets-eq, set-getD, length-take-le, drop-at, take-append-seam}
 use lib.Dec.{eqb, ltb}
 use borrow.Author.Tests.{eqb-true, eqb-false, ne-eqb, ltb-true, ltb-false, leb-true}
 use Rattle.file.specs.Rules.Bytes.{part}
@@ -49,6 +49,24 @@ pub getD-sets : (l : List ℕ) (k : ℕ) (bs : List ℕ) (i : ℕ) → (i < k + 
 getD-sets l k bs i outside =
     sets-keep (λ (x : List ℕ). getD x i 0) l k bs
     (λ x j b low high. getD-set-other x j i b 0 (λ q. let h : i < k = outside (omega arith) in omega arith))
+
+-- the bytes stored are read again
+pub sets-part : (l : List ℕ) (k : ℕ) (bs : List ℕ) → k + length bs ≤ length l → part (sets l k bs) k (length bs) ≡ bs
+unfolding part
+sets-part l k bs fits =
+    let e : length (take k l) ≡ k = length-take-le k l (omega arith) in
+    rw (sets-eq bs l k fits, append-assoc, drop-at (take k l) (bs ++ drop (k + length bs) l) k e, take-append-seam)
+
+-- one that is stored as it was changes nothing
+pub sets-again : (l : List ℕ) (k : ℕ) (bs : List ℕ) → sets l k (bs ++ (getD l (k + length bs) 0 ∷ [])) ≡ sets l k bs
+sets-again l k bs =
+    rw (sets-append l k bs (getD l (k + length bs) 0 ∷ []), ← getD-sets l k bs (k + length bs) (omega arith)) (set-getD (sets l k bs) (k + length bs) 0)
+  where
+    sets-append : (l : List ℕ) (k : ℕ) (bs cs : List ℕ) → sets l k (bs ++ cs) ≡ sets (sets l k bs) (k + length bs) cs
+    sets-append l k [] cs = let e : k + 0 ≡ k = omega arith in rw e
+    sets-append l k (b ∷ bs) cs =
+        let e : suc k + length bs ≡ k + length (b ∷ bs) = omega arith in
+        rw (sets-append (set l k b) (suc k) bs cs, e)
 
 -- ---- one byte, among a slave's files
 
@@ -180,18 +198,10 @@ module _ (s n : ℕ) where
   putBytes-sets c k [] = refl
   putBytes-sets c k (b ∷ bs) = rw (putBytes-sets (putByte c s n k b) (suc k) bs, putByte-bytes-same c s n k b)
 
-  pub putBytes-bytes-same : (c : Cluster) (k : ℕ) (bs : List ℕ) → k + length bs ≤ length (bytesIn (slaveOf c s) n)
-      → bytesIn (slaveOf (putBytes c s n k bs) s) n ≡ take k (bytesIn (slaveOf c s) n) ++ bs ++ drop (k + length bs) (bytesIn (slaveOf c s) n)
-  putBytes-bytes-same c k bs fits = rw (putBytes-sets c k bs) (sets-eq bs (bytesIn (slaveOf c s) n) k fits)
-
   -- the bytes put are read again
   pub putBytes-part : (c : Cluster) (k : ℕ) (bs : List ℕ) → k + length bs ≤ length (bytesIn (slaveOf c s) n)
       → part (bytesIn (slaveOf (putBytes c s n k bs) s) n) k (length bs) ≡ bs
-  unfolding part
-  putBytes-part c k bs fits =
-      let l : List ℕ = bytesIn (slaveOf c s) n in
-      let e : length (take k l) ≡ k = length-take-le k l (omega arith) in
-      rw (putBytes-bytes-same c k bs fits, append-assoc, drop-at (take k l) (bs ++ drop (k + length bs) l) k e, take-append-seam)
+  putBytes-part c k bs fits = rw (putBytes-sets c k bs) (sets-part (bytesIn (slaveOf c s) n) k bs fits)
 
   -- other bytes and parts of the file stay
   pub putBytes-byte-other : (c : Cluster) (k : ℕ) (bs : List ℕ) (i : ℕ) → (i < k + length bs → i < k)

@@ -1,16 +1,18 @@
 -- The file's grounds as a list that other grounds are joined to; and a result taken apart: done is by no ground, and a refusal is by its
 -- own ground.
 -- Assumes nothing.
-use Prim.Native.Nat.{ℕ}
+use Prim.Native.Nat.{ℕ, _≤_}
 use mathlib.Core.Path.{_≡_, refl, sym, _∙_}
 use native.Mathlib.Omega.{arith}
-use mathlib.Core.List.{List}
+use mathlib.Core.List.{List, []}
+use mathlib.Core.Bool.{false, cond}
 use lib.Dec.{eqb}
 use borrow.Author.Tests.{eqb-true, eqb-false, eq-eqb, ne-eqb}
 use Rattle.file.specs.Rules.Bytes.{All, allEmpty, allNext}
 use Rattle.file.specs.Rules.Order.{firstOf}
-use Rattle.file.specs.Rules.Grounds.{fileGroundsAt, fileGroundAt, fileGrounds, fileGround}
-use Rattle.file.proofs.Order.{Numbered, byCase}
+use Rattle.file.specs.Rules.Layout.{offsetWidth}
+use Rattle.file.specs.Rules.Grounds.{fileGroundsAt, fileGroundAt, fileGrounds, fileGround, equalLogicalNames, loadGround}
+use Rattle.file.proofs.Order.{Numbered, byCase, first-none, first-most, joined-here, joined-next, joined-left, joined-right}
 use Rattle.file.specs.Rules.Results.{refused, done, resultOf}
 
 pub file-first : (f : List ℕ) → firstOf (fileGrounds f) ≡ fileGround f
@@ -20,6 +22,33 @@ file-first f = refl
 pub file-numbered : (f : List ℕ) → All Numbered (fileGrounds f)
 unfolding fileGrounds fileGroundsAt
 file-numbered f = allNext refl (allNext refl (allNext refl (allNext refl (allNext refl (allNext refl (allNext refl (allNext refl allEmpty)))))))
+
+-- a file's own ground is one of 1 to 8
+pub file-most : (f : List ℕ) → fileGround f ≤ 8
+unfolding fileGround fileGroundAt fileGroundsAt
+file-most f =
+    first-most 8
+    (allNext (omega arith) (allNext (omega arith) (allNext (omega arith) (allNext (omega arith)
+    (allNext (omega arith) (allNext (omega arith) (allNext (omega arith) (allNext (omega arith) allEmpty))))))))
+
+-- ---- on loading: the file's own ground decides first, then 22
+
+module _ (f : List ℕ) where
+  pub load-first : (fileGround f ≡ 0 → ⊥) → loadGround f ≡ fileGround f
+  unfolding loadGround
+  load-first some = joined-here (fileGrounds f) _ (file-numbered f) (λ z. some (sym (file-first f) ∙ z)) ∙ file-first f
+
+  pub load-last : fileGround f ≡ 0 → loadGround f ≡ cond (equalLogicalNames offsetWidth f) 22 0
+  unfolding loadGround firstOf
+  load-last none = joined-next (fileGrounds f) _ (file-numbered f) (file-first f ∙ none)
+
+  pub load-file : loadGround f ≡ 0 → fileGround f ≡ 0
+  unfolding loadGround
+  load-file none = sym (file-first f) ∙ joined-left (fileGrounds f) _ (file-numbered f) none
+
+  pub load-names : loadGround f ≡ 0 → equalLogicalNames offsetWidth f ≡ false
+  unfolding loadGround
+  load-names none = first-none 21 (equalLogicalNames offsetWidth f) [] (joined-right (fileGrounds f) _ (file-numbered f) none) .0
 
 -- ---- a result taken apart
 

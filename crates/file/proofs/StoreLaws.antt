@@ -78,10 +78,10 @@ module _ {f : List ℕ} {c : Cluster} (h : Becomes f c) where
   becomes-byte s n k b differ byte inside =
       becomes-as (ap (λ (l : List ℕ). set l (filePlace c s n + k) b) (h .encoded) ∙ store-byte (omega arith) s n c k b inside) (legal-putByte c s n k b differ byte (h .legal))
 
-  pub becomes-record : (s n r : ℕ) {bs : List ℕ} → n ≢ documentation → Bytes bs → length bs ≡ recordSize → hasRecord (slaveOf c s) n r ≡ true →
+  pub becomes-record : (s n r : ℕ) {bs : List ℕ} → n ≢ documentation → Bytes bs → length bs ≤ recordSize → hasRecord (slaveOf c s) n r ≡ true →
       Becomes (sets f (filePlace c s n + recordSize * r) bs) (putBytes c s n (recordSize * r) bs)
   unfolding encode filePlace
-  becomes-record s n r {bs} differ bytes four has =
+  becomes-record s n r {bs} differ bytes most has =
       becomes-as
       (ap (λ (l : List ℕ). sets l (filePlace c s n + recordSize * r) bs) (h .encoded)
       ∙ store-bytes (omega arith) s n c (recordSize * r) bs (omega (arith, hasRecord-fits (slaveOf c s) n r has)))

@@ -4,11 +4,13 @@
 use Prim.Native.Nat.{ℕ, _<_}
 use mathlib.Core.Path.{_≡_, sym, ap, _∙_, subst}
 use mathlib.Core.List.{List}
+use mathlib.Core.Bool.{Bool, true, false, cond}
 use lib.ListN.{length, getD}
 use Rattle.file.specs.Rules.Cluster.{Cluster, configuration, documentation}
 use Rattle.file.specs.Rules.Decode.{decode}
-use Rattle.file.specs.Rules.Grounds.{fileGround}
-use Rattle.file.specs.Rules.Results.{done}
+use Rattle.file.specs.Rules.Layout.{offsetWidth}
+use Rattle.file.specs.Rules.Grounds.{fileGround, equalLogicalNames, loadGround, loadVerdict}
+use Rattle.file.specs.Rules.Results.{refused, done, resultOf}
 use Rattle.file.specs.Inner.Places.{filePlace, SameShape}
 use Rattle.file.specs.Inner.Accepted.{Becomes, AcceptedFile, slaveCount, PlacesOf, Placed}
 use Rattle.file.specs.Inner.Answers.{checkedOf}
@@ -16,7 +18,7 @@ use Rattle.file.specs.Inner.Surveyed.{Surveyed}
 use Rattle.file.specs.declared.survey.FileAnswer.{FileAnswer}
 use Rattle.file.specs.declared.survey.FileAnswer.the-variants as answers
 use Rattle.file.specs.declared.types.Refusal.{Refusal}
-use Rattle.file.proofs.Results.{no-ground, that-ground}
+use Rattle.file.proofs.Results.{load-first, load-last, result-refused, no-ground, that-ground}
 use Rattle.file.proofs.Shape.{shape-count, shape-filePlaceAt}
 use Rattle.file.proofs.ReaderLaws.{becomes-decoded}
 
@@ -37,6 +39,26 @@ module _ {f places : List ℕ} {a : FileAnswer} (s : Surveyed f (checkedOf a) pl
   pub survey-refused : {why : Refusal} → a ≡ answers.Refused why → (why .0 ≡ fileGround f) × (why .0 ≡ 0 → ⊥)
   unfolding checkedOf
   survey-refused {why} e = that-ground tt (why .0) (fileGround f) (rw e at (s .is))
+
+  -- the checker's call: the survey's refusal, 22, or none
+  pub check-surveyed : {why : Refusal} → a ≡ answers.Refused why → refused (why .0) ≡ loadVerdict f
+  unfolding loadVerdict
+  check-surveyed {why} e =
+      let (is, some) = survey-refused e in
+      let ground : loadGround f ≡ why .0 = load-first f (λ z. some (is ∙ z)) ∙ sym is in
+      rw ground (result-refused tt some)
+
+  module _ (e : a ≡ answers.Accepted) {t : Bool} (test : t ≡ equalLogicalNames offsetWidth f) where
+    last-ground : loadGround f ≡ cond t 22 0
+    last-ground = load-last f (survey-accepted e) ∙ rw test
+
+    pub check-equal : t ≡ true → refused 22 ≡ loadVerdict f
+    unfolding loadVerdict resultOf
+    check-equal twice = rw (last-ground, twice)
+
+    pub check-accepts : t ≡ false → done tt ≡ loadVerdict f
+    unfolding loadVerdict resultOf
+    check-accepts once = rw (last-ground, once)
 
 -- ---- another file, with a cluster of the same shape
 

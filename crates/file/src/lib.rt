@@ -1,5 +1,6 @@
 // The cluster file: its checker, the readers of header, slaves and records, and the stores.
 mod header;
+pub mod held;
 pub mod layout;
 mod names;
 pub mod numbers;

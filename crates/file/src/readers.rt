@@ -1,8 +1,10 @@
 // Readers of header, slaves and records, for a file that is known to be accepted. Each says what the decoded cluster holds.
 ghost use mathlib.Core.Path.{_≡_};
-ghost use Prim.Native.Nat.{_<_};
+ghost use mathlib.Core.List.{_++_};
+ghost use Prim.Native.Nat.{_≤_, _<_};
+ghost use lib.ListN.{length, drop};
 ghost use Rattle.file.specs.Rules.Layout.{offsetWidth};
-ghost use Rattle.file.specs.Rules.Cluster.{logicalName, physicalName, comparisonValue};
+ghost use Rattle.file.specs.Rules.Cluster.{logicalName, logicalNames, physicalName, comparisonValue};
 ghost use Rattle.file.specs.Rules.Decode.{decode};
 ghost use Rattle.file.specs.Inner.Places.{slaveOf};
 ghost use Rattle.file.specs.Inner.Typed.{fileIn, recordIn, nameIn, operationIn};
@@ -84,6 +86,20 @@ pub fn logical_name(file: &[u8], places: &SlavePlaces, slave: usize) -> LogicalN
     let place = places[PLACES_EACH * slave] as usize;
     let at = place + LOGICAL_NAME_PLACE;
     LogicalName::new(file[at])
+}
+
+// Each slave's logical name, in the order of the slave table, put in front of whatever else the lent slice holds.
+pub fn logical_names(file: &[u8], places: &SlavePlaces, names: &mut [u8])
+    requires { ⌜ Placed (now file) (now places) × (slaveCount (now file) ≤ length (now names)) ⌝ }
+    ensures { λ _. ⌜ now (names .exit) ≡ logicalNames (decode (now (file .entry))) ++ drop (slaveCount (now (file .entry))) (now (names .entry)) ⌝ }
+{
+    let count = slave_count(file);
+    let mut slave = 0;
+    while slave < count {
+        let name = logical_name(file, places, slave);
+        names[slave] = name.0;
+        slave = slave + 1;
+    }
 }
 
 // A slave's physical name.

@@ -1,16 +1,21 @@
-// The checker: grounds 1 to 8, with where each slave keeps 0x08 and 0x3D.
+// The checker: grounds 1 to 8, with where each slave keeps 0x08 and 0x3D; and 22, on loading.
 ghost use mathlib.Core.Path.{_≡_};
 ghost use Rattle.file.specs.Rules.Layout.{offsetWidth};
-ghost use Rattle.file.specs.Rules.Grounds.{isAmong, loadVerdict};
+ghost use Rattle.file.specs.Rules.Grounds.{isAmong, equalLogicalNames, loadVerdict};
 ghost use Rattle.file.specs.Inner.Checked.{GoodHeader, BodyWalked, PlacesFit, WholeWalk, slavesGround};
+ghost use Rattle.file.specs.Inner.Accepted.{Placed};
 ghost use Rattle.file.specs.Inner.Surveyed.{Surveyed};
 ghost use Rattle.file.specs.Inner.Answers.{checkedOf};
 use crate::header::header_ground;
+use crate::held::is_held_twice;
 use crate::layout::COUNT_PLACE;
 use crate::layout::ENTRY_SIZE;
 use crate::layout::HEADER_SIZE;
 use crate::names::equal_names;
 use crate::numbers::byte_at;
+use crate::readers::logical_names;
+use crate::readers::slave_count;
+use crate::types::MOST_SLAVES;
 use crate::types::PLACES;
 use crate::types::PLACES_EACH;
 use crate::types::Refusal;
@@ -88,10 +93,30 @@ pub fn survey(file: &[u8], places: &mut SlavePlaces) -> FileAnswer
     FileAnswer::Accepted
 }
 
+// Ground 22, of an accepted file: whether a logical name other than 0xFF is held twice.
+fn equal_logical_names(file: &[u8], places: &SlavePlaces) -> bool
+    requires { ⌜ Placed (now file) (now places) ⌝ }
+    ensures { λ r. ⌜ r ≡ equalLogicalNames offsetWidth (now (file .entry)) ⌝ }
+{
+    let mut names = [0u8; MOST_SLAVES];
+    logical_names(file, places, &mut names);
+    let count = slave_count(file);
+    is_held_twice(&names[..count])
+}
+
 // The checker's call: a file from outside is accepted, or refused by the first of its grounds that holds.
 pub fn check(file: &[u8]) -> FileAnswer
     ensures { λ r. ⌜ checkedOf r ≡ loadVerdict (now (file .entry)) ⌝ }
 {
     let mut places = [0u16; PLACES];
-    survey(file, &mut places)
+    let surveyed = survey(file, &mut places);
+    match surveyed {
+        FileAnswer::Refused(why) => FileAnswer::Refused(why),
+        FileAnswer::Accepted => {
+            if equal_logical_names(file, &places) {
+                return FileAnswer::Refused(Refusal::LOGICAL_NAMES);
+            }
+            FileAnswer::Accepted
+        }
+    }
 }

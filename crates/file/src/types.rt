@@ -100,6 +100,8 @@ impl Refusal {
     pub const TWO_SENDERS: Refusal = Refusal(20);
 
     pub const OWNER_BUFFER: Refusal = Refusal(21);
+
+    pub const LOGICAL_NAMES: Refusal = Refusal(22);
 }
 
 // "the slave count, 0 to 32".

@@ -16,6 +16,7 @@ use Rattle.file.specs.Rules.Bytes.{Bytes}
 use Rattle.file.specs.Rules.Decode.{decode}
 use Rattle.file.specs.Rules.Layout.{offsetWidth}
 use Rattle.file.specs.Rules.Grounds.{fileGround, loadGround}
+use Rattle.file.proofs.Results.{load-first, load-file}
 use Rattle.file.specs.Rules.Legal.{Legal}
 use Rattle.file.proofs.AcceptedFacts.{accepted}
 use Rattle.file.proofs.Edition.{unknown-edition}
@@ -303,15 +304,14 @@ same-text :
     rounds ≡ rounds′ → l ++ totalsLine given comparisons rounds ≡ m ++ totalsLine given′ comparisons′ rounds′
 same-text l g c r = rw (l, g, c, r)
 
-accepted-test : (file : List ℕ) → fileGround file ≡ 0 → eqb (loadGround file) 0 ≡ true
-unfolding loadGround
-accepted-test file g = eq-eqb (fileGround file) 0 g
+accepted-test : (file : List ℕ) → loadGround file ≡ 0 → eqb (loadGround file) 0 ≡ true
+accepted-test file g = eq-eqb (loadGround file) 0 g
 
--- The listing of every accepted file.
+-- The listing of every file that loading accepts.
 pub listing-closed : ListingClosed
 unfolding listing withTotals closedListing
 listing-closed file b g =
-    let t = whole-state file b g in
+    let t = whole-state file b (load-file file g) in
     rw (accepted-test file g) (same-text (t .after-step) (t .counted) (t .compared) (t .rounds))
 
 -- The steps that the listing makes at most suffice: the run has ended.
@@ -320,20 +320,16 @@ listing-ended file b g = whole-state file b g .ended
 
 -- The slaves' names in the file that the listing leaves.
 pub listing-names :
-    (file : List ℕ) → Bytes file → fileGround file ≡ 0 → namesIn (decode (fileListed file)) ≡ namesAfter (namesIn (decode file)) allNames
+    (file : List ℕ) → Bytes file → loadGround file ≡ 0 → namesIn (decode (fileListed file)) ≡ namesAfter (namesIn (decode file)) allNames
 unfolding fileListed
-listing-names file b g = rw (accepted-test file g) (whole-state file b g .named)
+listing-names file b g = rw (accepted-test file g) (whole-state file b (load-file file g) .named)
 
 -- ---- files that are refused
 
-refused-test : (file : List ℕ) → (fileGround file ≡ 0 → ⊥) → eqb (loadGround file) 0 ≡ false
-unfolding loadGround
-refused-test file some = ne-eqb (fileGround file) 0 some
-
 -- A refused file gives only its number, and is left as it was.
-pub listing-refused : (file : List ℕ) → (fileGround file ≡ 0 → ⊥) → (listing file ≡ refusedLine (fileGround file)) × (fileListed file ≡ file)
-unfolding listing fileListed loadGround
-listing-refused file some = let e = refused-test file some in (rw e, rw e)
+pub listing-refused : (file : List ℕ) → (loadGround file ≡ 0 → ⊥) → (listing file ≡ refusedLine (loadGround file)) × (fileListed file ≡ file)
+unfolding listing fileListed
+listing-refused file some = let e = ne-eqb (loadGround file) 0 some in (rw e, rw e)
 
 accepted-edition : (file : List ℕ) → fileGround file ≡ 0 → getD file 2 0 ≡ 1
 unfolding fileGround
@@ -344,4 +340,8 @@ pub unknown-edition-listed : UnknownEditionListed
 unknown-edition-listed f g long front other =
     let same = unknown-edition f g long front other in
     let none : fileGround f ≡ 0 → ⊥ = λ e. other (accepted-edition f e) in
-    listing-refused f none .0 ∙ ap refusedLine same ∙ sym (listing-refused g (λ e. none (same ∙ e)) .0)
+    let none′ : fileGround g ≡ 0 → ⊥ = λ e. none (same ∙ e) in
+    refused-by f none ∙ ap refusedLine same ∙ sym (refused-by g none′)
+  where
+    refused-by : (h : List ℕ) → (fileGround h ≡ 0 → ⊥) → listing h ≡ refusedLine (fileGround h)
+    refused-by h some = listing-refused h (λ z. some (load-file h z)) .0 ∙ ap refusedLine (load-first h some)

@@ -117,8 +117,7 @@ pub data Quiet : RunRound → Type 0 where
 told-named : {o : RunRound} → Quiet o → (v : SlaveView) → viewUnnamed v ≡ true → namedOf (unnamedChange o v) ≡ namedOf v
 unfolding unnamedChange namedOf viewUnnamed
 told-named polling v u = refl
-told-named telling-name v u =
-    ap (λ (n : ℕ). record { physical = v .physical; logical = n }) (sym (eqb-true _ _ u))
+told-named telling-name v u = refl
 told-named telling-high v u = refl
 told-named telling-low v u = refl
 told-named comparing v u = refl

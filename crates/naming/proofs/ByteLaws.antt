@@ -1,10 +1,10 @@
 -- The abstract laws, shown of the definitions over bytes.
 -- Assumes nothing.
 use Prim.Native.Nat.{ℕ}
-use mathlib.Core.Path.{_≡_, refl, sym, _∙_}
+use mathlib.Core.Path.{_≡_, refl, sym, ap, _∙_}
 use mathlib.Core.Logic.{_≢_}
 use mathlib.Core.List.{List, [], _∷_, map}
-use mathlib.Core.Bool.{Bool, true, false, not}
+use mathlib.Core.Bool.{Bool, true, false, cond, not}
 use native.Mathlib.Omega.{arith}
 use lib.ListN.{getD}
 use lib.Dec.{eqb}
@@ -12,38 +12,45 @@ use borrow.Author.Tests.{eqb-true, eqb-false, eq-eqb, ne-eqb, ltb-true, ltb-fals
 use Rattle.file.specs.Rules.Results.{done}
 use Rattle.file.specs.Rules.Bytes.{Bytes}
 use Rattle.file.specs.Rules.Order.{firstOf, both}
-use Rattle.file.specs.Rules.Cluster.{Slave, Cluster, bytesIn, configuration, physicalName, fileNumberOf, operationOf, readOperation, writeOperation, executeOperation}
+use Rattle.file.specs.Rules.Cluster.{Slave, Cluster, bytesIn, configuration, physicalName, logicalName, unnamed, broadcast, fileNumberOf, operationOf, pb2Of, readOperation, writeOperation, executeOperation}
 use Rattle.file.specs.Rules.Decode.{decode}
 use Rattle.file.specs.Rules.Grounds.{fileGround}
 use Rattle.file.specs.Inner.Accepted.{Becomes}
-use Rattle.file.proofs.Order.{byCase, clash, first-none}
+use Rattle.file.proofs.Order.{byCase, clash, both-left, both-right, both-false-left, either-next, first-none}
 use Rattle.file.proofs.Accepted.{encode-bytes}
 use Rattle.frame.specs.Rules.Fireworks.{Round, multipartner, msd, msa, noRound}
 use Rattle.frame.specs.Rules.Frames.{between}
-use Rattle.file.specs.Rules.Changes.{withEpoch, withPending}
+use Rattle.file.specs.Rules.Changes.{withSlaves, withEpoch, withPending}
 use Rattle.cluster.specs.Rules.Bus.{slots}
-use Rattle.cluster.specs.Rules.Slaves.{withAddress, epochRaised, pendingDuty, dutyBy, executionOf}
+use Rattle.cluster.specs.Rules.Slaves.{withAddress, epochRaised, Duty, writing, pendingDuty, dutyBy, executionOf, addresses, addressed, takesWrite, slaveAfter, slavesAfter}
 use Rattle.cluster.specs.Rules.Grounds.{shortAnswer, roundBy}
 use Rattle.cluster.specs.Rules.Round.{effectOf, frameOn, roundGround, roundOn}
-use Rattle.cluster.proofs.Rounds.{buffer-decides, others-decide, round-refused, round-accepted, round-becomes, round-kept}
+use Rattle.cluster.proofs.Rounds.{buffer-decides, others-decide, round-refused, round-accepted, round-becomes, round-kept, between-bytes}
+use Rattle.cluster.proofs.Kept.{slaveAfter-kept}
+use Rattle.cluster.proofs.Replaced.{write-left, write-keeps-name}
 use Rattle.cluster.proofs.Untouched.{filesOf, Unstored, Leaves, by-nothing, by-read, by-write, below-other, after-other}
-use Rattle.naming.specs.Inner.View.{SlaveView, viewOf, view}
+use Rattle.naming.specs.Inner.View.{SlaveView, viewOf, view, viewUnnamed}
 use Rattle.naming.specs.Rules.Rounds.{sent}
 use Rattle.naming.specs.Rules.Run.{Position, running, unfitPosition, namesGrounds, runGrounds, nextRound}
 use Rattle.naming.specs.Rules.Step.{stepGround, stepMade, stepOn, roundSent}
 use Rattle.naming.specs.Rules.Account.{Named, StepArguments, Call, step, frame, argumentsGround}
-use Rattle.naming.specs.Claims.Demand.{State, halfwayAfter, callOn, changesConfiguration, permittedFrame, permittedCall, OfBytes, of-frame}
-use Rattle.naming.proofs.Answers.{namedOf, same-refl}
+use Rattle.naming.specs.Claims.Demand.{State, halfwayAfter, callOn, changesConfiguration, writesNamed, permittedAddress, permittedFrame, permittedCall, OfBytes, of-frame}
+use Rattle.naming.proofs.Answers.{namedOf, SameSlave, Same, same-refl}
 use Rattle.naming.proofs.Start.{Names}
 use Rattle.naming.proofs.Abstract.{Laws, Stepped, Left, Sendable}
 use Rattle.naming.proofs.SlaveViews.{view-alike}
 use Rattle.naming.proofs.StepRound.{Made, round-made}
 
--- what holds of a state: its file is accepted, and a round of others that is half done leaves the configuration
+-- what a round of others may do: leave the configuration, or write record 1 of named slaves
+pub data Harmless : Duty → Type 0 where
+  leaves : {o : Duty} → Leaves configuration o → Harmless o
+  writesNames : {name : ℕ} → name ≢ unnamed → Harmless (writing name configuration 1)
+
+-- what holds of a state: its file is accepted, and a round of others that is half done is such
 pub record Good (s : State) : Type 0 where
   pub bytes : Bytes (s .file)
   pub accepted : fileGround (s .file) ≡ 0
-  pub apart : s .halfway ≡ true → Leaves configuration (pendingDuty (decode (s .file)))
+  pub apart : s .halfway ≡ true → Harmless (pendingDuty (decode (s .file)))
 
 unfoldable pub viewIn : State → List SlaveView
 viewIn s = view (decode (s .file))
@@ -146,45 +153,103 @@ both-no false e = refl
 -- an operation that is no write to and no execute of the configuration leaves it
 operation-leaves : (name pb2 pb3 : ℕ) → changesConfiguration pb2 ≡ false → Leaves configuration (dutyBy name pb2 pb3)
 unfolding dutyBy changesConfiguration executionOf
-operation-leaves name pb2 pb3 leaves =
+operation-leaves name pb2 pb3 apart =
     byCase (eqb (operationOf pb2) readOperation)
     (λ r. rw r by-read)
     (λ r.
-    let other : eqb (fileNumberOf pb2) configuration ≡ false = both-no (eqb (fileNumberOf pb2) configuration) (rw r at leaves) in
+    let other : eqb (fileNumberOf pb2) configuration ≡ false = both-no (eqb (fileNumberOf pb2) configuration) (rw r at apart) in
     rw r
     (byCase (eqb (operationOf pb2) writeOperation)
     (λ w. rw w (by-write (λ (z : configuration ≡ fileNumberOf pb2). eqb-false _ _ other (sym z))))
     (λ w. rw w (byCase (eqb (operationOf pb2) executeOperation) (λ x. rw (x, other) by-nothing) (λ x. rw x by-nothing)))))
 
+-- and so every operation that is permitted is harmless
+write-named : (name pb2 pb3 : ℕ) → writesNamed name pb2 pb3 ≡ true → Harmless (dutyBy name pb2 pb3)
+unfolding writesNamed dutyBy pb2Of
+write-named name pb2 pb3 e =
+    let operation : pb2 ≡ 33 = eqb-true _ _ (both-left _ _ e) in
+    let «record» : pb3 ≡ 1 = eqb-true _ _ (both-left _ _ (both-right _ _ e)) in
+    let some : eqb name unnamed ≡ false = not-true _ (both-right _ _ (both-right _ _ e)) in
+    rw (operation, «record») (writesNames (eqb-false _ _ some))
+
+address-harmless : (bytes : List ℕ) → permittedAddress bytes ≡ true → Harmless (dutyBy (getD bytes 2 0) (getD bytes 3 0) (getD bytes 4 0))
+unfolding permittedAddress
+address-harmless bytes e =
+    byCase (changesConfiguration (getD bytes 3 0))
+    (λ t. write-named (getD bytes 2 0) (getD bytes 3 0) (getD bytes 4 0) (sym (either-next _ (ap not t)) ∙ e))
+    (λ t. leaves (operation-leaves (getD bytes 2 0) (getD bytes 3 0) (getD bytes 4 0) t))
+
 unstored : Unstored configuration
 unstored h = omega arith
 
+-- ---- a write of record 1 of named slaves: an unnamed one does not take it, and everyone keeps its names
+
+unaddressed : (name : ℕ) (s : Slave) → name ≢ unnamed → viewUnnamed (viewOf s) ≡ true → takesWrite name configuration 1 s ≡ false
+unfolding takesWrite addressed addresses viewUnnamed viewOf
+unaddressed name s other u =
+    let own : logicalName s ≡ unnamed = eqb-true _ _ u in
+    let differ : eqb unnamed name ≡ false = ne-eqb unnamed name (λ z. other (sym z)) in
+    both-false-left _ (rw (ne-eqb name unnamed other, own, differ) (neither (eqb name broadcast)))
+  where
+    neither : (b : Bool) → cond b false false ≡ false
+    neither true = refl
+    neither false = refl
+
+slave-same : (name : ℕ) → name ≢ unnamed → {bytes : List ℕ} → Bytes bytes → (s : Slave) → SameSlave (viewOf s) (viewOf (slaveAfter (writing name configuration 1) bytes s))
+slave-same name other {bytes} b s =
+    record {
+      names = unfold namedOf viewOf in rw (slaveAfter-kept (writing name configuration 1) b s .name, write-keeps-name name configuration 1 bytes s);
+      kept = λ u. ap viewOf (write-left name configuration 1 bytes s (unaddressed name s other u));
+    }
+
+slaves-same : (name : ℕ) → name ≢ unnamed → {bytes : List ℕ} → Bytes bytes → (ss : List Slave) → Same (map viewOf ss) (map viewOf (map (slaveAfter (writing name configuration 1) bytes) ss))
+slaves-same name other b [] = Same.end
+slaves-same name other b (s ∷ ss) = Same.next (slave-same name other b s) (slaves-same name other b ss)
+
+-- ---- a permitted frame
+
 module _ (c : Cluster) (bytes : List ℕ) where
-  -- a permitted frame leaves every configuration
-  frame-leaves : (h : Bool) (round : Round) → permittedFrame h round bytes ≡ true → (h ≡ true → Leaves configuration (pendingDuty c)) →
-      filesOf configuration (effectOf c round bytes .after .slaves) ≡ filesOf configuration (c .slaves)
-  unfolding permittedFrame effectOf withAddress withPending epochRaised withEpoch
-  frame-leaves true (multipartner r) p l = clash p refl
-  frame-leaves true msd p l = after-other (l refl) (between bytes) (epochRaised c)
-  frame-leaves true msa p l = clash p refl
-  frame-leaves true noRound p l = clash p refl
-  frame-leaves false (multipartner r) p l = below-other r (epochRaised c) slots configuration unstored
-  frame-leaves false msd p l = clash p refl
-  frame-leaves false msa p l = refl
-  frame-leaves false noRound p l = clash p refl
+  -- where it leaves every configuration and physical name, all views are as they were
+  all-same : (d : Cluster) → filesOf configuration (d .slaves) ≡ filesOf configuration (c .slaves) → map physicalName (d .slaves) ≡ map physicalName (c .slaves) →
+      Same (map viewOf (c .slaves)) (map viewOf (d .slaves))
+  all-same d files names = rw (views-alike (c .slaves) (d .slaves) files names) (same-refl (map viewOf (c .slaves)))
+
+  data-same : {o : Duty} → Harmless o → pendingDuty c ≡ o → Bytes (between bytes) →
+      map physicalName (effectOf c msd bytes .after .slaves) ≡ map physicalName (c .slaves) →
+      Same (map viewOf (c .slaves)) (map viewOf (effectOf c msd bytes .after .slaves))
+  data-same (leaves l) is b names =
+      all-same (effectOf c msd bytes .after) (unfold effectOf epochRaised withEpoch in rw is (after-other l (between bytes) (epochRaised c))) names
+  data-same (writesNames {name} other) is b names =
+      unfold effectOf slavesAfter withSlaves epochRaised withEpoch in rw is (slaves-same name other b (c .slaves))
+
+  frame-same : (h : Bool) (round : Round) → permittedFrame h round bytes ≡ true → (h ≡ true → Harmless (pendingDuty c)) → Bytes (between bytes) →
+      map physicalName (effectOf c round bytes .after .slaves) ≡ map physicalName (c .slaves) →
+      Same (map viewOf (c .slaves)) (map viewOf (effectOf c round bytes .after .slaves))
+  unfolding permittedFrame
+  frame-same true (multipartner r) p l b names = clash p refl
+  frame-same true msd p l b names = data-same (l refl) refl b names
+  frame-same true msa p l b names = clash p refl
+  frame-same true noRound p l b names = clash p refl
+  frame-same false (multipartner r) p l b names =
+      all-same (effectOf c (multipartner r) bytes .after)
+      (unfold effectOf epochRaised withEpoch in below-other r (epochRaised c) slots configuration unstored) names
+  frame-same false msd p l b names = clash p refl
+  frame-same false msa p l b names =
+      all-same (effectOf c msa bytes .after) (unfold effectOf withAddress withPending withEpoch in refl) names
+  frame-same false noRound p l b names = clash p refl
 
   -- and what is pending when its round is half done
-  next-leaves : (h : Bool) (mask : ℕ) (round : Round) → permittedFrame h round bytes ≡ true → halfwayAfter h (done mask) round ≡ true →
-      Leaves configuration (pendingDuty (effectOf c round bytes .after))
+  next-harmless : (h : Bool) (mask : ℕ) (round : Round) → permittedFrame h round bytes ≡ true → halfwayAfter h (done mask) round ≡ true →
+      Harmless (pendingDuty (effectOf c round bytes .after))
   unfolding permittedFrame halfwayAfter effectOf withAddress withPending pendingDuty
-  next-leaves true mask (multipartner r) p l = clash p refl
-  next-leaves true mask msd p l = clash l refl
-  next-leaves true mask msa p l = clash p refl
-  next-leaves true mask noRound p l = clash p refl
-  next-leaves false mask (multipartner r) p l = clash l refl
-  next-leaves false mask msd p l = clash p refl
-  next-leaves false mask msa p l = operation-leaves (getD bytes 2 0) (getD bytes 3 0) (getD bytes 4 0) (not-true (changesConfiguration (getD bytes 3 0)) p)
-  next-leaves false mask noRound p l = clash p refl
+  next-harmless true mask (multipartner r) p l = clash p refl
+  next-harmless true mask msd p l = clash l refl
+  next-harmless true mask msa p l = clash p refl
+  next-harmless true mask noRound p l = clash p refl
+  next-harmless false mask (multipartner r) p l = clash l refl
+  next-harmless false mask msd p l = clash p refl
+  next-harmless false mask msa p l = address-harmless bytes p
+  next-harmless false mask noRound p l = clash p refl
 
 -- a frame of others, refused or accepted
 module _ (names : List ℕ) (s : State) (p : Position) (bytes buffer : List ℕ) (good : Good s) where
@@ -193,19 +258,18 @@ module _ (names : List ℕ) (s : State) (p : Position) (bytes buffer : List ℕ)
   refused-frame n = rw (round-refused (s .file) bytes buffer n)
 
   frame-views : Bytes bytes → roundGround (s .file) bytes buffer ≡ 0 → permittedFrame (s .halfway) (roundBy bytes) bytes ≡ true →
-      view (frameOn (decode (s .file)) bytes .after) ≡ view (decode (s .file))
+      Same (view (decode (s .file))) (view (frameOn (decode (s .file)) bytes .after))
   unfolding view frameOn
   frame-views b g may =
-      views-alike (decode (s .file) .slaves) (effectOf (decode (s .file)) (roundBy bytes) bytes .after .slaves)
-      (frame-leaves (decode (s .file)) bytes (s .halfway) (roundBy bytes) may (good .apart))
+      frame-same (decode (s .file)) bytes (s .halfway) (roundBy bytes) may (good .apart) (between-bytes b)
       (unfold frameOn in round-kept (s .file) bytes buffer b g .names)
 
   frame-pending : roundGround (s .file) bytes buffer ≡ 0 → permittedFrame (s .halfway) (roundBy bytes) bytes ≡ true →
       halfwayAfter (s .halfway) (roundOn (s .file) bytes buffer .0) (roundBy bytes) ≡ true →
-      Leaves configuration (pendingDuty (frameOn (decode (s .file)) bytes .after))
+      Harmless (pendingDuty (frameOn (decode (s .file)) bytes .after))
   unfolding frameOn
   frame-pending g may h =
-      next-leaves (decode (s .file)) bytes (s .halfway) _ (roundBy bytes) may (rw (round-accepted (s .file) bytes buffer g) at h)
+      next-harmless (decode (s .file)) bytes (s .halfway) _ (roundBy bytes) may (rw (round-accepted (s .file) bytes buffer g) at h)
 
   accepted-frame : Bytes bytes → roundGround (s .file) bytes buffer ≡ 0 → permittedFrame (s .halfway) (roundBy bytes) bytes ≡ true →
       Left State viewIn Good s p (callOn names s p (frame bytes buffer))
@@ -217,7 +281,7 @@ module _ (names : List ℕ) (s : State) (p : Position) (bytes buffer : List ℕ)
           accepted = after .accepted;
           apart = λ h. rw (after .decoded) (frame-pending g may h);
         };
-        same = rw (after .decoded, frame-views b g may) (same-refl (view (decode (s .file))));
+        same = rw (after .decoded) (frame-views b g may);
         stays = refl;
       }
     where

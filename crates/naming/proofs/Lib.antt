@@ -19,12 +19,14 @@ pub mod StepRound
 pub mod ByteLaws
 pub mod OverBytes
 pub mod Lists
+pub mod HeldOnce
 pub mod StepLaws
 pub mod PositionLaws
 pub mod NameLaws
 pub mod SendLaws
 pub mod RunLaws
 pub mod StepCode
+pub mod Renaming
 pub mod Witnesses
 pub mod Cases
 -- the answers are told apart

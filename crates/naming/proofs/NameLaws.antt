@@ -1,21 +1,21 @@
 -- The tests of a list of names, name by name.
 -- Assumes nothing.
-use Prim.Native.Nat.{ℕ, suc, _+_, _-_, _≤_, _<_}
-use mathlib.Core.Path.{_≡_, refl, sym, _∙_}
-use mathlib.Core.List.{List, _∷_}
+use Prim.Native.Nat.{ℕ, suc, _+_, _≤_, _<_}
+use mathlib.Core.Path.{_≡_, refl, sym, ap, _∙_}
+use mathlib.Core.List.{List, [], _∷_}
 use mathlib.Core.Bool.{Bool, true, false}
 use native.Mathlib.Omega.{arith}
 use native.Mathlib.Numerals.{add-one}
-use borrow.Author.Tests.{eq-eqb, ne-eqb, eqb-true, eqb-false}
-use lib.ListN.{length, getD, drop, set, replicate, length-set, length-replicate, getD-replicate, drop-of-length-le}
-use lib.Seq.{drop-cons, drop-length, getD-set-same, getD-set-other}
+use borrow.Author.Tests.{eq-eqb, ne-eqb}
+use lib.ListN.{length, getD, drop, drop-of-length-le}
+use lib.Seq.{drop-cons}
 use lib.Dec.{eqb}
 use Rattle.file.specs.Rules.Order.{firstOf, either}
 use Rattle.file.specs.Rules.Results.{refused, done, resultOf}
 use Rattle.file.specs.Rules.Cluster.{unnamed, broadcast}
-use Rattle.file.specs.Rules.Grounds.{isAmong, hasRepeat}
-use Rattle.file.proofs.LookingLaws.{repeat-after}
-use Rattle.file.proofs.Order.{byCase, either-left, either-next, either-false}
+use Rattle.file.specs.Rules.Grounds.{hasRepeat, heldNames}
+use Rattle.file.proofs.HeldLaws.{held-first}
+use Rattle.file.proofs.Order.{either-false-left, either-false-right}
 use Rattle.naming.specs.Rules.Run.{Position, fresh, unfitName, namesGrounds, startGround, startOver}
 
 -- ---- ground 15
@@ -53,69 +53,14 @@ module _ {l : List ℕ} {i : ℕ} (h : Reading l i) where
 
 -- ---- ground 16
 
--- from the last name on: the names from i on are the ones seen, and none of them occurs twice
-
-pub record NamesSeen (l : List ℕ) (seen : List Bool) (i : ℕ) : Type 0 where
-  pub room : length seen ≡ 256
-  pub within : i ≤ length l
-  pub are : (n : ℕ) → n < 256 → getD seen n false ≡ isAmong n (drop i l)
-  pub single : hasRepeat (drop i l) ≡ false
-
-pub seen-start : (l : List ℕ) → NamesSeen l (replicate 256 false) (length l)
-unfolding isAmong hasRepeat
-seen-start l =
-    record {
-      room = length-replicate 256 false;
-      within = omega arith;
-      are = λ n h. getD-replicate 256 n false false h ∙ rw (drop-length l);
-      single = rw (drop-length l);
-    }
-
-module _ {l : List ℕ} {seen : List Bool} {i : ℕ} (h : NamesSeen l seen i) (more : 0 < i) (byte : getD l (i - 1) 0 < 256) where
-  one-back : suc (i - 1) ≡ i
-  one-back = omega arith
-
-  before : drop (i - 1) l ≡ getD l (i - 1) 0 ∷ drop i l
-  before =
-      let first : drop (i - 1) l ≡ getD l (i - 1) 0 ∷ drop (suc (i - 1)) l = drop-cons l (i - 1) 0 (let w = h .within in omega arith) in
-      rw one-back at first
-
-  pub seen-here : getD seen (getD l (i - 1) 0) false ≡ true → true ≡ hasRepeat l
-  unfolding hasRepeat
-  seen-here e =
-      let twice : isAmong (getD l (i - 1) 0) (drop i l) ≡ true = sym (h .are (getD l (i - 1) 0) byte) ∙ e in
-      sym (repeat-after (i - 1) l (rw before (either-left (hasRepeat (drop i l)) twice)))
-
-  from-here-on : (n : ℕ) → isAmong n (drop (i - 1) l) ≡ either (eqb n (getD l (i - 1) 0)) (isAmong n (drop i l))
-  unfolding isAmong
-  from-here-on n = rw before
-
-  one-more : (n : ℕ) → n < 256 → getD (set seen (getD l (i - 1) 0) true) n false ≡ isAmong n (drop (i - 1) l)
-  one-more n b =
-      byCase (eqb n (getD l (i - 1) 0))
-      (λ e.
-      let same : n ≡ getD l (i - 1) 0 = eqb-true n (getD l (i - 1) 0) e in
-      rw (from-here-on n, either-left (isAmong n (drop i l)) e, same)
-      (getD-set-same seen (getD l (i - 1) 0) true false (rw (h .room) byte)))
-      (λ e.
-      let other : n ≡ getD l (i - 1) 0 → ⊥ = eqb-false n (getD l (i - 1) 0) e in
-      rw (from-here-on n, either-next (isAmong n (drop i l)) e) (getD-set-other seen (getD l (i - 1) 0) n true false other ∙ h .are n b))
-
-  pub seen-next : getD seen (getD l (i - 1) 0) false ≡ false → NamesSeen l (set seen (getD l (i - 1) 0) true) (i - 1)
-  unfolding hasRepeat
-  seen-next e =
-      let once : isAmong (getD l (i - 1) 0) (drop i l) ≡ false = sym (h .are (getD l (i - 1) 0) byte) ∙ e in
-      record {
-        room = length-set seen (getD l (i - 1) 0) true ∙ h .room;
-        within = let w = h .within in omega arith;
-        are = one-more;
-        single = rw before (either-false once (h .single));
-      }
-
-pub seen-end : {l : List ℕ} {seen : List Bool} {i : ℕ} → NamesSeen l seen i → i ≤ 0 → false ≡ hasRepeat l
-seen-end {l} {i = i} h past =
-    let z : i ≡ 0 = omega arith in
-    sym (rw z at (h .single))
+-- where 15 does not hold no name is 0xFF, so all of them are held
+fit-held : (l : List ℕ) → unfitName l ≡ false → heldNames l ≡ l
+unfolding unfitName
+fit-held [] fit = unfold heldNames in refl
+fit-held (n ∷ ns) fit =
+    let named : eqb n unnamed ≡ false = either-false-right (eqb n broadcast) (eqb n unnamed) (either-false-left _ _ fit) in
+    let others : unfitName ns ≡ false = either-false-right (either (eqb n broadcast) (eqb n unnamed)) (unfitName ns) fit in
+    held-first n ns named ∙ rw (fit-held ns others)
 
 -- ---- the first of the two that holds
 
@@ -124,14 +69,17 @@ module _ (l : List ℕ) {a : Bool} (is : a ≡ unfitName l) where
   unfolding startGround namesGrounds firstOf
   names-unfit e = rw (← is, e)
 
-  module _ (fit : a ≡ false) {b : Bool} (is₂ : b ≡ hasRepeat l) where
+  module _ (fit : a ≡ false) {b : Bool} (is₂ : b ≡ hasRepeat (heldNames l)) where
+    repeats : b ≡ hasRepeat l
+    repeats = is₂ ∙ ap hasRepeat (fit-held l (sym is ∙ fit))
+
     pub names-twice : b ≡ true → 16 ≡ startGround l
     unfolding startGround namesGrounds firstOf
-    names-twice e = rw (← is, fit, ← is₂, e)
+    names-twice e = rw (← is, fit, ← repeats, e)
 
     pub names-fit : b ≡ false → 0 ≡ startGround l
     unfolding startGround namesGrounds firstOf
-    names-fit e = rw (← is, fit, ← is₂, e)
+    names-fit e = rw (← is, fit, ← repeats, e)
 
 -- ---- a fresh run
 

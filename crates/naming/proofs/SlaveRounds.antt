@@ -19,9 +19,10 @@ use Rattle.file.specs.Rules.Changes.{putInSlave}
 use Rattle.file.proofs.Order.{byCase}
 use Rattle.file.proofs.Puts.{inSlave-same, inSlave-other}
 use Rattle.cluster.specs.Rules.Bus.{anyone}
-use Rattle.cluster.specs.Rules.Slaves.{dutyBy, executionOf, addresses, addressed, answersRead, readReply, answersCompare, replyTo, inSlot, sentTo, replaced, mayWrite, takesWrite, takesName, named, slaveAfter}
+use Rattle.cluster.specs.Rules.Slaves.{dutyBy, executionOf, addresses, addressed, answersRead, readReply, answersCompare, replyTo, inSlot, sentTo, replaced, mayWrite, isNameRecord, written, takesWrite, takesName, named, slaveAfter}
 use Rattle.cluster.specs.Rules.Slaves as Slaves
 use Rattle.cluster.proofs.Untouched.{replaced-other}
+use Rattle.cluster.proofs.Replaced.{replaced-sets}
 use Rattle.naming.specs.Inner.View.{SlaveView, viewOf, viewUnnamed, comparisonOf, unnamedChange, change, replies, someone, answers, changeAll}
 use Rattle.naming.specs.Rules.Rounds.{RunRound, poll, writeName, writeHigh, writeLow, compare, baptize, sent, atUnnamed}
 use Rattle.naming.proofs.Facts.{Fit}
@@ -72,11 +73,6 @@ value-of s l = halves-by (bytesIn s configuration) (bytesIn s documentation) (co
 
 -- ---- what it becomes
 
-replaced-same : (s : Slave) (n k : ℕ) (bs : List ℕ) → bytesIn (replaced s n k bs) n ≡ sets (bytesIn s n) k bs
-unfolding replaced
-replaced-same s n k [] = refl
-replaced-same s n k (b ∷ bs) = replaced-same (putInSlave s n k b) n (suc k) bs ∙ rw (inSlave-same n k b s)
-
 documents-differ : _≡_ {A = ℕ} documentation configuration → ⊥
 documents-differ = omega arith
 
@@ -84,7 +80,7 @@ documents-differ = omega arith
 replaced-view : (s : Slave) (k : ℕ) (bs : List ℕ) → viewOf (replaced s configuration k bs) ≡ viewBy (sets (bytesIn s configuration) k bs) (bytesIn s documentation)
 replaced-view s k bs =
     view-by (replaced s configuration k bs)
-    ∙ rw (replaced-same s configuration k bs, replaced-other s configuration k bs documentation documents-differ)
+    ∙ rw (replaced-sets s configuration k bs, replaced-other s configuration k bs documentation documents-differ)
 
 both-last : (b : Bool) → both b (both true (both true true)) ≡ b
 unfolding both
@@ -102,14 +98,14 @@ writes s r l some most =
 -- a write changes the view of those it reaches
 write-changes :
     (s : Slave) (r : ℕ) (bs : List ℕ) (o : RunRound) → LegalSlave s → (r ≡ 0 → ⊥) → r ≤ 3 →
-    viewBy (sets (bytesIn s configuration) (recordSize * r) bs) (bytesIn s documentation) ≡ unnamedChange o (viewBy (bytesIn s configuration) (bytesIn s documentation)) →
+    viewBy (sets (bytesIn s configuration) (recordSize * r) (written configuration r bs)) (bytesIn s documentation) ≡ unnamedChange o (viewBy (bytesIn s configuration) (bytesIn s documentation)) →
     viewOf (slaveAfter (Slaves.writing unnamed configuration r) bs s) ≡ change o (viewOf s)
 unfolding slaveAfter change
 write-changes s r bs o l some most e =
     rw (writes s r l some most)
-    (byCase {P = viewOf (cond (viewUnnamed (viewOf s)) (replaced s configuration (recordSize * r) bs) s) ≡ cond (viewUnnamed (viewOf s)) (unnamedChange o (viewOf s)) (viewOf s)}
+    (byCase {P = viewOf (cond (viewUnnamed (viewOf s)) (replaced s configuration (recordSize * r) (written configuration r bs)) s) ≡ cond (viewUnnamed (viewOf s)) (unnamedChange o (viewOf s)) (viewOf s)}
     (viewUnnamed (viewOf s))
-    (λ t. rw t (replaced-view s (recordSize * r) bs ∙ e ∙ ap (unnamedChange o) (sym (view-by s))))
+    (λ t. rw t (replaced-view s (recordSize * r) (written configuration r bs) ∙ e ∙ ap (unnamedChange o) (sym (view-by s))))
     (λ f. rw f))
 
 unchanged : (b : Bool) (v : SlaveView) → v ≡ cond b v v
@@ -154,7 +150,7 @@ baptize-changes s l =
 -- the slave's view after a round of the run
 pub slave-changes :
     {o : RunRound} → Sendable o → (s : Slave) → LegalSlave s → viewOf (slaveAfter (carriedOut o) (sent o .content) s) ≡ change o (viewOf s)
-unfolding carriedOut sent atUnnamed
+unfolding carriedOut sent atUnnamed written isNameRecord both
 slave-changes (of-poll f) s l = unfold slaveAfter change unnamedChange in unchanged (viewUnnamed (viewOf s)) (viewOf s)
 slave-changes (of-name {n} f) s l =
     write-changes s 1 (0 ∷ 0 ∷ n ∷ unnamed ∷ []) (writeName n) l (λ (z : 1 ≡ 0). omega arith) (omega arith)

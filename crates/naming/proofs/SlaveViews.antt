@@ -3,28 +3,21 @@
 -- Assumes nothing.
 use Prim.Native.Nat.{ℕ, _+_, _*_, _^_, _≤_, _<_}
 use mathlib.Core.Path.{_≡_, refl, _∙_}
-use mathlib.Core.List.{List, [], _∷_, _++_, append-assoc}
+use mathlib.Core.List.{List, [], _∷_, _++_}
 use native.Mathlib.Omega.{arith}
 use native.Mathlib.Nat.{add-mul, mul-assoc, add-assoc}
 use lib.ListN.{length, getD, set, take, drop, length-set, length-append, length-drop}
-use lib.Seq.{sets, sets-eq, length-take-le, drop-at, take-append-seam, take-add, drop-drop, getD-set-same, getD-set-other}
+use lib.Seq.{sets, length-take-le, take-add, drop-drop, getD-set-same, getD-set-other}
 use lib.Pow.{pow-add}
 use Rattle.file.specs.Rules.Bytes.{numberOf, bytesOf, part}
-use Rattle.file.specs.Rules.Cluster.{Slave, bytesIn, configuration, documentation, physicalName, logicalName, newLogicalName, recordOf, unnamed}
+use Rattle.file.specs.Rules.Cluster.{Slave, bytesIn, configuration, documentation, physicalName, logicalName, newLogicalName, recordOf}
 use Rattle.file.proofs.Bytes.{numberOf-bytesOf}
-use Rattle.file.proofs.Puts.{part-sets, getD-sets, part-set}
+use Rattle.file.proofs.Puts.{part-sets, getD-sets, part-set, sets-part}
 use Rattle.file.proofs.Sizes.{bytesOf-length}
 use Rattle.naming.specs.Inner.View.{SlaveView, viewOf, comparisonOf, unnamedChange}
 use Rattle.naming.specs.Rules.Rounds.{half, writeName, writeHigh, writeLow}
 
 -- ---- bytes
-
--- the bytes stored are read again
-part-stored : (l : List ℕ) (k : ℕ) (bs : List ℕ) → k + length bs ≤ length l → part (sets l k bs) k (length bs) ≡ bs
-unfolding part
-part-stored l k bs fits =
-    let e : length (take k l) ≡ k = length-take-le k l (omega arith) in
-    rw (sets-eq bs l k fits, append-assoc, drop-at (take k l) (bs ++ drop (k + length bs) l) k e, take-append-seam)
 
 -- the number of two lists of bytes, one after the other
 number-append : (a b : List ℕ) → numberOf (a ++ b) ≡ numberOf a * 256 ^ length b + numberOf b
@@ -69,25 +62,24 @@ module _ (l d : List ℕ) (long : 16 ≤ length l) where
       let e : length (take 4 (drop 12 l)) ≡ 4 = length-take-le 4 (drop 12 l) (rw length-drop (omega arith)) in
       rw (take-add 4 4 (drop 8 l), drop-drop 4 8 l, number-append, e)
 
-  -- record 1 written with 00 00 name FF
-  pub wrote-name : (n : ℕ) → viewBy (sets l 4 (0 ∷ 0 ∷ n ∷ unnamed ∷ [])) d ≡ unnamedChange (writeName n) (viewBy l d)
+  -- record 1 written with 00 00 name, its byte 3 left
+  pub wrote-name : (n : ℕ) → viewBy (sets l 4 (0 ∷ 0 ∷ n ∷ [])) d ≡ unnamedChange (writeName n) (viewBy l d)
   unfolding viewBy unnamedChange
   wrote-name n =
       let x : List ℕ = set (set l 4 0) 5 0 in
       let six : 6 < length x = simp length-set (omega arith) in
-      let seven : 7 < length (set x 6 n) = simp length-set (omega arith) in
-      let differ : _≡_ {A = ℕ} 6 7 → ⊥ = omega arith in
-      let logical : getD (set (set x 6 n) 7 unnamed) 7 0 ≡ unnamed = getD-set-same (set x 6 n) 7 unnamed 0 seven in
-      let new : getD (set (set x 6 n) 7 unnamed) 6 0 ≡ n = getD-set-other (set x 6 n) 7 6 unnamed 0 differ ∙ getD-set-same x 6 n 0 six in
-      let high : part (set (set x 6 n) 7 unnamed) 8 4 ≡ part l 8 4 = part-sets l 4 (0 ∷ 0 ∷ n ∷ unnamed ∷ []) 8 4 (omega arith) in
-      let low : part (set (set x 6 n) 7 unnamed) 12 4 ≡ part l 12 4 = part-sets l 4 (0 ∷ 0 ∷ n ∷ unnamed ∷ []) 12 4 (omega arith) in
-      rw (logical, new, high, low)
+      rw (
+        getD-sets l 4 (0 ∷ 0 ∷ n ∷ []) 7 (omega arith),
+        getD-set-same x 6 n 0 six,
+        part-sets l 4 (0 ∷ 0 ∷ n ∷ []) 8 4 (omega arith),
+        part-sets l 4 (0 ∷ 0 ∷ n ∷ []) 12 4 (omega arith),
+      )
 
   -- record 2 or 3 written with a half
   half-stored : (k h : ℕ) → k + 4 ≤ length l → h < half → numberOf (part (sets l k (bytesOf 4 h)) k 4) ≡ h
   half-stored k h fits small =
       let four : length (bytesOf 4 h) ≡ 4 = bytesOf-length 4 h in
-      let e : part (sets l k (bytesOf 4 h)) k 4 ≡ bytesOf 4 h = rw four at (part-stored l k (bytesOf 4 h) (omega arith)) in
+      let e : part (sets l k (bytesOf 4 h)) k 4 ≡ bytesOf 4 h = rw four at (sets-part l k (bytesOf 4 h) (omega arith)) in
       rw e (numberOf-bytesOf 4 small)
 
   pub wrote-high : (h : ℕ) → h < half → viewBy (sets l 8 (bytesOf 4 h)) d ≡ unnamedChange (writeHigh h) (viewBy l d)

@@ -1,5 +1,6 @@
--- Statements of theorems: demand 3, an unknown edition, and the marked cases.
+-- Statements of theorems: demand 3, who is renamed, an unknown edition, and the marked cases.
 pub mod Demand
+pub mod Renaming
 pub mod Edition
 pub mod Files
 pub mod Cases

@@ -1,7 +1,7 @@
 // Grounds 15 and 16, of a list of names.
 ghost use mathlib.Core.Path.{_≡_};
-ghost use Rattle.file.specs.Rules.Grounds.{hasRepeat};
 ghost use Rattle.naming.specs.Rules.Run.{unfitName, startGround};
+use file::held::is_held_twice;
 use file::types::LogicalName;
 use file::types::Refusal;
 
@@ -23,37 +23,14 @@ fn has_unfit(names: &[u8]) -> bool
     false
 }
 
-// The values of a name.
-const NAME_VALUES: usize = 256;
-
-// Ground 16, from the last name to the first: which names come after this one. Fewer than two names are not looked at.
-fn has_twice(names: &[u8]) -> bool
-    ensures { λ r. ⌜ r ≡ hasRepeat (now (names .entry)) ⌝ }
-{
-    if names.len() < 2 {
-        return false;
-    }
-    let mut seen = [false; NAME_VALUES];
-    let mut i = names.len();
-    while 0 < i {
-        i = i - 1;
-        let name = names[i] as usize;
-        if seen[name] {
-            return true;
-        }
-        seen[name] = true;
-    }
-    false
-}
-
-// The number by which a list of names is refused, 0 where it is accepted.
+// The number by which a list of names is refused, 0 where it is accepted. No name is 0xFF where 15 does not hold.
 pub fn names_ground(names: &[u8]) -> u8
     ensures { λ r. ⌜ r ≡ startGround (now (names .entry)) ⌝ }
 {
     if has_unfit(names) {
         return Refusal::LISTED_NAME.0;
     }
-    if has_twice(names) {
+    if is_held_twice(names) {
         return Refusal::NAME_TWICE.0;
     }
     0

@@ -7,8 +7,9 @@ use model::{encode_trace, MSA, MSD};
 use std::hint::black_box;
 
 /// The lines of the table.
-pub const TABLE: [&str; 18] = [
+pub const TABLE: [&str; 19] = [
     "check-32-2",
+    "check-named-32",
     "check-most",
     "address-32",
     "read-one-of-32",
@@ -94,6 +95,7 @@ impl Workload {
         let number = |word: &str| word.parse::<usize>().ok();
         Some(match words[..] {
             ["check", "most"] => Workload::Check { file: files::most_entries() },
+            ["check", "named", slaves] => Workload::Check { file: named(number(slaves)?) },
             ["check", slaves, files] => {
                 Workload::Check { file: files::small(number(slaves)?, number(files)?, |_| 0xFF) }
             }

@@ -5,7 +5,7 @@ use crate::engine::{Engine, Model};
 use crate::random::Random;
 use crate::sort::Sort;
 use crate::tally::Tally;
-use crate::{clusters, inputs, owners, runs, traces};
+use crate::{clusters, inputs, names, owners, runs, traces};
 use std::collections::BTreeMap;
 
 /// Cases that are printed before the rest is only counted.
@@ -138,6 +138,7 @@ impl<'a> Campaign<'a> {
             runs::whole_run(self, &mut Random::from_seed(seed ^ 7 ^ (run as u64) << 8), slaves);
         }
         self.sorts_reached(&Sort::REACHED, amounts.rounds);
+        self.sorts_reached(&Sort::REACHED_ABOUT_NAMES, amounts.rounds);
         self.sorts_reached(&Sort::REACHED_BY_TRACES, amounts.traces);
         self.sorts_reached(&Sort::REACHED_BY_OWNERS, amounts.owners);
         self.sorts_reached(&Sort::REACHED_BY_RUNS, amounts.runs);
@@ -281,6 +282,7 @@ impl<'a> Campaign<'a> {
             }
         }
         self.note_sorts(Sort::of(call, expected));
+        self.note_sorts(names::sorts(call, expected));
         self.print_sample(call, expected);
     }
 

@@ -2,7 +2,8 @@
 //! by the model or an engine; of the long ones `uniform` writes the rows out. An engine, the model too, has to give
 //! what stands here.
 
-use crate::case::{bytes, Call, Outcome};
+use crate::by_hand::{changed, hex, Changes};
+use crate::case::{Call, Outcome};
 use crate::engine::{Engine, ReportWords};
 
 /// Case M10 of document 01: two unnamed slaves, epoch 0, nothing pending.
@@ -13,10 +14,10 @@ const EPOCH: usize = 8;
 const NAME_RECORDS: [usize; 2] = [0x24, 0x48];
 const VALUE_RECORDS: [usize; 2] = [0x28, 0x4C];
 
-/// The frame M2 of document 01 with request 1 (write record 1 of 0x08 at 0xFF, epoch 0), and data for it that give
-/// name 7.
+/// The frame M2 of document 01 with request 1 (write record 1 of 0x08 at 0xFF, epoch 0), and data for it: the new
+/// logical name is 1, and in place of the 7 the slaves keep their logical name.
 const M2: &str = "5500FF21018A";
-const NAME_7: &str = "49000001074F";
+const NEW_NAME_1: &str = "49000001074F";
 /// What the header holds after M1 (execute record 2 of 0x08 at 0xFF, epoch 5), and after M2: flag, name, PB2, PB3.
 const M1_PENDING: &str = "01FF2202";
 const M2_PENDING: &str = "01FF2101";
@@ -79,22 +80,9 @@ impl Edge {
     }
 }
 
-fn hex(text: &str) -> Vec<u8> {
-    let digits: String = text.split_whitespace().collect();
-    bytes(&digits).expect("hexadecimal digits")
-}
-
-/// Bytes of a file that are others than in M10.
-type Changes<'a> = &'a [(usize, &'a str)];
-
 /// M10 with other bytes in places.
 fn m10_with(changes: Changes) -> Vec<u8> {
-    let mut file = M10.to_vec();
-    for &(place, text) in changes {
-        let new = hex(text);
-        file[place..place + new.len()].copy_from_slice(&new);
-    }
-    file
+    changed(M10, changes)
 }
 
 /// A trace on M10 that breaks the layout.
@@ -314,9 +302,9 @@ fn counts() -> Vec<Edge> {
     ]
 }
 
-/// After M2 and data that give name 7, from epoch 0 on.
-const BOTH_NAMED_7: Changes =
-    &[(EPOCH, "01"), (EPOCH + 1, M2_PENDING), (NAME_RECORDS[0], "00000107"), (NAME_RECORDS[1], "00000107")];
+/// After M2 and its data, from epoch 0 on.
+const BOTH_WRITTEN: Changes =
+    &[(EPOCH, "01"), (EPOCH + 1, M2_PENDING), (NAME_RECORDS[0], "000001FF"), (NAME_RECORDS[1], "000001FF")];
 
 /// A trace of one frame.
 fn one(frame: &str) -> String {
@@ -331,13 +319,13 @@ fn m2_and(second: &str, third: &str) -> String {
 
 /// A refused frame is neither MSA nor MSD to those around it.
 fn refused_between() -> Vec<Edge> {
-    let written = |what, trace: &str| run(what, trace, [1, 1, 0, 1, 3], BOTH_NAMED_7);
+    let written = |what, trace: &str| run(what, trace, [1, 1, 0, 1, 3], BOTH_WRITTEN);
     vec![
-        written("refused data between MSA and MSD", &m2_and("49000001074E", NAME_7)),
-        written("a refused address frame between MSA and MSD", &m2_and("5505FF22028E", NAME_7)),
+        written("refused data between MSA and MSD", &m2_and("49000001074E", NEW_NAME_1)),
+        written("a refused address frame between MSA and MSD", &m2_and("5505FF22028E", NEW_NAME_1)),
         written(
             "an MSD of one byte between MSA and the data of the write",
-            &format!("0003 000D  0000 06  0006 01  0007 06  {M2} 49 {NAME_7}"),
+            &format!("0003 000D  0000 06  0006 01  0007 06  {M2} 49 {NEW_NAME_1}"),
         ),
     ]
 }
@@ -345,27 +333,39 @@ fn refused_between() -> Vec<Edge> {
 /// "The end state is that of the frames sent singly in order."
 fn states() -> Vec<Edge> {
     let on = |file: Changes, edge: Edge| Edge { file: m10_with(file), ..edge };
-    let pending_data = run("data for an earlier trace's write", &one(NAME_7), [0, 1, 0, 0, 1], BOTH_NAMED_7);
-    let mut after_twice = BOTH_NAMED_7.to_vec();
-    after_twice[0] = (EPOCH, "02");
+    let pending_data =
+        run("data for an earlier trace's write", &one(NEW_NAME_1), [0, 1, 0, 0, 1], BOTH_WRITTEN);
+    // The first slave's new name 7 and comparison value, which is its physical name.
+    let new_name_7: Changes = &[(NAME_RECORDS[0], "000007FF"), (VALUE_RECORDS[0], "0000000700000010")];
     vec![
         run("an address frame alone stays pending", &one(M2), [1, 0, 0, 0, 1], &[(EPOCH + 1, M2_PENDING)]),
         on(&[(EPOCH + 1, M2_PENDING)], pending_data),
-        // The second MSD finds nobody unnamed; it is carried out and alters the epoch alone.
-        run("two data frames for one write", &m2_and(NAME_7, "490000010840"), [1, 2, 0, 0, 3], &after_twice),
-        // Write record 2 of 0x08 at 7, epoch 3, reaches those that the frames before it have named.
+        // The second MSD finds both still unnamed, and writes again.
         run(
-            "a later frame meets the names that an earlier one gave",
-            &format!("0004 0018  0000 06  0006 06  000C 06  0012 06  {M2} {NAME_7} 550307210272 49DEADBEEF6B"),
-            [2, 2, 0, 0, 4],
+            "two data frames for one write",
+            &m2_and(NEW_NAME_1, "490000020843"),
+            [1, 2, 0, 0, 3],
             &[
-                (EPOCH, "04"),
-                (EPOCH + 1, "01072102"),
-                (NAME_RECORDS[0], "00000107"),
-                (NAME_RECORDS[1], "00000107"),
-                (VALUE_RECORDS[0], "DEADBEEF"),
-                (VALUE_RECORDS[1], "DEADBEEF"),
+                (EPOCH, "02"),
+                (EPOCH + 1, M2_PENDING),
+                (NAME_RECORDS[0], "000002FF"),
+                (NAME_RECORDS[1], "000002FF"),
             ],
+        ),
+        // Execute record 1 of 0x08 at 0xFF names the first slave; write record 2 at 7, epoch 3, reaches it alone.
+        on(
+            new_name_7,
+            run(
+                "a later frame meets the name that an earlier one gave",
+                "0004 0013  0000 06  0006 01  0007 06  000D 06  5505FF22018C 49 550307210272 49DEADBEEF6B",
+                [2, 2, 0, 0, 4],
+                &[
+                    (EPOCH, "04"),
+                    (EPOCH + 1, "01072102"),
+                    (NAME_RECORDS[0], "00000707"),
+                    (VALUE_RECORDS[0], "DEADBEEF00000010"),
+                ],
+            ),
         ),
         on(&[(EPOCH, "FF")], run("the epoch after 255", &one("BA"), [0, 0, 1, 0, 1], &[(EPOCH, "00")])),
     ]

@@ -26,7 +26,7 @@ pub trait Engine {
     fn owner(&self, file: &[u8], master: u8, buffer: &mut [u8], length: &mut u64) -> u8;
 }
 
-/// Document 01 read as plain Rust.
+/// The documents read as plain Rust.
 pub struct Model;
 
 impl Engine for Model {
@@ -35,7 +35,7 @@ impl Engine for Model {
     }
 
     fn check(&self, file: &[u8]) -> u8 {
-        number(model::check(file).map(|_| ()))
+        number(model::load(file).map(|_| ()))
     }
 
     fn read_address(&self, frame: &[u8], parts: &mut [u8; 5]) -> u8 {

@@ -8,6 +8,10 @@ use model::{firework_of, Cluster, MSA, MSD};
 /// Rounds 0, 2, 3, 4, 6 and 7.
 pub const MULTIPARTNER: [u8; 6] = [0x78, 0xBA, 0x8B, 0x64, 0xA6, 0x97];
 
+/// PB2 and PB3 of a write of record 1 of 0x08.
+pub const WRITE_OF_CONFIGURATION: u8 = 0x21;
+pub const NAMES_RECORD: u8 = 1;
+
 /// A whole frame of a multipartner round.
 pub fn is_multipartner(frame: &[u8]) -> bool {
     matches!(frame, [firework] if MULTIPARTNER.contains(firework))
@@ -32,9 +36,13 @@ pub fn is_unfolded(frame: &[u8]) -> bool {
     matches!(*frame, [firework, a, b, c, d, _] if frame == unfolded(firework, [a, b, c, d]))
 }
 
-/// An address frame that speaks of the cluster, with any operation.
+/// An address frame that speaks of the cluster, with any operation; now and then the write of record 1 of 0x08, where
+/// slaves keep their names.
 pub fn address(random: &mut Random, cluster: &Cluster) -> Vec<u8> {
     let (name, file) = address_target(random, cluster);
+    if random.once_in(12) {
+        return framed(MSA, [random.byte(), name, WRITE_OF_CONFIGURATION, NAMES_RECORD]);
+    }
     let record = if random.once_in(8) { random.byte() } else { random.below(6) as u8 };
     framed(MSA, [random.byte(), name, file << 2 | random.below(4) as u8, record])
 }

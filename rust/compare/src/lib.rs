@@ -1,14 +1,17 @@
 //! Two engines side by side: the calls they share, test cases as lines of text, random clusters, frames, positions
-//! and traces, the edges of traces and owner files, and the comparison itself.
+//! and traces, the edges of traces, owner files and logical names, and the comparison itself.
 
 #![forbid(unsafe_code)]
 
+mod by_hand;
 pub mod campaign;
 pub mod case;
 pub mod clusters;
 pub mod edges;
 pub mod engine;
 pub mod inputs;
+pub mod name_edges;
+pub mod names;
 pub mod owner_edges;
 pub mod owners;
 pub mod random;

@@ -2,17 +2,14 @@
 //! file is made by the model or an engine. An engine, the model too, has to give what stands here, for a buffer that
 //! is just long enough, longer by 1 and by 9 bytes, shorter by 1, and empty.
 
-use crate::case::{bytes, Call, Outcome, FILL};
+use crate::by_hand::{cluster, hex, slave, Slave, UNNAMED};
+use crate::case::{Call, Outcome, FILL};
 use crate::engine::Engine;
 
 /// The master's name in every edge but those about it.
 const MASTER: u8 = 0x63;
 /// The name of a slave where any would do.
 const ANY: u8 = 0x05;
-const UNNAMED: u8 = 0xFF;
-const CONFIGURATION: u8 = 0x08;
-const DATA_FILE: u8 = 0x10;
-const DOCUMENTATION: u8 = 0x3D;
 const ROUNDS: [u8; 6] = [0, 2, 3, 4, 6, 7];
 const MOST_OWNER_BYTES: usize = 396;
 
@@ -23,14 +20,6 @@ const SHORT: u8 = 21;
 /// The index where each row is one record, and the row of a round in which nobody sends.
 const SHORTEST: &str = "03000405 06000708";
 const NOBODY: &str = "63000000";
-
-/// A slave's logical name, and its lists: the round, and the entries from record 1 on. Beside files 0x08 and 0x3D,
-/// it has a file 0x10 of records 0x00 and 1, so of the places 0 to 7.
-#[derive(Clone)]
-struct Slave {
-    name: u8,
-    lists: Vec<(u8, String)>,
-}
 
 /// A cluster, and what the call has to answer and leave.
 #[derive(Clone)]
@@ -110,49 +99,6 @@ impl Edge {
         let expected = Outcome { buffer: Some(buffer), length: Some(content.len() as u64), ..call.before() };
         assert_eq!(call.make(engine), expected, "{}, {more} bytes more", self.what);
     }
-}
-
-fn hex(text: &str) -> Vec<u8> {
-    let digits: String = text.split_whitespace().collect();
-    bytes(&digits).expect("hexadecimal digits")
-}
-
-/// A slave with a list for one round.
-fn slave(name: u8, round: u8, entries: &str) -> Slave {
-    Slave { name, lists: vec![(round, entries.to_string())] }
-}
-
-/// The slave's files in rising order of their numbers, the physical name being 7 and its place in the table.
-fn files_of(slave: &Slave, place: u8) -> Vec<(u8, Vec<u8>)> {
-    let mut files: Vec<(u8, Vec<u8>)> =
-        slave.lists.iter().map(|(round, entries)| (*round, hex(&format!("00000000 {entries}")))).collect();
-    files.push((CONFIGURATION, vec![0, 0, 0, 0, 0, 0, 0, slave.name, 0, 0, 0, 0, 0, 0, 0, 0]));
-    files.push((DATA_FILE, vec![0xD0, 0xD1, 0xD2, 0xD3, 0xD4, 0xD5, 0xD6, 0xD7]));
-    files.push((DOCUMENTATION, vec![0, 0, 0, 0, 0, 0, 0, 7, 0, 0, 0, place]));
-    files
-}
-
-/// The cluster file of these slaves, its layout written out.
-fn cluster(slaves: &[Slave]) -> Vec<u8> {
-    let two_bytes = |number: usize| [(number / 256) as u8, (number % 256) as u8];
-    let mut table = Vec::new();
-    let mut rest = Vec::new();
-    let first = 16 + 4 * slaves.len();
-    for (place, slave) in (0..).zip(slaves) {
-        let files = files_of(slave, place);
-        table.extend(two_bytes(first + rest.len()));
-        table.extend([files.len() as u8, 0]);
-        let mut offset = first + rest.len() + 4 * files.len();
-        for (number, content) in &files {
-            rest.extend([*number, (content.len() / 4 - 1) as u8]);
-            rest.extend(two_bytes(offset));
-            offset += content.len();
-        }
-        files.iter().for_each(|(_, content)| rest.extend(content));
-    }
-    let [high, low] = two_bytes(first + rest.len());
-    let header = vec![0x54, 0x41, 1, slaves.len() as u8, 0, 16, high, low, 0, 0, 0, 0, 0, 0, 0, 0];
-    [header, table, rest].concat()
 }
 
 /// Slaves whose owner file has these index bytes and rows, each row with its padding.

@@ -4,10 +4,11 @@
 use crate::campaign::Campaign;
 use crate::case::Call;
 use crate::engine::RunWords;
+use crate::inputs::{NAMES_RECORD, WRITE_OF_CONFIGURATION};
 use crate::random::Random;
 use crate::sort::Sort;
 use crate::{clusters, inputs};
-use model::{check, closed_figures, Account, Cluster, End, LogicalName, Slave};
+use model::{check, closed_figures, Account, Address, Cluster, End, FileNumber, LogicalName, Operation, Slave};
 
 const NO_RUN: RunWords = [0; 6];
 
@@ -82,8 +83,8 @@ impl WholeRun {
         self.hold_against_account(campaign);
     }
 
-    /// A complete round that is no write to and no execute of 0x08, with refused calls anywhere, now and then after a
-    /// captured trace of such rounds.
+    /// A complete round that demand 3 permits, with refused calls anywhere, now and then after a captured trace of such
+    /// rounds.
     fn other_calls(&mut self, campaign: &mut Campaign, random: &mut Random) {
         if random.once_in(4) {
             self.trace(campaign, random);
@@ -96,23 +97,28 @@ impl WholeRun {
         }
         let address = inputs::address(random, &self.cluster());
         if is_permitted(&address) {
+            let writes_names = matches!(address[..], [.., WRITE_OF_CONFIGURATION, NAMES_RECORD, _]);
             self.frame(campaign, address, 64);
-            self.refused(campaign, random);
+            let refused_between = self.refused(campaign, random);
             let data = inputs::fitting_data(random, &self.cluster());
+            let slaves_before = self.cluster().slaves;
             self.frame(campaign, data, 65);
+            let between = writes_names && refused_between && self.cluster().slaves != slaves_before;
+            campaign.note_sorts(between.then_some(Sort::NamesWrittenBetweenSteps));
         }
     }
 
-    /// A call that some ground refuses.
-    fn refused(&mut self, campaign: &mut Campaign, random: &mut Random) {
+    /// A call that some ground refuses, or none; whether there was one.
+    fn refused(&mut self, campaign: &mut Campaign, random: &mut Random) -> bool {
         match random.below(6) {
             0 => self.step(campaign, 63),
             1 => self.frame(campaign, inputs::framed(0x55, [1, 1, 3, 1]), 64),
             2 => self.frame(campaign, inputs::unfolded(0x49, [0, 0, 0, 0]), 64),
             3 => self.frame(campaign, vec![0x78], 0),
             4 => self.frame(campaign, inputs::unfolded(0x55, [1, 0xFF, 0x21, 1]), 64),
-            _ => {}
+            _ => return false,
         }
+        true
     }
 
     /// Permitted rounds as one captured trace, with a refused frame before each frame of them.
@@ -179,10 +185,15 @@ fn refused_frame(random: &mut Random) -> Vec<u8> {
     }
 }
 
-/// The frame is accepted, and demand 3 permits its round.
+/// The frame is accepted, and demand 3 permits its round: "no write to or execute of 0x08", but "writes to record 1 of
+/// slaves with names 0x01 to 0xFE as well" (document 02, request 5). At 0x00 such a write reaches no unnamed slave.
 fn is_permitted(frame: &[u8]) -> bool {
-    let changes_naming = |address: &model::Address| {
-        address.file == model::FileNumber::CONFIGURATION && address.operation != model::Operation::Read
+    let changes_configuration =
+        |address: &Address| address.file == FileNumber::CONFIGURATION && address.operation != Operation::Read;
+    let writes_names = |address: &Address| {
+        address.operation == Operation::Write
+            && address.record.0 == NAMES_RECORD
+            && address.name != LogicalName::UNNAMED
     };
-    model::read_address(frame).is_ok_and(|address| !changes_naming(&address))
+    model::read_address(frame).is_ok_and(|address| !changes_configuration(&address) || writes_names(&address))
 }

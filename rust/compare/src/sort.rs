@@ -64,6 +64,27 @@ pub enum Sort {
     OwnerClashInLastRound,
     /// One that was written although two slaves would clash if unnamed ones took part.
     OwnerWithUnnamed,
+    /// A file loaded in which several slaves are unnamed.
+    SeveralUnnamed,
+    /// One refused by 22 for slaves named 0x00 alone.
+    OnlyZeroTwice,
+    /// One refused by 8 in which two logical names are equal as well.
+    BothNamesEqual,
+    /// A write of record 1 of 0x08 at 0xFF, its last byte another than the name that an addressed slave keeps.
+    NamesWrittenUnnamed,
+    /// The same at 0x00.
+    NamesWrittenAll,
+    /// The same at another name.
+    NamesWrittenOne,
+    /// A write of record 1 of another file that alters its last byte.
+    FourBytesWritten,
+    /// A round, a step and a trace carried out on a file that loading refuses by 22.
+    RoundOnEqualNames,
+    StepOnEqualNames,
+    TraceOnEqualNames,
+    /// A write of record 1 of 0x08 between the steps of a naming run, at another name than 0xFF, that alters a slave,
+    /// with a refused call between its two frames.
+    NamesWrittenBetweenSteps,
     /// A trace between the steps of a naming run that was run and has a round and a refused frame in it.
     TraceBetweenSteps,
 }
@@ -76,6 +97,20 @@ impl Sort {
         (Sort::UnfoldedAddress, 80),
         (Sort::UnfoldedData, 160),
         (Sort::ChecksDiffer, 4_000),
+    ];
+
+    /// Sorts of calls about logical names likewise, with one in how many of the rounds asked for.
+    pub const REACHED_ABOUT_NAMES: [(Sort, usize); 10] = [
+        (Sort::SeveralUnnamed, 20),
+        (Sort::OnlyZeroTwice, 100),
+        (Sort::BothNamesEqual, 2_000),
+        (Sort::NamesWrittenUnnamed, 800),
+        (Sort::NamesWrittenAll, 800),
+        (Sort::NamesWrittenOne, 400),
+        (Sort::FourBytesWritten, 2_000),
+        (Sort::RoundOnEqualNames, 10),
+        (Sort::StepOnEqualNames, 40),
+        (Sort::TraceOnEqualNames, 80),
     ];
 
     /// Sorts of traces likewise, with one in how many of the traces asked for; those of naming runs do not count.
@@ -112,9 +147,10 @@ impl Sort {
     ];
 
     /// Sorts of calls in naming runs, with one in how many of the runs asked for.
-    pub const REACHED_BY_RUNS: [(Sort, usize); 1] = [(Sort::TraceBetweenSteps, 1)];
+    pub const REACHED_BY_RUNS: [(Sort, usize); 2] =
+        [(Sort::TraceBetweenSteps, 1), (Sort::NamesWrittenBetweenSteps, 1)];
 
-    /// What a call is an example of, traces and owner files aside: these are sorted in `traces` and `owners`.
+    /// What a call is an example of; logical names, traces and owner files are sorted in `names`, `traces` and `owners`.
     pub fn of(call: &Call, outcome: &Outcome) -> Option<Sort> {
         match call {
             Call::Read { frame } if outcome.number == 12 && is_unfolded(frame) => Some(Sort::UnfoldedNotRead),
@@ -163,6 +199,19 @@ impl Sort {
             Sort::OwnerClashOfOneName => "owner files refused, only slaves of one name sending in one slot",
             Sort::OwnerClashInLastRound => "owner files refused, two senders in round 7 alone",
             Sort::OwnerWithUnnamed => "owner files written, in which unnamed slaves would clash",
+            Sort::SeveralUnnamed => "files loaded, with several slaves unnamed",
+            Sort::OnlyZeroTwice => "files not loaded, only the name 0x00 occurring twice",
+            Sort::BothNamesEqual => "files not loaded, physical and logical names occurring twice",
+            Sort::NamesWrittenUnnamed => "writes of record 1 of 0x08 at 0xFF that would rename",
+            Sort::NamesWrittenAll => "writes of record 1 of 0x08 at 0x00 that would rename",
+            Sort::NamesWrittenOne => "writes of record 1 of 0x08 at another name that would rename",
+            Sort::FourBytesWritten => "writes of record 1 of another file that alter its last byte",
+            Sort::RoundOnEqualNames => "rounds on a file with equal logical names",
+            Sort::StepOnEqualNames => "steps on a file with equal logical names",
+            Sort::TraceOnEqualNames => "traces on a file with equal logical names",
+            Sort::NamesWrittenBetweenSteps => {
+                "writes of record 1 of 0x08 at a name between naming steps, around a refused call"
+            }
             Sort::TraceBetweenSteps => "traces run between naming steps, with a round and a refused frame",
         }
     }

@@ -8,7 +8,7 @@ use std::collections::BTreeMap;
 /// Each kind of call with what it can do when it is carried out, and the numbers that can refuse it. A whole run is a
 /// kind of its own.
 const OUTCOMES: [(&str, &[&str], &[u8]); 10] = [
-    ("check", &[PLAIN], &[1, 2, 3, 4, 5, 6, 7, 8]),
+    ("check", &[PLAIN], &[1, 2, 3, 4, 5, 6, 7, 8, 22]),
     ("read", &["read", "write", "execute"], &[10, 11, 12, 13, 14]),
     ("write", &["read", "write", "execute"], &[9, 13, 14, 18]),
     ("data", &[PLAIN], &[9]),

@@ -1,4 +1,4 @@
-//! "The cluster file", and grounds 1 to 8 in their order.
+//! "The cluster file", and grounds 1 to 8 in their order; on loading also 22.
 
 use crate::{number_of, Cluster, File, FileNumber, LogicalName, Operation, Pending, Refusal, Slave};
 
@@ -36,6 +36,16 @@ pub fn check(file: &[u8]) -> Result<Cluster, Refusal> {
         return Err(Refusal(8));
     }
     Ok(Cluster { epoch: file[8], pending: pending_of(file), slaves })
+}
+
+/// "Loading a file from outside (the checker's call and the listing program, nothing else) also refuses two slaves with
+/// one logical name other than 0xFF" (document 02, request 5): grounds 1 to 8, then 22.
+pub fn load(file: &[u8]) -> Result<Cluster, Refusal> {
+    let cluster = check(file)?;
+    if two_equal_logical_names(&cluster.slaves) {
+        return Err(Refusal(22));
+    }
+    Ok(cluster)
 }
 
 fn wrong_size(file: &[u8]) -> bool {
@@ -110,6 +120,12 @@ fn two_equal_physical_names(slaves: &[Slave]) -> bool {
     let mut names: Vec<u64> = slaves.iter().map(Slave::physical_name).collect();
     names.sort_unstable();
     names.windows(2).any(|pair| pair[0] == pair[1])
+}
+
+fn two_equal_logical_names(slaves: &[Slave]) -> bool {
+    let names: Vec<LogicalName> =
+        slaves.iter().filter(|slave| !slave.is_unnamed()).map(Slave::logical_name).collect();
+    (0..names.len()).any(|place| names[..place].contains(&names[place]))
 }
 
 impl Cluster {

@@ -21,7 +21,7 @@ mod trace;
 
 pub use account::{closed_figures, Account, ClosedFigures};
 pub use cluster::{Cluster, File, Pending, Slave};
-pub use file::{check, MOST_BYTES, MOST_SLAVES};
+pub use file::{check, load, MOST_BYTES, MOST_SLAVES};
 pub use frame::{
     firework_of, read_address, round_of, write_address, write_data, Address, Frame, Operation, FRAME_BYTES,
     MSA, MSD,

@@ -1,6 +1,6 @@
 //! "The listing program": its whole output for one file.
 
-use crate::{check, start, step, End, Refusal, ANSWER_BYTES};
+use crate::{load, start, step, End, Refusal, ANSWER_BYTES};
 use std::fmt::Write;
 
 const FIRST_NAME: u8 = 0x01;
@@ -14,7 +14,7 @@ pub fn listing(file: &[u8]) -> String {
 }
 
 fn lines(file: &[u8]) -> Result<String, Refusal> {
-    check(file)?;
+    load(file)?;
     let names: Vec<u8> = (FIRST_NAME..=LAST_NAME).collect();
     let mut file = file.to_vec();
     let mut run = start(&names)?;

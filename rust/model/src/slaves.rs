@@ -4,6 +4,8 @@ use crate::frame::{check_byte, MSD};
 use crate::round::Bus;
 use crate::{FileNumber, LogicalName, RecordNumber, Slave};
 
+/// The record that holds the new and the present logical name, which ends it.
+const NAMES_RECORD: RecordNumber = RecordNumber(1);
 const BAPTIZE: RecordNumber = RecordNumber(1);
 const COMPARE: RecordNumber = RecordNumber(2);
 
@@ -29,15 +31,17 @@ pub fn read(slaves: &[Slave], name: LogicalName, file: FileNumber, record: Recor
     }
 }
 
-/// "addressed slaves that have the record replace all four bytes, except in 0x3D and in any record 0x00".
+/// "addressed slaves that have the record replace all four bytes, except in 0x3D and in any record 0x00"; but record 1
+/// of 0x08 as document 02, request 5 has it: "A write to that record replaces bytes 0 to 2 and leaves byte 3."
 /// Each slave is judged before it is changed, and no slave's change touches another.
 pub fn write(slaves: &mut [Slave], name: LogicalName, file: FileNumber, record: RecordNumber, data: [u8; 4]) {
     if file == FileNumber::DOCUMENTATION || record == RecordNumber(0x00) {
         return;
     }
+    let replaced = if file == FileNumber::CONFIGURATION && record == NAMES_RECORD { 0..3 } else { 0..4 };
     for slave in slaves.iter_mut().filter(|slave| is_addressed(slave, name)) {
         if let Some(bytes) = slave.record_mut(file, record) {
-            bytes.copy_from_slice(&data);
+            bytes[replaced.clone()].copy_from_slice(&data[replaced.clone()]);
         }
     }
 }

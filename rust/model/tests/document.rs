@@ -162,6 +162,19 @@ fn m10_listing() {
     assert_eq!(listing(&wrong), "refused 2\n");
 }
 
+/// "Loading a file from outside (the checker's call and the listing program, nothing else)"
+#[test]
+fn equal_logical_names_are_not_listed() {
+    for name in [0x00, 0x01, 0xFE] {
+        let mut file = bytes(M10);
+        (file[0x27], file[0x4B]) = (name, name);
+        assert_eq!(listing(&file), "refused 22\n");
+        // Equal physical names come first.
+        file[0x5F] = 0x10;
+        assert_eq!(listing(&file), "refused 8\n");
+    }
+}
+
 #[test]
 fn a_later_slot_sees_what_an_earlier_one_stored() {
     // Slave 1 sends bytes 4 and 5 of its file 0x10 in slots 1 and 2. Slave 2 stores slot 1 in byte 5 of
@@ -202,9 +215,9 @@ fn a_receive_stores_outside_record_0_only() {
 fn an_operation_stays_pending() {
     let mut file = awaiting_data();
     assert_eq!(answer_to(&mut file, "4900000107 4F"), Ok((0, heard(&[]))));
-    // Both slaves have become 7, so the same data frame finds nobody unnamed; the length still fits.
-    assert_eq!((file[0x27], file[0x4B]), (7, 7));
-    assert_eq!(answer_to(&mut file, "4900000108 40"), Ok((0, heard(&[]))));
-    assert_eq!((file[0x27], file[0x4B]), (7, 7));
+    // Both slaves have their new name and are still unnamed, so another data frame finds them again.
+    assert_eq!((&file[0x24..0x28], &file[0x48..0x4C]), (&[0, 0, 1, 0xFF][..], &[0, 0, 1, 0xFF][..]));
+    assert_eq!(answer_to(&mut file, "4900000208 43"), Ok((0, heard(&[]))));
+    assert_eq!((&file[0x24..0x28], &file[0x48..0x4C]), (&[0, 0, 2, 0xFF][..], &[0, 0, 2, 0xFF][..]));
     assert_eq!(answer_to(&mut file, "49"), Err(Refusal(11)));
 }

@@ -70,6 +70,11 @@ fn vectors_of_request_4_hold() {
 }
 
 #[test]
+fn vectors_of_request_5_hold() {
+    assert_eq!(kinds_that_hold(include_str!("data/request-05.txt")), EVERY_KIND_WITH_OWNERS);
+}
+
+#[test]
 fn cases_of_our_own_hold() {
     assert!(!kinds_that_hold(include_str!("data/cases.txt")).is_empty());
 }

@@ -30,8 +30,13 @@ pub(crate) const CONFIGURATION: u8 = 0x08;
 pub(crate) const DOCUMENTATION: u8 = 0x3D;
 pub(crate) const EPOCH: usize = 8;
 
+/// A file from outside: the grounds of every call, and 22.
 pub fn check(file: &[u8]) -> u8 {
-    Survey::new().walk(file)
+    let mut survey = Survey::new();
+    match survey.walk(file) {
+        0 if survey.equal_logical_names(file) => 22,
+        ground => ground,
+    }
 }
 
 /// One frame on a file.

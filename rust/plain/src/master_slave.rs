@@ -99,11 +99,16 @@ fn read_at(
     senders
 }
 
+/// Record 1 of 0x08 keeps its last byte, the logical name.
 pub fn write(file: &mut [u8], survey: &Survey, name: u8, number: u8, record: u8, data: [u8; 4]) -> u64 {
     let offset = 4 * usize::from(record);
     match (number, record) {
         (DOCUMENTATION, _) | (_, 0) => {}
-        (CONFIGURATION, 1..=3) => {
+        (CONFIGURATION, 1) => {
+            let [b0, b1, b2, _] = data;
+            write_at(file, survey, name, [b0, b1, b2], |_, slave| Some(survey.configuration(slave) + offset))
+        }
+        (CONFIGURATION, 2 | 3) => {
             write_at(file, survey, name, data, |_, slave| Some(survey.configuration(slave) + offset))
         }
         _ => write_at(file, survey, name, data, |file, slave| survey.record(file, slave, number, record)),
@@ -112,17 +117,17 @@ pub fn write(file: &mut [u8], survey: &Survey, name: u8, number: u8, record: u8,
 }
 
 #[inline]
-fn write_at(
+fn write_at<const BYTES: usize>(
     file: &mut [u8],
     survey: &Survey,
     name: u8,
-    data: [u8; 4],
+    data: [u8; BYTES],
     place_of: impl Fn(&[u8], usize) -> Option<usize>,
 ) {
     for slave in survey.slaves() {
         if is_addressed(survey.logical_name(file, slave), name) {
             if let Some(place) = place_of(file, slave) {
-                file[place..place + 4].copy_from_slice(&data);
+                file[place..place + BYTES].copy_from_slice(&data);
             }
         }
     }

@@ -1,6 +1,6 @@
 //! Grounds 1 to 8 in one walk, which keeps where each slave has the two files every round asks for.
 
-use crate::{u32_at, u64_at, CONFIGURATION, DOCUMENTATION};
+use crate::{u32_at, u64_at, CONFIGURATION, DOCUMENTATION, UNNAMED};
 use std::ops::Range;
 
 const HEADER_BYTES: usize = 16;
@@ -77,6 +77,22 @@ impl Survey {
             }
             marks |= mark;
             names[slave] = name;
+        }
+        false
+    }
+
+    /// Ground 22, which only the loading of a file asks for: two slaves of one logical name other than 0xFF.
+    pub fn equal_logical_names(&self, file: &[u8]) -> bool {
+        let mut seen = [0u64; 4];
+        for slave in self.slaves() {
+            let name = self.logical_name(file, slave);
+            if name != UNNAMED {
+                let (word, mark) = (&mut seen[usize::from(name >> 6)], 1 << (name & 63));
+                if *word & mark != 0 {
+                    return true;
+                }
+                *word |= mark;
+            }
         }
         false
     }

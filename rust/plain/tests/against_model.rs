@@ -3,6 +3,7 @@
 use compare::campaign::agrees_with_model;
 use compare::edges::hold_edges;
 use compare::engine::Plain;
+use compare::name_edges::hold_name_edges;
 use compare::owner_edges::hold_owner_edges;
 
 #[test]
@@ -19,6 +20,12 @@ fn nested_loops_do_what_the_model_does() {
 fn the_edges_of_a_trace_hold() {
     hold_edges(&Plain { nested: false });
     hold_edges(&Plain { nested: true });
+}
+
+#[test]
+fn the_edges_of_logical_names_hold() {
+    hold_name_edges(&Plain { nested: false });
+    hold_name_edges(&Plain { nested: true });
 }
 
 #[test]

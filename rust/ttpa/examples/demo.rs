@@ -1,8 +1,8 @@
 //! `demo FILE`: commissioning a small cluster, as firmware or test software would do it.
 //!
-//! Loads a cluster file, checks it, reads a record of a named slave, names the unnamed slaves while other
-//! rounds go on in between, runs a captured trace, plans who sends in which slot, and prints what happened.
-//! c/demo.c does the same and prints the same.
+//! Loads a cluster file, checks it, reads a record of a named slave, has a foreign master try to name slaves by a
+//! write, names the unnamed slaves while other rounds go on in between, runs a captured trace, plans who sends in
+//! which slot, and prints what happened. c/demo.c does the same and prints the same.
 
 use std::process::ExitCode;
 use ttpa::{
@@ -11,12 +11,16 @@ use ttpa::{
 
 const READ: u8 = 0;
 const WRITE: u8 = 1;
+const CONFIGURATION: u8 = 0x08;
 const DOCUMENTATION: u8 = 0x3D;
+const UNNAMED: u8 = 0xFF;
 const ROUND_2: [u8; 1] = [0xBA];
 const DATA_OF_A_READ: [u8; 1] = [0x49];
 const STEPS_BETWEEN_TRAFFIC: u64 = 50;
 /// The master's own logical name.
 const MASTER: u8 = 0x80;
+/// Where the demo's file has the logical name of its second slave, which is unnamed.
+const SECOND_NAME: usize = 0x7B;
 /// Five frames captured on site: round 2; a write of E7 7F 00 00 to record 1 of file 0x10 of slave 01, its data
 /// broken at first (the check byte is D1); and round 2 again. First frame count and data length, then for each
 /// frame offset and length.
@@ -70,6 +74,24 @@ impl Cluster {
         self.send(&frame)?;
         ttpa::write_data(&mut frame, bytes)?;
         self.send(&frame)
+    }
+
+    /// Two slaves of one name: such a file is not loaded.
+    fn show_equal_names(&self) {
+        let mut twice = self.file.clone();
+        if let Some(name) = twice.get_mut(SECOND_NAME) {
+            *name = 0x01;
+        }
+        print_verdict("a file with 01 twice", ttpa::check(&twice));
+    }
+
+    /// A foreign master writes record 1 of 0x08 of the unnamed slaves, with 05 where their logical name stands. It
+    /// stays FF: only the execute of that record, which ends a naming, renames.
+    fn show_foreign_write(&mut self) {
+        let written = self.write_record(UNNAMED, CONFIGURATION, 1, [0x00, 0x00, 0x05, 0x05]);
+        print_verdict("a foreign master's write at FF", written);
+        print_verdict("read of 05", self.read_record(0x05, DOCUMENTATION, 2));
+        self.print_answer();
     }
 
     /// Each slot in which someone sent, with its byte.
@@ -171,11 +193,13 @@ fn main() -> ExitCode {
     if checked.is_err() {
         return ExitCode::FAILURE;
     }
+    cluster.show_equal_names();
     cluster.show_frames();
     print_verdict("read of 01", cluster.read_record(0x01, DOCUMENTATION, 2));
     cluster.print_answer();
     print_verdict("round 2 before naming", cluster.send(&ROUND_2));
     cluster.print_answer();
+    cluster.show_foreign_write();
     print_verdict("names with a repeat", Run::start(&[0x01, 0x02, 0x01]));
     print_verdict("naming", cluster.name_slaves(&[0x01, 0x02, 0x03, 0x04]));
     for name in 0x02..=0x03 {

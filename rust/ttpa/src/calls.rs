@@ -61,7 +61,7 @@ mod c {
 // slice, or points to an array of the size the C signature states; mutable ones are exclusive, so no two
 // overlap. The engine keeps no pointer after it returns.
 
-/// Checks a file: 0, or 1 to 8.
+/// Checks a file from outside: 0, or 1 to 8 or 22.
 pub fn check(file: &[u8]) -> u8 {
     unsafe { c::ttpa_check(file.as_ptr(), file.len()) }
 }

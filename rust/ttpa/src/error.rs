@@ -46,12 +46,14 @@ pub enum TtpaError {
     TwoSenders,
     /// 21: the buffer is too short for the owner file.
     OwnerBuffer,
+    /// 22: two slaves of a file that is loaded have one logical name other than 0xFF.
+    EqualLogicalNames,
     /// A number that this edition of the crate does not know.
     Other(u8),
 }
 
 /// The variants in the order of their numbers, from 1.
-const NUMBERED: [TtpaError; 21] = [
+const NUMBERED: [TtpaError; 22] = [
     TtpaError::FileSize,
     TtpaError::Mark,
     TtpaError::Edition,
@@ -73,6 +75,7 @@ const NUMBERED: [TtpaError; 21] = [
     TtpaError::Trace,
     TtpaError::TwoSenders,
     TtpaError::OwnerBuffer,
+    TtpaError::EqualLogicalNames,
 ];
 
 impl TtpaError {
@@ -80,7 +83,7 @@ impl TtpaError {
     pub(crate) fn of(number: u8) -> Result<(), TtpaError> {
         match number {
             0 => Ok(()),
-            1..=21 => Err(NUMBERED[usize::from(number) - 1]),
+            1..=22 => Err(NUMBERED[usize::from(number) - 1]),
             _ => Err(TtpaError::Other(number)),
         }
     }
@@ -137,6 +140,9 @@ impl TtpaError {
                 "two slaves send in one slot of a round, so that the slot has no single owner"
             }
             TtpaError::OwnerBuffer => "the buffer is too short for this cluster's owner file",
+            TtpaError::EqualLogicalNames => {
+                "two slaves have the same logical name; 0xFF (unnamed) alone may occur more than once"
+            }
             TtpaError::Other(_) => "refused on a ground that this version has no text for",
         }
     }
@@ -178,6 +184,7 @@ mod tests {
         assert_eq!(TtpaError::Trace.number(), 19);
         assert_eq!(TtpaError::TwoSenders.number(), 20);
         assert_eq!(TtpaError::OwnerBuffer.number(), 21);
-        assert_eq!(TtpaError::Other(22).number(), 22);
+        assert_eq!(TtpaError::EqualLogicalNames.number(), 22);
+        assert_eq!(TtpaError::Other(23).number(), 23);
     }
 }

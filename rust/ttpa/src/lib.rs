@@ -62,7 +62,9 @@ impl Senders {
     }
 }
 
-/// Accepts a cluster file, or refuses it by one of the numbers 1 to 8.
+/// Accepts a cluster file from outside, or refuses it by one of the numbers 1 to 8, or by 22 where two slaves have one
+/// logical name other than 0xFF. Only this function refuses by 22: rounds may bring such a file about, and all others
+/// take it.
 pub fn check(file: &[u8]) -> Result<(), TtpaError> {
     TtpaError::of(calls::check(file))
 }

@@ -5,6 +5,7 @@ use compare::campaign::agrees_with_model;
 use compare::case::hold_all;
 use compare::edges::hold_edges;
 use compare::engine::{Engine, ReportWords, RunWords};
+use compare::name_edges::hold_name_edges;
 use compare::owner_edges::hold_owner_edges;
 use ttpa::{Address, End, Report, Run, Senders, TtpaError};
 
@@ -87,6 +88,7 @@ fn the_safe_functions_give_the_kept_results() {
         include_str!("../../model/tests/data/cases.txt"),
         include_str!("../../model/tests/data/request-03.txt"),
         include_str!("../../model/tests/data/request-04.txt"),
+        include_str!("../../model/tests/data/request-05.txt"),
     ] {
         let held = hold_all(&Wrapper, text);
         assert!(held.passed > 0);
@@ -102,4 +104,9 @@ fn the_edges_of_a_trace_hold() {
 #[test]
 fn the_edges_of_an_owner_file_hold() {
     hold_owner_edges(&Wrapper);
+}
+
+#[test]
+fn the_edges_of_logical_names_hold() {
+    hold_name_edges(&Wrapper);
 }

@@ -101,11 +101,21 @@ replaced s n k (b ∷ bs) = replaced (putInSlave s n k b) n (suc k) bs
 unfoldable pub mayWrite : ℕ → ℕ → Bool
 mayWrite n r = both (not (eqb n documentation)) (not (eqb r 0x00))
 
+-- record 1 of 0x08, whose byte 3 is the logical name
+unfoldable pub isNameRecord : ℕ → ℕ → Bool
+isNameRecord n r = both (eqb n configuration) (eqb r 1)
+
+-- the bytes that a record takes from its byte 0 on: "all four", but document 02, job 5: "A write to that record replaces bytes 0 to 2 and
+-- leaves byte 3."
+unfoldable pub written : ℕ → ℕ → List ℕ → List ℕ
+written n r bytes = cond (isNameRecord n r) (take 3 bytes) bytes
+
 -- "The sentence of 001 that writes ignore the logical name is read here as: unnamed slaves take writes at 0xFF."
 unfoldable pub takesWrite : ℕ → ℕ → ℕ → Slave → Bool
 takesWrite name n r s = both (addressed name s) (both (hasRecord s n r) (mayWrite n r))
 
--- "Record 1: those with physical name equal to IDCV take the new logical name.": byte 2 of record 1 of 0x08 goes to its byte 3
+-- "Record 1: those with physical name equal to IDCV take the new logical name.": byte 2 of record 1 of 0x08 goes to its byte 3. Nothing
+-- else changes it: document 02, job 5, "the logical name as changed by baptizing only" (`Claims/Renaming`).
 unfoldable pub takesName : ℕ → Slave → Bool
 takesName name s = both (addressed name s) (eqb (physicalName s) (comparisonValue s))
 
@@ -115,7 +125,7 @@ named s = putInSlave s configuration (recordSize + 3) (newLogicalName s)
 unfoldable pub slaveAfter : Duty → List ℕ → Slave → Slave
 slaveAfter nothing bytes s = s
 slaveAfter (reading name n r) bytes s = s
-slaveAfter (writing name n r) bytes s = cond (takesWrite name n r s) (replaced s n (recordSize * r) bytes) s
+slaveAfter (writing name n r) bytes s = cond (takesWrite name n r s) (replaced s n (recordSize * r) (written n r bytes)) s
 slaveAfter (comparing name) bytes s = s
 slaveAfter (baptizing name) bytes s = cond (takesName name s) (named s) s
 

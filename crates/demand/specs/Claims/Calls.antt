@@ -110,14 +110,21 @@ accounted file names calls = accountAfter (accountOf (slavesIn file) names) (cal
 
 -- ---- the claim
 
+-- "an accepted file": ttpa_check returns 0, or 22, with which a file is turned away on loading and "rounds may still run" on it
+pub data TakenByRounds (file : List ℕ) : Type 0 where
+  loads : checkCall file ≡ 0 → TakenByRounds file
+  equalNames : checkCall file ≡ 22 → TakenByRounds file
+
 -- what the memory then holds: "Demand 3 compares every logical name, the end and both counts carried in the run with this
--- account"; the file stays accepted; a step that comes next returns the ground of its own arguments, so 0 or 9; the closed figures
+-- account"; the file stays accepted, and by ttpa_check if it was; a step that comes next returns the ground of its own arguments, so 0
+-- or 9; the closed figures
 pub record CallsDemand (file names : List ℕ) (calls : List CCall) (m : Memory) : Type 0 where
   pub logical : slavesIn (m .file) ≡ accounted file names calls .slaves
   pub end : positionIn (m .run) .end ≡ accounted file names calls .end
   pub rounds : positionIn (m .run) .rounds ≡ accounted file names calls .rounds
   pub comparisons : positionIn (m .run) .comparisons ≡ comparisonsOf (accounted file names calls)
-  pub accepted : checkCall (m .file) ≡ 0
+  pub accepted : TakenByRounds (m .file)
+  pub loaded : checkCall file ≡ 0 → checkCall (m .file) ≡ 0
   pub next :
       (arguments : StepArguments) (senders : ℕ) →
       returned names m (ttpaStep arguments senders) ≡ argumentsGround (slavesIn (m .file)) arguments
@@ -132,18 +139,19 @@ started file names run = record { file = file; run = startCall names run .1 }
 -- Demand 3 over the C calls: "It is one claim about the whole list of calls, not one for each."
 abbrev pub DemandOverCalls : Type 0
 DemandOverCalls =
-    -- "It starts from an accepted file": ttpa_check returns 0
-    (file : List ℕ) → Bytes file → checkCall file ≡ 0 →
+    -- "It starts from an accepted file"
+    (file : List ℕ) → Bytes file → TakenByRounds file →
     -- "and list of names and a fresh run": ttpa_start returns 0
     (names : List ℕ) → Bytes names → (run : List ℕ) → startCall names run .0 ≡ 0 →
-    -- "every list of steps, permitted rounds (complete ones, but no write to or execute of 0x08) and refused steps and frames"
+    -- "every list of steps, permitted rounds (complete ones, but no write to or execute of 0x08) and refused steps and frames", with the
+    -- writes that document 02 permits "as well"
     (calls : List CCall) → All GivenBytes calls → permitted false names (started file names run) calls ≡ true →
     CallsDemand file names calls (afterCalls names (started file names run) calls)
 
 -- And it holds throughout, after each call of such a list: after those at its front, wherever it is cut.
 abbrev pub ThroughoutCalls : Type 0
 ThroughoutCalls =
-    (file : List ℕ) → Bytes file → checkCall file ≡ 0 →
+    (file : List ℕ) → Bytes file → TakenByRounds file →
     (names : List ℕ) → Bytes names → (run : List ℕ) → startCall names run .0 ≡ 0 →
     (calls more : List CCall) → All GivenBytes calls → permitted false names (started file names run) (calls ++ more) ≡ true →
     CallsDemand file names calls (afterCalls names (started file names run) calls)

@@ -1,6 +1,6 @@
 -- A cluster, its slaves and their files (document 01, "The cluster file", second paragraph).
 use Prim.Native.Nat.{ℕ, _+_, _*_, _-_, _/_, _%_}
-use mathlib.Core.List.{List, [], _∷_}
+use mathlib.Core.List.{List, [], _∷_, map}
 use mathlib.Core.Bool.{Bool, cond}
 use lib.ListN.{length, getD}
 use lib.Dec.{eqb, leb, ltb}
@@ -62,6 +62,10 @@ newLogicalName s = getD (bytesIn s configuration) (recordSize + 2) 0
 
 unfoldable pub logicalName : Slave → ℕ
 logicalName s = getD (bytesIn s configuration) (recordSize + 3) 0
+
+-- those of the slaves, in table order
+unfoldable pub logicalNames : Cluster → List ℕ
+logicalNames c = map logicalName (c .slaves)
 
 -- "records 2 and 3 hold the comparison value IDCV"
 unfoldable pub comparisonValue : Slave → ℕ

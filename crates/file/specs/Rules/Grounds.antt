@@ -1,6 +1,7 @@
--- Grounds 1 to 8 (document 01, "Grounds for turning something away"), each by its own name, and the first of them that holds.
+-- Grounds 1 to 8 (document 01, "Grounds for turning something away") and 22 (document 02, job 5), each by its own name, and the first
+-- of them that holds.
 use Prim.Native.Nat.{ℕ, zero, suc, _+_, _*_}
-use mathlib.Core.List.{List, [], _∷_, map}
+use mathlib.Core.List.{List, [], _∷_, _++_, map}
 use mathlib.Core.Bool.{Bool, true, false, cond, not}
 use lib.ListN.{length, getD}
 use lib.Dec.{eqb, leb, ltb}
@@ -8,7 +9,7 @@ use Rattle.file.specs.Rules.Bytes.{part, allZero}
 use Rattle.file.specs.Rules.Order.{Ground, firstOf, both, either}
 use Rattle.file.specs.Rules.Layout.{offsetWidth, editionOf, pendingFlag, zerosLength}
 use Rattle.file.specs.Rules.Layout.{headerSize, entrySize, fillLength, maxSlaves, maxLength}
-use Rattle.file.specs.Rules.Cluster.{Slave, bytesIn, lastRecord, configuration, documentation, physicalName, operationOf, noOperation, broadcastRead}
+use Rattle.file.specs.Rules.Cluster.{Slave, bytesIn, lastRecord, configuration, documentation, physicalName, logicalNames, unnamed, operationOf, noOperation, broadcastRead}
 use Rattle.file.specs.Rules.Decode.{offsetAt, fileSize, decodeAt}
 use Rattle.file.specs.Rules.Results.{Result, resultOf}
 
@@ -137,7 +138,8 @@ equalPhysicalNames w f = hasRepeat (map physicalName (decodeAt w f .slaves))
 
 -- ---- "Checked in this order"
 
--- "Equal logical names do not refuse a file.": none of these grounds is about a logical name
+-- "Equal logical names do not refuse a file.": none of these grounds is about a logical name; "rounds may still run on a file that came
+-- to hold them" (document 02, job 5)
 unfoldable pub fileGroundsAt : ℕ → List ℕ → List Ground
 fileGroundsAt w f =
     (1, wrongSize w f) ∷ (2, wrongMark f) ∷ (3, wrongEdition w f) ∷ (4, wrongLength w f) ∷ (5, wrongHeader w f) ∷
@@ -154,9 +156,20 @@ fileGrounds f = fileGroundsAt offsetWidth f
 unfoldable pub fileGround : List ℕ → ℕ
 fileGround f = fileGroundAt offsetWidth f
 
--- the grounds of the checker's own call, which loads a file from outside
+-- ---- 22: "Loading a file from outside (the checker's call and the listing program, nothing else)"
+
+-- the names other than 0xFF, those that a slave holds: 0x00 is one of them
+unfoldable pub heldNames : List ℕ → List ℕ
+heldNames [] = []
+heldNames (n ∷ ns) = cond (eqb n unnamed) (heldNames ns) (n ∷ heldNames ns)
+
+-- 22. "equal logical names on loading": "two slaves with one logical name other than 0xFF"
+unfoldable pub equalLogicalNames : ℕ → List ℕ → Bool
+equalLogicalNames w f = hasRepeat (heldNames (logicalNames (decodeAt w f)))
+
+-- "after 8"
 unfoldable pub loadGround : List ℕ → ℕ
-loadGround f = fileGround f
+loadGround f = firstOf (fileGrounds f ++ (22, equalLogicalNames offsetWidth f) ∷ [])
 
 -- what the checker's call answers
 unfoldable pub loadVerdict : List ℕ → Result (Unit {0})

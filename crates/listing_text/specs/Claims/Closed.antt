@@ -1,13 +1,13 @@
--- The listing of an accepted file in closed form, from the slaves' names at the start alone: no step of the run is in it (document 01,
--- "The listing program": "one line for each name given, in order, none for a taken name or the pass that ends the run; .. then one
--- line of totals").
+-- The listing of a file that loading accepts in closed form, from the slaves' names at the start alone: no step of the run is in it
+-- (document 01, "The listing program": "one line for each name given, in order, none for a taken name or the pass that ends the run; ..
+-- then one line of totals").
 use Prim.Native.Nat.{ℕ}
 use mathlib.Core.Path.{_≡_}
 use mathlib.Core.List.{List, [], _∷_, _++_}
 use lib.ListN.{length}
 use Rattle.file.specs.Rules.Bytes.{Bytes}
 use Rattle.file.specs.Rules.Decode.{decode}
-use Rattle.file.specs.Rules.Grounds.{fileGround}
+use Rattle.file.specs.Rules.Grounds.{loadGround}
 use Rattle.naming.specs.Rules.Account.{Named, namesIn, falling, unnamedAmong, namesHeld, namingComparisons}
 use Rattle.naming.specs.Rules.Figures.{freeNames, givings, roundsFor, comparisonsFor}
 use Rattle.listing_text.specs.Rules.Text.{nameLine, totalsLine}
@@ -29,6 +29,6 @@ closedListing slaves =
     lines (namesGiven slaves) ++
     totalsLine (length (namesGiven slaves)) (comparisonsFor slaves allNames) (roundsFor slaves allNames)
 
--- the listing of every accepted file
+-- the listing of every file that loading accepts
 abbrev pub ListingClosed : Type 0
-ListingClosed = (file : List ℕ) → Bytes file → fileGround file ≡ 0 → listing file ≡ closedListing (namesIn (decode file))
+ListingClosed = (file : List ℕ) → Bytes file → loadGround file ≡ 0 → listing file ≡ closedListing (namesIn (decode file))

@@ -79,7 +79,7 @@ endState file = listSteps mostSteps (startState file)
 unfoldable pub withTotals : ListState → List ℕ
 withTotals t = t .lines ++ totalsLine (t .given) (t .run .comparisons) (t .run .rounds)
 
--- "A refused file gives only the line `refused`, a space and its number."
+-- "A refused file gives only the line `refused`, a space and its number.": on loading, so 22 among them (document 02, job 5)
 unfoldable pub listing : List ℕ → List ℕ
 listing file = cond (eqb (loadGround file) 0) (withTotals (endState file)) (refusedLine (loadGround file))
 

@@ -7,9 +7,9 @@ use mathlib.Core.Bool.{Bool, true, false, cond, not}
 use lib.ListN.{getD}
 use lib.Dec.{eqb}
 use Rattle.file.specs.Rules.Bytes.{Bytes, All}
-use Rattle.file.specs.Rules.Order.{both}
+use Rattle.file.specs.Rules.Order.{both, either}
 use Rattle.file.specs.Rules.Results.{refused, done}
-use Rattle.file.specs.Rules.Cluster.{configuration, fileNumberOf, operationOf, readOperation}
+use Rattle.file.specs.Rules.Cluster.{configuration, unnamed, fileNumberOf, operationOf, pb2Of, readOperation, writeOperation}
 use Rattle.file.specs.Rules.Decode.{decode}
 use Rattle.file.specs.Rules.Grounds.{fileGround}
 use Rattle.frame.specs.Rules.Fireworks.{Round, multipartner, msd, msa, noRound}
@@ -49,6 +49,15 @@ callOn names s p (frame bytes buffer) =
 unfoldable pub changesConfiguration : ℕ → Bool
 changesConfiguration pb2 = both (eqb (fileNumberOf pb2) configuration) (not (eqb (operationOf pb2) readOperation))
 
+-- "The naming theorem now permits writes to record 1 of slaves with names 0x01 to 0xFE as well." (document 02, job 5): PB1, PB2 and PB3
+-- of an MSA. At 0x00 such a write reaches the same slaves and those named 0x00, so it is permitted too: any name but 0xFF.
+unfoldable pub writesNamed : ℕ → ℕ → ℕ → Bool
+writesNamed name pb2 pb3 = both (eqb pb2 (pb2Of configuration writeOperation)) (both (eqb pb3 1) (not (eqb name unnamed)))
+
+unfoldable pub permittedAddress : List ℕ → Bool
+permittedAddress bytes =
+    either (not (changesConfiguration (getD bytes 3 0))) (writesNamed (getD bytes 2 0) (getD bytes 3 0) (getD bytes 4 0))
+
 -- an accepted frame: "A complete round is an accepted MSA followed directly, refused calls aside, by an accepted MSD, or a
 -- multipartner frame; a lone MSA or MSD is none."
 unfoldable pub permittedFrame : Bool → Round → List ℕ → Bool
@@ -58,7 +67,7 @@ permittedFrame true msa bytes = false
 permittedFrame true noRound bytes = false
 permittedFrame false (multipartner r) bytes = true
 permittedFrame false msd bytes = false
-permittedFrame false msa bytes = not (changesConfiguration (getD bytes 3 0))
+permittedFrame false msa bytes = permittedAddress bytes
 permittedFrame false noRound bytes = false
 
 -- a call: a refused one always; an accepted step within no round of others
@@ -104,8 +113,8 @@ DemandThree =
     (file : List ℕ) → Bytes file → fileGround file ≡ 0 →
     -- "and list of names"
     (names : List ℕ) → Bytes names → startGround names ≡ 0 →
-    -- "every list of steps, permitted rounds (complete ones, but no write to or execute of 0x08) and refused steps and frames", from
-    -- that file and "a fresh run"
+    -- "every list of steps, permitted rounds (complete ones, but no write to or execute of 0x08) and refused steps and frames", with
+    -- the writes that document 02 permits "as well", from that file and "a fresh run"
     (calls : List Call) → All OfBytes calls → permitted names (startOn file) (fresh names) calls ≡ true →
     -- "after" it, file and run being "as the last call left" them
     Demand file names calls (afterCalls names (startOn file) (fresh names) calls .0 .file) (afterCalls names (startOn file) (fresh names) calls .1)

@@ -42,7 +42,8 @@ viewUnnamed v = eqb (v .logical) unnamed
 -- with physical name equal to IDCV take the new logical name"
 unfoldable pub unnamedChange : RunRound → SlaveView → SlaveView
 unnamedChange (poll n) v = v
-unnamedChange (writeName n) v = record { physical = v .physical; logical = unnamed; newName = n; high = v .high; low = v .low }
+unnamedChange (writeName n) v =
+    record { physical = v .physical; logical = v .logical; newName = n; high = v .high; low = v .low }
 unnamedChange (writeHigh h) v =
     record { physical = v .physical; logical = v .logical; newName = v .newName; high = h; low = v .low }
 unnamedChange (writeLow l) v =

@@ -18,7 +18,7 @@ unfoldable pub lentAfter : {A B : Type 0} → Result A → B → (A → B) → B
 lentAfter (refused n) old new = old
 lentAfter (done value) old new = new value
 
--- check a file: grounds 1 to 8
+-- check a file: grounds 1 to 8, and 22
 -- (each call here) "Every other function that outside code may call states its result, and what it leaves in lent memory, as tightly"
 unfoldable pub checkCall : List ℕ → ℕ
 checkCall file = numberIn (loadVerdict file)

@@ -5,7 +5,7 @@ use std::error::Error;
 use ttpa::TtpaError;
 
 /// Each ground with its number in the documents and a word that its text cannot do without.
-const GROUNDS: [(TtpaError, u8, &str); 22] = [
+const GROUNDS: [(TtpaError, u8, &str); 23] = [
     (TtpaError::FileSize, 1, "bytes"),
     (TtpaError::Mark, 2, "mark"),
     (TtpaError::Edition, 3, "edition"),
@@ -27,7 +27,8 @@ const GROUNDS: [(TtpaError, u8, &str); 22] = [
     (TtpaError::Trace, 19, "trace"),
     (TtpaError::TwoSenders, 20, "two slaves send"),
     (TtpaError::OwnerBuffer, 21, "owner file"),
-    (TtpaError::Other(22), 22, "no text"),
+    (TtpaError::EqualLogicalNames, 22, "logical name"),
+    (TtpaError::Other(23), 23, "no text"),
 ];
 
 #[test]

@@ -22,6 +22,7 @@ const HEADER_ZERO: usize = 13;
 const TABLE_ZERO: usize = 0x13;
 const DOCUMENTATION_NUMBER: usize = 0x1C;
 const FIRST_LOGICAL_NAME: usize = 0x27;
+const SECOND_LOGICAL_NAME: usize = 0x4B;
 const LAST_SERIAL: usize = 0x5F;
 
 /// What an answer buffer holds before a call.

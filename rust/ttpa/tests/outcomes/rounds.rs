@@ -1,6 +1,8 @@
 //! The checker and rounds.
 
-use crate::{answered, refused_files, EPOCH, M10, ROOMY};
+use crate::{
+    answered, m10_with, refused_files, EPOCH, FIRST_LOGICAL_NAME, LAST_SERIAL, M10, ROOMY, SECOND_LOGICAL_NAME,
+};
 use ttpa::{check, round, Senders, TtpaError, ANSWER_BYTES};
 
 const LONGEST_FILE: usize = 32_768;
@@ -23,6 +25,35 @@ fn a_file_is_refused_on_each_ground() {
     }
     assert_eq!(check(&[0; LONGEST_FILE + 1]), Err(TtpaError::FileSize));
     assert_eq!(check(&[0; LONGEST_FILE]), Err(TtpaError::Mark));
+}
+
+#[test]
+fn equal_logical_names_are_refused_on_loading_only() {
+    for name in [0x00, 0x01, 0xFE] {
+        let mut file = m10_with(FIRST_LOGICAL_NAME, name);
+        assert_eq!(check(&file), Ok(()));
+        file[SECOND_LOGICAL_NAME] = name;
+        assert_eq!(check(&file), Err(TtpaError::EqualLogicalNames));
+        assert_eq!(round(&mut file, &ROUND_2, &mut ROOMY.clone()), Ok(Senders(0)));
+        assert_eq!(check(&file), Err(TtpaError::EqualLogicalNames));
+        file[LAST_SERIAL] = 0x10;
+        assert_eq!(check(&file), Err(TtpaError::EqualPhysicalNames));
+    }
+}
+
+/// A foreign master writes 11 22 33 05 to record 1 of 0x08 at 0xFF.
+#[test]
+fn a_write_renames_nobody() {
+    let (mut file, mut answer) = (M10.to_vec(), ROOMY);
+    assert_eq!(round(&mut file, &M2, &mut answer), Ok(Senders(0)));
+    assert_eq!(round(&mut file, &[0x49, 0x11, 0x22, 0x33, 0x05, 0x4C], &mut answer), Ok(Senders(0)));
+    assert_eq!(answer, answered(0x49, &[]));
+    let mut written = M10.to_vec();
+    written[EPOCH..EPOCH + 5].copy_from_slice(&[1, 1, 0xFF, 0x21, 1]);
+    for name in [FIRST_LOGICAL_NAME, SECOND_LOGICAL_NAME] {
+        written[name - 3..=name].copy_from_slice(&[0x11, 0x22, 0x33, 0xFF]);
+    }
+    assert_eq!(file, written);
 }
 
 #[test]

@@ -1,10 +1,7 @@
 //! Naming runs.
 
-use crate::{answered, m10_with, refused_files, EPOCH, FIRST_LOGICAL_NAME, M10, ROOMY};
+use crate::{answered, m10_with, refused_files, EPOCH, FIRST_LOGICAL_NAME, M10, ROOMY, SECOND_LOGICAL_NAME};
 use ttpa::{End, Run, Senders, TtpaError, ANSWER_BYTES};
-
-/// The logical name of M10's second slave.
-const SECOND_LOGICAL_NAME: usize = 0x4B;
 
 /// Steps to the end; the masks of the steps.
 fn run_to_end(run: &mut Run, file: &mut [u8], names: &[u8]) -> Vec<Senders> {

@@ -11,8 +11,8 @@ has-unfit-requires c κs = search needs
 returns : tie.Need-returns
 returns c = search (names-unfit)
 
-has-twice-requires : tie.Need-has-twice-requires
-has-twice-requires c κs = search needs
+is-held-twice-requires : tie.Need-is-held-twice-requires
+is-held-twice-requires c κs = search needs
 
 returns-2 : tie.Need-returns-2
 returns-2 c = search (names-twice)
@@ -22,4 +22,4 @@ returns-3 c = search (names-fit)
 
 pub names-ground-spec : {M : Type 1} → statement M
 names-ground-spec =
-    tie.close (tie.spec has-unfit-requires returns has-twice-requires returns-2 returns-3)
+    tie.close (tie.spec has-unfit-requires returns is-held-twice-requires returns-2 returns-3)

@@ -1,12 +1,11 @@
--- `naming::names::has_twice` meets its contract: the names from the place on are the ones seen, and none of them occurs twice.
+-- `file::held::is_held_twice` meets its contract: the marks are those of the names held from the place on, and none of these occurs twice.
 -- Assumes nothing.
 use Prim.Native.Nat.{_-_}
 use native.Mathlib.Omega.{arith}
 use borrow.Author.Needs.{needs}
-use Rattle.file.proofs.LookingLaws.{few-once}
-use Rattle.naming.proofs.NameLaws.{NamesSeen, seen-start, seen-here, seen-next, seen-end}
-use Rattle.naming.proofs.names.has_twice.Statement.{statement}
-use Rattle.naming.proofs.names.has_twice.Tie as tie
+use Rattle.file.proofs.HeldLaws.{few-held, NamesSeen, seen-start, seen-here, seen-next, seen-end}
+use Rattle.file.proofs.held.is_held_twice.Statement.{statement}
+use Rattle.file.proofs.held.is_held_twice.Tie as tie
 
 abbrev Inv-loop : tie.InvT-loop
 Inv-loop names seen₀ i₀ seen i = NamesSeen names seen i
@@ -15,7 +14,7 @@ abbrev μ-loop : tie.MeasureT-loop
 μ-loop names seen₀ i₀ seen i = i
 
 returns : tie.Need-returns Inv-loop μ-loop
-returns c = search (needs, few-once)
+returns c = search (needs, few-held)
 
 loop-holds : tie.Need-loop-holds Inv-loop μ-loop
 loop-holds c = seen-start _
@@ -26,8 +25,8 @@ sub-i c = search needs
 shared-slice-read-name : tie.Need-shared-slice-read-name Inv-loop μ-loop
 shared-slice-read-name c = let h = c .before .before .loop .inv .within in omega arith
 
-cast-name : tie.Need-cast-name Inv-loop μ-loop
-cast-name c = omega (arith, c .shared-slice-known .given (c .before .before .loop .i - 1))
+cast-mark : tie.Need-cast-mark Inv-loop μ-loop
+cast-mark c = omega (arith, c .shared-slice-known .given (c .before .before .loop .i - 1))
 
 array-read-if2 : tie.Need-array-read-if2 Inv-loop μ-loop
 array-read-if2 c = omega (arith, c .shared-slice-known .given (c .before .before .loop .i - 1), c .before .before .loop .inv .room)
@@ -51,13 +50,13 @@ loop-again : tie.Need-loop-again Inv-loop μ-loop
 loop-again c =
     let known : tie.After-shared-slice-known Inv-loop μ-loop = search in
     let loop = known .before .before .loop in
-    seen-next (loop .inv) (known .before .loop-test .taken) (omega (arith, known .shared-slice-known .given (loop .i - 1))) (c .if2 .left)
+    seen-next (loop .inv) (known .before .loop-test .taken) (omega (arith, known .shared-slice-known .given (loop .i - 1))) (c .before .if2 .left)
 
 returns-3 : tie.Need-returns-3 Inv-loop μ-loop
 returns-3 c = seen-end (c .before .loop .inv) (c .loop-test .left)
 
-pub has-twice-spec : {M : Type 1} → statement M
-has-twice-spec =
+pub is-held-twice-spec : {M : Type 1} → statement M
+is-held-twice-spec =
     tie.close
     (tie.spec
     Inv-loop
@@ -66,7 +65,7 @@ has-twice-spec =
     loop-holds
     sub-i
     shared-slice-read-name
-    cast-name
+    cast-mark
     array-read-if2
     returns-2
     array-write-seen
