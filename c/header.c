@@ -82,7 +82,9 @@ VALUE(TTPA_RUN_STEP, 2);
 VALUE(TTPA_RUN_VALUE, 3);
 VALUE(TTPA_RUN_ROUNDS, 4);
 VALUE(TTPA_RUN_COMPARISONS, 5);
-VALUE(TTPA_RUN_WORDS, 6);
+VALUE(TTPA_RUN_HIGH, 6);
+VALUE(TTPA_RUN_LOW, 7);
+VALUE(TTPA_RUN_WORDS, 8);
 
 VALUE(TTPA_RUNNING, 0);
 VALUE(TTPA_ALL_NAMED, 1);
@@ -455,15 +457,38 @@ static void written_names(void)
 
 static const uint8_t names[] = {0x21, 0x22, 0x23};
 
-static int run_is(const uint64_t *run, uint64_t end, uint64_t index, uint64_t step, uint64_t value,
-                  uint64_t rounds, uint64_t compared)
+#define OLD_WORD UINT64_C(0xEEEEEEEEEEEEEEEE)
+
+/* The words of a run, and a word after them. */
+static uint64_t run[TTPA_RUN_WORDS + 1];
+
+static void put_run(uint64_t end, uint64_t index, uint64_t step, uint64_t value)
 {
-    return run[TTPA_RUN_END] == end && run[TTPA_RUN_INDEX] == index && run[TTPA_RUN_STEP] == step &&
-           run[TTPA_RUN_VALUE] == value && run[TTPA_RUN_ROUNDS] == rounds &&
-           run[TTPA_RUN_COMPARISONS] == compared;
+    memset(run, 0, sizeof run);
+    run[TTPA_RUN_END] = end;
+    run[TTPA_RUN_INDEX] = index;
+    run[TTPA_RUN_STEP] = step;
+    run[TTPA_RUN_VALUE] = value;
+    run[TTPA_RUN_WORDS] = OLD_WORD;
 }
 
-static uint8_t step(uint64_t *run, const uint8_t *list, size_t listed, size_t answer_bytes)
+static int run_is(uint64_t end, uint64_t index, uint64_t step, uint64_t value)
+{
+    return run[TTPA_RUN_END] == end && run[TTPA_RUN_INDEX] == index && run[TTPA_RUN_STEP] == step &&
+           run[TTPA_RUN_VALUE] == value && run[TTPA_RUN_WORDS] == OLD_WORD;
+}
+
+static int counts_are(uint64_t rounds, uint64_t compared)
+{
+    return run[TTPA_RUN_ROUNDS] == rounds && run[TTPA_RUN_COMPARISONS] == compared;
+}
+
+static int halves_are(uint64_t high, uint64_t low)
+{
+    return run[TTPA_RUN_HIGH] == high && run[TTPA_RUN_LOW] == low;
+}
+
+static uint8_t step(const uint8_t *list, size_t listed, size_t answer_bytes)
 {
     return ttpa_step(cluster, sizeof cluster, run, list, listed, answer, answer_bytes, &senders);
 }
@@ -473,59 +498,89 @@ static void starts(void)
     static const uint8_t broadcast[] = {0x21, TTPA_NAME_BROADCAST, 0x21};
     static const uint8_t unnamed[] = {0x21, 0x21, TTPA_NAME_UNNAMED};
     static const uint8_t twice[] = {0x21, 0x22, 0x21};
-    uint64_t run[TTPA_RUN_WORDS] = {9, 9, 9, 9, 9, 9};
+    memset(run, OLD, sizeof run);
     EXPECT(ttpa_start(broadcast, sizeof broadcast, run) == TTPA_REFUSED_LISTED_NAME);
     EXPECT(ttpa_start(unnamed, sizeof unnamed, run) == TTPA_REFUSED_LISTED_NAME);
     EXPECT(ttpa_start(twice, sizeof twice, run) == TTPA_REFUSED_REPEATED_NAME);
-    EXPECT(run_is(run, 9, 9, 9, 9, 9, 9));
+    EXPECT(run_is(OLD_WORD, OLD_WORD, OLD_WORD, OLD_WORD));
+    EXPECT(counts_are(OLD_WORD, OLD_WORD) && halves_are(OLD_WORD, OLD_WORD));
     EXPECT(ttpa_start(NULL, 0, run) == TTPA_ACCEPTED);
-    EXPECT(run_is(run, TTPA_NAMES_USED_UP, 0, 0, 0, 0, 0));
+    EXPECT(run_is(TTPA_NAMES_USED_UP, 0, 0, 0) && counts_are(0, 0) && halves_are(0, 0));
     EXPECT(ttpa_start(names, sizeof names, run) == TTPA_ACCEPTED);
-    EXPECT(run_is(run, TTPA_RUNNING, 0, 0, 0, 0, 0));
+    EXPECT(run_is(TTPA_RUNNING, 0, 0, 0) && counts_are(0, 0) && halves_are(0, 0));
 }
 
 /* Steps over the first names of the list, at most so many; the number of the last one. */
-static uint8_t steps(uint64_t *run, size_t listed, unsigned most)
+static uint8_t steps(size_t listed, unsigned most)
 {
     uint8_t number = TTPA_ACCEPTED;
     for (unsigned made = 0; made < most && run[TTPA_RUN_END] == TTPA_RUNNING; made++) {
-        number = step(run, names, listed, sizeof answer);
+        number = step(names, listed, sizeof answer);
     }
     return number;
 }
 
-/* One name: the fourth round is the comparison with 0, at which both answer. The slave with the greater
- * physical name takes it in 200 rounds with 65 comparisons. */
+/* One name: the fourth round is the comparison with 0, at which both answer. The fifth writes the high half of bit
+ * 63; the low half is 0 as before, so the place after it is left out. The slave with the greater physical name,
+ * whose bit 32 is 1 and bit 0 is 0, takes the name in 135 rounds with 65 comparisons. */
 static void one_name(void)
 {
-    uint64_t run[TTPA_RUN_WORDS];
     renew();
+    put_run(9, 9, 9, 9);
     EXPECT(ttpa_start(names, 1, run) == TTPA_ACCEPTED);
-    EXPECT(steps(run, 1, 4) == TTPA_ACCEPTED);
-    EXPECT(run_is(run, TTPA_RUNNING, 0, 4, 0, 4, 1));
+    EXPECT(steps(1, 4) == TTPA_ACCEPTED);
+    EXPECT(run_is(TTPA_RUNNING, 0, 4, 0) && counts_are(4, 1) && halves_are(0, 0));
     EXPECT(senders == 1 << 1 && answer[1] == 0x00 && silent_from(TTPA_FIREWORK_MSD, 2));
-    EXPECT(steps(run, 1, 1000) == TTPA_ACCEPTED);
-    EXPECT(run_is(run, TTPA_NAMES_USED_UP, 1, 0, UINT64_C(0x00000007000000A0), 200, 65));
+    EXPECT(steps(1, 1) == TTPA_ACCEPTED);
+    EXPECT(run_is(TTPA_RUNNING, 0, 6, 0) && counts_are(5, 1) && halves_are(0x80000000, 0));
+    EXPECT(steps(1, 1000) == TTPA_ACCEPTED);
+    EXPECT(run_is(TTPA_NAMES_USED_UP, 1, 0, UINT64_C(0x00000007000000A0)));
+    EXPECT(counts_are(135, 65) && halves_are(0x00000007, 0x000000A0));
     EXPECT(cluster[FIRST_NAME] == TTPA_NAME_UNNAMED && cluster[SECOND_NAME] == names[0]);
-    EXPECT(cluster[EPOCH] == 400 % 256);
+    EXPECT(cluster[EPOCH] == 270 % 256);
 }
 
-/* Three names for two slaves: document 01's figures of M10. Then a step alters nothing. */
+/* A run stored at the high half of bit 63: with both halves stored the step asks who replies; with another low half
+ * it writes that one; a stored half of more than 32 bits is never the one to be written. */
+static void needless_writes(void)
+{
+    renew();
+    put_run(TTPA_RUNNING, 0, 4, 0);
+    run[TTPA_RUN_HIGH] = 0x80000000;
+    EXPECT(steps(1, 1) == TTPA_ACCEPTED);
+    EXPECT(run_is(TTPA_RUNNING, 0, 7, UINT64_C(1) << 63) && counts_are(1, 1) && halves_are(0x80000000, 0));
+    EXPECT(senders == 1 << 1);
+    put_run(TTPA_RUNNING, 0, 4, 0);
+    run[TTPA_RUN_HIGH] = 0x80000000;
+    run[TTPA_RUN_LOW] = 5;
+    EXPECT(steps(1, 1) == TTPA_ACCEPTED);
+    EXPECT(run_is(TTPA_RUNNING, 0, 6, 0) && counts_are(1, 0) && halves_are(0x80000000, 0));
+    put_run(TTPA_RUNNING, 0, 4, 0);
+    run[TTPA_RUN_HIGH] = UINT64_C(0x180000000);
+    EXPECT(steps(1, 1) == TTPA_ACCEPTED);
+    EXPECT(run_is(TTPA_RUNNING, 0, 6, 0) && counts_are(1, 0) && halves_are(0x80000000, 0));
+    EXPECT(senders == 0);
+}
+
+/* Three names for two slaves: the figures of M10, two passes of 135 rounds and one of 4. Then a step alters
+ * nothing. */
 static void all_names(void)
 {
-    uint64_t run[TTPA_RUN_WORDS];
     uint8_t named[sizeof cluster];
     renew();
+    put_run(9, 9, 9, 9);
     EXPECT(ttpa_start(names, sizeof names, run) == TTPA_ACCEPTED);
-    EXPECT(steps(run, sizeof names, 1000) == TTPA_ACCEPTED);
-    EXPECT(run_is(run, TTPA_ALL_NAMED, 2, 3, UINT64_C(0x0000000700000010), 404, 131));
+    EXPECT(steps(sizeof names, 1000) == TTPA_ACCEPTED);
+    EXPECT(run_is(TTPA_ALL_NAMED, 2, 3, UINT64_C(0x0000000700000010)));
+    EXPECT(counts_are(274, 131) && halves_are(0, 0));
     EXPECT(cluster[FIRST_NAME] == names[1] && cluster[SECOND_NAME] == names[0]);
     EXPECT(senders == 0 && silent_from(TTPA_FIREWORK_MSD, 1));
     memcpy(named, cluster, sizeof named);
     memset(answer, OLD, sizeof answer);
     senders = OLD_SENDERS;
-    EXPECT(step(run, names, sizeof names, sizeof answer) == TTPA_ACCEPTED);
-    EXPECT(run_is(run, TTPA_ALL_NAMED, 2, 3, UINT64_C(0x0000000700000010), 404, 131));
+    EXPECT(step(names, sizeof names, sizeof answer) == TTPA_ACCEPTED);
+    EXPECT(run_is(TTPA_ALL_NAMED, 2, 3, UINT64_C(0x0000000700000010)));
+    EXPECT(counts_are(274, 131) && halves_are(0, 0));
     EXPECT(senders == OLD_SENDERS && is_old(answer, sizeof answer));
     EXPECT(memcmp(cluster, named, sizeof named) == 0);
 }
@@ -534,16 +589,18 @@ static void refused_steps(void)
 {
     static const uint8_t unfit[] = {0x21, 0x21, TTPA_NAME_UNNAMED};
     static const uint8_t twice[] = {0x21, 0x21, 0x22};
-    uint64_t run[TTPA_RUN_WORDS] = {TTPA_NAMES_USED_UP + 1, 0, 0, 0, 0, 0};
     renew();
+    put_run(TTPA_NAMES_USED_UP + 1, 0, 0, 0);
+    run[TTPA_RUN_HIGH] = 5;
+    run[TTPA_RUN_LOW] = 6;
     EXPECT(ttpa_step(NULL, 0, run, unfit, sizeof unfit, NULL, 0, &senders) == TTPA_REFUSED_FILE_SIZE);
     EXPECT(ttpa_step(cluster, sizeof cluster - 1, run, unfit, sizeof unfit, NULL, 0, &senders) ==
            TTPA_REFUSED_LENGTH_FIELD);
-    EXPECT(step(run, unfit, sizeof unfit, TTPA_ANSWER_BYTES - 1) == TTPA_REFUSED_SHORT_BUFFER);
-    EXPECT(step(run, unfit, sizeof unfit, TTPA_ANSWER_BYTES) == TTPA_REFUSED_LISTED_NAME);
-    EXPECT(step(run, twice, sizeof twice, TTPA_ANSWER_BYTES) == TTPA_REFUSED_REPEATED_NAME);
-    EXPECT(step(run, NULL, 0, TTPA_ANSWER_BYTES) == TTPA_REFUSED_POSITION);
-    EXPECT(run_is(run, TTPA_NAMES_USED_UP + 1, 0, 0, 0, 0, 0));
+    EXPECT(step(unfit, sizeof unfit, TTPA_ANSWER_BYTES - 1) == TTPA_REFUSED_SHORT_BUFFER);
+    EXPECT(step(unfit, sizeof unfit, TTPA_ANSWER_BYTES) == TTPA_REFUSED_LISTED_NAME);
+    EXPECT(step(twice, sizeof twice, TTPA_ANSWER_BYTES) == TTPA_REFUSED_REPEATED_NAME);
+    EXPECT(step(NULL, 0, TTPA_ANSWER_BYTES) == TTPA_REFUSED_POSITION);
+    EXPECT(run_is(TTPA_NAMES_USED_UP + 1, 0, 0, 0) && counts_are(0, 0) && halves_are(5, 6));
     EXPECT(senders == OLD_SENDERS && is_old(answer, sizeof answer));
     EXPECT(memcmp(cluster, m10, sizeof m10) == 0);
 }
@@ -560,8 +617,6 @@ static const uint8_t captured[] = {
     /* M1, 49, 49, BA, 54 (no firework), 78, an empty frame, 97, 55 (too short), 49 00 (too long) */
     0x55, 0x05, 0xFF, 0x22, 0x02, 0x8F, 0x49, 0x49, 0xBA, 0x54, 0x78, 0x97, 0x55, 0x49, 0x00,
 };
-
-#define OLD_WORD UINT64_C(0xEEEEEEEEEEEEEEEE)
 
 /* The report, and a word after it. */
 static uint64_t report[TTPA_REPORT_WORDS + 1];
@@ -741,6 +796,7 @@ int main(void)
     written_names();
     starts();
     one_name();
+    needless_writes();
     all_names();
     refused_steps();
     traces();

@@ -33,12 +33,12 @@ extern "C" {
 /* The version of this header and of the library made from the same sources. The archive does not carry it:
  * keep the two together. */
 #define TTPA_VERSION_MAJOR 0
-#define TTPA_VERSION_MINOR 5
+#define TTPA_VERSION_MINOR 6
 #define TTPA_VERSION_PATCH 0
 
 /* What the library takes: code and constants of all calls, and the most stack that a call uses, with its
  * return address and arguments. No other memory. Both are measured, and rounded up. */
-#define TTPA_CODE_BYTES 8704
+#define TTPA_CODE_BYTES 9728
 #define TTPA_STACK_BYTES 2176
 
 /* What the calls return: 0, or the documents' number for the ground on which something was refused. */
@@ -178,16 +178,24 @@ static inline const char *ttpa_refusal_text(uint8_t number)
 #define TTPA_FILE_DOCUMENTATION 0x3D
 
 /* The words of a naming run, by their place in run. A run may be stored, together with its list of names,
- * and taken up later, by another program too: it is six numbers of 64 bits, and in which byte order they are
+ * and taken up later, by another program too: it is eight numbers of 64 bits, and in which byte order they are
  * stored is the caller's matter. 17 refuses an end mark above 2 and words outside their limits; other words are
- * carried on as they stand, so a store that may be damaged needs a check of its own. */
+ * carried on as they stand, so a store that may be damaged needs a check of its own.
+ *
+ * The rounds for a name have 200 places: 0 asks whether it is taken; 1 to 195 are 65 comparisons, with 0 and then
+ * with each bit from 63 to 0, each of which writes the high half of its value, writes the low half and asks who
+ * replies; 196 to 199 write the new name and both halves of the value, and give the name. After the first
+ * comparison a half that equals the one last written is not written again; the step stands at the next place whose
+ * round is made. A run stored with the step at a write that is not needed goes on with the next round that is. */
 #define TTPA_RUN_END 0         /* an end mark, see below */
 #define TTPA_RUN_INDEX 1       /* place in the list of the name that is next */
 #define TTPA_RUN_STEP 2        /* place of the next round among those for this name, 0 to 199 */
 #define TTPA_RUN_VALUE 3       /* the physical name looked for, as far as found; whole when a name is given */
 #define TTPA_RUN_ROUNDS 4      /* rounds made in the whole run */
 #define TTPA_RUN_COMPARISONS 5 /* comparisons made in the whole run */
-#define TTPA_RUN_WORDS 6
+#define TTPA_RUN_HIGH 6        /* the high half last written, below 2^32; 0 in a fresh run */
+#define TTPA_RUN_LOW 7         /* the low half last written, likewise */
+#define TTPA_RUN_WORDS 8
 
 /* The end marks. */
 #define TTPA_RUNNING 0

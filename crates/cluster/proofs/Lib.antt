@@ -32,10 +32,11 @@ pub mod Settled
 pub mod DataLaws
 pub mod RoundNumbers
 pub mod FrameLaws
--- the document's cases, frames that the writers wrote, and the ways of the round call
+-- the document's cases, frames that the writers wrote, the ways of the round call, and a complete round
 pub mod Cases
 pub mod RoundCall
 pub mod Sent
+pub mod SentRounds
 pub mod FrameCall
 -- the answers are told apart
 pub mod Distinct

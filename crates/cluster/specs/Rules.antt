@@ -1,7 +1,9 @@
--- What document 01 says of a round on a cluster, in its order: "What slaves do", "Multipartner rounds", and one frame on a file.
+-- What document 01 says of a round on a cluster, in its order: "What slaves do", "Multipartner rounds", one frame on a file, and a
+-- complete master-slave round.
 pub mod Bus
 pub mod Slaves
 pub mod Entries
 pub mod Multipartner
 pub mod Grounds
 pub mod Round
+pub mod MasterSlave

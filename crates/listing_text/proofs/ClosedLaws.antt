@@ -25,24 +25,30 @@ use Rattle.file.proofs.Order.{byCase, clash, both-true, both-false-right}
 use Rattle.cluster.specs.Rules.Grounds.{shortAnswer}
 use Rattle.naming.specs.Inner.View.{SlaveView}
 use Rattle.naming.specs.Rules.Rounds.{sent}
-use Rattle.naming.specs.Rules.Run.{Position, running, fresh, PassPlace, nextRound, countLimit, lastStep}
-use Rattle.naming.specs.Rules.Step.{StepDone, madeBy, stepGround, stepOn, roundSent}
+use Rattle.naming.specs.Rules.Run.{Position, running, fresh, PassPlace, baptize, nextRound, countLimit, lastStep}
+use Rattle.naming.specs.Inner.PassPlaces.{stepOf}
+use Rattle.file.specs.Rules.Grounds.{isAmong}
+use Rattle.naming.specs.Rules.Step.{StepDone, madeBy, stepGround, stepOn}
+use Rattle.cluster.specs.Rules.MasterSlave.{roundSent}
 use Rattle.file.specs.Rules.Results.{Result, done}
 use Rattle.file.specs.Rules.Order.{firstOf}
 use Rattle.naming.specs.Rules.Account.{StepArguments, step, argumentsGround}
-use Rattle.naming.specs.Rules.Account.{Named, Account, namesOf, namesIn, accountOf, accountCall, accountAfter, oneRound, comparisonsOf, comparisonsAfter, falling, unnamedAmong, namesHeld, namingRounds, namingComparisons, endingRounds}
+use Rattle.naming.specs.Rules.Account.{Named, Account, namesOf, namesIn, accountOf, accountCall, accountAfter, oneRound, comparisonsOf, highAgain, falling, unnamedAmong, namesHeld, namingComparisons, endingRounds}
 use Rattle.naming.specs.Rules.Figures.{roundsFor, comparisonsFor, namesAfter}
 use Rattle.naming.specs.Claims.Demand.{State, startOn, callOn, permittedCall, of-step}
 use Rattle.naming.proofs.Places.{LegalPlace, inner, at-baptize, step-lt}
 use Rattle.naming.proofs.Search.{cleared-none}
-use Rattle.naming.proofs.Simulation.{Found, At, Tie, going, over, fresh-at}
-use Rattle.naming.proofs.Closed.{due-bound}
+use Rattle.naming.proofs.Simulation.{Found, position, At, Tie, going, over, needlessAt, needless-here, inner-short, fresh-at}
+use Rattle.naming.proofs.Walk.{pastOf, past-last}
+use Rattle.naming.proofs.Tally.{none-compared}
+use Rattle.naming.proofs.Closed.{mostRounds, due-bound}
 use Rattle.naming.proofs.Sorted.{length-falling}
 use Rattle.naming.proofs.Start.{Slaves, start-facts}
 use Rattle.naming.proofs.Abstract.{Between, all-made, one-more, runCalls, all-calls, stays-fit, tie-agree, tie-sendable, tally-running, tally-ended}
 use Rattle.naming.proofs.Demand.{unnamed-most, rounds-whole, tally-start, rounds-few, comparisons-few}
 use Rattle.naming.proofs.FromFile.{names-of-view, legal-slaves, legal-few}
-use Rattle.naming.proofs.StepRound.{buffer-long, round-is}
+use Rattle.cluster.proofs.SentRounds.{buffer-long, round-is}
+use Rattle.naming.proofs.StepRound.{may-send}
 use Rattle.naming.proofs.ByteLaws.{Good, viewIn, Allowed, byte-laws, step-ground}
 use Rattle.naming.proofs.StepLaws.{step-made}
 use Rattle.listing_text.specs.Rules.Text.{nameLine, totalsLine, refusedLine}
@@ -50,13 +56,15 @@ use Rattle.listing_text.specs.Rules.Listing.{allNames, ListState, isMade
 use Rattle.listing_text.specs.Claims.Edition.{UnknownEditionListed}
 use Rattle.listing_text.specs.Claims.Closed.{lines, namesGiven, closedListing, ListingClosed}
 use Rattle.listing_text.proofs.ListLaws.{length-names}
-use Rattle.listing_text.proofs.GivingLaws.{names-accepted, toGive, NoneGiven, OneGiven, Gives, none-given, one-given, RoundMade, nothing-left, account-round}
+use Rattle.listing_text.proofs.GivingLaws.{names-accepted, toGive, LastFor, GivesNext, NoneGiven, OneGiven, Gives, none-given, one-given, RoundMade, nothing-left, account-round}
 
 -- ---- where the run is, by the account
 
--- the place of the pass, the names left, and before the last round of a pass the value, which is the greatest waiting name
+-- it stands at the last step of a pass exactly where the account's next round gives a name; the names left; and before the last round
+-- of a pass the value, which is the greatest waiting name
 record Here (names : List ℕ) (p : Position) (a : Account) : Type 0 where
-  place : p .step ≡ a .k
+  gives : p .step ≡ lastStep → GivesNext a
+  last : GivesNext a → p .step ≡ lastStep
   left : drop (p .index) names ≡ a .left
   found : p .step ≡ lastStep → p .value ≡ getD (a .waiting) 0 0
 
@@ -64,14 +72,42 @@ greatest : (value : ℕ) (ws : List ℕ) → Found 0 value ws → value ≡ getD
 greatest value [] f = absurd f
 greatest value (p ∷ ps) f = f ∙ cleared-none p
 
+last-for : (value k : ℕ) (ws : List ℕ) → Found 0 value ws → k ≡ pastOf baptize ws → LastFor ws k
+last-for value k [] f e = absurd f
+last-for value k (p ∷ ps) f e = ap suc e ∙ past-last p ps
+
 last-found :
-    {names : List ℕ} {vs : List SlaveView} {l : PassPlace} {index step value rounds comparisons n done : ℕ} {ns ws held : List ℕ} {slaves : List Named} →
-    LegalPlace l → At names vs l index step value rounds comparisons n ns ws slaves held done → step ≡ lastStep → value ≡ getD ws 0 0
-last-found (inner h) i e = absurd (omega (arith, step-lt h, i .place))
+    {names : List ℕ} {vs : List SlaveView} {l : PassPlace} {index step value rounds comparisons h l′ n done k : ℕ} {ns ws held : List ℕ} {slaves : List Named} →
+    LegalPlace l → At names vs l index step value rounds comparisons h l′ n ns ws slaves held done k → step ≡ lastStep → value ≡ getD ws 0 0
+last-found (inner x) i e = absurd (omega (arith, step-lt x, i .place))
 last-found {value = value} {ws = ws} at-baptize i e = greatest value ws (i .known .1)
 
+last-gives :
+    {names : List ℕ} {vs : List SlaveView} {l : PassPlace} {index step value rounds comparisons h l′ n done k : ℕ} {ns ws held : List ℕ} {slaves : List Named} →
+    LegalPlace l → At names vs l index step value rounds comparisons h l′ n ns ws slaves held done k → step ≡ lastStep →
+    (isAmong n held ≡ false) × LastFor ws k
+last-gives (inner x) i e = absurd (omega (arith, step-lt x, i .place))
+last-gives {value = value} {k = k} {ws = ws} at-baptize i e = (i .known .0, last-for value k ws (i .known .1) (i .made))
+
+gives-last :
+    {names : List ℕ} {vs : List SlaveView} {l : PassPlace} {index step value rounds comparisons h l′ n done k : ℕ} {ns : List ℕ} (ws : List ℕ)
+    {held : List ℕ} {slaves : List Named} → LegalPlace l → At names vs l index step value rounds comparisons h l′ n ns ws slaves held done k →
+    needlessAt l n value (position running index step value rounds comparisons h l′) ≡ false → LastFor ws k → step ≡ lastStep
+unfolding stepOf
+gives-last [] x i real f = absurd f
+gives-last {names} {vs} {l} {index} {step} {value} {rounds} {comparisons} {h} {l′} {n} {done} {k} {ns} (p ∷ ps) {held} {slaves} (inner x) i real f =
+    let short = inner-short names vs index step value rounds comparisons h l′ n ns p ps slaves held done k x i real in
+    absurd (omega arith)
+gives-last (p ∷ ps) at-baptize i real f = i .place
+
 tie-here : {names : List ℕ} {vs : List SlaveView} {p : Position} {a : Account} → Tie names vs p a → p .end ≡ running → Here names p a
-tie-here (going i) m = record { place = refl; left = i .here; found = last-found (i .legal) i }
+tie-here (going {ws = ws} i real) m =
+    record {
+      gives = last-gives (i .legal) i;
+      last = λ g. gives-last ws (i .legal) i (sym (needless-here i) ∙ real) (g .1);
+      left = i .here;
+      found = last-found (i .legal) i;
+    }
 tie-here (over o) m = absurd (omega (arith, o .some))
 
 first-left : (names : List ℕ) (index : ℕ) {left : List ℕ} → drop index names ≡ left → getD names index 0 ≡ getD left 0 0
@@ -105,7 +141,7 @@ record Steps (slaves : List Named) (s : Result StepDone × Position × List ℕ 
 abbrev stateAfter : ListState → Result StepDone × Position × List ℕ × List ℕ → ListState
 stateAfter t s = cond (givesName (s .0) (t .run)) (withName t s) (withoutName t s)
 
-module _ (slaves : List Named) (few : namingRounds * length slaves + endingRounds + 256 < countLimit) where
+module _ (slaves : List Named) (few : mostRounds * length slaves + endingRounds + 256 < countLimit) where
   module _
       (file : List ℕ) (p : Position) (buffer : List ℕ) {a : Account} (h : Tied slaves file p a) (long : shortAnswer buffer ≡ false)
       (m : p .end ≡ running) where
@@ -138,12 +174,12 @@ module _ (slaves : List Named) (few : namingRounds * length slaves + endingRound
     long-on : shortAnswer (roundSent file (sent (nextRound allNames p)) buffer .1) ≡ false
     unfolding startOn shortAnswer
     long-on =
-        rw (round-is file buffer (h .good .bytes) (h .good .accepted) long (tie-sendable (h .tie) m))
+        rw (round-is file buffer (h .good .bytes) (h .good .accepted) long (may-send (tie-sendable (h .tie) m)))
         (buffer-long _ _ buffer long)
 
     made-on : isMade (done (madeBy (roundSent file (sent (nextRound allNames p)) buffer .0))) ≡ true
     unfolding startOn shortAnswer madeBy isMade
-    made-on = rw (round-is file buffer (h .good .bytes) (h .good .accepted) long (tie-sendable (h .tie) m))
+    made-on = rw (round-is file buffer (h .good .bytes) (h .good .accepted) long (may-send (tie-sendable (h .tie) m)))
 
     steps : Steps slaves (stepOn file p allNames buffer) (oneRound a)
     steps =
@@ -157,7 +193,7 @@ module _ (slaves : List Named) (few : namingRounds * length slaves + endingRound
     after-step-withoutName : NoneGiven a b → Beside slaves (stateAfter t s) b
     unfolding givesName withoutName
     after-step-withoutName g =
-        let no : t .run .step ≡ lastStep → ⊥ = λ l. g .within (sym (here .place) ∙ l) in
+        let no : t .run .step ≡ lastStep → ⊥ = λ l. g .within (here .gives l) in
         rw (both-false-right (isMade (s .0)) (ne-eqb (t .run .step) lastStep no))
         (record {
           tied = st .tied;
@@ -170,8 +206,8 @@ module _ (slaves : List Named) (few : namingRounds * length slaves + endingRound
 
     -- between passes the comparisons are those of the passes done
     all-compared : b .k ≡ 0 → s .1 .comparisons ≡ b .done
-    unfolding comparisonsOf comparisonsAfter
-    all-compared z = tie-agree (st .tied .tie) .comparisons ∙ rw z (omega arith)
+    unfolding comparisonsOf
+    all-compared z = tie-agree (st .tied .tie) .comparisons ∙ rw z (omega (arith, none-compared (highAgain (b .waiting))))
 
     -- the line is that of the name given
     line : OneGiven a b →
@@ -179,12 +215,12 @@ module _ (slaves : List Named) (few : namingRounds * length slaves + endingRound
     unfolding lines
     line g =
         let c : s .1 .comparisons - t .begun ≡ namingComparisons = omega (arith, all-compared (g .over), g .compared, h .begun) in
-        rw (first-left allNames (t .run .index) (here .left), here .found (here .place ∙ g .last), c, g .next)
+        rw (first-left allNames (t .run .index) (here .left), here .found (here .last (g .last)), c, g .next)
 
     after-step-named : OneGiven a b → Beside slaves (stateAfter t s) b
     unfolding givesName withName
     after-step-named g =
-        rw (both-true (st .is-made) (eq-eqb (t .run .step) lastStep (here .place ∙ g .last)))
+        rw (both-true (st .is-made) (eq-eqb (t .run .step) lastStep (here .last (g .last))))
         (record {
           tied = st .tied;
           long = st .long;
@@ -214,7 +250,7 @@ record Complete (slaves : List Named) (t : ListState) : Type 0 where
   rounds : t .run .rounds ≡ roundsFor slaves allNames
   named : namesIn (decode (t .file)) ≡ namesAfter slaves allNames
 
-module _ (slaves : List Named) (few : namingRounds * length slaves + endingRounds + 256 < countLimit) where
+module _ (slaves : List Named) (few : mostRounds * length slaves + endingRounds + 256 < countLimit) where
   complete : {t : ListState} {a : Account} → Beside slaves t a → (t .run .end ≡ running → ⊥) → Complete slaves t
   unfolding comparisonsOf viewIn startOn lines
   complete {t} {a} h n =
@@ -277,7 +313,7 @@ module _ (file : List ℕ) (b : Bytes file) (g : fileGround file ≡ 0) where
         spent = nothing-left (falling (unnamedAmong slaves)) (namesHeld slaves) allNames;
       }
 
-  -- a file has at most 32 slaves, so 200 rounds for each, 4 that end the run and one for each of 254 names are enough
+  -- a file has at most 32 slaves, so 136 rounds for each, 4 that end the run and one for each of 254 names are enough
   rounds-most : roundsFor slaves allNames ≤ mostSteps
   unfolding namesIn
   rounds-most =

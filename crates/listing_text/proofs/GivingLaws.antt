@@ -11,8 +11,8 @@ use borrow.Author.Tests.{eqb-true, eqb-false, ne-eqb}
 use Rattle.file.specs.Rules.Bytes.{All, All.allEmpty, All.allNext as also}
 use Rattle.file.specs.Rules.Cluster.{unnamed, broadcast}
 use Rattle.file.specs.Rules.Grounds.{isAmong, hasRepeat}
-use Rattle.file.proofs.Order.{byCase, either-false}
-use Rattle.naming.specs.Rules.Run.{lastStep, unfitName}
+use Rattle.file.proofs.Order.{byCase, clash, either-false}
+use Rattle.naming.specs.Rules.Run.{unfitName}
 use Rattle.naming.specs.Rules.Account.{Named, Account, endWith, give, oneRound, namingRounds, namingComparisons, endingRounds}
 use Rattle.naming.specs.Rules.Figures.{freeNames, givings}
 use Rattle.naming.proofs.Rounds.{account, goes-on, taken-round, giving-round, ending-round}
@@ -56,15 +56,23 @@ names-accepted =
 unfoldable pub toGive : Account → List Named
 toGive a = givings (a .waiting) (freeNames (a .held) (a .left))
 
+-- its next round gives a name: the pass is for a free one, someone waits, and it is the last of the pass
+abbrev pub LastFor : List ℕ → ℕ → Type 0
+LastFor [] k = ⊥
+LastFor (p ∷ ps) k = suc k ≡ namingRounds p
+
+abbrev pub GivesNext : Account → Type 0
+GivesNext a = (isAmong (getD (a .left) 0 0) (a .held) ≡ false) × LastFor (a .waiting) (a .k)
+
 -- a round from one account to the next that gives no name, and the last round of a pass that gives one: the first of the names left to
 -- the first of the physical names that wait, after 65 comparisons
 pub record NoneGiven (a b : Account) : Type 0 where
-  pub within : a .k ≡ lastStep → ⊥
+  pub within : GivesNext a → ⊥
   pub same : toGive b ≡ toGive a
   pub compared : b .done ≡ a .done
 
 pub record OneGiven (a b : Account) : Type 0 where
-  pub last : a .k ≡ lastStep
+  pub last : GivesNext a
   pub next : toGive a ≡ record { physical = getD (a .waiting) 0 0; logical = getD (a .left) 0 0 } ∷ toGive b
   pub compared : b .done ≡ a .done + namingComparisons
   pub over : b .k ≡ 0
@@ -86,32 +94,29 @@ nothing-left ws held [] f = no-names ws
 nothing-left ws held (n ∷ ns) f = absurd (f refl)
 
 module _ (n : ℕ) (ns : List ℕ) (slaves : List Named) (held : List ℕ) (rounds done k : ℕ) where
-  goes-gives : (ws : List ℕ) → (k ≡ lastStep → ⊥) →
+  goes-gives : (ws : List ℕ) → (LastFor ws k → ⊥) →
       RoundMade (account (n ∷ ns) ws slaves held 0 rounds done k) (account (n ∷ ns) ws slaves held 0 (suc rounds) done (suc k))
   unfolding toGive
-  goes-gives ws l = record { rounds = refl; spent = λ f. absurd (f refl); gives = none-given (record { within = l; same = refl; compared = refl }) }
+  goes-gives ws l = record { rounds = refl; spent = λ f. absurd (f refl); gives = none-given (record { within = λ g. l (g .1); same = refl; compared = refl }) }
 
   taken-gives : (ws : List ℕ) → isAmong n held ≡ true → k < 1 →
       RoundMade (account (n ∷ ns) ws slaves held 0 rounds done k) (account ns ws slaves held (endWith ns) (suc rounds) (done + 0) 0)
   unfolding toGive freeNames
   taken-gives ws t w =
-      let l : k ≡ lastStep → ⊥ = omega arith in
-      record { rounds = refl; spent = nothing-left ws held ns; gives = none-given (record { within = l; same = rw t; compared = omega arith }) }
+      record { rounds = refl; spent = nothing-left ws held ns; gives = none-given (record { within = λ g. clash t (g .0); same = rw t; compared = omega arith }) }
 
-  giving-gives : (p : ℕ) (ps : List ℕ) → isAmong n held ≡ false → suc k ≡ namingRounds →
+  giving-gives : (p : ℕ) (ps : List ℕ) → isAmong n held ≡ false → suc k ≡ namingRounds p →
       RoundMade (account (n ∷ ns) (p ∷ ps) slaves held 0 rounds done k)
       (account ns ps (map (give p n) slaves) held (endWith ns) (suc rounds) (done + namingComparisons) 0)
   unfolding toGive givings freeNames
   giving-gives p ps f e =
-      let l : k ≡ lastStep = omega arith in
-      record { rounds = refl; spent = nothing-left ps held ns; gives = one-given (record { last = l; next = rw f; compared = refl; over = refl }) }
+      record { rounds = refl; spent = nothing-left ps held ns; gives = one-given (record { last = (f, e); next = rw f; compared = refl; over = refl }) }
 
   ending-gives : suc k ≡ endingRounds →
       RoundMade (account (n ∷ ns) [] slaves held 0 rounds done k) (account (n ∷ ns) [] slaves held 1 (suc rounds) done (suc k))
   unfolding toGive givings
   ending-gives e =
-      let l : k ≡ lastStep → ⊥ = omega arith in
-      record { rounds = refl; spent = λ f. refl; gives = none-given (record { within = l; same = refl; compared = refl }) }
+      record { rounds = refl; spent = λ f. refl; gives = none-given (record { within = λ g. g .1; same = refl; compared = refl }) }
 
   free-gives : (ws : List ℕ) → isAmong n held ≡ false → k < length-of-pass false ws →
       RoundMade (account (n ∷ ns) ws slaves held 0 rounds done k) (oneRound (account (n ∷ ns) ws slaves held 0 rounds done k))
@@ -120,17 +125,14 @@ module _ (n : ℕ) (ns : List ℕ) (slaves : List Named) (held : List ℕ) (roun
       byCase (eqb (suc k) endingRounds)
       (λ t. let e : suc k ≡ endingRounds = eqb-true _ _ t in rw (ending-round n ns slaves held rounds done k f e) (ending-gives e))
       (λ g.
-      let m : suc k < namingRounds = omega arith in
-      let l : k ≡ lastStep → ⊥ = omega arith in
-      rw (goes-on n ns [] slaves held rounds done k f m g) (goes-gives [] l))
+      rw (goes-on n ns [] slaves held rounds done k f g) (goes-gives [] (λ x. x)))
   free-gives (p ∷ ps) f w =
-      byCase (eqb (suc k) namingRounds)
-      (λ t. let e : suc k ≡ namingRounds = eqb-true _ _ t in rw (giving-round n ns p ps slaves held rounds done k f e) (giving-gives p ps f e))
+      byCase (eqb (suc k) (namingRounds p))
+      (λ t. let e : suc k ≡ namingRounds p = eqb-true _ _ t in rw (giving-round n ns p ps slaves held rounds done k f e) (giving-gives p ps f e))
       (λ g.
-      let e : suc k ≡ namingRounds → ⊥ = eqb-false _ _ g in
-      let m : suc k < namingRounds = omega arith in
-      let l : k ≡ lastStep → ⊥ = omega arith in
-      rw (goes-on n ns (p ∷ ps) slaves held rounds done k f m tt) (goes-gives (p ∷ ps) l))
+      let e : suc k ≡ namingRounds p → ⊥ = eqb-false _ _ g in
+      let m : suc k < namingRounds p = omega arith in
+      rw (goes-on n ns (p ∷ ps) slaves held rounds done k f m) (goes-gives (p ∷ ps) e))
 
 -- every round of an account that has not ended
 pub account-round : {R C : ℕ} {F : List Named} {a : Account} → Tally R C F a → a .end ≡ 0 → RoundMade a (oneRound a)

@@ -15,7 +15,8 @@ use Rattle.file.proofs.Order.{byCase}
 use Rattle.file.specs.Rules.Results.{Result, refused, done}
 use Rattle.cluster.specs.Rules.Bus.{slots}
 use Rattle.cluster.proofs.Rounds.{none-holds}
-use Rattle.naming.specs.Rules.Run.{Position, running, fresh, runGrounds, PassPlace, PassPlace.poll, ask, giveName, giveHigh, giveLow, PassPlace.baptize, least, bit, high, low, reply, placeOf, askOrGive, giveOf, moveOn, onward, nextName, endAllNamed, advance, lastStep}
+use Rattle.naming.specs.Rules.Run.{Position, running, fresh, runGrounds, PassPlace, PassPlace.poll, ask, giveName, giveHigh, giveLow, PassPlace.baptize, least, bit, high, low, reply, placeOf, askOrGive, giveOf, roundHere, onto, wrote, moveOn, onward, nextName, endAllNamed, advance, lastStep}
+use Rattle.naming.specs.Rules.Rounds.{RunRound, RunRound.poll as pollOf, writeName, writeHigh, writeLow, compare, RunRound.baptize as baptizeAll}
 use Rattle.naming.specs.Rules.Step.{StepDone, ended, made, stepGround, stepMade, stepOn}
 use Rattle.naming.specs.Inner.Answers.{positionOf, steppedOf, runAfter}
 use Rattle.file.specs.declared.types.Refusal.{Refusal}
@@ -28,6 +29,7 @@ use Rattle.naming.specs.declared.run.Stepped.{Stepped}
 use Rattle.naming.specs.declared.run.Stepped.the-variants as steps
 use Rattle.naming.specs.declared.position.RunPosition.{RunPosition}
 use Rattle.naming.proofs.RunLaws.{Runs, runs}
+use Rattle.naming.proofs.PositionLaws.{last-place, last-real, onto-same, stays}
 use Rattle.listing_text.specs.Rules.Text.{nameLine, totalsLine, refusedLine}
 use Rattle.listing_text.specs.Inner.Puts.{Puts, PutsAtMost}
 use Rattle.listing_text.specs.Rules.Text.{lineSize, totalsSize}
@@ -57,9 +59,46 @@ rises giveHigh count p b = record { compared = omega arith; slowly = omega arith
 rises giveLow count p b = record { compared = omega arith; slowly = omega arith; further = omega arith }
 rises baptize count p b = record { compared = omega arith; slowly = omega arith; further = omega arith }
 
-last-names : (k count : ℕ) (p : Position) (b : Bool) → k ≡ lastStep → moveOn (placeOf k) count p b .index ≡ suc (p .index)
-unfolding placeOf askOrGive giveOf moveOn nextName
-last-names k count p b e = rw e
+-- what a round writes leaves index and comparisons
+wrote-same : (o : RunRound) (p : Position) → (wrote o p .comparisons ≡ p .comparisons) × (wrote o p .index ≡ p .index)
+unfolding wrote
+wrote-same (pollOf n) p = (refl, refl)
+wrote-same (writeName n) p = (refl, refl)
+wrote-same (writeHigh h) p = (refl, refl)
+wrote-same (writeLow l) p = (refl, refl)
+wrote-same compare p = (refl, refl)
+wrote-same baptizeAll p = (refl, refl)
+
+advance-rises : (names : List ℕ) (p : Position) (b : Bool) → Rises p (advance names p b)
+unfolding advance
+advance-rises names p b =
+    let first = onto-same names p in
+    let same = wrote-same (roundHere names (onto names p)) (onto names p) in
+    let up = rises (placeOf (onto names p .step)) (length names) (wrote (roundHere names (onto names p)) (onto names p)) b in
+    let last = onto-same names (moveOn (placeOf (onto names p .step)) (length names) (wrote (roundHere names (onto names p)) (onto names p)) b) in
+    let c₁ = first .0 in
+    let i₁ = first .1 in
+    let c₂ = same .0 in
+    let i₂ = same .1 in
+    let c₃ = last .0 in
+    let i₃ = last .1 in
+    let x = up .compared in
+    let y = up .slowly in
+    let z = up .further in
+    record { compared = omega arith; slowly = omega arith; further = omega arith }
+
+-- the last round of a pass raises the index
+baptized : {l : PassPlace} (count : ℕ) (p : Position) (b : Bool) → l ≡ baptize → moveOn l count p b .index ≡ suc (p .index)
+unfolding moveOn nextName
+baptized count p b e = rw e
+
+last-names : (names : List ℕ) (p : Position) (b : Bool) → p .step ≡ lastStep → advance names p b .index ≡ suc (p .index)
+unfolding advance
+last-names names p b e =
+    let here : onto names p ≡ p = stays names p (last-real names p e) in
+    rw here
+    (onto-same names (moveOn (placeOf (p .step)) (length names) (wrote (roundHere names p) p) b) .1
+    ∙ baptized (length names) (wrote (roundHere names p) p) b (last-place e) ∙ ap suc (wrote-same (roundHere names p) p .1))
 
 pub length-names : length allNames ≡ nameCount
 unfolding allNames namesFrom
@@ -69,11 +108,11 @@ length-names = refl
 record Moved (names : List ℕ) (p q : Position) : Type 0 where
   runs-on : Runs names p
   heard : Bool
-  moved : q ≡ moveOn (placeOf (p .step)) (length names) p heard
+  moved : q ≡ advance names p heard
 
 made-moved :
     (f buffer names : List ℕ) (p : Position) {mask : ℕ} {q : Position} {new file : List ℕ} → (done (made mask), q, new, file) ≡ stepOn f p names buffer → Moved names p q
-unfolding stepOn stepMade stepGround advance
+unfolding stepOn stepMade stepGround
 made-moved f buffer names p {mask} {q} {new} {file} e =
     byCase (eqb (stepGround f p names buffer) 0)
     (λ t.
@@ -99,13 +138,13 @@ pub moves :
     (f buffer : List ℕ) (p : Position) {mask : ℕ} {q : Position} {new file : List ℕ} → (done (made mask), q, new, file) ≡ stepOn f p allNames buffer → Moves p q
 moves f buffer p {mask} {q} e =
     let m = made-moved f buffer allNames p e in
-    let up : Rises p q = rw (m .moved) (rises (placeOf (p .step)) (length allNames) p (m .heard)) in
+    let up : Rises p q = rw (m .moved) (advance-rises allNames p (m .heard)) in
     record {
       inside = rw length-names at (m .runs-on .goes .within);
       compared = up .compared;
       small = let few = m .runs-on .goes .counts .fewer in let slow = up .slowly in omega arith;
       further = up .further;
-      named = λ l. ap (λ (x : Position). x .index) (m .moved) ∙ last-names (p .step) (length allNames) p (m .heard) l;
+      named = λ l. ap (λ (x : Position). x .index) (m .moved) ∙ last-names allNames p (m .heard) l;
     }
 
 -- ---- the text after what was put

@@ -7,8 +7,7 @@ use mathlib.Core.Logic.{_≢_}
 use mathlib.Core.List.{List, [], _∷_, map}
 use mathlib.Core.Bool.{false}
 use native.Mathlib.Omega.{arith}
-use lib.ListN.{length, drop, getD}
-use lib.Seq.{getD-drop}
+use lib.ListN.{length}
 use lib.Dec.{eqb}
 use borrow.Author.Tests.{ne-eqb, le-ltb, lt-leb, eqb-true, eqb-false}
 use Rattle.file.specs.Rules.Grounds.{isAmong}
@@ -16,14 +15,16 @@ use Rattle.file.proofs.Bytes.{all-first}
 use Rattle.file.proofs.Order.{byCase, either-false, both-false-left, both-false-right}
 use Rattle.naming.specs.Inner.View.{SlaveView, changeAll, answers}
 use Rattle.naming.specs.Rules.Rounds.{RunRound, RunRound.poll as pollOf, writeName, writeHigh, writeLow, compare, RunRound.baptize as baptizeAll, half}
-use Rattle.naming.specs.Rules.Run.{Position, running, namesUsedUp, PassPlace, high, low, reply, placeOf, roundAt, nextRound, advance, unfitPosition, countLimit, lastStep, bits, tried}
+use Rattle.naming.specs.Rules.Run.{Position, running, namesUsedUp, PassPlace, high, low, reply, roundAt, isNeedless, nextRound, advance, unfitPosition, countLimit, lastStep, bits, tried}
 use Rattle.naming.specs.Inner.PassPlaces.{stepOf}
-use Rattle.naming.specs.Rules.Account.{namingComparisons, Named, Account, StepArguments, Call, step, frame, argumentsGround, accountCall, accountAfter, oneRound, comparisonsOf, comparisonsAfter}
-use Rattle.naming.proofs.Places.{LegalPlace, inner, at-poll, at-ask, at-name, at-high, at-low, at-baptize, place-of-step, step-lt}
+use Rattle.naming.specs.Rules.Account.{namingComparisons, Named, Account, StepArguments, Call, step, frame, argumentsGround, accountCall, accountAfter, oneRound, comparisonsOf}
+use Rattle.naming.proofs.Places.{LegalPlace, inner, at-poll, at-ask, at-name, at-high, at-low, at-baptize, step-lt}
+use Rattle.naming.proofs.Walk.{compared-most, count-past}
 use Rattle.naming.proofs.Search.{tried-small}
 use Rattle.naming.proofs.Facts.{Fit}
+use Rattle.naming.proofs.PositionLaws.{stays}
 use Rattle.naming.proofs.Answers.{namedOf, Same, same-names, same-told}
-use Rattle.naming.proofs.Simulation.{position, Told, At, Tie, going, over, moves, length-here}
+use Rattle.naming.proofs.Simulation.{position, Told, At, Tie, going, over, place-here, round-here, needless-here, settle, moves, length-here}
 use Rattle.naming.proofs.Tally.{Tally, in-pass, ended, Done, due, length-of-pass, tally-round}
 
 -- ---- the laws
@@ -73,48 +74,47 @@ pub record Laws
 
 -- ---- the tie, call by call
 
-name-here : (names : List ℕ) (index n : ℕ) (ns : List ℕ) → drop index names ≡ n ∷ ns → getD names index 0 ≡ n
-name-here names index n ns e =
-    let z : index + 0 ≡ index = omega arith in
-    rw (← z) (sym (getD-drop index names 0 0) ∙ rw e)
-
 operation-here :
-    {names : List ℕ} {vs : List SlaveView} {l : PassPlace} {index step value rounds comparisons n done : ℕ} {ns ws held : List ℕ} {slaves : List Named} →
-    At names vs l index step value rounds comparisons n ns ws slaves held done →
-    nextRound names (position running index step value rounds comparisons) ≡ roundAt l n value
+    {names : List ℕ} {vs : List SlaveView} {l : PassPlace} {index step value rounds comparisons h l′ n done k : ℕ} {ns ws held : List ℕ} {slaves : List Named} →
+    At names vs l index step value rounds comparisons h l′ n ns ws slaves held done k →
+    isNeedless names (position running index step value rounds comparisons h l′) ≡ false →
+    nextRound names (position running index step value rounds comparisons h l′) ≡ roundAt l n value
 unfolding nextRound
-operation-here {names} {index = index} {n = n} {ns = ns} i = rw (name-here names index n ns (i .here), i .place, place-of-step (i .legal))
+operation-here {names} i real = rw (stays names _ real) (round-here i)
 
 pub tie-step :
     {names : List ℕ} {vs : List SlaveView} {p : Position} {a : Account} → Tie names vs p a → p .end ≡ running →
     Tie names (changeAll (nextRound names p) vs) (advance names p (answers (nextRound names p) vs)) (oneRound a)
 unfolding advance
-tie-step {names} {vs} (going {l = l} {index = index} {step = k} {value = value} {rounds = rounds} {comparisons = comparisons} {n = n} {done = done} {ns = ns} {ws = ws} {held = held} {slaves = slaves} i) m =
-    let e : placeOf k ≡ l = rw (i .place) (place-of-step (i .legal)) in
-    rw (operation-here i, e) (moves names vs l index k value rounds comparisons n ns ws slaves held done (i .legal) i)
+tie-step {names} {vs} (going {l = l} {index = index} {step = j} {value = value} {rounds = rounds} {comparisons = comparisons} {h = h} {l′ = l′} {n = n} {done = done} {k = k} {ns = ns} {ws = ws} {held = held} {slaves = slaves} i real) m =
+    rw (operation-here i real, stays names (position running index j value rounds comparisons h l′) real, round-here i, place-here i)
+    (settle (moves names vs l index j value rounds comparisons h l′ n ns ws slaves held done k (i .legal) i (sym (needless-here i) ∙ real)))
 tie-step (over o) m = absurd (omega (arith, o .some))
 
 -- an ended account makes no more rounds
 tie-idle : {names : List ℕ} {vs : List SlaveView} {p : Position} {a : Account} → Tie names vs p a → (p .end ≡ running → ⊥) → oneRound a ≡ a
 unfolding oneRound
-tie-idle (going i) n = absurd (n refl)
+tie-idle (going i real) n = absurd (n refl)
 tie-idle (over {end = end} o) n = let z : end ≡ 0 → ⊥ = omega (arith, o .some) in rw (ne-eqb end 0 z)
 
 -- rounds of others
 tie-others : {names : List ℕ} {vs ws : List SlaveView} {p : Position} {a : Account} → Same vs ws → Tie names vs p a → Tie names ws p a
-tie-others s (going {l = l} {value = value} {n = n} i) =
+tie-others s (going {l = l} {h = h} {l′ = l′} {n = n} i real) =
     going
     (record {
       legal = i .legal;
       facts = i .facts;
       here = i .here;
       place = i .place;
+      made = i .made;
       counted = i .counted;
       views = same-names s ∙ i .views;
       known = i .known;
-      heard = same-told (Told l n value) s (i .heard);
+      halves = i .halves;
+      heard = same-told (Told l n h l′) s (i .heard);
       small = i .small;
     })
+    real
 tie-others s (over o) =
     over (record { views = same-names s ∙ o .views; some = o .some; most = o .most; within = o .within; counted = o .counted })
 
@@ -127,13 +127,19 @@ pub record Agree (vs : List SlaveView) (p : Position) (a : Account) : Type 0 whe
 
 pub tie-agree : {names : List ℕ} {vs : List SlaveView} {p : Position} {a : Account} → Tie names vs p a → Agree vs p a
 unfolding comparisonsOf
-tie-agree (going i) = record { names = i .views; end = refl; rounds = refl; comparisons = i .counted }
+tie-agree (going {done = done} {ws = ws} i real) =
+    record {
+      names = i .views;
+      end = refl;
+      rounds = refl;
+      comparisons = i .counted ∙ ap (λ (x : ℕ). done + x) (sym (rw (i .made) (count-past ws (i .legal))));
+    }
 tie-agree (over o) = record { names = o .views; end = refl; rounds = refl; comparisons = o .counted }
 
 -- what is sent are bytes
 sendable-at :
-    {names : List ℕ} {vs : List SlaveView} {l : PassPlace} {index step value rounds comparisons n done : ℕ} {ns ws held : List ℕ} {slaves : List Named} →
-    LegalPlace l → At names vs l index step value rounds comparisons n ns ws slaves held done → Sendable (roundAt l n value)
+    {names : List ℕ} {vs : List SlaveView} {l : PassPlace} {index step value rounds comparisons h l′ n done k : ℕ} {ns ws held : List ℕ} {slaves : List Named} →
+    LegalPlace l → At names vs l index step value rounds comparisons h l′ n ns ws slaves held done k → Sendable (roundAt l n value)
 unfolding roundAt
 sendable-at (inner at-poll) i = of-poll (all-first (i .facts .fit))
 sendable-at {value = value} (inner (at-ask {q = q} high h)) i =
@@ -148,7 +154,7 @@ sendable-at {value = value} (inner at-low) i = let k : value % half < half = ome
 sendable-at at-baptize i = of-baptize
 
 pub tie-sendable : {names : List ℕ} {vs : List SlaveView} {p : Position} {a : Account} → Tie names vs p a → p .end ≡ running → Sendable (nextRound names p)
-tie-sendable (going i) m = rw (operation-here i) (sendable-at (i .legal) i)
+tie-sendable (going i real) m = rw (operation-here i real) (sendable-at (i .legal) i)
 tie-sendable (over o) m = absurd (omega (arith, o .some))
 
 -- ---- the tally, and ground 17
@@ -168,7 +174,7 @@ tally-running (in-pass {n = n} {rounds = rounds} {done = done} {k = k} {ns = ns}
     record { rounds = omega (arith, d .all, d .within, pass-due n ns ws held); done = omega (arith, d .comparisons) }
 tally-running (ended d) e = absurd (omega (arith, d .some))
 
-pub tally-ended : {R C : ℕ} {F : List Named} {a : Account} → Tally R C F a → (a .end ≡ 0 → ⊥) → Done R C F (a .slaves) (a .end) (a .rounds) (a .done) (a .k)
+pub tally-ended : {R C : ℕ} {F : List Named} {a : Account} → Tally R C F a → (a .end ≡ 0 → ⊥) → Done R C F (a .waiting) (a .slaves) (a .end) (a .rounds) (a .done) (a .k)
 tally-ended (in-pass d) n = absurd (n refl)
 tally-ended (ended d) n = d
 
@@ -177,26 +183,22 @@ unfolding stepOf
 step-most (inner h) = omega (arith, step-lt h)
 step-most at-baptize = omega arith
 
-comparisons-most : (k : ℕ) → comparisonsAfter k ≤ namingComparisons
-unfolding comparisonsAfter
-comparisons-most k = omega arith
-
 -- no ground 17
 tie-fit :
     {names : List ℕ} {vs : List SlaveView} {p : Position} {a : Account} (R C : ℕ) → Tie names vs p a → (a .end ≡ 0 → Short R C a) →
     R < countLimit → C + namingComparisons < countLimit → unfitPosition names p ≡ false
 unfolding unfitPosition
-tie-fit {names} R C (going {index = index} {step = k} {rounds = rounds} {comparisons = comparisons} {n = n} {done = done} {ns = ns} i) s r c =
-    let l : length names ≡ index + suc (length ns) = length-here names index n ns (i .here) in
-    let m : k ≤ lastStep = omega (arith, i .place, step-most (i .legal)) in
+tie-fit {names} R C (going {l = l} {index = index} {step = j} {rounds = rounds} {comparisons = comparisons} {n = n} {done = done} {ns = ns} i real) s r c =
+    let size : length names ≡ index + suc (length ns) = length-here names index n ns (i .here) in
+    let m : j ≤ lastStep = omega (arith, i .place, step-most (i .legal)) in
     let x : rounds < countLimit = omega (arith, s refl .rounds) in
-    let y : comparisons < countLimit = omega (arith, s refl .done, i .counted, comparisons-most k) in
+    let y : comparisons < countLimit = omega (arith, s refl .done, i .counted, compared-most l) in
     let z : index ≡ length names → ⊥ = omega arith in
     either-false refl
     (either-false (le-ltb (length names) index (omega arith))
     (both-false-right _
     (either-false (ne-eqb index (length names) z)
-    (either-false (le-ltb lastStep k m) (either-false (lt-leb countLimit rounds x) (lt-leb countLimit comparisons y))))))
+    (either-false (le-ltb lastStep j m) (either-false (lt-leb countLimit rounds x) (lt-leb countLimit comparisons y))))))
 tie-fit {names} R C (over {end = end} {index = index} o) s r c =
     let z : end ≡ running → ⊥ = omega (arith, o .some) in
     either-false (le-ltb namesUsedUp end (o .most))

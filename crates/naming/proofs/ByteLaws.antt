@@ -32,7 +32,8 @@ use Rattle.cluster.proofs.Untouched.{filesOf, Unstored, Leaves, by-nothing, by-
 use Rattle.naming.specs.Inner.View.{SlaveView, viewOf, view, viewUnnamed}
 use Rattle.naming.specs.Rules.Rounds.{sent}
 use Rattle.naming.specs.Rules.Run.{Position, running, unfitPosition, namesGrounds, runGrounds, nextRound}
-use Rattle.naming.specs.Rules.Step.{stepGround, stepMade, stepOn, roundSent}
+use Rattle.cluster.specs.Rules.MasterSlave.{roundSent}
+use Rattle.naming.specs.Rules.Step.{stepGround, stepMade, stepOn}
 use Rattle.naming.specs.Rules.Account.{Named, StepArguments, Call, step, frame, argumentsGround}
 use Rattle.naming.specs.Claims.Demand.{State, halfwayAfter, callOn, changesConfiguration, writesNamed, permittedAddress, permittedFrame, permittedCall, OfBytes, of-frame}
 use Rattle.naming.proofs.Answers.{namedOf, SameSlave, Same, same-refl}

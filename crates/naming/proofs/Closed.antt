@@ -11,9 +11,9 @@ use lib.Dec.{ltb, leb·suc-suc}
 use borrow.Author.Tests.{lt-ltb, le-ltb, ltb-false}
 use Rattle.file.specs.Rules.Grounds.{isAmong}
 use Rattle.file.proofs.Order.{byCase}
-use Rattle.naming.specs.Rules.Account.{namingRounds, namingComparisons, endingRounds, endingComparisons}
-use Rattle.naming.specs.Rules.Figures.{takenNames, freeNames, beforeFree, takenTried}
-use Rattle.naming.proofs.Tally.{due, dueComparisons}
+use Rattle.naming.specs.Rules.Account.{bitClear, namingRounds, namingComparisons, endingRounds, endingComparisons}
+use Rattle.naming.specs.Rules.Figures.{takenNames, freeNames, beforeFree, takenTried, givings, namingSum}
+use Rattle.naming.proofs.Tally.{due, dueComparisons, no-names}
 
 -- the taken names before free name number u + 1
 before : List ℕ → ℕ → List ℕ → ℕ
@@ -91,29 +91,49 @@ module _ (a e : ℕ) (held : List ℕ) where
   figure-free u n ns f =
       rw (free-of-free held n ns f, suc-min-suc u (length (freeNames held ns)), leb·suc-suc (suc u) (length (freeNames held ns))) (omega arith)
 
-due-figure : (held names ws : List ℕ) → due held names ws ≡ figure namingRounds endingRounds held (length ws) names + before held (length ws) names
+-- the sum over the names given, and 4 if u < f
+sums : List ℕ → List ℕ → List ℕ → ℕ
+sums held ws names = namingSum (givings ws (freeNames held names)) + cond (ltb (length ws) (length (freeNames held names))) endingRounds 0
+
+module _ (held : List ℕ) where
+  sums-nil : (ws : List ℕ) → sums held ws [] ≡ 0
+  unfolding sums freeNames namingSum
+  sums-nil ws = rw (no-names ws, le-ltb (length ws) 0 (omega arith))
+
+  sums-taken : (n : ℕ) (ns ws : List ℕ) → isAmong n held ≡ true → sums held ws (n ∷ ns) ≡ sums held ws ns
+  unfolding sums freeNames
+  sums-taken n ns ws t = rw t
+
+  sums-none : (n : ℕ) (ns : List ℕ) → isAmong n held ≡ false → sums held [] (n ∷ ns) ≡ endingRounds
+  unfolding sums freeNames givings namingSum
+  sums-none n ns f =
+      let l : 0 < suc (length (freeNames held ns)) = omega arith in
+      rw (f, lt-ltb 0 (suc (length (freeNames held ns))) l)
+
+  sums-free : (n : ℕ) (ns : List ℕ) (p : ℕ) (ps : List ℕ) → isAmong n held ≡ false → sums held (p ∷ ps) (n ∷ ns) ≡ namingRounds p + sums held ps ns
+  unfolding sums freeNames givings namingSum
+  sums-free n ns p ps f = rw (f, leb·suc-suc (suc (length ps)) (length (freeNames held ns))) (omega arith)
+
+due-figure : (held names ws : List ℕ) → due held names ws ≡ sums held ws names + before held (length ws) names
 unfolding due
-due-figure held [] ws = rw (figure-nil namingRounds endingRounds held (length ws), before-nil held (length ws))
+due-figure held [] ws = rw (sums-nil held ws, before-nil held (length ws))
 due-figure held (n ∷ ns) [] =
     byCase (isAmong n held)
-    (λ t.
-    rw (t, figure-taken namingRounds endingRounds held 0 n ns t, before-taken held n ns 0 t, due-figure held ns []) (omega arith))
-    (λ f. rw (f, figure-none namingRounds endingRounds held n ns f, before-none held n ns f))
+    (λ t. rw (t, sums-taken held n ns [] t, before-taken held n ns 0 t, due-figure held ns []) (omega arith))
+    (λ f. rw (f, sums-none held n ns f, before-none held n ns f))
 due-figure held (n ∷ ns) (p ∷ ps) =
     byCase (isAmong n held)
-    (λ t.
-    rw (t, figure-taken namingRounds endingRounds held (suc (length ps)) n ns t, before-taken held n ns (suc (length ps)) t, due-figure held ns (p ∷ ps))
-    (omega arith))
-    (λ f.
-    rw (f, figure-free namingRounds endingRounds held (length ps) n ns f, before-free held n ns (length ps) f, due-figure held ns ps) (omega arith))
+    (λ t. rw (t, sums-taken held n ns (p ∷ ps) t, before-taken held n ns (suc (length ps)) t, due-figure held ns (p ∷ ps)) (omega arith))
+    (λ f. rw (f, sums-free held n ns p ps f, before-free held n ns (length ps) f, due-figure held ns ps) (omega arith))
 
--- the rounds due are 200 min(u, f), plus 4 if u < f, plus one for each taken name tried
-abbrev pub roundsOf : List ℕ → ℕ → List ℕ → ℕ
-roundsOf held u names =
-    let f = length (freeNames held names) in namingRounds * min u f + cond (ltb u f) endingRounds 0 + takenTried held u names
+-- the rounds due are the sum over the names given, plus 4 if u < f, plus one for each taken name tried
+abbrev pub roundsOf : List ℕ → List ℕ → List ℕ → ℕ
+roundsOf held ws names =
+    let f = length (freeNames held names) in
+    namingSum (givings ws (freeNames held names)) + cond (ltb (length ws) f) endingRounds 0 + takenTried held (length ws) names
 
-pub due-rounds : (held names ws : List ℕ) → due held names ws ≡ roundsOf held (length ws) names
-unfolding figure
+pub due-rounds : (held names ws : List ℕ) → due held names ws ≡ roundsOf held ws names
+unfolding sums
 due-rounds held names ws = due-figure held names ws ∙ rw tried-before
 
 -- the comparisons due are 65 min(u, f), plus 1 if u < f
@@ -136,14 +156,21 @@ pub due-comparisons : (held names ws : List ℕ) → dueComparisons held names w
 unfolding figure
 due-comparisons held names ws = comparisons-figure held names ws
 
--- bounds
-pub due-bound : (held names ws : List ℕ) → due held names ws ≤ namingRounds * length ws + endingRounds + length names
+-- bounds: a pass has at most 136 rounds
+abbrev pub mostRounds : ℕ
+mostRounds = 136
+
+rounds-most : (p : ℕ) → namingRounds p ≤ mostRounds
+unfolding namingRounds bitClear
+rounds-most p = omega arith
+
+pub due-bound : (held names ws : List ℕ) → due held names ws ≤ mostRounds * length ws + endingRounds + length names
 unfolding due
 due-bound held [] ws = omega arith
 due-bound held (n ∷ ns) [] =
     byCase (isAmong n held) (λ t. rw t (omega (arith, due-bound held ns []))) (λ f. rw f (omega arith))
 due-bound held (n ∷ ns) (p ∷ ps) =
-    byCase (isAmong n held) (λ t. rw t (omega (arith, due-bound held ns (p ∷ ps)))) (λ f. rw f (omega (arith, due-bound held ns ps)))
+    byCase (isAmong n held) (λ t. rw t (omega (arith, due-bound held ns (p ∷ ps)))) (λ f. rw f (omega (arith, due-bound held ns ps, rounds-most p)))
 
 pub due-comparisons-bound : (held names ws : List ℕ) → dueComparisons held names ws ≤ namingComparisons * length ws + endingComparisons
 unfolding dueComparisons

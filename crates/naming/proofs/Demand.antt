@@ -14,12 +14,12 @@ use Rattle.file.proofs.AcceptedFacts.{no-repeat}
 use Rattle.file.proofs.Order.{byCase}
 use Rattle.naming.specs.Inner.View.{SlaveView}
 use Rattle.naming.specs.Rules.Run.{Position, fresh, running, unfitPosition, countLimit}
-use Rattle.naming.specs.Rules.Account.{Named, Account, Call, accountOf, accountAfter, comparisonsOf, falling, unnamedAmong, namesHeld, namingRounds, namingComparisons, endingRounds}
+use Rattle.naming.specs.Rules.Account.{Named, Account, Call, accountOf, accountAfter, comparisonsOf, falling, unnamedAmong, namesHeld, namingComparisons, endingRounds}
 use Rattle.naming.specs.Rules.Figures.{Outcome, roundsFor, comparisonsFor, namesAfter, givings}
 use Rattle.naming.proofs.Answers.{namedOf}
 use Rattle.naming.proofs.Simulation.{fresh-at}
 use Rattle.naming.proofs.Tally.{Tally, Done, due, dueComparisons, finally, next-pass}
-use Rattle.naming.proofs.Closed.{due-rounds, due-comparisons, due-bound, due-comparisons-bound}
+use Rattle.naming.proofs.Closed.{mostRounds, due-rounds, due-comparisons, due-bound, due-comparisons-bound}
 use Rattle.naming.proofs.Sorted.{length-falling, distinct-length}
 use Rattle.naming.proofs.Start.{Slaves, Names, start-facts}
 use Rattle.naming.proofs.Abstract.{Laws, Agree, Permitted, runCalls, Between, all-calls, stays-fit, tie-agree, tally-running, tally-ended}
@@ -66,7 +66,7 @@ module _ (slaves : List Named) (names : List ℕ) where
       next-pass _ _ _ names (falling (unnamedAmong slaves)) slaves (namesHeld slaves) 0 0
       (zero-add _ ∙ rounds-whole) (zero-add _ ∙ comparisons-whole) refl (start-facts slaves names s n .falls)
 
-  pub rounds-few : Names names → namingRounds * length slaves + endingRounds + 256 < countLimit →
+  pub rounds-few : Names names → mostRounds * length slaves + endingRounds + 256 < countLimit →
       roundsFor slaves names < countLimit
   rounds-few n few =
       let l : length names ≤ 256 = distinct-length 256 (no-repeat names (n .different)) (n .bytes) in
@@ -78,7 +78,7 @@ module _ (slaves : List Named) (names : List ℕ) where
         unnamed-most slaves,
       )
 
-  pub comparisons-few : namingRounds * length slaves + endingRounds + 256 < countLimit →
+  pub comparisons-few : mostRounds * length slaves + endingRounds + 256 < countLimit →
       comparisonsFor slaves names + namingComparisons < countLimit
   comparisons-few few =
       omega (
@@ -101,7 +101,7 @@ module _ (slaves : List Named) (names : List ℕ) where
         named = λ n. g .names ∙ all n .names;
       }
     where
-      all : (p .end ≡ running → ⊥) → Done (roundsFor slaves names) (comparisonsFor slaves names) (namesAfter slaves names) (a .slaves) (a .end) (a .rounds) (a .done) (a .k)
+      all : (p .end ≡ running → ⊥) → Done (roundsFor slaves names) (comparisonsFor slaves names) (namesAfter slaves names) (a .waiting) (a .slaves) (a .end) (a .rounds) (a .done) (a .k)
       all n = tally-ended t (λ e. n (g .end ∙ e))
 
 -- ---- the theorem
@@ -111,7 +111,7 @@ module _ (slaves : List Named) (names : List ℕ) where
 pub demand :
     (S : Type 0) (names : List ℕ) (view : S → List SlaveView) (Good : S → Type 0) (Allowed : S → Position → Call → Type 0)
     (call : S → Position → Call → S × Position) → Laws S names view Good Allowed call → Names names → (start : S) → Good start →
-    Slaves (map namedOf (view start)) → namingRounds * length (map namedOf (view start)) + endingRounds + 256 < countLimit →
+    Slaves (map namedOf (view start)) → mostRounds * length (map namedOf (view start)) + endingRounds + 256 < countLimit →
     (calls : List Call) → Permitted S Allowed call (start, fresh names) calls →
     Holds (map namedOf (view start)) names Good view (runCalls S call (start, fresh names) calls)
     (accountAfter (accountOf (map namedOf (view start)) names) calls)

@@ -21,6 +21,8 @@ run p =
       value = p .value;
       rounds = p .rounds;
       comparisons = p .comparisons;
+      high = p .high;
+      low = p .low;
     }
 
 start : Result Position → Started

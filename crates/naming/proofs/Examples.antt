@@ -2,18 +2,21 @@
 -- Assumes nothing.
 use Prim.Native.Nat.{ℕ, zero, suc}
 use mathlib.Core.Path.{_≡_, refl, ap, _∙_}
-use mathlib.Core.Bool.{false}
+use mathlib.Core.Bool.{Bool, false, cond}
 use mathlib.Core.List.{List, [], _∷_}
 use lib.ListN.{length, replicate}
+use lib.Dec.{eqb, leb}
 use Rattle.file.specs.Rules.Grounds.{isAmong, hasRepeat, fileGround, fileGroundAt, fileGroundsAt, wrongSize, wrongMark, wrongEdition, wrongLength, wrongHeader, wrongPending, brokenLayout, walkFile, tableEnd, walkSlaves, andThen, walkSlave, goodTableEntry, walkDirectory, goodEntry, endsAt, lacksNeeded, allHaveNeeded, hasNeeded, equalPhysicalNames}
 use Rattle.file.specs.Rules.Order.{firstOf, both, either}
 use Rattle.file.specs.Rules.Bytes.{numberOf, bytesOf, part, allZero}
 use Rattle.file.specs.Rules.Cluster.{bytesAmong, bytesIn, lastRecord, physicalName, logicalName}
 use Rattle.file.specs.Rules.Decode.{decode, decodeAt, slavesAt, slaveAt, filesAt, fileAt, fileSize, offsetAt}
-use Rattle.naming.specs.Rules.Rounds.{sent, Sent, atUnnamed}
-use Rattle.naming.specs.Rules.Run.{Position, nextRound, roundAt, placeOf, askOrGive, questionOf, partOf, giveOf, tried}
+use Rattle.naming.specs.Rules.Rounds.{sent, atUnnamed}
+use Rattle.cluster.specs.Rules.MasterSlave.{Sent}
+use Rattle.naming.specs.Rules.Run.{Position, fresh, endAt, PassPlace, poll, ask, giveName, giveHigh, giveLow, baptize, high, low, reply, wrote, atStep, moveOn, onward, nextName, endAllNamed, advance, roundHere, isNeedless, isFirst, isRepeated, passOver, onto, nextRound, roundAt, placeOf, askOrGive, questionOf, partOf, giveOf, tried}
 use Rattle.cluster.specs.Rules.Grounds.{shortAnswer}
-use Rattle.naming.specs.Rules.Account.{namesOf, namesIn, Account, Call, Call.step as stepBy, argumentsGround, accountCall, accountAfter, accountOf, comparisonsOf, comparisonsAfter, oneRound, pass, freePass, goOn, passDone, give, falling, insert, unnamedAmong, namesHeld, endWith}
+use Rattle.naming.specs.Rules.Account.{namesOf, namesIn, Account, Call, Call.step as stepBy, argumentsGround, accountCall, accountAfter, accountOf, comparisonsOf, comparisonsAfter, highAgain, bitClear, namingRounds, oneRound, pass, freePass, goOn, passDone, give, falling, insert, unnamedAmong, namesHeld, endWith}
+use Rattle.naming.specs.Claims.Passes.{upperBits, lowerBits, ifMade, passRounds, passFor}
 use Rattle.naming.specs.Claims.Files.{m10File}
 use Rattle.naming.specs.Claims.Cases.{answerBuffer, from, slave, figures}
 
@@ -46,41 +49,41 @@ steps-rounds buffer long (suc n) a =
     ap (λ (b : Account). accountAfter b (replicate n (stepWith buffer))) (step-round buffer long a) ∙ steps-rounds buffer long n (oneRound a)
 
 m10-rounds :
-    figures (rounds 404 (accountOf (namesIn (decode m10File)) (from 254 1))) ≡
+    figures (rounds 274 (accountOf (namesIn (decode m10File)) (from 254 1))) ≡
     record {
       slaves = slave 0x0000000700000010 2 ∷ slave 0x00000007000000A0 1 ∷ [];
       end = 1;
-      rounds = 404;
+      rounds = 274;
       comparisons = 131;
     }
-unfolding m10File decode decodeAt slavesAt slaveAt filesAt fileAt fileSize offsetAt part numberOf namesIn namesOf physicalName logicalName bytesIn bytesAmong figures rounds from slave comparisonsOf comparisonsAfter oneRound pass freePass goOn passDone give accountOf falling insert unnamedAmong namesHeld endWith isAmong either
+unfolding m10File decode decodeAt slavesAt slaveAt filesAt fileAt fileSize offsetAt part numberOf namesIn namesOf physicalName logicalName bytesIn bytesAmong figures rounds from slave comparisonsOf comparisonsAfter highAgain bitClear namingRounds oneRound pass freePass goOn passDone give accountOf falling insert unnamedAmong namesHeld endWith isAmong either
 m10-rounds = refl
 
 long-buffer : shortAnswer answerBuffer ≡ false
 unfolding shortAnswer
 long-buffer = refl
 
--- the names and counts of its account after 404 steps: "named 2 compares 131 rounds 404"
+-- the names and counts of its account after 274 steps: "named 2 compares 131 rounds 274"
 pub m10 :
-    figures (accountAfter (accountOf (namesIn (decode m10File)) (from 254 1)) (replicate 404 (stepWith answerBuffer))) ≡
+    figures (accountAfter (accountOf (namesIn (decode m10File)) (from 254 1)) (replicate 274 (stepWith answerBuffer))) ≡
     record {
       slaves = slave 0x0000000700000010 2 ∷ slave 0x00000007000000A0 1 ∷ [];
       end = 1;
-      rounds = 404;
+      rounds = 274;
       comparisons = 131;
     }
-m10 = ap figures (steps-rounds answerBuffer long-buffer 404 (accountOf (namesIn (decode m10File)) (from 254 1))) ∙ m10-rounds
+m10 = ap figures (steps-rounds answerBuffer long-buffer 274 (accountOf (namesIn (decode m10File)) (from 254 1))) ∙ m10-rounds
 
--- names 5 and 7 for slaves of which one holds 5 and one, with physical name 0, is unnamed: "names used up" after 1 + 200 rounds
+-- names 5 and 7 for slaves of which one holds 5 and one, with physical name 0, is unnamed: "names used up" after 1 + 136 rounds
 small :
     figures (rounds 300 (accountOf (slave 9 5 ∷ slave 0 0xFF ∷ []) (5 ∷ 7 ∷ []))) ≡
-    record { slaves = slave 9 5 ∷ slave 0 7 ∷ []; end = 2; rounds = 201; comparisons = 65 }
-unfolding figures rounds from slave comparisonsOf comparisonsAfter oneRound pass freePass goOn passDone give accountOf falling insert unnamedAmong namesHeld endWith isAmong either
+    record { slaves = slave 9 5 ∷ slave 0 7 ∷ []; end = 2; rounds = 137; comparisons = 65 }
+unfolding figures rounds from slave comparisonsOf comparisonsAfter highAgain bitClear namingRounds oneRound pass freePass goOn passDone give accountOf falling insert unnamedAmong namesHeld endWith isAmong either
 small = refl
 
 -- the rounds that a run over names 5 and 7 sends
 at : ℕ → ℕ → Position
-at step value = record { end = 0; index = 1; step = step; value = value; rounds = 9; comparisons = 2 }
+at step value = record { end = 0; index = 1; step = step; value = value; rounds = 9; comparisons = 2; high = 0; low = 0 }
 
 sends : ℕ → ℕ → Sent
 sends step value = sent (nextRound (5 ∷ 7 ∷ []) (at step value))
@@ -88,21 +91,60 @@ sends step value = sent (nextRound (5 ∷ 7 ∷ []) (at step value))
 -- step 0 reads 0x3D record 1 at the name; step 196 writes 00 00 name FF; steps 4 and 195 are the write of record 2 for bit 63 and
 -- the execute for bit 0
 poll-sends : sends 0 0 ≡ record { name = 7; file = 0x3D; operation = 0; «record» = 1; content = [] }
-unfolding sends at sent nextRound roundAt placeOf
+unfolding sends at sent nextRound roundHere onto passOver isNeedless isFirst isRepeated both roundAt placeOf
 poll-sends = refl
 
 name-sends : sends 196 0 ≡ record { name = 0xFF; file = 0x08; operation = 1; «record» = 1; content = 0 ∷ 0 ∷ 7 ∷ 0xFF ∷ [] }
-unfolding sends at sent atUnnamed nextRound roundAt placeOf askOrGive giveOf
+unfolding sends at sent atUnnamed nextRound roundHere onto passOver isNeedless isFirst isRepeated both roundAt placeOf askOrGive giveOf
 name-sends = refl
 
 bit-sends : sends 4 0 ≡ record { name = 0xFF; file = 0x08; operation = 1; «record» = 2; content = 0x80 ∷ 0 ∷ 0 ∷ 0 ∷ [] }
-unfolding sends at sent atUnnamed nextRound roundAt placeOf askOrGive questionOf partOf tried bytesOf
+unfolding sends at sent atUnnamed nextRound roundHere onto passOver isNeedless isFirst isRepeated both roundAt placeOf askOrGive questionOf partOf tried bytesOf
 bit-sends = refl
 
 last-bit-sends : sends 195 3 ≡ record { name = 0xFF; file = 0x08; operation = 2; «record» = 2; content = [] }
-unfolding sends at sent atUnnamed nextRound roundAt placeOf askOrGive questionOf partOf tried
+unfolding sends at sent atUnnamed nextRound roundHere onto passOver isNeedless isFirst isRepeated both roundAt placeOf askOrGive questionOf partOf tried
 last-bit-sends = refl
 
 last-low-sends : sends 194 2 ≡ record { name = 0xFF; file = 0x08; operation = 1; «record» = 3; content = 0 ∷ 0 ∷ 0 ∷ 3 ∷ [] }
-unfolding sends at sent atUnnamed nextRound roundAt placeOf askOrGive questionOf partOf tried bytesOf
+unfolding sends at sent atUnnamed nextRound roundHere onto passOver isNeedless isFirst isRepeated both roundAt placeOf askOrGive questionOf partOf tried bytesOf
 last-low-sends = refl
+
+-- the rounds really made of a pass of the run over one name with one unnamed slave, by the rules of the run: it stays silent at the poll
+-- and at writes, and answers a comparison with a value up to its physical name
+answerOf : ℕ → PassPlace → ℕ → Bool
+answerOf p (ask q reply) value = leb (tried q value) p
+answerOf p (ask q high) value = false
+answerOf p (ask q low) value = false
+answerOf p poll value = false
+answerOf p giveName value = false
+answerOf p giveHigh value = false
+answerOf p giveLow value = false
+answerOf p baptize value = false
+
+made : ℕ → ℕ → Position → List PassPlace
+made p zero q = []
+made p (suc n) q =
+    let place = placeOf (q .step) in
+    let rest = made p n (advance (7 ∷ []) q (answerOf p place (q .value))) in
+    cond (eqb (q .end) 0) (place ∷ rest) []
+
+passBy : ℕ → List PassPlace
+passBy p = made p 200 (fresh (7 ∷ []))
+
+-- they are those of the pass written out, for names with bits 32 and 0 as 00, 01, 10 and 11
+pass-00 : passBy 0x0000000000000000 ≡ passFor 0x0000000000000000
+unfolding passBy made answerOf fresh endAt advance moveOn onward nextName endAllNamed wrote roundHere onto passOver atStep isNeedless isFirst isRepeated both roundAt placeOf askOrGive questionOf partOf giveOf tried passFor passRounds upperBits lowerBits ifMade bitClear
+pass-00 = refl
+
+pass-01 : passBy 0x0000000000000001 ≡ passFor 0x0000000000000001
+unfolding passBy made answerOf fresh endAt advance moveOn onward nextName endAllNamed wrote roundHere onto passOver atStep isNeedless isFirst isRepeated both roundAt placeOf askOrGive questionOf partOf giveOf tried passFor passRounds upperBits lowerBits ifMade bitClear
+pass-01 = refl
+
+pass-10 : passBy 0x0000000700000010 ≡ passFor 0x0000000700000010
+unfolding passBy made answerOf fresh endAt advance moveOn onward nextName endAllNamed wrote roundHere onto passOver atStep isNeedless isFirst isRepeated both roundAt placeOf askOrGive questionOf partOf giveOf tried passFor passRounds upperBits lowerBits ifMade bitClear
+pass-10 = refl
+
+pass-11 : passBy 0xFFFFFFFFFFFFFFFF ≡ passFor 0xFFFFFFFFFFFFFFFF
+unfolding passBy made answerOf fresh endAt advance moveOn onward nextName endAllNamed wrote roundHere onto passOver atStep isNeedless isFirst isRepeated both roundAt placeOf askOrGive questionOf partOf giveOf tried passFor passRounds upperBits lowerBits ifMade bitClear
+pass-11 = refl

@@ -15,7 +15,8 @@ use Rattle.file.proofs.Bytes.{numberOf-below, bytes-part}
 use Rattle.file.proofs.Order.{byCase, first-none}
 use Rattle.naming.specs.Inner.View.{viewOf, view}
 use Rattle.naming.specs.Rules.Run.{namesGrounds, startGround, countLimit}
-use Rattle.naming.specs.Rules.Account.{Named, namesOf, namesIn, namingRounds, endingRounds}
+use Rattle.naming.specs.Rules.Account.{Named, namesOf, namesIn, endingRounds}
+use Rattle.naming.proofs.Closed.{mostRounds}
 use Rattle.naming.proofs.Facts.{physicals}
 use Rattle.naming.proofs.Answers.{namedOf}
 use Rattle.naming.proofs.Start.{Slaves, Names}
@@ -65,7 +66,7 @@ unfolding namesIn
 legal-slaves c l =
     record { different = rw (physicals-of (c .slaves)) (l .names); small = rw (physicals-of (c .slaves)) (physicals-lt (l .slaves)) }
 
-pub legal-few : (c : Cluster) → Legal c → namingRounds * length (namesIn c) + endingRounds + 256 < countLimit
+pub legal-few : (c : Cluster) → Legal c → mostRounds * length (namesIn c) + endingRounds + 256 < countLimit
 unfolding namesIn
 legal-few c l =
     let m : length (c .slaves) ≤ 32 = l .count in

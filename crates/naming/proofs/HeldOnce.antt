@@ -146,7 +146,7 @@ name-given {a} {n} {p} {ns} {ps} more is waits free h =
 free-pass : (a : Account) (n : ℕ) (ns ws : List ℕ) → a .left ≡ n ∷ ns → a .waiting ≡ ws → isAmong n (a .held) ≡ false → Holds a → Holds (freePass a n ns ws)
 unfolding freePass
 free-pass a n ns [] is waits free h = either-way (eqb (suc (a .k)) endingRounds) (goes-on 1 h) (goes-on (a .end) h)
-free-pass a n ns (p ∷ ps) is waits free h = either-way (eqb (suc (a .k)) namingRounds) (name-given namingComparisons is waits free h) (goes-on (a .end) h)
+free-pass a n ns (p ∷ ps) is waits free h = either-way (eqb (suc (a .k)) (namingRounds p)) (name-given namingComparisons is waits free h) (goes-on (a .end) h)
 
 one-pass : (a : Account) (left : List ℕ) → a .left ≡ left → Holds a → Holds (pass a left)
 unfolding pass

@@ -1,12 +1,15 @@
 pub mod Examples
 pub mod Places
 pub mod Search
+pub mod Tries
+pub mod Walk
 pub mod Facts
 pub mod Answers
 pub mod Rounds
 pub mod Simulation
 pub mod Tally
 pub mod Closed
+pub mod Passes
 pub mod Sorted
 pub mod Start
 pub mod Abstract
@@ -14,7 +17,6 @@ pub mod Demand
 pub mod FromFile
 pub mod SlaveViews
 pub mod SlaveRounds
-pub mod StepFrames
 pub mod StepRound
 pub mod ByteLaws
 pub mod OverBytes

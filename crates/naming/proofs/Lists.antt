@@ -34,7 +34,7 @@ use Rattle.naming.specs.Rules.Run.{Position, fresh, startGround}
 use Rattle.naming.specs.Rules.Step.{stepGround}
 use Rattle.naming.specs.Rules.Account.{StepArguments, Call, step, frame}
 use Rattle.naming.specs.Claims.Demand.{State, startOn, halfwayAfter, callOn, changesConfiguration, writesNamed, permittedAddress, permittedFrame, permittedCall, permitted, afterCalls, OfBytes}
-use Rattle.naming.proofs.StepRound.{round-fits}
+use Rattle.cluster.proofs.SentRounds.{frame-taken as round-fits}
 use Rattle.naming.proofs.OverBytes.{demand-3, bytes-after}
 
 pub data IsStep : Call → Type 0 where

@@ -1,5 +1,4 @@
--- Laws of the places of a pass: a place is that of its step, the next place's step is one more, and the comparisons that the plain
--- account counts after so many rounds of a pass are those whose execute the run has passed.
+-- Laws of the places of a pass: a place is that of its step, and the next place's step is one more.
 -- Assumes nothing.
 use Prim.Native.Nat.{ℕ, zero, suc, _+_, _*_, _-_, _/_, _%_, _≤_, _<_}
 use mathlib.Core.Path.{_≡_, refl}
@@ -9,7 +8,6 @@ use lib.Dec.{ltb}
 use borrow.Author.Tests.{lt-ltb}
 use Rattle.naming.specs.Rules.Run.{PassPlace, PassPlace.poll, PassPlace.ask, PassPlace.giveName, PassPlace.giveHigh, PassPlace.giveLow, PassPlace.baptize, Question, least, bit, Part, high, low, reply, questionOf, partOf, giveOf, askOrGive, placeOf, bits, giveStep, lastStep}
 use Rattle.naming.specs.Inner.PassPlaces.{questionNumber, partNumber, stepOf}
-use Rattle.naming.specs.Rules.Account.{comparisonsAfter}
 
 -- a pass has the bits 63 to 0
 pub data LegalQuestion : Question → Type 0 where
@@ -139,14 +137,3 @@ comparing giveName = 0
 comparing giveHigh = 0
 comparing giveLow = 0
 comparing baptize = 0
-
-pub comparisons-next :
-    {l : PassPlace} → Inner l → comparisonsAfter (suc (stepOf l)) ≡ comparisonsAfter (stepOf l) + comparing l
-unfolding comparisonsAfter comparing stepOf partNumber
-comparisons-next at-poll = refl
-comparisons-next (at-ask {q = q} high h) = omega (arith, question-le q)
-comparisons-next (at-ask {q = q} low h) = omega (arith, question-le q)
-comparisons-next (at-ask {q = q} reply h) = omega (arith, question-le q)
-comparisons-next at-name = refl
-comparisons-next at-high = refl
-comparisons-next at-low = refl

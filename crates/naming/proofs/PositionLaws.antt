@@ -1,21 +1,24 @@
 -- One law for each way through the functions on a run's position.
 -- Assumes nothing.
-use Prim.Native.Nat.{ℕ, zero, suc, _-_, _*_, _/_, _%_, _^_, _≤_, _<_}
-use mathlib.Core.Path.{_≡_, refl, _∙_}
-use mathlib.Core.Bool.{Bool, true, false}
+use Prim.Native.Nat.{ℕ, zero, suc, _+_, _-_, _*_, _/_, _%_, _^_, _≤_, _<_}
+use mathlib.Core.Path.{_≡_, refl, sym, _∙_}
+use mathlib.Core.Logic.{_⊎_, inl, inr}
+use mathlib.Core.Bool.{Bool, true, false, cond, not}
 use native.Mathlib.Omega.{arith}
-use borrow.Author.Tests.{lt-ltb, le-ltb, eq-eqb, ne-eqb, le-leb, lt-leb}
+use native.Mathlib.Numerals.{add-one}
+use borrow.Author.Tests.{lt-ltb, le-ltb, ltb-true, ltb-false, eq-eqb, ne-eqb, le-leb, lt-leb}
+use Rattle.file.proofs.Order.{byCase, clash}
 use lib.Bits.{bitOr}
 use lib.Pow.{shl-exact}
-use lib.ListN.{length}
-use lib.Dec.{leb}
-use mathlib.Core.List.{List}
+use lib.ListN.{length, getD}
+use lib.Dec.{leb, ltb, eqb}
+use mathlib.Core.List.{List, []}
 use Rattle.file.specs.Rules.Order.{both, either}
-use Rattle.naming.specs.Inner.Answers.{heard}
+use Rattle.naming.specs.Inner.Answers.{heard, GoesOn, partAt, valueAt, Wrote, NeedlessAt, PassedOver, Settled}
 use Rattle.naming.specs.declared.position.Reply.{Reply}
 use Rattle.naming.specs.declared.position.Reply.the-variants as replies
-use Rattle.naming.specs.Rules.Run.{Position, Question, least, bit, reply, questionOf, partOf, tried, ask, bits, placeOf, askOrGive, giveOf, giveStep, onward, nextName, endAllNamed, moveOn, unfitPosition, countLimit, lastStep, running, namesUsedUp}
-use Rattle.naming.specs.Rules.Rounds.{comparisonRounds}
+use Rattle.naming.specs.Rules.Run.{Position, Question, least, bit, PassPlace, poll, giveName, giveHigh, giveLow, baptize, high, low, reply, questionOf, partOf, tried, ask, bits, placeOf, askOrGive, giveOf, giveStep, roundAt, roundHere, isFirst, isRepeated, isNeedless, atStep, passOver, onto, wrote, onward, nextName, endAllNamed, moveOn, unfitPosition, countLimit, lastStep, running, namesUsedUp}
+use Rattle.naming.specs.Rules.Rounds.{comparisonRounds, half, RunRound, RunRound.poll as pollOf, writeName, writeHigh, writeLow, compare, RunRound.baptize as baptizeAll}
 
 -- ---- the value that a comparison sends
 
@@ -45,6 +48,275 @@ unfolding placeOf askOrGive
 place-give zero h = absurd (omega arith)
 place-give (suc k) h = rw (le-ltb (suc k) giveStep h)
 
+-- ---- the half that a round writes, and the value that it is a half of
+
+pub part-poll : {k : ℕ} → k ≡ 0 → partOf 2 ≡ partAt (placeOf k)
+unfolding placeOf partAt partOf
+part-poll e = rw e
+
+pub part-asked : (k : ℕ) → (k ≡ 0 → ⊥) → k < giveStep → partOf ((k - 1) % comparisonRounds) ≡ partAt (placeOf k)
+unfolding partAt
+part-asked k n h = rw (place-ask k n h)
+
+pub part-high : {k : ℕ} → k ≡ giveStep + 1 → partOf 0 ≡ partAt (placeOf k)
+unfolding placeOf askOrGive giveOf partAt partOf
+part-high e = rw e
+
+pub part-low : {k : ℕ} → k ≡ giveStep + 2 → partOf 1 ≡ partAt (placeOf k)
+unfolding placeOf askOrGive giveOf partAt partOf
+part-low e = rw e
+
+pub part-none : (k : ℕ) → giveStep ≤ k → (k ≡ giveStep + 1 → ⊥) → (k ≡ giveStep + 2 → ⊥) → partOf 2 ≡ partAt (placeOf k)
+part-none k h m l = rw (place-give k h) (giving (k - giveStep) (other 1 m) (other 2 l))
+  where
+    other : (j : ℕ) → (k ≡ giveStep + j → ⊥) → k - giveStep ≡ j → ⊥
+    other j n e = n (omega arith)
+
+    giving : (j : ℕ) → (j ≡ 1 → ⊥) → (j ≡ 2 → ⊥) → partOf 2 ≡ partAt (giveOf j)
+    giving zero m l = unfold giveOf partAt partOf in refl
+    giving (suc zero) m l = absurd (m refl)
+    giving (suc (suc zero)) m l = absurd (l refl)
+    giving (suc (suc (suc j))) m l = unfold giveOf partAt partOf in refl
+
+pub value-poll : (v : ℕ) {k : ℕ} → k ≡ 0 → v ≡ valueAt (placeOf k) v
+unfolding placeOf valueAt
+value-poll v e = rw e
+
+pub value-asked : (v k : ℕ) {t : ℕ} → (k ≡ 0 → ⊥) → k < giveStep → t ≡ tried (questionOf ((k - 1) / comparisonRounds)) v → t ≡ valueAt (placeOf k) v
+unfolding valueAt
+value-asked v k n h e = rw (place-ask k n h) e
+
+pub value-given : (v k : ℕ) → giveStep ≤ k → v ≡ valueAt (placeOf k) v
+value-given v k h = rw (place-give k h) (giving (k - giveStep))
+  where
+    giving : (j : ℕ) → v ≡ valueAt (giveOf j) v
+    giving zero = unfold giveOf valueAt in refl
+    giving (suc zero) = unfold giveOf valueAt in refl
+    giving (suc (suc zero)) = unfold giveOf valueAt in refl
+    giving (suc (suc (suc j))) = unfold giveOf valueAt in refl
+
+-- what it writes
+module _ (n v : ℕ) where
+  writes-high : (l : PassPlace) → partAt l ≡ high → roundAt l n v ≡ writeHigh (valueAt l v / half)
+  unfolding partAt valueAt roundAt
+  writes-high poll e = cc
+  writes-high (ask q high) e = refl
+  writes-high (ask q low) e = cc
+  writes-high (ask q reply) e = cc
+  writes-high giveName e = cc
+  writes-high giveHigh e = refl
+  writes-high giveLow e = cc
+  writes-high baptize e = cc
+
+  writes-low : (l : PassPlace) → partAt l ≡ low → roundAt l n v ≡ writeLow (valueAt l v % half)
+  unfolding partAt valueAt roundAt
+  writes-low poll e = cc
+  writes-low (ask q high) e = cc
+  writes-low (ask q low) e = refl
+  writes-low (ask q reply) e = cc
+  writes-low giveName e = cc
+  writes-low giveHigh e = cc
+  writes-low giveLow e = refl
+  writes-low baptize e = cc
+
+  writes-none : (p : Position) (l : PassPlace) → partAt l ≡ reply → wrote (roundAt l n v) p ≡ p
+  unfolding partAt roundAt wrote
+  writes-none p poll e = refl
+  writes-none p (ask q high) e = cc
+  writes-none p (ask q low) e = cc
+  writes-none p (ask q reply) e = refl
+  writes-none p giveName e = refl
+  writes-none p giveHigh e = cc
+  writes-none p giveLow e = cc
+  writes-none p baptize e = refl
+
+third-part : (j : ℕ) → (j ≡ 0 → ⊥) → (j ≡ 1 → ⊥) → partOf j ≡ reply
+unfolding partOf
+third-part zero m l = absurd (m refl)
+third-part (suc zero) m l = absurd (l refl)
+third-part (suc (suc j)) m l = refl
+
+module _ (p : Position) {r x : ℕ} (part : partOf r ≡ partAt (placeOf (p .step))) (value : x ≡ valueAt (placeOf (p .step)) (p .value)) where
+  pub wrote-high : r ≡ 0 → {q : Position} → q ≡ wrote (writeHigh (x / half)) p → Wrote p q
+  unfolding partOf
+  wrote-high e is n =
+      let here : high ≡ partAt (placeOf (p .step)) = rw e at part in
+      rw (writes-high n (p .value) (placeOf (p .step)) (sym here), ← value) is
+
+  pub wrote-low : r ≡ 1 → {q : Position} → q ≡ wrote (writeLow (x % half)) p → Wrote p q
+  unfolding partOf
+  wrote-low e is n =
+      let here : low ≡ partAt (placeOf (p .step)) = rw e at part in
+      rw (writes-low n (p .value) (placeOf (p .step)) (sym here), ← value) is
+
+  pub wrote-none : (r ≡ 0 → ⊥) → (r ≡ 1 → ⊥) → Wrote p p
+  wrote-none m l n = sym (writes-none n (p .value) p (placeOf (p .step)) (sym part ∙ third-part r m l))
+
+-- all else stays
+pub wrote-goes : (o : RunRound) {count : ℕ} {p : Position} → GoesOn count p → GoesOn count (wrote o p)
+unfolding wrote
+wrote-goes (pollOf n) g = g
+wrote-goes (writeName n) g = g
+wrote-goes (writeHigh h) g = record { within = g .within; counts = record { place = g .counts .place; few = g .counts .few; fewer = g .counts .fewer } }
+wrote-goes (writeLow l) g = record { within = g .within; counts = record { place = g .counts .place; few = g .counts .few; fewer = g .counts .fewer } }
+wrote-goes compare g = g
+wrote-goes baptizeAll g = g
+
+pub wrote-step : (o : RunRound) (p : Position) → wrote o p .step ≡ p .step
+unfolding wrote
+wrote-step (pollOf n) p = refl
+wrote-step (writeName n) p = refl
+wrote-step (writeHigh h) p = refl
+wrote-step (writeLow l) p = refl
+wrote-step compare p = refl
+wrote-step baptizeAll p = refl
+
+-- ---- needless writes
+
+-- none before the first comparison is over
+early-place : (k : ℕ) → k ≤ comparisonRounds → (placeOf k ≡ poll) ⊎ (isFirst (placeOf k) ≡ true)
+unfolding placeOf askOrGive questionOf isFirst
+early-place zero h = inl refl
+early-place (suc zero) h = inr refl
+early-place (suc (suc zero)) h = inr refl
+early-place (suc (suc (suc zero))) h = inr refl
+early-place (suc (suc (suc (suc k)))) h = absurd (omega arith)
+
+pub needless-early : (p : Position) → p .step ≤ comparisonRounds → NeedlessAt p false
+unfolding isNeedless roundHere both
+needless-early p h names = by (early-place (p .step) h)
+  where
+    by : (placeOf (p .step) ≡ poll) ⊎ (isFirst (placeOf (p .step)) ≡ true) → false ≡ cond (not (isFirst (placeOf (p .step)))) (isRepeated (roundAt (placeOf (p .step)) (getD names (p .index) 0) (p .value)) p) false
+    by (inl e) = rw e (unfold roundAt isRepeated isFirst in refl)
+    by (inr e) = rw e
+
+-- after it no place is one of the first comparison
+late-place : (k : ℕ) → comparisonRounds < k → isFirst (placeOf k) ≡ false
+late-place k h =
+    byCase (ltb k giveStep)
+    (λ t. rw (place-ask k (λ z. omega arith) (ltb-true k giveStep t)) (asked ((k - 1) / comparisonRounds) (later k h)))
+    (λ f. rw (place-give k (ltb-false k giveStep f)) (given (k - giveStep)))
+  where
+    later : (k : ℕ) → comparisonRounds < k → 1 ≤ (k - 1) / comparisonRounds
+    later k h = omega arith
+
+    asked : (q : ℕ) → 1 ≤ q → isFirst (ask (questionOf q) (partOf ((k - 1) % comparisonRounds))) ≡ false
+    asked zero h = absurd (omega arith)
+    asked (suc q) h = unfold questionOf isFirst in refl
+
+    given : (j : ℕ) → isFirst (giveOf j) ≡ false
+    given zero = unfold giveOf isFirst in refl
+    given (suc zero) = unfold giveOf isFirst in refl
+    given (suc (suc zero)) = unfold giveOf isFirst in refl
+    given (suc (suc (suc j))) = unfold giveOf isFirst in refl
+
+needless-late : (p : Position) → comparisonRounds < p .step → (names : List ℕ) →
+    isNeedless names p ≡ isRepeated (roundAt (placeOf (p .step)) (getD names (p .index) 0) (p .value)) p
+unfolding isNeedless roundHere both
+needless-late p late names = rw (late-place (p .step) late)
+
+writes-nothing : (n v : ℕ) (p : Position) (l : PassPlace) → partAt l ≡ reply → isRepeated (roundAt l n v) p ≡ false
+unfolding partAt roundAt isRepeated
+writes-nothing n v p poll e = refl
+writes-nothing n v p (ask q high) e = cc
+writes-nothing n v p (ask q low) e = cc
+writes-nothing n v p (ask q reply) e = refl
+writes-nothing n v p giveName e = refl
+writes-nothing n v p giveHigh e = cc
+writes-nothing n v p giveLow e = cc
+writes-nothing n v p baptize e = refl
+
+module _ (p : Position) (late : comparisonRounds < p .step) {r x : ℕ} (part : partOf r ≡ partAt (placeOf (p .step))) (value : x ≡ valueAt (placeOf (p .step)) (p .value)) where
+  pub needless-high : r ≡ 0 → NeedlessAt p (eqb (x / half) (p .high))
+  unfolding partOf
+  needless-high e names =
+      let here : high ≡ partAt (placeOf (p .step)) = rw e at part in
+      sym (needless-late p late names ∙ rw (writes-high (getD names (p .index) 0) (p .value) (placeOf (p .step)) (sym here), ← value) (unfold isRepeated in refl))
+
+  pub needless-low : r ≡ 1 → NeedlessAt p (eqb (x % half) (p .low))
+  unfolding partOf
+  needless-low e names =
+      let here : low ≡ partAt (placeOf (p .step)) = rw e at part in
+      sym (needless-late p late names ∙ rw (writes-low (getD names (p .index) 0) (p .value) (placeOf (p .step)) (sym here), ← value) (unfold isRepeated in refl))
+
+  pub needless-none : (r ≡ 0 → ⊥) → (r ≡ 1 → ⊥) → NeedlessAt p false
+  needless-none m l names =
+      sym (needless-late p late names ∙ writes-nothing (getD names (p .index) 0) (p .value) p (placeOf (p .step)) (sym part ∙ third-part r m l))
+
+-- passed over or not
+pub passed : (p : Position) {t : Bool} → NeedlessAt p t → t ≡ true → PassedOver p (atStep (p .step + 1) p)
+unfolding passOver atStep
+passed p is t names = rw (← is names, t, add-one)
+
+pub not-passed : (p : Position) {t : Bool} → NeedlessAt p t → t ≡ false → PassedOver p p
+unfolding passOver
+not-passed p is f names = rw (← is names, f)
+
+-- the last round of a pass is no write
+pub last-place : {k : ℕ} → k ≡ lastStep → placeOf k ≡ baptize
+unfolding placeOf askOrGive giveOf
+last-place e = rw e
+
+pub needless-inside : (names : List ℕ) (p : Position) → isNeedless names p ≡ true → p .step ≡ lastStep → ⊥
+unfolding isNeedless roundHere roundAt isRepeated isFirst both
+needless-inside names p t e = let none : isNeedless names p ≡ false = rw (last-place e) in clash t none
+
+pub last-real : (names : List ℕ) (p : Position) → p .step ≡ lastStep → isNeedless names p ≡ false
+last-real names p e = byCase (isNeedless names p) (λ t. absurd (needless-inside names p t e)) (λ f. f)
+
+pub pass-over-goes : {count : ℕ} (names : List ℕ) {p : Position} → GoesOn count p → GoesOn count (passOver names p)
+unfolding passOver atStep
+pass-over-goes names {p} g =
+    byCase (isNeedless names p)
+    (λ t.
+    let inside : p .step ≡ lastStep → ⊥ = needless-inside names p t in
+    let place = g .counts .place in
+    let on : suc (p .step) ≤ lastStep = omega arith in
+    rw t (record { within = g .within; counts = record { place = on; few = g .counts .few; fewer = g .counts .fewer } }))
+    (λ f. rw f g)
+
+pub passed-within : (p : Position) {q : Position} → p .step ≤ lastStep → PassedOver p q → q .step ≤ lastStep
+unfolding passOver atStep
+passed-within p {q} h is =
+    rw (is [])
+    (byCase (isNeedless [] p)
+    (λ t. let inside : p .step ≡ lastStep → ⊥ = needless-inside [] p t in rw t (omega arith))
+    (λ f. rw f h))
+
+pub passed-twice : (p q : Position) {r : Position} → PassedOver p q → PassedOver q r → Settled p r
+unfolding onto
+passed-twice p q first second names = second names ∙ rw (first names)
+
+pub onto-goes : {count : ℕ} (names : List ℕ) {p : Position} → GoesOn count p → GoesOn count (onto names p)
+unfolding onto
+onto-goes names g = pass-over-goes names (pass-over-goes names g)
+
+-- index and comparisons stay
+pass-over-same : (names : List ℕ) (p : Position) → (passOver names p .comparisons ≡ p .comparisons) × (passOver names p .index ≡ p .index)
+unfolding passOver atStep
+pass-over-same names p = byCase (isNeedless names p) (λ t. rw t (refl, refl)) (λ f. rw f (refl, refl))
+
+pub onto-same : (names : List ℕ) (p : Position) → (onto names p .comparisons ≡ p .comparisons) × (onto names p .index ≡ p .index)
+unfolding onto
+onto-same names p =
+    let first = pass-over-same names p in
+    let second = pass-over-same names (passOver names p) in
+    (second .0 ∙ first .0, second .1 ∙ first .1)
+
+-- so does the value
+pass-over-value : (names : List ℕ) (p : Position) → passOver names p .value ≡ p .value
+unfolding passOver atStep
+pass-over-value names p = byCase (isNeedless names p) (λ t. rw t) (λ f. rw f)
+
+pub onto-value : (names : List ℕ) (p : Position) → onto names p .value ≡ p .value
+unfolding onto
+onto-value names p = pass-over-value names (passOver names p) ∙ pass-over-value names p
+
+-- a position at a round really made is not moved on
+pub stays : (names : List ℕ) (p : Position) → isNeedless names p ≡ false → onto names p ≡ p
+unfolding onto passOver
+stays names p f = rw (f, f)
+
 -- ---- how a position moves on
 
 module _ (count : ℕ) (p : Position) where
@@ -68,14 +340,6 @@ module _ (count : ℕ) (p : Position) where
   reply-at (bit c) b e = rw e
 
 module _ (count : ℕ) (p : Position) {r : Position} where
-  pub moved-taken : {k : ℕ} {a : Reply} → k ≡ 0 → a ≡ replies.Heard → r ≡ nextName count p → r ≡ moveOn (placeOf k) count p (heard a)
-  unfolding placeOf moveOn heard
-  moved-taken e h is = rw (e, h) is
-
-  pub moved-free : {k : ℕ} {a : Reply} → k ≡ 0 → a ≡ replies.Silence → r ≡ onward p (p .value) 0 → r ≡ moveOn (placeOf k) count p (heard a)
-  unfolding placeOf moveOn heard
-  moved-free e h is = rw (e, h) is
-
   pub moved-last : {k : ℕ} (b : Bool) → k ≡ lastStep → r ≡ nextName count p → r ≡ moveOn (placeOf k) count p b
   unfolding placeOf moveOn askOrGive giveOf
   moved-last b e is = rw e is
@@ -96,61 +360,53 @@ module _ (count : ℕ) (p : Position) {r : Position} where
 
 -- after a comparison
 module _ (p : Position) {r : Position} where
-  pub least-silent : {q : ℕ} {a : Reply} → q ≡ 0 → a ≡ replies.Silence → r ≡ endAllNamed p → r ≡ moveOn (ask (questionOf q) reply) 0 p (heard a)
+  pub bit-silent : (q : ℕ) {a : Reply} → 1 ≤ q → a ≡ replies.Silence → r ≡ onward p (p .value) 1 → r ≡ moveOn (ask (questionOf q) reply) 0 p (heard a)
   unfolding questionOf moveOn heard
-  least-silent e h is = rw (e, h) is
-
-  pub least-heard : {q : ℕ} {a : Reply} → q ≡ 0 → a ≡ replies.Heard → r ≡ onward p 0 1 → r ≡ moveOn (ask (questionOf q) reply) 0 p (heard a)
-  unfolding questionOf moveOn heard
-  least-heard e h is = rw (e, h) is
-
-  pub bit-silent : (q : ℕ) {a : Reply} → (q ≡ 0 → ⊥) → a ≡ replies.Silence → r ≡ onward p (p .value) 1 → r ≡ moveOn (ask (questionOf q) reply) 0 p (heard a)
-  unfolding questionOf moveOn heard
-  bit-silent zero n h is = absurd (n refl)
+  bit-silent zero n h is = absurd (omega arith)
   bit-silent (suc q) n h is = rw h is
 
   pub bit-heard :
-      (q : ℕ) {t : ℕ} {a : Reply} → (q ≡ 0 → ⊥) → a ≡ replies.Heard → t ≡ tried (questionOf q) (p .value) → r ≡ onward p t 1 →
+      (q : ℕ) {t : ℕ} {a : Reply} → 1 ≤ q → a ≡ replies.Heard → t ≡ tried (questionOf q) (p .value) → r ≡ onward p t 1 →
       r ≡ moveOn (ask (questionOf q) reply) 0 p (heard a)
   unfolding questionOf moveOn heard
-  bit-heard zero n h e is = absurd (n refl)
+  bit-heard zero n h e is = absurd (omega arith)
   bit-heard (suc q) n h e is = is ∙ rw (h, e)
 
 -- ---- ground 17, part by part
 
 -- the position of these parts
-abbrev at : ℕ → ℕ → ℕ → ℕ → ℕ → ℕ → Position
-at end index step value rounds comparisons =
-    record { end = end; index = index; step = step; value = value; rounds = rounds; comparisons = comparisons }
+abbrev at : ℕ → ℕ → ℕ → ℕ → ℕ → ℕ → ℕ → ℕ → Position
+at end index step value rounds comparisons h l =
+    record { end = end; index = index; step = step; value = value; rounds = rounds; comparisons = comparisons; high = h; low = l }
 
-module _ (names : List ℕ) (end index step value rounds comparisons : ℕ) where
-  pub unfit-end : namesUsedUp < end → true ≡ unfitPosition names (at end index step value rounds comparisons)
+module _ (names : List ℕ) (end index step value rounds comparisons h l : ℕ) where
+  pub unfit-end : namesUsedUp < end → true ≡ unfitPosition names (at end index step value rounds comparisons h l)
   unfolding unfitPosition either both
-  unfit-end h = rw (lt-ltb namesUsedUp end h)
+  unfit-end more = rw (lt-ltb namesUsedUp end more)
 
   module _ (m : end ≤ namesUsedUp) where
-    pub unfit-index : length names < index → true ≡ unfitPosition names (at end index step value rounds comparisons)
+    pub unfit-index : length names < index → true ≡ unfitPosition names (at end index step value rounds comparisons h l)
     unfolding unfitPosition either both
     unfit-index h = rw (le-ltb namesUsedUp end m, lt-ltb (length names) index h)
 
     module _ (i : index ≤ length names) where
-      pub fit-ended : (end ≡ running → ⊥) → false ≡ unfitPosition names (at end index step value rounds comparisons)
+      pub fit-ended : (end ≡ running → ⊥) → false ≡ unfitPosition names (at end index step value rounds comparisons h l)
       unfolding unfitPosition either both
       fit-ended h = rw (le-ltb namesUsedUp end m, le-ltb (length names) index i, ne-eqb end running h)
 
       module _ (runs : end ≡ running) where
-        pub unfit-past : index ≡ length names → true ≡ unfitPosition names (at end index step value rounds comparisons)
+        pub unfit-past : index ≡ length names → true ≡ unfitPosition names (at end index step value rounds comparisons h l)
         unfolding unfitPosition either both
         unfit-past h = rw (le-ltb namesUsedUp end m, le-ltb (length names) index i, eq-eqb end running runs, eq-eqb index (length names) h)
 
         module _ (inside : index ≡ length names → ⊥) where
-          pub unfit-step : lastStep < step → true ≡ unfitPosition names (at end index step value rounds comparisons)
+          pub unfit-step : lastStep < step → true ≡ unfitPosition names (at end index step value rounds comparisons h l)
           unfolding unfitPosition either both
           unfit-step h =
               rw (le-ltb namesUsedUp end m, le-ltb (length names) index i, eq-eqb end running runs, ne-eqb index (length names) inside, lt-ltb lastStep step h)
 
           module _ (s : step ≤ lastStep) where
-            pub unfit-rounds : countLimit ≤ rounds → true ≡ unfitPosition names (at end index step value rounds comparisons)
+            pub unfit-rounds : countLimit ≤ rounds → true ≡ unfitPosition names (at end index step value rounds comparisons h l)
             unfolding unfitPosition either both
             unfit-rounds h =
                 rw (
@@ -162,7 +418,7 @@ module _ (names : List ℕ) (end index step value rounds comparisons : ℕ) wher
                   le-leb countLimit rounds h,
                 )
 
-            pub unfit-comparisons : rounds < countLimit → leb countLimit comparisons ≡ unfitPosition names (at end index step value rounds comparisons)
+            pub unfit-comparisons : rounds < countLimit → leb countLimit comparisons ≡ unfitPosition names (at end index step value rounds comparisons h l)
             unfolding unfitPosition either both
             unfit-comparisons h =
                 rw (

@@ -21,7 +21,8 @@ use Rattle.cluster.proofs.Rounds.{NoGround, none-holds}
 use Rattle.naming.specs.Inner.View.{SlaveView, viewOf, view, changeAll, change}
 use Rattle.naming.specs.Rules.Rounds.{RunRound, poll, writeName, writeHigh, writeLow, compare, baptize, sent, atUnnamed}
 use Rattle.naming.specs.Rules.Run.{Position, running, bits, nextRound, runGrounds}
-use Rattle.naming.specs.Rules.Step.{stepGround, stepOn, roundSent}
+use Rattle.cluster.specs.Rules.MasterSlave.{roundSent}
+use Rattle.naming.specs.Rules.Step.{stepGround, stepOn}
 use Rattle.naming.specs.Rules.Account.{Named}
 use Rattle.naming.specs.Claims.Renaming.{StepBaptizes, BaptizingStepRenames, OnlyBaptizingStepsRename}
 use Rattle.naming.proofs.Answers.{namedOf, Quiet, polling, telling-name, telling-high, telling-low, comparing, quiet-names}

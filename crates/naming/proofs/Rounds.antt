@@ -17,14 +17,14 @@ account left waiting slaves held end rounds done k =
 -- the account has more rounds to make
 abbrev pub Goes : List ℕ → ℕ → Type 0
 Goes [] k = eqb (suc k) endingRounds ≡ false
-Goes (p ∷ ps) k = Unit {0}
+Goes (p ∷ ps) k = suc k < namingRounds p
 
 pub goes-on :
-    (n : ℕ) (ns ws : List ℕ) (slaves : List Named) (held : List ℕ) (rounds done k : ℕ) → isAmong n held ≡ false → suc k < namingRounds → Goes ws k →
+    (n : ℕ) (ns ws : List ℕ) (slaves : List Named) (held : List ℕ) (rounds done k : ℕ) → isAmong n held ≡ false → Goes ws k →
     oneRound (account (n ∷ ns) ws slaves held 0 rounds done k) ≡ account (n ∷ ns) ws slaves held 0 (suc rounds) done (suc k)
 unfolding oneRound pass freePass goOn
-goes-on n ns [] slaves held rounds done k free l g = rw (free, g)
-goes-on n ns (p ∷ ps) slaves held rounds done k free l g = rw (free, ne-eqb (suc k) namingRounds (λ (e : suc k ≡ namingRounds). omega arith))
+goes-on n ns [] slaves held rounds done k free g = rw (free, g)
+goes-on n ns (p ∷ ps) slaves held rounds done k free g = rw (free, ne-eqb (suc k) (namingRounds p) (λ (e : suc k ≡ namingRounds p). omega arith))
 
 -- the account's last round of a pass: of a taken name, of one that is given, of the run
 pub taken-round :
@@ -35,11 +35,11 @@ taken-round n ns ws slaves held rounds done k t = rw t
 
 pub giving-round :
     (n : ℕ) (ns : List ℕ) (p : ℕ) (ps : List ℕ) (slaves : List Named) (held : List ℕ) (rounds done k : ℕ) → isAmong n held ≡ false →
-    suc k ≡ namingRounds →
+    suc k ≡ namingRounds p →
     oneRound (account (n ∷ ns) (p ∷ ps) slaves held 0 rounds done k) ≡
     account ns ps (map (give p n) slaves) held (endWith ns) (suc rounds) (done + namingComparisons) 0
 unfolding oneRound pass freePass passDone
-giving-round n ns p ps slaves held rounds done k f e = rw (f, eq-eqb (suc k) namingRounds e)
+giving-round n ns p ps slaves held rounds done k f e = rw (f, eq-eqb (suc k) (namingRounds p) e)
 
 pub ending-round :
     (n : ℕ) (ns : List ℕ) (slaves : List Named) (held : List ℕ) (rounds done k : ℕ) → isAmong n held ≡ false → suc k ≡ endingRounds →

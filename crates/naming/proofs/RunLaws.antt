@@ -5,44 +5,29 @@ use mathlib.Core.Path.{_≡_, refl, sym, _∙_}
 use mathlib.Core.List.{List, [], _∷_}
 use mathlib.Core.Bool.{Bool, true, false, cond}
 use native.Mathlib.Omega.{arith}
-use borrow.Author.Tests.{eq-eqb, ne-eqb, le-ltb, ltb-true, ltb-false, leb-false, eqb-false}
+use borrow.Author.Tests.{eq-eqb, ne-eqb, le-ltb, ltb-true, ltb-false, leb-false, eqb-true, eqb-false}
 use lib.ListN.{length, getD}
 use lib.Dec.{eqb, ltb}
 use Rattle.file.specs.Rules.Order.{firstOf, either}
 use Rattle.file.specs.Rules.Results.{done}
-use Rattle.file.specs.Rules.Bytes.{Byte, Bytes}
-use Rattle.file.specs.Rules.Cluster.{Cluster, pb2Of, writeOperation, broadcast, unnamed}
-use Rattle.file.specs.Rules.Decode.{decode}
-use Rattle.file.specs.Rules.Legal.{LegalPending}
-use Rattle.file.specs.Inner.Typed.{operationIn}
+use Rattle.file.specs.Rules.Cluster.{broadcast, unnamed}
 use Rattle.file.specs.Inner.Accepted.{Placed}
 use Rattle.file.proofs.Order.{byCase, either-false-left, either-false-right, both-false-next, first-none}
-use Rattle.file.proofs.Accepted.{encode-bytes}
-use Rattle.frame.specs.Rules.Fireworks.{dataFirework}
-use Rattle.frame.specs.Rules.Frames.{between, dataFrame, frameOf}
-use Rattle.cluster.specs.Rules.Bus.{slots}
-use Rattle.cluster.specs.Rules.Slaves.{withAddress, nextEpoch}
-use Rattle.cluster.specs.Rules.Grounds.{shortAnswer}
-use Rattle.cluster.specs.Rules.Round.{effectOf, frameOn}
-use Rattle.cluster.specs.Inner.Effects.{dataEffect}
-use Rattle.cluster.specs.Inner.Carried.{Carried}
-use Rattle.cluster.specs.Inner.Duties.{afterAddress, roundData}
-use Rattle.cluster.proofs.Kept.{nextEpoch-byte}
-use Rattle.cluster.proofs.Rounds.{address-pending}
-use Rattle.naming.specs.Rules.Rounds.{RunRound, half, comparisonRounds, Sent, sent}
-use Rattle.naming.specs.Rules.Run.{Position, running, unfitName, namesGrounds, startGround, runGrounds, unfitPosition, Question, questionOf, tried, Part, high, low, reply, partOf, giveOf, ask, bits, giveStep, placeOf, roundAt, moveOn, advance}
-use Rattle.naming.specs.Rules.Run.{nextRound}
-use Rattle.naming.specs.Rules.Step.{dataSent, isReply, made, madeBy, stepMade}
+use Rattle.naming.specs.Rules.Rounds.{RunRound, half, comparisonRounds, sent}
+use Rattle.naming.specs.Rules.Run.{Position, running, unfitName, namesGrounds, startGround, runGrounds, unfitPosition, Question, questionOf, tried, Part, high, low, reply, partOf, giveOf, ask, bits, giveStep, PassPlace, poll, giveName, giveHigh, giveLow, baptize, least, bit, lastStep, askOrGive, placeOf, roundAt, roundHere, onto, nextRound, wrote, onward, nextName, endAllNamed, moveOn, advance}
+use Rattle.naming.specs.Rules.Step.{isReply, made, madeBy, stepMade}
 use Rattle.cluster.specs.declared.types.MasterSlaveRound.{MasterSlaveRound}
+use Rattle.naming.specs.declared.position.Reply.{Reply}
 use Rattle.naming.specs.declared.position.Reply.the-variants as replies
-use Rattle.naming.specs.Inner.Answers.{heard, GoesOn, StepGoes, sentFor, Sends, askedFor}
+use Rattle.naming.specs.Inner.Answers.{heard, GoesOn, StepGoes, Wrote, Settled, Sends}
+use Rattle.cluster.specs.Rules.MasterSlave.{roundSent}
+use Rattle.cluster.specs.Inner.Sending.{sentFor, MaySend}
 use Rattle.naming.proofs.Facts.{Fit}
 use Rattle.naming.proofs.Places.{LegalQuestion, of-least, of-bit}
 use Rattle.naming.proofs.Search.{tried-small}
 use Rattle.naming.proofs.Abstract.{Sendable, of-poll, of-name, of-high, of-low, of-compare, of-baptize}
-use Rattle.naming.proofs.StepFrames.{SentBytes, sent-bytes, sent-fits, asked, data-round}
-use Rattle.naming.proofs.StepRound.{round-is}
-use Rattle.naming.proofs.PositionLaws.{place-ask, place-give}
+use Rattle.naming.proofs.StepRound.{may-send}
+use Rattle.naming.proofs.PositionLaws.{place-ask, place-give, last-place, wrote-goes, wrote-step, needless-early, onto-goes, onto-same, onto-value, stays}
 
 -- ---- grounds 15 to 17
 
@@ -81,56 +66,6 @@ pub one-silent : (m : ℕ) → (m / 2 % 2 ≡ 1 → ⊥) → heard replies.Silen
 unfolding heard isReply
 one-silent m n = rw (ne-eqb (m / 2 % 2) 1 n)
 
--- ---- the sending
-
-module _ (c : Cluster) (r : MasterSlaveRound) {e n : ℕ} (is : e ≡ c .epoch) (next : n ≡ nextEpoch e) where
-  asked-for : afterAddress c n r ≡ askedFor c r
-  unfolding askedFor
-  asked-for = rw (next, is)
-
-  pub pending-for : LegalPending (askedFor c r) → LegalPending (afterAddress c n r)
-  pending-for l = rw asked-for l
-
-  pub carried-for :
-      {old new file : List ℕ} {mask : ℕ} → Carried (dataEffect (afterAddress c n r) (roundData r)) dataFirework old new mask file →
-      Carried (dataEffect (askedFor c r) (roundData r)) dataFirework old new mask file
-  carried-for k = rw asked-for at k
-
--- ---- the round that the struct stands for
-
-module _ {r : MasterSlaveRound} {s : Sent} (h : Sends r s) where
-  sent-data : between (dataSent s) ≡ roundData r
-  sent-data = rw (← (h .parts)) (byCase (eqb (operationIn (r .operation)) writeOperation) write other)
-    where
-      write : eqb (operationIn (r .operation)) writeOperation ≡ true → between (dataSent (sentFor r)) ≡ roundData r
-      write e = unfold dataSent dataFrame frameOf in rw e
-
-      other : eqb (operationIn (r .operation)) writeOperation ≡ false → between (dataSent (sentFor r)) ≡ roundData r
-      other e = unfold dataSent in rw e (sym (h .idle e))
-
-module _ {r : MasterSlaveRound} (o : RunRound) (h : Sends r (sent o)) (c : Cluster) where
-  sent-asked : askedFor c r ≡ asked c o
-  unfolding askedFor afterAddress asked
-  sent-asked = rw (← (h .parts))
-
-  sent-effect : dataEffect (askedFor c r) (roundData r) ≡ frameOn (asked c o) (dataSent (sent o))
-  unfolding frameOn
-  sent-effect = rw (data-round o, ← sent-data h, ← sent-asked) (unfold effectOf in refl)
-
-  -- its operation may be pending
-  pub sent-legal : Sendable o → LegalPending (askedFor c r)
-  unfolding withAddress asked
-  sent-legal f =
-      let b : SentBytes (sent o) = sent-bytes f in
-      let byte : Byte (pb2Of (sent o .file) (sent o .operation)) = small b in
-      rw sent-asked
-      (address-pending c (nextEpoch (c .epoch)) (sent o .name) (pb2Of (sent o .file) (sent o .operation)) (sent o .«record») (nextEpoch-byte (c .epoch)) (b .name) byte (b .«record»)
-      (sent-fits f .0)
-      (sent-fits f .1))
-    where
-      small : {s : Sent} → SentBytes s → Byte (pb2Of (s .file) (s .operation))
-      small b = unfold pb2Of in omega arith
-
 -- ---- a running position
 
 pub record Runs (names : List ℕ) (p : Position) : Type 0 where
@@ -159,6 +94,10 @@ runs {names} {p} e m =
         };
       };
     }
+
+-- so it does once its round is made
+pub goes-wrote : {count : ℕ} {p w : Position} → GoesOn count p → Wrote p w → GoesOn count w
+goes-wrote {p = p} g is = rw (is 0) (wrote-goes (roundAt (placeOf (p .step)) 0 (p .value)) g)
 
 fit-at : (names : List ℕ) (i : ℕ) → unfitName names ≡ false → i < length names → getD names i 0 < 256 → Fit (getD names i 0)
 unfolding unfitName
@@ -207,36 +146,109 @@ module _ {n v : ℕ} (f : Fit n) (small : v < 2 ^ bits) where
   place-sendable zero = of-poll f
   place-sendable (suc k) = ask-or-give (suc k) (λ e. omega arith)
 
+here-sendable :
+    (names : List ℕ) {p : Position} → unfitName names ≡ false → GoesOn (length names) p → getD names (p .index) 0 < 256 → p .value < 2 ^ bits →
+    Sendable (roundHere names p)
+unfolding roundHere
+here-sendable names {p} fit g b v = place-sendable (fit-at names (p .index) fit (g .within) b) v (p .step)
+
 pub next-sendable : {names : List ℕ} {p : Position} → Runs names p → getD names (p .index) 0 < 256 → p .value < 2 ^ bits → Sendable (nextRound names p)
 unfolding nextRound
-next-sendable {names} {p} r b v = place-sendable (fit-at names (p .index) (r .fit) (r .goes .within) b) v (p .step)
+next-sendable {names} {p} r b v =
+    here-sendable names (r .fit) (onto-goes names (r .goes)) (rw (onto-same names p .1) b) (rw (onto-value names p) v)
+
+-- ---- the position after the round, by its place and answer
+
+poll-place : {k : ℕ} → k ≡ 0 → placeOf k ≡ poll
+unfolding placeOf
+poll-place e = rw e
+
+first-place : {k : ℕ} → k ≡ comparisonRounds → placeOf k ≡ ask least reply
+unfolding placeOf askOrGive questionOf partOf
+first-place e = rw e
+
+module _ (names : List ℕ) (w : Position) where
+  -- a position that begins a pass, or has ended, is not moved on
+  next-stays : onto names (nextName (length names) w) ≡ nextName (length names) w
+  unfolding nextName
+  next-stays = stays names (nextName (length names) w) (sym (needless-early (nextName (length names) w) (omega arith) names))
+
+  ended-stays : w .step ≡ comparisonRounds → onto names (endAllNamed w) ≡ endAllNamed w
+  unfolding endAllNamed
+  ended-stays e = stays names (endAllNamed w) (sym (needless-early (endAllNamed w) (omega arith) names))
+
+module _ (names : List ℕ) (w : Position) {q : Position} where
+  pub after-taken : {a : Reply} → w .step ≡ 0 → a ≡ replies.Heard → q ≡ nextName (length names) w → q ≡ onto names (moveOn (placeOf (w .step)) (length names) w (heard a))
+  after-taken e h is = is ∙ rw (poll-place e, h) (unfold moveOn heard in sym (next-stays names w))
+
+  pub after-free : {a : Reply} {v : Position} → w .step ≡ 0 → a ≡ replies.Silence → v ≡ onward w (w .value) 0 → Settled v q → q ≡ onto names (moveOn (placeOf (w .step)) (length names) w (heard a))
+  after-free e h is settled = settled names ∙ rw (poll-place e, h, is) (unfold moveOn heard in refl)
+
+  pub after-silence : {a : Reply} → w .step ≡ comparisonRounds → a ≡ replies.Silence → q ≡ endAllNamed w → q ≡ onto names (moveOn (placeOf (w .step)) (length names) w (heard a))
+  after-silence e h is = is ∙ rw (first-place e, h) (unfold moveOn heard in sym (ended-stays names w e))
+
+  pub after-first : {a : Reply} {v : Position} → w .step ≡ comparisonRounds → a ≡ replies.Heard → v ≡ onward w 0 1 → Settled v q → q ≡ onto names (moveOn (placeOf (w .step)) (length names) w (heard a))
+  after-first e h is settled = settled names ∙ rw (first-place e, h, is) (unfold moveOn heard in refl)
+
+  pub after-other : (b : Bool) {v : Position} → v ≡ moveOn (placeOf (w .step)) (length names) w b → Settled v q → q ≡ onto names (moveOn (placeOf (w .step)) (length names) w b)
+  after-other b is settled = settled names ∙ rw is
+
+-- its step is one of a pass again
+one-more : (l : PassPlace) (count : ℕ) (p : Position) (b : Bool) → moveOn l count p b .step ≤ suc (p .step)
+unfolding moveOn onward nextName endAllNamed
+one-more poll count p true = omega arith
+one-more poll count p false = omega arith
+one-more (ask q high) count p b = omega arith
+one-more (ask q low) count p b = omega arith
+one-more (ask least reply) count p true = omega arith
+one-more (ask least reply) count p false = omega arith
+one-more (ask (bit x) reply) count p b = omega arith
+one-more giveName count p b = omega arith
+one-more giveHigh count p b = omega arith
+one-more giveLow count p b = omega arith
+one-more baptize count p b = omega arith
+
+pub moved-within : (count : ℕ) (p : Position) (b : Bool) {v : Position} → p .step ≤ lastStep → v ≡ moveOn (placeOf (p .step)) count p b → v .step ≤ lastStep
+moved-within count p b h is =
+    rw is
+    (byCase (eqb (p .step) lastStep)
+    (λ t. rw (last-place (eqb-true (p .step) lastStep t)) (unfold moveOn nextName in omega arith))
+    (λ f. let n = eqb-false (p .step) lastStep f in omega (arith, one-more (placeOf (p .step)) count p b)))
+
+-- so is that of a position that goes on from the first rounds of a pass
+pub went-within : (p : Position) (x more : ℕ) {v : Position} → p .step ≤ comparisonRounds → v ≡ onward p x more → v .step ≤ lastStep
+unfolding onward
+went-within p x more h is = rw is (omega arith)
 
 -- ---- the whole step
 
--- the round that the code makes of a step that goes
+-- the round that the code makes of a step that goes, at the position s where it stands
 module _
-    {f places buffer names : List ℕ} {p : Position} {n : ℕ} {r : MasterSlaveRound} (placed : Placed f places) (step : StepGoes names p buffer)
-    (byte : getD names (p .index) 0 < 256) (small : p .value < 2 ^ bits) (name : n ≡ getD names (p .index) 0)
-    (round : Sends r (sent (roundAt (placeOf (p .step)) n (p .value)))) where
-  sendable : Sendable (nextRound names p)
-  sendable = next-sendable (runs (step .accepted) (step .runs)) byte small
+    {f places buffer names : List ℕ} {p : Position} (s : Position) (placed : Placed f places)
+    (step : StepGoes names p buffer) (settled : Settled p s) where
+  pub here-goes : GoesOn (length names) s
+  here-goes = rw (settled names) (onto-goes names (runs (step .accepted) (step .runs) .goes))
 
-  sends : Sends r (sent (nextRound names p))
-  unfolding nextRound
-  sends = rw name at round
+  module _
+      {n : ℕ} {r : MasterSlaveRound} (byte : getD names (s .index) 0 < 256) (small : s .value < 2 ^ bits) (name : n ≡ getD names (s .index) 0)
+      (round : Sends r (sent (roundAt (placeOf (s .step)) n (s .value)))) where
+    sends : Sends r (sent (roundHere names s))
+    unfolding roundHere
+    sends = record { parts = rw name at (round .parts) }
 
-  pub send-legal : LegalPending (askedFor (decode f) r)
-  send-legal = sent-legal (nextRound names p) sends (decode f) sendable
+    next-here : nextRound names p ≡ roundHere names s
+    unfolding nextRound
+    next-here = rw (settled names)
 
-  pub step-is :
-      {new file : List ℕ} {mask : ℕ} {q : Position} {b : Bool} →
-      Carried (dataEffect (askedFor (decode f) r) (roundData r)) dataFirework buffer new mask file → b ≡ isReply (done mask) →
-      q ≡ moveOn (placeOf (p .step)) (length names) p b → (done (made mask), q, new, file) ≡ stepMade f p names buffer
-  unfolding stepMade advance madeBy
-  step-is carry replied moved =
-      let o = nextRound names p in
-      let good = placed .file in
-      let bytes : Bytes f = rw (good .encoded) (encode-bytes (decode f) (good .legal)) in
-      let short : shortAnswer buffer ≡ false = unfold shortAnswer in le-ltb (length buffer) slots (step .long) in
-      let d : Carried (frameOn (asked (decode f) o) (dataSent (sent o))) dataFirework buffer _ _ _ = rw (sent-effect o sends (decode f)) at carry in
-      rw (round-is f buffer bytes (good .accepted) short sendable, ← (d .senders), ← (d .buffer), ← (d .becomes .encoded), ← replied, ← moved)
+    pub send-may : MaySend (sentFor r)
+    send-may = rw (sends .parts) (may-send (here-sendable names (runs (step .accepted) (step .runs) .fit) here-goes byte small))
+
+    pub step-is :
+        {new file : List ℕ} {mask : ℕ} {w q : Position} {b : Bool} →
+        (done mask, new, file) ≡ roundSent f (sentFor r) buffer → Wrote s w → b ≡ isReply (done mask) →
+        q ≡ onto names (moveOn (placeOf (w .step)) (length names) w b) → (done (made mask), q, new, file) ≡ stepMade f p names buffer
+    unfolding stepMade advance madeBy wrote
+    step-is {w = w} {q} {b} carry written replied moved =
+        let is : w ≡ wrote (roundHere names s) s = unfold roundHere in written (getD names (s .index) 0) in
+        let on : q ≡ onto names (moveOn (placeOf (s .step)) (length names) (wrote (roundHere names s) s) b) = rw (is, wrote-step (roundHere names s) s) at moved in
+        rw (next-here, ← (sends .parts), ← carry, ← replied, ← settled names, on)

@@ -15,7 +15,8 @@ use Rattle.file.proofs.Edition.{unknown-edition}
 use Rattle.cluster.proofs.Rounds.{file-decides}
 use Rattle.naming.specs.Rules.Rounds.{sent}
 use Rattle.naming.specs.Rules.Run.{Position, running, nextRound, advance}
-use Rattle.naming.specs.Rules.Step.{ended, madeBy, stepGround, stepMade, stepOn, roundSent, isReply}
+use Rattle.naming.specs.Rules.Step.{ended, madeBy, stepGround, stepMade, stepOn, isReply}
+use Rattle.cluster.specs.Rules.MasterSlave.{roundSent}
 use Rattle.naming.specs.Claims.Edition.{UnknownEditionStep}
 
 module _ (file : List ℕ) (p : Position) (names buffer : List ℕ) where

@@ -1,59 +1,113 @@
--- A round of the naming run on an accepted file: the file stays accepted, the views change as the round says, and bit 1 of the mask
--- says whether someone answers.
+-- A round of the naming run on an accepted file: it may be sent, the file stays accepted, the views change as the round says, and bit 1
+-- of the mask says whether someone answers.
 -- Assumes nothing.
-use Prim.Native.Nat.{ℕ, _≤_}
-use mathlib.Core.Path.{_≡_, refl, ap, _∙_}
-use mathlib.Core.List.{List, _++_, map}
+use Prim.Native.Nat.{ℕ, _/_, _%_, _≤_, _<_}
+use mathlib.Core.Path.{_≡_, refl, _∙_}
+use mathlib.Core.List.{List, [], _∷_, map}
 use mathlib.Core.Bool.{Bool, true, false, cond}
 use native.Mathlib.Omega.{arith}
-use lib.ListN.{length, drop}
-use lib.Seq.{drop-at}
 use lib.Dec.{eqb}
-use borrow.Author.Tests.{ltb-false}
-use Rattle.file.specs.Rules.Bytes.{Bytes, All}
+use borrow.Author.Tests.{ne-eqb}
+use Rattle.file.specs.Rules.Bytes.{Byte, Bytes, All, bytesOf}
+use Rattle.file.specs.Rules.Order.{both}
 use Rattle.file.specs.Rules.Results.{done}
-use Rattle.file.specs.Rules.Encode.{encode}
+use Rattle.file.specs.Rules.Layout.{recordSize}
+use Rattle.file.specs.Rules.Cluster.{Slave, Cluster, unnamed, broadcast, writeOperation, executeOperation}
+use Rattle.file.specs.Rules.Changes.{withSlaves, withEpoch, withPending}
 use Rattle.file.specs.Rules.Decode.{decode}
 use Rattle.file.specs.Rules.Grounds.{fileGround}
 use Rattle.file.specs.Rules.Legal.{LegalSlave}
 use Rattle.file.specs.Inner.Accepted.{Becomes}
+use Rattle.file.proofs.Order.{both-false-right}
 use Rattle.file.proofs.Accepted.{accepted-becomes, encode-bytes}
-use Rattle.frame.specs.Rules.Fireworks.{dataFirework}
-use Rattle.cluster.specs.Rules.Bus.{Senders, slots, anyone, senderMask, answerBytes, answerIn}
-use Rattle.cluster.specs.Rules.Slaves.{sentTo}
+use Rattle.frame.specs.Rules.Frames.{between, dataFrame, frameOf}
+use Rattle.frame.specs.Rules.Grounds.{broadcastRead}
+use Rattle.cluster.specs.Rules.Bus.{Senders, slots, anyone, senderMask}
+use Rattle.cluster.specs.Rules.Slaves.{withAddress, epochRaised, pendingDuty, sentTo, slavesAfter, slaveAfter}
 use Rattle.cluster.specs.Rules.Grounds.{shortAnswer}
-use Rattle.cluster.specs.Inner.Grounds.{frameGround}
-use Rattle.cluster.specs.Rules.Round.{Effect, Answer, frameOn, roundGround, roundOn}
-use Rattle.cluster.specs.Inner.Effects.{carriedBy, bufferBy}
-use Rattle.cluster.proofs.Bus.{mask-bit, answerBytes-length, answer-length}
-use Rattle.cluster.proofs.Rounds.{round-accepted, round-becomes}
-use Rattle.cluster.proofs.RoundCall.{frame-decides}
-use Rattle.naming.specs.Rules.Rounds.{RunRound, sent}
+use Rattle.cluster.specs.Rules.Round.{Answer, frameOn}
+use Rattle.cluster.specs.Rules.MasterSlave.{dataSent, roundSent}
+use Rattle.cluster.specs.Inner.Sending.{DataOf, of-write, of-other, MaySend, asked}
+use Rattle.cluster.proofs.Bus.{mask-bit}
+use Rattle.cluster.proofs.SentRounds.{asked-duty, data-effect, round-sent-becomes, round-is}
+use Rattle.naming.specs.Rules.Rounds.{RunRound, poll, writeName, writeHigh, writeLow, compare, baptize, sent, atUnnamed, half}
 use Rattle.naming.specs.Inner.View.{viewOf, view, changeAll, answers}
-use Rattle.naming.specs.Rules.Step.{addressSent, dataSent, roundSent, isReply}
-use Rattle.naming.proofs.Abstract.{Sendable}
-use Rattle.naming.proofs.SlaveRounds.{carriedOut, slaves-send, slaves-change}
-use Rattle.naming.proofs.StepFrames.{asked, address-accepted, address-after, address-sent-bytes, data-first, data-accepted, data-sent-bytes, data-senders, data-slaves}
+use Rattle.naming.specs.Rules.Step.{isReply}
+use Rattle.naming.proofs.Abstract.{Sendable, of-poll, of-name, of-high, of-low, of-compare, of-baptize}
+use Rattle.naming.proofs.SlaveRounds.{carriedOut, operation-sent, slaves-send, slaves-change}
 
--- a frame that fits, on an accepted file and with a buffer that is long enough, is accepted
-pub round-fits :
-    (file frame buffer : List ℕ) → fileGround file ≡ 0 → shortAnswer buffer ≡ false → frameGround (decode file) frame ≡ 0 → roundGround file frame buffer ≡ 0
-unfolding shortAnswer
-round-fits file frame buffer good long fits = frame-decides file frame buffer good (ltb-false (length buffer) slots long) ∙ fits
+-- ---- the rounds of a run may be sent
 
--- the buffer of an accepted frame stays as long
-pub buffer-long : (r : Senders) (firework : ℕ) (buffer : List ℕ) → shortAnswer buffer ≡ false → shortAnswer (answerIn buffer (answerBytes firework r)) ≡ false
-unfolding shortAnswer
-buffer-long r firework buffer long =
-    let l : slots ≤ length buffer = ltb-false (length buffer) slots long in
-    rw (answer-length buffer firework r l) long
+-- the four bytes of a half
+half-data : (n : ℕ) → n < half → DataOf writeOperation (bytesOf recordSize n)
+unfolding bytesOf
+half-data n small =
+    let a : Byte (n / 16777216) = omega arith in
+    let b : Byte (n % 16777216 / 65536) = omega arith in
+    let c : Byte (n % 16777216 % 65536 / 256) = omega arith in
+    let d : Byte (n % 16777216 % 65536 % 256 / 1) = omega arith in
+    of-write a b c d
 
--- of two answers in a buffer the second stays
-answered-twice : (e d : Effect) (firework last : ℕ) (buffer : List ℕ) → bufferBy e last (bufferBy d firework buffer) ≡ bufferBy e last buffer
-unfolding answerIn
-answered-twice e d firework last buffer =
-    ap (λ (l : List ℕ). answerBytes last (e .senders) ++ l)
-    (drop-at (answerBytes firework (d .senders)) (drop slots buffer) slots (answerBytes-length firework (d .senders)))
+name-data : (n : ℕ) → Byte n → DataOf writeOperation (0 ∷ 0 ∷ n ∷ unnamed ∷ [])
+name-data n b =
+    let none : Byte 0 = omega arith in
+    let last : Byte unnamed = omega arith in
+    of-write none none b last
+
+at-unnamed :
+    {operation : ℕ} {content : List ℕ} (r : ℕ) → operation ≤ executeOperation → Byte r → DataOf operation content →
+    MaySend (atUnnamed operation r content)
+unfolding atUnnamed broadcastRead
+at-unnamed r o b d =
+    record {
+      name = omega arith;
+      file = omega arith;
+      operation = o;
+      «record» = b;
+      broadcast = both-false-right _ refl;
+      content = d;
+    }
+
+pub may-send : {o : RunRound} → Sendable o → MaySend (sent o)
+unfolding sent broadcastRead
+may-send (of-poll {n} f) =
+    record {
+      name = f .byte;
+      file = omega arith;
+      operation = omega arith;
+      «record» = omega arith;
+      broadcast = rw (ne-eqb n broadcast (f .some)) (unfold both in refl);
+      content = of-other refl;
+    }
+may-send (of-name {n} f) = at-unnamed 1 (omega arith) (omega arith) (name-data n (f .byte))
+may-send (of-high {h = h} k) = at-unnamed 2 (omega arith) (omega arith) (half-data h k)
+may-send (of-low {l = l} k) = at-unnamed 3 (omega arith) (omega arith) (half-data l k)
+may-send of-compare = at-unnamed 2 (omega arith) (omega arith) (of-other refl)
+may-send of-baptize = at-unnamed 1 (omega arith) (omega arith) (of-other refl)
+
+-- ---- what they do
+
+data-content : (o : RunRound) (ss : List Slave) → map (slaveAfter (carriedOut o) (between (dataSent (sent o)))) ss ≡ map (slaveAfter (carriedOut o) (sent o .content)) ss
+unfolding carriedOut slaveAfter dataSent sent atUnnamed dataFrame frameOf bytesOf
+data-content (poll n) ss = refl
+data-content (writeName n) ss = refl
+data-content (writeHigh h) ss = refl
+data-content (writeLow l) ss = refl
+data-content compare ss = refl
+data-content baptize ss = refl
+
+module _ (c : Cluster) {o : RunRound} (f : Sendable o) where
+  asked-pending : pendingDuty (asked c (sent o)) ≡ carriedOut o
+  asked-pending = asked-duty c (sent o) (may-send f) ∙ operation-sent o
+
+  -- who sends, and what the slaves become
+  data-senders : frameOn (asked c (sent o)) (dataSent (sent o)) .senders ≡ sentTo (carriedOut o) (c .slaves)
+  data-senders = rw (data-effect c (sent o) (may-send f), asked-pending) (unfold asked withAddress withPending withEpoch in refl)
+
+  data-slaves : frameOn (asked c (sent o)) (dataSent (sent o)) .after .slaves ≡ map (slaveAfter (carriedOut o) (sent o .content)) (c .slaves)
+  data-slaves =
+      rw (data-effect c (sent o) (may-send f), asked-pending)
+      (unfold slavesAfter epochRaised withSlaves asked withAddress withPending withEpoch in data-content o (c .slaves))
 
 -- bit 1 of the mask
 bit-one : (r : Senders) (b : Bool) → anyone (r 1) ≡ cond b 1 0 → isReply (done (senderMask r)) ≡ b
@@ -72,63 +126,21 @@ pub record Made (f : List ℕ) (o : RunRound) (after : Answer × List ℕ × Lis
   pub heard : isReply (after .0) ≡ answers o (view (decode f))
 
 module _ (f : List ℕ) {o : RunRound} (buffer : List ℕ) (bytes : Bytes f) (good : fileGround f ≡ 0) (long : shortAnswer buffer ≡ false) (s : Sendable o) where
-  first : Answer × List ℕ × List ℕ
-  first = roundOn f (addressSent (decode f) (sent o)) buffer
+  becomes : Becomes (roundSent f (sent o) buffer .2) (frameOn (asked (decode f) (sent o)) (dataSent (sent o)) .after)
+  becomes = round-sent-becomes f buffer bytes good long (may-send s)
 
-  first-ground : roundGround f (addressSent (decode f) (sent o)) buffer ≡ 0
-  first-ground = round-fits f (addressSent (decode f) (sent o)) buffer good long (address-accepted (decode f) s)
-
-  first-becomes : Becomes (first .2) (asked (decode f) o)
-  unfolding first asked
-  first-becomes =
-      rw (address-after (decode f) s) at (round-becomes f (addressSent (decode f) (sent o)) buffer bytes (address-sent-bytes (decode f) s) first-ground)
-
-  first-long : shortAnswer (first .1) ≡ false
-  unfolding first
-  first-long = rw (round-accepted f (addressSent (decode f) (sent o)) buffer first-ground) (buffer-long _ _ buffer long)
-
-  second : Answer × List ℕ × List ℕ
-  second = roundOn (first .2) (dataSent (sent o)) (first .1)
-
-  second-ground : roundGround (first .2) (dataSent (sent o)) (first .1) ≡ 0
-  second-ground =
-      round-fits (first .2) (dataSent (sent o)) (first .1) (first-becomes .accepted) first-long
-      (rw (first-becomes .decoded) (data-accepted (decode f) o))
-
-  first-bytes : Bytes (first .2)
-  first-bytes = rw (first-becomes .encoded) (encode-bytes (asked (decode f) o) (first-becomes .legal))
-
-  second-becomes : Becomes (second .2) (frameOn (asked (decode f) o) (dataSent (sent o)) .after)
-  unfolding second
-  second-becomes =
-      rw (first-becomes .decoded) at (round-becomes (first .2) (dataSent (sent o)) (first .1) first-bytes (data-sent-bytes s) second-ground)
-
-  second-answer : second .0 ≡ done (senderMask (sentTo (carriedOut o) (decode f .slaves)))
-  unfolding second
-  second-answer =
-      rw (round-accepted (first .2) (dataSent (sent o)) (first .1) second-ground, first-becomes .decoded, data-senders (decode f) o)
-
-  -- the two frames together: what the data frame does, over the buffer as it was
-  pub round-is :
-      roundSent f (sent o) buffer ≡ (
-        carriedBy (frameOn (asked (decode f) o) (dataSent (sent o))),
-        bufferBy (frameOn (asked (decode f) o) (dataSent (sent o))) dataFirework buffer,
-        encode (frameOn (asked (decode f) o) (dataSent (sent o)) .after),
-      )
-  unfolding roundSent first
-  round-is =
-      round-accepted (first .2) (dataSent (sent o)) (first .1) second-ground
-      ∙ rw (first-becomes .decoded, data-first o, round-accepted f (addressSent (decode f) (sent o)) buffer first-ground, answered-twice)
+  replies : roundSent f (sent o) buffer .0 ≡ done (senderMask (sentTo (carriedOut o) (decode f .slaves)))
+  replies = rw (round-is f buffer bytes good long (may-send s), data-senders (decode f) s)
 
   legal-slaves : All LegalSlave (decode f .slaves)
   legal-slaves = accepted-becomes f bytes good .legal .slaves
 
   pub round-made : Made f o (roundSent f (sent o) buffer)
-  unfolding roundSent view first second
+  unfolding view
   round-made =
       record {
-        bytes = rw (second-becomes .encoded) (encode-bytes _ (second-becomes .legal));
-        accepted = second-becomes .accepted;
-        views = rw (second-becomes .decoded, data-slaves (decode f) o) (slaves-change s legal-slaves);
-        heard = rw second-answer (bit-one (sentTo (carriedOut o) (decode f .slaves)) (answers o (map viewOf (decode f .slaves))) (slaves-send s legal-slaves));
+        bytes = rw (becomes .encoded) (encode-bytes _ (becomes .legal));
+        accepted = becomes .accepted;
+        views = rw (becomes .decoded, data-slaves (decode f) s) (slaves-change s legal-slaves);
+        heard = rw replies (bit-one (sentTo (carriedOut o) (decode f .slaves)) (answers o (map viewOf (decode f .slaves))) (slaves-send s legal-slaves));
       }

@@ -9,7 +9,7 @@ use lib.Dec.{eqb}
 use borrow.Author.Tests.{eqb-true, eqb-false, ne-eqb}
 use Rattle.file.specs.Rules.Grounds.{isAmong}
 use Rattle.file.proofs.Order.{byCase, either-false-left, either-false-right}
-use Rattle.naming.specs.Rules.Account.{Named, Account, endWith, give, oneRound, comparisonsAfter, namingRounds, namingComparisons, endingRounds, endingComparisons}
+use Rattle.naming.specs.Rules.Account.{Named, Account, endWith, give, oneRound, comparisonsAfter, highAgain, namingRounds, namingComparisons, endingRounds, endingComparisons}
 use Rattle.naming.specs.Rules.Figures.{freeNames, givings, nameGiven, renamed}
 use Rattle.naming.proofs.Facts.{Falling, fall-first, fall-others, not-among}
 use Rattle.naming.proofs.Rounds.{account, goes-on, taken-round, giving-round, ending-round}
@@ -18,7 +18,7 @@ use Rattle.naming.proofs.Rounds.{account, goes-on, taken-round, giving-
 unfoldable pub due : List ℕ → List ℕ → List ℕ → ℕ
 due held [] ws = 0
 due held (n ∷ ns) [] = cond (isAmong n held) (suc (due held ns [])) endingRounds
-due held (n ∷ ns) (p ∷ ps) = cond (isAmong n held) (suc (due held ns (p ∷ ps))) (namingRounds + due held ns ps)
+due held (n ∷ ns) (p ∷ ps) = cond (isAmong n held) (suc (due held ns (p ∷ ps))) (namingRounds p + due held ns ps)
 
 unfoldable pub dueComparisons : List ℕ → List ℕ → List ℕ → ℕ
 dueComparisons held [] ws = 0
@@ -30,7 +30,7 @@ dueComparisons held (n ∷ ns) (p ∷ ps) =
 unfoldable pub length-of-pass : Bool → List ℕ → ℕ
 length-of-pass true ws = 1
 length-of-pass false [] = endingRounds
-length-of-pass false (p ∷ ps) = namingRounds
+length-of-pass false (p ∷ ps) = namingRounds p
 
 -- the slaves when the passes from here on are done
 unfoldable pub finally : List ℕ → List ℕ → List ℕ → List Named → List Named
@@ -43,10 +43,10 @@ pub record Due (R C : ℕ) (F : List Named) (n : ℕ) (ns ws : List ℕ) (slaves
   pub names : finally held (n ∷ ns) ws slaves ≡ F
   pub falls : Falling ws
 
-pub record Done (R C : ℕ) (F : List Named) (slaves : List Named) (end rounds done k : ℕ) : Type 0 where
+pub record Done (R C : ℕ) (F : List Named) (ws : List ℕ) (slaves : List Named) (end rounds done k : ℕ) : Type 0 where
   pub all : rounds ≡ R
   pub some : 0 < end
-  pub comparisons : done + comparisonsAfter k ≡ C
+  pub comparisons : done + comparisonsAfter (highAgain ws) k ≡ C
   pub names : slaves ≡ F
 
 pub data Tally (R C : ℕ) (F : List Named) : Account → Type 0 where
@@ -54,7 +54,7 @@ pub data Tally (R C : ℕ) (F : List Named) : Account → Type 0 where
       {n rounds done k : ℕ} {ns ws held : List ℕ} {slaves : List Named} → Due R C F n ns ws slaves held rounds done k →
       Tally R C F (account (n ∷ ns) ws slaves held 0 rounds done k)
   ended :
-      {end rounds done k : ℕ} {left ws held : List ℕ} {slaves : List Named} → Done R C F slaves end rounds done k →
+      {end rounds done k : ℕ} {left ws held : List ℕ} {slaves : List Named} → Done R C F ws slaves end rounds done k →
       Tally R C F (account left ws slaves held end rounds done k)
 
 -- ---- names
@@ -113,21 +113,26 @@ module _ (n : ℕ) (ns held : List ℕ) (t : isAmong n held ≡ true) where
   unfolding freeNames
   free-taken = rw t
 
+-- a pass that has made no round has made no comparison
+pub none-compared : (e : ℕ) → comparisonsAfter e 0 ≡ 0
+unfolding comparisonsAfter
+none-compared e = omega arith
+
 pass-positive : (b : Bool) (ws : List ℕ) → 0 < length-of-pass b ws
 unfolding length-of-pass
 pass-positive true ws = omega arith
 pass-positive false [] = omega arith
-pass-positive false (p ∷ ps) = omega arith
+pass-positive false (p ∷ ps) = unfold namingRounds in omega arith
 
 module _ (R C : ℕ) (F : List Named) where
   pub next-pass :
       (ns ws : List ℕ) (slaves : List Named) (held : List ℕ) (rounds done : ℕ) → rounds + due held ns ws ≡ R →
       done + dueComparisons held ns ws ≡ C → finally held ns ws slaves ≡ F → Falling ws →
       Tally R C F (account ns ws slaves held (endWith ns) rounds done 0)
-  unfolding endWith due dueComparisons finally freeNames comparisonsAfter
+  unfolding endWith due dueComparisons finally freeNames
   next-pass [] ws slaves held rounds done r c f w =
-      let d : Done R C F slaves 2 rounds done 0 =
-      record { all = omega arith; some = omega arith; comparisons = c; names = sym (rw (no-names ws) (all-stay slaves)) ∙ f } in
+      let d : Done R C F ws slaves 2 rounds done 0 =
+      record { all = omega arith; some = omega arith; comparisons = omega (arith, none-compared (highAgain ws)); names = sym (rw (no-names ws) (all-stay slaves)) ∙ f } in
       ended d
   next-pass (m ∷ ms) ws slaves held rounds done r c f w =
       let d : Due R C F m ms ws slaves held rounds done 0 =
@@ -154,11 +159,11 @@ module _ (R C : ℕ) (F : List Named) where
 
   naming-pass :
       (n : ℕ) (ns : List ℕ) (p : ℕ) (ps : List ℕ) (slaves : List Named) (held : List ℕ) (rounds done k : ℕ) →
-      Due R C F n ns (p ∷ ps) slaves held rounds done k → isAmong n held ≡ false → suc k ≡ namingRounds →
+      Due R C F n ns (p ∷ ps) slaves held rounds done k → isAmong n held ≡ false → suc k ≡ namingRounds p →
       Tally R C F (account ns ps (map (give p n) slaves) held (endWith ns) (suc rounds) (done + namingComparisons) 0)
   unfolding due dueComparisons finally freeNames
   naming-pass n ns p ps slaves held rounds done k d f e =
-      let r : rounds + (namingRounds + due held ns ps) ≡ R + k = rw f at (d .all) in
+      let r : rounds + (namingRounds p + due held ns ps) ≡ R + k = rw f at (d .all) in
       let c : done + (namingComparisons + dueComparisons held ns ps) ≡ C = rw f at (d .comparisons) in
       let m : map (renamed (givings (p ∷ ps) (n ∷ freeNames held ns))) slaves ≡ F = rw f at (d .names) in
       next-pass ns ps (map (give p n) slaves) held (suc rounds) (done + namingComparisons) (omega arith) (omega arith)
@@ -167,11 +172,11 @@ module _ (R C : ℕ) (F : List Named) where
   ending-pass :
       (n : ℕ) (ns : List ℕ) (slaves : List Named) (held : List ℕ) (rounds done k : ℕ) → Due R C F n ns [] slaves held rounds done k →
       isAmong n held ≡ false → suc k ≡ endingRounds → Tally R C F (account (n ∷ ns) [] slaves held 1 (suc rounds) done (suc k))
-  unfolding due dueComparisons finally givings comparisonsAfter
+  unfolding due dueComparisons finally givings comparisonsAfter highAgain
   ending-pass n ns slaves held rounds done k d f e =
       let r : rounds + endingRounds ≡ R + k = rw f at (d .all) in
       let c : done + endingComparisons ≡ C = rw f at (d .comparisons) in
-      let g : Done R C F slaves 1 (suc rounds) done (suc k) =
+      let g : Done R C F [] slaves 1 (suc rounds) done (suc k) =
       record { all = omega arith; some = omega arith; comparisons = rw e c; names = sym (all-stay slaves) ∙ d .names } in
       ended g
 
@@ -188,18 +193,17 @@ module _ (R C : ℕ) (F : List Named) where
       (λ g.
       let e : suc k ≡ endingRounds → ⊥ = eqb-false _ _ g in
       let l : suc k < endingRounds = omega arith in
-      let m : suc k < namingRounds = omega arith in
-      rw (goes-on n ns [] slaves held rounds done k f m g) (goes-on-pass n ns [] slaves held rounds done k d (rw f l)))
+      rw (goes-on n ns [] slaves held rounds done k f g) (goes-on-pass n ns [] slaves held rounds done k d (rw f l)))
   free-pass n ns (p ∷ ps) slaves held rounds done k d f =
-      let w : k < namingRounds = rw f at (d .within) in
-      byCase (eqb (suc k) namingRounds)
+      let w : k < namingRounds p = rw f at (d .within) in
+      byCase (eqb (suc k) (namingRounds p))
       (λ t.
-      let e : suc k ≡ namingRounds = eqb-true _ _ t in
+      let e : suc k ≡ namingRounds p = eqb-true _ _ t in
       rw (giving-round n ns p ps slaves held rounds done k f e) (naming-pass n ns p ps slaves held rounds done k d f e))
       (λ g.
-      let e : suc k ≡ namingRounds → ⊥ = eqb-false _ _ g in
-      let l : suc k < namingRounds = omega arith in
-      rw (goes-on n ns (p ∷ ps) slaves held rounds done k f l tt) (goes-on-pass n ns (p ∷ ps) slaves held rounds done k d (rw f l)))
+      let e : suc k ≡ namingRounds p → ⊥ = eqb-false _ _ g in
+      let l : suc k < namingRounds p = omega arith in
+      rw (goes-on n ns (p ∷ ps) slaves held rounds done k f l) (goes-on-pass n ns (p ∷ ps) slaves held rounds done k d (rw f l)))
 
   ended-stays : (left ws : List ℕ) (slaves : List Named) (held : List ℕ) (end rounds done k : ℕ) → 0 < end →
       oneRound (account left ws slaves held end rounds done k) ≡ account left ws slaves held end rounds done k

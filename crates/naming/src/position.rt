@@ -1,8 +1,9 @@
 // The position of a naming run, and how it moves on.
 ghost use mathlib.Core.Path.{_≡_};
 ghost use Prim.Native.Nat.{_≤_};
-ghost use Rattle.naming.specs.Rules.Run.{endAt, fresh, onward, nextName, endAllNamed, ask, reply, bits, questionOf, tried, placeOf, moveOn, unfitPosition};
-ghost use Rattle.naming.specs.Inner.Answers.{positionOf, heard, FitCounts, GoesOn};
+ghost use Rattle.naming.specs.Rules.Run.{endAt, fresh, onward, nextName, endAllNamed, ask, reply, bits, questionOf, partOf, tried, placeOf, moveOn, unfitPosition, lastStep};
+ghost use Rattle.naming.specs.Rules.Rounds.{comparisonRounds};
+ghost use Rattle.naming.specs.Inner.Answers.{positionOf, heard, FitCounts, GoesOn, partAt, valueAt, Wrote, NeedlessAt, PassedOver, Settled};
 
 // The caller keeps it between steps, and may hand in any content.
 pub struct RunPosition {
@@ -12,6 +13,8 @@ pub struct RunPosition {
     pub value: u64,
     pub rounds: u64,
     pub comparisons: u64,
+    pub high: u64,
+    pub low: u64,
 }
 
 pub const RUNNING: u64 = 0;
@@ -32,8 +35,15 @@ pub const LOW: u64 = 1;
 
 const REPLY: u64 = 2;
 
+// The values of a byte, and of the four bytes of a half.
+pub const BYTE: u64 = 256;
+
+pub const HALF: u64 = BYTE * BYTE * BYTE * BYTE;
+
 // The steps of a pass: the poll, the comparisons with 0 and with each bit, then the four rounds that give the name.
 pub const POLL: u64 = 0;
+
+pub const FIRST_REPLY: u64 = COMPARISON_ROUNDS;
 
 pub const GIVE_NAME: u64 = 1 + COMPARISON_ROUNDS * (1 + BITS);
 
@@ -72,6 +82,8 @@ pub fn first_position(names: &[u8]) -> RunPosition
         value: 0,
         rounds: 0,
         comparisons: 0,
+        high: 0,
+        low: 0,
     }
 }
 
@@ -102,7 +114,7 @@ pub fn is_unfit(names: &[u8], run: RunPosition) -> bool
 }
 
 // To the pass's next round, with a value and so many more comparisons made.
-fn go_on(run: RunPosition, value: u64, more: u64) -> RunPosition
+pub fn go_on(run: RunPosition, value: u64, more: u64) -> RunPosition
     requires { ⌜ FitCounts (positionOf run) × (more ≤ 1) ⌝ }
     ensures { λ r. ⌜ positionOf r ≡ onward (positionOf run) value more ⌝ }
 {
@@ -113,11 +125,13 @@ fn go_on(run: RunPosition, value: u64, more: u64) -> RunPosition
         value,
         rounds: run.rounds + 1,
         comparisons: run.comparisons + more,
+        high: run.high,
+        low: run.low,
     }
 }
 
 // The name is done.
-fn next_name(run: RunPosition, count: u64) -> RunPosition
+pub fn next_name(run: RunPosition, count: u64) -> RunPosition
     requires { ⌜ GoesOn count (positionOf run) ⌝ }
     ensures { λ r. ⌜ positionOf r ≡ nextName count (positionOf run) ⌝ }
 {
@@ -128,10 +142,12 @@ fn next_name(run: RunPosition, count: u64) -> RunPosition
         value: run.value,
         rounds: run.rounds + 1,
         comparisons: run.comparisons,
+        high: run.high,
+        low: run.low,
     }
 }
 
-fn all_named(run: RunPosition) -> RunPosition
+pub fn all_named(run: RunPosition) -> RunPosition
     requires { ⌜ FitCounts (positionOf run) ⌝ }
     ensures { λ r. ⌜ positionOf r ≡ endAllNamed (positionOf run) ⌝ }
 {
@@ -142,6 +158,8 @@ fn all_named(run: RunPosition) -> RunPosition
         value: run.value,
         rounds: run.rounds + 1,
         comparisons: run.comparisons + 1,
+        high: run.high,
+        low: run.low,
     }
 }
 
@@ -156,34 +174,137 @@ pub fn tried_value(question: u64, value: u64) -> u64
     value | (1u64 << (BITS - question))
 }
 
-// After the replies to comparison number question: silence at the one with 0 ends the run, a reply at a bit keeps the bit.
+// The half that the round at a step writes, REPLY where it writes none.
+pub fn part_at(step: u64) -> u64
+    requires { ⌜ step ≤ lastStep ⌝ }
+    ensures { λ r. ⌜ partOf r ≡ partAt (placeOf step) ⌝ }
+{
+    if step == POLL {
+        return REPLY;
+    }
+    if step < GIVE_NAME {
+        return (step - 1) % COMPARISON_ROUNDS;
+    }
+    if step == GIVE_HIGH {
+        return HIGH;
+    }
+    if step == GIVE_LOW {
+        return LOW;
+    }
+    REPLY
+}
+
+// The value that it is a half of.
+pub fn value_at(step: u64, value: u64) -> u64
+    requires { ⌜ step ≤ lastStep ⌝ }
+    ensures { λ r. ⌜ r ≡ valueAt (placeOf step) value ⌝ }
+{
+    if step == POLL {
+        return value;
+    }
+    if step < GIVE_NAME {
+        return tried_value((step - 1) / COMPARISON_ROUNDS, value);
+    }
+    value
+}
+
+// With the half that the round at its step writes.
+pub fn wrote(run: RunPosition) -> RunPosition
+    requires { ⌜ run .step ≤ lastStep ⌝ }
+    ensures { λ r. ⌜ Wrote (positionOf run) (positionOf r) ⌝ }
+{
+    let part = part_at(run.step);
+    let value = value_at(run.step, run.value);
+    if part == HIGH {
+        return RunPosition {
+            end: run.end,
+            index: run.index,
+            step: run.step,
+            value: run.value,
+            rounds: run.rounds,
+            comparisons: run.comparisons,
+            high: value / HALF,
+            low: run.low,
+        };
+    }
+    if part == LOW {
+        return RunPosition {
+            end: run.end,
+            index: run.index,
+            step: run.step,
+            value: run.value,
+            rounds: run.rounds,
+            comparisons: run.comparisons,
+            high: run.high,
+            low: value % HALF,
+        };
+    }
+    run
+}
+
+// Whether the write at its step is needless: after the first comparison of a pass, a half that is the one last written.
+fn is_needless(run: RunPosition) -> bool
+    requires { ⌜ run .step ≤ lastStep ⌝ }
+    ensures { λ r. ⌜ NeedlessAt (positionOf run) r ⌝ }
+{
+    if run.step <= FIRST_REPLY {
+        return false;
+    }
+    let part = part_at(run.step);
+    let value = value_at(run.step, run.value);
+    if part == HIGH {
+        return value / HALF == run.high;
+    }
+    if part == LOW {
+        return value % HALF == run.low;
+    }
+    false
+}
+
+// Past the write at its step, if that is needless.
+fn pass_over(run: RunPosition) -> RunPosition
+    requires { ⌜ run .step ≤ lastStep ⌝ }
+    ensures { λ r. ⌜ PassedOver (positionOf run) (positionOf r) ⌝ }
+{
+    if is_needless(run) {
+        return RunPosition {
+            end: run.end,
+            index: run.index,
+            step: run.step + 1,
+            value: run.value,
+            rounds: run.rounds,
+            comparisons: run.comparisons,
+            high: run.high,
+            low: run.low,
+        };
+    }
+    run
+}
+
+// At the next round really made: at most two writes of halves follow one another.
+pub fn settled(run: RunPosition) -> RunPosition
+    requires { ⌜ run .step ≤ lastStep ⌝ }
+    ensures { λ r. ⌜ Settled (positionOf run) (positionOf r) ⌝ }
+{
+    pass_over(pass_over(run))
+}
+
+// After the replies to the comparison of a bit, by its number in the pass: a reply keeps the bit.
 fn compared(run: RunPosition, question: u64, answer: Reply) -> RunPosition
-    requires { ⌜ (question ≤ bits) × FitCounts (positionOf run) ⌝ }
+    requires { ⌜ (1 ≤ question) × (question ≤ bits) × FitCounts (positionOf run) ⌝ }
     ensures { λ r. ⌜ positionOf r ≡ moveOn (ask (questionOf question) reply) 0 (positionOf run) (heard answer) ⌝ }
 {
-    if question == 0 {
-        let Reply::Heard = answer else {
-            return all_named(run);
-        };
-        return go_on(run, 0, 1);
-    }
     let Reply::Heard = answer else {
         return go_on(run, run.value, 1);
     };
     go_on(run, tried_value(question, run.value), 1)
 }
 
-// The position after the round of a running one, by its answer. A name that is taken leaves its pass at the poll.
+// The position after the round of a running one, by its answer, at a place where no answer ends the pass or the run.
 pub fn moved(run: RunPosition, count: u64, answer: Reply) -> RunPosition
-    requires { ⌜ GoesOn count (positionOf run) ⌝ }
+    requires { ⌜ GoesOn count (positionOf run) × (run .step ≡ 0 → ⊥) × (run .step ≡ comparisonRounds → ⊥) ⌝ }
     ensures { λ r. ⌜ positionOf r ≡ moveOn (placeOf (run .step)) count (positionOf run) (heard answer) ⌝ }
 {
-    if run.step == POLL {
-        let Reply::Silence = answer else {
-            return next_name(run, count);
-        };
-        return go_on(run, run.value, 0);
-    }
     if run.step == LAST_STEP {
         return next_name(run, count);
     }

@@ -6,15 +6,23 @@ ghost use Rattle.naming.specs.Rules.Run.{startOver, runGrounds};
 ghost use Rattle.naming.specs.Rules.Step.{stepMade, stepOn};
 ghost use Rattle.naming.specs.Inner.Answers.{positionOf, startedOf, steppedOf, runAfter, StepGoes};
 use crate::names::names_ground;
+use crate::position::FIRST_REPLY;
+use crate::position::POLL;
 use crate::position::RUNNING;
+use crate::position::Reply;
 use crate::position::RunPosition;
+use crate::position::all_named;
 use crate::position::first_position;
+use crate::position::go_on;
 use crate::position::is_unfit;
 use crate::position::moved;
+use crate::position::next_name;
+use crate::position::settled;
+use crate::position::wrote;
 use crate::sending::reply_in;
 use crate::sending::round_at;
-use crate::sending::send;
 use cluster::answer::SLOTS;
+use cluster::master_slave::send;
 use file::survey::FileAnswer;
 use file::survey::survey;
 use file::types::LogicalName;
@@ -59,7 +67,8 @@ fn run_ground(names: &[u8], run: RunPosition) -> u8
     0
 }
 
-// A step of a running position, on an accepted file and with the places of its slaves.
+// A step of a running position, on an accepted file and with the places of its slaves. A name that is taken ends its pass, silence at the
+// comparison with 0 the run.
 fn make_step(
     file: &mut [u8],
     places: &SlavePlaces,
@@ -70,11 +79,31 @@ fn make_step(
     requires { ⌜ Placed (now file) (now places) × StepGoes (now names) (positionOf run) (now answer) ⌝ }
     ensures { λ r. ⌜ (steppedOf r, runAfter (positionOf run) r, now (answer .exit), now (file .exit)) ≡ stepMade (now (file .entry)) (positionOf run) (now (names .entry)) (now (answer .entry)) ⌝ }
 {
+    let run = settled(run);
     let index = run.index as usize;
     let name = LogicalName::new(names[index]);
     let next = round_at(run.step, name, run.value);
     let senders = send(file, places, next, answer);
-    let run = moved(run, names.len() as u64, reply_in(senders));
+    let run = wrote(run);
+    let count = names.len() as u64;
+    let reply = reply_in(senders);
+    if run.step == POLL {
+        let Reply::Silence = reply else {
+            let run = next_name(run, count);
+            return Stepped::Made { senders, run };
+        };
+        let run = settled(go_on(run, run.value, 0));
+        return Stepped::Made { senders, run };
+    }
+    if run.step == FIRST_REPLY {
+        let Reply::Heard = reply else {
+            let run = all_named(run);
+            return Stepped::Made { senders, run };
+        };
+        let run = settled(go_on(run, 0, 1));
+        return Stepped::Made { senders, run };
+    }
+    let run = settled(moved(run, count, reply));
     Stepped::Made { senders, run }
 }
 

@@ -1,49 +1,33 @@
-// The round that a run sends next, and its sending.
+// The round that a run sends next, and the reply to it.
 ghost use mathlib.Core.Path.{_≡_};
 ghost use mathlib.Core.List.{[], _∷_};
 ghost use Prim.Native.Nat.{_≤_, _<_, _/_, _%_};
-ghost use lib.ListN.{length};
 ghost use Rattle.file.specs.Rules.Bytes.{bytesOf};
 ghost use Rattle.file.specs.Rules.Layout.{recordSize};
 ghost use Rattle.file.specs.Rules.Results.{done};
 ghost use Rattle.file.specs.Rules.Cluster.{writeOperation, executeOperation};
-ghost use Rattle.file.specs.Rules.Decode.{decode};
-ghost use Rattle.file.specs.Rules.Legal.{LegalPending};
 ghost use Rattle.file.specs.Inner.Typed.{recordIn, nameIn};
-ghost use Rattle.file.specs.Inner.Accepted.{Placed};
-ghost use Rattle.frame.specs.Rules.Fireworks.{dataFirework};
-ghost use Rattle.cluster.specs.Rules.Bus.{slots};
-ghost use Rattle.cluster.specs.Inner.Effects.{dataEffect};
-ghost use Rattle.cluster.specs.Inner.Carried.{Carried};
-ghost use Rattle.cluster.specs.Inner.Duties.{roundData};
 ghost use Rattle.naming.specs.Rules.Rounds.{half, poll, writeHigh, writeLow, sent, atUnnamed};
 ghost use Rattle.naming.specs.Rules.Run.{placeOf, partOf, roundAt, giveStep, lastStep};
 ghost use Rattle.naming.specs.Rules.Step.{isReply};
-ghost use Rattle.naming.specs.Inner.Answers.{heard, Sends, askedBy, askedFor};
+ghost use Rattle.naming.specs.Inner.Answers.{heard, Sends, askedBy};
+use crate::position::BYTE;
 use crate::position::COMPARISON_ROUNDS;
 use crate::position::GIVE_HIGH;
 use crate::position::GIVE_LOW;
 use crate::position::GIVE_NAME;
+use crate::position::HALF;
 use crate::position::HIGH;
 use crate::position::LOW;
 use crate::position::POLL;
 use crate::position::Reply;
 use crate::position::tried_value;
 use cluster::answer::FIRST_SLOT;
-use cluster::epoch::next_epoch;
-use cluster::master_slave::master_slave;
 use cluster::types::MasterSlaveRound;
-use file::readers::read_epoch;
 use file::types::FileNumber;
 use file::types::LogicalName;
 use file::types::Operation;
 use file::types::RecordNumber;
-use file::types::SlavePlaces;
-
-// The values of a byte, and of the four bytes of a half.
-const BYTE: u64 = 256;
-
-const HALF: u64 = BYTE * BYTE * BYTE * BYTE;
 
 // "a reply in slot 1".
 const REPLY_SLOT: u64 = FIRST_SLOT as u64;
@@ -174,13 +158,4 @@ pub fn reply_in(senders: u64) -> Reply
         return Reply::Heard;
     }
     Reply::Silence
-}
-
-// The complete round on an accepted file. The mask of the slots in which someone sent.
-pub fn send(file: &mut [u8], places: &SlavePlaces, next: MasterSlaveRound, buffer: &mut [u8]) -> u64
-    requires { ⌜ Placed (now file) (now places) × LegalPending (askedFor (decode (now file)) next) × (slots ≤ length (now buffer)) ⌝ }
-    ensures { λ r. ⌜ Carried (dataEffect (askedFor (decode (now (file .entry))) next) (roundData next)) dataFirework (now (buffer .entry)) (now (buffer .exit)) r (now (file .exit)) ⌝ }
-{
-    let epoch = next_epoch(read_epoch(file));
-    master_slave(file, places, epoch, next, buffer)
 }

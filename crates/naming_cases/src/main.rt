@@ -1,6 +1,6 @@
 // Naming runs against vectors of an independent model. A line of the input is one of
 //   start NAMES
-//   step FILE NAMES end,index,step,value,rounds,comparisons LENGTH
+//   step FILE NAMES end,index,step,value,rounds,comparisons,high,low LENGTH
 //   run FILE NAMES STEPS FRAME FRAME ..
 // LENGTH is that of the answer buffer, which holds EE throughout; a run sends all the frames, each with a step that a short
 // buffer refuses, before every seventh of its steps from the fourth on. After the line stand the number of the answer and the
@@ -102,6 +102,8 @@ fn position_at(case: &[u8]) -> RunPosition {
         value: number_at(case, 6),
         rounds: number_at(case, 7),
         comparisons: number_at(case, 8),
+        high: number_at(case, 9),
+        low: number_at(case, 10),
     }
 }
 
@@ -118,6 +120,10 @@ fn position(run: RunPosition, between: &[u8]) {
     show::decimal(run.rounds);
     text(between);
     show::decimal(run.comparisons);
+    text(between);
+    show::decimal(run.high);
+    text(between);
+    show::decimal(run.low);
 }
 
 fn start_case(names: &[u8]) {
@@ -195,7 +201,7 @@ fn on_file(case: &[u8], file: &mut [u8], names: &[u8]) {
         return run_case(case, file, names);
     }
     let mut buffer = [0xEEu8; BUFFER];
-    let length = count_at(case, 9, &buffer);
+    let length = count_at(case, 11, &buffer);
     step_case(file, position_at(case), names, &mut buffer[..length]);
 }
 

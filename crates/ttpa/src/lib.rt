@@ -40,7 +40,7 @@ pub const PARTS: usize = 5;
 pub const REPORT_WORDS: usize = 5;
 
 // The words of a run, and their places.
-pub const WORDS: usize = 6;
+pub const WORDS: usize = 8;
 
 const END: usize = 0;
 
@@ -53,6 +53,10 @@ const VALUE: usize = 3;
 const ROUNDS: usize = 4;
 
 const COMPARISONS: usize = 5;
+
+const HIGH: usize = 6;
+
+const LOW: usize = 7;
 
 #[no_mangle]
 pub extern "C" fn ttpa_check(file: &[u8]) -> u8
@@ -195,6 +199,8 @@ fn words_of(position: RunPosition) -> [u64; WORDS]
         position.value,
         position.rounds,
         position.comparisons,
+        position.high,
+        position.low,
     ]
 }
 
@@ -208,6 +214,8 @@ fn position_in(run: &[u64; WORDS]) -> RunPosition
         value: run[VALUE],
         rounds: run[ROUNDS],
         comparisons: run[COMPARISONS],
+        high: run[HIGH],
+        low: run[LOW],
     }
 }
 

@@ -3,11 +3,11 @@
 use crate::files;
 use compare::engine::{Engine, ReportWords, RunWords};
 use compare::inputs::framed;
-use model::{encode_trace, MSA, MSD};
+use model::{closed_figures, encode_trace, MSA, MSD};
 use std::hint::black_box;
 
 /// The lines of the table.
-pub const TABLE: [&str; 19] = [
+pub const TABLE: [&str; 20] = [
     "check-32-2",
     "check-named-32",
     "check-most",
@@ -21,6 +21,7 @@ pub const TABLE: [&str; 19] = [
     "partner-32-220",
     "partner-32-63",
     "naming-1",
+    "naming-8",
     "naming-32",
     "trace-1000-32",
     "rounds-1000-32",
@@ -71,6 +72,7 @@ pub enum Workload {
     Naming {
         file: Vec<u8>,
         names: Vec<u8>,
+        rounds: u64,
     },
     /// A captured trace.
     Trace {
@@ -119,10 +121,7 @@ impl Workload {
             }
             ["naming", slaves] => {
                 let slaves = number(slaves)?;
-                Workload::Naming {
-                    file: files::small(slaves, 2, |_| 0xFF),
-                    names: (1..=slaves as u8).collect(),
-                }
+                naming(files::small(slaves, 2, |_| 0xFF), (1..=slaves as u8).collect())
             }
             ["trace", reads, slaves] => reads_as_trace(number(reads)?, number(slaves)?),
             ["owner", "1"] => Workload::Owner { file: files::owner_of_all() },
@@ -142,7 +141,9 @@ impl Workload {
                 Workload::Frame { file, frame } => {
                     accepted(engine.round(black_box(file), black_box(frame), &mut answer, &mut senders));
                 }
-                Workload::Naming { file, names } => naming_run(engine, &mut file.clone(), names),
+                Workload::Naming { file, names, rounds } => {
+                    assert_eq!(naming_run(engine, &mut file.clone(), names), *rounds);
+                }
                 Workload::Trace { file, trace, frames } => {
                     let mut report: ReportWords = [0; 5];
                     accepted(engine.trace(black_box(file), black_box(trace), &mut report));
@@ -194,15 +195,23 @@ fn reads_of(reads: usize, slaves: usize) -> Vec<Vec<u8>> {
     (0..reads).flat_map(|read| [address(read), vec![MSD]]).collect()
 }
 
-fn naming_run(engine: &dyn Engine, file: &mut [u8], names: &[u8]) {
-    let mut run: RunWords = [0; 6];
+/// A naming run, and how many rounds it takes.
+fn naming(file: Vec<u8>, names: Vec<u8>) -> Workload {
+    let cluster = model::check(&file).expect("an accepted file");
+    let rounds = closed_figures(&cluster, &names).rounds;
+    Workload::Naming { file, names, rounds }
+}
+
+/// Makes the run; the rounds it counts.
+fn naming_run(engine: &dyn Engine, file: &mut [u8], names: &[u8]) -> u64 {
+    let mut run: RunWords = [0; 8];
     let mut answer = [0; 64];
     let mut senders = 0;
     accepted(engine.start(names, &mut run));
     while run[0] == 0 {
         accepted(engine.step(black_box(file), &mut run, black_box(names), &mut answer, &mut senders));
     }
-    assert_eq!(run[4], 200 * names.len() as u64);
+    run[4]
 }
 
 fn accepted(number: u8) {

@@ -59,6 +59,21 @@ pub fn cluster(slaves: &[Slave]) -> Vec<u8> {
     [header, table, rest].concat()
 }
 
+/// Where a file keeps the epoch, and after it flag, logical name, PB2 and PB3.
+pub const EPOCH: usize = 8;
+pub const PENDING: usize = 9;
+
+/// Slaves of these names, none with a list.
+pub fn named(names: &[u8]) -> Vec<u8> {
+    let slaves: Vec<Slave> = names.iter().map(|&name| Slave { name, lists: Vec::new() }).collect();
+    cluster(&slaves)
+}
+
+/// Where such a slave's part begins: its directory of three files, then 0x08, 0x10 and 0x3D.
+pub fn slave_place(slaves: usize, slave: usize) -> usize {
+    16 + 4 * slaves + slave * (12 + 16 + 8 + 12)
+}
+
 /// Bytes of a file that are others, by their place.
 pub type Changes<'a> = &'a [(usize, &'a str)];
 

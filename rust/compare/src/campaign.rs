@@ -5,7 +5,7 @@ use crate::engine::{Engine, Model};
 use crate::random::Random;
 use crate::sort::Sort;
 use crate::tally::Tally;
-use crate::{clusters, inputs, names, owners, runs, traces};
+use crate::{clusters, inputs, names, owners, passes, runs, traces};
 use std::collections::BTreeMap;
 
 /// Cases that are printed before the rest is only counted.
@@ -102,6 +102,11 @@ impl<'a> Campaign<'a> {
         Campaign { sample, ..self }
     }
 
+    /// The engine and the model.
+    pub(crate) fn both(&self) -> [&'a dyn Engine; 2] {
+        [self.engine, self.model]
+    }
+
     /// Makes one call on both; returns the model's outcome, which the next call builds on.
     pub fn call(&mut self, call: &Call) -> Outcome {
         let expected = call.make(self.model);
@@ -136,9 +141,13 @@ impl<'a> Campaign<'a> {
             // Every number of slaves has its turn; 20 and 33 have no divisor in common.
             let slaves = 20 * run % (model::MOST_SLAVES + 1);
             runs::whole_run(self, &mut Random::from_seed(seed ^ 7 ^ (run as u64) << 8), slaves);
+            if run % 4 == 0 {
+                runs::run_in_turn(self, &mut Random::from_seed(seed ^ 10 ^ (run as u64) << 8), slaves);
+            }
         }
         self.sorts_reached(&Sort::REACHED, amounts.rounds);
         self.sorts_reached(&Sort::REACHED_ABOUT_NAMES, amounts.rounds);
+        self.sorts_reached(&Sort::REACHED_BY_STEPS, amounts.steps);
         self.sorts_reached(&Sort::REACHED_BY_TRACES, amounts.traces);
         self.sorts_reached(&Sort::REACHED_BY_OWNERS, amounts.owners);
         self.sorts_reached(&Sort::REACHED_BY_RUNS, amounts.runs);
@@ -211,8 +220,13 @@ impl<'a> Campaign<'a> {
         let mut made = 0;
         while made < amount {
             let mut file = any_file(random);
-            let names = inputs::names(random);
+            let mut names = inputs::names(random);
             let mut run = inputs::position(random, &names);
+            if random.once_in(24) {
+                let held =
+                    model::check(&file).ok().and_then(|cluster| inputs::poll_of_held_name(random, &cluster));
+                (names, run) = held.unwrap_or((names, run));
+            }
             for _ in 0..random.between(1, 6) {
                 let answer_length = inputs::answer_length(random);
                 let call = Call::Step { file: file.clone(), names: names.clone(), run, answer_length };
@@ -283,6 +297,7 @@ impl<'a> Campaign<'a> {
         }
         self.note_sorts(Sort::of(call, expected));
         self.note_sorts(names::sorts(call, expected));
+        self.note_sorts(passes::sorts(call, expected));
         self.print_sample(call, expected);
     }
 

@@ -12,7 +12,7 @@ use std::fmt;
 pub const FILL: u8 = 0xEE;
 const SENDERS_BEFORE: u64 = 0xEEEE_EEEE_EEEE_EEEE;
 const LENGTH_BEFORE: u64 = SENDERS_BEFORE;
-const RUN_BEFORE: RunWords = [SENDERS_BEFORE; 6];
+const RUN_BEFORE: RunWords = [SENDERS_BEFORE; 8];
 /// A report's five words between two that are not lent, so that a word too many shows.
 type FencedReport = [u64; 7];
 const REPORT_BEFORE: FencedReport = [SENDERS_BEFORE; 7];
@@ -169,13 +169,13 @@ impl Call {
                 format!("{number} {mask:016X} {} {}", after(&outcome.file), after(&outcome.buffer))
             }
             Call::Start { .. } if accepted => {
-                format!("{number} {}", decimals(&outcome.run.unwrap_or([0; 6]), " "))
+                format!("{number} {}", decimals(&outcome.run.unwrap_or([0; 8]), " "))
             }
             Call::Start { .. } => format!("{number}"),
             Call::Step { .. } => format!(
                 "{number} {mask:016X} {} {} {}",
                 after(&outcome.file),
-                decimals(&outcome.run.unwrap_or([0; 6]), ","),
+                decimals(&outcome.run.unwrap_or([0; 8]), ","),
                 after(&outcome.buffer)
             ),
             Call::Trace { .. } => {

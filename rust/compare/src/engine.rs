@@ -1,6 +1,7 @@
 //! The calls that outside code makes, each with the lent buffers of the C call and its number as answer.
 
-pub type RunWords = [u64; 6];
+/// End, index, step, value, rounds, comparisons, and the high and the low half last written.
+pub type RunWords = [u64; 8];
 /// Of the frames of a trace the numbers of MSA, MSD, multipartner and refused ones, and their sum.
 pub type ReportWords = [u64; 5];
 
@@ -100,11 +101,11 @@ fn number(answer: Result<(), model::Refusal>) -> u8 {
 }
 
 fn words_of(run: &model::Run) -> RunWords {
-    [run.end, run.index, run.step, run.value, run.rounds, run.comparisons]
+    [run.end, run.index, run.step, run.value, run.rounds, run.comparisons, run.high, run.low]
 }
 
-fn run_of(&[end, index, step, value, rounds, comparisons]: &RunWords) -> model::Run {
-    model::Run { end, index, step, value, rounds, comparisons }
+fn run_of(&[end, index, step, value, rounds, comparisons, high, low]: &RunWords) -> model::Run {
+    model::Run { end, index, step, value, rounds, comparisons, high, low }
 }
 
 /// The tuned plain Rust program; its multipartner rounds in the form that document 01 names, if asked.

@@ -148,9 +148,9 @@ pub fn position(random: &mut Random, names: &[u8]) -> RunWords {
         _ => random.number() % length.max(1),
     };
     let step = match random.below(12) {
-        0 => random.one_of(&[0, 1, 2, 3, 4, 195, 196, 197, 198, 199]),
-        1 => random.one_of(&[199, 200, 256, 1 << 40]),
-        2 => random.number(),
+        0..=2 => random.one_of(&[0, 1, 2, 3, 3, 4, 195, 196, 197, 197, 197, 198, 198, 199]),
+        3 => random.one_of(&[199, 200, 256, 1 << 40]),
+        4 => random.number(),
         _ => random.number() % 200,
     };
     let mut count = || match random.below(12) {
@@ -160,5 +160,42 @@ pub fn position(random: &mut Random, names: &[u8]) -> RunWords {
         _ => random.number() % 1000,
     };
     let (rounds, comparisons) = (count(), count());
-    [end, index, step, random.number(), rounds, comparisons]
+    let value = random.number();
+    let (high, low) = halves(random, step, value);
+    [end, index, step, value, rounds, comparisons, high, low]
+}
+
+/// A list with a name that a slave holds, and a position about to ask for it, the last of the list or not; none where no
+/// slave has a name that can be listed.
+pub fn poll_of_held_name(random: &mut Random, cluster: &Cluster) -> Option<(Vec<u8>, RunWords)> {
+    let mut held: Vec<u8> = cluster.slaves.iter().map(|slave| slave.logical_name().0).collect();
+    held.retain(|name| (0x01..=0xFE).contains(name));
+    if held.is_empty() {
+        return None;
+    }
+    let name = random.one_of(&held);
+    let mut names = good_names(random, 3);
+    names.retain(|&other| other != name);
+    let index = if random.once_in(2) { names.len() } else { 0 };
+    names.insert(index, name);
+    Some((names, [0, index as u64, 0, random.number(), random.number() % 1000, 0, random.number(), 0]))
+}
+
+/// The halves last written: often those that stand at this step, so that a write of them is needless, now and then more
+/// than 32 bits with the same lower ones.
+fn halves(random: &mut Random, step: u64, value: u64) -> (u64, u64) {
+    let sent = match step {
+        // After the comparison with 0 comes that with bit 63 alone.
+        3 => 1 << 63,
+        4..=195 => value | 1 << (63 - (step - 4) / 3),
+        _ => value,
+    };
+    let mut half = |equal: u64| match random.below(8) {
+        0..=3 => equal,
+        4 => equal | 1 << random.between(32, 63),
+        5 => equal ^ 1 << random.below(32),
+        6 => 0,
+        _ => random.number(),
+    };
+    (half(sent >> 32), half(sent & 0xFFFF_FFFF))
 }

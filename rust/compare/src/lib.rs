@@ -1,5 +1,5 @@
 //! Two engines side by side: the calls they share, test cases as lines of text, random clusters, frames, positions
-//! and traces, the edges of traces, owner files and logical names, and the comparison itself.
+//! and traces, the edges of traces, owner files, logical names and naming steps, and the comparison itself.
 
 #![forbid(unsafe_code)]
 
@@ -12,8 +12,10 @@ pub mod engine;
 pub mod inputs;
 pub mod name_edges;
 pub mod names;
+pub mod naming_edges;
 pub mod owner_edges;
 pub mod owners;
+pub mod passes;
 pub mod random;
 pub mod runs;
 pub mod sort;

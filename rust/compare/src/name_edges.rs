@@ -2,7 +2,7 @@
 //! does, and that a write renames nobody. Every expected result is worked out by hand, and no file is made by the model
 //! or an engine. An engine, the model too, has to give what stands here.
 
-use crate::by_hand::{answer, changed, cluster, Changes, Slave, UNNAMED};
+use crate::by_hand::{answer, changed, named, slave_place, Changes, EPOCH, PENDING, UNNAMED};
 use crate::case::{Call, Outcome};
 use crate::engine::{Engine, RunWords};
 use crate::inputs::framed;
@@ -10,9 +10,6 @@ use model::{MSA, MSD};
 
 /// "22, equal logical names on loading, after 8"
 const EQUAL_NAMES: u8 = 22;
-/// Where a file keeps the epoch, and after it flag, logical name, PB2 and PB3.
-const EPOCH: usize = 8;
-const PENDING: usize = 9;
 
 /// One call, and what it has to answer and leave.
 struct Edge {
@@ -34,17 +31,6 @@ pub fn hold_name_edges(engine: &dyn Engine) {
         assert_eq!(&call.make(engine), expected, "{what}");
     }
     writes_between_steps(engine);
-}
-
-/// Slaves of these names, none with a list.
-fn named(names: &[u8]) -> Vec<u8> {
-    let slaves: Vec<Slave> = names.iter().map(|&name| Slave { name, lists: Vec::new() }).collect();
-    cluster(&slaves)
-}
-
-/// Where the slaves' parts begin, and of each: its directory of three files, 0x08, 0x10 and 0x3D.
-fn slave_place(slaves: usize, slave: usize) -> usize {
-    16 + 4 * slaves + slave * (12 + 16 + 8 + 12)
 }
 
 fn loading(what: &'static str, file: Vec<u8>, number: u8) -> Edge {
@@ -185,8 +171,8 @@ fn on_equal_names() -> Vec<Edge> {
         Edge { what, call, expected }
     };
     let polled = changed(&file, &[(EPOCH, "02"), (PENDING, "01 05 F4 01")]);
-    let step = Call::Step { file: file.clone(), names: vec![0x05], run: [0; 6], answer_length: 64 };
-    let taken: RunWords = [2, 1, 0, 0, 1, 0];
+    let step = Call::Step { file: file.clone(), names: vec![0x05], run: [0; 8], answer_length: 64 };
+    let taken: RunWords = [2, 1, 0, 0, 1, 0, 0, 0];
     let stepped = Outcome {
         senders: Some(0b11_1110),
         file: Some(polled),
@@ -217,7 +203,7 @@ fn writes_between_steps(engine: &dyn Engine) {
     // The first slave is named 0x09, the second, 0x0000000700000001, unnamed.
     let mut file = named(&[0x09, UNNAMED]);
     let names = vec![0x09, 0x07];
-    let mut run: RunWords = [0; 6];
+    let mut run: RunWords = [0; 8];
     while run[0] == 0 {
         let step = Call::Step { file, names: names.clone(), run, answer_length: 64 }.make(engine);
         assert_eq!(step.number, 0);
@@ -233,8 +219,8 @@ fn writes_between_steps(engine: &dyn Engine) {
             file = round.file.expect("a lent file");
         }
     }
-    // One round for the taken name; 200 and 65 comparisons for the other.
-    assert_eq!(run, [2, 2, 0, 0x7_0000_0001, 201, 65]);
+    // One round for the taken name; 134 and 65 comparisons for the other, whose bits 32 and 0 are 1.
+    assert_eq!(run, [2, 2, 0, 0x7_0000_0001, 135, 65, 7, 1]);
     let record_1 = |slave| slave_place(2, slave) + 12 + 4;
     assert_eq!(file[record_1(0)..record_1(0) + 4], [0, 0, 7, 0x09]);
     assert_eq!(file[record_1(1)..record_1(1) + 4], [0, 0, 7, 0x07]);

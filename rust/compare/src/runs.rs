@@ -10,7 +10,7 @@ use crate::sort::Sort;
 use crate::{clusters, inputs};
 use model::{check, closed_figures, Account, Address, Cluster, End, FileNumber, LogicalName, Operation, Slave};
 
-const NO_RUN: RunWords = [0; 6];
+const NO_RUN: RunWords = [0; 8];
 
 /// One run on one file: the state that the calls hand on.
 struct WholeRun {
@@ -31,7 +31,7 @@ pub fn whole_run(campaign: &mut Campaign, random: &mut Random, slaves: usize) {
     let started = campaign.call(&Call::Start { names: names.clone() });
     let account = Account::start(&cluster, &names);
     let mut whole = WholeRun { file: cluster.encode(), names, run: started.run.unwrap_or(NO_RUN), account };
-    let traffic = random.one_of(&[2, 4, 10, 50]);
+    let traffic = random.one_of(&[1, 2, 4, 10, 50]);
     while whole.run[0] == End::Running.number() {
         if random.once_in(traffic) {
             whole.other_calls(campaign, random);
@@ -41,7 +41,7 @@ pub fn whole_run(campaign: &mut Campaign, random: &mut Random, slaves: usize) {
     // A step of an ended run alters nothing.
     whole.step(campaign, 64);
     campaign.tally.note_run(figures.end);
-    let [end, .., rounds, comparisons] = whole.run;
+    let [end, _, _, _, rounds, comparisons, ..] = whole.run;
     if (end, rounds, comparisons) != (figures.end.number(), figures.rounds, figures.comparisons) {
         whole.report(campaign, "the closed figures");
     }
@@ -50,6 +50,40 @@ pub fn whole_run(campaign: &mut Campaign, random: &mut Random, slaves: usize) {
     let named = left.slaves.iter().zip(&cluster.slaves).filter(got_a_name).count();
     if named as u64 != figures.named {
         whole.report(campaign, "the closed count of slaves named");
+    }
+}
+
+/// A run over unnamed slaves whose steps the engine and the model make in turn, each on the file and the words that the
+/// other left; before each step the other makes a permitted round.
+pub fn run_in_turn(campaign: &mut Campaign, random: &mut Random, slaves: usize) {
+    let mut cluster = clusters::cluster_of(random, slaves);
+    cluster.slaves.iter_mut().for_each(|slave| slave.set_logical_name(LogicalName::UNNAMED));
+    let names = inputs::good_names(random, slaves + 3);
+    let figures = closed_figures(&cluster, &names);
+    let mut account = Account::start(&cluster, &names);
+    let both = campaign.both();
+    let mut file = cluster.encode();
+    let mut run = Call::Start { names: names.clone() }.make(both[0]).run.unwrap_or(NO_RUN);
+    let mut made = 0;
+    while run[0] == End::Running.number() && made < figures.rounds as usize {
+        for frame in permitted_round(random, &check(&file).expect("a file that the last call left")) {
+            let round = Call::Round { file, frame, answer_length: 64 }.make(both[(made + 1) % 2]);
+            file = round.file.expect("a lent file");
+        }
+        let step = Call::Step { file, names: names.clone(), run, answer_length: 64 }.make(both[made % 2]);
+        (file, run) = (step.file.expect("a lent file"), step.run.expect("a lent run"));
+        account.step(64);
+        made += 1;
+    }
+    let left = check(&file).expect("a file that the last call left");
+    let given = left.slaves.iter().map(|slave| slave.logical_name().0);
+    let [end, _, _, _, rounds, comparisons, ..] = run;
+    let counts_agree =
+        (end, rounds, comparisons) == (figures.end.number(), figures.rounds, figures.comparisons);
+    if counts_agree && given.eq(account.logical_names().iter().copied()) {
+        campaign.note_sorts([Sort::RunInTurn]);
+    } else {
+        campaign.differ("a run made in turn ends otherwise", &format!("{run:?}"));
     }
 }
 
@@ -144,7 +178,7 @@ impl WholeRun {
         let cluster = self.cluster();
         let names = cluster.slaves.iter().map(|slave| slave.logical_name().0);
         let account = &self.account;
-        let [end, .., rounds, comparisons] = self.run;
+        let [end, _, _, _, rounds, comparisons, ..] = self.run;
         let counts_agree =
             (end, rounds, comparisons) == (account.end().number(), account.rounds(), account.comparisons());
         if !counts_agree || !names.eq(account.logical_names().iter().copied()) {

@@ -85,6 +85,25 @@ pub enum Sort {
     /// A write of record 1 of 0x08 between the steps of a naming run, at another name than 0xFF, that alters a slave,
     /// with a refused call between its two frames.
     NamesWrittenBetweenSteps,
+    /// A step handed in at the write of the high half, the low half, or both halves of a comparison, which are those
+    /// last written: it makes the next round.
+    HighPassedOver,
+    LowPassedOver,
+    BothPassedOver,
+    /// The same at the halves of the value, before a name is given.
+    GivenHighPassedOver,
+    GivenLowPassedOver,
+    GivenBothPassedOver,
+    /// A write of the first comparison of a pass, though the stored half is the same.
+    FirstHalfWrittenAgain,
+    /// A half written though the lower 32 bits of the stored one are the same.
+    WideHalfWritten,
+    /// A step after which the position stands past a needless write.
+    StandsPastWrite,
+    /// The comparison with 0 answered, after which it stands past a write of the next.
+    ZeroAnsweredPastWrite,
+    /// A naming run whose steps engine and model made in turn, the words and the file handed over.
+    RunInTurn,
     /// A trace between the steps of a naming run that was run and has a round and a refused frame in it.
     TraceBetweenSteps,
 }
@@ -111,6 +130,20 @@ impl Sort {
         (Sort::RoundOnEqualNames, 10),
         (Sort::StepOnEqualNames, 40),
         (Sort::TraceOnEqualNames, 80),
+    ];
+
+    /// Sorts of naming steps, with one in how many of those asked for; those of naming runs count too.
+    pub const REACHED_BY_STEPS: [(Sort, usize); 10] = [
+        (Sort::HighPassedOver, 400),
+        (Sort::LowPassedOver, 200),
+        (Sort::BothPassedOver, 400),
+        (Sort::GivenHighPassedOver, 4_000),
+        (Sort::GivenLowPassedOver, 4_000),
+        (Sort::GivenBothPassedOver, 4_000),
+        (Sort::FirstHalfWrittenAgain, 600),
+        (Sort::WideHalfWritten, 200),
+        (Sort::StandsPastWrite, 4),
+        (Sort::ZeroAnsweredPastWrite, 4_000),
     ];
 
     /// Sorts of traces likewise, with one in how many of the traces asked for; those of naming runs do not count.
@@ -147,10 +180,11 @@ impl Sort {
     ];
 
     /// Sorts of calls in naming runs, with one in how many of the runs asked for.
-    pub const REACHED_BY_RUNS: [(Sort, usize); 2] =
-        [(Sort::TraceBetweenSteps, 1), (Sort::NamesWrittenBetweenSteps, 1)];
+    pub const REACHED_BY_RUNS: [(Sort, usize); 3] =
+        [(Sort::TraceBetweenSteps, 1), (Sort::NamesWrittenBetweenSteps, 1), (Sort::RunInTurn, 4)];
 
-    /// What a call is an example of; logical names, traces and owner files are sorted in `names`, `traces` and `owners`.
+    /// What a call is an example of; logical names, naming steps, traces and owner files are sorted in `names`, `passes`,
+    /// `traces` and `owners`.
     pub fn of(call: &Call, outcome: &Outcome) -> Option<Sort> {
         match call {
             Call::Read { frame } if outcome.number == 12 && is_unfolded(frame) => Some(Sort::UnfoldedNotRead),
@@ -212,6 +246,19 @@ impl Sort {
             Sort::NamesWrittenBetweenSteps => {
                 "writes of record 1 of 0x08 at a name between naming steps, around a refused call"
             }
+            Sort::HighPassedOver => "steps that pass over a comparison's high half",
+            Sort::LowPassedOver => "steps that pass over a comparison's low half",
+            Sort::BothPassedOver => "steps that pass over both halves of a comparison",
+            Sort::GivenHighPassedOver => "steps that pass over the value's high half",
+            Sort::GivenLowPassedOver => "steps that pass over the value's low half",
+            Sort::GivenBothPassedOver => "steps that pass over both halves of the value",
+            Sort::FirstHalfWrittenAgain => "steps that write a half of the first comparison again",
+            Sort::WideHalfWritten => "steps that write a half since the stored one is wider",
+            Sort::StandsPastWrite => "steps after which the run stands past a needless write",
+            Sort::ZeroAnsweredPastWrite => {
+                "comparisons with 0 after which the run stands past a needless write"
+            }
+            Sort::RunInTurn => "naming runs made in turn",
             Sort::TraceBetweenSteps => "traces run between naming steps, with a round and a refused frame",
         }
     }

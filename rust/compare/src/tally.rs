@@ -40,7 +40,9 @@ const OUTCOMES: [(&str, &[&str], &[u8]); 10] = [
             "free",
             "taken",
             "taken-last",
-            "written",
+            "name-written",
+            "high-written",
+            "low-written",
             "reply",
             "silence",
             "all-named",
@@ -189,21 +191,24 @@ fn in_data(pending: &Pending, answered: bool, altered: bool) -> &'static str {
     }
 }
 
-/// By the place of the pass at which the step stood: 0 polls, 3 and every third after it up to 195 compare, 199
-/// gives the name.
-fn in_step(file: &[u8], &[end, _, place, ..]: &RunWords, outcome: &Outcome) -> &'static str {
+/// By the round that was made, which the header still holds: operation and record at 0xFF, or the read.
+fn in_step(file: &[u8], &[end, ..]: &RunWords, outcome: &Outcome) -> &'static str {
     let end_after = outcome.run.map_or(end, |run| run[0]);
     let answered = outcome.mask() >> 1 & 1 == 1;
     let last = end_after == End::NamesUsedUp.number();
-    match place {
+    let pending = outcome.file.as_deref().and_then(|after| check(after).ok()).map(|after| after.pending);
+    let (operation, record) = pending.map_or(("", 0), |made| (operation(made.pb2 % 4), made.pb3));
+    match (operation, record) {
         _ if end != End::Running.number() => "ended",
-        0 if answered => either(last, "taken-last", "taken"),
-        0 => "free",
-        199 if alters_slaves(file, outcome) => either(last, "named-last", "named"),
-        199 => "nobody-named",
-        3..=195 if place % 3 == 0 && end_after == End::AllNamed.number() => "all-named",
-        3..=195 if place % 3 == 0 => either(answered, "reply", "silence"),
-        _ => "written",
+        ("read", _) if answered => either(last, "taken-last", "taken"),
+        ("read", _) => "free",
+        ("write", 1) => "name-written",
+        ("write", 2) => "high-written",
+        ("write", _) => "low-written",
+        (_, 1) if alters_slaves(file, outcome) => either(last, "named-last", "named"),
+        (_, 1) => "nobody-named",
+        _ if end_after == End::AllNamed.number() => "all-named",
+        _ => either(answered, "reply", "silence"),
     }
 }
 
@@ -240,21 +245,24 @@ mod tests {
         tally.counts.iter().filter(|((_, _, came), _)| *came == done).map(|(_, count)| count).sum()
     }
 
-    /// A pass that gives a name polls once, writes 2 × 65 + 3 times and compares 65 times: with 0 and for each bit,
-    /// where those of the bits that are 1 are replied to.
+    /// A pass that gives a name polls once and compares 65 times: with 0 and for each bit, where those of the bits that
+    /// are 1 are replied to. It writes the high half for 0 and the upper 32 bits, the low half for 0, the lower 32 bits
+    /// and, since bit 0 of both names is 0, once more before the name is given; bit 32 of both is 1.
     #[test]
     fn the_steps_of_m10() {
         let mut tally = Tally::default();
-        let (mut file, mut run) = (m10(), [0; 6]);
-        for _ in 0..405 {
+        let (mut file, mut run) = (m10(), [0; 8]);
+        for _ in 0..275 {
             let call = Call::Step { file, names: vec![1, 2, 3], run, answer_length: 64 };
             let outcome = call.make(&Model);
             tally.note(&call, &outcome);
             (file, run) = (outcome.file.expect("a lent file"), outcome.run.expect("a lent run"));
         }
-        let counted = ["free", "written", "reply", "silence", "named", "all-named", "ended"];
-        assert_eq!(counted.map(|done| count(&tally, done)), [3, 268, 6 + 5, 59 + 60, 2, 1, 1]);
-        assert_eq!(tally.kinds(), BTreeMap::from([("step", 405)]));
+        let counted = ["free", "reply", "silence", "named", "all-named", "ended"];
+        assert_eq!(counted.map(|done| count(&tally, done)), [3, 6 + 5, 59 + 60, 2, 1, 1]);
+        let written = ["name-written", "high-written", "low-written"];
+        assert_eq!(written.map(|done| count(&tally, done)), [2, 2 * 33 + 1, 2 * 34 + 1]);
+        assert_eq!(tally.kinds(), BTreeMap::from([("step", 275)]));
         assert_eq!(tally.impossible(), [""; 0]);
     }
 

@@ -1,12 +1,45 @@
 //! "The plain account" (the document's term) that the naming run is measured against, and its closed
-//! figures. It knows nothing of frames, records or comparison values.
+//! figures. It knows nothing of frames and records; which rounds of a pass are comparisons it tells from the pass
+//! written out.
 
 use crate::{Cluster, End, LogicalName, Slave, ANSWER_BYTES};
 
 const ROUNDS_OF_A_TAKEN_NAME: u64 = 1;
-const ROUNDS_OF_A_NAMING: u64 = 200;
 const COMPARISONS_OF_A_NAMING: u64 = 65;
 const ROUNDS_OF_THE_LAST_QUESTION: u64 = 4;
+
+/// "A pass that names a slave then makes exactly 134 rounds, plus 1 if bit 32 of its physical name is 0, plus 1 if bit 0
+/// is 0." (document 02, request 6)
+pub fn naming_rounds(physical_name: u64) -> u64 {
+    let one_if_clear = |bit: u32| 1 - (physical_name >> bit & 1);
+    134 + one_if_clear(32) + one_if_clear(0)
+}
+
+/// The pass that names this slave, the greatest of those unnamed, round by round: whether each is the execute of a
+/// comparison. A half is written where it is another than the one written last.
+pub fn naming_pass(physical_name: u64) -> Vec<bool> {
+    let writes = |last: u64, next: u64| {
+        let halves = [last >> 32 != next >> 32, last as u32 != next as u32];
+        halves.into_iter().filter(|&differs| differs).map(|_| false)
+    };
+    // The read; then the comparison with 0, which writes both halves.
+    let mut rounds = vec![false, false, false, true];
+    let (mut value, mut last) = (0, 0);
+    for bit in (0..64).rev() {
+        let tried = value | 1 << bit;
+        rounds.extend(writes(last, tried));
+        rounds.push(true);
+        last = tried;
+        if physical_name >= tried {
+            value = tried;
+        }
+    }
+    // The new name, the value, the baptism.
+    rounds.push(false);
+    rounds.extend(writes(last, value));
+    rounds.push(false);
+    rounds
+}
 
 #[derive(Clone, Debug)]
 pub struct Account {
@@ -48,20 +81,25 @@ impl Account {
         }
         self.rounds += 1;
         self.k += 1;
-        let is_held = self.held_at_start.contains(&self.names_left[0]);
+        if self.k < self.rounds_of_this_pass() {
+            return;
+        }
         match self.unnamed.first() {
-            _ if is_held => self.finish_pass_after(ROUNDS_OF_A_TAKEN_NAME),
+            _ if self.is_held() => self.finish_pass(),
             Some(&greatest) => {
-                if self.k == ROUNDS_OF_A_NAMING {
-                    self.name_slave(greatest);
-                }
-                self.finish_pass_after(ROUNDS_OF_A_NAMING);
+                self.comparisons_of_passes_done += COMPARISONS_OF_A_NAMING;
+                self.name_slave(greatest);
+                self.finish_pass();
             }
-            None => {
-                if self.k == ROUNDS_OF_THE_LAST_QUESTION {
-                    self.end = End::AllNamed;
-                }
-            }
+            None => self.end = End::AllNamed,
+        }
+    }
+
+    fn rounds_of_this_pass(&self) -> u64 {
+        match self.unnamed.first() {
+            _ if self.is_held() => ROUNDS_OF_A_TAKEN_NAME,
+            Some(&greatest) => naming_rounds(greatest),
+            None => ROUNDS_OF_THE_LAST_QUESTION,
         }
     }
 
@@ -71,11 +109,12 @@ impl Account {
         self.unnamed.remove(0);
     }
 
-    fn finish_pass_after(&mut self, rounds: u64) {
-        if self.k < rounds {
-            return;
-        }
-        self.comparisons_of_passes_done += self.comparisons_of_this_pass();
+    /// Whether the name of this pass was held at the start.
+    fn is_held(&self) -> bool {
+        self.names_left.first().is_some_and(|name| self.held_at_start.contains(name))
+    }
+
+    fn finish_pass(&mut self) {
         self.k = 0;
         self.names_left.remove(0);
         if self.names_left.is_empty() {
@@ -83,9 +122,15 @@ impl Account {
         }
     }
 
-    /// "After k rounds of a pass, k at least 1, it has made (k − 1)/3 comparisons, rounded down, at most 65."
+    /// "it counts a comparison at its execute": among the first k rounds of a pass
     fn comparisons_of_this_pass(&self) -> u64 {
-        (self.k.saturating_sub(1) / 3).min(COMPARISONS_OF_A_NAMING)
+        let executes =
+            |pass: Vec<bool>| pass.into_iter().take(self.k as usize).filter(|&execute| execute).count();
+        match self.unnamed.first() {
+            _ if self.is_held() => 0,
+            Some(&greatest) => executes(naming_pass(greatest)) as u64,
+            None => u64::from(self.k >= ROUNDS_OF_THE_LAST_QUESTION),
+        }
     }
 
     pub fn logical_names(&self) -> &[u8] {
@@ -118,11 +163,13 @@ pub struct ClosedFigures {
     pub end: End,
 }
 
-/// With u unnamed slaves and f free names: min(u, f) slaves are named. "Taken names tried are the listed
+/// With u unnamed slaves and f free names: the min(u, f) greatest are named. "Taken names tried are the listed
 /// names held at the start, if u < f only those before free name number u + 1."
 pub fn closed_figures(cluster: &Cluster, names: &[u8]) -> ClosedFigures {
     let is_held = |&name: &u8| cluster.slaves.iter().any(|slave| slave.logical_name() == LogicalName(name));
-    let unnamed = unnamed_names(cluster).len() as u64;
+    let mut unnamed_names = unnamed_names(cluster);
+    unnamed_names.sort_unstable_by(|a, b| b.cmp(a));
+    let unnamed = unnamed_names.len() as u64;
     let free = names.iter().filter(|&name| !is_held(name)).count() as u64;
     let mut free_before = 0;
     let mut taken_tried = 0;
@@ -137,9 +184,10 @@ pub fn closed_figures(cluster: &Cluster, names: &[u8]) -> ClosedFigures {
     }
     let named = unnamed.min(free);
     let asks_in_vain = unnamed < free;
+    let naming_sum: u64 = unnamed_names.into_iter().take(named as usize).map(naming_rounds).sum();
     ClosedFigures {
         named,
-        rounds: ROUNDS_OF_A_NAMING * named
+        rounds: naming_sum
             + ROUNDS_OF_A_TAKEN_NAME * taken_tried
             + if asks_in_vain { ROUNDS_OF_THE_LAST_QUESTION } else { 0 },
         comparisons: COMPARISONS_OF_A_NAMING * named + u64::from(asks_in_vain),

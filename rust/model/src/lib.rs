@@ -19,7 +19,7 @@ mod round;
 mod slaves;
 mod trace;
 
-pub use account::{closed_figures, Account, ClosedFigures};
+pub use account::{closed_figures, naming_pass, naming_rounds, Account, ClosedFigures};
 pub use cluster::{Cluster, File, Pending, Slave};
 pub use file::{check, load, MOST_BYTES, MOST_SLAVES};
 pub use frame::{

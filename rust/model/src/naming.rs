@@ -2,7 +2,7 @@
 
 use crate::round::Answer;
 use crate::{
-    check, write_data, Address, Cluster, FileNumber, LogicalName, Operation, RecordNumber, Refusal,
+    check, number_of, write_data, Address, Cluster, FileNumber, LogicalName, Operation, RecordNumber, Refusal,
     ANSWER_BYTES, FRAME_BYTES, MSD,
 };
 
@@ -33,6 +33,9 @@ pub struct Run {
     pub value: u64,
     pub rounds: u64,
     pub comparisons: u64,
+    /// "the position also holds the two halves last written" (document 02, request 6)
+    pub high: u64,
+    pub low: u64,
 }
 
 const COUNT_LIMIT: u64 = 1_000_000;
@@ -81,11 +84,14 @@ pub fn step(file: &mut [u8], run: &mut Run, names: &[u8], buffer: &mut [u8]) -> 
     if run.end != End::Running.number() {
         return Ok(None);
     }
+    run.pass_over_needless_writes();
     let name = LogicalName(names[run.index as usize]);
     let place = Place::of(run.step);
     let answer = make_round(&mut cluster, &place.round(name, run.value));
     let replied = answer.senders >> 1 & 1 == 1;
+    run.keep_half_written(place);
     run.move_on(place, replied, names.len() as u64);
+    run.pass_over_needless_writes();
     file.copy_from_slice(&cluster.encode());
     buffer[..ANSWER_BYTES].copy_from_slice(&answer.bytes);
     Ok(Some(answer.senders))
@@ -133,36 +139,70 @@ impl Place {
     }
 
     fn round(self, name: LogicalName, value: u64) -> MasterSlaveRound {
-        match self {
-            Place::Poll => MasterSlaveRound::read(name, FileNumber::DOCUMENTATION, RecordNumber(1)),
-            Place::Least(part) => comparison(part, 0),
-            Place::Bit(bit, part) => comparison(part, value | 1 << bit),
-            Place::GiveName => MasterSlaveRound::write(1, [0, 0, name.0, LogicalName::UNNAMED.0]),
-            Place::GiveHigh => MasterSlaveRound::write(2, high_half(value)),
-            Place::GiveLow => MasterSlaveRound::write(3, low_half(value)),
-            Place::Baptize => MasterSlaveRound::execute(1),
+        match (self, self.half_to_write(value)) {
+            (_, Some(Half::High(bytes))) => MasterSlaveRound::write(2, bytes),
+            (_, Some(Half::Low(bytes))) => MasterSlaveRound::write(3, bytes),
+            (Place::Poll, _) => MasterSlaveRound::read(name, FileNumber::DOCUMENTATION, RecordNumber(1)),
+            (Place::GiveName, _) => MasterSlaveRound::write(1, [0, 0, name.0, LogicalName::UNNAMED.0]),
+            (Place::Baptize, _) => MasterSlaveRound::execute(1),
+            (_, None) => MasterSlaveRound::execute(2),
+        }
+    }
+
+    /// The half of a comparison value that stands at this place. "A comparison is three rounds at 0xFF: write record 2,
+    /// write record 3, execute record 2."
+    fn half_to_write(self, value: u64) -> Option<Half> {
+        let (part, sent) = match self {
+            Place::Least(part) => (part, 0),
+            Place::Bit(bit, part) => (part, value | 1 << bit),
+            Place::GiveHigh => (Part::High, value),
+            Place::GiveLow => (Part::Low, value),
+            Place::Poll | Place::GiveName | Place::Baptize => return None,
+        };
+        match part {
+            Part::High => Some(Half::High(((sent >> 32) as u32).to_be_bytes())),
+            Part::Low => Some(Half::Low((sent as u32).to_be_bytes())),
+            Part::Reply => None,
         }
     }
 }
 
-/// "A comparison is three rounds at 0xFF: write record 2, write record 3, execute record 2."
-fn comparison(part: Part, value: u64) -> MasterSlaveRound {
-    match part {
-        Part::High => MasterSlaveRound::write(2, high_half(value)),
-        Part::Low => MasterSlaveRound::write(3, low_half(value)),
-        Part::Reply => MasterSlaveRound::execute(2),
-    }
-}
-
-fn high_half(value: u64) -> [u8; 4] {
-    ((value >> 32) as u32).to_be_bytes()
-}
-
-fn low_half(value: u64) -> [u8; 4] {
-    (value as u32).to_be_bytes()
+/// Four bytes for record 2 or 3.
+enum Half {
+    High([u8; 4]),
+    Low([u8; 4]),
 }
 
 impl Run {
+    /// "The first comparison of a pass writes both halves; after it, record 2 or 3 is written exactly if its four bytes
+    /// differ from those last written in that pass." The step "stands at the next round really made (handed in at a
+    /// needless write, it moves on to it)".
+    fn pass_over_needless_writes(&mut self) {
+        while self.stands_at_needless_write() {
+            self.step += 1;
+        }
+    }
+
+    fn stands_at_needless_write(&self) -> bool {
+        let place = Place::of(self.step);
+        if matches!(place, Place::Least(_)) {
+            return false;
+        }
+        match place.half_to_write(self.value) {
+            Some(Half::High(bytes)) => number_of(&bytes) == self.high,
+            Some(Half::Low(bytes)) => number_of(&bytes) == self.low,
+            None => false,
+        }
+    }
+
+    fn keep_half_written(&mut self, place: Place) {
+        match place.half_to_write(self.value) {
+            Some(Half::High(bytes)) => self.high = number_of(&bytes),
+            Some(Half::Low(bytes)) => self.low = number_of(&bytes),
+            None => {}
+        }
+    }
+
     fn move_on(&mut self, place: Place, replied: bool, length: u64) {
         self.rounds += 1;
         if matches!(place, Place::Least(Part::Reply) | Place::Bit(_, Part::Reply)) {

@@ -3,14 +3,16 @@
 use compare::case::{bytes, hold_all, kind_of, LISTING};
 use compare::engine::Model;
 
-const EVERY_KIND: [&str; 8] = ["check", "data", "read", "round", "start", "step", "write", LISTING];
-/// The same from request 2 on.
-const EVERY_KIND_WITH_TRACES: [&str; 9] =
-    ["check", "data", "read", "round", "start", "step", "trace", "write", LISTING];
+/// The kinds of every file but `base.txt`. Steps of files before request 6 had positions of six words and are not kept.
+const EVERY_FILE: [&str; 6] = ["check", "data", "read", "round", "start", "write"];
 
-/// The same from request 4 on.
-const EVERY_KIND_WITH_OWNERS: [&str; 10] =
-    ["check", "data", "owner", "read", "round", "start", "step", "trace", "write", LISTING];
+/// The kinds of a file that has these beside those of every file.
+fn with(more: &[&'static str]) -> Vec<&'static str> {
+    let mut kinds = [&EVERY_FILE[..], more].concat();
+    kinds.sort_unstable();
+    kinds.push(LISTING);
+    kinds
+}
 
 /// The kinds of the cases in a text, all of which have to hold.
 fn kinds_that_hold(text: &str) -> Vec<&str> {
@@ -41,37 +43,42 @@ fn listing_holds(line: &str) -> Result<(), String> {
 #[test]
 fn base_vectors_hold() {
     let kinds = kinds_that_hold(include_str!("data/base.txt"));
-    assert_eq!(kinds, ["check", "read", "round", "start", "step", "write", LISTING]);
+    assert_eq!(kinds, ["check", "read", "round", "write", LISTING]);
 }
 
 #[test]
 fn further_base_vectors_hold() {
-    assert_eq!(kinds_that_hold(include_str!("data/base-more.txt")), EVERY_KIND);
+    assert_eq!(kinds_that_hold(include_str!("data/base-more.txt")), with(&[]));
 }
 
 #[test]
 fn vectors_of_request_1_hold() {
-    assert_eq!(kinds_that_hold(include_str!("data/request-01.txt")), EVERY_KIND);
+    assert_eq!(kinds_that_hold(include_str!("data/request-01.txt")), with(&[]));
 }
 
 #[test]
 fn vectors_of_request_2_hold() {
-    assert_eq!(kinds_that_hold(include_str!("data/request-02.txt")), EVERY_KIND_WITH_TRACES);
+    assert_eq!(kinds_that_hold(include_str!("data/request-02.txt")), with(&["trace"]));
 }
 
 #[test]
 fn vectors_of_request_3_hold() {
-    assert_eq!(kinds_that_hold(include_str!("data/request-03.txt")), EVERY_KIND_WITH_TRACES);
+    assert_eq!(kinds_that_hold(include_str!("data/request-03.txt")), with(&["trace"]));
 }
 
 #[test]
 fn vectors_of_request_4_hold() {
-    assert_eq!(kinds_that_hold(include_str!("data/request-04.txt")), EVERY_KIND_WITH_OWNERS);
+    assert_eq!(kinds_that_hold(include_str!("data/request-04.txt")), with(&["owner", "trace"]));
 }
 
 #[test]
 fn vectors_of_request_5_hold() {
-    assert_eq!(kinds_that_hold(include_str!("data/request-05.txt")), EVERY_KIND_WITH_OWNERS);
+    assert_eq!(kinds_that_hold(include_str!("data/request-05.txt")), with(&["owner", "trace"]));
+}
+
+#[test]
+fn vectors_of_request_6_hold() {
+    assert_eq!(kinds_that_hold(include_str!("data/request-06.txt")), with(&["owner", "step", "trace"]));
 }
 
 #[test]

@@ -12,17 +12,20 @@ const NAMES_USED_UP: u64 = 2;
 const COUNT_LIMIT: u64 = 1_000_000;
 const LAST_STEP: u64 = 199;
 
-pub fn start(names: &[u8], run: &mut [u64; 6]) -> u8 {
+/// End, index, step, value, rounds, comparisons, and the halves last written.
+pub type Run = [u64; 8];
+
+pub fn start(names: &[u8], run: &mut Run) -> u8 {
     let ground = names_ground(names);
     if ground != 0 {
         return ground;
     }
     let end = if names.is_empty() { NAMES_USED_UP } else { RUNNING };
-    *run = [end, 0, 0, 0, 0, 0];
+    *run = [end, 0, 0, 0, 0, 0, 0, 0];
     0
 }
 
-pub fn step(file: &mut [u8], run: &mut [u64; 6], names: &[u8], answer: &mut [u8], senders: &mut u64) -> u8 {
+pub fn step(file: &mut [u8], run: &mut Run, names: &[u8], answer: &mut [u8], senders: &mut u64) -> u8 {
     let mut survey = Survey::new();
     let ground = survey.walk(file);
     if ground != 0 {
@@ -64,7 +67,7 @@ fn names_ground(names: &[u8]) -> u8 {
     }
 }
 
-fn is_no_position(&[end, index, step, _, rounds, comparisons]: &[u64; 6], length: u64) -> bool {
+fn is_no_position(&[end, index, step, _, rounds, comparisons, ..]: &Run, length: u64) -> bool {
     if end == RUNNING {
         index >= length || step > LAST_STEP || rounds >= COUNT_LIMIT || comparisons >= COUNT_LIMIT
     } else {
@@ -76,54 +79,112 @@ fn is_no_position(&[end, index, step, _, rounds, comparisons]: &[u64; 6], length
 fn carry_on(
     file: &mut [u8],
     survey: &Survey,
-    run: &mut [u64; 6],
+    run: &mut Run,
     names: &[u8],
     answer: &mut [u8; ANSWER_BYTES],
 ) -> u64 {
-    let [end, index, step, value, rounds, comparisons] = run;
+    let [end, index, step, value, rounds, _, high, low] = run;
     let name = names[*index as usize];
-    let place = *step;
     // The address frame puts the epoch to one more, the data frame adds one.
     file[EPOCH] = file[EPOCH].wrapping_add(2);
     *rounds += 1;
-    *step += 1;
-    match place {
+    match *step {
         0 => {
             Pending { name, pb2: DOCUMENTATION << 2 | READ, record: 1 }.store(file);
             let senders = read(file, survey, name, DOCUMENTATION, 1, answer);
+            *step = 1;
             if senders != 0 {
                 finish_name(end, index, step, names.len());
             }
             senders
         }
-        1..=195 => {
-            let tried = if place < 4 { 0 } else { *value | 1 << (63 - (place - 4) / 3) };
-            match place % 3 {
-                1 => write_unnamed(file, survey, 2, (tried >> 32) as u32),
-                2 => write_unnamed(file, survey, 3, tried as u32),
-                _ => {
-                    *comparisons += 1;
-                    execute_unnamed(file, 2);
-                    let senders = compare(file, survey, UNNAMED, answer);
-                    if senders != 0 {
-                        *value = tried;
-                    } else if place == 3 {
-                        *end = ALL_NAMED;
-                        *step = 3;
-                    }
-                    senders
-                }
-            }
+        1..=195 => compare_on(file, survey, run, answer),
+        196 => {
+            *step = next_made(197, 197, *value, *high, *low);
+            write_unnamed(file, survey, 1, u32::from_be_bytes([0, 0, name, UNNAMED]))
         }
-        196 => write_unnamed(file, survey, 1, u32::from_be_bytes([0, 0, name, UNNAMED])),
-        197 => write_unnamed(file, survey, 2, (*value >> 32) as u32),
-        198 => write_unnamed(file, survey, 3, *value as u32),
+        _ => give(file, survey, run, names.len()),
+    }
+}
+
+/// Places 1 to 195: comparisons of three places each, with 0 and then with each bit from 63 down.
+#[inline]
+fn compare_on(file: &mut [u8], survey: &Survey, run: &mut Run, answer: &mut [u8; ANSWER_BYTES]) -> u64 {
+    let [end, _, step, value, _, comparisons, high, low] = run;
+    let comparison = (*step - 1) / 3;
+    let first = 1 + 3 * comparison;
+    let (sent, place) = if comparison == 0 {
+        (0, *step)
+    } else {
+        let sent = *value | 1 << (64 - comparison);
+        (sent, next_made(*step, first, sent, *high, *low))
+    };
+    match place - first {
+        0 => {
+            let is_low_written = comparison != 0 && low_half(sent) == *low;
+            *step = first + 1 + u64::from(is_low_written);
+            write_half(file, survey, 2, high, sent >> 32)
+        }
+        1 => {
+            *step = first + 2;
+            write_half(file, survey, 3, low, low_half(sent))
+        }
+        _ => {
+            *comparisons += 1;
+            execute_unnamed(file, 2);
+            let senders = compare(file, survey, UNNAMED, answer);
+            if senders != 0 {
+                *value = sent;
+            } else if comparison == 0 {
+                *end = ALL_NAMED;
+                *step = 3;
+                return senders;
+            }
+            *step = match comparison {
+                64 => 196,
+                _ => next_made(first + 3, first + 3, *value | 1 << (63 - comparison), *high, *low),
+            };
+            senders
+        }
+    }
+}
+
+/// Places 197 to 199: the two halves of the value, and the baptism.
+#[inline]
+fn give(file: &mut [u8], survey: &Survey, run: &mut Run, length: usize) -> u64 {
+    let [end, index, step, value, _, _, high, low] = run;
+    match next_made(*step, 197, *value, *high, *low) {
+        197 => {
+            *step = 198 + u64::from(low_half(*value) == *low);
+            write_half(file, survey, 2, high, *value >> 32)
+        }
+        198 => {
+            *step = 199;
+            write_half(file, survey, 3, low, low_half(*value))
+        }
         _ => {
             execute_unnamed(file, 1);
-            finish_name(end, index, step, names.len());
+            finish_name(end, index, step, length);
             baptize(file, survey, UNNAMED)
         }
     }
+}
+
+/// Of three places from `first` on, which write the halves of a value and execute, the next from `place` on whose round is
+/// made: a half that is the one last written is not written again.
+#[inline]
+fn next_made(place: u64, first: u64, sent: u64, high: u64, low: u64) -> u64 {
+    if place == first && sent >> 32 != high {
+        first
+    } else if place <= first + 1 && low_half(sent) != low {
+        first + 1
+    } else {
+        first + 2
+    }
+}
+
+fn low_half(value: u64) -> u64 {
+    value & u64::from(u32::MAX)
 }
 
 fn finish_name(end: &mut u64, index: &mut u64, step: &mut u64, length: usize) {
@@ -136,6 +197,12 @@ fn finish_name(end: &mut u64, index: &mut u64, step: &mut u64, length: usize) {
 
 fn execute_unnamed(file: &mut [u8], record: u8) {
     Pending { name: UNNAMED, pb2: CONFIGURATION << 2 | EXECUTE, record }.store(file);
+}
+
+/// Writes a half of a comparison value and keeps it.
+fn write_half(file: &mut [u8], survey: &Survey, record: u8, kept: &mut u64, half: u64) -> u64 {
+    *kept = half;
+    write_unnamed(file, survey, record, half as u32)
 }
 
 /// Nobody sends at a write.

@@ -2,8 +2,9 @@
 //! number. The rest of the crate is built on these; they are public for callers who want to lend every
 //! buffer themselves.
 
-/// The words of a run position: end, index, step, value, rounds, comparisons.
-pub const RUN_WORDS: usize = 6;
+/// The words of a run position: end, index, step, value, rounds, comparisons, and the high and the low half of a
+/// comparison value last written.
+pub const RUN_WORDS: usize = 8;
 /// The words of a trace's report: MSA, MSD, multipartner and refused frames, and their sum.
 pub const REPORT_WORDS: usize = 5;
 /// The bytes of a record of an owner file.

@@ -42,7 +42,7 @@ impl Run {
         Run { words }
     }
 
-    /// The position to be stored: end, index, step, value, rounds, comparisons.
+    /// The position to be stored: end, index, step, value, rounds, comparisons, and the halves last written.
     pub fn words(&self) -> [u64; RUN_WORDS] {
         self.words
     }
@@ -62,7 +62,7 @@ impl Run {
         self.words[1]
     }
 
-    /// The place of the pass's next round.
+    /// The place of the next round that this pass makes, among 200; writes that are not needed are left out.
     pub fn next_round(&self) -> u64 {
         self.words[2]
     }
@@ -80,5 +80,11 @@ impl Run {
     /// Comparisons made.
     pub fn comparisons(&self) -> u64 {
         self.words[5]
+    }
+
+    /// The high and the low half of a comparison value that were last written to the unnamed slaves; both 0 in a fresh
+    /// run. A half is not written again while it stays the same, the first comparison for a name aside.
+    pub fn last_written(&self) -> (u64, u64) {
+        (self.words[6], self.words[7])
     }
 }

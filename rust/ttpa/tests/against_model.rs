@@ -6,6 +6,7 @@ use compare::case::hold_all;
 use compare::edges::hold_edges;
 use compare::engine::{Engine, ReportWords, RunWords};
 use compare::name_edges::hold_name_edges;
+use compare::naming_edges::hold_naming_edges;
 use compare::owner_edges::hold_owner_edges;
 use ttpa::{Address, End, Report, Run, Senders, TtpaError};
 
@@ -89,6 +90,7 @@ fn the_safe_functions_give_the_kept_results() {
         include_str!("../../model/tests/data/request-03.txt"),
         include_str!("../../model/tests/data/request-04.txt"),
         include_str!("../../model/tests/data/request-05.txt"),
+        include_str!("../../model/tests/data/request-06.txt"),
     ] {
         let held = hold_all(&Wrapper, text);
         assert!(held.passed > 0);
@@ -109,4 +111,9 @@ fn the_edges_of_an_owner_file_hold() {
 #[test]
 fn the_edges_of_logical_names_hold() {
     hold_name_edges(&Wrapper);
+}
+
+#[test]
+fn the_edges_of_naming_steps_hold() {
+    hold_naming_edges(&Wrapper);
 }

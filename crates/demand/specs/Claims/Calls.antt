@@ -1,5 +1,5 @@
 -- Demand 3 (document 01, "The naming run", third paragraph) over the C calls that a program makes: ttpa_check, ttpa_start and then
--- any list of ttpa_step, ttpa_round and ttpa_trace, on the bytes of the file and the six stored words, judged by the numbers
+-- any list of ttpa_step, ttpa_round and ttpa_trace, on the bytes of the file and the eight stored words, judged by the numbers
 -- returned. What each call does is `ttpa/specs/Rules/Calls`, which the contracts of the C functions cite.
 use Prim.Native.Nat.{ℕ}
 use mathlib.Core.Path.{_≡_}

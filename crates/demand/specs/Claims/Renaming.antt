@@ -30,7 +30,7 @@ CallsRenameNobody =
     (file names : List ℕ) (p : Position) (calls : List CallOrTrace) → Bytes file → Bytes names → All AllBytes calls →
     NoneBaptizes names (startOn file) p (singly calls) → namesOf (afterAll names (startOn file) p calls .0 .file) ≡ namesOf file
 
--- and so over the C calls ttpa_step, ttpa_round and ttpa_trace, on the bytes of the file and the six stored words
+-- and so over the C calls ttpa_step, ttpa_round and ttpa_trace, on the bytes of the file and the eight stored words
 abbrev pub CCallsRenameNobody : Type 0
 CCallsRenameNobody =
     (file names : List ℕ) (p : Position) (calls : List CCall) → Bytes file → Bytes names → All GivenBytes calls →

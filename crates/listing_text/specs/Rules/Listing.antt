@@ -11,7 +11,6 @@ use Rattle.file.specs.Rules.Grounds.{loadGround}
 use Rattle.cluster.specs.Rules.Bus.{slots}
 use Rattle.naming.specs.Rules.Run.{Position, running, fresh, lastStep}
 use Rattle.naming.specs.Rules.Step.{StepDone, ended, made, stepOn}
-use Rattle.naming.specs.Rules.Account.{namingRounds}
 use Rattle.listing_text.specs.Rules.Text.{nameLine, totalsLine, refusedLine, lineSize, totalsSize}
 
 -- n names from a on
@@ -64,9 +63,9 @@ unfoldable pub listSteps : ℕ → ListState → ListState
 listSteps zero t = t
 listSteps (suc n) t = let rest = listSteps n (listStep t) in cond (eqb (t .run .end) running) rest t
 
--- every pass has at most 200 rounds
+-- every pass makes at most as many rounds as it has places
 abbrev pub mostSteps : ℕ
-mostSteps = nameCount * namingRounds
+mostSteps = nameCount * (lastStep + 1)
 
 -- "It reads one file from standard input and runs names 0x01 to 0xFE."
 unfoldable pub startState : List ℕ → ListState

@@ -1,21 +1,19 @@
--- The code's types in the terms of the rules. No two values of one type are taken to the same, but for a round that carries no bytes
--- (`Sends` says that they are 0); of a step's answers, which carry the run, `steppedOf` and `runAfter` together tell any two apart.
+-- The code's types in the terms of the rules. No two values of one type are taken to the same, but for a round's bytes that are not
+-- sent (`cluster/specs/Inner/Sending` sentFor); of a step's answers, which carry the run, `steppedOf` and `runAfter` together tell any
+-- two apart.
 use Prim.Native.Nat.{ℕ, _/_, _%_, _≤_, _<_}
 use mathlib.Core.Path.{_≡_}
-use mathlib.Core.List.{List, [], _∷_}
-use mathlib.Core.Bool.{Bool, true, false, cond}
-use lib.Dec.{eqb}
+use mathlib.Core.List.{List}
+use mathlib.Core.Bool.{Bool, true, false}
 use lib.ListN.{length}
 use Rattle.file.specs.Rules.Order.{firstOf}
 use Rattle.file.specs.Rules.Results.{Result, refused, done}
-use Rattle.file.specs.Rules.Cluster.{Cluster, writeOperation}
-use Rattle.file.specs.Inner.Typed.{fileIn, recordIn, nameIn, operationIn}
 use Rattle.cluster.specs.Rules.Bus.{slots}
-use Rattle.cluster.specs.Rules.Slaves.{nextEpoch}
-use Rattle.cluster.specs.Inner.Duties.{afterAddress, roundData}
+use Rattle.cluster.specs.Rules.MasterSlave.{Sent}
+use Rattle.cluster.specs.Inner.Sending.{sentFor}
 use Rattle.cluster.specs.declared.types.MasterSlaveRound.{MasterSlaveRound}
-use Rattle.naming.specs.Rules.Rounds.{RunRound, writeHigh, writeLow, compare, half, Sent}
-use Rattle.naming.specs.Rules.Run.{Position, running, Part, high, low, reply, countLimit, lastStep, runGrounds}
+use Rattle.naming.specs.Rules.Rounds.{RunRound, writeHigh, writeLow, compare, half}
+use Rattle.naming.specs.Rules.Run.{Position, running, PassPlace, poll, ask, giveName, giveHigh, giveLow, baptize, Part, high, low, reply, tried, placeOf, roundAt, isNeedless, passOver, onto, wrote, countLimit, lastStep, runGrounds}
 use Rattle.naming.specs.Rules.Step.{StepDone, ended, made}
 use Rattle.naming.specs.declared.position.RunPosition.{RunPosition}
 use Rattle.naming.specs.declared.position.Reply.{Reply}
@@ -34,6 +32,8 @@ positionOf r =
       value = r .value;
       rounds = r .rounds;
       comparisons = r .comparisons;
+      high = r .high;
+      low = r .low;
     }
 
 -- "If an answer is an enum, a definition gives this paper's number and values for each of its cases. The promises use this definition."
@@ -73,25 +73,40 @@ pub record StepGoes (names : List ℕ) (p : Position) (buffer : List ℕ) : Type
   pub accepted : firstOf (runGrounds names p) ≡ 0
   pub runs : p .end ≡ running
 
--- the round that a struct stands for
-abbrev pub sentFor : MasterSlaveRound → Sent
-sentFor r =
-    record {
-      name = nameIn (r .name);
-      file = fileIn (r .number);
-      operation = operationIn (r .operation);
-      «record» = recordIn (r .«record»);
-      content = cond (eqb (operationIn (r .operation)) writeOperation) (roundData r) [];
-    }
+-- the half that the round at a place writes, `reply` where it writes none, and the value that it is a half of
+unfoldable pub partAt : PassPlace → Part
+partAt poll = reply
+partAt (ask q r) = r
+partAt giveName = reply
+partAt giveHigh = high
+partAt giveLow = low
+partAt baptize = reply
 
--- it stands for that round, and has no data but a write's
+unfoldable pub valueAt : PassPlace → ℕ → ℕ
+valueAt poll value = value
+valueAt (ask q r) value = tried q value
+valueAt giveName value = value
+valueAt giveHigh value = value
+valueAt giveLow value = value
+valueAt baptize value = value
+
+-- one position is another once the round at its place is made, whatever its name
+abbrev pub Wrote : Position → Position → Type 0
+Wrote p q = (n : ℕ) → q ≡ wrote (roundAt (placeOf (p .step)) n (p .value)) p
+
+-- whether the write at its step is needless, and the position once it is passed over, whatever the names
+abbrev pub NeedlessAt : Position → Bool → Type 0
+NeedlessAt p t = (names : List ℕ) → t ≡ isNeedless names p
+
+abbrev pub PassedOver : Position → Position → Type 0
+PassedOver p q = (names : List ℕ) → q ≡ passOver names p
+
+abbrev pub Settled : Position → Position → Type 0
+Settled p q = (names : List ℕ) → q ≡ onto names p
+
+-- the struct stands for that round
 pub record Sends (r : MasterSlaveRound) (s : Sent) : Type 0 where
   pub parts : sentFor r ≡ s
-  pub idle : eqb (operationIn (r .operation)) writeOperation ≡ false → roundData r ≡ 0 ∷ 0 ∷ 0 ∷ 0 ∷ []
-
--- the cluster after its address frame, "PB0 being the file's epoch plus 1 modulo 256"
-unfoldable pub askedFor : Cluster → MasterSlaveRound → Cluster
-askedFor c r = afterAddress c (nextEpoch (c .epoch)) r
 
 -- the round at a part of a comparison with a value
 unfoldable pub askedBy : Part → ℕ → RunRound

@@ -1,6 +1,6 @@
--- The plain account (document 01's term; "The naming run", second paragraph) that the naming run is measured against. It knows
--- nothing of frames, positions and comparison values.
-use Prim.Native.Nat.{ℕ, suc, _+_, _-_, _/_, min}
+-- The plain account (document 01's term; "The naming run", second paragraph; document 02, request 6) that the naming run is measured
+-- against. It knows nothing of frames, positions and comparison values.
+use Prim.Native.Nat.{ℕ, suc, _+_, _-_, _/_, _%_, _^_, min}
 use mathlib.Core.List.{List, [], _∷_, map}
 use mathlib.Core.Bool.{cond}
 use lib.Dec.{eqb, ltb}
@@ -34,11 +34,15 @@ pub record Account : Type 0 where
   pub done : ℕ
   pub k : ℕ
 
--- "A pass for a name held at the start is 1 round. For a free one it is 200 rounds and 65 comparisons ..; if none is left it is 4
--- and 1"
-abbrev pub namingRounds : ℕ
-namingRounds = 200
+-- 1 if a bit of a number is 0, else 0
+unfoldable pub bitClear : ℕ → ℕ → ℕ
+bitClear b p = 1 - p / 2 ^ b % 2
 
+-- request 6: "A pass that names a slave then makes exactly 134 rounds, plus 1 if bit 32 of its physical name is 0, plus 1 if bit 0 is 0."
+unfoldable pub namingRounds : ℕ → ℕ
+namingRounds p = 134 + bitClear 32 p + bitClear 0 p
+
+-- "A pass for a name held at the start is 1 round. For a free one it is .. 65 comparisons ..; if none is left it is 4 and 1"
 abbrev pub namingComparisons : ℕ
 namingComparisons = 65
 
@@ -48,13 +52,20 @@ endingRounds = 4
 abbrev pub endingComparisons : ℕ
 endingComparisons = 1
 
--- "After k rounds of a pass, k at least 1, it has made (k − 1)/3 comparisons, rounded down, at most 65."
-unfoldable pub comparisonsAfter : ℕ → ℕ
-comparisonsAfter k = min namingComparisons ((k - 1) / 3)
+-- request 6: "it counts a comparison at its execute". After k rounds of a pass: the comparison with 0 at round 4, those of bits 63 to 32 at
+-- every second round up to round 68, and those of bits 31 to 0 at every second round after that or, if the high half is written again
+-- between the two, after one round more. Claims/Passes has the same over the pass written out.
+unfoldable pub comparisonsAfter : ℕ → ℕ → ℕ
+comparisonsAfter more k = (min k 68 - 2) / 2 + min 32 ((k - 68 - more) / 2)
+
+-- that one round more of the pass for the first of those who wait
+unfoldable pub highAgain : List ℕ → ℕ
+highAgain [] = 0
+highAgain (p ∷ ps) = bitClear 32 p
 
 -- the total of comparisons
 unfoldable pub comparisonsOf : Account → ℕ
-comparisonsOf a = a .done + comparisonsAfter (a .k)
+comparisonsOf a = a .done + comparisonsAfter (highAgain (a .waiting)) (a .k)
 
 -- ---- the start
 
@@ -103,7 +114,7 @@ give p n s = record { physical = s .physical; logical = cond (eqb (s .physical) 
 unfoldable pub freePass : Account → ℕ → List ℕ → List ℕ → Account
 freePass a n ns [] = cond (eqb (suc (a .k)) endingRounds) (goOn a 1) (goOn a (a .end))
 freePass a n ns (p ∷ ps) =
-    cond (eqb (suc (a .k)) namingRounds) (passDone a ns ps (map (give p n) (a .slaves)) namingComparisons) (goOn a (a .end))
+    cond (eqb (suc (a .k)) (namingRounds p)) (passDone a ns ps (map (give p n) (a .slaves)) namingComparisons) (goOn a (a .end))
 
 unfoldable pub pass : Account → List ℕ → Account
 pass a [] = a

@@ -47,11 +47,16 @@ renamed gs s = record { physical = s .physical; logical = nameGiven gs (s .physi
 unfoldable pub namesAfter : List Named → List ℕ → List Named
 namesAfter slaves names = map (renamed (givings (falling (unnamedAmong slaves)) (freeNames (namesHeld slaves) names))) slaves
 
--- the rounds of the whole run: 200 min(u, f), plus 4 if u < f, plus one for each taken name tried
+-- request 6: "the sum of these figures over the slaves named"
+unfoldable pub namingSum : List Named → ℕ
+namingSum [] = 0
+namingSum (g ∷ gs) = namingRounds (g .physical) + namingSum gs
+
+-- the rounds of the whole run: that sum over the min(u, f) slaves named, plus 4 if u < f, plus one for each taken name tried
 unfoldable pub roundsFor : List Named → List ℕ → ℕ
 roundsFor slaves names =
     let held = namesHeld slaves in let u = length (unnamedAmong slaves) in let f = length (freeNames held names) in
-    namingRounds * min u f + cond (ltb u f) endingRounds 0 + takenTried held u names
+    namingSum (givings (falling (unnamedAmong slaves)) (freeNames held names)) + cond (ltb u f) endingRounds 0 + takenTried held u names
 
 -- and its comparisons: 65 min(u, f), plus 1 if u < f
 unfoldable pub comparisonsFor : List Named → List ℕ → ℕ

@@ -3,6 +3,7 @@ use Prim.Native.Nat.{ℕ, _^_}
 use mathlib.Core.List.{List, [], _∷_}
 use Rattle.file.specs.Rules.Bytes.{bytesOf}
 use Rattle.file.specs.Rules.Layout.{recordSize}
+use Rattle.cluster.specs.Rules.MasterSlave.{Sent}
 use Rattle.file.specs.Rules.Cluster.{configuration, documentation, unnamed, readOperation, writeOperation, executeOperation}
 
 -- the values of one half: 32 bits
@@ -19,14 +20,7 @@ pub data RunRound : Type 0 where
   poll writeName writeHigh writeLow : ℕ → RunRound
   compare baptize : RunRound
 
--- what the master sends: logical name, file, operation and record of the address frame, and the data of a write
-pub record Sent : Type 0 where
-  pub name : ℕ
-  pub file : ℕ
-  pub operation : ℕ
-  pub «record» : ℕ
-  pub content : List ℕ
-
+-- what the master sends
 unfoldable pub atUnnamed : ℕ → ℕ → List ℕ → Sent
 atUnnamed operation r content =
     record { name = unnamed; file = configuration; operation = operation; «record» = r; content = content }

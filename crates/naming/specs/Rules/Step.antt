@@ -1,33 +1,16 @@
 -- One step of a naming run on a file (document 01, "The naming run": it "moves one complete master-slave round a step").
 use Prim.Native.Nat.{ℕ, _/_, _%_, _^_}
-use mathlib.Core.List.{List, [], _∷_, _++_}
+use mathlib.Core.List.{List, _∷_, _++_}
 use mathlib.Core.Bool.{Bool, false, cond}
 use lib.Dec.{eqb}
 use Rattle.file.specs.Rules.Order.{firstOf}
 use Rattle.file.specs.Rules.Results.{Result, refused, done}
-use Rattle.file.specs.Rules.Cluster.{Cluster, writeOperation}
-use Rattle.file.specs.Rules.Decode.{decode}
 use Rattle.file.specs.Rules.Grounds.{fileGrounds}
-use Rattle.frame.specs.Rules.Fireworks.{dataFirework}
-use Rattle.frame.specs.Rules.Frames.{addressFrame, dataFrame}
-use Rattle.cluster.specs.Rules.Slaves.{nextEpoch}
 use Rattle.cluster.specs.Rules.Grounds.{shortAnswer}
-use Rattle.cluster.specs.Rules.Round.{Answer, roundOn}
-use Rattle.naming.specs.Rules.Rounds.{Sent, sent}
+use Rattle.cluster.specs.Rules.Round.{Answer}
+use Rattle.cluster.specs.Rules.MasterSlave.{roundSent}
+use Rattle.naming.specs.Rules.Rounds.{sent}
 use Rattle.naming.specs.Rules.Run.{Position, running, nextRound, advance, runGrounds}
-
--- the round's address frame, "PB0 being the file's epoch plus 1 modulo 256"
-unfoldable pub addressSent : Cluster → Sent → List ℕ
-addressSent c s = addressFrame (nextEpoch (c .epoch)) (s .name) (s .file) (s .operation) (s .«record»)
-
--- and its data frame: the data of a write, else the firework alone
-unfoldable pub dataSent : Sent → List ℕ
-dataSent s = cond (eqb (s .operation) writeOperation) (dataFrame (s .content)) (dataFirework ∷ [])
-
--- the two frames on a file, one after the other: the answer and buffer of the data frame, and the file
-unfoldable pub roundSent : List ℕ → Sent → List ℕ → Answer × List ℕ × List ℕ
-roundSent file s buffer =
-    let first = roundOn file (addressSent (decode file) s) buffer in roundOn (first .2) (dataSent s) (first .1)
 
 -- "a reply in slot 1": bit 1 of the mask
 unfoldable pub isReply : Answer → Bool
@@ -39,8 +22,8 @@ pub data StepDone : Type 0 where
   ended : StepDone
   made : ℕ → StepDone
 
--- by the answer to its data frame. A step that no ground refuses has its frames accepted (laws address-accepted and data-accepted), so
--- a refusal of the step is by its own ground alone.
+-- by the answer to its data frame. A step that no ground refuses has its frames accepted (`cluster/proofs/SentRounds` address-accepted
+-- and data-accepted), so a refusal of the step is by its own ground alone.
 unfoldable pub madeBy : Answer → StepDone
 madeBy (refused n) = made 0
 madeBy (done mask) = made mask

@@ -24,6 +24,12 @@ element-copy-out-t16 c = search needs
 element-copy-out-t19 : tie.Need-element-copy-out-t19
 element-copy-out-t19 c = search needs
 
+element-copy-out-t22 : tie.Need-element-copy-out-t22
+element-copy-out-t22 c = search needs
+
+element-copy-out-t25 : tie.Need-element-copy-out-t25
+element-copy-out-t25 c = search needs
+
 returns : tie.Need-returns
 unfolding positionIn
 returns c = refl
@@ -38,4 +44,6 @@ position-in-spec =
     element-copy-out-t13
     element-copy-out-t16
     element-copy-out-t19
+    element-copy-out-t22
+    element-copy-out-t25
     returns)

@@ -52,12 +52,12 @@ traceCall file t report = let r = traceOn file t in (numberIn (r .0), lentAfter 
 unfoldable pub ownerCall : List ℕ → ℕ → List ℕ → ℕ → ℕ × ℕ × List ℕ
 ownerCall file master buffer length = let r = ownerOn file master buffer in (numberIn (r .0), lentAfter (r .0) length (λ (written : ℕ). written), r .1)
 
--- a run's six words, by their places
+-- a run's eight words, by their places: end, index, step, value, rounds, comparisons, and the two halves last written
 unfoldable pub wordsOf : Position → List ℕ
-wordsOf p = p .end ∷ p .index ∷ p .step ∷ p .value ∷ p .rounds ∷ p .comparisons ∷ []
+wordsOf p = p .end ∷ p .index ∷ p .step ∷ p .value ∷ p .rounds ∷ p .comparisons ∷ p .high ∷ p .low ∷ []
 
 unfoldable pub positionIn : List ℕ → Position
-positionIn run = record { end = getD run 0 0; index = getD run 1 0; step = getD run 2 0; value = getD run 3 0; rounds = getD run 4 0; comparisons = getD run 5 0 }
+positionIn run = record { end = getD run 0 0; index = getD run 1 0; step = getD run 2 0; value = getD run 3 0; rounds = getD run 4 0; comparisons = getD run 5 0; high = getD run 6 0; low = getD run 7 0 }
 
 -- a fresh run
 unfoldable pub startCall : List ℕ → List ℕ → ℕ × List ℕ

@@ -52,11 +52,11 @@ fn the_mask_of_a_step_is_written_by_a_running_run_only() {
     let mut run = FRESH;
     assert_eq!(calls::step(&mut file, &mut run, &[1, 1], &mut answer, &mut senders), 16);
     assert_eq!((&file[..], run, answer, senders), (M10, FRESH, ROOMY, MASK_BEFORE));
-    let mut ended = [2, 1, 0, 0, 1, 0];
+    let mut ended = [2, 1, 0, 0, 1, 0, 7, 8];
     assert_eq!(calls::step(&mut file, &mut ended, &[1], &mut answer, &mut senders), 0);
-    assert_eq!((&file[..], ended, answer, senders), (M10, [2, 1, 0, 0, 1, 0], ROOMY, MASK_BEFORE));
+    assert_eq!((&file[..], ended, answer, senders), (M10, [2, 1, 0, 0, 1, 0, 7, 8], ROOMY, MASK_BEFORE));
     assert_eq!(calls::step(&mut file, &mut run, &[1], &mut answer, &mut senders), 0);
-    assert_eq!((run, answer[0], senders), ([0, 0, 1, 0, 1, 0], 0x49, 0));
+    assert_eq!((run, answer[0], senders), ([0, 0, 1, 0, 1, 0, 0, 0], 0x49, 0));
 }
 
 #[test]

@@ -48,7 +48,10 @@ same-length-7 : tie.Need-same-length-7
 same-length-7 c = search needs
 
 returns-3 : tie.Need-returns-3
-returns-3 c = let start : tie.Start = search in search one-step-made
+returns-3 c =
+    let stepped : tie.After-step = search in
+    let start : tie.Start = search in
+    search one-step-made
 
 pub one-step-spec : {M : Type 1} → statement M
 one-step-spec =

@@ -7,7 +7,7 @@ use Rattle.naming.proofs.sending.poll_round.Tie as tie
 
 returns : tie.Need-returns
 unfolding sent atUnnamed
-returns c = record { parts = refl; idle = λ _. refl }
+returns c = record { parts = refl }
 
 pub poll-round-spec : {M : Type 1} → statement M
 poll-round-spec = tie.close (tie.spec returns)

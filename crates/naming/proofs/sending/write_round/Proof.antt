@@ -1,14 +1,13 @@
 -- `naming::sending::write_round` meets its contract.
 -- Assumes nothing.
 use mathlib.Core.Path.{refl}
-use Rattle.file.proofs.Order.{clash}
 use Rattle.naming.specs.Rules.Rounds.{sent, atUnnamed}
 use Rattle.naming.proofs.sending.write_round.Statement.{statement}
 use Rattle.naming.proofs.sending.write_round.Tie as tie
 
 returns : tie.Need-returns
 unfolding sent atUnnamed
-returns c = record { parts = refl; idle = λ z. clash refl z }
+returns c = record { parts = refl }
 
 pub write-round-spec : {M : Type 1} → statement M
 write-round-spec = tie.close (tie.spec returns)

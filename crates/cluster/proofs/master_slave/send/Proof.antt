@@ -1,9 +1,9 @@
--- `naming::sending::send` meets its contract: a complete master-slave round, with the epoch plus 1.
+-- `cluster::master_slave::send` meets its contract: a complete round with the epoch plus 1 is its two frames.
 -- Assumes nothing.
-use Rattle.naming.proofs.RunLaws.{pending-for, carried-for}
+use Rattle.cluster.proofs.SentRounds.{pending-sent, carried-sent, sent-done}
 use borrow.Author.Needs.{needs}
-use Rattle.naming.proofs.sending.send.Statement.{statement}
-use Rattle.naming.proofs.sending.send.Tie as tie
+use Rattle.cluster.proofs.master_slave.send.Statement.{statement}
+use Rattle.cluster.proofs.master_slave.send.Tie as tie
 
 read-epoch-requires : tie.Need-read-epoch-requires
 read-epoch-requires c κs = search needs
@@ -12,7 +12,7 @@ next-epoch-requires : tie.Need-next-epoch-requires
 next-epoch-requires c κs = search needs
 
 master-slave-requires : tie.Need-master-slave-requires
-master-slave-requires c κs = search pending-for
+master-slave-requires c κs = search pending-sent
 
 same-length : tie.Need-same-length
 same-length c = search needs
@@ -21,7 +21,7 @@ same-length-2 : tie.Need-same-length-2
 same-length-2 c = search needs
 
 returns : tie.Need-returns
-returns c = search carried-for
+returns c = search (sent-done, carried-sent)
 
 pub send-spec : {M : Type 1} → statement M
 send-spec =
