@@ -2,7 +2,7 @@
  *
  * Loads a cluster file, checks it, reads a record of a named slave, has a foreign master try to name slaves by a
  * write, names the unnamed slaves while other rounds go on in between, runs a captured trace, plans who sends in
- * which slot, and prints what happened.
+ * which slot, has a slot multiplexed, and prints what happened.
  * examples/demo.rs of the Rust crate does the same and prints the same. */
 #include <inttypes.h>
 #include <stdio.h>
@@ -241,6 +241,22 @@ static void show_owners(void)
     }
 }
 
+/* Slot 4 becomes a multiplexed one, in which 02 sends where the epoch is a multiple of 4: no owner file has it. The
+ * write leaves epoch 2, so of the next four rounds the second has the byte. */
+static void show_multiplexed(void)
+{
+    static const uint8_t round[1] = {TTPA_FIREWORK_ROUND_2};
+    static const uint8_t entry[] = {0x10 << 2, 0x01, 0x90, 4};
+    uint8_t owners[TTPA_OWNER_BYTES];
+    uint64_t bytes;
+    print_verdict("slot 4 for 02 in every fourth round", write_record(0x02, 0x02, 1, entry));
+    print_verdict("an owner file", ttpa_owner(cluster, length, MASTER, owners, sizeof owners, &bytes));
+    for (int i = 0; i < 4; i++) {
+        print_verdict("round 2", send(round, sizeof round));
+        print_answer("answer");
+    }
+}
+
 int main(int count, char **arguments)
 {
     static const uint8_t names[] = {0x01, 0x02, 0x03, 0x04};
@@ -286,6 +302,7 @@ int main(int count, char **arguments)
     number = send(round, sizeof round);
     print_verdict("round 2 as planned", number);
     print_answer("answer");
+    show_multiplexed();
     print_verdict("a short answer buffer", ttpa_round(cluster, length, round, sizeof round, answer,
                                                       TTPA_ANSWER_BYTES - 1, &senders));
     print_verdict("the file as it is now", ttpa_check(cluster, length));

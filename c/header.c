@@ -45,6 +45,7 @@ VALUE(TTPA_REFUSED_TRACE, 19);
 VALUE(TTPA_REFUSED_TWO_SENDERS, 20);
 VALUE(TTPA_REFUSED_OWNER_BUFFER, 21);
 VALUE(TTPA_REFUSED_EQUAL_LOGICAL_NAMES, 22);
+VALUE(TTPA_REFUSED_MULTIPLEXED_SEND, 23);
 
 VALUE(TTPA_FILE_BYTES, 32768);
 VALUE(TTPA_FRAME_BYTES, 6);
@@ -219,7 +220,7 @@ static void texts(void)
         "accepted",  "32,768",        "mark",   "edition",    "as long as",  "header",       "layout",
         "0x3D",      "physical name", "buffer", "firework",   "length",      "firework and", "operation",
         "a read is", "0xFF",          "twice",  "naming run", "file number", "the trace",    "two slaves",
-        "owner file", "logical name;",
+        "owner file", "logical name;", "multiplexed",
     };
     const int known = sizeof words / sizeof words[0];
     for (int number = 0; number < known; number++) {
@@ -227,7 +228,7 @@ static void texts(void)
         EXPECT(is_printable(text) && strstr(text, words[number]) != NULL);
         EXPECT(first_with(text) == number);
     }
-    EXPECT(known == TTPA_REFUSED_EQUAL_LOGICAL_NAMES + 1);
+    EXPECT(known == TTPA_REFUSED_MULTIPLEXED_SEND + 1);
     EXPECT(is_printable(ttpa_refusal_text(UINT8_MAX)));
     for (int number = known; number <= UINT8_MAX; number++) {
         EXPECT(first_with(ttpa_refusal_text((uint8_t)number)) == known);
@@ -712,8 +713,10 @@ static const uint8_t partners[] = {
     0x00, 0x00, 0x00, 0x00, 0x00, 0x00, 0x00, 0x07, 0x00, 0x00, 0x00, 0x03,
 };
 
-/* Where the third slave's logical name stands. */
+/* Where the third slave's logical name stands, and the operation and multiplex field of the second's entry. */
 #define THIRD_NAME 0xB3
+#define SECOND_OPERATION 0x6E
+#define SECOND_SLOT 0x6F
 
 /* Their owner file for a master named 0x11: round 2 has five slots, so two records from record 4 on. */
 static const uint8_t owners[] = {
@@ -780,6 +783,43 @@ static void refused_owners(void)
     EXPECT(owner_length == OLD_WORD);
 }
 
+/* The second slave's entry as a multiplexed one, with its turn in every fourth round: a send is refused, before 20; a
+ * receive is passed over, and there is nothing after it. */
+static void multiplexed_owners(void)
+{
+    uint8_t file[sizeof partners];
+    memcpy(file, partners, sizeof partners);
+    file[SECOND_OPERATION] = 0x90;
+    EXPECT(owner_refused(file, sizeof file, 0, TTPA_REFUSED_MULTIPLEXED_SEND));
+    EXPECT(owner_refused(file, sizeof file, TTPA_OWNER_BYTES, TTPA_REFUSED_MULTIPLEXED_SEND));
+    file[THIRD_NAME] = 0x23;
+    EXPECT(owner_refused(file, sizeof file, TTPA_OWNER_BYTES, TTPA_REFUSED_MULTIPLEXED_SEND));
+    file[SECOND_OPERATION] = 0x80;
+    EXPECT(owner_refused(file, sizeof file, TTPA_OWNER_BYTES, TTPA_REFUSED_TWO_SENDERS));
+    file[THIRD_NAME] = TTPA_NAME_UNNAMED;
+    EXPECT(write_owner(file, sizeof file, sizeof owner_buffer) == TTPA_ACCEPTED);
+    EXPECT(owner_length == 36);
+}
+
+/* The same entry in eight rounds, from epoch 0 on: field 1 sends B1 in slot 4 in epochs 1 and 5, and as operation 15 in
+ * epoch 5 alone. */
+static void multiplexed_rounds(void)
+{
+    static const uint8_t round[] = {TTPA_FIREWORK_ROUND_2};
+    uint8_t file[sizeof partners];
+    for (int operation = 9; operation <= 15; operation += 6) {
+        memcpy(file, partners, sizeof partners);
+        file[SECOND_OPERATION] = (uint8_t)(operation << 4);
+        file[SECOND_SLOT] = 1 << 6 | 4;
+        for (int epoch = 1; epoch <= 8; epoch++) {
+            int sends = epoch == 5 || (epoch == 1 && operation == 9);
+            EXPECT(ttpa_round(file, sizeof file, round, sizeof round, answer, sizeof answer, &senders) ==
+                   TTPA_ACCEPTED);
+            EXPECT(senders == (sends ? 0x16 : 0x06) && answer[4] == (sends ? 0xB1 : 0xFF));
+        }
+    }
+}
+
 int main(void)
 {
     texts();
@@ -804,6 +844,8 @@ int main(void)
     refused_traces();
     owner_files();
     refused_owners();
+    multiplexed_owners();
+    multiplexed_rounds();
     printf("%d comparisons, %d failed\n", comparisons, failures);
     return failures == 0 ? 0 : 1;
 }

@@ -70,17 +70,19 @@ static size_t put_entry(unsigned file, size_t last, size_t place)
     return place + RECORD_BYTES * (last + 1);
 }
 
-/* Its file of round 2 sends 16 bytes of its data file in the slots from its own on, and stores slots 1 to
- * 16. The first slave is named 0x01, the others are unnamed. */
+/* Its file of round 2 stores slots 1 to 16 where the epoch is a multiple of 4, by a multiplexed entry; besides it sends
+ * 16 bytes of its data file in the slots from its own on, and stores slots 1 to 16. The first slave is named 0x01,
+ * the others are unnamed. */
 static void put_slave(unsigned slave, size_t data_last)
 {
     size_t place = end + 4 * ENTRY_BYTES;
-    place = put_entry(ROUND_FILE, 2, place);
+    place = put_entry(ROUND_FILE, 3, place);
     last_configuration = place;
     place = put_entry(TTPA_FILE_CONFIGURATION, 3, place);
     place = put_entry(DATA_FILE, data_last, place);
     put_entry(TTPA_FILE_DOCUMENTATION, 2, place);
     put_record(0, 0, 0, 0);
+    put_record(DATA_FILE << 2, 2, 8 << 4 | 15, 0 << 6 | 1);
     put_record(DATA_FILE << 2, 1, 1 << 4 | 15, slave + 1);
     put_record(DATA_FILE << 2, 60, 0 << 4 | 15, 1);
     put_record(0, 0, 0, 0);
@@ -111,7 +113,7 @@ static void make_cluster(void)
         size_t own = records / SLAVES + (slave < records % SLAVES);
         put_place(entry, end);
         cluster[entry + 2] = 4;
-        put_slave(slave, own - (4 + 3 + 4 + 3) - 1);
+        put_slave(slave, own - (4 + 4 + 4 + 3) - 1);
     }
 }
 
@@ -374,6 +376,15 @@ static void write_owner(uint8_t expected)
     failed |= expected == TTPA_ACCEPTED && owner_length != 52;
 }
 
+/* The multiplexed entry of the last slave's list, which has four records before file 0x08, as a send. */
+static void refuse_multiplexed(void)
+{
+    uint8_t *operation = &cluster[last_configuration - 3 * RECORD_BYTES + 2];
+    *operation ^= 1 << 4;
+    make(OWNER, TTPA_REFUSED_MULTIPLEXED_SEND);
+    *operation ^= 1 << 4;
+}
+
 static void all_calls(void)
 {
     frames = 0;
@@ -385,6 +396,7 @@ static void all_calls(void)
     write_owner(TTPA_ACCEPTED);
     name_all();
     write_owner(TTPA_REFUSED_TWO_SENDERS);
+    refuse_multiplexed();
     multipartner_rounds();
     master_slave_rounds();
     refused_frames();

@@ -33,12 +33,12 @@ extern "C" {
 /* The version of this header and of the library made from the same sources. The archive does not carry it:
  * keep the two together. */
 #define TTPA_VERSION_MAJOR 0
-#define TTPA_VERSION_MINOR 6
+#define TTPA_VERSION_MINOR 7
 #define TTPA_VERSION_PATCH 0
 
 /* What the library takes: code and constants of all calls, and the most stack that a call uses, with its
  * return address and arguments. No other memory. Both are measured, and rounded up. */
-#define TTPA_CODE_BYTES 9728
+#define TTPA_CODE_BYTES 10496
 #define TTPA_STACK_BYTES 2176
 
 /* What the calls return: 0, or the documents' number for the ground on which something was refused. */
@@ -73,7 +73,9 @@ enum ttpa_refusal {
     TTPA_REFUSED_TWO_SENDERS = 20,
     TTPA_REFUSED_OWNER_BUFFER = 21,
     /* a cluster file that is loaded from outside, see ttpa_check */
-    TTPA_REFUSED_EQUAL_LOGICAL_NAMES = 22
+    TTPA_REFUSED_EQUAL_LOGICAL_NAMES = 22,
+    /* an owner file, before 20 */
+    TTPA_REFUSED_MULTIPLEXED_SEND = 23
 };
 
 /* What a returned number means, for an installer's screen: English, ASCII, without a full stop, never NULL.
@@ -127,6 +129,8 @@ static inline const char *ttpa_refusal_text(uint8_t number)
         return "the buffer is too short for this cluster's owner file";
     case TTPA_REFUSED_EQUAL_LOGICAL_NAMES:
         return "two slaves have the same logical name; 0xFF (unnamed) alone may occur more than once";
+    case TTPA_REFUSED_MULTIPLEXED_SEND:
+        return "a slave has a multiplexed send in a round, and its slot need not have one owner in all epochs";
     default:
         return "refused on a ground that this version has no text for";
     }
@@ -249,7 +253,9 @@ uint8_t ttpa_write_data(uint8_t *frame, size_t n, uint8_t b0, uint8_t b1, uint8_
 /* Carries out one frame of m bytes on the cluster file of n bytes; answer has k bytes.
  * Refuses by 1, 2, 3, 4, 5, 6, 7, 8, 9, 10, 11, 12, 13, 14 in this order. On 0 the file is as the round
  * leaves it, the first 64 bytes of answer, and no other, are the firework and then the byte of each slot 1
- * to 63 (0xFF where nobody sent), and bit s of *senders is set exactly when a slave sent in slot s. */
+ * to 63 (0xFF where nobody sent), and bit s of *senders is set exactly when a slave sent in slot s. A multipartner
+ * round adds 1 to the epoch, byte 8 of the file, before anyone sends; by this epoch multiplexed entries have their
+ * turns, and one out of turn is passed over. */
 uint8_t ttpa_round(uint8_t *file, size_t n, const uint8_t *frame, size_t m, uint8_t *answer, size_t k,
                    uint64_t *senders);
 
@@ -280,11 +286,13 @@ uint8_t ttpa_trace(uint8_t *file, size_t n, const uint8_t *trace, size_t m,
 /* Writes the owner file of the cluster file of n bytes into the front of the k bytes at buffer, with the name
  * master, any byte, for slot 0 of each round. A slave sends in a slot if it would put a byte there in the round
  * as ttpa_round carries it out: unnamed slaves and entries that cannot send do not count, though an entry that
- * covers a slot and cannot send there still hides later ones of its list. TTPA_OWNER_BYTES are enough for every
- * cluster.
- * Refuses by 1, 2, 3, 4, 5, 6, 7, 8, 20, 21 in this order; 20 counts slaves, also those of one name, and 21 is
- * for a buffer shorter than this cluster's owner file. On 0 *length is the length of the owner file, and the
- * first *length bytes of buffer, and no other, are written. */
+ * covers a slot and cannot send there still hides later ones of its list. Multiplexed entries have their turns: a
+ * receive is passed over here, so a slave that sends after it has the slot, though it does not send there in the
+ * epochs of that receive, and a send is refused. TTPA_OWNER_BYTES are enough for every cluster.
+ * Refuses by 1, 2, 3, 4, 5, 6, 7, 8, 23, 20, 21 in this order; 23 is for a multiplexed send before the end of a list
+ * for one of the six rounds, of a slave not unnamed, also one that could not send; 20 counts slaves, also those of
+ * one name, and 21 is for a buffer shorter than this cluster's owner file. On 0 *length is the length of the owner
+ * file, and the first *length bytes of buffer, and no other, are written. */
 uint8_t ttpa_owner(const uint8_t *file, size_t n, uint8_t master, uint8_t *buffer, size_t k,
                    uint64_t *length);
 

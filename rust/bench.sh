@@ -51,7 +51,7 @@ printf '%-18s %12s %12s' workload plain nested
 for workload in $("$bench" $list); do
     plain=$(cost plain "$workload")
     nested=$plain
-    case $workload in partner-*) nested=$(cost nested "$workload") ;; esac
+    case $workload in partner-* | multiplexed-*) nested=$(cost nested "$workload") ;; esac
     printf '%-18s %12d %12d' "$workload" "$plain" "$nested"
     if [ "$engines" = plain ]; then
         echo

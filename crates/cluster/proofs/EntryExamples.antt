@@ -1,7 +1,11 @@
 -- Entries of four bytes each, worked out.
 -- Assumes nothing.
 use mathlib.Core.Path.{_≡_, refl}
-use Rattle.cluster.specs.Rules.Entries.{entryOf}
+use Prim.Native.Nat.{ℕ}
+use mathlib.Core.List.{List, [], _∷_, map}
+use mathlib.Core.Bool.{Bool, true, false}
+use Rattle.file.specs.Rules.Order.{either}
+use Rattle.cluster.specs.Rules.Entries.{entryOf, inTurn}
 use Rattle.cluster.specs.Inner.EntryForm.{multiplexIn, evaluated}
 
 -- the places of an entry's fields: file 0x10, align 2, record 3, operation 1 (send), length 4, multiplex 0, start slot 5
@@ -17,3 +21,23 @@ plain-entry = refl
 multiplexed-entry : evaluated (entryOf 0x42 0x03 0x93 0xC5) ≡ entryOf 0x42 0x03 0x93 0xC5
 unfolding evaluated entryOf multiplexIn
 multiplexed-entry = refl
+
+-- in the rounds of epochs 0 to 7 and 255: field 1 of operation 9, of 11 and of 15, and operation 5, which is not multiplexed
+turns : ℕ → List Bool
+turns operation = map (λ (epoch : ℕ). inTurn epoch operation 1) (0 ∷ 1 ∷ 2 ∷ 3 ∷ 4 ∷ 5 ∷ 6 ∷ 7 ∷ 255 ∷ [])
+
+turns-of-4 : turns 9 ≡ false ∷ true ∷ false ∷ false ∷ false ∷ true ∷ false ∷ false ∷ false ∷ []
+unfolding turns inTurn either
+turns-of-4 = refl
+
+turns-of-8 : turns 11 ≡ false ∷ true ∷ false ∷ false ∷ false ∷ false ∷ false ∷ false ∷ false ∷ []
+unfolding turns inTurn either
+turns-of-8 = refl
+
+high-turns : turns 15 ≡ false ∷ false ∷ false ∷ false ∷ false ∷ true ∷ false ∷ false ∷ false ∷ []
+unfolding turns inTurn either
+high-turns = refl
+
+plain-turns : turns 5 ≡ true ∷ true ∷ true ∷ true ∷ true ∷ true ∷ true ∷ true ∷ true ∷ []
+unfolding turns inTurn either
+plain-turns = refl

@@ -7,10 +7,10 @@ use mathlib.Core.List.{List}
 use mathlib.Core.Bool.{Bool, true, false, not}
 use lib.ListN.{getD}
 use lib.Dec.{leb, ltb, eqb}
-use borrow.Author.Tests.{lt-ltb, le-ltb, le-leb, lt-leb, leb-true, ltb-true, ltb-false, eqb-true}
-use Rattle.file.specs.Rules.Order.{either}
-use Rattle.file.proofs.Order.{byCase, clash, both-left, both-right, both-true, both-false-left, both-false-right, both-next, either-false}
-use Rattle.cluster.specs.Rules.Entries.{Entry, entryOf, entryThere, receives, sends, ends, covers}
+use borrow.Author.Tests.{lt-ltb, le-ltb, le-leb, lt-leb, leb-true, leb-false, ltb-true, ltb-false, eqb-true, eqb-false, eq-eqb, ne-eqb, not-true, not-false}
+use Rattle.file.specs.Rules.Order.{both, either}
+use Rattle.file.proofs.Order.{byCase, clash, both-left, both-right, both-true, both-false-left, both-false-right, both-next, either-right, either-false}
+use Rattle.cluster.specs.Rules.Entries.{Entry, entryOf, entryThere, isMultiplexed, receives, sends, ends, covers, inTurn, outOfTurn, eligible}
 use Rattle.cluster.specs.Inner.EntryForm.{codeOf, multiplexOf, multiplexIn, OperationIs, entryFrom, evaluated, isPast, Action, ending, sending, receiving, resting, actionBy, actionFrom}
 use Rattle.cluster.specs.declared.entry.Entry as Code
 use Rattle.cluster.specs.declared.entry.EntryOperation.{EntryOperation}
@@ -108,7 +108,70 @@ pub covers-late : (e : Code.Entry) (slot : ℕ) → e .slot ≤ slot → ltb (sl
 unfolding covers entryFrom
 covers-late e slot h = covers-test (e .slot) (e .length) slot h ∙ sym (both-next _ (le-leb _ _ h))
 
--- ---- the entries that can be passed over
+-- ---- whose turn it is
+
+-- an operation that is not multiplexed is always in turn
+pub plain-turn : (epoch operation multiplex : ℕ) → isMultiplexed operation ≡ false → inTurn epoch operation multiplex ≡ true
+unfolding inTurn isMultiplexed either
+plain-turn epoch operation multiplex plain =
+    rw (other 8 (omega arith), other 9 (omega arith), other 12 (omega arith), other 13 (omega arith), other 10 (omega arith), other 11 (omega arith), other 14 (omega arith), other 15 (omega arith))
+  where
+    other : (k : ℕ) → 8 ≤ k → eqb operation k ≡ false
+    other k l = ne-eqb operation k (λ e. omega (arith, leb-false 8 operation plain))
+
+-- an operation is multiplexed as the one that a match found it to be
+pub multiplexed-as : {o : EntryOperation} {t : Bool} (v : EntryOperation) → o ≡ v → t ≡ isMultiplexed (codeOf v) → t ≡ isMultiplexed (codeOf o)
+multiplexed-as v q is = is ∙ ap (λ (x : EntryOperation). isMultiplexed (codeOf x)) (sym q)
+
+-- an operation is in turn as the one that a match found it to be
+pub turns-as : (epoch : ℕ) {o : EntryOperation} {t : Bool} (v : EntryOperation) → o ≡ v → t ≡ inTurn epoch (codeOf v) (multiplexOf v) → t ≡ inTurn epoch (codeOf o) (multiplexOf o)
+turns-as epoch v q is = is ∙ ap (λ (x : EntryOperation). inTurn epoch (codeOf x) (multiplexOf x)) (sym q)
+
+turn-evaluated : (epoch operation multiplex : ℕ) → inTurn epoch operation (multiplexIn operation multiplex) ≡ inTurn epoch operation multiplex
+unfolding multiplexIn isMultiplexed
+turn-evaluated epoch operation multiplex =
+    byCase (isMultiplexed operation)
+    (λ t. rw t)
+    (λ t. plain-turn epoch operation _ t ∙ sym (plain-turn epoch operation multiplex t))
+
+-- ---- the entries that may act in a slot
+
+-- the multiplex field plays no part where it is not evaluated
+abbrev pub Blind : (Entry → Bool) → Type 0
+Blind passed = (x : Entry) → passed (evaluated x) ≡ passed x
+
+pub turn-blind : (epoch : ℕ) → Blind (outOfTurn epoch)
+unfolding outOfTurn evaluated
+turn-blind epoch x = ap not (turn-evaluated epoch (x .operation) (x .multiplex))
+
+pub eligible-evaluated : (passed : Entry → Bool) → Blind passed → (x : Entry) (slot : ℕ) → eligible passed (evaluated x) slot ≡ eligible passed x slot
+unfolding eligible
+eligible-evaluated passed blind x slot = rw (blind x, same)
+  where
+    same : covers (evaluated x) slot ≡ covers x slot
+    same = unfold covers evaluated in refl
+
+pub eligible-covers : (passed : Entry → Bool) (e : Entry) (slot : ℕ) → covers e slot ≡ false → eligible passed e slot ≡ false
+unfolding eligible
+eligible-covers passed e slot out = both-false-left _ out
+
+module _ (epoch : ℕ) (e : Code.Entry) (slot : ℕ) {t : Bool} (cover : t ≡ covers (entryFrom e) slot) where
+  pub uncovered-not : not t ≡ true → false ≡ eligible (outOfTurn epoch) (entryFrom e) slot
+  uncovered-not out = sym (eligible-covers (outOfTurn epoch) (entryFrom e) slot (sym cover ∙ not-true t out))
+
+  pub covered-turn : not t ≡ false → {u : Bool} → u ≡ inTurn epoch (codeOf (e .operation)) (multiplexOf (e .operation)) → u ≡ eligible (outOfTurn epoch) (entryFrom e) slot
+  unfolding eligible outOfTurn entryFrom
+  covered-turn inside {u} turn = turn ∙ sym (both-next _ (sym cover ∙ not-false t inside) ∙ not-twice _)
+    where
+      not-twice : (b : Bool) → not (not b) ≡ b
+      not-twice true = refl
+      not-twice false = refl
+
+  pub covered-plain : not t ≡ false → {m : Bool} → m ≡ isMultiplexed (codeOf (e .operation)) → not m ≡ true → true ≡ eligible (outOfTurn epoch) (entryFrom e) slot
+  covered-plain inside {m} is plain =
+      covered-turn inside (sym (plain-turn epoch (codeOf (e .operation)) (multiplexOf (e .operation)) (sym is ∙ not-true m plain)))
+
+-- ---- the entries that no slot to come needs
 
 -- an entry's last slot is small
 pub record Short (e : Code.Entry) : Type 0 where
@@ -152,22 +215,67 @@ module _ (e : Entry) (slot : ℕ) (past : isPast e slot ≡ true) where
 
 -- ---- who sends and who receives
 
-sends-goes-on : (n : ℕ) → sends n ≡ true → ends n ≡ false
-unfolding sends ends either
-sends-goes-on n t =
+-- an end neither sends nor receives; who sends has an odd operation, who receives an even one
+pub ends-idle : (n : ℕ) → ends n ≡ true → (sends n ≡ false) × (receives n ≡ false)
+unfolding sends receives ends isMultiplexed either both
+ends-idle n t =
+    byCase (eqb n 6)
+    (λ q. rw (eqb-true n 6 q) (refl, refl))
+    (λ q. byCase (eqb n 7) (λ p. rw (eqb-true n 7 p) (refl, refl)) (λ p. clash t (either-false q p)))
+
+pub sends-odd : (n : ℕ) → sends n ≡ true → n % 2 ≡ 1
+unfolding sends either
+sends-odd n t =
     byCase (eqb n 1)
     (λ q. rw (eqb-true n 1 q))
-    (λ q. byCase (eqb n 5) (λ p. rw (eqb-true n 5 p)) (λ p. clash t (either-false q p)))
+    (λ q.
+    byCase (eqb n 5)
+    (λ p. rw (eqb-true n 5 p))
+    (λ p. eqb-true (n % 2) 1 (both-right (isMultiplexed n) _ (rw (q, p) at t))))
 
-receives-silent : (n : ℕ) → receives n ≡ true → (ends n ≡ false) × (sends n ≡ false)
-unfolding receives sends ends either
-receives-silent n t =
+pub receives-even : (n : ℕ) → receives n ≡ true → n % 2 ≡ 0
+unfolding receives either
+receives-even n t =
     byCase (eqb n 0)
-    (λ q. rw (eqb-true n 0 q) (refl, refl))
+    (λ q. rw (eqb-true n 0 q))
     (λ q.
     byCase (eqb n 2)
-    (λ p. rw (eqb-true n 2 p) (refl, refl))
-    (λ p. byCase (eqb n 4) (λ r. rw (eqb-true n 4 r) (refl, refl)) (λ r. clash t (either-false q (either-false p r)))))
+    (λ p. rw (eqb-true n 2 p))
+    (λ p.
+    byCase (eqb n 4)
+    (λ r. rw (eqb-true n 4 r))
+    (λ r. eqb-true (n % 2) 0 (both-right (isMultiplexed n) _ (rw (q, p, r) at t)))))
+
+sends-goes-on : (n : ℕ) → sends n ≡ true → ends n ≡ false
+sends-goes-on n t = byCase (ends n) (λ e. clash t (ends-idle n e .0)) (λ e. e)
+
+receives-silent : (n : ℕ) → receives n ≡ true → (ends n ≡ false) × (sends n ≡ false)
+receives-silent n t = (
+  byCase (ends n) (λ e. clash t (ends-idle n e .1)) (λ e. e),
+  byCase (sends n) (λ e. absurd (omega (arith, sends-odd n e, receives-even n t))) (λ e. e),
+)
+
+pub sends-deaf : (n : ℕ) → sends n ≡ true → receives n ≡ false
+sends-deaf n t = byCase (receives n) (λ e. absurd (omega (arith, sends-odd n t, receives-even n e))) (λ e. e)
+
+-- a multiplexed operation sends or receives
+pub multiplexed-either : (n : ℕ) → isMultiplexed n ≡ true → receives n ≡ not (sends n)
+multiplexed-either n t =
+    byCase (eqb (n % 2) 1)
+    (λ e. silent (eqb-true (n % 2) 1 e) ∙ ap not (sym (odd e)))
+    (λ e. even (eqb-false (n % 2) 1 e) ∙ ap not (sym (quiet (eqb-false (n % 2) 1 e))))
+  where
+    odd : eqb (n % 2) 1 ≡ true → sends n ≡ true
+    odd e = unfold sends in either-right _ (either-right _ (both-true t e))
+
+    silent : n % 2 ≡ 1 → receives n ≡ false
+    silent e = byCase (receives n) (λ r. absurd (omega (arith, receives-even n r))) (λ r. r)
+
+    even : (n % 2 ≡ 1 → ⊥) → receives n ≡ true
+    even e = unfold receives in either-right _ (either-right _ (either-right _ (both-true t (eq-eqb (n % 2) 0 (omega arith)))))
+
+    quiet : (n % 2 ≡ 1 → ⊥) → sends n ≡ false
+    quiet e = byCase (sends n) (λ r. absurd (e (sends-odd n r))) (λ r. r)
 
 pub sends-action : (operation : ℕ) → sends operation ≡ isSending (actionBy operation)
 unfolding actionBy isSending

@@ -19,6 +19,7 @@ use Rattle.file.specs.Inner.Accepted.{Becomes}
 use Rattle.file.proofs.Order.{byCase}
 use Rattle.file.proofs.ReaderLaws.{place-within, header-within}
 use Rattle.cluster.specs.Rules.Bus.{joined, busByte, anyone}
+use Rattle.cluster.specs.Rules.Entries.{Entry}
 use Rattle.cluster.specs.Rules.Multipartner.{SlaveByte, sendsFrom, storesAt, byteThere, sentBy}
 use Rattle.cluster.specs.Inner.Slots.{placeIn, actSends, actStores, isSender, StoresWithin}
 use Rattle.cluster.specs.declared.multipartner.SlotAct.{SlotAct}
@@ -28,13 +29,13 @@ use Rattle.cluster.proofs.SearchLaws.{RoundActIs}
 
 -- ---- the bytes sent, with one more slave
 
-sent-next : (round slot : ℕ) (ss : List Slave) (n : ℕ) → n < length ss
-    → sentBy round slot (take (suc n) ss) ≡ sentBy round slot (take n ss) ++ byteThere (getD ss n noSlave) (sendsFrom round slot (getD ss n noSlave))
+sent-next : (passed : Entry → Bool) (round slot : ℕ) (ss : List Slave) (n : ℕ) → n < length ss
+    → sentBy passed round slot (take (suc n) ss) ≡ sentBy passed round slot (take n ss) ++ byteThere (getD ss n noSlave) (sendsFrom passed round slot (getD ss n noSlave))
 unfolding sentBy
-sent-next round slot [] n l = absurd (omega arith)
-sent-next round slot (s ∷ ss) zero l = append-nil (byteThere s (sendsFrom round slot s))
-sent-next round slot (s ∷ ss) (suc n) l =
-    ap (λ (x : List ℕ). byteThere s (sendsFrom round slot s) ++ x) (sent-next round slot ss n (omega arith)) ∙ simp append-assoc
+sent-next passed round slot [] n l = absurd (omega arith)
+sent-next passed round slot (s ∷ ss) zero l = append-nil (byteThere s (sendsFrom passed round slot s))
+sent-next passed round slot (s ∷ ss) (suc n) l =
+    ap (λ (x : List ℕ). byteThere s (sendsFrom passed round slot s) ++ x) (sent-next passed round slot ss n (omega arith)) ∙ simp append-assoc
 
 joined-append : (bus : ℕ) (xs ys : List ℕ) → joined bus (xs ++ ys) ≡ joined (joined bus xs) ys
 unfolding joined
@@ -69,31 +70,31 @@ someone-next (x ∷ xs) act = refl
 
 -- ---- the loop over the slaves
 
-pub record SlotHearing (c : Cluster) (round slot n bus : ℕ) (heard : Bool) (stores : List ℕ) : Type 0 where
+pub record SlotHearing (passed : Entry → Bool) (c : Cluster) (round slot n bus : ℕ) (heard : Bool) (stores : List ℕ) : Type 0 where
   pub most : n ≤ length (c .slaves)
-  pub byte : bus ≡ busByte (sentBy round slot (take n (c .slaves)))
-  pub any : heard ≡ someone (sentBy round slot (take n (c .slaves)))
+  pub byte : bus ≡ busByte (sentBy passed round slot (take n (c .slaves)))
+  pub any : heard ≡ someone (sentBy passed round slot (take n (c .slaves)))
   pub room : length stores ≡ mostSlaves
-  pub aims : (s : ℕ) → s < n → getD stores s 0 ≡ placeIn c s (storesAt round slot (slaveOf c s))
+  pub aims : (s : ℕ) → s < n → getD stores s 0 ≡ placeIn c s (storesAt passed round slot (slaveOf c s))
 
-pub slot-hearing-start : (c : Cluster) (round slot : ℕ) {stores : List ℕ} → length stores ≡ mostSlaves → SlotHearing c round slot 0 255 false stores
+pub slot-hearing-start : (passed : Entry → Bool) (c : Cluster) (round slot : ℕ) {stores : List ℕ} → length stores ≡ mostSlaves → SlotHearing passed c round slot 0 255 false stores
 unfolding busByte joined sentBy someone
-slot-hearing-start c round slot room =
+slot-hearing-start passed c round slot room =
     record { most = omega arith; byte = refl; any = refl; room = room; aims = λ s l. absurd (omega arith) }
 
-module _ {c : Cluster} {round slot n bus : ℕ} {heard : Bool} {stores : List ℕ} (h : SlotHearing c round slot n bus heard stores) where
-  module _ {act : SlotAct} (more : n < length (c .slaves)) (does : RoundActIs c round slot n act) where
-    sent-act : sentBy round slot (take (n + 1) (c .slaves)) ≡ sentBy round slot (take n (c .slaves)) ++ actSends act
+module _ {passed : Entry → Bool} {c : Cluster} {round slot n bus : ℕ} {heard : Bool} {stores : List ℕ} (h : SlotHearing passed c round slot n bus heard stores) where
+  module _ {act : SlotAct} (more : n < length (c .slaves)) (does : RoundActIs passed c round slot n act) where
+    sent-act : sentBy passed round slot (take (n + 1) (c .slaves)) ≡ sentBy passed round slot (take n (c .slaves)) ++ actSends act
     unfolding slaveOf
-    sent-act = rw (add-one, does .sends) (sent-next round slot (c .slaves) n more)
+    sent-act = rw (add-one, does .sends) (sent-next passed round slot (c .slaves) n more)
 
     pub slot-hearing-next : {bus′ place : ℕ} {heard′ : Bool} → length (c .slaves) ≤ mostSlaves → bus′ ≡ joined bus (actSends act) → heard′ ≡ either heard (isSender act) → place ≡ actStores act
-        → SlotHearing c round slot (n + 1) bus′ heard′ (set stores n place)
+        → SlotHearing passed c round slot (n + 1) bus′ heard′ (set stores n place)
     slot-hearing-next {place = place} few byte any at =
         record {
           most = omega arith;
-          byte = byte ∙ ap (λ (x : ℕ). joined x (actSends act)) (h .byte) ∙ sym (ap busByte sent-act ∙ busByte-append (sentBy round slot (take n (c .slaves))) (actSends act));
-          any = any ∙ ap (λ (x : Bool). either x (isSender act)) (h .any) ∙ sym (ap someone sent-act ∙ someone-next (sentBy round slot (take n (c .slaves))) act);
+          byte = byte ∙ ap (λ (x : ℕ). joined x (actSends act)) (h .byte) ∙ sym (ap busByte sent-act ∙ busByte-append (sentBy passed round slot (take n (c .slaves))) (actSends act));
+          any = any ∙ ap (λ (x : Bool). either x (isSender act)) (h .any) ∙ sym (ap someone sent-act ∙ someone-next (sentBy passed round slot (take n (c .slaves))) act);
           room = length-set stores n place ∙ h .room;
           aims = λ s l. byCase (eqb s n)
               (λ e. let same : s ≡ n = eqb-true s n e in rw (same, getD-set-same stores n place 0 (omega (arith, h .room))) (at ∙ does .stores))
@@ -104,13 +105,13 @@ module _ {c : Cluster} {round slot n bus : ℕ} {heard : Bool} {stores : List �
         below s l other = omega arith
 
   module _ (left : length (c .slaves) ≤ n) where
-    pub heard-byte : bus ≡ busByte (sentBy round slot (c .slaves))
+    pub heard-byte : bus ≡ busByte (sentBy passed round slot (c .slaves))
     heard-byte = h .byte ∙ rw (take-all n (c .slaves) left)
 
-    pub heard-any : heard ≡ someone (sentBy round slot (c .slaves))
+    pub heard-any : heard ≡ someone (sentBy passed round slot (c .slaves))
     heard-any = h .any ∙ rw (take-all n (c .slaves) left)
 
-    pub heard-aims : (s : ℕ) → s < length (c .slaves) → getD stores s 0 ≡ placeIn c s (storesAt round slot (slaveOf c s))
+    pub heard-aims : (s : ℕ) → s < length (c .slaves) → getD stores s 0 ≡ placeIn c s (storesAt passed round slot (slaveOf c s))
     heard-aims s l = h .aims s (omega arith)
 
 -- ---- the receivers' places lie within the file
@@ -120,13 +121,13 @@ unfolding placeIn
 land-within s h long stays = long
 land-within s h long (lands {n = m} {k} low high place inside) = omega (arith, place-within h s m (omega arith))
 
-pub aims-within : {f : List ℕ} {round slot count n bus : ℕ} {heard : Bool} {stores : List ℕ} → Becomes f (decode f) → count ≡ length (decode f .slaves) → SlotHearing (decode f) round slot n bus heard stores → length (decode f .slaves) ≤ n
+pub aims-within : {passed : Entry → Bool} {f : List ℕ} {round slot count n bus : ℕ} {heard : Bool} {stores : List ℕ} → Becomes f (decode f) → count ≡ length (decode f .slaves) → SlotHearing passed (decode f) round slot n bus heard stores → length (decode f .slaves) ≤ n
     → StoresWithin f stores count
-aims-within {f} {round} {slot} b all h left =
+aims-within {passed} {f} {round} {slot} b all h left =
     record {
       few = omega (arith, all, b .legal .count);
       within = λ s l.
           let there : s < length (decode f .slaves) = omega (arith, all) in
           rw (heard-aims h left s there)
-          (land-within s b (omega (arith, header-within b)) (storesAt-lands round slot (slaveOf (decode f) s)));
+          (land-within s b (omega (arith, header-within b)) (storesAt-lands passed round slot (slaveOf (decode f) s)));
     }

@@ -5,7 +5,7 @@ use native.Mathlib.Omega.{arith}
 use mathlib.Core.Path.{_≡_, refl, _∙_}
 use mathlib.Core.Logic.{_≢_}
 use mathlib.Core.List.{List, [], _∷_, map}
-use mathlib.Core.Bool.{true, not}
+use mathlib.Core.Bool.{Bool, true, not}
 use lib.Dec.{eqb}
 use borrow.Author.Tests.{leb-true, not-true, eq-eqb}
 use Rattle.file.specs.Rules.Bytes.{Byte, Bytes, All, allEmpty, allNext}
@@ -133,10 +133,10 @@ storePlace-stores s slot (acts e) =
     (λ t. rw t (here (mayStore-facts e slot (both-left _ _ (both-right _ _ t)))))
     (λ t. rw t stays)
 
-pub storesAt-stores : (round slot : ℕ) (s : Slave) → Stores (storesAt round slot s)
+pub storesAt-stores : (passed : Entry → Bool) (round slot : ℕ) (s : Slave) → Stores (storesAt passed round slot s)
 unfolding storesAt
-storesAt-stores round slot s =
-    byCase (isUnnamed s) (λ t. rw t stays) (λ t. rw t (storePlace-stores s slot (acting (bytesIn s round) slot)))
+storesAt-stores passed round slot s =
+    byCase (isUnnamed s) (λ t. rw t stays) (λ t. rw t (storePlace-stores s slot (acting passed (bytesIn s round) slot)))
 
 pub stored-kept : (s : Slave) (b : ℕ) {p : SlaveByte} → Byte b → Stores p → SlaveKept s (storedThere s p b)
 unfolding storedThere
@@ -225,16 +225,16 @@ pub kept-after : (o : Duty) {bs : List ℕ} → Bytes bs → (c : Cluster) → C
 unfolding slavesAfter
 kept-after o {bs} bytes c = kept-map (slaveAfter o bs) (slaveAfter-kept o bytes) c
 
-pub kept-received : (round slot : ℕ) (c : Cluster) (sent : List ℕ) → ClusterKept c (receivedIn round slot c sent)
+pub kept-received : (passed : Entry → Bool) (round slot : ℕ) (c : Cluster) (sent : List ℕ) → ClusterKept c (receivedIn passed round slot c sent)
 unfolding receivedIn
-kept-received round slot c [] = kept-refl c
-kept-received round slot c (b ∷ bs) =
-    kept-map (λ (s : Slave). storedThere s (storesAt round slot s) (busByte (b ∷ bs)))
-    (λ s. stored-kept s (busByte (b ∷ bs)) (busByte-byte (b ∷ bs)) (storesAt-stores round slot s)) c
+kept-received passed round slot c [] = kept-refl c
+kept-received passed round slot c (b ∷ bs) =
+    kept-map (λ (s : Slave). storedThere s (storesAt passed round slot s) (busByte (b ∷ bs)))
+    (λ s. stored-kept s (busByte (b ∷ bs)) (busByte-byte (b ∷ bs)) (storesAt-stores passed round slot s)) c
 
-pub kept-below : (round : ℕ) (c : Cluster) (n : ℕ) → ClusterKept c (clusterBelow round c n)
+pub kept-below : (passed : Entry → Bool) (round : ℕ) (c : Cluster) (n : ℕ) → ClusterKept c (clusterBelow passed round c n)
 unfolding clusterBelow
-kept-below round c zero = kept-refl c
-kept-below round c (suc n) =
-    kept-trans (kept-below round c n)
-    (kept-received round n (clusterBelow round c n) (sentIn round n (clusterBelow round c n)))
+kept-below passed round c zero = kept-refl c
+kept-below passed round c (suc n) =
+    kept-trans (kept-below passed round c n)
+    (kept-received passed round n (clusterBelow passed round c n) (sentIn passed round n (clusterBelow passed round c n)))

@@ -5,7 +5,7 @@ use Prim.Native.Nat.{ℕ, zero, suc, _+_, _*_, _-_, _/_, _≤_, _<_}
 use native.Mathlib.Omega.{arith}
 use mathlib.Core.Path.{_≡_, refl, sym, ap, _∙_}
 use mathlib.Core.List.{List}
-use mathlib.Core.Bool.{true, false}
+use mathlib.Core.Bool.{Bool, true, false}
 use lib.ListN.{length, getD, set, length-set}
 use lib.Seq.{getD-set-same, getD-set-other}
 use lib.Dec.{eqb}
@@ -17,31 +17,31 @@ use Rattle.file.specs.Inner.Accepted.{Becomes}
 use Rattle.file.proofs.Order.{byCase}
 use Rattle.file.proofs.ReaderLaws.{byte-there, place-within}
 use Rattle.cluster.specs.Rules.Slaves.{isUnnamed}
-use Rattle.cluster.specs.Rules.Entries.{Entry, entryThere, entryAt, ends, covers, Acting, noEntry, acts, actingFrom}
+use Rattle.cluster.specs.Rules.Entries.{Entry, entryThere, entryAt, ends, eligible, Acting, noEntry, acts, actingFrom}
 use Rattle.cluster.specs.Inner.EntryForm.{evaluated, isPast}
 use Rattle.cluster.specs.Inner.Slots.{entriesIn, RoundFileIs, RoundFilesAre, EntriesWithin, openFrom}
-use Rattle.cluster.proofs.EntryLaws.{past-goes-on, past-covers}
+use Rattle.cluster.proofs.EntryLaws.{past-goes-on, past-covers, eligible-covers}
 
--- ---- the first entry before the end that covers the slot, record by record
+-- ---- the first entry before the end that is eligible in the slot, record by record
 
-module _ (rodl : List ℕ) (slot k : ℕ) where
-  pub acting-end : (n : ℕ) → 0 < n → ends (entryAt rodl k .operation) ≡ true → actingFrom rodl slot k n ≡ noEntry
+module _ (passed : Entry → Bool) (rodl : List ℕ) (slot k : ℕ) where
+  pub acting-end : (n : ℕ) → 0 < n → ends (entryAt rodl k .operation) ≡ true → actingFrom passed rodl slot k n ≡ noEntry
   unfolding actingFrom
   acting-end zero l e = absurd (omega arith)
   acting-end (suc n) l e = rw e
 
-  pub acting-here : (n : ℕ) → 0 < n → ends (entryAt rodl k .operation) ≡ false → covers (entryAt rodl k) slot ≡ true → actingFrom rodl slot k n ≡ acts (entryAt rodl k)
+  pub acting-here : (n : ℕ) → 0 < n → ends (entryAt rodl k .operation) ≡ false → eligible passed (entryAt rodl k) slot ≡ true → actingFrom passed rodl slot k n ≡ acts (entryAt rodl k)
   unfolding actingFrom
   acting-here zero l e q = absurd (omega arith)
   acting-here (suc n) l e q = rw (e, q)
 
-  pub acting-next : {n m : ℕ} → n ≡ suc m → ends (entryAt rodl k .operation) ≡ false → covers (entryAt rodl k) slot ≡ false → actingFrom rodl slot k n ≡ actingFrom rodl slot (suc k) m
+  pub acting-next : {n m : ℕ} → n ≡ suc m → ends (entryAt rodl k .operation) ≡ false → eligible passed (entryAt rodl k) slot ≡ false → actingFrom passed rodl slot k n ≡ actingFrom passed rodl slot (suc k) m
   unfolding actingFrom
   acting-next more e q = rw (more, e, q)
 
-pub acting-none : (rodl : List ℕ) (slot k n : ℕ) → n ≡ 0 → actingFrom rodl slot k n ≡ noEntry
+pub acting-none : (passed : Entry → Bool) (rodl : List ℕ) (slot k n : ℕ) → n ≡ 0 → actingFrom passed rodl slot k n ≡ noEntry
 unfolding actingFrom
-acting-none rodl slot k n e = rw e
+acting-none passed rodl slot k n e = rw e
 
 -- ---- the entries that a slave runs lie in its round file
 
@@ -53,8 +53,8 @@ entries-room round s k some l =
     (λ t. let here : k ≤ length (bytesIn s round) / 4 - 1 = rw t at l in omega arith)
 
 -- the entry that acts, by the entries that the slave runs
-unfoldable pub actor : ℕ → ℕ → Slave → Acting
-actor round slot s = actingFrom (bytesIn s round) slot 1 (entriesIn round s)
+unfoldable pub actor : (Entry → Bool) → ℕ → ℕ → Slave → Acting
+actor passed round slot s = actingFrom passed (bytesIn s round) slot 1 (entriesIn round s)
 
 -- ---- the entries from one on
 
@@ -192,44 +192,44 @@ module _ {f : List ℕ} {slot start end at : ℕ} (q : Opening f slot start end 
 -- ---- what the slave's entries that are left say of the slots to come
 
 -- from the slot on the entry that acts is among those that lie from at to end
-pub record OpenAt (c : Cluster) (round slot s at end : ℕ) : Type 0 where
+pub record OpenAt (passed : Entry → Bool) (c : Cluster) (round slot s at end : ℕ) : Type 0 where
   pub k : ℕ
   pub left : ℕ
   pub rest : Rest c round s k left at end
-  pub same : (later : ℕ) → slot ≤ later → actingFrom (bytesIn (slaveOf c s) round) later k left ≡ actor round later (slaveOf c s)
+  pub same : (later : ℕ) → slot ≤ later → actingFrom passed (bytesIn (slaveOf c s) round) later k left ≡ actor passed round later (slaveOf c s)
 
-open-moved : {f : List ℕ} {c : Cluster} {round slot s end : ℕ} (left : ℕ) {k at : ℕ} → Becomes f c → Rest c round s k left at end
-    → ((later : ℕ) → slot ≤ later → actingFrom (bytesIn (slaveOf c s) round) later k left ≡ actor round later (slaveOf c s))
-    → OpenAt c round slot s (openFrom f slot at left) end
+open-moved : {passed : Entry → Bool} {f : List ℕ} {c : Cluster} {round slot s end : ℕ} (left : ℕ) {k at : ℕ} → Becomes f c → Rest c round s k left at end
+    → ((later : ℕ) → slot ≤ later → actingFrom passed (bytesIn (slaveOf c s) round) later k left ≡ actor passed round later (slaveOf c s))
+    → OpenAt passed c round slot s (openFrom f slot at left) end
 open-moved {f} {slot = slot} zero {k} {at} h q same =
     rw (open-none f slot at refl) (record { k = k; left = 0; rest = q; same = same })
-open-moved {f} {c} {round} {slot} {s} (suc left) {k} {at} h q same =
+open-moved {passed} {f} {c} {round} {slot} {s} (suc left) {k} {at} h q same =
     byCase (isPast (entryThere f at) slot)
     (λ t.
     let past : isPast (entryAt (bytesIn (slaveOf c s) round) k) slot ≡ true = ap (λ (x : Entry). isPast x slot) (sym (rest-entry h q (omega arith))) ∙ t in
     rw (open-past f slot at {m = left} refl t)
     (open-moved left h (rest-next h q refl)
     (λ later l.
-    sym (acting-next (bytesIn (slaveOf c s) round) later k {m = left} refl (past-goes-on _ slot past) (past-covers _ slot past later l)) ∙ same later l)))
+    sym (acting-next passed (bytesIn (slaveOf c s) round) later k {m = left} refl (past-goes-on _ slot past) (eligible-covers passed _ later (past-covers _ slot past later l))) ∙ same later l)))
     (λ t. rw (open-here f slot at {m = left} refl t) (record { k = k; left = suc left; rest = q; same = same }))
 
-module _ {f : List ℕ} {c : Cluster} {round slot s start end : ℕ} (h : Becomes f c) (o : OpenAt c round slot s start end) where
+module _ {passed : Entry → Bool} {f : List ℕ} {c : Cluster} {round slot s start end : ℕ} (h : Becomes f c) (o : OpenAt passed c round slot s start end) where
   -- what `open_from` asks
   pub open-within : EntriesWithin f start end
   open-within = rest-within h (o .rest)
 
-  pub open-next : {at : ℕ} → at ≡ openFrom f slot start ((end - start) / recordSize) → OpenAt c round slot s at end
+  pub open-next : {at : ℕ} → at ≡ openFrom f slot start ((end - start) / recordSize) → OpenAt passed c round slot s at end
   open-next is =
       let many : (end - start) / recordSize ≡ o .left = omega (arith, o .rest .span) in
       rw (is, many) (open-moved (o .left) h (o .rest) (o .same))
 
 -- the same of every slave
-pub record OpenAll (c : Cluster) (round slot : ℕ) (starts ends : List ℕ) : Type 0 where
+pub record OpenAll (passed : Entry → Bool) (c : Cluster) (round slot : ℕ) (starts ends : List ℕ) : Type 0 where
   pub startsRoom : length starts ≡ mostSlaves
   pub endsRoom : length ends ≡ mostSlaves
-  pub file : (s : ℕ) → s < length (c .slaves) → OpenAt c round slot s (getD starts s 0) (getD ends s 0)
+  pub file : (s : ℕ) → s < length (c .slaves) → OpenAt passed c round slot s (getD starts s 0) (getD ends s 0)
 
-pub open-start : {c : Cluster} {round : ℕ} (slot : ℕ) {starts ends : List ℕ} → RoundFilesAre c round starts ends → OpenAll c round slot starts ends
+pub open-start : {passed : Entry → Bool} {c : Cluster} {round : ℕ} (slot : ℕ) {starts ends : List ℕ} → RoundFilesAre c round starts ends → OpenAll passed c round slot starts ends
 unfolding actor
 open-start {c} {round} slot are =
     record {
@@ -244,9 +244,9 @@ open-start {c} {round} slot are =
           };
     }
 
-module _ {c : Cluster} {round slot : ℕ} {starts ends : List ℕ} (o : OpenAll c round slot starts ends) where
+module _ {passed : Entry → Bool} {c : Cluster} {round slot : ℕ} {starts ends : List ℕ} (o : OpenAll passed c round slot starts ends) where
   -- one slave's entries are looked at
-  pub open-set : (n : ℕ) {at : ℕ} → n < mostSlaves → OpenAt c round slot n at (getD ends n 0) → OpenAll c round slot (set starts n at) ends
+  pub open-set : (n : ℕ) {at : ℕ} → n < mostSlaves → OpenAt passed c round slot n at (getD ends n 0) → OpenAll passed c round slot (set starts n at) ends
   open-set n {at} few now =
       record {
         startsRoom = length-set starts n at ∙ o .startsRoom;
@@ -256,7 +256,7 @@ module _ {c : Cluster} {round slot : ℕ} {starts ends : List ℕ} (o : OpenAll 
             (λ e. rw (getD-set-other starts n s at 0 (eqb-false s n e)) (o .file s l));
       }
 
-  pub open-later : OpenAll c round (slot + 1) starts ends
+  pub open-later : OpenAll passed c round (slot + 1) starts ends
   open-later =
       record {
         startsRoom = o .startsRoom;

@@ -23,7 +23,7 @@ use Rattle.frame.specs.Rules.Frames.{between}
 use Rattle.cluster.specs.Rules.Bus.{slots}
 use Rattle.cluster.specs.Rules.Slaves.{withAddress, epochRaised, Duty, nothing, reading, writing, comparing, baptizing, executionOf, dutyBy, pendingDuty, takesName, named, slaveAfter, slavesAfter}
 use Rattle.cluster.specs.Rules.Grounds.{roundBy}
-use Rattle.cluster.specs.Rules.Round.{effectOf, frameOn, roundGround, roundOn}
+use Rattle.cluster.specs.Rules.Round.{passedOver, effectOf, frameOn, roundGround, roundOn}
 use Rattle.cluster.specs.Claims.Pending.{fileAfter, Pending}
 use Rattle.cluster.specs.Claims.Renaming.{Baptizes, nameAfter, namesOf, BaptizingRenames, OnlyBaptizingRenames, noCalls, oneMore, NobodyRenamed}
 use Rattle.cluster.proofs.Rounds.{RoundFits, round-facts, round-refused, round-becomes, round-bytes}
@@ -71,7 +71,7 @@ names-alike (s ∷ ss) (t ∷ ts) e =
 effect-keeps : (c : Cluster) (round : Round) (frame : List ℕ) → (round ≡ msd → (name : ℕ) → pendingDuty c ≡ baptizing name → ⊥) → logicalNames (effectOf c round frame .after) ≡ logicalNames c
 unfolding effectOf logicalNames withAddress withPending epochRaised withEpoch slavesAfter withSlaves
 effect-keeps c (multipartner r) frame other =
-    names-alike (c .slaves) _ (below-other r (epochRaised c) slots configuration (λ h. omega arith))
+    names-alike (c .slaves) _ (below-other (passedOver c) r (epochRaised c) slots configuration (λ h. omega arith))
 effect-keeps c msd frame other =
     slaves-keep (slaveAfter (pendingDuty c) (between frame)) (duty-keeps-name (pendingDuty c) (other refl) (between frame)) (c .slaves)
 effect-keeps c msa frame other = refl

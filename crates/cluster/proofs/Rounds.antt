@@ -36,7 +36,7 @@ use Rattle.cluster.specs.Rules.Bus.{slots}
 use Rattle.cluster.specs.Rules.Slaves.{withAddress, epochRaised, pendingDuty}
 use Rattle.cluster.specs.Rules.Grounds.{shortAnswer, roundBy, groundsOn}
 use Rattle.cluster.specs.Inner.Grounds.{noFirework, lengthFor, wrongLengthOn, wrongCheckOn, noOperationOn, broadcastReadOn, frameGround}
-use Rattle.cluster.specs.Rules.Round.{effectOf, frameOn, roundGround, roundOn}
+use Rattle.cluster.specs.Rules.Round.{passedOver, effectOf, frameOn, roundGround, roundOn}
 use Rattle.cluster.specs.Inner.Effects.{dataEffect, multipartnerEffect, carriedBy, bufferBy}
 use Rattle.cluster.specs.Claims.Edition.{UnknownEditionRound}
 use Rattle.cluster.proofs.Kept.{ClusterKept, kept-refl, kept-trans, kept-epoch, kept-raised, kept-pending, kept-after, kept-below}
@@ -99,7 +99,7 @@ pub data-kept : (c : Cluster) {bytes : List ℕ} → Bytes bytes → ClusterKept
 data-kept c bs = kept-trans (kept-raised c) (kept-after (pendingDuty c) bs (epochRaised c))
 
 pub multipartner-kept : (c : Cluster) (r : ℕ) → ClusterKept c (multipartnerEffect c r .after)
-multipartner-kept c r = kept-trans (kept-raised c) (kept-below r (epochRaised c) slots)
+multipartner-kept c r = kept-trans (kept-raised c) (kept-below (passedOver c) r (epochRaised c) slots)
 
 pub between-bytes : {frame : List ℕ} → Bytes frame → Bytes (between frame)
 between-bytes bs = All.allNext (byte-at bs 1) (All.allNext (byte-at bs 2) (All.allNext (byte-at bs 3) (All.allNext (byte-at bs 4) All.allEmpty)))

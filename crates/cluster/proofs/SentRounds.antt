@@ -11,10 +11,9 @@ use lib.Seq.{drop-at}
 use lib.Dec.{eqb}
 use borrow.Author.Tests.{eq-eqb, le-ltb, ltb-false}
 use Rattle.file.specs.Rules.Bytes.{Byte, Bytes, allEmpty, allNext}
-use Rattle.file.specs.Rules.Layout.{pendingFlag}
 use Rattle.file.specs.Rules.Results.{done}
 use Rattle.file.specs.Rules.Cluster.{Slave, Cluster, operationOf, pb2Of, configuration, readOperation, writeOperation, executeOperation}
-use Rattle.file.specs.Rules.Changes.{withSlaves, withEpoch, withPending}
+use Rattle.file.specs.Rules.Changes.{withPending}
 use Rattle.file.specs.Rules.Encode.{encode}
 use Rattle.file.specs.Rules.Decode.{decode}
 use Rattle.file.specs.Rules.Grounds.{fileGround}
@@ -28,9 +27,9 @@ use Rattle.frame.specs.Rules.Check.{addressCheck}
 use Rattle.frame.specs.Rules.Frames.{frameOf, addressBytes, addressFrame, dataFrame, between}
 use Rattle.frame.specs.Rules.Grounds.{wrongFrameLength, wrongCheck, noOperation, broadcastRead}
 use Rattle.frame.proofs.Written.{address-bytes, data-bytes}
-use Rattle.cluster.specs.Rules.Bus.{Senders, slots, senderMask, answerBytes, answerIn}
-use Rattle.cluster.specs.Rules.Slaves.{withAddress, nextEpoch, epochRaised, Duty, nothing, comparing, baptizing, executionOf, dutyBy, pendingDuty, sentTo, slavesAfter, slaveAfter}
-use Rattle.cluster.specs.Rules.Grounds.{shortAnswer, roundBy, writePending, groundsOn}
+use Rattle.cluster.specs.Rules.Bus.{Senders, slots, answerBytes, answerIn}
+use Rattle.cluster.specs.Rules.Slaves.{withAddress, nextEpoch, epochRaised, nothing, executionOf, dutyBy, pendingDuty, slavesAfter, slaveAfter}
+use Rattle.cluster.specs.Rules.Grounds.{shortAnswer, roundBy, writePending}
 use Rattle.cluster.specs.Rules.Round.{Effect, Answer, effectOf, frameOn, roundGround, roundOn}
 use Rattle.cluster.specs.Rules.MasterSlave.{Sent, addressSent, dataSent, roundSent}
 use Rattle.cluster.specs.Inner.Grounds.{noFirework, lengthFor, wrongLengthOn, wrongCheckOn, noOperationOn, broadcastReadOn, frameGround}

@@ -4,6 +4,7 @@ use Prim.Native.Nat.{ℕ, zero, suc}
 use mathlib.Core.Path.{_≡_, refl, sym, _∙_, subst}
 use mathlib.Core.Logic.{_≢_}
 use mathlib.Core.List.{List, [], _∷_}
+use mathlib.Core.Bool.{Bool}
 use lib.Dec.{eqb}
 use borrow.Author.Tests.{eqb-true, eqb-false}
 use Rattle.file.specs.Rules.Bytes.{Bytes, All, allEmpty, allNext}
@@ -14,9 +15,10 @@ use Rattle.file.proofs.Order.{byCase}
 use Rattle.frame.specs.Rules.Fireworks.{Round, multipartner, msd, msa, noRound}
 use Rattle.cluster.specs.Rules.Bus.{slots}
 use Rattle.cluster.specs.Rules.Slaves.{withAddress, epochRaised, slavesAfter}
+use Rattle.cluster.specs.Rules.Entries.{Entry}
 use Rattle.cluster.specs.Rules.Multipartner.{receivedIn, sentIn, clusterBelow}
 use Rattle.cluster.specs.Rules.Grounds.{roundBy}
-use Rattle.cluster.specs.Rules.Round.{effectOf, frameOn, roundGround, roundOn}
+use Rattle.cluster.specs.Rules.Round.{passedOver, effectOf, frameOn, roundGround, roundOn}
 use Rattle.cluster.specs.Claims.Pending.{fileAfter, AcceptedMsa, noCalls, oneMore, Pending, Addressed, MsaBecomesPending, StaysPending}
 use Rattle.cluster.proofs.Rounds.{round-refused, round-becomes, round-bytes}
 
@@ -38,17 +40,17 @@ alike-trans c d e p q =
 
 -- ---- a frame that is no MSA
 
-received-alike : (round slot : ℕ) (c : Cluster) (sent : List ℕ) → Alike c (receivedIn round slot c sent)
+received-alike : (passed : Entry → Bool) (round slot : ℕ) (c : Cluster) (sent : List ℕ) → Alike c (receivedIn passed round slot c sent)
 unfolding receivedIn withSlaves
-received-alike round slot c [] = alike-refl c
-received-alike round slot c (b ∷ bs) = record { isFlag = refl; isName = refl; isPB2 = refl; isPB3 = refl }
+received-alike passed round slot c [] = alike-refl c
+received-alike passed round slot c (b ∷ bs) = record { isFlag = refl; isName = refl; isPB2 = refl; isPB3 = refl }
 
-below-alike : (round : ℕ) (c : Cluster) (n : ℕ) → Alike c (clusterBelow round c n)
+below-alike : (passed : Entry → Bool) (round : ℕ) (c : Cluster) (n : ℕ) → Alike c (clusterBelow passed round c n)
 unfolding clusterBelow
-below-alike round c zero = alike-refl c
-below-alike round c (suc n) =
-    alike-trans c (clusterBelow round c n) (receivedIn round n (clusterBelow round c n) (sentIn round n (clusterBelow round c n)))
-    (below-alike round c n) (received-alike round n (clusterBelow round c n) (sentIn round n (clusterBelow round c n)))
+below-alike passed round c zero = alike-refl c
+below-alike passed round c (suc n) =
+    alike-trans c (clusterBelow passed round c n) (receivedIn passed round n (clusterBelow passed round c n) (sentIn passed round n (clusterBelow passed round c n)))
+    (below-alike passed round c n) (received-alike passed round n (clusterBelow passed round c n) (sentIn passed round n (clusterBelow passed round c n)))
 
 raised-alike : (c : Cluster) → Alike c (epochRaised c)
 unfolding epochRaised withEpoch
@@ -57,7 +59,7 @@ raised-alike c = record { isFlag = refl; isName = refl; isPB2 = refl; isPB3 = re
 effect-alike : (c : Cluster) (round : Round) (frame : List ℕ) → round ≢ msa → Alike c (effectOf c round frame .after)
 unfolding effectOf slavesAfter withSlaves epochRaised withEpoch
 effect-alike c (multipartner r) frame other =
-    alike-trans c (epochRaised c) (clusterBelow r (epochRaised c) slots) (raised-alike c) (below-alike r (epochRaised c) slots)
+    alike-trans c (epochRaised c) (clusterBelow (passedOver c) r (epochRaised c) slots) (raised-alike c) (below-alike (passedOver c) r (epochRaised c) slots)
 effect-alike c msd frame other = record { isFlag = refl; isName = refl; isPB2 = refl; isPB3 = refl }
 effect-alike c msa frame other = absurd (other refl)
 effect-alike c noRound frame other = alike-refl c

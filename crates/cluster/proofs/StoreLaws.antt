@@ -6,7 +6,7 @@ use native.Mathlib.Numerals.{add-one}
 use mathlib.Core.Path.{_≡_, refl, sym, ap, _∙_}
 use mathlib.Core.Logic.{_≢_}
 use mathlib.Core.List.{List, map}
-use mathlib.Core.Bool.{true, cond}
+use mathlib.Core.Bool.{Bool, true, cond}
 use lib.ListN.{length, getD, set, length-set}
 use lib.Dec.{eqb}
 use borrow.Author.Tests.{eq-eqb, ne-eqb, ltb-true}
@@ -89,89 +89,89 @@ store-lands s slot (acts e) =
     (λ t. let rest = both-right _ _ t in rw t (may-land s e slot (both-left _ _ rest) (both-right _ _ rest)))
     (λ t. rw t stays)
 
-pub storesAt-lands : (round slot : ℕ) (s : Slave) → Lands s (storesAt round slot s)
+pub storesAt-lands : (passed : Entry → Bool) (round slot : ℕ) (s : Slave) → Lands s (storesAt passed round slot s)
 unfolding storesAt
-storesAt-lands round slot s =
-    byCase (isUnnamed s) (λ t. rw t stays) (λ t. rw t (store-lands s slot (acting (bytesIn s round) slot)))
+storesAt-lands passed round slot s =
+    byCase (isUnnamed s) (λ t. rw t stays) (λ t. rw t (store-lands s slot (acting passed (bytesIn s round) slot)))
 
 -- ---- the file after the stores
 
-module _ (c : Cluster) (round slot b : ℕ) where
+module _ (passed : Entry → Bool) (c : Cluster) (round slot b : ℕ) where
   -- the slave with the slot's byte stored
   unfoldable pub receiver : Slave → Slave
-  receiver s = storedThere s (storesAt round slot s) b
+  receiver s = storedThere s (storesAt passed round slot s) b
 
   -- the cluster with it stored by the first n slaves
   unfoldable pub receivedBy : ℕ → Cluster
   receivedBy n = withSlaves c (firstChanged receiver n (c .slaves))
 
-pub received-all : (c : Cluster) (round slot b : ℕ) → receivedBy c round slot b (length (c .slaves)) ≡ withSlaves c (map (λ (s : Slave). storedThere s (storesAt round slot s) b) (c .slaves))
+pub received-all : (passed : Entry → Bool) (c : Cluster) (round slot b : ℕ) → receivedBy passed c round slot b (length (c .slaves)) ≡ withSlaves c (map (λ (s : Slave). storedThere s (storesAt passed round slot s) b) (c .slaves))
 unfolding receivedBy receiver
-received-all c round slot b = ap (withSlaves c) (changed-all (λ (s : Slave). storedThere s (storesAt round slot s) b) (c .slaves))
+received-all passed c round slot b = ap (withSlaves c) (changed-all (λ (s : Slave). storedThere s (storesAt passed round slot s) b) (c .slaves))
 
-module _ (c : Cluster) (round slot b : ℕ) (byte : Byte b) where
-  receiver-kept : (s : Slave) → SlaveKept s (receiver c round slot b s)
+module _ (passed : Entry → Bool) (c : Cluster) (round slot b : ℕ) (byte : Byte b) where
+  receiver-kept : (s : Slave) → SlaveKept s (receiver passed c round slot b s)
   unfolding receiver
-  receiver-kept s = stored-kept s b byte (storesAt-stores round slot s)
+  receiver-kept s = stored-kept s b byte (storesAt-stores passed round slot s)
 
-  received-shape : (n : ℕ) → SameShape (c .slaves) (receivedBy c round slot b n .slaves)
+  received-shape : (n : ℕ) → SameShape (c .slaves) (receivedBy passed c round slot b n .slaves)
   unfolding receivedBy withSlaves
-  received-shape n = changed-shape (receiver c round slot b) receiver-kept n (c .slaves)
+  received-shape n = changed-shape (receiver passed c round slot b) receiver-kept n (c .slaves)
 
-  received-place : (n s m : ℕ) → filePlace (receivedBy c round slot b n) s m ≡ filePlace c s m
+  received-place : (n s m : ℕ) → filePlace (receivedBy passed c round slot b n) s m ≡ filePlace c s m
   unfolding filePlace
-  received-place n s m = sym (shape-filePlaceAt c (receivedBy c round slot b n) (received-shape n) _ s m)
+  received-place n s m = sym (shape-filePlaceAt c (receivedBy passed c round slot b n) (received-shape n) _ s m)
 
-  received-slave : (n : ℕ) → slaveOf (receivedBy c round slot b n) n ≡ slaveOf c n
+  received-slave : (n : ℕ) → slaveOf (receivedBy passed c round slot b n) n ≡ slaveOf c n
   unfolding slaveOf receivedBy withSlaves
-  received-slave n = changed-at (receiver c round slot b) (c .slaves) n
+  received-slave n = changed-at (receiver passed c round slot b) (c .slaves) n
 
   -- a byte stored by slave n
-  put-next : (n m k : ℕ) → n < length (c .slaves) → storesAt round slot (slaveOf c n) ≡ byteOf m k → putByte (receivedBy c round slot b n) n m k b ≡ receivedBy c round slot b (suc n)
+  put-next : (n m k : ℕ) → n < length (c .slaves) → storesAt passed round slot (slaveOf c n) ≡ byteOf m k → putByte (receivedBy passed c round slot b n) n m k b ≡ receivedBy passed c round slot b (suc n)
   unfolding putByte receivedBy withSlaves slaveOf receiver storedThere
   put-next n m k l at =
       let ss : List Slave = c .slaves in
-      let f : Slave → Slave = receiver c round slot b in
+      let f : Slave → Slave = receiver passed c round slot b in
       let put : f (getD ss n noSlave) ≡ putInSlave (getD ss n noSlave) m k b = rw at in
       let moved : set (firstChanged f n ss) n (f (getD ss n noSlave)) ≡ firstChanged f (suc n) ss = changed-next f ss n l in
       rw (changed-at f ss n, ← put, moved)
 
-  keep-next : (n : ℕ) → storesAt round slot (slaveOf c n) ≡ nowhere → receivedBy c round slot b n ≡ receivedBy c round slot b (suc n)
+  keep-next : (n : ℕ) → storesAt passed round slot (slaveOf c n) ≡ nowhere → receivedBy passed c round slot b n ≡ receivedBy passed c round slot b (suc n)
   unfolding receivedBy slaveOf receiver storedThere
   keep-next n at =
-      let same : receiver c round slot b (getD (c .slaves) n noSlave) ≡ getD (c .slaves) n noSlave = rw at in
-      ap (withSlaves c) (changed-same (receiver c round slot b) (c .slaves) n same)
+      let same : receiver passed c round slot b (getD (c .slaves) n noSlave) ≡ getD (c .slaves) n noSlave = rw at in
+      ap (withSlaves c) (changed-same (receiver passed c round slot b) (c .slaves) n same)
 
-  stored-none : {f : List ℕ} → Becomes f c → Becomes f (receivedBy c round slot b 0)
+  stored-none : {f : List ℕ} → Becomes f c → Becomes f (receivedBy passed c round slot b 0)
   unfolding receivedBy firstChanged withSlaves
   stored-none h = h
 
-  module _ (stores : List ℕ) (aimed : (s : ℕ) → s < length (c .slaves) → getD stores s 0 ≡ placeIn c s (storesAt round slot (slaveOf c s))) where
-    store-there : {f : List ℕ} {m k : ℕ} (n : ℕ) → n < length (c .slaves) → Becomes f (receivedBy c round slot b n) → storesAt round slot (slaveOf c n) ≡ byteOf m k → m ≢ documentation
-        → k < length (bytesIn (slaveOf c n) m) → Becomes (set f (filePlace c n m + k) b) (receivedBy c round slot b (suc n))
+  module _ (stores : List ℕ) (aimed : (s : ℕ) → s < length (c .slaves) → getD stores s 0 ≡ placeIn c s (storesAt passed round slot (slaveOf c s))) where
+    store-there : {f : List ℕ} {m k : ℕ} (n : ℕ) → n < length (c .slaves) → Becomes f (receivedBy passed c round slot b n) → storesAt passed round slot (slaveOf c n) ≡ byteOf m k → m ≢ documentation
+        → k < length (bytesIn (slaveOf c n) m) → Becomes (set f (filePlace c n m + k) b) (receivedBy passed c round slot b (suc n))
     unfolding encode filePlace
     store-there {f} {m} {k} n l h at other inside =
-        let d : Cluster = receivedBy c round slot b n in
+        let d : Cluster = receivedBy passed c round slot b n in
         let fits : k < length (bytesIn (slaveOf d n) m) = rw (received-slave n) inside in
         let there : filePlace d n m ≡ filePlace c n m = received-place n n m in
-        let put : putByte d n m k b ≡ receivedBy c round slot b (suc n) = put-next n m k l at in
-        let legal : Legal (receivedBy c round slot b (suc n)) = rw put at (legal-putByte d n m k b other byte (h .legal)) in
-        let stored : set f (filePlace c n m + k) b ≡ encode (receivedBy c round slot b (suc n)) =
+        let put : putByte d n m k b ≡ receivedBy passed c round slot b (suc n) = put-next n m k l at in
+        let legal : Legal (receivedBy passed c round slot b (suc n)) = rw put at (legal-putByte d n m k b other byte (h .legal)) in
+        let stored : set f (filePlace c n m + k) b ≡ encode (receivedBy passed c round slot b (suc n)) =
         rw (h .encoded, ← there, ← put) (store-byte {w = 2} (omega arith) n m d k b fits)
         in
-        rw stored (legal-becomes (receivedBy c round slot b (suc n)) legal)
+        rw stored (legal-becomes (receivedBy passed c round slot b (suc n)) legal)
 
-    store-next : {f : List ℕ} (p : SlaveByte) (n : ℕ) → n < length (c .slaves) → Lands (slaveOf c n) p → storesAt round slot (slaveOf c n) ≡ p → Becomes f (receivedBy c round slot b n)
-        → Becomes (cond (eqb (placeIn c n p) 0) f (set f (placeIn c n p) b)) (receivedBy c round slot b (suc n))
+    store-next : {f : List ℕ} (p : SlaveByte) (n : ℕ) → n < length (c .slaves) → Lands (slaveOf c n) p → storesAt passed round slot (slaveOf c n) ≡ p → Becomes f (receivedBy passed c round slot b n)
+        → Becomes (cond (eqb (placeIn c n p) 0) f (set f (placeIn c n p) b)) (receivedBy passed c round slot b (suc n))
     unfolding placeIn
     store-next p n l stays at h = rw (← keep-next n at) h
     store-next p n l (lands {n = m} {k} low high place inside) at h =
         rw (ne-eqb (filePlace c n m + k) 0 (λ e. omega arith))
         (store-there n l h at (λ e. omega (arith, e)) inside)
 
-    pub stored-becomes : {f : List ℕ} → Becomes f c → (n : ℕ) → n ≤ length (c .slaves) → Becomes (storedBelow f stores b n) (receivedBy c round slot b n)
+    pub stored-becomes : {f : List ℕ} → Becomes f c → (n : ℕ) → n ≤ length (c .slaves) → Becomes (storedBelow f stores b n) (receivedBy passed c round slot b n)
     unfolding storedBelow
     stored-becomes h zero l = stored-none h
     stored-becomes h (suc n) l =
         rw (aimed n (omega arith))
-        (store-next (storesAt round slot (slaveOf c n)) n (omega arith) (storesAt-lands round slot (slaveOf c n)) refl (stored-becomes h n (omega arith)))
+        (store-next (storesAt passed round slot (slaveOf c n)) n (omega arith) (storesAt-lands passed round slot (slaveOf c n)) refl (stored-becomes h n (omega arith)))

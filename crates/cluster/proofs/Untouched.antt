@@ -5,6 +5,7 @@ use Prim.Native.Nat.{ℕ, zero, suc, _+_, _*_, _≤_, _<_}
 use mathlib.Core.Path.{_≡_, refl, sym, ap, _∙_}
 use mathlib.Core.Logic.{_≢_}
 use mathlib.Core.List.{List, [], _∷_, map}
+use mathlib.Core.Bool.{Bool}
 use lib.ListN.{getD, List·getD-map}
 use Rattle.file.specs.Rules.Layout.{recordSize}
 use Rattle.file.specs.Rules.Cluster.{Slave, Cluster, bytesIn, configuration, newLogicalName}
@@ -16,9 +17,10 @@ use Rattle.frame.specs.Rules.Fireworks.{Round, multipartner, msd, msa, noRound}
 use Rattle.frame.specs.Rules.Frames.{between}
 use Rattle.cluster.specs.Rules.Bus.{busByte, slots}
 use Rattle.cluster.specs.Rules.Slaves.{withAddress, epochRaised, Duty, nothing, reading, writing, comparing, baptizing, pendingDuty, written, takesWrite, takesName, named, replaced, slaveAfter, slavesAfter}
+use Rattle.cluster.specs.Rules.Entries.{Entry}
 use Rattle.cluster.specs.Rules.Multipartner.{storesAt, storedThere, receivedIn, sentIn, clusterBelow}
 use Rattle.cluster.specs.Rules.Grounds.{roundBy}
-use Rattle.cluster.specs.Rules.Round.{effectOf, frameOn}
+use Rattle.cluster.specs.Rules.Round.{passedOver, effectOf, frameOn}
 use Rattle.cluster.proofs.Kept.{storesAt-stores, stored-other}
 
 -- the bytes of file n, slave by slave
@@ -44,18 +46,18 @@ filesOf-map n f same (s ∷ ss) = rw (same s, filesOf-map n f same ss)
 abbrev pub Unstored : ℕ → Type 0
 Unstored n = 0x10 ≤ n → 0x3C < n
 
-pub received-other : (round slot : ℕ) (c : Cluster) (sent : List ℕ) (n : ℕ) → Unstored n → filesOf n (receivedIn round slot c sent .slaves) ≡ filesOf n (c .slaves)
+pub received-other : (passed : Entry → Bool) (round slot : ℕ) (c : Cluster) (sent : List ℕ) (n : ℕ) → Unstored n → filesOf n (receivedIn passed round slot c sent .slaves) ≡ filesOf n (c .slaves)
 unfolding receivedIn withSlaves
-received-other round slot c [] n out = refl
-received-other round slot c (b ∷ bs) n out =
-    filesOf-map n (λ (s : Slave). storedThere s (storesAt round slot s) (busByte (b ∷ bs)))
-    (λ s. stored-other s (busByte (b ∷ bs)) (storesAt-stores round slot s) n out) (c .slaves)
+received-other passed round slot c [] n out = refl
+received-other passed round slot c (b ∷ bs) n out =
+    filesOf-map n (λ (s : Slave). storedThere s (storesAt passed round slot s) (busByte (b ∷ bs)))
+    (λ s. stored-other s (busByte (b ∷ bs)) (storesAt-stores passed round slot s) n out) (c .slaves)
 
-pub below-other : (round : ℕ) (c : Cluster) (k n : ℕ) → Unstored n → filesOf n (clusterBelow round c k .slaves) ≡ filesOf n (c .slaves)
+pub below-other : (passed : Entry → Bool) (round : ℕ) (c : Cluster) (k n : ℕ) → Unstored n → filesOf n (clusterBelow passed round c k .slaves) ≡ filesOf n (c .slaves)
 unfolding clusterBelow
-below-other round c zero n out = refl
-below-other round c (suc k) n out =
-    received-other round k (clusterBelow round c k) (sentIn round k (clusterBelow round c k)) n out ∙ below-other round c k n out
+below-other passed round c zero n out = refl
+below-other passed round c (suc k) n out =
+    received-other passed round k (clusterBelow passed round c k) (sentIn passed round k (clusterBelow passed round c k)) n out ∙ below-other passed round c k n out
 
 -- ---- the data part of a master-slave round
 
@@ -91,7 +93,7 @@ after-other {n} {o} leaves bytes c = filesOf-map n (slaveAfter o bytes) (slaveAf
 
 effect-other : (n : ℕ) → Unstored n → (c : Cluster) (round : Round) → (round ≡ msd → Leaves n (pendingDuty c)) → (frame : List ℕ) → filesOf n (effectOf c round frame .after .slaves) ≡ filesOf n (c .slaves)
 unfolding effectOf withAddress withPending epochRaised withEpoch
-effect-other n out c (multipartner r) leaves frame = below-other r (epochRaised c) slots n out
+effect-other n out c (multipartner r) leaves frame = below-other (passedOver c) r (epochRaised c) slots n out
 effect-other n out c msd leaves frame = after-other (leaves refl) (between frame) (epochRaised c)
 effect-other n out c msa leaves frame = refl
 effect-other n out c noRound leaves frame = refl

@@ -3,8 +3,8 @@ ghost use mathlib.Core.Path.{_≡_};
 ghost use Prim.Native.Nat.{_+_, _≤_, _<_};
 ghost use lib.ListN.{length};
 ghost use Rattle.file.specs.Rules.Layout.{recordSize};
-ghost use Rattle.cluster.specs.Rules.Entries.{entryOf, entryThere, ends, covers, bytePlace};
-ghost use Rattle.cluster.specs.Inner.EntryForm.{operationCodes, OperationIs, codeOf, entryFrom, evaluated, Reaches, actionBy, actionFrom};
+ghost use Rattle.cluster.specs.Rules.Entries.{entryOf, entryThere, isMultiplexed, ends, covers, inTurn, outOfTurn, eligible, bytePlace};
+ghost use Rattle.cluster.specs.Inner.EntryForm.{operationCodes, OperationIs, codeOf, multiplexOf, entryFrom, evaluated, Reaches, actionBy, actionFrom};
 use file::layout::RECORD_SIZE;
 use file::types::FileNumber;
 use file::types::RecordNumber;
@@ -152,14 +152,14 @@ pub fn action_of(operation: EntryOperation) -> EntryAction
         EntryOperation::SendSpeedup => EntryAction::Sends,
         EntryOperation::EndOfRound => EntryAction::Ends,
         EntryOperation::ExecuteAndEnd => EntryAction::Ends,
-        EntryOperation::ReceiveMux4(_) => EntryAction::Rests,
-        EntryOperation::SendMux4(_) => EntryAction::Rests,
-        EntryOperation::ReceiveMux8(_) => EntryAction::Rests,
-        EntryOperation::SendMux8(_) => EntryAction::Rests,
-        EntryOperation::ReceiveSpeedupMux4(_) => EntryAction::Rests,
-        EntryOperation::SendSpeedupMux4(_) => EntryAction::Rests,
-        EntryOperation::ReceiveMux8High(_) => EntryAction::Rests,
-        EntryOperation::SendMux8High(_) => EntryAction::Rests,
+        EntryOperation::ReceiveMux4(_) => EntryAction::Receives,
+        EntryOperation::SendMux4(_) => EntryAction::Sends,
+        EntryOperation::ReceiveMux8(_) => EntryAction::Receives,
+        EntryOperation::SendMux8(_) => EntryAction::Sends,
+        EntryOperation::ReceiveSpeedupMux4(_) => EntryAction::Receives,
+        EntryOperation::SendSpeedupMux4(_) => EntryAction::Sends,
+        EntryOperation::ReceiveMux8High(_) => EntryAction::Receives,
+        EntryOperation::SendMux8High(_) => EntryAction::Sends,
     }
 }
 
@@ -176,13 +176,83 @@ pub fn is_end(entry: Entry) -> bool
     }
 }
 
-pub fn is_covering(entry: Entry, slot: usize) -> bool
+fn is_covering(entry: Entry, slot: usize) -> bool
     ensures { λ r. ⌜ r ≡ covers (entryFrom entry) slot ⌝ }
 {
     if slot < entry.slot {
         return false;
     }
     slot - entry.slot < entry.length
+}
+
+pub fn is_multiplexed(operation: EntryOperation) -> bool
+    ensures { λ r. ⌜ r ≡ isMultiplexed (codeOf operation) ⌝ }
+{
+    match operation {
+        EntryOperation::Receive => false,
+        EntryOperation::Send => false,
+        EntryOperation::ReceiveSync => false,
+        EntryOperation::Execute => false,
+        EntryOperation::ReceiveSpeedup => false,
+        EntryOperation::SendSpeedup => false,
+        EntryOperation::EndOfRound => false,
+        EntryOperation::ExecuteAndEnd => false,
+        EntryOperation::ReceiveMux4(_) => true,
+        EntryOperation::SendMux4(_) => true,
+        EntryOperation::ReceiveMux8(_) => true,
+        EntryOperation::SendMux8(_) => true,
+        EntryOperation::ReceiveSpeedupMux4(_) => true,
+        EntryOperation::SendSpeedupMux4(_) => true,
+        EntryOperation::ReceiveMux8High(_) => true,
+        EntryOperation::SendMux8High(_) => true,
+    }
+}
+
+// By how many epochs later a multiplexed operation is in turn again; the second half of eight turns is that of the High ones.
+const TURNS_OF_4: u8 = 4;
+
+const TURNS_OF_8: u8 = 8;
+
+const HIGH_TURNS: u16 = 4;
+
+// Whether an operation is in turn in a round of that epoch. Those that are not multiplexed always are.
+fn is_in_turn(operation: EntryOperation, epoch: u8) -> bool
+    ensures { λ r. ⌜ r ≡ inTurn epoch (codeOf operation) (multiplexOf operation) ⌝ }
+{
+    let eighth = (epoch % TURNS_OF_8) as u16;
+    match operation {
+        EntryOperation::Receive => true,
+        EntryOperation::Send => true,
+        EntryOperation::ReceiveSync => true,
+        EntryOperation::Execute => true,
+        EntryOperation::ReceiveSpeedup => true,
+        EntryOperation::SendSpeedup => true,
+        EntryOperation::EndOfRound => true,
+        EntryOperation::ExecuteAndEnd => true,
+        EntryOperation::ReceiveMux4(field) => field == epoch % TURNS_OF_4,
+        EntryOperation::SendMux4(field) => field == epoch % TURNS_OF_4,
+        EntryOperation::ReceiveMux8(field) => field == epoch % TURNS_OF_8,
+        EntryOperation::SendMux8(field) => field == epoch % TURNS_OF_8,
+        EntryOperation::ReceiveSpeedupMux4(field) => field == epoch % TURNS_OF_4,
+        EntryOperation::SendSpeedupMux4(field) => field == epoch % TURNS_OF_4,
+        EntryOperation::ReceiveMux8High(field) => field as u16 + HIGH_TURNS == eighth,
+        EntryOperation::SendMux8High(field) => field as u16 + HIGH_TURNS == eighth,
+    }
+}
+
+// Whether an entry acts in a slot if none before it does: it covers the slot and is in turn. Most entries are not multiplexed, and are
+// told apart first.
+pub fn is_eligible(entry: Entry, slot: usize, epoch: u8) -> bool
+    ensures { λ r. ⌜ r ≡ eligible (outOfTurn epoch) (entryFrom entry) slot ⌝ }
+{
+    if !is_covering(entry, slot) {
+        return false;
+    }
+    let operation = entry.operation;
+    if !is_multiplexed(operation) {
+        return true;
+    }
+    is_in_turn(operation, epoch)
 }
 
 // The byte of the entry's file that a slot is about.

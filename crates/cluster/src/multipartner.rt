@@ -8,7 +8,7 @@ ghost use Rattle.file.specs.Rules.Layout.{recordSize};
 ghost use Rattle.file.specs.Rules.Decode.{decode};
 ghost use Rattle.file.specs.Inner.Accepted.{AcceptedFile, slaveCount, Placed};
 ghost use Rattle.cluster.specs.Rules.Bus.{slots, joined};
-ghost use Rattle.cluster.specs.Rules.Entries.{Acting};
+ghost use Rattle.cluster.specs.Rules.Entries.{Acting, outOfTurn};
 ghost use Rattle.cluster.specs.Rules.Multipartner.{mayStore};
 ghost use Rattle.cluster.specs.Inner.EntryForm.{entryFrom, Reaches};
 ghost use Rattle.cluster.specs.Inner.Carried.{Carried};
@@ -25,13 +25,14 @@ use crate::entry::EntryAction;
 use crate::entry::action_of;
 use crate::entry::byte_place;
 use crate::entry::entry_at;
-use crate::entry::is_covering;
+use crate::entry::is_eligible;
 use crate::entry::is_end;
 use crate::epoch::raise_epoch;
 use file::layout::RECORD_SIZE;
 use file::readers::FilePlace;
 use file::readers::find_file;
 use file::readers::logical_name;
+use file::readers::read_epoch;
 use file::readers::slave_count;
 use file::types::FileNumber;
 use file::types::LogicalName;
@@ -236,16 +237,18 @@ fn store(file: &mut [u8], stores: &[usize; MOST_SLAVES], count: usize, byte: u8)
 }
 
 // Slots 1 to 63 of a multipartner round. Where each slave's entries lie is found once, before the first slot: no receive stores
-// in a round file or in 0x08. From slot to slot `starts` leaves out the entries that cannot act again.
+// in a round file or in 0x08. From slot to slot `starts` leaves out the entries that cannot act again. Multiplexed entries go by the
+// round's epoch.
 fn run_slots(
     file: &mut [u8],
     places: &SlavePlaces,
     round: u8,
+    epoch: u8,
     firework: u8,
     buffer: &mut [u8],
 ) -> u64
     requires { ⌜ Placed (now file) (now places) × (round < 0x10) × (slots ≤ length (now buffer)) ⌝ }
-    ensures { λ r. ⌜ Carried (slotsEffect (decode (now (file .entry))) round) firework (now (buffer .entry)) (now (buffer .exit)) r (now (file .exit)) ⌝ }
+    ensures { λ r. ⌜ Carried (slotsEffect (outOfTurn epoch) (decode (now (file .entry))) round) firework (now (buffer .entry)) (now (buffer .exit)) r (now (file .exit)) ⌝ }
 {
     let count = slave_count(file);
     let files = round_files(file, places, FileNumber(round));
@@ -266,11 +269,12 @@ fn run_slots(
             starts[slave] = at;
             'entries: while at < end {
                 let entry = entry_at(file, at);
-                if is_end(entry) {
+                if is_eligible(entry, slot, epoch) {
+                    // Where it is an end entry, the slave rests.
+                    act = slot_act(file, slave, entry, slot);
                     break 'entries;
                 }
-                if is_covering(entry, slot) {
-                    act = slot_act(file, slave, entry, slot);
+                if is_end(entry) {
                     break 'entries;
                 }
                 at = at + RECORD_SIZE;
@@ -302,5 +306,6 @@ pub fn carry_multipartner(
     ensures { λ r. ⌜ Carried (multipartnerEffect (decode (now (file .entry))) round) firework (now (buffer .entry)) (now (buffer .exit)) r (now (file .exit)) ⌝ }
 {
     raise_epoch(file);
-    run_slots(file, places, round, firework, buffer)
+    let epoch = read_epoch(file);
+    run_slots(file, places, round, epoch, firework, buffer)
 }

@@ -102,6 +102,8 @@ impl Refusal {
     pub const OWNER_BUFFER: Refusal = Refusal(21);
 
     pub const LOGICAL_NAMES: Refusal = Refusal(22);
+
+    pub const MULTIPLEXED_SEND: Refusal = Refusal(23);
 }
 
 // "the slave count, 0 to 32".

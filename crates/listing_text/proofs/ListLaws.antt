@@ -15,7 +15,7 @@ use Rattle.file.proofs.Order.{byCase}
 use Rattle.file.specs.Rules.Results.{Result, refused, done}
 use Rattle.cluster.specs.Rules.Bus.{slots}
 use Rattle.cluster.proofs.Rounds.{none-holds}
-use Rattle.naming.specs.Rules.Run.{Position, running, fresh, runGrounds, PassPlace, PassPlace.poll, ask, giveName, giveHigh, giveLow, PassPlace.baptize, least, bit, high, low, reply, placeOf, askOrGive, giveOf, roundHere, onto, wrote, moveOn, onward, nextName, endAllNamed, advance, lastStep}
+use Rattle.naming.specs.Rules.Run.{Position, running, fresh, runGrounds, PassPlace, PassPlace.poll, ask, giveName, giveHigh, giveLow, PassPlace.baptize, least, bit, high, low, reply, placeOf, roundHere, onto, wrote, moveOn, onward, nextName, endAllNamed, advance, lastStep}
 use Rattle.naming.specs.Rules.Rounds.{RunRound, RunRound.poll as pollOf, writeName, writeHigh, writeLow, compare, RunRound.baptize as baptizeAll}
 use Rattle.naming.specs.Rules.Step.{StepDone, ended, made, stepGround, stepMade, stepOn}
 use Rattle.naming.specs.Inner.Answers.{positionOf, steppedOf, runAfter}

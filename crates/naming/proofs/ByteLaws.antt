@@ -24,7 +24,7 @@ use Rattle.file.specs.Rules.Changes.{withSlaves, withEpoch, withPending}
 use Rattle.cluster.specs.Rules.Bus.{slots}
 use Rattle.cluster.specs.Rules.Slaves.{withAddress, epochRaised, Duty, writing, pendingDuty, dutyBy, executionOf, addresses, addressed, takesWrite, slaveAfter, slavesAfter}
 use Rattle.cluster.specs.Rules.Grounds.{shortAnswer, roundBy}
-use Rattle.cluster.specs.Rules.Round.{effectOf, frameOn, roundGround, roundOn}
+use Rattle.cluster.specs.Rules.Round.{passedOver, effectOf, frameOn, roundGround, roundOn}
 use Rattle.cluster.proofs.Rounds.{buffer-decides, others-decide, round-refused, round-accepted, round-becomes, round-kept, between-bytes}
 use Rattle.cluster.proofs.Kept.{slaveAfter-kept}
 use Rattle.cluster.proofs.Replaced.{write-left, write-keeps-name}
@@ -233,7 +233,7 @@ module _ (c : Cluster) (bytes : List ℕ) where
   frame-same true noRound p l b names = clash p refl
   frame-same false (multipartner r) p l b names =
       all-same (effectOf c (multipartner r) bytes .after)
-      (unfold effectOf epochRaised withEpoch in below-other r (epochRaised c) slots configuration unstored) names
+      (unfold effectOf epochRaised withEpoch in below-other (passedOver c) r (epochRaised c) slots configuration unstored) names
   frame-same false msd p l b names = clash p refl
   frame-same false msa p l b names =
       all-same (effectOf c msa bytes .after) (unfold effectOf withAddress withPending withEpoch in refl) names

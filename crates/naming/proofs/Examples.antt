@@ -2,16 +2,17 @@
 -- Assumes nothing.
 use Prim.Native.Nat.{ℕ, zero, suc}
 use mathlib.Core.Path.{_≡_, refl, ap, _∙_}
-use mathlib.Core.Bool.{Bool, false, cond}
+use mathlib.Core.Bool.{Bool, true, false, cond}
 use mathlib.Core.List.{List, [], _∷_}
 use lib.ListN.{length, replicate}
 use lib.Dec.{eqb, leb}
-use Rattle.file.specs.Rules.Grounds.{isAmong, hasRepeat, fileGround, fileGroundAt, fileGroundsAt, wrongSize, wrongMark, wrongEdition, wrongLength, wrongHeader, wrongPending, brokenLayout, walkFile, tableEnd, walkSlaves, andThen, walkSlave, goodTableEntry, walkDirectory, goodEntry, endsAt, lacksNeeded, allHaveNeeded, hasNeeded, equalPhysicalNames}
+use Rattle.file.specs.Rules.Grounds.{isAmong, hasRepeat, fileGround, fileGroundAt, fileGroundsAt, wrongSize, wrongMark, wrongEdition, wrongLength, wrongHeader, wrongPending, brokenLayout, walkFile, tableEnd, walkSlaves, andThen, walkSlave, goodTableEntry, walkDirectory, goodEntry, endsAt, lacksNeeded, allHaveNeeded, hasNeeded, equalPhysicalNames, heldNames}
 use Rattle.file.specs.Rules.Order.{firstOf, both, either}
 use Rattle.file.specs.Rules.Bytes.{numberOf, bytesOf, part, allZero}
 use Rattle.file.specs.Rules.Cluster.{bytesAmong, bytesIn, lastRecord, physicalName, logicalName}
 use Rattle.file.specs.Rules.Decode.{decode, decodeAt, slavesAt, slaveAt, filesAt, fileAt, fileSize, offsetAt}
 use Rattle.naming.specs.Rules.Rounds.{sent, atUnnamed}
+use Rattle.cluster.specs.Rules.Slaves.{isNameRecord}
 use Rattle.cluster.specs.Rules.MasterSlave.{Sent}
 use Rattle.naming.specs.Rules.Run.{Position, fresh, endAt, PassPlace, poll, ask, giveName, giveHigh, giveLow, baptize, high, low, reply, wrote, atStep, moveOn, onward, nextName, endAllNamed, advance, roundHere, isNeedless, isFirst, isRepeated, passOver, onto, nextRound, roundAt, placeOf, askOrGive, questionOf, partOf, giveOf, tried}
 use Rattle.cluster.specs.Rules.Grounds.{shortAnswer}
@@ -148,3 +149,12 @@ pass-10 = refl
 pass-11 : passBy 0xFFFFFFFFFFFFFFFF ≡ passFor 0xFFFFFFFFFFFFFFFF
 unfolding passBy made answerOf fresh endAt advance moveOn onward nextName endAllNamed wrote roundHere onto passOver atStep isNeedless isFirst isRepeated both roundAt placeOf askOrGive questionOf partOf giveOf tried passFor passRounds upperBits lowerBits ifMade bitClear
 pass-11 = refl
+
+-- which names 22 counts, and which record's last byte a write leaves: 0xFF is left out and 0x00 is not; record 1 of 0x08 and no other file's
+held-names : heldNames (0x00 ∷ 0xFF ∷ 0x05 ∷ 0x00 ∷ []) ≡ 0x00 ∷ 0x05 ∷ 0x00 ∷ []
+unfolding heldNames
+held-names = refl
+
+name-record : (isNameRecord 0x08 1 ≡ true) × (isNameRecord 0x08 2 ≡ false) × (isNameRecord 0x10 1 ≡ false)
+unfolding isNameRecord both
+name-record = (refl, refl, refl)

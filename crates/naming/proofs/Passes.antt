@@ -1,8 +1,7 @@
 -- The plain account's figures of a pass are those of the pass written out.
 -- Assumes nothing.
-use Prim.Native.Nat.{ℕ, zero, suc, _+_, _-_, _/_, min, _≤_, _<_}
+use Prim.Native.Nat.{ℕ, zero, suc, _+_, _-_, _≤_, _<_}
 use mathlib.Core.Path.{_≡_, refl, sym, _∙_}
-use mathlib.Core.List.{List, [], _∷_, _++_}
 use mathlib.Core.Bool.{Bool, true, false, cond}
 use native.Mathlib.Omega.{arith}
 use lib.ListN.{length, take}
@@ -11,7 +10,6 @@ use lib.Dec.{eqb, ltb}
 use borrow.Author.Tests.{eqb-true, eqb-false, ltb-true, ltb-false}
 use Rattle.file.specs.Rules.Order.{both}
 use Rattle.file.proofs.Order.{byCase, both-left, both-right}
-use Rattle.naming.specs.Rules.Run.{PassPlace}
 use Rattle.naming.specs.Rules.Account.{bitClear, namingRounds, comparisonsAfter}
 use Rattle.naming.specs.Claims.Passes.{upperBits, lowerBits, ifMade, passRounds, passFor, executesIn, PassesCounted}
 use Rattle.naming.proofs.Walk.{clear-one}

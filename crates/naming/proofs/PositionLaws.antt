@@ -17,7 +17,7 @@ use Rattle.file.specs.Rules.Order.{both, either}
 use Rattle.naming.specs.Inner.Answers.{heard, GoesOn, partAt, valueAt, Wrote, NeedlessAt, PassedOver, Settled}
 use Rattle.naming.specs.declared.position.Reply.{Reply}
 use Rattle.naming.specs.declared.position.Reply.the-variants as replies
-use Rattle.naming.specs.Rules.Run.{Position, Question, least, bit, PassPlace, poll, giveName, giveHigh, giveLow, baptize, high, low, reply, questionOf, partOf, tried, ask, bits, placeOf, askOrGive, giveOf, giveStep, roundAt, roundHere, isFirst, isRepeated, isNeedless, atStep, passOver, onto, wrote, onward, nextName, endAllNamed, moveOn, unfitPosition, countLimit, lastStep, running, namesUsedUp}
+use Rattle.naming.specs.Rules.Run.{Position, Question, least, bit, PassPlace, poll, giveName, giveHigh, giveLow, baptize, high, low, reply, questionOf, partOf, tried, ask, bits, placeOf, askOrGive, giveOf, giveStep, roundAt, roundHere, isFirst, isRepeated, isNeedless, atStep, passOver, onto, wrote, onward, nextName, moveOn, unfitPosition, countLimit, lastStep, running, namesUsedUp}
 use Rattle.naming.specs.Rules.Rounds.{comparisonRounds, half, RunRound, RunRound.poll as pollOf, writeName, writeHigh, writeLow, compare, RunRound.baptize as baptizeAll}
 
 -- ---- the value that a comparison sends

@@ -5,7 +5,7 @@ use mathlib.Core.Path.{_≡_, refl, sym, _∙_}
 use mathlib.Core.List.{List, [], _∷_}
 use mathlib.Core.Bool.{Bool, true, false, cond}
 use native.Mathlib.Omega.{arith}
-use borrow.Author.Tests.{eq-eqb, ne-eqb, le-ltb, ltb-true, ltb-false, leb-false, eqb-true, eqb-false}
+use borrow.Author.Tests.{eq-eqb, ne-eqb, ltb-true, ltb-false, leb-false, eqb-true, eqb-false}
 use lib.ListN.{length, getD}
 use lib.Dec.{eqb, ltb}
 use Rattle.file.specs.Rules.Order.{firstOf, either}
@@ -13,7 +13,7 @@ use Rattle.file.specs.Rules.Results.{done}
 use Rattle.file.specs.Rules.Cluster.{broadcast, unnamed}
 use Rattle.file.specs.Inner.Accepted.{Placed}
 use Rattle.file.proofs.Order.{byCase, either-false-left, either-false-right, both-false-next, first-none}
-use Rattle.naming.specs.Rules.Rounds.{RunRound, half, comparisonRounds, sent}
+use Rattle.naming.specs.Rules.Rounds.{half, comparisonRounds, sent}
 use Rattle.naming.specs.Rules.Run.{Position, running, unfitName, namesGrounds, startGround, runGrounds, unfitPosition, Question, questionOf, tried, Part, high, low, reply, partOf, giveOf, ask, bits, giveStep, PassPlace, poll, giveName, giveHigh, giveLow, baptize, least, bit, lastStep, askOrGive, placeOf, roundAt, roundHere, onto, nextRound, wrote, onward, nextName, endAllNamed, moveOn, advance}
 use Rattle.naming.specs.Rules.Step.{isReply, made, madeBy, stepMade}
 use Rattle.cluster.specs.declared.types.MasterSlaveRound.{MasterSlaveRound}

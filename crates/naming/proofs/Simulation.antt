@@ -21,7 +21,7 @@ use Rattle.naming.specs.Rules.Rounds.{RunRound, RunRound.poll as pollOf,
 use Rattle.naming.specs.Rules.Run.{Position, running, fresh, endAt, PassPlace, PassPlace.poll, ask, giveName, giveHigh, giveLow, PassPlace.baptize, Question, least, bit, Part, high, low, reply, placeOf, tried, roundAt, roundHere, isFirst, isRepeated, isNeedless, atStep, passOver, onto, wrote, onward, nextName, endAllNamed, moveOn, bits}
 use Rattle.naming.specs.Inner.PassPlaces.{stepOf}
 use Rattle.naming.specs.Rules.Account.{Named, Account, bitClear, comparisonsAfter, highAgain, endWith, give, oneRound, namingRounds, namingComparisons, endingRounds}
-use Rattle.naming.proofs.Places.{LegalQuestion, of-least, of-bit, Inner, LegalPlace, inner, at-poll, at-ask, at-name, at-high, at-low, at-baptize, afterBit, afterPlace, place-of-step, step-after, legal-after}
+use Rattle.naming.proofs.Places.{of-least, of-bit, Inner, LegalPlace, inner, at-poll, at-ask, at-name, at-high, at-low, at-baptize, afterBit, afterPlace, place-of-step, step-after, legal-after}
 use Rattle.naming.proofs.Places.{comparing as counting}
 use Rattle.naming.proofs.Search.{cleared, cleared-all, cleared-none, tried-bit, answered, tried-small, halves}
 use Rattle.naming.proofs.Tries.{attempt, lastTry, try-here, given-high, given-low}

@@ -9,7 +9,7 @@ use native.Mathlib.Omega.{arith}
 use native.Mathlib.Nat.{pow-suc}
 use lib.Dec.{ltb}
 use lib.Pow.{pow-pos, pow-lt, pow-add, shl-shr, shr-shr, high}
-use borrow.Author.Tests.{lt-ltb, le-ltb, ltb-true, ltb-false}
+use borrow.Author.Tests.{lt-ltb, ltb-true, ltb-false}
 use Rattle.file.proofs.Order.{byCase}
 use Rattle.naming.specs.Rules.Run.{bits}
 use Rattle.naming.specs.Rules.Rounds.{half}

@@ -2,9 +2,8 @@
 -- depend on the physical name; and the writes that are made or passed over on the way.
 -- Assumes nothing.
 use Prim.Native.Nat.{ℕ, zero, suc, _+_, _*_, _-_, _/_, _%_, min, _≤_, _<_}
-use mathlib.Core.Path.{_≡_, refl, sym, _∙_}
+use mathlib.Core.Path.{_≡_, refl, _∙_}
 use mathlib.Core.List.{List, [], _∷_}
-use mathlib.Core.Bool.{true, false}
 use native.Mathlib.Omega.{arith}
 use lib.Dec.{eqb, ltb}
 use borrow.Author.Tests.{eqb-true, eqb-false, ltb-true, ltb-false}
@@ -13,7 +12,7 @@ use Rattle.naming.specs.Rules.Run.{PassPlace, poll, ask, giveName, giveH
 use Rattle.naming.specs.Rules.Rounds.{half}
 use Rattle.naming.specs.Rules.Account.{bitClear, highAgain, namingRounds, comparisonsAfter}
 use Rattle.naming.proofs.Places.{of-least, of-bit, Inner, LegalPlace, inner, at-poll, at-ask, at-name, at-high, at-low, at-baptize, afterBit, afterPlace, comparing}
-use Rattle.naming.proofs.Tries.{attempt, lastTry, upper-low, upper-high, lower-high, lower-low, middle-high, middle-low, given-high, given-low}
+use Rattle.naming.proofs.Tries.{attempt, lastTry, upper-low, upper-high, lower-high, lower-low, middle-high, middle-low, given-low}
 
 -- ---- rounds and comparisons
 

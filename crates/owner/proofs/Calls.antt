@@ -26,7 +26,7 @@ use Rattle.file.proofs.Results.{file-first, file-numbered}
 use Rattle.file.proofs.Surveyed.{survey-accepted, survey-refused}
 use Rattle.file.proofs.AcceptedFacts
 use Rattle.file.proofs.Edition.{unknown-edition}
-use Rattle.owner.specs.Rules.Plan.{rounds, twoSend}
+use Rattle.owner.specs.Rules.Plan.{rounds, twoSend, multiplexedSend}
 use Rattle.owner.specs.Rules.OwnerFile.{noOwner, rowsBelow, indexBelow, ownerFile}
 use Rattle.owner.specs.Rules.Writing.{tooShort, ownerGrounds, ownerGround, writtenIn, ownerOn}
 use Rattle.owner.specs.Claims.Call.{UnknownEdition}
@@ -34,7 +34,7 @@ use Rattle.owner.specs.Inner.Planned.{RoundsWritten}
 use Rattle.owner.proofs.RowLaws.{head-room, rows-written}
 
 module _ (file : List ℕ) (master : ℕ) (buffer : List ℕ) where
-  -- the first ground is the file's, or else 20, or else 21
+  -- the first ground is the file's, or else 23, or else 20, or else 21
   pub file-decides : fileGround file ≢ 0 → ownerGround file master buffer ≡ fileGround file
   unfolding ownerGround ownerGrounds
   file-decides some = joined-here (fileGrounds file) _ (file-numbered file) (λ z. some (sym (file-first file) ∙ z)) ∙ file-first file
@@ -42,23 +42,27 @@ module _ (file : List ℕ) (master : ℕ) (buffer : List ℕ) where
   after-file : fileGround file ≡ 0
       → ownerGround file master buffer
       ≡ firstOf
-      ((20, twoSend (decode file .slaves)) ∷ (21, tooShort buffer master (decode file .slaves)) ∷ [])
+      ((23, multiplexedSend (decode file .slaves)) ∷ (20, twoSend (decode file .slaves)) ∷ (21, tooShort buffer master (decode file .slaves)) ∷ [])
   unfolding ownerGround ownerGrounds
   after-file accepted = joined-next (fileGrounds file) _ (file-numbered file) (file-first file ∙ accepted)
 
-  pub clash-decides : fileGround file ≡ 0 → twoSend (decode file .slaves) ≡ true → ownerGround file master buffer ≡ 20
+  pub multiplexed-decides : fileGround file ≡ 0 → multiplexedSend (decode file .slaves) ≡ true → ownerGround file master buffer ≡ 23
   unfolding firstOf
-  clash-decides accepted two = after-file accepted ∙ rw two
+  multiplexed-decides accepted found = after-file accepted ∙ rw found
 
-  pub buffer-decides : fileGround file ≡ 0 → twoSend (decode file .slaves) ≡ false → tooShort buffer master (decode file .slaves) ≡ true
+  pub clash-decides : fileGround file ≡ 0 → multiplexedSend (decode file .slaves) ≡ false → twoSend (decode file .slaves) ≡ true → ownerGround file master buffer ≡ 20
+  unfolding firstOf
+  clash-decides accepted none two = after-file accepted ∙ rw (none, two)
+
+  pub buffer-decides : fileGround file ≡ 0 → multiplexedSend (decode file .slaves) ≡ false → twoSend (decode file .slaves) ≡ false → tooShort buffer master (decode file .slaves) ≡ true
       → ownerGround file master buffer ≡ 21
   unfolding firstOf
-  buffer-decides accepted one short = after-file accepted ∙ rw (one, short)
+  buffer-decides accepted none one short = after-file accepted ∙ rw (none, one, short)
 
-  pub none-holds : fileGround file ≡ 0 → twoSend (decode file .slaves) ≡ false → tooShort buffer master (decode file .slaves) ≡ false
+  pub none-holds : fileGround file ≡ 0 → multiplexedSend (decode file .slaves) ≡ false → twoSend (decode file .slaves) ≡ false → tooShort buffer master (decode file .slaves) ≡ false
       → ownerGround file master buffer ≡ 0
   unfolding firstOf
-  none-holds accepted one fits = after-file accepted ∙ rw (one, fits)
+  none-holds accepted none one fits = after-file accepted ∙ rw (none, one, fits)
 
   -- refused, with the buffer as it was; or written
   pub owner-refused : ownerGround file master buffer ≢ 0 → ownerOn file master buffer ≡ (refused (ownerGround file master buffer), buffer)
@@ -72,7 +76,7 @@ module _ (file : List ℕ) (master : ℕ) (buffer : List ℕ) where
 
 -- ---- the file that was written
 
-module _ {ss : List Slave} {master : ℕ} {head rows : List ℕ} {size : ℕ} {clash : Bool} (h : RoundsWritten ss master rounds head rows size clash) where
+module _ {ss : List Slave} {master : ℕ} {head rows : List ℕ} {size : ℕ} {clash multiplexed : Bool} (h : RoundsWritten ss master rounds head rows size clash multiplexed) where
   pub written-whole : head ++ take size rows ≡ ownerFile master ss
   unfolding ownerFile
   written-whole =
@@ -94,6 +98,10 @@ module _ {ss : List Slave} {master : ℕ} {head rows : List ℕ} {size : ℕ} {c
   unfolding twoSend
   written-clash = h .twice
 
+  pub written-multiplexed : multiplexed ≡ multiplexedSend ss
+  unfolding multiplexedSend
+  written-multiplexed = h .multiplexes
+
 -- ---- the ways of the call, by the answer of the survey
 
 module _ (master : ℕ) (buffer : List ℕ) {file places : List ℕ} {a : FileAnswer} (s : Surveyed file (checkedOf a) places) where
@@ -103,16 +111,24 @@ module _ (master : ℕ) (buffer : List ℕ) {file places : List ℕ} {a : FileAn
       let here : ownerGround file master buffer ≡ fileGround file = file-decides file master buffer (λ z. ground .1 (ground .0 ∙ z)) in
       sym (owner-refused file master buffer (λ z. ground .1 (ground .0 ∙ sym here ∙ z)) ∙ rw (here, ground .0))
 
-  module _ (accepted : a ≡ answers.Accepted) {head rows : List ℕ} {size : ℕ} {clash : Bool} (h : RoundsWritten (decode file .slaves) master rounds head rows size clash) where
-    pub call-clash : clash ≡ true → (refused 20, buffer) ≡ ownerOn file master buffer
-    call-clash e =
-        let here : ownerGround file master buffer ≡ 20 = clash-decides file master buffer (survey-accepted s accepted) (sym (written-clash h) ∙ e) in
+  module _ (accepted : a ≡ answers.Accepted) {head rows : List ℕ} {size : ℕ} {clash multiplexed : Bool} (h : RoundsWritten (decode file .slaves) master rounds head rows size clash multiplexed) where
+    pub call-multiplexed : multiplexed ≡ true → (refused 23, buffer) ≡ ownerOn file master buffer
+    call-multiplexed e =
+        let here : ownerGround file master buffer ≡ 23 = multiplexed-decides file master buffer (survey-accepted s accepted) (sym (written-multiplexed h) ∙ e) in
+        sym (owner-refused file master buffer (λ z. let bad : _≡_ {A = ℕ} 23 0 = sym here ∙ z in omega (arith, bad)) ∙ rw here)
+
+    none-multiplexed : multiplexed ≡ false → multiplexedSend (decode file .slaves) ≡ false
+    none-multiplexed e = sym (written-multiplexed h) ∙ e
+
+    pub call-clash : multiplexed ≡ false → clash ≡ true → (refused 20, buffer) ≡ ownerOn file master buffer
+    call-clash none e =
+        let here : ownerGround file master buffer ≡ 20 = clash-decides file master buffer (survey-accepted s accepted) (none-multiplexed none) (sym (written-clash h) ∙ e) in
         sym (owner-refused file master buffer (λ z. let bad : _≡_ {A = ℕ} 20 0 = sym here ∙ z in omega (arith, bad)) ∙ rw here)
 
-    module _ (e : clash ≡ false) where
+    module _ (none : multiplexed ≡ false) (e : clash ≡ false) where
       pub call-short : length buffer < 12 + size → (refused 21, buffer) ≡ ownerOn file master buffer
       call-short short =
-          let here : ownerGround file master buffer ≡ 21 = buffer-decides file master buffer (survey-accepted s accepted) (sym (written-clash h) ∙ e) (less short) in
+          let here : ownerGround file master buffer ≡ 21 = buffer-decides file master buffer (survey-accepted s accepted) (none-multiplexed none) (sym (written-clash h) ∙ e) (less short) in
           sym (owner-refused file master buffer (λ z. let bad : _≡_ {A = ℕ} 21 0 = sym here ∙ z in omega (arith, bad)) ∙ rw here)
         where
           less : length buffer < 12 + size → tooShort buffer master (decode file .slaves) ≡ true
@@ -121,7 +137,7 @@ module _ (master : ℕ) (buffer : List ℕ) {file places : List ℕ} {a : FileAn
       pub call-written : {new : List ℕ} → 12 + size ≤ length buffer → new ≡ writtenIn buffer (head ++ take size rows) → (done (12 + size), new) ≡ ownerOn file master buffer
       call-written fits is =
           rw (is, written-length h, written-whole h)
-          (sym (owner-written file master buffer (none-holds file master buffer (survey-accepted s accepted) (sym (written-clash h) ∙ e) (room fits))))
+          (sym (owner-written file master buffer (none-holds file master buffer (survey-accepted s accepted) (none-multiplexed none) (sym (written-clash h) ∙ e) (room fits))))
         where
           room : 12 + size ≤ length buffer → tooShort buffer master (decode file .slaves) ≡ false
           room fits = unfold tooShort in le-ltb (length buffer) (length (ownerFile master (decode file .slaves))) (omega (arith, written-length h))

@@ -17,18 +17,19 @@ use Rattle.file.specs.Inner.Answers.{foundFile}
 use Rattle.file.specs.declared.readers.FileBytes.{FileBytes}
 use Rattle.file.specs.declared.readers.FilePlace.{FilePlace}
 use Rattle.file.specs.declared.readers.FilePlace.the-variants.{Bytes, NoFile}
-use Rattle.file.proofs.Order.{byCase, both-false-left, both-false-right, both-next}
-use Rattle.cluster.specs.Rules.Entries.{Entry, entryOf, entryThere, covers, sends, bytePlace}
+use Rattle.file.proofs.Order.{byCase, both-true, both-false-left, both-false-right, both-next}
+use Rattle.cluster.specs.Rules.Entries.{Entry, entryOf, entryThere, isMultiplexed, covers, sends, eligible, bytePlace}
 use Rattle.cluster.specs.Rules.Multipartner.{within}
 use Rattle.cluster.specs.Inner.EntryForm.{entryFrom, evaluated, codeOf, actionBy, actionFrom, Reaches, sending, receiving, resting, ending}
 use Rattle.cluster.specs.declared.entry.Entry as Code
 use Rattle.cluster.specs.declared.entry.EntryAction.{EntryAction}
 use Rattle.cluster.specs.declared.entry.EntryAction.the-variants as Action
-use Rattle.cluster.proofs.EntryLaws.{does, isSending}
+use Rattle.cluster.proofs.EntryLaws.{does, isSending, sends-deaf, multiplexed-either}
 use Rattle.cluster.proofs.SlotActLaws.{found-facts, missing-empty}
+use Rattle.owner.specs.Rules.Plan.{isMultiplexedReceive, isMultiplexedSend}
 use Rattle.owner.specs.Inner.Masks.{isSet, Marks, between}
-use Rattle.owner.specs.Inner.Planned.{ShortEntry, bytesLeft, wouldSend, sendsFree}
-use Rattle.owner.proofs.MaskLaws.{set-none, set-and}
+use Rattle.owner.specs.Inner.Planned.{ShortEntry, EntryPlanned, bytesLeft, wouldSend, sendsFree}
+use Rattle.owner.proofs.MaskLaws.{both-all, set-none, set-and}
 
 pub short-entry : (f : List ℕ) (at : ℕ) (e : Code.Entry) → entryFrom e ≡ evaluated (entryThere f at) → ShortEntry e
 unfolding entryFrom evaluated entryThere entryOf
@@ -60,6 +61,43 @@ module _ (e : Code.Entry) {a : EntryAction} (is : actionFrom a ≡ actionBy (cod
   pub rest-silent : a ≡ Action.Rests → false ≡ sends (entryFrom e .operation)
   unfolding actionFrom isSending
   rest-silent q = sym (does e resting is (ap actionFrom q) .send)
+
+-- ---- multiplexed entries
+
+-- an entry that is no multiplexed receive hides the slots that it covers
+kept-marks : (e : Entry) {mask : ℕ} → isMultiplexedReceive e ≡ false → Marks mask (covers e) → Marks mask (eligible isMultiplexedReceive e)
+unfolding eligible
+kept-marks e kept m = record { each = λ slot l. m .each slot l ∙ sym (ap (both (covers e slot)) (ap not kept) ∙ both-all (covers e slot)) }
+
+module _ (e : Code.Entry) {t : Bool} (is : t ≡ isMultiplexed (codeOf (e .operation))) where
+  pub plain-planned : not t ≡ true → {mask : ℕ} → Marks mask (covers (entryFrom e)) → EntryPlanned (entryFrom e) mask false
+  plain-planned plain m =
+      record {
+        slots = kept-marks (entryFrom e) (unfold isMultiplexedReceive entryFrom in both-false-left _ (sym is ∙ not-true t plain)) m;
+        multiplexes = unfold isMultiplexedSend entryFrom in sym (both-false-left _ (sym is ∙ not-true t plain));
+      }
+
+  module _ (multiplexed : not t ≡ false) {u : Bool} (sending : u ≡ sends (entryFrom e .operation)) where
+    found : isMultiplexed (codeOf (e .operation)) ≡ true
+    found = sym is ∙ not-false t multiplexed
+
+    pub sender-planned : u ≡ true → {mask : ℕ} → Marks mask (covers (entryFrom e)) → EntryPlanned (entryFrom e) mask true
+    sender-planned sure m =
+        record {
+          slots = kept-marks (entryFrom e) (unfold isMultiplexedReceive in both-false-right _ (sends-deaf (entryFrom e .operation) (sym sending ∙ sure))) m;
+          multiplexes = unfold isMultiplexedSend entryFrom in sym (both-true found (sym sending ∙ sure));
+        }
+
+    -- a multiplexed entry that does not send is a receive, and hides none
+    pub receiver-planned : u ≡ false → EntryPlanned (entryFrom e) 0 false
+    receiver-planned silent =
+        record {
+          slots = record { each = λ slot l. set-none slot ∙ (unfold eligible in sym (both-false-right _ (ap not received))) };
+          multiplexes = unfold isMultiplexedSend in sym (both-false-right _ (sym sending ∙ silent));
+        }
+      where
+        received : isMultiplexedReceive (entryFrom e) ≡ true
+        received = unfold isMultiplexedReceive entryFrom in both-true found (multiplexed-either (codeOf (e .operation)) found ∙ ap not (sym sending ∙ silent))
 
 -- ---- the bytes that are left from the entry's first on
 

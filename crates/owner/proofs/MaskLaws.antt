@@ -4,7 +4,7 @@ use Prim.Native.Nat.{ℕ, zero, suc, _+_, _-_, _*_, _/_, _%_, _^_, _≤_, _<_, m
 use native.Mathlib.Omega.{arith}
 use native.Mathlib.Nat.{pow-suc, mod-lt, mod-eq-of-lt}
 use mathlib.Core.Path.{_≡_, refl, sym, ap, _∙_}
-use mathlib.Core.Bool.{true, false, not}
+use mathlib.Core.Bool.{Bool, true, false, not, _||_}
 use lib.Bits.{bitAnd, bitOr, bitXor, differ, and-step, or-step, xor-step, and-shr, or-shr, xor-shr}
 use lib.Pow.{pow-pos, pow-mono, shl-exact, shr-shr, shr-lt, high, split, field, mod-mod-pow}
 use lib.Dec.{eqb, leb, ltb}
@@ -14,6 +14,23 @@ use Rattle.file.proofs.Order.{byCase, both-true, both-false-left, both-false-ri
 use Rattle.cluster.specs.Rules.Bus.{slots}
 use Rattle.owner.specs.Rules.Plan.{someBelow}
 use Rattle.owner.specs.Inner.Masks.{isSet, Marks, between, LastIs}
+
+-- ---- truth values
+
+pub or-either : (a b : Bool) → (a || b) ≡ either a b
+unfolding either
+or-either true b = refl
+or-either false b = refl
+
+pub either-false : (a : Bool) → either a false ≡ a
+unfolding either
+either-false true = refl
+either-false false = refl
+
+pub both-all : (a : Bool) → both a true ≡ a
+unfolding both
+both-all true = refl
+both-all false = refl
 
 -- ---- and, or, and what is left out
 

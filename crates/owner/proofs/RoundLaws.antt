@@ -5,7 +5,7 @@ use native.Mathlib.Omega.{arith}
 use native.Mathlib.Numerals.{add-one}
 use mathlib.Core.Path.{_≡_, refl, sym, ap, _∙_}
 use mathlib.Core.List.{List, [], _∷_, _++_}
-use mathlib.Core.Bool.{Bool, true, false, not, cond}
+use mathlib.Core.Bool.{Bool, true, false, not, cond, _||_}
 use lib.ListN.{length, getD, set, take, replicate, length-set, length-replicate, getD-replicate}
 use lib.Seq.{getD-set-other, take-all}
 use lib.Dec.{eqb, leb}
@@ -16,11 +16,12 @@ use Rattle.file.specs.Rules.Cluster.{Slave, logicalName}
 use Rattle.file.specs.Inner.Places.{noSlave}
 use Rattle.file.proofs.Order.{byCase}
 use Rattle.cluster.specs.Rules.Bus.{slots}
-use Rattle.owner.specs.Rules.Plan.{sendsIn, sendersAmong, sendersIn}
+use Rattle.cluster.specs.Rules.Entries.{Entry}
+use Rattle.owner.specs.Rules.Plan.{sendsIn, sendersAmong, sendersIn, someEntry, someEntryOf, isMultiplexedSend}
 use Rattle.owner.specs.Rules.OwnerFile.{noOwner, nameOf, ownerOf}
 use Rattle.owner.specs.Inner.Masks.{isSet, Marks}
-use Rattle.owner.specs.Inner.Planned.{plannedIn, OwnerPut, someone, twoThere, RoundPlanned}
-use Rattle.owner.proofs.MaskLaws.{set-or, set-and, set-free, set-none}
+use Rattle.owner.specs.Inner.Planned.{plannedIn, SlavePlanned, OwnerPut, someone, twoThere, RoundPlanned}
+use Rattle.owner.proofs.MaskLaws.{or-either, set-or, set-and, set-free, set-none}
 
 -- ---- one slave more
 
@@ -73,15 +74,23 @@ name-next [] s false = refl
 name-next (b ∷ bs) s true = rw (more-none (length bs))
 name-next (b ∷ bs) s false = refl
 
+some-one-more : (test : Entry → Bool) (round : ℕ) (ss : List Slave) (n : ℕ) → n < length ss
+    → someEntryOf test round (take (suc n) ss) ≡ either (someEntryOf test round (take n ss)) (someEntry test round (getD ss n noSlave))
+unfolding someEntryOf either
+some-one-more test round [] n l = absurd (omega arith)
+some-one-more test round (s ∷ ss) zero l = byCase (someEntry test round s) (λ e. rw e) (λ e. rw e)
+some-one-more test round (s ∷ ss) (suc n) l =
+    byCase (someEntry test round s) (λ e. rw e) (λ e. rw e (some-one-more test round ss n (omega arith)))
+
 -- ---- the loop
 
 -- of the slaves before index n
-pub record RoundPlanning (ss : List Slave) (master round : ℕ) (row : List ℕ) (senders clashes n : ℕ) : Type 0 where
+pub record RoundPlanning (ss : List Slave) (master round : ℕ) (row : List ℕ) (senders clashes : ℕ) (multiplexed : Bool) (n : ℕ) : Type 0 where
   pub most : n ≤ length ss
-  pub planned : RoundPlanned (take n ss) master round row senders clashes
+  pub planned : RoundPlanned (take n ss) master round row senders clashes multiplexed
 
 pub round-start : (ss : List Slave) (round : ℕ) (zeros : List ℕ) (master : ℕ) → zeros ≡ replicate slots noOwner
-    → RoundPlanning ss (getD (set zeros 0 master) 0 0) round (set zeros 0 master) 0 0 0
+    → RoundPlanning ss (getD (set zeros 0 master) 0 0) round (set zeros 0 master) 0 0 false 0
 round-start ss round zeros master is =
     record {
       most = omega arith;
@@ -91,6 +100,7 @@ round-start ss round zeros master is =
             owners = first;
             sends = record { each = λ slot l. set-none slot ∙ nobody slot };
             twice = record { each = λ slot l. set-none slot ∙ none slot };
+            multiplexes = unfold someEntryOf in refl;
           };
     }
   where
@@ -108,8 +118,8 @@ round-start ss round zeros master is =
     none zero = unfold twoThere sendersIn in refl
     none (suc slot) = unfold twoThere sendersIn sendersAmong in refl
 
-module _ {ss : List Slave} {master round : ℕ} {row : List ℕ} {senders clashes n : ℕ} (h : RoundPlanning ss master round row senders clashes n) where
-  module _ {mask : ℕ} {new : List ℕ} {name : ℕ} (more : n < length ss) (sends : Marks mask (plannedIn round (getD ss n noSlave)))
+module _ {ss : List Slave} {master round : ℕ} {row : List ℕ} {senders clashes : ℕ} {multiplexed : Bool} {n : ℕ} (h : RoundPlanning ss master round row senders clashes multiplexed n) where
+  module _ {mask : ℕ} {found : Bool} {new : List ℕ} {name : ℕ} (more : n < length ss) (plan : SlavePlanned round (getD ss n noSlave) mask found)
       (own : name ≡ logicalName (getD ss n noSlave)) (put : OwnerPut row new (bitAnd mask (bitXor senders 0xFFFFFFFFFFFFFFFF)) name) where
     abbrev before : ℕ → List Slave
     before slot = sendersIn round slot (take n ss)
@@ -129,19 +139,19 @@ module _ {ss : List Slave} {master round : ℕ} {row : List ℕ} {senders clashe
     unfolding someone
     some-bit slot l =
         set-or senders mask slot
-        ∙ (rw (sent-bit slot l, sends .each slot l, senders-next round ss n more slot) (sym (some-next (before slot) (getD ss n noSlave) (planned slot))))
+        ∙ (rw (sent-bit slot l, plan .slots .each slot l, senders-next round ss n more slot) (sym (some-next (before slot) (getD ss n noSlave) (planned slot))))
 
     two-bit : (slot : ℕ) → slot < slots → isSet (bitOr clashes (bitAnd senders mask)) slot ≡ twoThere round (take (suc n) ss) slot
     unfolding twoThere
     two-bit slot l =
         set-or clashes (bitAnd senders mask) slot
-        ∙ (rw (set-and senders mask slot, twice-bit slot l, sent-bit slot l, sends .each slot l, senders-next round ss n more slot)
+        ∙ (rw (set-and senders mask slot, twice-bit slot l, sent-bit slot l, plan .slots .each slot l, senders-next round ss n more slot)
         (sym (two-next (before slot) (getD ss n noSlave) (planned slot))))
 
     put-bit : (slot : ℕ) → slot < slots → getD new slot 0 ≡ cond (both (planned slot) (not (not (eqb (length (before slot)) 0)))) name (getD row slot 0)
     put-bit slot l =
         put .at slot l
-        ∙ (rw (set-and mask (bitXor senders 0xFFFFFFFFFFFFFFFF) slot, set-free senders slot l, sends .each slot l, sent-bit slot l))
+        ∙ (rw (set-and mask (bitXor senders 0xFFFFFFFFFFFFFFFF) slot, set-free senders slot l, plan .slots .each slot l, sent-bit slot l))
 
     owner-next : (slot : ℕ) → slot < slots → getD new slot 0 ≡ ownerOf master round (take (suc n) ss) slot
     owner-next zero l = put-bit zero l ∙ (unfold plannedIn both ownerOf in h .planned .owners zero l)
@@ -150,7 +160,7 @@ module _ {ss : List Slave} {master round : ℕ} {row : List ℕ} {senders clashe
         ∙ (rw (h .planned .owners (suc slot) l, own)
         (unfold ownerOf in rw (senders-next round ss n more (suc slot)) (sym (name-next (before (suc slot)) (getD ss n noSlave) (planned (suc slot))))))
 
-    pub round-next : RoundPlanning ss master round new (bitOr senders mask) (bitOr clashes (bitAnd senders mask)) (n + 1)
+    pub round-next : RoundPlanning ss master round new (bitOr senders mask) (bitOr clashes (bitAnd senders mask)) (multiplexed || found) (n + 1)
     round-next =
         rw add-one
         (record {
@@ -161,8 +171,11 @@ module _ {ss : List Slave} {master round : ℕ} {row : List ℕ} {senders clashe
                 owners = owner-next;
                 sends = record { each = some-bit };
                 twice = record { each = two-bit };
+                multiplexes =
+                    or-either multiplexed found
+                    ∙ rw (h .planned .multiplexes, plan .multiplexes) (sym (some-one-more isMultiplexedSend round ss n more));
               };
         })
 
-  pub round-done : {first : ℕ} → length ss ≤ n → first ≡ master → RoundPlanned ss first round row senders clashes
+  pub round-done : {first : ℕ} → length ss ≤ n → first ≡ master → RoundPlanned ss first round row senders clashes multiplexed
   round-done over is = rw (is, ← take-all n ss over) (h .planned)

@@ -16,11 +16,11 @@ use Rattle.file.specs.Rules.Layout.{recordSize}
 use Rattle.file.specs.Rules.Cluster.{Slave}
 use Rattle.file.proofs.Order.{byCase}
 use Rattle.cluster.specs.Rules.Bus.{slots}
-use Rattle.owner.specs.Rules.Plan.{rounds, isOwned, sendersIn, someBelow, twoSendIn}
+use Rattle.owner.specs.Rules.Plan.{rounds, isOwned, sendersIn, someBelow, twoSendIn, someEntryOf, isMultiplexedSend}
 use Rattle.owner.specs.Rules.OwnerFile.{noOwner, nameOf, ownerOf, lastOwned, ownersBelow, ownersOf, padded, rowOf, rowsBelow, indexOf, indexBelow}
 use Rattle.owner.specs.Inner.Masks.{isSet, Marks, LastIs}
 use Rattle.owner.specs.Inner.Planned.{someone, twoThere, RoundPlanned, RowWritten, headRoom, rowsRoom, RoundsWritten}
-use Rattle.owner.proofs.MaskLaws.{some-set}
+use Rattle.owner.proofs.MaskLaws.{or-either, either-false, some-set}
 
 -- ---- the rounds that have a row
 
@@ -111,7 +111,7 @@ some-alike p q (suc n) same = rw (some-alike p q n (λ k l. same k (omega arith)
 row-size : (last : ℕ) → (last + 1) + (4 - (last + 1) % 4) % 4 ≡ 4 * (last / 4 + 1)
 row-size last = omega arith
 
-module _ {ss : List Slave} {master round : ℕ} {row : List ℕ} {senders clashes : ℕ} (p : RoundPlanned ss master round row senders clashes) {last : ℕ} (is : LastIs senders last) where
+module _ {ss : List Slave} {master round : ℕ} {row : List ℕ} {senders clashes : ℕ} {multiplexed : Bool} (p : RoundPlanned ss master round row senders clashes multiplexed) {last : ℕ} (is : LastIs senders last) where
   ends-at : lastOwned round ss 63 ≡ last
   ends-at = last-owned round ss (p .sends) is 63 (omega (arith, is .few)) (omega arith)
 
@@ -174,13 +174,14 @@ module _ {ss : List Slave} {master round : ℕ} {row : List ℕ} {senders clashe
       zeros : 64 - (last + 1) ≡ (4 - (last + 1) % 4) % 4 + (64 - 4 * (last / 4 + 1))
       zeros = omega (arith, row-size last, small)
 
-  pub row-written : clashes < 2 ^ 64 → RowWritten ss master round row (4 * (last / 4 + 1)) (not (eqb clashes 0))
+  pub row-written : clashes < 2 ^ 64 → RowWritten ss master round row (4 * (last / 4 + 1)) (not (eqb clashes 0)) multiplexed
   row-written few =
       record {
         most = small;
         long = sym padded-length;
         bytes = row-is;
         twice = sym (some-set 64 clashes few) ∙ clash;
+        multiplexes = p .multiplexes;
       }
     where
       clash : someBelow (isSet clashes) 64 ≡ twoSendIn round ss
@@ -200,10 +201,10 @@ module _ {A : Type 0} (k m : ℕ) (a : A) where
 -- ---- all rounds
 
 pub rounds-start : (ss : List Slave) (master : ℕ) {head rows : List ℕ} → head ≡ replicate headRoom noOwner → rows ≡ replicate rowsRoom noOwner
-    → RoundsWritten ss master 0 head rows 0 false
+    → RoundsWritten ss master 0 head rows 0 false false
 unfolding rowsBelow indexBelow someBelow
 rounds-start ss master begins bytes =
-    record { few = omega arith; most = omega arith; long = refl; begins = begins; bytes = bytes; twice = refl }
+    record { few = omega arith; most = omega arith; long = refl; begins = begins; bytes = bytes; twice = refl; multiplexes = refl }
 
 pub index-length : (master : ℕ) (ss : List Slave) (n : ℕ) → length (indexBelow master ss n) ≡ n
 unfolding indexBelow
@@ -211,16 +212,22 @@ index-length master ss zero = refl
 index-length master ss (suc n) =
     length-append (indexBelow master ss n) (indexOf master ss n ∷ []) ∙ (rw (index-length master ss n) (omega arith))
 
-or-either : (a b : Bool) → (a || b) ≡ either a b
-unfolding either
-or-either true b = refl
-or-either false b = refl
+-- a test of the rounds below n, with one round more: one that is not owned, and one that is
+module _ (test : ℕ → Bool) (n : ℕ) where
+  abbrev owned-below : ℕ → Bool
+  owned-below k = someBelow (λ (round : ℕ). both (isOwned round) (test round)) k
 
-pub rows-written : {ss : List Slave} {master n : ℕ} {head rows : List ℕ} {size : ℕ} {clash : Bool} → RoundsWritten ss master n head rows size clash → take size rows ≡ rowsBelow master ss n
+  below-skip : isOwned n ≡ false → owned-below n ≡ owned-below (suc n)
+  below-skip out = unfold someBelow both in rw out (sym (either-false (someBelow (λ (round : ℕ). cond (isOwned round) (test round) false) n)))
+
+  below-more : {a b : Bool} → isOwned n ≡ true → a ≡ owned-below n → b ≡ test n → (a || b) ≡ owned-below (suc n)
+  below-more {a} {b} owned before here = or-either a b ∙ (unfold someBelow both in rw (owned, before, here))
+
+pub rows-written : {ss : List Slave} {master n : ℕ} {head rows : List ℕ} {size : ℕ} {clash multiplexed : Bool} → RoundsWritten ss master n head rows size clash multiplexed → take size rows ≡ rowsBelow master ss n
 rows-written {ss} {master} {n} {size = size} h =
     ap (take size) (h .bytes) ∙ take-at (rowsBelow master ss n) (replicate (rowsRoom - size) noOwner) size (sym (h .long))
 
-module _ {ss : List Slave} {master n : ℕ} {head rows : List ℕ} {size : ℕ} {clash : Bool} (h : RoundsWritten ss master n head rows size clash) where
+module _ {ss : List Slave} {master n : ℕ} {head rows : List ℕ} {size : ℕ} {clash multiplexed : Bool} (h : RoundsWritten ss master n head rows size clash multiplexed) where
   pub head-room : length head ≡ 12
   head-room =
       ap length (h .begins)
@@ -254,7 +261,7 @@ module _ {ss : List Slave} {master n : ℕ} {head rows : List ℕ} {size : ℕ} 
         append-assoc (replicate recordSize noOwner) (indexBelow master ss n) (b ∷ replicate (rounds - suc n) noOwner)
         ∙ ap (λ (x : List ℕ). replicate recordSize noOwner ++ x) (sym (append-assoc (indexBelow master ss n) (b ∷ []) (replicate (rounds - suc n) noOwner)))
 
-    pub rounds-skip : {t : Bool} → t ≡ isOwned n → not t ≡ true → RoundsWritten ss master (n + 1) head rows size clash
+    pub rounds-skip : {t : Bool} → t ≡ isOwned n → not t ≡ true → RoundsWritten ss master (n + 1) head rows size clash multiplexed
     rounds-skip {t} is skips =
         rw add-one
         (record {
@@ -263,7 +270,8 @@ module _ {ss : List Slave} {master n : ℕ} {head rows : List ℕ} {size : ℕ} 
           long = h .long ∙ ap length (sym same);
           begins = head-split ∙ (head-joined noOwner ∙ ap (λ (x : List ℕ). replicate recordSize noOwner ++ (x ++ replicate (rounds - suc n) noOwner)) index);
           bytes = h .bytes ∙ ap (λ (x : List ℕ). x ++ replicate (rowsRoom - size) noOwner) (sym same);
-          twice = h .twice ∙ none;
+          twice = h .twice ∙ below-skip (λ (round : ℕ). twoSendIn round ss) n out;
+          multiplexes = h .multiplexes ∙ below-skip (λ (round : ℕ). someEntryOf isMultiplexedSend round ss) n out;
         })
       where
         out : isOwned n ≡ false
@@ -274,13 +282,6 @@ module _ {ss : List Slave} {master n : ℕ} {head rows : List ℕ} {size : ℕ} 
 
         index : indexBelow master ss n ++ (noOwner ∷ []) ≡ indexBelow master ss (suc n)
         index = unfold indexBelow indexOf in rw out
-
-        none : someBelow (λ (round : ℕ). both (isOwned round) (twoSendIn round ss)) n ≡ someBelow (λ (round : ℕ). both (isOwned round) (twoSendIn round ss)) (suc n)
-        none = unfold someBelow both in rw out (sym (either-none (someBelow (λ (round : ℕ). cond (isOwned round) (twoSendIn round ss) false) n)))
-          where
-            either-none : (b : Bool) → either b false ≡ b
-            either-none true = unfold either in refl
-            either-none false = unfold either in refl
 
     -- the row's place is all zeros
     zeros-there : drop size rows ≡ replicate (64 + (448 - size)) noOwner
@@ -297,7 +298,7 @@ module _ {ss : List Slave} {master n : ℕ} {head rows : List ℕ} {size : ℕ} 
     pub row-zeros : take ((size + 64) - size) (drop size rows) ≡ replicate slots noOwner
     row-zeros = rw (sixty, zeros-there) (zeros-take 64 (448 - size) noOwner)
 
-    module _ {t : Bool} (is : t ≡ isOwned n) (has : not t ≡ false) {row : List ℕ} {size₁ : ℕ} {clash₁ : Bool} (w : RowWritten ss master n row size₁ clash₁) where
+    module _ {t : Bool} (is : t ≡ isOwned n) (has : not t ≡ false) {row : List ℕ} {size₁ : ℕ} {clash₁ multiplexed₁ : Bool} (w : RowWritten ss master n row size₁ clash₁ multiplexed₁) where
       owned : isOwned n ≡ true
       owned = sym is ∙ not-false t has
 
@@ -320,7 +321,7 @@ module _ {ss : List Slave} {master n : ℕ} {head rows : List ℕ} {size : ℕ} 
           joined : rowsBelow master ss n ++ padded (ownersOf master n ss) ≡ rowsBelow master ss (suc n)
           joined = unfold rowsBelow in ap (λ (x : List ℕ). rowsBelow master ss n ++ x) (sym row-there)
 
-      pub rounds-row : RoundsWritten ss master (n + 1) (set head (4 + n) (3 + size / 4)) (putMid size ((size + 64) - size) rows row) (size + size₁) (clash || clash₁)
+      pub rounds-row : RoundsWritten ss master (n + 1) (set head (4 + n) (3 + size / 4)) (putMid size ((size + 64) - size) rows row) (size + size₁) (clash || clash₁) (multiplexed || multiplexed₁)
       rounds-row =
           rw add-one
           (record {
@@ -332,7 +333,8 @@ module _ {ss : List Slave} {master n : ℕ} {head rows : List ℕ} {size : ℕ} 
                 ∙ (set-at (replicate recordSize noOwner ++ indexBelow master ss n) noOwner (replicate (rounds - suc n) noOwner) (3 + size / 4) (4 + n) head-length
                 ∙ (head-joined (3 + size / 4) ∙ ap (λ (x : List ℕ). replicate recordSize noOwner ++ (x ++ replicate (rounds - suc n) noOwner)) index));
             bytes = rows-next;
-            twice = or-either clash clash₁ ∙ clashes;
+            twice = below-more (λ (round : ℕ). twoSendIn round ss) n owned (h .twice) (w .twice);
+            multiplexes = below-more (λ (round : ℕ). someEntryOf isMultiplexedSend round ss) n owned (h .multiplexes) (w .multiplexes);
           })
         where
           longer : size + size₁ ≡ length (rowsBelow master ss (suc n))
@@ -341,10 +343,7 @@ module _ {ss : List Slave} {master n : ℕ} {head rows : List ℕ} {size : ℕ} 
           index : indexBelow master ss n ++ ((3 + size / 4) ∷ []) ≡ indexBelow master ss (suc n)
           index = unfold indexBelow indexOf in rw (owned, h .long)
 
-          clashes : either clash clash₁ ≡ someBelow (λ (round : ℕ). both (isOwned round) (twoSendIn round ss)) (suc n)
-          clashes = unfold someBelow both in rw (owned, h .twice, w .twice)
-
-pub rounds-done : {ss : List Slave} {master n : ℕ} {head rows : List ℕ} {size : ℕ} {clash : Bool} → RoundsWritten ss master n head rows size clash → rounds ≤ n
-    → RoundsWritten ss master rounds head rows size clash
-rounds-done {ss} {master} {n} {head} {rows} {size} {clash} h over =
-    let all : n ≡ rounds = omega (arith, h .few) in subst (λ (k : ℕ). RoundsWritten ss master k head rows size clash) all h
+pub rounds-done : {ss : List Slave} {master n : ℕ} {head rows : List ℕ} {size : ℕ} {clash multiplexed : Bool} → RoundsWritten ss master n head rows size clash multiplexed → rounds ≤ n
+    → RoundsWritten ss master rounds head rows size clash multiplexed
+rounds-done {ss} {master} {n} {head} {rows} {size} {clash} {multiplexed} h over =
+    let all : n ≡ rounds = omega (arith, h .few) in subst (λ (k : ℕ). RoundsWritten ss master k head rows size clash multiplexed) all h

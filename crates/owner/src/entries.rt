@@ -7,18 +7,19 @@ ghost use Rattle.file.specs.Inner.Accepted.{AcceptedFile, slaveCount};
 ghost use Rattle.cluster.specs.Rules.Entries.{covers, sends};
 ghost use Rattle.cluster.specs.Inner.EntryForm.{entryFrom};
 ghost use Rattle.owner.specs.Inner.Masks.{Marks};
-ghost use Rattle.owner.specs.Inner.Planned.{ShortEntry, bytesLeft, wouldSend, sendsFree};
+ghost use Rattle.owner.specs.Inner.Planned.{ShortEntry, EntryPlanned, bytesLeft, wouldSend, sendsFree};
 use crate::masks::NO_SLOTS;
 use crate::masks::slots_between;
 use cluster::entry::Entry;
 use cluster::entry::EntryAction;
 use cluster::entry::action_of;
 use cluster::entry::byte_place;
+use cluster::entry::is_multiplexed;
 use file::readers::FilePlace;
 use file::readers::find_file;
 
 // The slots that an entry covers, by its start and its length.
-pub fn covered_slots(entry: Entry) -> u64
+fn covered_slots(entry: Entry) -> u64
     requires { ⌜ ShortEntry entry ⌝ }
     ensures { λ r. ⌜ Marks r (covers (entryFrom entry)) ⌝ }
 {
@@ -35,6 +36,37 @@ fn is_send(entry: Entry) -> bool
         EntryAction::Sends => true,
         EntryAction::Ends => false,
         EntryAction::Rests => false,
+    }
+}
+
+// What an entry means to the plan: the slots in which none after it acts, and whether it is a multiplexed send.
+pub struct EntryPlan {
+    pub hidden: u64,
+    pub multiplexed: bool,
+}
+
+// An entry hides the slots that it covers, but a multiplexed receive is passed over. Most entries are not multiplexed, and are told
+// apart first.
+pub fn plan_entry(entry: Entry) -> EntryPlan
+    requires { ⌜ ShortEntry entry ⌝ }
+    ensures { λ r. ⌜ EntryPlanned (entryFrom entry) (r .hidden) (r .multiplexed) ⌝ }
+{
+    let operation = entry.operation;
+    if !is_multiplexed(operation) {
+        return EntryPlan {
+            hidden: covered_slots(entry),
+            multiplexed: false,
+        };
+    }
+    if is_send(entry) {
+        return EntryPlan {
+            hidden: covered_slots(entry),
+            multiplexed: true,
+        };
+    }
+    EntryPlan {
+        hidden: NO_SLOTS,
+        multiplexed: false,
     }
 }
 

@@ -8,10 +8,9 @@ ghost use Rattle.file.specs.Inner.Typed.{fileIn, nameIn};
 ghost use Rattle.file.specs.Inner.Accepted.{Placed, slaveCount};
 ghost use Rattle.cluster.specs.Rules.Bus.{slots};
 ghost use Rattle.owner.specs.Rules.OwnerFile.{noOwner};
-ghost use Rattle.owner.specs.Inner.Masks.{Marks};
-ghost use Rattle.owner.specs.Inner.Planned.{plannedIn, OwnerPut, RoundPlanned};
-use crate::entries::covered_slots;
+ghost use Rattle.owner.specs.Inner.Planned.{SlavePlanned, OwnerPut, RoundPlanned};
 use crate::entries::free_slots;
+use crate::entries::plan_entry;
 use crate::masks::ALL_SLOTS;
 use crate::masks::FIREWORK_SLOTS;
 use crate::masks::NO_SLOTS;
@@ -26,27 +25,36 @@ use file::types::FileNumber;
 use file::types::LogicalName;
 use file::types::SlavePlaces;
 
-// The slots in which a slave sends. Its entries are read once, first to last: a slot that an earlier one covers is not free for a
-// later one, so the entry that finds its slot free is the one that acts there.
-fn plan_slave(file: &[u8], places: &SlavePlaces, slave: usize, round: FileNumber) -> u64
+// The slots in which a slave sends, and whether it has a multiplexed send.
+pub struct SlavePlan {
+    pub sends: u64,
+    pub multiplexed: bool,
+}
+
+// Its entries are read once, first to last: a slot that an earlier one covers is not free for a later one, so the entry that finds its
+// slot free is the one that acts there. An entry that is passed over takes no slot.
+fn plan_slave(file: &[u8], places: &SlavePlaces, slave: usize, round: FileNumber) -> SlavePlan
     requires { ⌜ Placed (now file) (now places) × (slave < slaveCount (now file)) ⌝ }
-    ensures { λ r. ⌜ Marks r (plannedIn (fileIn round) (slaveOf (decode (now (file .entry))) slave)) ⌝ }
+    ensures { λ r. ⌜ SlavePlanned (fileIn round) (slaveOf (decode (now (file .entry))) slave) (r .sends) (r .multiplexed) ⌝ }
 {
     let found = round_file(file, places, slave, round);
     let end = found.end;
     let mut covered = FIREWORK_SLOTS;
     let mut sends = NO_SLOTS;
+    let mut multiplexed = false;
     let mut at = found.start;
     while at < end {
         let entry = entry_at(file, at);
         if is_end(entry) {
-            return sends;
+            return SlavePlan { sends, multiplexed };
         }
         sends = sends | free_slots(file, slave, entry, covered ^ ALL_SLOTS);
-        covered = covered | covered_slots(entry);
+        let plan = plan_entry(entry);
+        covered = covered | plan.hidden;
+        multiplexed = multiplexed | plan.multiplexed;
         at = at + RECORD_SIZE;
     }
-    sends
+    SlavePlan { sends, multiplexed }
 }
 
 // A name put into a row at every slot of a mask.
@@ -65,10 +73,11 @@ fn put_name(row: &mut [u8], mask: u64, name: LogicalName)
     }
 }
 
-// The slots of a round in which someone sends, and those in which two slaves do.
+// The slots of a round in which someone sends, those in which two slaves do, and whether a slave has a multiplexed send.
 pub struct RoundPlan {
     pub senders: u64,
     pub clashes: u64,
+    pub multiplexed: bool,
 }
 
 // A round's owners put into a row of zeros.
@@ -80,20 +89,27 @@ pub fn plan_round(
     row: &mut [u8],
 ) -> RoundPlan
     requires { ⌜ Placed (now file) (now places) × (now row ≡ replicate slots noOwner) ⌝ }
-    ensures { λ r. ⌜ RoundPlanned (decode (now (file .entry)) .slaves) (nameIn master) (fileIn round) (now (row .exit)) (r .senders) (r .clashes) ⌝ }
+    ensures { λ r. ⌜ RoundPlanned (decode (now (file .entry)) .slaves) (nameIn master) (fileIn round) (now (row .exit)) (r .senders) (r .clashes) (r .multiplexed) ⌝ }
 {
     let count = slave_count(file);
     let mut senders = NO_SLOTS;
     let mut clashes = NO_SLOTS;
+    let mut multiplexed = false;
     row[FIREWORK_SLOT] = master.0;
     let mut slave = 0;
     while slave < count {
-        let sends = plan_slave(file, places, slave, round);
+        let plan = plan_slave(file, places, slave, round);
+        let sends = plan.sends;
         let name = logical_name(file, places, slave);
         put_name(row, sends & (senders ^ ALL_SLOTS), name);
         clashes = clashes | (senders & sends);
         senders = senders | sends;
+        multiplexed = multiplexed | plan.multiplexed;
         slave = slave + 1;
     }
-    RoundPlan { senders, clashes }
+    RoundPlan {
+        senders,
+        clashes,
+        multiplexed,
+    }
 }

@@ -45,10 +45,11 @@ fn is_owned(round: usize) -> bool
     round != ADDRESS_ROUND
 }
 
-// What is written so far: how many bytes of rows, and whether two slaves send in one slot.
+// What is written so far: how many bytes of rows, whether two slaves send in one slot, and whether a slave has a multiplexed send.
 pub struct Rows {
     pub length: usize,
     pub clash: bool,
+    pub multiplexed: bool,
 }
 
 // A round's row, padded, in front of zeros.
@@ -60,13 +61,14 @@ fn write_row(
     row: &mut [u8],
 ) -> Rows
     requires { ⌜ Placed (now file) (now places) × (now row ≡ replicate slots noOwner) ⌝ }
-    ensures { λ r. ⌜ RowWritten (decode (now (file .entry)) .slaves) (nameIn master) (fileIn round) (now (row .exit)) (r .length) (r .clash) ⌝ }
+    ensures { λ r. ⌜ RowWritten (decode (now (file .entry)) .slaves) (nameIn master) (fileIn round) (now (row .exit)) (r .length) (r .clash) (r .multiplexed) ⌝ }
 {
     let plan = plan_round(file, places, master, round, row);
     let last = last_slot(plan.senders);
     Rows {
         length: RECORD_SIZE * (last / RECORD_SIZE + 1),
         clash: plan.clashes != NO_SLOTS,
+        multiplexed: plan.multiplexed,
     }
 }
 
@@ -80,8 +82,8 @@ fn write_round(
     head: &mut [u8],
     rows: &mut [u8],
 ) -> Rows
-    requires { ⌜ Placed (now file) (now places) × (round < rounds) × RoundsWritten (decode (now file) .slaves) (nameIn master) round (now head) (now rows) (before .length) (before .clash) ⌝ }
-    ensures { λ r. ⌜ RoundsWritten (decode (now (file .entry)) .slaves) (nameIn master) (round + 1) (now (head .exit)) (now (rows .exit)) (r .length) (r .clash) ⌝ }
+    requires { ⌜ Placed (now file) (now places) × (round < rounds) × RoundsWritten (decode (now file) .slaves) (nameIn master) round (now head) (now rows) (before .length) (before .clash) (before .multiplexed) ⌝ }
+    ensures { λ r. ⌜ RoundsWritten (decode (now (file .entry)) .slaves) (nameIn master) (round + 1) (now (head .exit)) (now (rows .exit)) (r .length) (r .clash) (r .multiplexed) ⌝ }
 {
     if !is_owned(round) {
         return before;
@@ -99,6 +101,7 @@ fn write_round(
     Rows {
         length: start + row.length,
         clash: before.clash | row.clash,
+        multiplexed: before.multiplexed | row.multiplexed,
     }
 }
 
@@ -111,11 +114,12 @@ pub fn write_rounds(
     rows: &mut [u8],
 ) -> Rows
     requires { ⌜ Placed (now file) (now places) × (now head ≡ replicate headRoom noOwner) × (now rows ≡ replicate rowsRoom noOwner) ⌝ }
-    ensures { λ r. ⌜ RoundsWritten (decode (now (file .entry)) .slaves) (nameIn master) rounds (now (head .exit)) (now (rows .exit)) (r .length) (r .clash) ⌝ }
+    ensures { λ r. ⌜ RoundsWritten (decode (now (file .entry)) .slaves) (nameIn master) rounds (now (head .exit)) (now (rows .exit)) (r .length) (r .clash) (r .multiplexed) ⌝ }
 {
     let mut written = Rows {
         length: 0,
         clash: false,
+        multiplexed: false,
     };
     let mut round = 0;
     while round < ROUNDS {

@@ -44,6 +44,9 @@ pub fn write_owner(file: &[u8], master: LogicalName, buffer: &mut [u8]) -> Owner
             let mut head = [0u8; HEAD_SIZE];
             let mut rows = [0u8; ROWS_ROOM];
             let written = write_rounds(file, &places, master, &mut head, &mut rows);
+            if written.multiplexed {
+                return OwnerAnswer::Refused(Refusal::MULTIPLEXED_SEND);
+            }
             if written.clash {
                 return OwnerAnswer::Refused(Refusal::TWO_SENDERS);
             }

@@ -8,6 +8,8 @@ const DATA_FILE: u8 = 0x10;
 /// Enough for a byte in each of the slots 1 to 63 after record 0x00.
 const DATA_RECORDS: usize = 16;
 const SLOTS: usize = 63;
+/// Operations 0 and 1 become 8 and 9.
+const MULTIPLEXED: u8 = 0x80;
 
 /// Slaves with files 0x08 and 0x3D and so many more as to have `files` each, all of the least size.
 pub fn small(slaves: usize, files: usize, logical_name: impl Fn(usize) -> u8) -> Vec<u8> {
@@ -43,21 +45,34 @@ pub fn most_entries() -> Vec<u8> {
 /// time by entries spread over the whole list, in slot order; entries in between cover slot 1 again.
 pub fn partners(slaves: usize, entries: usize) -> Vec<u8> {
     let slave = |number: usize| {
-        let mut list = vec![0; 4];
-        for slot in spread(entries) {
-            list.extend(entry_of(slot, slot % slaves == number));
-        }
-        let data = vec![number as u8 | 0x40; 4 * (DATA_RECORDS + 1)];
-        Slave {
-            files: vec![
-                File { number: FileNumber(ROUND_FILE), bytes: list },
-                configuration(number as u8 + 1),
-                File { number: FileNumber(DATA_FILE), bytes: data },
-                documentation(number),
-            ],
-        }
+        let slots = spread(entries).into_iter();
+        partner(number, slots.flat_map(|slot| entry_of(slot, slot % slaves == number)).collect())
     };
     encode((0..slaves).map(slave).collect())
+}
+
+/// A slave of the name that follows its number, with this list for the round and a file of data.
+fn partner(number: usize, list: Vec<u8>) -> Slave {
+    let data = vec![number as u8 | 0x40; 4 * (DATA_RECORDS + 1)];
+    Slave {
+        files: vec![
+            File { number: FileNumber(ROUND_FILE), bytes: [vec![0; 4], list].concat() },
+            configuration(number as u8 + 1),
+            File { number: FileNumber(DATA_FILE), bytes: data },
+            documentation(number),
+        ],
+    }
+}
+
+/// Slaves 1, 2, … with a round file of four multiplexed entries for each of so many slots, one for each epoch modulo
+/// 4. As in [`partners`] each slot has one sender, and every other slave stores what it hears.
+pub fn multiplexed(slaves: usize, slots: usize) -> Vec<u8> {
+    let entries = |number: usize, slot: usize| {
+        let [place, record, operation, start] = entry_of(slot, slot % slaves == number);
+        (0..4).flat_map(move |field| [place, record, operation | MULTIPLEXED, field << 6 | start])
+    };
+    let list = |number: usize| (1..=slots).flat_map(|slot| entries(number, slot)).collect();
+    encode((0..slaves).map(|number| partner(number, list(number))).collect())
 }
 
 /// A slave that sends one byte in each of the slots 1 to 63 of every round, an entry for each slot.

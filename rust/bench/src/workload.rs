@@ -7,7 +7,7 @@ use model::{closed_figures, encode_trace, MSA, MSD};
 use std::hint::black_box;
 
 /// The lines of the table.
-pub const TABLE: [&str; 20] = [
+pub const TABLE: [&str; 22] = [
     "check-32-2",
     "check-named-32",
     "check-most",
@@ -20,6 +20,8 @@ pub const TABLE: [&str; 20] = [
     "partner-1-255",
     "partner-32-220",
     "partner-32-63",
+    "multiplexed-1-63",
+    "multiplexed-32-55",
     "naming-1",
     "naming-8",
     "naming-32",
@@ -118,6 +120,9 @@ impl Workload {
             }
             ["partner", slaves, entries] => {
                 Workload::Frame { file: files::partners(number(slaves)?, number(entries)?), frame: vec![0xBA] }
+            }
+            ["multiplexed", slaves, slots] => {
+                Workload::Frame { file: files::multiplexed(number(slaves)?, number(slots)?), frame: vec![0xBA] }
             }
             ["naming", slaves] => {
                 let slaves = number(slaves)?;

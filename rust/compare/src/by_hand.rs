@@ -7,8 +7,9 @@ const CONFIGURATION: u8 = 0x08;
 const DATA_FILE: u8 = 0x10;
 const DOCUMENTATION: u8 = 0x3D;
 
-/// A slave's logical name, and its lists: the round, and the entries from record 1 on. Beside files 0x08 and 0x3D,
-/// it has a file 0x10 of records 0x00 and 1, so of the places 0 to 7, which hold 0xD0 to 0xD7.
+/// A slave's logical name, and its lists: the round, and the entries from record 1 on; a file of another number may be
+/// among them. Beside files 0x08 and 0x3D, it has a file 0x10 of records 0x00 and 1, so of the places 0 to 7, which hold
+/// 0xD0 to 0xD7.
 #[derive(Clone)]
 pub struct Slave {
     pub name: u8,
@@ -33,6 +34,7 @@ fn files_of(slave: &Slave, place: u8) -> Vec<(u8, Vec<u8>)> {
     files.push((CONFIGURATION, vec![0, 0, 0, 0, 0, 0, 0, slave.name, 0, 0, 0, 0, 0, 0, 0, 0]));
     files.push((DATA_FILE, vec![0xD0, 0xD1, 0xD2, 0xD3, 0xD4, 0xD5, 0xD6, 0xD7]));
     files.push((DOCUMENTATION, vec![0, 0, 0, 0, 0, 0, 0, 7, 0, 0, 0, place]));
+    files.sort_by_key(|&(number, _)| number);
     files
 }
 

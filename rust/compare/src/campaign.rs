@@ -5,7 +5,7 @@ use crate::engine::{Engine, Model};
 use crate::random::Random;
 use crate::sort::Sort;
 use crate::tally::Tally;
-use crate::{clusters, inputs, names, owners, passes, runs, traces};
+use crate::{clusters, inputs, names, owners, passes, runs, traces, turns};
 use std::collections::BTreeMap;
 
 /// Cases that are printed before the rest is only counted.
@@ -147,6 +147,7 @@ impl<'a> Campaign<'a> {
         }
         self.sorts_reached(&Sort::REACHED, amounts.rounds);
         self.sorts_reached(&Sort::REACHED_ABOUT_NAMES, amounts.rounds);
+        self.sorts_reached(&Sort::REACHED_BY_TURNS, amounts.rounds);
         self.sorts_reached(&Sort::REACHED_BY_STEPS, amounts.steps);
         self.sorts_reached(&Sort::REACHED_BY_TRACES, amounts.traces);
         self.sorts_reached(&Sort::REACHED_BY_OWNERS, amounts.owners);
@@ -252,12 +253,14 @@ impl<'a> Campaign<'a> {
         }
     }
 
-    /// Owner files, half of them of clusters in which slots are dealt out, more than a quarter of damaged files.
+    /// Owner files, half of them of clusters in which slots are dealt out; of the others some of damaged files, some of
+    /// clusters without a multiplexed send.
     fn owners(&mut self, amount: usize, random: &mut Random) {
         for _ in 0..amount {
             let file = match random.below(6) {
                 0..=2 => owners::planned(random).encode(),
                 3 => clusters::damaged(random),
+                4 => owners::without_multiplexed_sends(clusters::cluster(random)).encode(),
                 _ => any_file(random),
             };
             let master = random.one_of(&[0x00, 0x01, 0x63, 0xFF]);
@@ -271,15 +274,20 @@ impl<'a> Campaign<'a> {
         }
     }
 
-    /// In a round as it runs someone sends in exactly the slots that have a sender in the plan.
+    /// In a round as it runs, in whatever epoch, who sends in a slot has it in the plan; and who has a slot in the plan
+    /// sends there, unless a multiplexed receive of that slave covers it.
     fn planned_round(&mut self, random: &mut Random, file: Vec<u8>) {
         let frame = vec![random.one_of(&inputs::MULTIPARTNER)];
-        let planned = owners::planned_mask(&file, frame[0]);
+        let (planned, hideable) = owners::planned_masks(&file, frame[0]);
         let call = Call::Round { file, frame, answer_length: 64 };
         let outcome = self.call(&call);
-        if outcome.mask() != planned {
-            self.differ(&format!("the plan has {planned:016X}\n{}", call.line(&outcome)), "see the case");
+        let sent = outcome.mask();
+        if sent & !planned != 0 || planned & !hideable & !sent != 0 {
+            let plan = format!("the plan has {planned:016X}, of which {hideable:016X} may be hidden");
+            self.differ(&format!("{plan}\n{}", call.line(&outcome)), "see the case");
         }
+        self.note_sorts((hideable & !sent != 0).then_some(Sort::PlannedAndHidden));
+        self.note_sorts((hideable & sent != 0).then_some(Sort::PlannedAndNotHidden));
     }
 
     pub(crate) fn note_sorts(&mut self, sorts: impl IntoIterator<Item = Sort>) {
@@ -298,6 +306,7 @@ impl<'a> Campaign<'a> {
         self.note_sorts(Sort::of(call, expected));
         self.note_sorts(names::sorts(call, expected));
         self.note_sorts(passes::sorts(call, expected));
+        self.note_sorts(turns::sorts(call, expected));
         self.print_sample(call, expected);
     }
 

@@ -4,9 +4,10 @@ use crate::random::Random;
 use model::{Cluster, File, FileNumber, LogicalName, Pending, Slave, MOST_BYTES, MOST_SLAVES};
 
 const ROUND_FILES: [u8; 6] = [0, 2, 3, 4, 6, 7];
-/// The operations of an entry that receive, and those that send.
-const RECEIVES: [u8; 3] = [0, 2, 4];
-const SENDS: [u8; 2] = [1, 5];
+/// The operations of an entry that receive, and those that send; plain ones more often than multiplexed ones, which have
+/// their turns.
+const RECEIVES: [u8; 13] = [0, 2, 4, 0, 2, 4, 0, 2, 4, 8, 10, 12, 14];
+const SENDS: [u8; 10] = [1, 5, 1, 5, 1, 5, 9, 11, 13, 15];
 const HEADER_BYTES: usize = 16;
 
 /// A legal cluster of 0 to 32 slaves.
@@ -36,8 +37,13 @@ pub fn cluster_of(random: &mut Random, count: usize) -> Cluster {
         if random.once_in(2) {
             meet(random, &mut slaves, round);
         }
+        if random.once_in(4) {
+            share_a_slot(random, &mut slaves, round);
+        }
     }
-    let cluster = Cluster { epoch: random.one_of(&[0, 1, 127, 254, 255]), pending: pending(random), slaves };
+    let any_epoch = random.byte();
+    let epoch = random.one_of(&[0, 1, 127, 254, 255, any_epoch, any_epoch, any_epoch]);
+    let cluster = Cluster { epoch, pending: pending(random), slaves };
     debug_assert!(cluster.encode().len() <= MOST_BYTES);
     cluster
 }
@@ -173,6 +179,39 @@ fn meet(random: &mut Random, slaves: &mut [Slave], round: u8) {
     let (sends, receives) = (random.one_of(&SENDS), random.one_of(&RECEIVES));
     take_part(random, sender, round, sent, sends, start);
     take_part(random, receiver, round, stored, receives, start);
+}
+
+/// Puts four or eight multiplexed entries, one for each turn, on one slot of a named slave's list for the round, if
+/// there is one: all send, or all receive where they may store, each at its own place, and another slave sends there.
+/// In one of three lists a plain send of the same slot comes after them.
+fn share_a_slot(random: &mut Random, slaves: &mut [Slave], round: u8) {
+    let mut named: Vec<&mut Slave> = slaves.iter_mut().filter(|slave| !slave.is_unnamed()).collect();
+    if named.is_empty() {
+        return;
+    }
+    let slave = named.swap_remove(random.below(named.len()));
+    let sends = u8::from(random.once_in(3));
+    let file = if sends == 1 { random.one_of(&numbers_of(slave)) } else { storing_file(random, slave) };
+    let fours: &[u8] = random.one_of(&[&[8], &[12], &[10, 14]]);
+    let slot = start_slot(random);
+    let last_record = file_in(random, slave, file).last_record();
+    let mut entries = Vec::new();
+    for &operation in fours {
+        for multiplex in 0..4 {
+            let record = random.between(0, last_record) as u8;
+            entries.push([file << 2 | multiplex, record, (operation | sends) << 4, multiplex << 6 | slot]);
+        }
+    }
+    if random.once_in(3) {
+        entries.push(entry_of(random, FileNumber::DOCUMENTATION.0, 1, 1, slot));
+    }
+    let list = file_in(random, slave, round);
+    list.bytes.truncate(4);
+    list.bytes.extend(entries.concat());
+    if sends == 0 && !named.is_empty() {
+        let other = named.swap_remove(random.below(named.len()));
+        take_part(random, other, round, FileNumber::DOCUMENTATION.0, 1, slot);
+    }
 }
 
 fn numbers_of(slave: &Slave) -> Vec<u8> {

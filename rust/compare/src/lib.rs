@@ -1,5 +1,6 @@
 //! Two engines side by side: the calls they share, test cases as lines of text, random clusters, frames, positions
-//! and traces, the edges of traces, owner files, logical names and naming steps, and the comparison itself.
+//! and traces, the edges of traces, owner files, logical names, naming steps and multiplexed entries, and the
+//! comparison itself.
 
 #![forbid(unsafe_code)]
 
@@ -10,6 +11,7 @@ pub mod clusters;
 pub mod edges;
 pub mod engine;
 pub mod inputs;
+pub mod multiplex_edges;
 pub mod name_edges;
 pub mod names;
 pub mod naming_edges;
@@ -21,3 +23,4 @@ pub mod runs;
 pub mod sort;
 pub mod tally;
 pub mod traces;
+pub mod turns;

@@ -13,9 +13,11 @@ const ANY: u8 = 0x05;
 const ROUNDS: [u8; 6] = [0, 2, 3, 4, 6, 7];
 const MOST_OWNER_BYTES: usize = 396;
 
-/// "20, two slaves send in one slot of a round; 21, the buffer is too short"
+/// "20, two slaves send in one slot of a round; 21, the buffer is too short"; "23, a multiplexed send before the
+/// end", which comes before these
 const CLASH: u8 = 20;
 const SHORT: u8 = 21;
+const MULTIPLEXED: u8 = 23;
 
 /// The index where each row is one record, and the row of a round in which nobody sends.
 const SHORTEST: &str = "03000405 06000708";
@@ -39,7 +41,7 @@ enum Expected {
 }
 
 /// So many edges there are.
-const EDGES: usize = 112;
+const EDGES: usize = 167;
 
 /// Panics at the first edge at which the engine does something else.
 pub fn hold_owner_edges(engine: &dyn Engine) {
@@ -49,6 +51,10 @@ pub fn hold_owner_edges(engine: &dyn Engine) {
         slots(),
         places(),
         hiding(),
+        passed_over(),
+        multiplexed_sends(),
+        multiplexed_elsewhere(),
+        multiplexed_before_clash(),
         ends(),
         first_and_last_records(),
         names(),
@@ -144,6 +150,10 @@ fn first_and_last_records() -> Vec<Edge> {
         with_record_0("00006000", one_record("an end in record 0x00", &sender, "63050000")),
         one_record("a send in record 255", &[slave(ANY, 2, &last_sends)], "63050000"),
     ]
+}
+
+fn multiplexed(what: &'static str, slaves: &[Slave]) -> Edge {
+    Edge { what, file: cluster(slaves), master: MASTER, expected: Expected::Refused(MULTIPLEXED) }
 }
 
 /// One entry for one slot, the byte at place 4 of file 0x10.
@@ -267,8 +277,8 @@ fn places() -> Vec<Edge> {
 /// "the first entry before the end that covers it acts"
 fn hiding() -> Vec<Edge> {
     let one = |entries: &str| [slave(ANY, 2, entries)];
-    // Operations that receive, 3, and 8 to 15, which "cover their slots and do nothing".
-    let hide = [0x0, 0x2, 0x4, 0x3, 0x8, 0x9, 0xA, 0xB, 0xC, 0xD, 0xE, 0xF].map(|operation| {
+    // Operations that receive, and 3, which covers its slots and does nothing.
+    let hide = [0x0, 0x2, 0x4, 0x3].map(|operation| {
         nobody("an operation that does not send", &one(&format!("4001{operation:X}001 40011001")))
     });
     let others = [
@@ -286,6 +296,126 @@ fn hiding() -> Vec<Edge> {
         ),
     ];
     [&hide[..], &others[..]].concat()
+}
+
+/// "the owner writer passes over every multiplexed receive", whatever its field: operations 8, 10, 12 and 14.
+fn passed_over() -> Vec<Edge> {
+    let one = |entries: &str| [slave(ANY, 2, entries)];
+    let sends = "40011001";
+    let each = [0x8, 0xA, 0xC, 0xE].into_iter().flat_map(|operation| {
+        let fields = [0x01, 0x41, 0x81, 0xC1];
+        fields.map(|field| {
+            one_record(
+                "a multiplexed receive before a send",
+                &one(&format!("4001{operation:X}0{field:02X} {sends}")),
+                "63050000",
+            )
+        })
+    });
+    let others = vec![
+        nobody("a multiplexed receive alone", &one("40018001")),
+        one_record(
+            "two multiplexed receives before a send",
+            &one(&format!("40018001 4001E001 {sends}")),
+            "63050000",
+        ),
+        one_record("a multiplexed receive after a send", &one(&format!("{sends} 40018001")), "63050000"),
+        one_record("one that cannot store", &one(&format!("3C018001 {sends}")), "63050000"),
+        one_record("one on the first of two slots", &one("40018001 40001101"), "63050500"),
+        one_record("one on the middle one of three slots", &one("40018002 40001201"), "63050505"),
+        one_record("one over many slots", &one(&format!("40008F01 {sends}")), "63050000"),
+        nobody("one, then a plain receive, then a send", &one(&format!("40018001 40010001 {sends}"))),
+        nobody("one, then an operation 3, then a send", &one(&format!("40018001 40013001 {sends}"))),
+        nobody("one, then an end, then a send", &one(&format!("40018001 00006000 {sends}"))),
+        clash(
+            "one before each of two sends in a slot",
+            &[slave(ANY, 2, &format!("40018001 {sends}")), slave(0x06, 2, &format!("4001A001 {sends}"))],
+        ),
+    ];
+    each.chain(others).collect()
+}
+
+/// "23, a multiplexed send before the end in file 0, 2, 3, 4, 6 or 7 of a slave not unnamed": also one that could not
+/// send, and whatever covers its slot before it.
+fn multiplexed_sends() -> Vec<Edge> {
+    let one = |entries: &str| [slave(ANY, 2, entries)];
+    let sends = [0x9, 0xB, 0xD, 0xF]
+        .map(|operation| multiplexed("a multiplexed send", &one(&format!("4001{operation:X}001"))));
+    let rounds =
+        ROUNDS.map(|round| multiplexed("a multiplexed send of this round", &[slave(ANY, round, "40019001")]));
+    let others = [
+        multiplexed("its place outside", &one("40FF9001")),
+        multiplexed("its file not there", &one("44009001")),
+        multiplexed("on slot 0", &one("40019000")),
+        multiplexed("on slot 63, over the end", &one("40009F3F")),
+        multiplexed("after a plain send of its slot", &one("40011001 40019001")),
+        multiplexed("after a plain receive of its slot", &one("40010001 40019001")),
+        multiplexed("after all slots are covered", &one("40000F01 40000F11 40000F21 40000F31 40019001")),
+        multiplexed("the last before an end", &one("40019001 00006000")),
+        multiplexed("of a slave named 0x00", &[slave(0x00, 2, "40019001")]),
+        multiplexed("of the second slave", &[slave(ANY, 2, "40011001"), slave(0x06, 2, "40019002")]),
+        multiplexed(
+            "of a named slave after an unnamed one",
+            &[slave(UNNAMED, 2, "40011001"), slave(ANY, 7, "40019001")],
+        ),
+    ];
+    [&sends[..], &rounds[..], &others[..]].concat()
+}
+
+/// Where a multiplexed send is none of 23: after an end, in file 1 or 5 and in other files, of an unnamed slave.
+fn multiplexed_elsewhere() -> Vec<Edge> {
+    let one = |entries: &str| [slave(ANY, 2, entries)];
+    vec![
+        nobody("after an end, 6", &one("00006000 40019001")),
+        nobody("after an end, 7", &one("00007000 40019001")),
+        one_record("after a send and an end", &one("40011001 00006000 40019001"), "63050000"),
+        nobody("in file 5", &[slave(ANY, 5, "40019001")]),
+        nobody("in file 1", &[slave(ANY, 1, "40019001")]),
+        nobody("in file 0x11", &[slave(ANY, 0x11, "40019001")]),
+        nobody("of an unnamed slave", &[slave(UNNAMED, 2, "40019001")]),
+        one_record(
+            "of an unnamed slave beside one that sends",
+            &[slave(UNNAMED, 2, "40019001"), slave(ANY, 2, "40011001")],
+            "63050000",
+        ),
+    ]
+}
+
+/// 23 is judged over all slaves and rounds before 20, whatever the buffer; and after the file's numbers.
+fn multiplexed_before_clash() -> Vec<Edge> {
+    let lists =
+        |entries: &[(u8, &str)]| entries.iter().map(|&(round, list)| (round, list.to_string())).collect();
+    let of = |name, entries: &[(u8, &str)]| Slave { name, lists: lists(entries) };
+    let clashing =
+        |more: &[(u8, &str)]| [of(ANY, &[&[(0, "40011001")], more].concat()), of(0x06, &[(0, "40011001")])];
+    let apart = [slave(ANY, 2, "40011001"), slave(0x06, 2, "40011001"), slave(0x07, 2, "40019002")];
+    let whole = cluster(&apart);
+    let equal_names = {
+        let mut file = whole.clone();
+        // The last byte is the serial number of the third slave.
+        *file.last_mut().expect("a file with bytes") = 1;
+        file
+    };
+    vec![
+        multiplexed("round 7 with two senders in round 0", &clashing(&[(7, "40019001")])),
+        multiplexed("round 2 with two senders in round 0", &clashing(&[(2, "40019001")])),
+        multiplexed("the last slave with two senders before it", &apart),
+        multiplexed(
+            "in the list that clashes, after it",
+            &[slave(ANY, 2, "40011001"), slave(6, 2, "40011001 40019002")],
+        ),
+        multiplexed(
+            "in the list that clashes, before it",
+            &[slave(ANY, 2, "40011001"), slave(6, 2, "40019002 40011001")],
+        ),
+        clash("two senders in round 0, one after an end in round 7", &clashing(&[(7, "00006000 40019001")])),
+        Edge {
+            what: "equal physical names",
+            file: equal_names,
+            master: MASTER,
+            expected: Expected::Refused(8),
+        },
+    ]
 }
 
 /// Operations 6 and 7 end a list.

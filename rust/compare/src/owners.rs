@@ -4,6 +4,7 @@ use crate::case::{Call, Outcome};
 use crate::clusters;
 use crate::random::Random;
 use crate::sort::Sort;
+use crate::turns::{list_of, Entry};
 use model::{check, owner, round_of, senders_of, Cluster, File, FileNumber, LogicalName, Slave, MOST_SLAVES};
 
 const ROUNDS: [u8; 6] = [0, 2, 3, 4, 6, 7];
@@ -14,8 +15,13 @@ const MOST_ENTRY_SLOTS: usize = 16;
 const MOST_OWNER_BYTES: usize = 396;
 const SENDS: [u8; 2] = [1, 5];
 /// Operations that cover a slot and do not send.
-const HIDES: [u8; 5] = [0, 2, 3, 4, 12];
+const HIDES: [u8; 4] = [0, 2, 3, 4];
 const ENDS: [u8; 2] = [6, 7];
+/// Multiplexed receives, which the owner writer passes over, and multiplexed sends, which it refuses.
+const PASSED: [u8; 4] = [8, 10, 12, 14];
+const REFUSED: [u8; 4] = [9, 11, 13, 15];
+/// The round files that are nobody's.
+const NOT_OWNED: [u8; 2] = [1, 5];
 
 /// A cluster in which the slots of each round are dealt out to the slaves, so that mostly no two send in one. In a
 /// third of them one more entry is put anywhere, which may make two meet.
@@ -37,8 +43,22 @@ pub fn planned(random: &mut Random) -> Cluster {
         disturb(random, &mut cluster.slaves[slave], round);
     }
     if random.once_in(6) {
+        put_where_it_is_not_looked_for(random, &mut cluster);
+    }
+    if random.once_in(6) {
         let name = clusters::logical_name(random);
         cluster.slaves.iter_mut().for_each(|slave| slave.set_logical_name(LogicalName(name)));
+    }
+    cluster
+}
+
+/// The same cluster with plain sends in place of multiplexed ones.
+pub fn without_multiplexed_sends(mut cluster: Cluster) -> Cluster {
+    let lists = cluster.slaves.iter_mut().flat_map(|slave| &mut slave.files).filter(|file| file.number.0 < 8);
+    for entry in lists.flat_map(|file| file.bytes.as_chunks_mut::<4>().0.iter_mut().skip(1)) {
+        if REFUSED.contains(&(entry[2] >> 4)) {
+            entry[2] = 1 << 4 | entry[2] & 15;
+        }
     }
     cluster
 }
@@ -51,6 +71,12 @@ fn deal(random: &mut Random, slaves: &mut [Slave], round: u8) {
     while slot <= last {
         let length = random.between(1, MOST_ENTRY_SLOTS.min(last - slot + 1));
         let sender = random.below(slaves.len());
+        if random.once_in(6) {
+            let (operation, turn) = (random.one_of(&PASSED), random.below(4) as u8);
+            let file = random.between(0x0F, 0x11) as u8;
+            let front = operation << 4 | (length - 1) as u8;
+            lists[sender].push([file << 2, 1, front, turn << 6 | slot as u8]);
+        }
         if !random.once_in(4) {
             let entry = sending(random, &slaves[sender], length, slot);
             lists[sender].push(entry);
@@ -91,12 +117,43 @@ fn disturb(random: &mut Random, slave: &mut Slave, round: u8) {
     let (length, slot) = (random.between(1, MOST_ENTRY_SLOTS), random.between(0, LAST_SLOT));
     let mut entry = sending(random, slave, length, slot);
     if random.once_in(3) {
-        let operation = if random.once_in(2) { random.one_of(&HIDES) } else { random.one_of(&ENDS) };
+        let operation = match random.below(4) {
+            0 => random.one_of(&HIDES),
+            1 => random.one_of(&ENDS),
+            2 => random.one_of(&PASSED),
+            _ => random.one_of(&REFUSED),
+        };
         entry[2] = operation << 4 | entry[2] & 15;
     }
     if let Some(list) = slave.file_mut(FileNumber(round)) {
         let place = 4 * random.between(1, list.last_record() + 1);
         list.bytes.splice(place..place, entry);
+    }
+}
+
+/// Puts a multiplexed send in file 1 or 5, in a list of an unnamed slave, or after an end.
+fn put_where_it_is_not_looked_for(random: &mut Random, cluster: &mut Cluster) {
+    let slave = random.below(cluster.slaves.len());
+    let slave = &mut cluster.slaves[slave];
+    let slot = random.between(1, LAST_SLOT);
+    let mut entry = sending(random, slave, 1, slot);
+    entry[2] = random.one_of(&REFUSED) << 4;
+    let round = random.one_of(&ROUNDS);
+    match random.below(3) {
+        0 => put_entries(slave, random.one_of(&NOT_OWNED), &entry),
+        1 if slave.is_unnamed() => put_entries(slave, round, &entry),
+        _ => put_entries(slave, round, &[[0, 0, random.one_of(&ENDS) << 4, 0], entry].concat()),
+    }
+}
+
+/// Puts these entries after the others of the slave's list.
+fn put_entries(slave: &mut Slave, round: u8, entries: &[u8]) {
+    if slave.file(FileNumber(round)).is_none() {
+        slave.files.push(File { number: FileNumber(round), bytes: vec![0; 4] });
+        slave.files.sort_by_key(|file| file.number);
+    }
+    if let Some(list) = slave.file_mut(FileNumber(round)) {
+        list.bytes.extend(entries);
     }
 }
 
@@ -113,12 +170,55 @@ pub fn buffer_length(random: &mut Random, file: &[u8]) -> usize {
     }
 }
 
-/// The slots that have a sender in the round of this firework, as a mask.
-pub fn planned_mask(file: &[u8], firework: u8) -> u64 {
+/// The slots that have a sender in the round of this firework, as a mask, and those of them that a multiplexed
+/// receive of the sender covers before the end of its list.
+pub fn planned_masks(file: &[u8], firework: u8) -> (u64, u64) {
     let cluster = check(file).expect("an accepted file");
     let round = round_of(firework).expect("a firework");
-    let senders = senders_of(&cluster.slaves, round);
+    (sending_mask(&cluster.slaves, round), hideable_mask(&cluster, round))
+}
+
+fn sending_mask(slaves: &[Slave], round: u8) -> u64 {
+    let senders = senders_of(slaves, round);
     (0..).zip(&senders).filter(|(_, names)| !names.is_empty()).fold(0, |mask, (slot, _)| mask | 1 << slot)
+}
+
+fn hideable_mask(cluster: &Cluster, round: u8) -> u64 {
+    let of_slave = |slave: &Slave| {
+        let mut list = slave.file(FileNumber(round)).map(list_of).unwrap_or_default();
+        list.retain(Entry::is_multiplexed_receive);
+        let covered = (1..=LAST_SLOT).filter(|&slot| list.iter().any(|entry| entry.covers(slot)));
+        sending_mask(std::slice::from_ref(slave), round) & covered.fold(0, |mask, slot| mask | 1 << slot)
+    };
+    cluster.slaves.iter().map(of_slave).fold(0, |mask, slots| mask | slots)
+}
+
+/// The owned rounds in which a named slave has a multiplexed send before the end.
+fn multiplexed_rounds(cluster: &Cluster) -> Vec<u8> {
+    let sends = |slave: &Slave, round: u8| {
+        let list = slave.file(FileNumber(round)).map(list_of).unwrap_or_default();
+        !slave.is_unnamed() && list.iter().any(Entry::is_multiplexed_send)
+    };
+    ROUNDS.into_iter().filter(|&round| cluster.slaves.iter().any(|slave| sends(slave, round))).collect()
+}
+
+/// Of an owner file that was written: where a multiplexed send stands all the same, and whether a receive was passed
+/// over.
+fn beside(cluster: &Cluster) -> Vec<(bool, Sort)> {
+    let sends = |entry: &[u8; 4]| entry[2] >> 4 >= 8 && entry[2] >> 4 & 1 == 1;
+    let any = |unnamed: bool, rounds: &[u8]| {
+        let files =
+            cluster.slaves.iter().filter(|slave| slave.is_unnamed() == unnamed).flat_map(|slave| &slave.files);
+        files
+            .filter(|file| rounds.contains(&file.number.0))
+            .any(|file| file.bytes.as_chunks().0.iter().skip(1).any(sends))
+    };
+    vec![
+        (any(false, &ROUNDS), Sort::OwnerMultiplexedAfterEnd),
+        (any(false, &NOT_OWNED), Sort::OwnerMultiplexedInOtherFile),
+        (any(true, &ROUNDS), Sort::OwnerMultiplexedUnnamed),
+        (ROUNDS.iter().any(|&round| hideable_mask(cluster, round) != 0), Sort::OwnerPassesReceive),
+    ]
 }
 
 /// What a call is an example of.
@@ -133,6 +233,7 @@ pub fn sorts(call: &Call, outcome: &Outcome) -> Vec<Sort> {
     let occurs = match (outcome.number, outcome.written()) {
         (0, Some(written)) => [
             plan.written(),
+            beside(&cluster),
             vec![
                 (written as usize == *buffer_length, Sort::OwnerFits),
                 (unnamed_would_clash(&cluster), Sort::OwnerWithUnnamed),
@@ -140,6 +241,11 @@ pub fn sorts(call: &Call, outcome: &Outcome) -> Vec<Sort> {
         ]
         .concat(),
         (20, _) => plan.clashing(*buffer_length),
+        (23, _) => vec![
+            (plan.clashes(), Sort::OwnerMultiplexedAndClash),
+            (*buffer_length == 0, Sort::OwnerMultiplexedBeforeShort),
+            (multiplexed_rounds(&cluster) == [LAST_ROUND], Sort::OwnerMultiplexedInLastRound),
+        ],
         (21, _) => {
             let needed = owner(file, LogicalName(0), &mut [0; MOST_OWNER_BYTES]);
             vec![(needed == Ok(buffer_length + 1), Sort::OwnerOneShort)]
@@ -183,6 +289,10 @@ impl Plan {
             (self.rounds.iter().zip(&last_slots).any(gap), Sort::OwnerWithGap),
             (last_slots.iter().all(|last| last.is_some_and(|last| last > 3)), Sort::OwnerOfLongRows),
         ]
+    }
+
+    fn clashes(&self) -> bool {
+        self.rounds.iter().flatten().any(|senders| senders.len() >= 2)
     }
 
     fn clashing(&self, buffer_length: usize) -> Vec<(bool, Sort)> {

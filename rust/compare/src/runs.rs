@@ -7,7 +7,7 @@ use crate::engine::RunWords;
 use crate::inputs::{NAMES_RECORD, WRITE_OF_CONFIGURATION};
 use crate::random::Random;
 use crate::sort::Sort;
-use crate::{clusters, inputs};
+use crate::{clusters, inputs, turns};
 use model::{check, closed_figures, Account, Address, Cluster, End, FileNumber, LogicalName, Operation, Slave};
 
 const NO_RUN: RunWords = [0; 8];
@@ -112,7 +112,10 @@ impl WholeRun {
     }
 
     fn frame(&mut self, campaign: &mut Campaign, frame: Vec<u8>, answer_length: usize) {
-        let outcome = campaign.call(&Call::Round { file: self.file.clone(), frame, answer_length });
+        let call = Call::Round { file: self.file.clone(), frame, answer_length };
+        let outcome = campaign.call(&call);
+        let acts = turns::sorts(&call, &outcome).iter().any(|sort| matches!(sort, Sort::Multiplexed(_)));
+        campaign.note_sorts(acts.then_some(Sort::MultiplexedBetweenSteps));
         self.file = outcome.file.expect("a lent file");
         self.hold_against_account(campaign);
     }

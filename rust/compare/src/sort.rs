@@ -104,6 +104,36 @@ pub enum Sort {
     ZeroAnsweredPastWrite,
     /// A naming run whose steps engine and model made in turn, the words and the file handed over.
     RunInTurn,
+    /// A multipartner round in which a multiplexed entry of this operation is in turn and sends or stores. The first
+    /// entry that covers the slot is multiplexed, here and in the next four.
+    Multiplexed(u8),
+    /// One in which such an entry is in turn and can do nothing, so that it hides a later one.
+    MultiplexedHides,
+    /// One in which such an entry is out of turn and a plain entry acts.
+    PassedToPlain,
+    /// One in which such an entry is out of turn and another multiplexed one acts.
+    PassedToMultiplexed,
+    /// One in which all entries that cover a slot are out of turn.
+    NobodyInTurn,
+    /// One in which a multiplexed entry acts and the epoch went from 255 to 0.
+    MultiplexedAfter255,
+    /// A round between the steps of a naming run in which a multiplexed entry acts.
+    MultiplexedBetweenSteps,
+    /// An owner file refused by 23 where two slaves send in one slot.
+    OwnerMultiplexedAndClash,
+    /// One refused by 23 where the buffer is empty.
+    OwnerMultiplexedBeforeShort,
+    /// One refused by 23 for round 7 alone.
+    OwnerMultiplexedInLastRound,
+    /// One that was written, with a multiplexed send after an end, in file 1 or 5, or of an unnamed slave.
+    OwnerMultiplexedAfterEnd,
+    OwnerMultiplexedInOtherFile,
+    OwnerMultiplexedUnnamed,
+    /// One that was written, a multiplexed receive covering a slot in which the slave sends.
+    OwnerPassesReceive,
+    /// A round planned in which such a receive, in turn, keeps the slave from sending, and one in which it does not.
+    PlannedAndHidden,
+    PlannedAndNotHidden,
     /// A trace between the steps of a naming run that was run and has a round and a refused frame in it.
     TraceBetweenSteps,
 }
@@ -130,6 +160,23 @@ impl Sort {
         (Sort::RoundOnEqualNames, 10),
         (Sort::StepOnEqualNames, 40),
         (Sort::TraceOnEqualNames, 80),
+    ];
+
+    /// Sorts of multipartner rounds with multiplexed entries, with one in how many of the rounds asked for.
+    pub const REACHED_BY_TURNS: [(Sort, usize); 13] = [
+        (Sort::Multiplexed(8), 2_000),
+        (Sort::Multiplexed(9), 2_000),
+        (Sort::Multiplexed(10), 4_000),
+        (Sort::Multiplexed(11), 4_000),
+        (Sort::Multiplexed(12), 2_000),
+        (Sort::Multiplexed(13), 2_000),
+        (Sort::Multiplexed(14), 4_000),
+        (Sort::Multiplexed(15), 4_000),
+        (Sort::MultiplexedHides, 400),
+        (Sort::PassedToPlain, 200),
+        (Sort::PassedToMultiplexed, 200),
+        (Sort::NobodyInTurn, 100),
+        (Sort::MultiplexedAfter255, 8_000),
     ];
 
     /// Sorts of naming steps, with one in how many of those asked for; those of naming runs count too.
@@ -163,7 +210,7 @@ impl Sort {
     ];
 
     /// Sorts of owner files, with one in how many of those asked for.
-    pub const REACHED_BY_OWNERS: [(Sort, usize); 13] = [
+    pub const REACHED_BY_OWNERS: [(Sort, usize); 22] = [
         (Sort::OwnerPadded, 10),
         (Sort::OwnerOfMostSlots, 20),
         (Sort::OwnerNamedZero, 20),
@@ -177,14 +224,27 @@ impl Sort {
         (Sort::OwnerClashOfOneName, 400),
         (Sort::OwnerClashInLastRound, 300),
         (Sort::OwnerWithUnnamed, 150),
+        (Sort::OwnerMultiplexedAndClash, 200),
+        (Sort::OwnerMultiplexedBeforeShort, 200),
+        (Sort::OwnerMultiplexedInLastRound, 400),
+        (Sort::OwnerMultiplexedAfterEnd, 200),
+        (Sort::OwnerMultiplexedInOtherFile, 400),
+        (Sort::OwnerMultiplexedUnnamed, 200),
+        (Sort::OwnerPassesReceive, 100),
+        (Sort::PlannedAndHidden, 200),
+        (Sort::PlannedAndNotHidden, 200),
     ];
 
     /// Sorts of calls in naming runs, with one in how many of the runs asked for.
-    pub const REACHED_BY_RUNS: [(Sort, usize); 3] =
-        [(Sort::TraceBetweenSteps, 1), (Sort::NamesWrittenBetweenSteps, 1), (Sort::RunInTurn, 4)];
+    pub const REACHED_BY_RUNS: [(Sort, usize); 4] = [
+        (Sort::TraceBetweenSteps, 1),
+        (Sort::NamesWrittenBetweenSteps, 1),
+        (Sort::MultiplexedBetweenSteps, 1),
+        (Sort::RunInTurn, 4),
+    ];
 
-    /// What a call is an example of; logical names, naming steps, traces and owner files are sorted in `names`, `passes`,
-    /// `traces` and `owners`.
+    /// What a call is an example of; logical names, naming steps, multiplexed entries, traces and owner files are
+    /// sorted in `names`, `passes`, `turns`, `traces` and `owners`.
     pub fn of(call: &Call, outcome: &Outcome) -> Option<Sort> {
         match call {
             Call::Read { frame } if outcome.number == 12 && is_unfolded(frame) => Some(Sort::UnfoldedNotRead),
@@ -259,6 +319,29 @@ impl Sort {
                 "comparisons with 0 after which the run stands past a needless write"
             }
             Sort::RunInTurn => "naming runs made in turn",
+            Sort::Multiplexed(8) => "rounds in which operation 8 acts",
+            Sort::Multiplexed(9) => "rounds in which operation 9 acts",
+            Sort::Multiplexed(10) => "rounds in which operation 10 acts",
+            Sort::Multiplexed(11) => "rounds in which operation 11 acts",
+            Sort::Multiplexed(12) => "rounds in which operation 12 acts",
+            Sort::Multiplexed(13) => "rounds in which operation 13 acts",
+            Sort::Multiplexed(14) => "rounds in which operation 14 acts",
+            Sort::Multiplexed(_) => "rounds in which operation 15 acts",
+            Sort::MultiplexedHides => "rounds in which an entry in turn that can do nothing hides another",
+            Sort::PassedToPlain => "rounds in which a plain entry acts after one out of turn",
+            Sort::PassedToMultiplexed => "rounds in which a multiplexed entry acts after one out of turn",
+            Sort::NobodyInTurn => "rounds in which all entries for a slot are out of turn",
+            Sort::MultiplexedAfter255 => "rounds in which a multiplexed entry acts after epoch 255",
+            Sort::MultiplexedBetweenSteps => "rounds between naming steps in which a multiplexed entry acts",
+            Sort::OwnerMultiplexedAndClash => "owner files refused by 23, two senders in a slot",
+            Sort::OwnerMultiplexedBeforeShort => "owner files refused by 23, no buffer",
+            Sort::OwnerMultiplexedInLastRound => "owner files refused by 23 for round 7 alone",
+            Sort::OwnerMultiplexedAfterEnd => "owner files written, with a multiplexed send after an end",
+            Sort::OwnerMultiplexedInOtherFile => "owner files written, with a multiplexed send in file 1 or 5",
+            Sort::OwnerMultiplexedUnnamed => "owner files written, with a multiplexed send of an unnamed slave",
+            Sort::OwnerPassesReceive => "owner files written, a multiplexed receive in a sender's slot",
+            Sort::PlannedAndHidden => "rounds as planned, a sender hidden by its multiplexed receive",
+            Sort::PlannedAndNotHidden => "rounds as planned, a sender not hidden by its multiplexed receive",
             Sort::TraceBetweenSteps => "traces run between naming steps, with a round and a refused frame",
         }
     }

@@ -53,7 +53,7 @@ const OUTCOMES: [(&str, &[&str], &[u8]); 10] = [
         &[1, 2, 3, 4, 5, 6, 7, 8, 9, 15, 16, 17],
     ),
     ("trace", &["no-frames", "none-refused", "some-refused", "all-refused"], &[1, 2, 3, 4, 5, 6, 7, 8, 19]),
-    ("owner", &[PLAIN], &[1, 2, 3, 4, 5, 6, 7, 8, 20, 21]),
+    ("owner", &[PLAIN], &[1, 2, 3, 4, 5, 6, 7, 8, 23, 20, 21]),
     (RUN, &[ALL_NAMED, USED_UP], &[]),
 ];
 /// A call that does one thing only.

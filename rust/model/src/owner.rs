@@ -1,7 +1,7 @@
 //! "Writing the owner file" (document 02, request 4): file 0x0B, which says who sends in which slot of each round, as
 //! it follows from the slaves' round files.
 
-use crate::multipartner::would_send;
+use crate::multipartner::{has_multiplexed_send, would_send};
 use crate::{check, LogicalName, Refusal, Slave};
 
 /// "For each of rounds 0, 2, 3, 4, 6 and 7"; there are eight index bytes.
@@ -14,10 +14,13 @@ const SLOTS: usize = 64;
 /// "0x00 where none does", "padded with 0x00", "0x00 for rounds 1 and 5", "Record 0x00 is written as zeros."
 const NOBODY: u8 = 0x00;
 
-/// Grounds 1 to 8 on the file, then 20 and 21. What is written in the front of the buffer is file 0x0B, whole; its
+/// Grounds 1 to 8 on the file, then 23, 20 and 21. What is written in the front of the buffer is file 0x0B, whole; its
 /// length.
 pub fn owner(file: &[u8], master: LogicalName, buffer: &mut [u8]) -> Result<usize, Refusal> {
     let slaves = check(file)?.slaves;
+    if OWNED.iter().any(|&round| slaves.iter().any(|slave| has_multiplexed_send(slave, round))) {
+        return Err(Refusal(23));
+    }
     if OWNED.iter().any(|&round| two_send_in_one_slot(&slaves, round)) {
         return Err(Refusal(20));
     }

@@ -71,7 +71,7 @@ impl Cluster {
             }
             Frame::Multipartner(round) => {
                 self.epoch = self.epoch.wrapping_add(1);
-                multipartner::run(&mut self.slaves, round, &mut bus);
+                multipartner::run(&mut self.slaves, round, self.epoch, &mut bus);
             }
         }
         Ok(Answer::of(frame[0], &bus))

@@ -82,6 +82,11 @@ fn vectors_of_request_6_hold() {
 }
 
 #[test]
+fn vectors_of_request_7_hold() {
+    assert_eq!(kinds_that_hold(include_str!("data/request-07.txt")), with(&["owner", "step", "trace"]));
+}
+
+#[test]
 fn cases_of_our_own_hold() {
     assert!(!kinds_that_hold(include_str!("data/cases.txt")).is_empty());
 }

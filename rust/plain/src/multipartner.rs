@@ -2,12 +2,14 @@
 //! entry already covers, and for each slot stands who sends, who receives and from or to which place.
 
 use crate::survey::Survey;
-use crate::{ANSWER_BYTES, UNNAMED};
+use crate::{ANSWER_BYTES, EPOCH, UNNAMED};
 
 const SLAVES: usize = 32;
-/// Operations 1 and 5, and 0, 2 and 4, as sets of bits.
-const SENDS: u32 = 0b0010_0010;
-const RECEIVES: u32 = 0b0001_0101;
+/// Operations 1 and 5 and the odd ones from 8 on, and 0, 2 and 4 and the even ones from 8 on, as sets of bits.
+const SENDS: u32 = 0b1010_1010_0010_0010;
+const RECEIVES: u32 = 0b0101_0101_0001_0101;
+/// Set in the operations from 8 on.
+const MULTIPLEXED: u32 = 0x8000;
 /// Outside record 0x00.
 const LEAST_STORED: usize = 4;
 
@@ -20,12 +22,13 @@ struct Plan {
 
 /// Runs the round, puts what was sent into the answer and returns the mask.
 pub fn run(file: &mut [u8], survey: &Survey, round: u8, answer: &mut [u8; ANSWER_BYTES]) -> u64 {
+    let turns = turns_of(file[EPOCH]);
     let mut plan =
         Plan { senders: [0; ANSWER_BYTES], receivers: [0; ANSWER_BYTES], places: [[0; ANSWER_BYTES]; SLAVES] };
     for slave in survey.slaves() {
         if survey.logical_name(file, slave) != UNNAMED {
             if let Some((place, size)) = survey.find(file, slave, round) {
-                plan.read_list(file, survey, slave, &file[place + 4..place + size]);
+                plan.read_list(file, survey, slave, &file[place + 4..place + size], turns);
             }
         }
     }
@@ -35,7 +38,7 @@ pub fn run(file: &mut [u8], survey: &Survey, round: u8, answer: &mut [u8; ANSWER
 impl Plan {
     /// On its own, since its loop needs the registers.
     #[inline(never)]
-    fn read_list(&mut self, file: &[u8], survey: &Survey, slave: usize, list: &[u8]) {
+    fn read_list(&mut self, file: &[u8], survey: &Survey, slave: usize, list: &[u8], turns: u32) {
         let places = &mut self.places[slave];
         let slave_bit = 1 << slave;
         // Slot 0 never runs.
@@ -52,7 +55,7 @@ impl Plan {
             let start = entry & 63;
             let slots = ((2u64 << length_less_one) - 1) << start;
             let fresh = slots & !covered;
-            if fresh == 0 {
+            if fresh == 0 || is_out_of_turn(entry, turns) {
                 continue;
             }
             covered |= fresh;
@@ -112,6 +115,23 @@ impl Span {
             }
         });
     }
+}
+
+/// A multiplexed entry, one of operations 8 to 15, that is not among these turns.
+#[inline]
+pub fn is_out_of_turn(entry: u32, turns: u32) -> bool {
+    let operation_less_8 = entry >> 12 & 7;
+    let field = entry >> 6 & 3;
+    entry & MULTIPLEXED != 0 && turns >> (4 * operation_less_8 + field) & 1 == 0
+}
+
+/// The turns of an epoch, four bits for each of operations 8 to 15, one for each field: of 8, 9, 12 and 13 the field
+/// that is the epoch modulo 4; of 10 and 11 the same in the first half of eight epochs, of 14 and 15 in the second.
+pub fn turns_of(epoch: u8) -> u32 {
+    let field = 1 << (epoch & 3);
+    let (first, second) = if epoch & 4 == 0 { (field, 0) } else { (0, field) };
+    let twice = |fields: u32| fields | fields << 4;
+    twice(field) | twice(first) << 8 | twice(field) << 16 | twice(second) << 24
 }
 
 /// Four bytes for each record, and the align.

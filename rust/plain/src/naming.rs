@@ -170,8 +170,8 @@ fn give(file: &mut [u8], survey: &Survey, run: &mut Run, length: usize) -> u64 {
     }
 }
 
-/// Of three places from `first` on, which write the halves of a value and execute, the next from `place` on whose round is
-/// made: a half that is the one last written is not written again.
+/// Of three places from `first` on, which write the halves of a value and execute, the next from `place` on whose
+/// round is made: a half that is the one last written is not written again.
 #[inline]
 fn next_made(place: u64, first: u64, sent: u64, high: u64, low: u64) -> u64 {
     if place == first && sent >> 32 != high {

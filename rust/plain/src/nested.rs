@@ -1,8 +1,9 @@
 //! Multipartner rounds in the form that document 01 names: nested loops over slots and entries, with a
 //! labelled exit at the covering entry or the end entry. It is here to tell what that form costs by itself.
 
+use crate::multipartner::{is_out_of_turn, turns_of};
 use crate::survey::Survey;
-use crate::{ANSWER_BYTES, UNNAMED};
+use crate::{ANSWER_BYTES, EPOCH, UNNAMED};
 
 const SLAVES: usize = 32;
 
@@ -25,9 +26,10 @@ pub fn run(file: &mut [u8], survey: &Survey, round: u8, answer: &mut [u8; ANSWER
             }
         }
     }
+    let turns = turns_of(file[EPOCH]);
     let mut mask = 0;
     for slot in 1..ANSWER_BYTES as u8 {
-        if let Some(byte) = run_slot(file, survey, &partners[..count], slot) {
+        if let Some(byte) = run_slot(file, survey, &partners[..count], slot, turns) {
             answer[usize::from(slot)] = byte;
             mask |= 1 << slot;
         }
@@ -36,19 +38,20 @@ pub fn run(file: &mut [u8], survey: &Survey, round: u8, answer: &mut [u8; ANSWER
 }
 
 /// Senders read first; then those that receive store, if someone sent.
-fn run_slot(file: &mut [u8], survey: &Survey, partners: &[Partner], slot: u8) -> Option<u8> {
+fn run_slot(file: &mut [u8], survey: &Survey, partners: &[Partner], slot: u8, turns: u32) -> Option<u8> {
     let mut byte = 0xFF;
     let mut someone_sent = false;
     let mut stores = [0u16; SLAVES];
     let mut store_count = 0;
     for partner in partners {
-        let Some(entry) = acting(&file[usize::from(partner.list.0)..usize::from(partner.list.1)], slot) else {
+        let list = &file[usize::from(partner.list.0)..usize::from(partner.list.1)];
+        let Some(entry) = acting(list, slot, turns) else {
             continue;
         };
         let number = entry >> 26;
         let least = match entry >> 12 & 15 {
-            1 | 5 => 0,
-            0 | 2 | 4 if (0x10..=0x3C).contains(&number) => 4,
+            1 | 5 | 9 | 11 | 13 | 15 => 0,
+            0 | 2 | 4 | 8 | 10 | 12 | 14 if (0x10..=0x3C).contains(&number) => 4,
             _ => continue,
         };
         let Some((place, size)) = survey.find(file, partner.slave, number as u8) else {
@@ -75,8 +78,8 @@ fn run_slot(file: &mut [u8], survey: &Survey, partners: &[Partner], slot: u8) ->
     Some(byte)
 }
 
-/// The first entry before the end that covers the slot.
-fn acting(list: &[u8], slot: u8) -> Option<u32> {
+/// The first entry before the end that covers the slot and is not out of turn.
+fn acting(list: &[u8], slot: u8, turns: u32) -> Option<u32> {
     let mut found = None;
     'entries: for entry in list.as_chunks().0 {
         let [_, _, operation_and_length, start] = *entry;
@@ -85,7 +88,7 @@ fn acting(list: &[u8], slot: u8) -> Option<u32> {
             break 'entries;
         }
         let covers = slot.wrapping_sub(start & 63) <= operation_and_length & 15;
-        if covers {
+        if covers && !is_out_of_turn(u32::from_be_bytes(*entry), turns) {
             found = Some(u32::from_be_bytes(*entry));
             break 'entries;
         }

@@ -10,10 +10,13 @@ const ROUNDS: usize = 8;
 const OWNED: [usize; 6] = [0, 2, 3, 4, 6, 7];
 /// Rounds 1 and 5, as a set of bits.
 const NOT_OWNED: u32 = 0b0010_0010;
-/// Operations 6 and 7 end, 1 and 5 send: these bits of an entry are set so.
-const END_BITS: u32 = 0xE000;
+/// Operations from 8 on are multiplexed, and of these the odd ones send. Of the others 6 and 7 end, 1 and 5 send:
+/// these bits of an entry are set so.
+const MULTIPLEXED: u32 = 0x8000;
+const ODD: u32 = 0x1000;
+const END_BITS: u32 = 0x6000;
 const END: u32 = 0x6000;
-const SEND_BITS: u32 = 0xB000;
+const SEND_BITS: u32 = 0x3000;
 const SEND: u32 = 0x1000;
 const RECORD_BYTES: usize = 4;
 /// Record 0x00, then the index bytes.
@@ -21,10 +24,11 @@ const INDEX: usize = RECORD_BYTES;
 const ROWS: usize = INDEX + ROUNDS;
 const MOST_BYTES: usize = ROWS + OWNED.len() * SLOTS;
 
-/// The slots of a round that have a sender, and who it is.
+/// The slots of a round that have a sender, those that have two, and who it is.
 #[derive(Clone, Copy)]
 struct Row {
     sent: u64,
+    twice: u64,
     owners: [u8; SLOTS],
 }
 
@@ -34,12 +38,15 @@ pub fn owner(file: &[u8], master: u8, buffer: &mut [u8], length: &mut u64) -> u8
     if ground != 0 {
         return ground;
     }
-    let mut rows = [Row { sent: 0, owners: [0; SLOTS] }; ROUNDS];
+    let mut rows = [Row { sent: 0, twice: 0, owners: [0; SLOTS] }; ROUNDS];
     for slave in survey.slaves() {
         let name = survey.logical_name(file, slave);
         if name != UNNAMED && !plan_slave(&mut rows, file, &survey, slave, name) {
-            return 20;
+            return 23;
         }
+    }
+    if rows.iter().any(|row| row.twice != 0) {
+        return 20;
     }
     let (content, written) = laid_out(&rows, master);
     let Some(front) = buffer.get_mut(..written) else {
@@ -50,7 +57,7 @@ pub fn owner(file: &[u8], master: u8, buffer: &mut [u8], length: &mut u64) -> u8
     0
 }
 
-/// False where another slave sends in a slot of this one. Numbers rise, so the round files are the first.
+/// False where the slave has a multiplexed send. Numbers rise, so the round files are the first.
 fn plan_slave(rows: &mut [Row; ROUNDS], file: &[u8], survey: &Survey, slave: usize, name: u8) -> bool {
     for (number, list) in survey.files(file, slave) {
         let Some(row) = rows.get_mut(usize::from(number)) else {
@@ -73,6 +80,12 @@ impl Row {
         let (mut known, mut size) = (u32::MAX, 0);
         for entry in list.as_chunks().0 {
             let entry = u32::from_be_bytes(*entry);
+            if entry & MULTIPLEXED != 0 {
+                if entry & ODD != 0 {
+                    return false;
+                }
+                continue;
+            }
             if entry & END_BITS == END {
                 break;
             }
@@ -95,14 +108,9 @@ impl Row {
                     // Places rise with the slots, so those inside the file are the entry's first.
                     sent &= ((1u64 << size.saturating_sub(offset)) - 1) << start;
                 }
-                if self.sent & sent != 0 {
-                    return false;
-                }
+                self.twice |= self.sent & sent;
                 self.sent |= sent;
                 enter(&mut self.owners, sent, name);
-            }
-            if covered == u64::MAX {
-                break;
             }
         }
         true

@@ -3,6 +3,7 @@
 use compare::campaign::agrees_with_model;
 use compare::edges::hold_edges;
 use compare::engine::Plain;
+use compare::multiplex_edges::hold_multiplex_edges;
 use compare::name_edges::hold_name_edges;
 use compare::naming_edges::hold_naming_edges;
 use compare::owner_edges::hold_owner_edges;
@@ -33,6 +34,12 @@ fn the_edges_of_logical_names_hold() {
 fn the_edges_of_naming_steps_hold() {
     hold_naming_edges(&Plain { nested: false });
     hold_naming_edges(&Plain { nested: true });
+}
+
+#[test]
+fn the_edges_of_multiplexed_entries_hold() {
+    hold_multiplex_edges(&Plain { nested: false });
+    hold_multiplex_edges(&Plain { nested: true });
 }
 
 #[test]

@@ -2,7 +2,7 @@
 //!
 //! Loads a cluster file, checks it, reads a record of a named slave, has a foreign master try to name slaves by a
 //! write, names the unnamed slaves while other rounds go on in between, runs a captured trace, plans who sends in
-//! which slot, and prints what happened. c/demo.c does the same and prints the same.
+//! which slot, has a slot multiplexed, and prints what happened. c/demo.c does the same and prints the same.
 
 use std::process::ExitCode;
 use ttpa::{
@@ -168,6 +168,18 @@ impl Cluster {
             print_plan(owners);
         }
     }
+
+    /// Slot 4 becomes a multiplexed one, in which 02 sends where the epoch is a multiple of 4: no owner file has it. The
+    /// write leaves epoch 2, so of the next four rounds the second has the byte.
+    fn show_multiplexed(&mut self) {
+        let written = self.write_record(0x02, 0x02, 1, [0x10 << 2, 0x01, 0x90, 4]);
+        print_verdict("slot 4 for 02 in every fourth round", written);
+        print_verdict("an owner file", ttpa::owner(&self.file, MASTER, &mut [0; MOST_OWNER_BYTES]));
+        for _ in 0..4 {
+            print_verdict("round 2", self.send(&ROUND_2));
+            self.print_answer();
+        }
+    }
 }
 
 /// For each round who sends in which slot, the master in slot 0.
@@ -214,6 +226,7 @@ fn main() -> ExitCode {
     cluster.show_owners();
     print_verdict("round 2 as planned", cluster.send(&ROUND_2));
     cluster.print_answer();
+    cluster.show_multiplexed();
     let mut short = [0; ANSWER_BYTES - 1];
     print_verdict("a short answer buffer", ttpa::round(&mut cluster.file, &ROUND_2, &mut short));
     print_verdict("the file as it is now", ttpa::check(&cluster.file));

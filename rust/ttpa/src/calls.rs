@@ -129,7 +129,7 @@ pub fn trace(file: &mut [u8], trace: &[u8], report: &mut [u64; REPORT_WORDS]) ->
     unsafe { c::ttpa_trace(file.as_mut_ptr(), file.len(), trace.as_ptr(), trace.len(), report.as_mut_ptr()) }
 }
 
-/// Writes the owner file of a cluster file: 0, or 1 to 8, 20 or 21.
+/// Writes the owner file of a cluster file: 0, or 1 to 8, 23, 20 or 21.
 pub fn owner(file: &[u8], master: u8, buffer: &mut [u8], length: &mut u64) -> u8 {
     unsafe { c::ttpa_owner(file.as_ptr(), file.len(), master, buffer.as_mut_ptr(), buffer.len(), length) }
 }

@@ -48,12 +48,14 @@ pub enum TtpaError {
     OwnerBuffer,
     /// 22: two slaves of a file that is loaded have one logical name other than 0xFF.
     EqualLogicalNames,
+    /// 23: a slave has a multiplexed send before the end of its list for one of the six rounds, able to send or not.
+    MultiplexedSend,
     /// A number that this edition of the crate does not know.
     Other(u8),
 }
 
 /// The variants in the order of their numbers, from 1.
-const NUMBERED: [TtpaError; 22] = [
+const NUMBERED: [TtpaError; 23] = [
     TtpaError::FileSize,
     TtpaError::Mark,
     TtpaError::Edition,
@@ -76,6 +78,7 @@ const NUMBERED: [TtpaError; 22] = [
     TtpaError::TwoSenders,
     TtpaError::OwnerBuffer,
     TtpaError::EqualLogicalNames,
+    TtpaError::MultiplexedSend,
 ];
 
 impl TtpaError {
@@ -83,7 +86,7 @@ impl TtpaError {
     pub(crate) fn of(number: u8) -> Result<(), TtpaError> {
         match number {
             0 => Ok(()),
-            1..=22 => Err(NUMBERED[usize::from(number) - 1]),
+            1..=23 => Err(NUMBERED[usize::from(number) - 1]),
             _ => Err(TtpaError::Other(number)),
         }
     }
@@ -143,6 +146,9 @@ impl TtpaError {
             TtpaError::EqualLogicalNames => {
                 "two slaves have the same logical name; 0xFF (unnamed) alone may occur more than once"
             }
+            TtpaError::MultiplexedSend => {
+                "a slave has a multiplexed send in a round, and its slot need not have one owner in all epochs"
+            }
             TtpaError::Other(_) => "refused on a ground that this version has no text for",
         }
     }
@@ -185,6 +191,7 @@ mod tests {
         assert_eq!(TtpaError::TwoSenders.number(), 20);
         assert_eq!(TtpaError::OwnerBuffer.number(), 21);
         assert_eq!(TtpaError::EqualLogicalNames.number(), 22);
-        assert_eq!(TtpaError::Other(23).number(), 23);
+        assert_eq!(TtpaError::MultiplexedSend.number(), 23);
+        assert_eq!(TtpaError::Other(24).number(), 24);
     }
 }

@@ -34,10 +34,12 @@ impl<'a> Owners<'a> {
 }
 
 /// Writes the owner file of a cluster file into the front of the buffer, with the master's name for slot 0; refused by 1
-/// to 8, by 20 where two slaves send in one slot of a round, and by 21 where the buffer is shorter than this cluster's
-/// owner file. [`MOST_OWNER_BYTES`] are enough for every cluster. The cluster file is not altered.
+/// to 8, by 23 where a slave sends multiplexed in a round, by 20 where two slaves send in one slot of a round, and by 21
+/// where the buffer is shorter than this cluster's owner file. [`MOST_OWNER_BYTES`] are enough for every cluster. The
+/// cluster file is not altered.
 ///
 /// A slave sends in a slot if it would put a byte there in the round as [`round`](crate::round) carries it out.
+/// Multiplexed receives are passed over: in some epochs a slave may receive in a slot that it has here.
 ///
 /// ```no_run
 /// let file = std::fs::read("plant.cluster").unwrap();

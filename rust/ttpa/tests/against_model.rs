@@ -5,6 +5,7 @@ use compare::campaign::agrees_with_model;
 use compare::case::hold_all;
 use compare::edges::hold_edges;
 use compare::engine::{Engine, ReportWords, RunWords};
+use compare::multiplex_edges::hold_multiplex_edges;
 use compare::name_edges::hold_name_edges;
 use compare::naming_edges::hold_naming_edges;
 use compare::owner_edges::hold_owner_edges;
@@ -91,6 +92,7 @@ fn the_safe_functions_give_the_kept_results() {
         include_str!("../../model/tests/data/request-04.txt"),
         include_str!("../../model/tests/data/request-05.txt"),
         include_str!("../../model/tests/data/request-06.txt"),
+        include_str!("../../model/tests/data/request-07.txt"),
     ] {
         let held = hold_all(&Wrapper, text);
         assert!(held.passed > 0);
@@ -116,4 +118,9 @@ fn the_edges_of_logical_names_hold() {
 #[test]
 fn the_edges_of_naming_steps_hold() {
     hold_naming_edges(&Wrapper);
+}
+
+#[test]
+fn the_edges_of_multiplexed_entries_hold() {
+    hold_multiplex_edges(&Wrapper);
 }

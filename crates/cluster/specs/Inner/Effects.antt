@@ -7,7 +7,7 @@ use Rattle.file.specs.Rules.Results.{done}
 use Rattle.cluster.specs.Rules.Bus.{slots, senderMask, answerBytes, answerIn, nobody}
 use Rattle.cluster.specs.Rules.Slaves.{withAddress, epochRaised, pendingDuty, sentTo, slavesAfter}
 use Rattle.cluster.specs.Rules.Multipartner.{clusterBelow, sentDuring}
-use Rattle.cluster.specs.Rules.Round.{Effect, Answer}
+use Rattle.cluster.specs.Rules.Round.{Effect, passedOver, Answer}
 
 abbrev pub addressEffect : Cluster → List ℕ → Effect
 addressEffect c frame =
@@ -19,7 +19,7 @@ dataEffect c bytes =
 
 abbrev pub multipartnerEffect : Cluster → ℕ → Effect
 multipartnerEffect c round =
-    record { senders = sentDuring round (epochRaised c); after = clusterBelow round (epochRaised c) slots }
+    record { senders = sentDuring (passedOver c) round (epochRaised c); after = clusterBelow (passedOver c) round (epochRaised c) slots }
 
 abbrev pub carriedBy : Effect → Answer
 carriedBy e = done (senderMask (e .senders))

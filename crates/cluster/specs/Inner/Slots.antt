@@ -19,9 +19,9 @@ use Rattle.cluster.specs.declared.multipartner.BytePlace.the-variants.{A
 use Rattle.cluster.specs.declared.multipartner.SlotAct.{SlotAct}
 use Rattle.cluster.specs.declared.multipartner.SlotAct.the-variants.{Sends, Stores, Rests}
 
--- a multipartner round whose epoch is raised already
-unfoldable pub slotsEffect : Cluster → ℕ → Effect
-slotsEffect c round = record { senders = sentDuring round c; after = clusterBelow round c slots }
+-- a multipartner round whose epoch is raised already, by the entries that are passed over
+unfoldable pub slotsEffect : (Entry → Bool) → Cluster → ℕ → Effect
+slotsEffect passed c round = record { senders = sentDuring passed round c; after = clusterBelow passed round c slots }
 
 -- ---- each slave's round file: "Round r runs file r of each slave not unnamed; others take no part."
 

@@ -1,7 +1,8 @@
--- A round file's entries (document 01, "Multipartner rounds"). A round file is the round descriptor list of 002.
+-- A round file's entries (document 01, "Multipartner rounds"; document 02, job 7, of the multiplexed ones). A round file is the round
+-- descriptor list of 002.
 use Prim.Native.Nat.{ℕ, zero, suc, _+_, _*_, _-_, _/_, _%_}
 use mathlib.Core.List.{List}
-use mathlib.Core.Bool.{Bool, cond}
+use mathlib.Core.Bool.{Bool, true, cond, not}
 use lib.ListN.{getD}
 use lib.Dec.{eqb, leb, ltb}
 use Rattle.file.specs.Rules.Order.{both, either}
@@ -31,12 +32,17 @@ entryThere bytes at = entryOf (getD bytes at 0) (getD bytes (at + 1) 0) (getD by
 unfoldable pub entryAt : List ℕ → ℕ → Entry
 entryAt rodl k = entryThere rodl (recordSize * k)
 
--- "Operations are those of 002, table 4: 0, 2, 4 receive; 1, 5 send; 6, 7 end; 3 and 8 to 15 cover their slots and do nothing."
+-- "Operations are those of 002, table 4: 0, 2, 4 receive; 1, 5 send; 6, 7 end; 3 .. cover their slots and do nothing."
+-- document 02, job 7: "Operations 8 to 15 of source document 002 are now carried out."; "Even operations receive, odd ones send."
+unfoldable pub isMultiplexed : ℕ → Bool
+isMultiplexed operation = leb 8 operation
+
 unfoldable pub receives : ℕ → Bool
-receives operation = either (eqb operation 0) (either (eqb operation 2) (eqb operation 4))
+receives operation =
+    either (eqb operation 0) (either (eqb operation 2) (either (eqb operation 4) (both (isMultiplexed operation) (eqb (operation % 2) 0))))
 
 unfoldable pub sends : ℕ → Bool
-sends operation = either (eqb operation 1) (eqb operation 5)
+sends operation = either (eqb operation 1) (either (eqb operation 5) (both (isMultiplexed operation) (eqb (operation % 2) 1)))
 
 unfoldable pub ends : ℕ → Bool
 ends operation = either (eqb operation 6) (eqb operation 7)
@@ -45,20 +51,36 @@ ends operation = either (eqb operation 6) (eqb operation 7)
 unfoldable pub covers : Entry → ℕ → Bool
 covers e slot = both (leb (e .start) slot) (ltb slot (e .start + e .length))
 
--- "Slots 1 to 63 run in order; in each, the first entry before the end that covers it acts.": of n records from k on
+-- "Operations 8, 9, 12 and 13 act when the multiplex field equals the epoch modulo 4", "Operations 10 and 11 act when it equals the
+-- epoch modulo 8; 14 and 15 when it plus 4 does." The others are never out of turn.
+unfoldable pub inTurn : ℕ → ℕ → ℕ → Bool
+inTurn epoch operation multiplex =
+    cond (either (eqb operation 8) (either (eqb operation 9) (either (eqb operation 12) (eqb operation 13)))) (eqb multiplex (epoch % 4))
+    (cond (either (eqb operation 10) (eqb operation 11)) (eqb multiplex (epoch % 8))
+    (cond (either (eqb operation 14) (eqb operation 15)) (eqb (multiplex + 4) (epoch % 8)) true))
+
+unfoldable pub outOfTurn : ℕ → Entry → Bool
+outOfTurn epoch e = not (inTurn epoch (e .operation) (e .multiplex))
+
 pub data Acting : Type 0 where
   noEntry : Acting
   acts : Entry → Acting
 
-unfoldable pub actingFrom : List ℕ → ℕ → ℕ → ℕ → Acting
-actingFrom rodl slot k zero = noEntry
-actingFrom rodl slot k (suc n) =
-    let rest = actingFrom rodl slot (suc k) n in
-    cond (ends (entryAt rodl k .operation)) noEntry (cond (covers (entryAt rodl k) slot) (acts (entryAt rodl k)) rest)
+-- the search of a slot, by the entries that are passed over: in a round those out of turn
+-- "A multiplexed entry out of turn is passed over, and the next one covering the slot is tried"
+unfoldable pub eligible : (Entry → Bool) → Entry → ℕ → Bool
+eligible passed e slot = both (covers e slot) (not (passed e))
+
+-- "Slots 1 to 63 run in order; in each, the first entry before the end that covers it acts.": of n records from k on
+unfoldable pub actingFrom : (Entry → Bool) → List ℕ → ℕ → ℕ → ℕ → Acting
+actingFrom passed rodl slot k zero = noEntry
+actingFrom passed rodl slot k (suc n) =
+    let rest = actingFrom passed rodl slot (suc k) n in
+    cond (ends (entryAt rodl k .operation)) noEntry (cond (eligible passed (entryAt rodl k) slot) (acts (entryAt rodl k)) rest)
 
 -- "From record 1, each record is an entry"
-unfoldable pub acting : List ℕ → ℕ → Acting
-acting rodl slot = actingFrom rodl slot 1 (lastRecord rodl)
+unfoldable pub acting : (Entry → Bool) → List ℕ → ℕ → Acting
+acting passed rodl slot = actingFrom passed rodl slot 1 (lastRecord rodl)
 
 -- "The byte place is 4 × record + align + (slot − start)."
 unfoldable pub bytePlace : Entry → ℕ → ℕ

@@ -36,17 +36,18 @@ storePlace s slot noEntry = nowhere
 storePlace s slot (acts e) =
     cond (both (receives (e .operation)) (both (mayStore e slot) (within s e slot))) (byteOf (e .file) (bytePlace e slot)) nowhere
 
--- "Round r runs file r of each slave not unnamed; others take no part.": where a slave's round file has it send from in a slot
-unfoldable pub plansFrom : ℕ → ℕ → Slave → SlaveByte
-plansFrom round slot s = cond (isUnnamed s) nowhere (sendPlace s slot (acting (bytesIn s round) slot))
+-- "Round r runs file r of each slave not unnamed; others take no part.": where a slave's round file has it send from in a slot, by the
+-- entries that are passed over
+unfoldable pub plansFrom : (Entry → Bool) → ℕ → ℕ → Slave → SlaveByte
+plansFrom passed round slot s = cond (isUnnamed s) nowhere (sendPlace s slot (acting passed (bytesIn s round) slot))
 
--- which is where it sends from
-unfoldable pub sendsFrom : ℕ → ℕ → Slave → SlaveByte
-sendsFrom round slot s = plansFrom round slot s
+-- which is where it sends from, in a round that passes over these
+unfoldable pub sendsFrom : (Entry → Bool) → ℕ → ℕ → Slave → SlaveByte
+sendsFrom passed round slot s = plansFrom passed round slot s
 
 -- and where it stores
-unfoldable pub storesAt : ℕ → ℕ → Slave → SlaveByte
-storesAt round slot s = cond (isUnnamed s) nowhere (storePlace s slot (acting (bytesIn s round) slot))
+unfoldable pub storesAt : (Entry → Bool) → ℕ → ℕ → Slave → SlaveByte
+storesAt passed round slot s = cond (isUnnamed s) nowhere (storePlace s slot (acting passed (bytesIn s round) slot))
 
 -- the byte that stands there
 unfoldable pub byteThere : Slave → SlaveByte → List ℕ
@@ -59,27 +60,27 @@ storedThere s nowhere b = s
 storedThere s (byteOf n k) b = putInSlave s n k b
 
 -- "Senders read first": the bytes that the slaves send in a slot
-unfoldable pub sentBy : ℕ → ℕ → List Slave → List ℕ
-sentBy round slot [] = []
-sentBy round slot (s ∷ ss) = byteThere s (sendsFrom round slot s) ++ sentBy round slot ss
+unfoldable pub sentBy : (Entry → Bool) → ℕ → ℕ → List Slave → List ℕ
+sentBy passed round slot [] = []
+sentBy passed round slot (s ∷ ss) = byteThere s (sendsFrom passed round slot s) ++ sentBy passed round slot ss
 
 -- "Slots 1 to 63 run in order": nobody sends in slot 0, "bit 0 is never set"
-unfoldable pub sentIn : ℕ → ℕ → Cluster → List ℕ
-sentIn round zero c = []
-sentIn round (suc slot) c = sentBy round (suc slot) (c .slaves)
+unfoldable pub sentIn : (Entry → Bool) → ℕ → ℕ → Cluster → List ℕ
+sentIn passed round zero c = []
+sentIn passed round (suc slot) c = sentBy passed round (suc slot) (c .slaves)
 
 -- "then receivers store, if someone sent": the cluster with the slot's byte stored, of the bytes sent in it
-unfoldable pub receivedIn : ℕ → ℕ → Cluster → List ℕ → Cluster
-receivedIn round slot c [] = c
-receivedIn round slot c (b ∷ bs) =
-    withSlaves c (map (λ (s : Slave). storedThere s (storesAt round slot s) (busByte (b ∷ bs))) (c .slaves))
+unfoldable pub receivedIn : (Entry → Bool) → ℕ → ℕ → Cluster → List ℕ → Cluster
+receivedIn passed round slot c [] = c
+receivedIn passed round slot c (b ∷ bs) =
+    withSlaves c (map (λ (s : Slave). storedThere s (storesAt passed round slot s) (busByte (b ∷ bs))) (c .slaves))
 
 -- the cluster after the slots below n
 -- "Senders read first, then receivers store, if someone sent."
-unfoldable pub clusterBelow : ℕ → Cluster → ℕ → Cluster
-clusterBelow round c zero = c
-clusterBelow round c (suc n) = let before = clusterBelow round c n in receivedIn round n before (sentIn round n before)
+unfoldable pub clusterBelow : (Entry → Bool) → ℕ → Cluster → ℕ → Cluster
+clusterBelow passed round c zero = c
+clusterBelow passed round c (suc n) = let before = clusterBelow passed round c n in receivedIn passed round n before (sentIn passed round n before)
 
 -- who sends in each slot
-unfoldable pub sentDuring : ℕ → Cluster → Senders
-sentDuring round c slot = sentIn round slot (clusterBelow round c slot)
+unfoldable pub sentDuring : (Entry → Bool) → ℕ → Cluster → Senders
+sentDuring passed round c slot = sentIn passed round slot (clusterBelow passed round c slot)

@@ -2,7 +2,7 @@
 -- for every input.").
 use Prim.Native.Nat.{ℕ}
 use mathlib.Core.List.{List, _∷_, _++_}
-use mathlib.Core.Bool.{cond}
+use mathlib.Core.Bool.{Bool, cond}
 use lib.ListN.{getD}
 use lib.Dec.{eqb}
 use Rattle.file.specs.Rules.Order.{firstOf}
@@ -15,6 +15,7 @@ use Rattle.frame.specs.Rules.Fireworks.{Round, multipartner, msd, msa, noRound}
 use Rattle.frame.specs.Rules.Frames.{between}
 use Rattle.cluster.specs.Rules.Bus.{Senders, slots, senderMask, answerBytes, answerIn, nobody}
 use Rattle.cluster.specs.Rules.Slaves.{withAddress, epochRaised, pendingDuty, sentTo, slavesAfter}
+use Rattle.cluster.specs.Rules.Entries.{Entry, outOfTurn}
 use Rattle.cluster.specs.Rules.Multipartner.{clusterBelow, sentDuring}
 use Rattle.cluster.specs.Rules.Grounds.{shortAnswer, roundBy, groundsOn}
 
@@ -23,6 +24,10 @@ pub record Effect : Type 0 where
   pub senders : Senders
   pub after : Cluster
 
+-- the entries that a multipartner round passes over: those out of turn, "the epoch already raised for this round" (document 02, job 7)
+unfoldable pub passedOver : Cluster → Entry → Bool
+passedOver c = outOfTurn (epochRaised c .epoch)
+
 -- MSA: "An accepted MSA sets the epoch to PB0 and becomes pending until the next one; nobody sends."
 -- MSD: "MSD carries out the pending operation, or nothing." Multipartner: "Slots 1 to 63 run in order"
 unfoldable pub effectOf : Cluster → Round → List ℕ → Effect
@@ -30,7 +35,8 @@ effectOf c msa frame =
     record { senders = nobody; after = withAddress c (getD frame 1 0) (getD frame 2 0) (getD frame 3 0) (getD frame 4 0) }
 effectOf c msd frame =
     let duty = pendingDuty c in record { senders = sentTo duty (c .slaves); after = slavesAfter duty (between frame) (epochRaised c) }
-effectOf c (multipartner r) frame = record { senders = sentDuring r (epochRaised c); after = clusterBelow r (epochRaised c) slots }
+effectOf c (multipartner r) frame =
+    record { senders = sentDuring (passedOver c) r (epochRaised c); after = clusterBelow (passedOver c) r (epochRaised c) slots }
 effectOf c noRound frame = record { senders = nobody; after = c }
 
 unfoldable pub frameOn : Cluster → List ℕ → Effect

@@ -7,21 +7,30 @@ use lib.ListN.{length, getD, take}
 use Rattle.file.specs.Rules.Layout.{recordSize}
 use Rattle.file.specs.Rules.Results.{done}
 use Rattle.file.specs.Rules.Decode.{decode}
+use Rattle.file.specs.Rules.Changes.{withEpoch}
 use Rattle.owner.specs.Rules.Plan.{rounds, isOwned}
 use Rattle.owner.specs.Rules.OwnerFile.{rowOf}
 use Rattle.owner.specs.Rules.Writing.{ownerOn}
-use Rattle.owner.specs.Claims.Rounds.{OwnerRuns}
+use Rattle.owner.specs.Claims.Rounds.{OwnerRuns, Plain, PlainOwnerRuns}
 
 -- the byte of a buffer that stands for a slot of a round, by the round's index byte
 abbrev pub slotByte : List ℕ → ℕ → ℕ → ℕ
 slotByte buffer round slot = getD buffer (recordSize * getD buffer (recordSize + round) 0 + slot) 0
 
--- in the buffer that the call leaves, the byte of every slot from 1 on of every row is who sends there in the round as it runs
+-- in the buffer that the call leaves, the byte of every slot from 1 on of every row says who sends there in the round as it runs, in every
+-- epoch; the owner file knows none
 abbrev pub BufferRuns : Type 0
 BufferRuns =
     (file : List ℕ) (master : ℕ) (buffer : List ℕ) (n : ℕ) → ownerOn file master buffer .0 ≡ done n → (round : ℕ) → round < rounds → isOwned round ≡ true
-    → (slot : ℕ) → 0 < slot → slot < length (rowOf master (decode file .slaves) round)
-    → OwnerRuns (decode file) round slot (slotByte (ownerOn file master buffer .1) round slot)
+    → (epoch slot : ℕ) → 0 < slot → slot < length (rowOf master (decode file .slaves) round)
+    → OwnerRuns (withEpoch (decode file) epoch) round slot (slotByte (ownerOn file master buffer .1) round slot)
+
+-- and without multiplexed entries it is who sends there
+abbrev pub PlainBufferRuns : Type 0
+PlainBufferRuns =
+    (file : List ℕ) (master : ℕ) (buffer : List ℕ) (n : ℕ) → ownerOn file master buffer .0 ≡ done n → (round : ℕ) → round < rounds → isOwned round ≡ true
+    → Plain (decode file) round → (epoch slot : ℕ) → 0 < slot → slot < length (rowOf master (decode file .slaves) round)
+    → PlainOwnerRuns (withEpoch (decode file) epoch) round slot (slotByte (ownerOn file master buffer .1) round slot)
 
 -- on a file of unknown edition its answer depends on the file's length and first three bytes alone
 abbrev pub UnknownEdition : Type 0

@@ -9,10 +9,10 @@ use Rattle.file.specs.Rules.Order.{both}
 use Rattle.file.specs.Rules.Layout.{recordSize}
 use Rattle.file.specs.Rules.Cluster.{Slave, bytesIn}
 use Rattle.cluster.specs.Rules.Bus.{slots}
-use Rattle.cluster.specs.Rules.Entries.{Entry, covers, sends, bytePlace}
+use Rattle.cluster.specs.Rules.Entries.{Entry, covers, sends, eligible, bytePlace}
 use Rattle.cluster.specs.Rules.Multipartner.{within}
 use Rattle.cluster.specs.declared.entry.Entry as Code
-use Rattle.owner.specs.Rules.Plan.{rounds, sendsIn, sendersIn, twoSendIn, someBelow, isOwned}
+use Rattle.owner.specs.Rules.Plan.{rounds, sendsIn, sendersIn, twoSendIn, someBelow, isOwned, isMultiplexedReceive, someEntry, someEntryOf, isMultiplexedSend}
 use Rattle.owner.specs.Rules.OwnerFile.{noOwner, ownerOf, ownersOf, padded, rowsBelow, indexBelow}
 use Rattle.owner.specs.Inner.Masks.{isSet, Marks}
 
@@ -22,6 +22,11 @@ pub record ShortEntry (e : Code.Entry) : Type 0 where
   pub slot : e .slot < slots
   pub some : 1 ≤ e .length
   pub few : e .length ≤ 16
+
+-- the slots that an entry hides from later ones, and whether it is a multiplexed send
+pub record EntryPlanned (e : Entry) (hidden : ℕ) (multiplexed : Bool) : Type 0 where
+  pub slots : Marks hidden (eligible isMultiplexedReceive e)
+  pub multiplexes : multiplexed ≡ isMultiplexedSend e
 
 -- how many bytes of the entry's file there are from the entry's first byte on
 unfoldable pub bytesLeft : Slave → Entry → ℕ
@@ -40,6 +45,11 @@ unfoldable pub plannedIn : ℕ → Slave → ℕ → Bool
 plannedIn round s zero = false
 plannedIn round s (suc slot) = sendsIn round (suc slot) s
 
+-- the slots in which a slave sends, and whether it has a multiplexed send
+pub record SlavePlanned (round : ℕ) (s : Slave) (sends : ℕ) (multiplexed : Bool) : Type 0 where
+  pub slots : Marks sends (plannedIn round s)
+  pub multiplexes : multiplexed ≡ someEntry isMultiplexedSend round s
+
 -- a row with a name put at every slot of a mask
 pub record OwnerPut (old new : List ℕ) (mask name : ℕ) : Type 0 where
   pub room : length new ≡ length old
@@ -52,19 +62,21 @@ someone round ss slot = not (eqb (length (sendersIn round slot ss)) 0)
 unfoldable pub twoThere : ℕ → List Slave → ℕ → Bool
 twoThere round ss slot = leb 2 (length (sendersIn round slot ss))
 
--- a round's owners, slot by slot, with the masks of who sends
-pub record RoundPlanned (ss : List Slave) (master round : ℕ) (row : List ℕ) (senders clashes : ℕ) : Type 0 where
+-- a round's owners, slot by slot, with the masks of who sends, and whether one has a multiplexed send
+pub record RoundPlanned (ss : List Slave) (master round : ℕ) (row : List ℕ) (senders clashes : ℕ) (multiplexed : Bool) : Type 0 where
   pub room : length row ≡ slots
   pub owners : (slot : ℕ) → slot < slots → getD row slot 0 ≡ ownerOf master round ss slot
   pub sends : Marks senders (someone round ss)
   pub twice : Marks clashes (twoThere round ss)
+  pub multiplexes : multiplexed ≡ someEntryOf isMultiplexedSend round ss
 
 -- a round's row in front of zeros
-pub record RowWritten (ss : List Slave) (master round : ℕ) (row : List ℕ) (size : ℕ) (clash : Bool) : Type 0 where
+pub record RowWritten (ss : List Slave) (master round : ℕ) (row : List ℕ) (size : ℕ) (clash multiplexed : Bool) : Type 0 where
   pub most : size ≤ slots
   pub long : size ≡ length (padded (ownersOf master round ss))
   pub bytes : row ≡ padded (ownersOf master round ss) ++ replicate (slots - size) noOwner
   pub twice : clash ≡ twoSendIn round ss
+  pub multiplexes : multiplexed ≡ someEntryOf isMultiplexedSend round ss
 
 -- record 0x00 and the index; the rows
 abbrev pub headRoom : ℕ
@@ -74,10 +86,11 @@ abbrev pub rowsRoom : ℕ
 rowsRoom = rounds * slots
 
 -- the rounds below n are written, in front of zeros
-pub record RoundsWritten (ss : List Slave) (master n : ℕ) (head rows : List ℕ) (size : ℕ) (clash : Bool) : Type 0 where
+pub record RoundsWritten (ss : List Slave) (master n : ℕ) (head rows : List ℕ) (size : ℕ) (clash multiplexed : Bool) : Type 0 where
   pub few : n ≤ rounds
   pub most : size ≤ slots * n
   pub long : size ≡ length (rowsBelow master ss n)
   pub begins : head ≡ replicate recordSize noOwner ++ (indexBelow master ss n ++ replicate (rounds - n) noOwner)
   pub bytes : rows ≡ rowsBelow master ss n ++ replicate (rowsRoom - size) noOwner
   pub twice : clash ≡ someBelow (λ (round : ℕ). both (isOwned round) (twoSendIn round ss)) n
+  pub multiplexes : multiplexed ≡ someBelow (λ (round : ℕ). both (isOwned round) (someEntryOf isMultiplexedSend round ss)) n

@@ -1,4 +1,4 @@
--- The call that writes the owner file of a cluster file into a buffer (document 02, job 4).
+-- The call that writes the owner file of a cluster file into a buffer (document 02, jobs 4 and 7).
 use Prim.Native.Nat.{ℕ}
 use mathlib.Core.List.{List, [], _∷_, _++_}
 use mathlib.Core.Bool.{Bool, cond}
@@ -9,7 +9,7 @@ use Rattle.file.specs.Rules.Results.{Result, refused, done}
 use Rattle.file.specs.Rules.Cluster.{Slave}
 use Rattle.file.specs.Rules.Decode.{decode}
 use Rattle.file.specs.Rules.Grounds.{fileGrounds}
-use Rattle.owner.specs.Rules.Plan.{twoSend}
+use Rattle.owner.specs.Rules.Plan.{twoSend, multiplexedSend}
 use Rattle.owner.specs.Rules.OwnerFile.{ownerFile}
 
 -- "21, the buffer is too short": for this owner file
@@ -17,9 +17,11 @@ unfoldable pub tooShort : List ℕ → ℕ → List Slave → Bool
 tooShort buffer master ss = ltb (length buffer) (length (ownerFile master ss))
 
 -- "New numbers: 20, two slaves send in one slot of a round; 21, the buffer is too short; in this order after 8."
+-- "New numbers: 23, a multiplexed send before the end .., checked by the owner writer after 8 and before 20."
 unfoldable pub ownerGrounds : List ℕ → ℕ → List ℕ → List Ground
 ownerGrounds file master buffer =
-    let slaves = decode file .slaves in fileGrounds file ++ (20, twoSend slaves) ∷ (21, tooShort buffer master slaves) ∷ []
+    let slaves = decode file .slaves in
+    fileGrounds file ++ (23, multiplexedSend slaves) ∷ (20, twoSend slaves) ∷ (21, tooShort buffer master slaves) ∷ []
 
 unfoldable pub ownerGround : List ℕ → ℕ → List ℕ → ℕ
 ownerGround file master buffer = firstOf (ownerGrounds file master buffer)

@@ -5,7 +5,7 @@ use std::error::Error;
 use ttpa::TtpaError;
 
 /// Each ground with its number in the documents and a word that its text cannot do without.
-const GROUNDS: [(TtpaError, u8, &str); 23] = [
+const GROUNDS: [(TtpaError, u8, &str); 24] = [
     (TtpaError::FileSize, 1, "bytes"),
     (TtpaError::Mark, 2, "mark"),
     (TtpaError::Edition, 3, "edition"),
@@ -28,7 +28,8 @@ const GROUNDS: [(TtpaError, u8, &str); 23] = [
     (TtpaError::TwoSenders, 20, "two slaves send"),
     (TtpaError::OwnerBuffer, 21, "owner file"),
     (TtpaError::EqualLogicalNames, 22, "logical name"),
-    (TtpaError::Other(23), 23, "no text"),
+    (TtpaError::MultiplexedSend, 23, "multiplexed"),
+    (TtpaError::Other(24), 24, "no text"),
 ];
 
 #[test]

@@ -10,6 +10,7 @@ const DEMO: &[u8] = include_bytes!("../../../../c/demo.cluster");
 const SECOND_NAME: usize = 0x7B;
 const THIRD_NAME: usize = 0xB7;
 const THIRD_SLOT: usize = 0xAF;
+const THIRD_OPERATION: usize = 0xAE;
 const MASTER: u8 = 0x80;
 
 /// Rows of one record each: nobody sends.
@@ -88,6 +89,27 @@ fn an_owner_file_is_refused_on_each_ground() {
     assert_refused(&planned(), PLANNED.len() - 1, TtpaError::OwnerBuffer);
     assert_refused(M10, NOBODY.len() - 1, TtpaError::OwnerBuffer);
     assert_refused(M10, 0, TtpaError::OwnerBuffer);
+}
+
+/// A multiplexed send is refused before two senders in a slot, a multiplexed receive is passed over.
+#[test]
+fn multiplexed_entries_have_no_row() {
+    for operation in [0x90, 0xB0, 0xD0, 0xF0] {
+        let file = demo_with(&[(THIRD_NAME, 0x02), (THIRD_OPERATION, operation)]);
+        assert_refused(&file, MOST_OWNER_BYTES, TtpaError::MultiplexedSend);
+        assert_refused(&file, 0, TtpaError::MultiplexedSend);
+        assert_refused(
+            &demo_with(&[(SECOND_NAME, 0x03), (THIRD_NAME, 0x02), (THIRD_OPERATION, operation)]),
+            0,
+            TtpaError::MultiplexedSend,
+        );
+    }
+    for operation in [0x80, 0xA0, 0xC0, 0xE0] {
+        let file = demo_with(&[(SECOND_NAME, 0x03), (THIRD_NAME, 0x02), (THIRD_OPERATION, operation)]);
+        let mut buffer = [FILL; MOST_OWNER_BYTES];
+        let owners = owner(&file, MASTER, &mut buffer).expect("nobody sends multiplexed");
+        assert_eq!(owners.row(2), Some(&[MASTER, 1, 1, 3][..]));
+    }
 }
 
 #[test]

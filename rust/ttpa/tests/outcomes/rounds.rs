@@ -85,6 +85,22 @@ fn a_multipartner_round_is_answered() {
     assert_eq!(answer, answered(0xBA, &[0xA1, 0x5C]));
 }
 
+/// The third slave of the example, named, sends multiplexed in slot 2: operation 9 with field 1 in epochs 1 and 5,
+/// operation 15 in epoch 5 alone. Where it does, the slot has the and of 5C and its 3C.
+#[test]
+fn a_multiplexed_entry_has_its_turns() {
+    for (operation, turns) in [(0x90, &[1, 5][..]), (0xF0, &[5][..])] {
+        let mut file = include_bytes!("../../../../c/demo.cluster").to_vec();
+        (file[0xB7], file[0xAE], file[0xAF]) = (0x02, operation, 1 << 6 | 2);
+        for epoch in 1..=8 {
+            let mut answer = ROOMY;
+            assert_eq!(round(&mut file, &ROUND_2, &mut answer), Ok(Senders(0b110)));
+            let byte = if turns.contains(&epoch) { 0x1C } else { 0x5C };
+            assert_eq!(answer, answered(0xBA, &[0xA1, byte]), "epoch {epoch}");
+        }
+    }
+}
+
 /// The call refuses on this ground and leaves file and answer.
 fn assert_refused(file: &[u8], frame: &[u8], answer_length: usize, ground: TtpaError) {
     let mut file_after = file.to_vec();

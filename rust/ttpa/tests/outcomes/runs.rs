@@ -39,8 +39,9 @@ fn a_run_ends_when_all_are_named() {
     let mut file = M10.to_vec();
     let mut run = Run::start(&[1, 2, 3]).expect("a good list");
     let masks = run_to_end(&mut run, &mut file, &[1, 2, 3]);
-    // The totals of M10: bit 32 of both physical names is 1 and bit 0 is 0, so 135 rounds each, and 4. The search of the third name ended at its comparison with 0, the round at place 3,
-    // and the value is still that of the second: the lesser physical name.
+    // The totals of M10: bit 32 of both physical names is 1 and bit 0 is 0, so 135 rounds each, and 4. The search of
+    // the third name ended at its comparison with 0, the round at place 3, and the value is still that of the second:
+    // the lesser physical name.
     assert_eq!(run.end(), End::AllNamed);
     assert_eq!(run.index(), 2);
     assert_eq!(run.next_round(), 3);

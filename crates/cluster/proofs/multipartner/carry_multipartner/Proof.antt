@@ -1,5 +1,6 @@
 -- `cluster::multipartner::carry_multipartner` meets its contract: the epoch raised, then the slots.
 -- Assumes nothing.
+use Rattle.file.proofs.ReaderLaws.{becomes-decoded}
 use Rattle.cluster.proofs.DataLaws.{raised-placed}
 use Rattle.cluster.proofs.SlotLaws.{raised-carries}
 use borrow.Author.Needs.{needs}
@@ -8,6 +9,9 @@ use Rattle.cluster.proofs.multipartner.carry_multipartner.Tie as tie
 
 raise-epoch-requires : tie.Need-raise-epoch-requires
 raise-epoch-requires c κs = search needs
+
+read-epoch-requires : tie.Need-read-epoch-requires
+read-epoch-requires c κs = search (needs, becomes-decoded)
 
 run-slots-requires : tie.Need-run-slots-requires
 run-slots-requires c κs = search (needs, raised-placed)
@@ -23,4 +27,4 @@ returns c = search (needs, raised-carries)
 
 pub carry-multipartner-spec : {M : Type 1} → statement M
 carry-multipartner-spec =
-    tie.close (tie.spec raise-epoch-requires run-slots-requires same-length same-length-2 returns)
+    tie.close (tie.spec raise-epoch-requires read-epoch-requires run-slots-requires same-length same-length-2 returns)

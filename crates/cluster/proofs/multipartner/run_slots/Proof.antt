@@ -8,34 +8,36 @@ use mathlib.Core.Path.{_∙_}
 use mathlib.Core.Logic.{⊎-elim}
 use lib.ListN.{length-set}
 use borrow.Author.Needs.{needs}
+use Rattle.cluster.specs.Rules.Entries.{outOfTurn}
 use Rattle.cluster.proofs.Bus.{filled-length}
-use Rattle.cluster.proofs.SearchLaws.{Searching, round-act-same, entry-within, entry-low, searching-end, searching-covers, searching-next, searching-done, covering-reaches}
+use Rattle.cluster.proofs.EntryLaws.{turn-blind}
+use Rattle.cluster.proofs.SearchLaws.{Searching, round-act-same, entry-within, entry-low, searching-end, searching-here, searching-next, searching-done, eligible-reaches}
 use Rattle.cluster.proofs.SlotLaws.{SlotHeard, heard-none, slave-entries, slave-search, heard-next, stores-within, Running, running-start, mask-small, slot-fits, running-silent, running-heard, running-done}
 use Rattle.cluster.proofs.multipartner.run_slots.Statement.{statement}
 use Rattle.cluster.proofs.multipartner.run_slots.Tie as tie
 
 abbrev Inv-entries : tie.InvT-entries
-Inv-entries file places round firework buffer count starts ends stores mask slot bus heard slave act₀ end at₀ act at =
-    Searching file round slot slave act at end
+Inv-entries file places round epoch firework buffer count starts ends stores mask slot bus heard slave act₀ end at₀ act at =
+    Searching (outOfTurn epoch) file round slot slave act at end
 
 abbrev μ-entries : tie.MeasureT-entries
-μ-entries file places round firework buffer count starts ends stores mask slot bus heard slave act₀ end at₀ act at =
+μ-entries file places round epoch firework buffer count starts ends stores mask slot bus heard slave act₀ end at₀ act at =
     end - at
 
 abbrev Inv-slaves : tie.InvT-slaves
-Inv-slaves file places round firework buffer count starts₀ ends stores₀ mask slot bus₀ heard₀ slave₀ starts stores bus heard slave =
-    SlotHeard file round count slot slave bus heard starts ends stores
+Inv-slaves file places round epoch firework buffer count starts₀ ends stores₀ mask slot bus₀ heard₀ slave₀ starts stores bus heard slave =
+    SlotHeard (outOfTurn epoch) file round count slot slave bus heard starts ends stores
 
 abbrev μ-slaves : tie.MeasureT-slaves
-μ-slaves file places round firework buffer count starts₀ ends stores₀ mask slot bus₀ heard₀ slave₀ starts stores bus heard slave =
+μ-slaves file places round epoch firework buffer count starts₀ ends stores₀ mask slot bus₀ heard₀ slave₀ starts stores bus heard slave =
     count - slave
 
 abbrev Inv-slots : tie.InvT-slots
-Inv-slots file₀ places round firework buffer₀ count starts₀ ends stores₀ mask₀ slot₀ file buffer starts stores mask slot =
-    Running file₀ round firework count starts ends stores buffer₀ slot mask buffer file
+Inv-slots file₀ places round epoch firework buffer₀ count starts₀ ends stores₀ mask₀ slot₀ file buffer starts stores mask slot =
+    Running (outOfTurn epoch) file₀ round firework count starts ends stores buffer₀ slot mask buffer file
 
 abbrev μ-slots : tie.MeasureT-slots
-μ-slots file₀ places round firework buffer₀ count starts₀ ends stores₀ mask₀ slot₀ file buffer starts stores mask slot =
+μ-slots file₀ places round epoch firework buffer₀ count starts₀ ends stores₀ mask₀ slot₀ file buffer starts stores mask slot =
     64 - slot
 
 slave-count-requires :
@@ -85,35 +87,34 @@ entries-holds : tie.Need-entries-holds Inv-entries μ-entries Inv-slaves μ-slav
 entries-holds c =
     let slave = c .before .before in
     let slot = slave .before .before in
-    slave-search (slave .before .slaves .inv) (slave .slaves-test .taken) (c .open-from .ensures) (slot .slots-test .taken)
+    slave-search (slave .before .slaves .inv) (slave .slaves-test .taken) (c .open-from .ensures) (turn-blind _) (slot .slots-test .taken)
 
 entry-at-requires :
     tie.Need-entry-at-requires Inv-entries μ-entries Inv-slaves μ-slaves Inv-slots μ-slots
 entry-at-requires c κs = entry-within (c .before .before .entries .inv) (c .before .entries-test .taken)
 
-is-end-requires :
-    tie.Need-is-end-requires Inv-entries μ-entries Inv-slaves μ-slaves Inv-slots μ-slots
-is-end-requires c κs = search needs
-
-is-covering-requires :
-    tie.Need-is-covering-requires Inv-entries μ-entries Inv-slaves μ-slaves Inv-slots μ-slots
-is-covering-requires c κs = search needs
+is-eligible-requires :
+    tie.Need-is-eligible-requires Inv-entries μ-entries Inv-slaves μ-slaves Inv-slots μ-slots
+is-eligible-requires c κs = search needs
 
 slot-act-requires :
     tie.Need-slot-act-requires Inv-entries μ-entries Inv-slaves μ-slaves Inv-slots μ-slots
 slot-act-requires c κs =
-    let cover = c .before .before in
-    let end = cover .before .before in
-    let read = end .before in
+    let able = c .before .before in
+    let read = able .before in
     let pass = read .before .before in
     let searching = pass .before .entries .inv in
-    (searching .becomes, searching .slave, covering-reaches _ _ _ (read .entry-at .ensures) (cover .is-covering .ensures) (c .before .if2 .taken) (searching .inRound))
+    (searching .becomes, searching .slave, eligible-reaches _ _ _ _ (read .entry-at .ensures) (able .is-eligible .ensures) (c .before .if1 .taken) (searching .inRound))
+
+is-end-requires :
+    tie.Need-is-end-requires Inv-entries μ-entries Inv-slaves μ-slaves Inv-slots μ-slots
+is-end-requires c κs = search needs
 
 add-at : tie.Need-add-at Inv-entries μ-entries Inv-slaves μ-slaves Inv-slots μ-slots
 add-at c =
-    let cover = c .before .before in
-    let end = cover .before .before in
-    let pass = end .before .before in
+    let end = c .before .before in
+    let able = end .before .before in
+    let pass = able .before .before in
     omega (arith, entry-low (pass .before .entries .inv) (pass .entries-test .taken))
 
 entries-less : tie.Need-entries-less Inv-entries μ-entries Inv-slaves μ-slaves Inv-slots μ-slots
@@ -160,8 +161,8 @@ slaves-again c =
     (λ w. round-act-same (w .1) (searching-done searching (w .0 .left)))
     (λ w.
     ⊎-elim
-    (λ v. round-act-same (v .5) (searching-end searching (v .0 .taken) (v .2 .ensures) (v .3 .ensures) (v .4 .taken)))
-    (λ v. round-act-same (v .9) (searching-covers searching (v .0 .taken) (v .2 .ensures) (v .3 .ensures) (v .4 .left) (v .5 .ensures) (v .6 .taken) (v .8 .ensures)))
+    (λ v. round-act-same (v .7) (searching-here searching (v .0 .taken) (v .2 .ensures) (v .3 .ensures) (v .4 .taken) (v .6 .ensures)))
+    (λ v. round-act-same (v .7) (searching-end searching (v .0 .taken) (v .2 .ensures) (v .5 .ensures) (v .6 .taken)))
     w)
     (out .entries-test .came))
     (bus .bus-with .ensures) (c .before .heard-with .ensures) (c .store-place .ensures)
@@ -232,9 +233,9 @@ run-slots-spec =
     array-write-starts
     entries-holds
     entry-at-requires
-    is-end-requires
-    is-covering-requires
+    is-eligible-requires
     slot-act-requires
+    is-end-requires
     add-at
     entries-less
     entries-again

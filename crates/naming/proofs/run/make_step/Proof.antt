@@ -1,11 +1,10 @@
 -- `naming::run::make_step` meets its contract: its round is the round of its two frames, and the position moves on by the answer.
 -- Assumes nothing.
-use Prim.Native.Nat.{_^_, _≤_, _<_}
+use Prim.Native.Nat.{_^_, _<_}
 use native.Mathlib.Omega.{arith}
 use lib.ListN.{length, getD}
 use denote.Ref.{now}
-use Rattle.naming.specs.Rules.Run.{bits, lastStep}
-use Rattle.naming.specs.Rules.Rounds.{comparisonRounds}
+use Rattle.naming.specs.Rules.Run.{bits}
 use Rattle.naming.specs.Inner.Answers.{positionOf, steppedOf, runAfter, GoesOn}
 use Rattle.naming.proofs.RunLaws.{runs, here-goes, goes-wrote, send-may, step-is, after-taken, after-free, after-silence, after-first, after-other, moved-within, went-within}
 use borrow.Author.Needs.{needs}

@@ -13,11 +13,11 @@ use Rattle.owner.proofs.plan.plan_round.Statement.{statement}
 use Rattle.owner.proofs.plan.plan_round.Tie as tie
 
 abbrev Inv-loop : tie.InvT-loop
-Inv-loop file places round row₀ count senders₀ clashes₀ slave₀ row senders clashes slave =
-    RoundPlanning (decode file .slaves) (getD row₀ 0 0) (round .0) row senders clashes slave × (length row ≡ length row₀)
+Inv-loop file places round row₀ count senders₀ clashes₀ multiplexed₀ slave₀ row senders clashes multiplexed slave =
+    RoundPlanning (decode file .slaves) (getD row₀ 0 0) (round .0) row senders clashes multiplexed slave × (length row ≡ length row₀)
 
 abbrev μ-loop : tie.MeasureT-loop
-μ-loop file places round row₀ count senders₀ clashes₀ slave₀ row senders clashes slave = count - slave
+μ-loop file places round row₀ count senders₀ clashes₀ multiplexed₀ slave₀ row senders clashes multiplexed slave = count - slave
 
 slave-count-requires : tie.Need-slave-count-requires Inv-loop μ-loop
 slave-count-requires c κs = search needs
@@ -53,7 +53,7 @@ loop-less c = omega arith
 loop-again : tie.Need-loop-again Inv-loop μ-loop
 unfolding slaveOf
 loop-again c =
-    let put = c .before .before in
+    let put = c .before .before .before in
     let named = put .before .before in
     let planned = named .before in
     let turn = planned .before in

@@ -11,11 +11,11 @@ use Rattle.owner.proofs.plan.plan_slave.Statement.{statement}
 use Rattle.owner.proofs.plan.plan_slave.Tie as tie
 
 abbrev Inv-loop : tie.InvT-loop
-Inv-loop file places slave end covered₀ sends₀ at₀ covered sends at =
-    (round : ℕ) → RoundFileIs (decode file) round slave at₀ end → Planning file round slave covered sends at end
+Inv-loop file places slave end covered₀ sends₀ multiplexed₀ at₀ covered sends multiplexed at =
+    (round : ℕ) → RoundFileIs (decode file) round slave at₀ end → Planning file round slave covered sends multiplexed at end
 
 abbrev μ-loop : tie.MeasureT-loop
-μ-loop file places slave end covered₀ sends₀ at₀ covered sends at = end - at
+μ-loop file places slave end covered₀ sends₀ multiplexed₀ at₀ covered sends multiplexed at = end - at
 
 round-file-requires : tie.Need-round-file-requires Inv-loop μ-loop
 round-file-requires c κs = search needs
@@ -46,8 +46,8 @@ free-slots-requires c κs =
     let start = loop .before .before .before in
     (start .pre .0 .file, start .pre .1, short-entry (start .args .file .now) (loop .loop .at) (read .entry-at .result) (read .entry-at .ensures))
 
-covered-slots-requires : tie.Need-covered-slots-requires Inv-loop μ-loop
-covered-slots-requires c κs =
+plan-entry-requires : tie.Need-plan-entry-requires Inv-loop μ-loop
+plan-entry-requires c κs =
     let read = c .before .before .before in
     let loop = read .before .before in
     let start = loop .before .before .before in
@@ -55,7 +55,7 @@ covered-slots-requires c κs =
 
 add-at : tie.Need-add-at Inv-loop μ-loop
 add-at c =
-    let turn = c .before .before .before .before .before in
+    let turn = c .before .before .before .before .before .before .before in
     let found = turn .before .before in
     omega (arith, entry-low (turn .before .loop .inv (found .before .before .args .round .0) (found .round-file .ensures)) (turn .loop-test .taken))
 
@@ -64,12 +64,13 @@ loop-less c = omega arith
 
 loop-again : tie.Need-loop-again Inv-loop μ-loop
 loop-again c = λ round is.
-    let sent = c .before in
+    let plan = c .before .before in
+    let sent = plan .before in
     let goes = sent .before in
     let read = goes .before .before in
     let turn = read .before in
     planning-next (turn .before .loop .inv round is) (turn .loop-test .taken) (read .entry-at .ensures) (goes .before .is-end .ensures) (goes .if1 .left)
-    (sent .free-slots .ensures) (c .covered-slots .ensures)
+    (sent .free-slots .ensures) (plan .plan-entry .ensures)
 
 returns-2 : tie.Need-returns-2 Inv-loop μ-loop
 returns-2 c =
@@ -88,7 +89,7 @@ plan-slave-spec =
     is-end-requires
     returns
     free-slots-requires
-    covered-slots-requires
+    plan-entry-requires
     add-at
     loop-less
     loop-again

@@ -14,7 +14,7 @@ use Rattle.owner.proofs.rounds.write_rounds.Tie as tie
 
 abbrev Inv-loop : tie.InvT-loop
 Inv-loop file places master head₀ rows₀ written₀ round₀ head rows written round =
-    RoundsWritten (decode file .slaves) (master .0) round head rows (written .length) (written .clash)
+    RoundsWritten (decode file .slaves) (master .0) round head rows (written .length) (written .clash) (written .multiplexed)
 
 abbrev μ-loop : tie.MeasureT-loop
 μ-loop file places master head₀ rows₀ written₀ round₀ head rows written round = rounds - round

@@ -3,7 +3,7 @@
 use mathlib.Core.Path.{refl}
 use Rattle.file.proofs.Surveyed.{survey-placed}
 use Rattle.owner.specs.Inner.Answers.{writtenOf}
-use Rattle.owner.proofs.Calls.{written-size, written-fits, call-refused, call-clash, call-short, call-written}
+use Rattle.owner.proofs.Calls.{written-size, written-fits, call-refused, call-multiplexed, call-clash, call-short, call-written}
 use borrow.Author.Needs.{needs}
 use Rattle.owner.proofs.write.write_owner.Statement.{statement}
 use Rattle.owner.proofs.write.write_owner.Tie as tie
@@ -31,14 +31,18 @@ write-rounds-requires c κs =
 
 returns : tie.Need-returns
 unfolding writtenOf
-returns c = search (needs, call-clash)
-
-add-if2 : tie.Need-add-if2
-add-if2 c = search needs
+returns c = search (needs, call-multiplexed)
 
 returns-2 : tie.Need-returns-2
 unfolding writtenOf
-returns-2 c = search (needs, call-short)
+returns-2 c = search (needs, call-clash)
+
+add-if3 : tie.Need-add-if3
+add-if3 c = search needs
+
+returns-3 : tie.Need-returns-3
+unfolding writtenOf
+returns-3 c = search (needs, call-short)
 
 slice-aggregate-put-file : tie.Need-slice-aggregate-put-file
 slice-aggregate-put-file c = search needs
@@ -52,19 +56,19 @@ slice-aggregate-put-file-2 c = search (needs, written-size)
 put-file-requires : tie.Need-put-file-requires
 put-file-requires c κs = search (needs, written-fits)
 
-add-t20 : tie.Need-add-t20
-add-t20 c = search needs
+add-t21 : tie.Need-add-t21
+add-t21 c = search needs
 
-returns-3 : tie.Need-returns-3
+returns-4 : tie.Need-returns-4
 unfolding writtenOf
-returns-3 c = search (needs, call-refused)
+returns-4 c = search (needs, call-refused)
 
 same-length : tie.Need-same-length
 same-length c = search needs
 
-returns-4 : tie.Need-returns-4
+returns-5 : tie.Need-returns-5
 unfolding writtenOf
-returns-4 c = search (needs, call-written)
+returns-5 c = search (needs, call-written)
 
 pub write-owner-spec : {M : Type 1} → statement M
 write-owner-spec =
@@ -77,13 +81,14 @@ write-owner-spec =
     slice-aggregate-write-rounds-2
     write-rounds-requires
     returns
-    add-if2
     returns-2
+    add-if3
+    returns-3
     slice-aggregate-put-file
     array-share-prefix-rows
     slice-aggregate-put-file-2
     put-file-requires
-    add-t20
-    returns-3
+    add-t21
+    returns-4
     same-length
-    returns-4)
+    returns-5)
