@@ -111,6 +111,21 @@ last-low-sends : sends 194 2 ≡ record { name = 0xFF; file = 0x08; operation = 
 unfolding sends at sent atUnnamed nextRound roundHere onto passOver isNeedless isFirst isRepeated both roundAt placeOf askOrGive questionOf partOf tried bytesOf
 last-low-sends = refl
 
+-- "handed in at a needless write, it moves on to it": step 4 with the high half of bit 63 and the low half stored executes, and silence
+-- leaves it at step 7, the write of bit 62's high half
+needless : Position
+needless = record { end = 0; index = 1; step = 4; value = 0; rounds = 9; comparisons = 2; high = 0x80000000; low = 0 }
+
+needless-sends : sent (nextRound (5 ∷ 7 ∷ []) needless) ≡ record { name = 0xFF; file = 0x08; operation = 2; «record» = 2; content = [] }
+unfolding needless sent atUnnamed nextRound roundHere onto passOver atStep isNeedless isFirst isRepeated both roundAt placeOf askOrGive questionOf partOf tried
+needless-sends = refl
+
+needless-stands :
+    advance (5 ∷ 7 ∷ []) needless false ≡
+    record { end = 0; index = 1; step = 7; value = 0; rounds = 10; comparisons = 3; high = 0x80000000; low = 0 }
+unfolding needless advance moveOn onward wrote roundHere onto passOver atStep isNeedless isFirst isRepeated both roundAt placeOf askOrGive questionOf partOf tried
+needless-stands = refl
+
 -- the rounds really made of a pass of the run over one name with one unnamed slave, by the rules of the run: it stays silent at the poll
 -- and at writes, and answers a comparison with a value up to its physical name
 answerOf : ℕ → PassPlace → ℕ → Bool
