@@ -1,8 +1,8 @@
 /* demo FILE: commissioning a small cluster, as firmware or test software would do it.
  *
- * Loads a cluster file, checks it, reads a record of a named slave, has a foreign master try to name slaves by a
- * write, names the unnamed slaves while other rounds go on in between, runs a captured trace, plans who sends in
- * which slot, has a slot multiplexed, and prints what happened.
+ * Sees to it that header and library are of one version, loads a cluster file, checks it, reads a record of a named
+ * slave, has a foreign master try to name slaves by a write, names the unnamed slaves while other rounds go on in
+ * between, runs a captured trace, plans who sends in which slot, has a slot multiplexed, and prints what happened.
  * examples/demo.rs of the Rust crate does the same and prints the same. */
 #include <inttypes.h>
 #include <stdio.h>
@@ -21,6 +21,24 @@ static uint8_t cluster[TTPA_FILE_BYTES + 1];
 static size_t length;
 static uint8_t answer[TTPA_ANSWER_BYTES];
 static uint64_t senders;
+
+static void print_version(const char *what, uint32_t version)
+{
+    fprintf(stderr, "%s %u.%u.%u", what, (unsigned)(version / 10000), (unsigned)(version / 100 % 100),
+            (unsigned)(version % 100));
+}
+
+/* Calls of a library of another version may write past what this header says. */
+static int fits_library(void)
+{
+    if (ttpa_version() == TTPA_VERSION) {
+        return 1;
+    }
+    print_version("the linked library is version", ttpa_version());
+    print_version(", and not", TTPA_VERSION);
+    fprintf(stderr, "\n");
+    return 0;
+}
 
 static int load(const char *path)
 {
@@ -264,6 +282,9 @@ int main(int count, char **arguments)
     static const uint8_t round[1] = {TTPA_FIREWORK_ROUND_2};
     uint64_t run[TTPA_RUN_WORDS];
 
+    if (!fits_library()) {
+        return 1;
+    }
     if (count != 2 || !load(arguments[1])) {
         fprintf(stderr, "usage: demo FILE\n");
         return 2;

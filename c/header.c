@@ -20,8 +20,16 @@
 #define PROTOTYPE(name, type) static_assert(_Generic(&(name), type *: 1, default: 0), #name)
 #endif
 
-/* ---- the constants */
+/* ---- the version: one number, for the preprocessor too, of three below 100 */
 
+#if TTPA_VERSION / 10000 != TTPA_VERSION_MAJOR || TTPA_VERSION / 100 % 100 != TTPA_VERSION_MINOR || \
+    TTPA_VERSION % 100 != TTPA_VERSION_PATCH
+#error "TTPA_VERSION is not made of its three numbers"
+#endif
+
+/* ---- the constants. A call that is lent an array whose size changes here gets another name. */
+
+/* .ci/refusals writes from here: values */
 VALUE(TTPA_ACCEPTED, 0);
 VALUE(TTPA_REFUSED_FILE_SIZE, 1);
 VALUE(TTPA_REFUSED_MARK, 2);
@@ -46,6 +54,7 @@ VALUE(TTPA_REFUSED_TWO_SENDERS, 20);
 VALUE(TTPA_REFUSED_OWNER_BUFFER, 21);
 VALUE(TTPA_REFUSED_EQUAL_LOGICAL_NAMES, 22);
 VALUE(TTPA_REFUSED_MULTIPLEXED_SEND, 23);
+/* .ci/refusals writes to here */
 
 VALUE(TTPA_FILE_BYTES, 32768);
 VALUE(TTPA_FRAME_BYTES, 6);
@@ -106,6 +115,7 @@ VALUE(TTPA_OWNER_INDEX, 4);
 /* ---- the prototypes */
 
 typedef const char *text_type(uint8_t);
+typedef uint32_t version_type(void);
 typedef uint8_t check_type(const uint8_t *, size_t);
 typedef uint8_t read_address_type(const uint8_t *, size_t, uint8_t *);
 typedef uint8_t write_address_type(uint8_t *, size_t, uint8_t, uint8_t, uint8_t, uint8_t, uint8_t);
@@ -118,6 +128,7 @@ typedef uint8_t trace_type(uint8_t *, size_t, const uint8_t *, size_t, uint64_t 
 typedef uint8_t owner_type(const uint8_t *, size_t, uint8_t, uint8_t *, size_t, uint64_t *);
 
 PROTOTYPE(ttpa_refusal_text, text_type);
+PROTOTYPE(ttpa_version, version_type);
 PROTOTYPE(ttpa_check, check_type);
 PROTOTYPE(ttpa_read_address, read_address_type);
 PROTOTYPE(ttpa_write_address, write_address_type);
@@ -213,22 +224,49 @@ static int first_with(const char *text)
     return number;
 }
 
+/* The known numbers, each with a word that its text cannot do without. */
+static const struct {
+    int number;
+    const char *word;
+} words[] = {
+    /* .ci/refusals writes from here: words */
+    {TTPA_ACCEPTED, "accepted"},
+    {TTPA_REFUSED_FILE_SIZE, "32,768"},
+    {TTPA_REFUSED_MARK, "mark"},
+    {TTPA_REFUSED_EDITION, "edition"},
+    {TTPA_REFUSED_LENGTH_FIELD, "as long as its header"},
+    {TTPA_REFUSED_HEADER, "header"},
+    {TTPA_REFUSED_LAYOUT, "layout"},
+    {TTPA_REFUSED_NEEDED_FILE, "0x3D"},
+    {TTPA_REFUSED_EQUAL_PHYSICAL_NAMES, "physical name"},
+    {TTPA_REFUSED_SHORT_BUFFER, "buffer"},
+    {TTPA_REFUSED_FIREWORK, "firework"},
+    {TTPA_REFUSED_FRAME_LENGTH, "length"},
+    {TTPA_REFUSED_CHECK_BYTE, "firework and the four bytes"},
+    {TTPA_REFUSED_OPERATION, "operation"},
+    {TTPA_REFUSED_BROADCAST_READ, "a read is"},
+    {TTPA_REFUSED_LISTED_NAME, "0xFF"},
+    {TTPA_REFUSED_REPEATED_NAME, "twice"},
+    {TTPA_REFUSED_POSITION, "stored naming run"},
+    {TTPA_REFUSED_FILE_NUMBER, "file number"},
+    {TTPA_REFUSED_TRACE, "the trace"},
+    {TTPA_REFUSED_TWO_SENDERS, "two slaves send"},
+    {TTPA_REFUSED_OWNER_BUFFER, "owner file"},
+    {TTPA_REFUSED_EQUAL_LOGICAL_NAMES, "logical name;"},
+    {TTPA_REFUSED_MULTIPLEXED_SEND, "multiplexed"},
+    /* .ci/refusals writes to here */
+};
+
 /* Each known number has a text of its own with a word of its ground; all others have one text. */
 static void texts(void)
 {
-    static const char *const words[] = {
-        "accepted",  "32,768",        "mark",   "edition",    "as long as",  "header",       "layout",
-        "0x3D",      "physical name", "buffer", "firework",   "length",      "firework and", "operation",
-        "a read is", "0xFF",          "twice",  "naming run", "file number", "the trace",    "two slaves",
-        "owner file", "logical name;", "multiplexed",
-    };
     const int known = sizeof words / sizeof words[0];
     for (int number = 0; number < known; number++) {
         const char *text = ttpa_refusal_text((uint8_t)number);
-        EXPECT(is_printable(text) && strstr(text, words[number]) != NULL);
+        EXPECT(words[number].number == number);
+        EXPECT(is_printable(text) && strstr(text, words[number].word) != NULL);
         EXPECT(first_with(text) == number);
     }
-    EXPECT(known == TTPA_REFUSED_MULTIPLEXED_SEND + 1);
     EXPECT(is_printable(ttpa_refusal_text(UINT8_MAX)));
     for (int number = known; number <= UINT8_MAX; number++) {
         EXPECT(first_with(ttpa_refusal_text((uint8_t)number)) == known);
@@ -822,6 +860,7 @@ static void multiplexed_rounds(void)
 
 int main(void)
 {
+    EXPECT(ttpa_version() == TTPA_VERSION);
     texts();
     files();
     equal_names();

@@ -37,6 +37,7 @@ static uint8_t owner[TTPA_OWNER_BYTES];
 static size_t owner_bytes;
 static uint64_t owner_length;
 static uint8_t number;
+static uint32_t version;
 
 /* ---- a cluster file of TTPA_FILE_BYTES bytes with SLAVES slaves */
 
@@ -123,6 +124,11 @@ static void no_call(void)
 {
 }
 
+static void version_call(void)
+{
+    version = ttpa_version();
+}
+
 static void check_call(void)
 {
     number = ttpa_check(cluster, sizeof cluster);
@@ -169,7 +175,7 @@ static void owner_call(void)
     number = ttpa_owner(cluster, sizeof cluster, 0xFE, owner, owner_bytes, &owner_length);
 }
 
-enum kind { NOTHING, CHECK, READ_ADDRESS, WRITE_ADDRESS, WRITE_DATA, ROUND, START, STEP, TRACE, OWNER, KINDS };
+enum kind { NOTHING, VERSION, CHECK, READ_ADDRESS, WRITE_ADDRESS, WRITE_DATA, ROUND, START, STEP, TRACE, OWNER, KINDS };
 
 struct call {
     const char *name;
@@ -178,6 +184,7 @@ struct call {
 
 static const struct call calls[KINDS] = {
     [NOTHING] = {"nothing", no_call},
+    [VERSION] = {"ttpa_version", version_call},
     [CHECK] = {"ttpa_check", check_call},
     [READ_ADDRESS] = {"ttpa_read_address", read_address_call},
     [WRITE_ADDRESS] = {"ttpa_write_address", write_address_call},
@@ -391,6 +398,8 @@ static void all_calls(void)
     data_bytes = 0;
     make_cluster();
     make(NOTHING, TTPA_ACCEPTED);
+    make(VERSION, TTPA_ACCEPTED);
+    failed |= version != TTPA_VERSION;
     check_files();
     multipartner_rounds();
     write_owner(TTPA_ACCEPTED);
@@ -413,7 +422,7 @@ int main(void)
     filling = 0x5A;
     all_calls();
     /* counted from the caller's frame on, where a function that calls nothing begins too */
-    for (enum kind kind = CHECK; kind < KINDS; kind++) {
+    for (enum kind kind = VERSION; kind < KINDS; kind++) {
         size_t used = most[kind] - most[NOTHING];
         printf("%s %zu\n", calls[kind].name, used);
         deepest_call = used > deepest_call ? used : deepest_call;

@@ -2,9 +2,9 @@
  * the file, name its slaves, run captured traces and write the owner file. The words and rules are those of
  * document 01, the scope document, and of document 02, the change requests.
  *
- * Numbers. Every call returns 0 or the number of the ground on which it refused, see enum ttpa_refusal. The
- * comment of a call gives its numbers in the order in which it checks them; the first that holds is
- * returned. A refused call alters nothing that was lent.
+ * Numbers. Every call but ttpa_version returns 0 or the number of the ground on which it refused, see enum
+ * ttpa_refusal. The comment of a call gives its numbers in the order in which it checks them; the first that
+ * holds is returned. A refused call alters nothing that was lent.
  *
  * Memory. All memory is the caller's, lent until the call returns; no pointer is kept. No byte is read or
  * written outside the length that is given with a pointer.
@@ -16,6 +16,8 @@
  * - Overlap: what a call may write (each pointer without const) overlaps nothing else of the same call.
  * The calls keep no state, allocate nothing, never wait and always return, whatever the bytes hold. Calls on
  * different memory may run at the same time.
+ *
+ * The language. C99 or later, C++11 or later.
  *
  * The library. libttpa.a is for x86-64 alone, which is all that today's toolchain makes. It follows the
  * System V calling convention, uses SSE2 registers and the 128 bytes below the stack pointer (the red zone),
@@ -30,11 +32,18 @@
 extern "C" {
 #endif
 
-/* The version of this header and of the library made from the same sources. The archive does not carry it:
- * keep the two together. */
+/* The version of this header, and as one number, for #if too. ttpa_version returns that of the library: a program
+ * compares the two before any other call, and makes none where they differ,
+ *
+ *     if (ttpa_version() != TTPA_VERSION) { .. }
+ *
+ * A call that is lent an array of another size than before gets another name, so that a program with an older header
+ * does not link; this is so from 0.8.0 on. Older headers have no ttpa_version, and those before 0.6.0 have fewer words
+ * in a run, which a linked program does not notice: what was compiled with them is to be compiled again. */
 #define TTPA_VERSION_MAJOR 0
-#define TTPA_VERSION_MINOR 7
+#define TTPA_VERSION_MINOR 8
 #define TTPA_VERSION_PATCH 0
+#define TTPA_VERSION (10000 * TTPA_VERSION_MAJOR + 100 * TTPA_VERSION_MINOR + TTPA_VERSION_PATCH)
 
 /* What the library takes: code and constants of all calls, and the most stack that a call uses, with its
  * return address and arguments. No other memory. Both are measured, and rounded up. */
@@ -43,6 +52,7 @@ extern "C" {
 
 /* What the calls return: 0, or the documents' number for the ground on which something was refused. */
 enum ttpa_refusal {
+    /* .ci/refusals writes from here: enum */
     TTPA_ACCEPTED = 0,
     /* a cluster file: 1 to 8 */
     TTPA_REFUSED_FILE_SIZE = 1,
@@ -76,6 +86,7 @@ enum ttpa_refusal {
     TTPA_REFUSED_EQUAL_LOGICAL_NAMES = 22,
     /* an owner file, before 20 */
     TTPA_REFUSED_MULTIPLEXED_SEND = 23
+    /* .ci/refusals writes to here */
 };
 
 /* What a returned number means, for an installer's screen: English, ASCII, without a full stop, never NULL.
@@ -83,6 +94,7 @@ enum ttpa_refusal {
 static inline const char *ttpa_refusal_text(uint8_t number)
 {
     switch (number) {
+    /* .ci/refusals writes from here: cases */
     case TTPA_ACCEPTED:
         return "accepted";
     case TTPA_REFUSED_FILE_SIZE:
@@ -133,6 +145,7 @@ static inline const char *ttpa_refusal_text(uint8_t number)
         return "a slave has a multiplexed send in a round, and its slot need not have one owner in all epochs";
     default:
         return "refused on a ground that this version has no text for";
+    /* .ci/refusals writes to here */
     }
 }
 
@@ -230,6 +243,9 @@ static inline const char *ttpa_refusal_text(uint8_t number)
 #define TTPA_OWNER_BYTES 396
 #define TTPA_OWNER_RECORD_BYTES 4
 #define TTPA_OWNER_INDEX 4
+
+/* The version of the library, as TTPA_VERSION is that of the header. Refuses nothing. */
+uint32_t ttpa_version(void);
 
 /* Checks a cluster file of n bytes that comes from outside. Two slaves of one logical name (0x00 counts, 0xFF
  * does not) are refused here alone: rounds that baptize may bring such a file about, and every other call takes

@@ -2,7 +2,7 @@
 # Builds and runs everything around the engine's archive: the C programs and the Rust example against their
 # expected output, the tests of the Rust crates, and the comparison of the library with the model. Before
 # that, the listing program on inputs of many lengths and on vectors. What was counted is left in target/counts
-# for .ci/least, and by outcome in target/outcomes.
+# for .ci/least, and by outcome in target/outcomes and target/vectors.
 #
 #   rust/test.sh [--long]      TTPA_LIB_DIR: the folder of libttpa.a, default target/staticlib
 #                              TTPA_BIN_DIR: the folder of the program listing, default target/bin
@@ -128,36 +128,80 @@ listing_vectors() {
     done
 }
 
+strict=(-Wall -Wextra -Wpedantic -Werror -Iinclude)
+
+# The C program in the least language that the header asks for, and in the next.
 c_program() {
-    if "$cc" -std=c11 -O2 -Wall -Wextra -Wpedantic -Werror -Iinclude c/demo.c "$TTPA_LIB_DIR/libttpa.a" \
-        -o "$work/demo"; then
-        expect_output "C program" c/expected.txt "$work/demo" c/demo.cluster
+    local language
+    for language in c99 c11; do
+        if "$cc" -std=$language -O2 "${strict[@]}" c/demo.c "$TTPA_LIB_DIR/libttpa.a" -o "$work/demo"; then
+            expect_output "C program as $language" c/expected.txt "$work/demo" c/demo.cluster
+        else
+            fail "C program as $language: does not build"
+        fi
+    done
+}
+
+# A program ends before it has written anything, and says that the library is of another version.
+refuses_library() {
+    local name=$1
+    shift
+    if ! timeout 60 "$@" >"$work/output" 2>"$work/message" && [ ! -s "$work/output" ] &&
+        grep -qxE 'the linked library is version [0-9]+\.[0-9]+\.[0-9]+, and not [0-9]+\.[0-9]+\.[0-9]+' "$work/message"; then
+        pass 1
     else
-        fail "C program: does not build"
+        fail "$name: a library of another version is not noticed"
     fi
 }
 
-strict=(-Wall -Wextra -Wpedantic -Werror -Iinclude)
+# Both demos with a library of another version: the C program has another patch in its header, the Rust example is linked with another
+# number for the library's. 99 is no patch that is given out.
+other_version() {
+    mkdir -p "$work/other"
+    sed -E 's/^(#define TTPA_VERSION_PATCH) .*/\1 99/' include/ttpa.h >"$work/other/ttpa.h"
+    if "$cc" -std=c99 -I"$work/other" c/demo.c "$TTPA_LIB_DIR/libttpa.a" -o "$work/demo"; then
+        refuses_library "C program" "$work/demo" c/demo.cluster
+    else
+        fail "C program with another header: does not build"
+    fi
+    if "$cc" -c -x c - -o "$work/other.o" <<<'unsigned __wrap_ttpa_version(void) { return 99; }' &&
+        (cd rust && cargo rustc --quiet --offline --release -j1 -p ttpa --example demo -- \
+            -C link-arg=-Wl,--wrap=ttpa_version -C link-arg="$work/other.o"); then
+        refuses_library "Rust example" "${CARGO_TARGET_DIR:-rust/target}/release/examples/demo" c/demo.cluster
+    else
+        fail "Rust example with another library: does not build"
+    fi
+}
 
 # The bytes of those sections of an object or archive whose names begin with one of the words.
 section_bytes() { size -A "$1" | awk -v words="^[.]($2)" '$1 ~ words { sum += $2 } END { print sum + 0 }'; }
 
-# The header in one language, given with its compiler: its constants, its prototypes and every call; and that a source
-# which only includes it has no code and no data of it.
-header_program() {
+# A source which only includes the header, in one language, given with its compiler: it builds, and has no code and no data of it.
+header_alone() {
     local language=$1
     shift
-    if "$@" -O2 "${strict[@]}" c/header.c -x none "$TTPA_LIB_DIR/libttpa.a" -o "$work/header"; then
-        expect_output "header as $language" c/header.txt "$work/header"
-    else
-        fail "header as $language: does not build"
-    fi
     if "$@" -O0 "${strict[@]}" -c - -o "$work/alone.o" <<<'#include "ttpa.h"' &&
         [ "$(section_bytes "$work/alone.o" 'text|rodata|data|bss')" -eq 0 ]; then
         pass 1
     else
-        fail "header as $language: included alone, it adds to the program"
+        fail "header as $language: included alone, it does not build, or adds to the program"
     fi
+}
+
+# The header likewise: its constants, its prototypes and every call; and included alone.
+header_program() {
+    local language=$1
+    shift
+    if ! "$@" -O2 "${strict[@]}" c/header.c -x none "$TTPA_LIB_DIR/libttpa.a" -o "$work/header"; then
+        fail "header as $language: does not build"
+    elif timeout 60 "$work/header" >"$work/output" && [[ $(cat "$work/output") =~ ^([0-9]+)\ comparisons,\ 0\ failed$ ]]; then
+        counted comparisons "header/$language" "${BASH_REMATCH[1]}"
+        pass 1
+    else
+        cat "$work/output"
+        fail "header as $language"
+    fi
+    header_alone "$language" "$@"
 }
 
 # c/header.c holds every constant and prototype of the header, except the sizes and the version, which are held here;
@@ -166,7 +210,7 @@ header_whole() {
     local held=$work/held calls=$work/calls
     {
         sed -nE 's/^(VALUE|PROTOTYPE)\((\w+), .*/\2/p' c/header.c
-        printf '%s\n' TTPA_H TTPA_{CODE,STACK}_BYTES TTPA_VERSION_{MAJOR,MINOR,PATCH}
+        printf '%s\n' TTPA_H TTPA_{CODE,STACK}_BYTES TTPA_VERSION{,_MAJOR,_MINOR,_PATCH}
     } | sort >"$held"
     { nm -g --defined-only "$TTPA_LIB_DIR/libttpa.a" | awk '$2 == "T" { print $3 }' && echo ttpa_refusal_text; } | sort >"$calls"
     if diff "$held" <(grep -oE 'TTPA_[A-Z0-9_]+|ttpa_[a-z_]+\(' include/ttpa.h | tr -d '(' | sort -u) &&
@@ -177,13 +221,15 @@ header_whole() {
     fi
 }
 
+# The header's version is that of the Rust crates and of the definition that the library's call is proved to return.
 header_version() {
-    local version
+    local version defined
     version=$(sed -n 's/^#define TTPA_VERSION_[A-Z]* //p' include/ttpa.h | paste -sd.)
-    if grep -qxF "version = \"$version\"" rust/Cargo.toml; then
+    defined=$(sed -nE 's/^version(Major|Minor|Patch) = //p' crates/ttpa/specs/Rules/Calls.antt | paste -sd.)
+    if grep -qxF "version = \"$version\"" rust/Cargo.toml && [ "$version" = "$defined" ]; then
         pass 1
     else
-        fail "header: version $version is not that of rust/Cargo.toml"
+        fail "header: version $version is not that of rust/Cargo.toml, or not $defined of crates/ttpa/specs/Rules/Calls.antt"
     fi
 }
 
@@ -268,7 +314,6 @@ compared() {
     engine=$(sed -n 's/^engine //p' "$work/compared")
     while read -r kind made; do counted calls "$engine/$source/$kind" "$made"; done \
         < <(sed -n 's/^made //p' "$work/compared")
-    if [ "$source" != random ]; then source=vectors; fi
     sed -n "s/^outcome /$source /p" "$work/compared" >>"$work/came"
     if [ "$engine" = library ]; then pass 1; else fail "comparison, $source: ran against $engine, not the library"; fi
 }
@@ -294,40 +339,76 @@ cases_came() {
     sed -nE 's/^named .*/0/p; s/^refused //p' crates/listing_cases/stdout | awk '{ print "cases", "list", $1, 1 }'
 }
 
-# What came of the listings among the vectors.
+# What came of the listings among the vectors, by file, in the order of the numbers.
 listings_came() {
-    sed -nE 's/^list .* = (refused ([0-9]+)|.*)$/0\2/p' "${vectors[@]}" | awk '{ print "vectors", "list", $1 + 0, 1 }'
+    local file
+    for file in "${vectors[@]}"; do
+        sed -nE 's/^list .* = (refused ([0-9]+)|.*)$/0\2/p' "$file" | awk -v file="${file##*/}" '{ print file, "list", $1 + 0, 1 }'
+    done | sort -s -k3,3n
 }
 
-# A table of all calls by what came of them, which docs/TESTS.md shows as it is without --long. The test programs' cases do not tell what a
-# call did that was carried out, a whole run aside.
-outcomes() {
-    { cat "$work/came" && cases_came && listings_came; } | awk '
+# A table of calls by what came of them, from lines 'SOURCE CALL OUTCOME COUNT': a column of some width for each of the sources named, a row for
+# each outcome that one of them has, in the order in which the lines have them. The test programs' cases do not tell what a call did that was
+# carried out, a whole run aside.
+outcome_table() {
+    awk -v width="$1" -v sources="$2" '
         function add(column, what, count) {
             if (!(what in seen)) { seen[what] = 1; order[++rows] = what }
             sum[column, what] += count
         }
+        function cell(text) { return sprintf("  %" width "s", text) }
         $3 ~ "/" { add($1, $2 " " substr($3, 1, index($3, "/") - 1), $4) }
         { add($1, $2 " " $3, $4) }
         END {
-            printf "%-5s  %-23s  %7s  %7s  %7s\n", "call", "outcome", "random", "vectors", "cases"
+            columns = split(sources, source, " ")
+            line = sprintf("%-5s  %-23s", "call", "outcome")
+            for (column = 1; column <= columns; column++) line = line cell(source[column])
+            print line
             for (i = 1; i <= rows; i++) {
                 what = order[i]
                 split(what, words, " ")
-                cases = what ~ "/" && words[1] != "run" ? "-" : sum["cases", what] + 0
-                printf "%-5s  %-23s  %7d  %7d  %7s\n", words[1], words[2], sum["random", what], sum["vectors", what], cases
+                line = sprintf("%-5s  %-23s", words[1], words[2])
+                all = 0
+                for (column = 1; column <= columns; column++) {
+                    count = sum[source[column], what] + 0
+                    all += count
+                    line = line cell(source[column] == "cases" && what ~ "/" && words[1] != "run" ? "-" : count)
+                }
+                if (all > 0) print line
             }
-        }' >target/outcomes
-    cat target/outcomes
-    if [ $# -eq 0 ]; then document_shows docs/TESTS.md target/outcomes; fi
+        }'
+}
+
+# The short names of the files of vectors, in the order of the columns.
+vector_columns() {
+    echo base more
+    printf '%s\n' "${vectors[@]}" | sed -nE 's/.*request-([0-9]+)\.txt$/\1/p' | sort
+    echo own
+}
+
+# Two tables, which docs/TESTS.md shows as they are without --long: all calls by their source, and those of the vectors by their file.
+outcomes() {
+    { cat "$work/came" && cases_came && listings_came; } | sed -E 's/^[a-z0-9-]+\.txt /vectors /' |
+        outcome_table 7 'random vectors cases' >target/outcomes
+    # the random calls have every outcome, in order
+    { cat "$work/came" && listings_came; } | sed -E 's/^base\.txt/base/; s/^base-more\.txt/more/; s/^cases\.txt/own/; s/^request-([0-9]+)\.txt/\1/' |
+        outcome_table 4 "$(vector_columns | paste -sd' ')" >target/vectors
+    cat target/outcomes target/vectors
+    if [ $# -eq 0 ]; then
+        document_shows docs/TESTS.md target/outcomes
+        document_shows docs/TESTS.md target/vectors
+    fi
 }
 
 require
 listing_program
 listing_vectors
 c_program
-header_program C "$cc" -std=c11 -x c
-header_program C++ "$cxx" -std=c++17 -x c++
+other_version
+header_alone C99 "$cc" -std=c99 -x c
+header_program C11 "$cc" -std=c11 -x c
+header_program C++11 "$cxx" -std=c++11 -x c++
+header_program C++17 "$cxx" -std=c++17 -x c++
 header_whole
 header_version
 archive_needs

@@ -2,7 +2,7 @@
 // return. Each is the call of the layer below, with the answer as a number.
 ghost use mathlib.Core.Path.{_≡_};
 ghost use mathlib.Core.List.{[], _∷_};
-ghost use Rattle.ttpa.specs.Rules.Calls.{checkCall, readAddressCall, writeAddressCall, writeDataCall, roundCall, traceCall, ownerCall, wordsOf, positionIn, startCall, stepCall};
+ghost use Rattle.ttpa.specs.Rules.Calls.{versionCall, checkCall, readAddressCall, writeAddressCall, writeDataCall, roundCall, traceCall, ownerCall, wordsOf, positionIn, startCall, stepCall};
 ghost use Rattle.naming.specs.Inner.Answers.{positionOf};
 ghost use Rattle.file.specs.Rules.Results.{numberIn};
 ghost use Rattle.frame.specs.Inner.Answers.{writingOf};
@@ -33,6 +33,9 @@ use trace::report::Report;
 use trace::run::TraceAnswer;
 use trace::run::run_trace;
 
+// The version, as one number: its three numbers stand in specs/Rules/Calls.
+const VERSION: u32 = 800;
+
 // The parts of an address frame.
 pub const PARTS: usize = 5;
 
@@ -57,6 +60,13 @@ const COMPARISONS: usize = 5;
 const HIGH: usize = 6;
 
 const LOW: usize = 7;
+
+#[no_mangle]
+pub extern "C" fn ttpa_version() -> u32
+    ensures { λ r. ⌜ r ≡ versionCall ⌝ }
+{
+    VERSION
+}
 
 #[no_mangle]
 pub extern "C" fn ttpa_check(file: &[u8]) -> u8

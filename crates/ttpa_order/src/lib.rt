@@ -1,5 +1,6 @@
 // The C calls, each called with its arguments in the order of include/ttpa.h. A contract speaks of parameters by their names, and C
-// passes them by their order: a call of `ttpa` whose parameters stood in another order would not meet the contract here.
+// passes them by their order: a call of `ttpa` whose parameters stood in another order would not meet the contract here. `ttpa_version`,
+// which has none, is not here.
 ghost use mathlib.Core.Path.{_≡_};
 ghost use mathlib.Core.List.{[], _∷_};
 ghost use Rattle.ttpa.specs.Rules.Calls.{checkCall, readAddressCall, writeAddressCall, writeDataCall, roundCall, traceCall, ownerCall, startCall, stepCall};

@@ -2,7 +2,7 @@
 
 use crate::files;
 use compare::engine::{Engine, ReportWords, RunWords};
-use compare::inputs::framed;
+use compare::frames::framed;
 use model::{closed_figures, encode_trace, MSA, MSD};
 use std::hint::black_box;
 

@@ -1,11 +1,12 @@
 //! The comparison: each call is made on both engines, and everything it answers and leaves is compared.
 
 use crate::case::{Call, Outcome};
+use crate::draws::random::Random;
+use crate::draws::{clusters, inputs, owners, runs, traces};
 use crate::engine::{Engine, Model};
-use crate::random::Random;
-use crate::sort::Sort;
-use crate::tally::Tally;
-use crate::{clusters, inputs, names, owners, passes, runs, traces, turns};
+use crate::frames::MULTIPARTNER;
+use crate::sorts::tally::Tally;
+use crate::sorts::{self, Reached, Sort};
 use std::collections::BTreeMap;
 
 /// Cases that are printed before the rest is only counted.
@@ -249,7 +250,7 @@ impl<'a> Campaign<'a> {
             let cluster = model::check(&file).unwrap_or_else(|_| clusters::cluster_of(random, 2));
             let trace = traces::trace(random, &cluster);
             let outcome = self.call(&Call::Trace { file: file.clone(), trace: trace.clone() });
-            self.note_sorts(traces::sorts(&file, &trace, &outcome));
+            self.note_sorts(sorts::traces::sorts(&file, &trace, &outcome));
         }
     }
 
@@ -267,7 +268,7 @@ impl<'a> Campaign<'a> {
             let buffer_length = owners::buffer_length(random, &file);
             let call = Call::Owner { file: file.clone(), master, buffer_length };
             let outcome = self.call(&call);
-            self.note_sorts(owners::sorts(&call, &outcome));
+            self.note_sorts(sorts::owners::sorts(&call, &outcome));
             if outcome.number == 0 {
                 self.planned_round(random, file);
             }
@@ -277,8 +278,8 @@ impl<'a> Campaign<'a> {
     /// In a round as it runs, in whatever epoch, who sends in a slot has it in the plan; and who has a slot in the plan
     /// sends there, unless a multiplexed receive of that slave covers it.
     fn planned_round(&mut self, random: &mut Random, file: Vec<u8>) {
-        let frame = vec![random.one_of(&inputs::MULTIPARTNER)];
-        let (planned, hideable) = owners::planned_masks(&file, frame[0]);
+        let frame = vec![random.one_of(&MULTIPARTNER)];
+        let (planned, hideable) = sorts::owners::planned_masks(&file, frame[0]);
         let call = Call::Round { file, frame, answer_length: 64 };
         let outcome = self.call(&call);
         let sent = outcome.mask();
@@ -303,10 +304,7 @@ impl<'a> Campaign<'a> {
                 *self.heard.entry(frame[0]).or_insert(0) += 1;
             }
         }
-        self.note_sorts(Sort::of(call, expected));
-        self.note_sorts(names::sorts(call, expected));
-        self.note_sorts(passes::sorts(call, expected));
-        self.note_sorts(turns::sorts(call, expected));
+        self.note_sorts(sorts::of(call, expected));
         self.print_sample(call, expected);
     }
 
@@ -329,13 +327,13 @@ impl<'a> Campaign<'a> {
     }
 
     /// Calls of every sort must have been made, so many at least.
-    fn sorts_reached(&mut self, sorts: &[(Sort, usize)], calls: usize) {
-        for &(sort, calls_for_one) in sorts {
-            let count = *self.sorts.get(&sort).unwrap_or(&0);
+    fn sorts_reached(&mut self, sorts: &[Reached], calls: usize) {
+        for (sort, calls_for_one, text) in sorts {
+            let count = *self.sorts.get(sort).unwrap_or(&0);
             let least = calls / calls_for_one;
-            println!("{}: {count}", sort.text());
+            println!("{text}: {count}");
             if count < least as u64 {
-                self.differ(&format!("{}: fewer than {least}", sort.text()), "inputs too tame");
+                self.differ(&format!("{text}: fewer than {least}"), "inputs too tame");
             }
         }
     }
@@ -348,7 +346,7 @@ impl<'a> Campaign<'a> {
         for outcome in self.tally.impossible() {
             self.differ(&format!("{outcome} came about"), "no such outcome");
         }
-        for firework in inputs::MULTIPARTNER.into_iter().chain([model::MSD]) {
+        for firework in MULTIPARTNER.into_iter().chain([model::MSD]) {
             let count = *self.heard.get(&firework).unwrap_or(&0);
             println!("round {firework:02X} with senders: {count}");
             if count == 0 {

@@ -5,7 +5,8 @@
 //! call leaves alone is shown as 0.
 
 use crate::engine::{Engine, ReportWords, RunWords};
-use crate::tally::Tally;
+use crate::layout::EPOCH;
+use crate::sorts::tally::Tally;
 use std::fmt;
 
 /// What lent memory holds before a call, so that a byte too many shows.
@@ -18,8 +19,6 @@ type FencedReport = [u64; 7];
 const REPORT_BEFORE: FencedReport = [SENDERS_BEFORE; 7];
 /// The kind of a case that holds what the listing program writes.
 pub const LISTING: &str = "list";
-/// The place of the epoch in a file.
-const EPOCH: usize = 8;
 
 /// The arguments of a call.
 #[derive(Clone, Debug, PartialEq, Eq)]
@@ -59,6 +58,12 @@ impl Outcome {
     pub fn report_words(&self) -> Option<ReportWords> {
         let [_, msa, msd, multipartner, refused, sum, _] = self.report.filter(|_| self.number == 0)?;
         Some([msa, msd, multipartner, refused, sum])
+    }
+
+    /// The same with this report.
+    pub fn with_report(mut self, words: ReportWords) -> Outcome {
+        *lent_report(&mut self.report) = words;
+        self
     }
 
     /// How many bytes of an owner file were written.

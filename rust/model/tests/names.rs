@@ -1,9 +1,9 @@
 //! Logical names: the edges, by hand.
 
+use compare::edges;
 use compare::engine::Model;
-use compare::name_edges::hold_name_edges;
 
 #[test]
 fn the_edges_of_logical_names_hold() {
-    hold_name_edges(&Model);
+    edges::logical_names::hold(&Model);
 }

@@ -1,13 +1,13 @@
 //! Naming steps: the edges, by hand; and the figures of a pass against the pass written out.
 
+use compare::draws::random::Random;
+use compare::edges;
 use compare::engine::Model;
-use compare::naming_edges::hold_naming_edges;
-use compare::random::Random;
 use model::{naming_pass, naming_rounds};
 
 #[test]
 fn the_edges_of_naming_steps_hold() {
-    hold_naming_edges(&Model);
+    edges::naming_steps::hold(&Model);
 }
 
 /// The pass that is written out has as many rounds as document 02 says, and 65 of them are executes of comparisons.

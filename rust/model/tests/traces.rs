@@ -1,9 +1,9 @@
 //! Captured traces: the edges, by hand.
 
-use compare::edges::hold_edges;
+use compare::edges;
 use compare::engine::Model;
 
 #[test]
 fn the_edges_of_a_trace_hold() {
-    hold_edges(&Model);
+    edges::traces::hold(&Model);
 }

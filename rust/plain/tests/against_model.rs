@@ -1,12 +1,8 @@
 //! The tuned program against the model on many random calls.
 
 use compare::campaign::agrees_with_model;
-use compare::edges::hold_edges;
+use compare::edges;
 use compare::engine::Plain;
-use compare::multiplex_edges::hold_multiplex_edges;
-use compare::name_edges::hold_name_edges;
-use compare::naming_edges::hold_naming_edges;
-use compare::owner_edges::hold_owner_edges;
 
 #[test]
 fn plain_does_what_the_model_does() {
@@ -20,29 +16,29 @@ fn nested_loops_do_what_the_model_does() {
 
 #[test]
 fn the_edges_of_a_trace_hold() {
-    hold_edges(&Plain { nested: false });
-    hold_edges(&Plain { nested: true });
+    edges::traces::hold(&Plain { nested: false });
+    edges::traces::hold(&Plain { nested: true });
 }
 
 #[test]
 fn the_edges_of_logical_names_hold() {
-    hold_name_edges(&Plain { nested: false });
-    hold_name_edges(&Plain { nested: true });
+    edges::logical_names::hold(&Plain { nested: false });
+    edges::logical_names::hold(&Plain { nested: true });
 }
 
 #[test]
 fn the_edges_of_naming_steps_hold() {
-    hold_naming_edges(&Plain { nested: false });
-    hold_naming_edges(&Plain { nested: true });
+    edges::naming_steps::hold(&Plain { nested: false });
+    edges::naming_steps::hold(&Plain { nested: true });
 }
 
 #[test]
 fn the_edges_of_multiplexed_entries_hold() {
-    hold_multiplex_edges(&Plain { nested: false });
-    hold_multiplex_edges(&Plain { nested: true });
+    edges::multiplexed::hold(&Plain { nested: false });
+    edges::multiplexed::hold(&Plain { nested: true });
 }
 
 #[test]
 fn the_edges_of_an_owner_file_hold() {
-    hold_owner_edges(&Plain { nested: false });
+    edges::owners::hold(&Plain { nested: false });
 }

@@ -1,21 +1,21 @@
 //! `demo FILE`: commissioning a small cluster, as firmware or test software would do it.
 //!
-//! Loads a cluster file, checks it, reads a record of a named slave, has a foreign master try to name slaves by a
-//! write, names the unnamed slaves while other rounds go on in between, runs a captured trace, plans who sends in
-//! which slot, has a slot multiplexed, and prints what happened. c/demo.c does the same and prints the same.
+//! Sees to it that crate and library are of one version, loads a cluster file, checks it, reads a record of a named
+//! slave, has a foreign master try to name slaves by a write, names the unnamed slaves while other rounds go on in
+//! between, runs a captured trace, plans who sends in which slot, has a slot multiplexed, and prints what happened.
+//! c/demo.c does the same and prints the same.
 
+use std::fs::File;
+use std::io::Read;
 use std::process::ExitCode;
 use ttpa::{
-    Address, End, Owners, Report, Run, Senders, TtpaError, ANSWER_BYTES, FRAME_BYTES, MOST_OWNER_BYTES,
+    Address, End, Owners, Report, Run, Senders, TtpaError, ANSWER_BYTES, FILE_CONFIGURATION,
+    FILE_DOCUMENTATION, FIREWORK_MSA, FIREWORK_MSD, FIREWORK_ROUND_2, FRAME_BYTES, MOST_FILE_BYTES,
+    MOST_OWNER_BYTES, NAME_BROADCAST, NAME_UNNAMED, OPERATION_READ, OPERATION_WRITE,
 };
 
-const READ: u8 = 0;
-const WRITE: u8 = 1;
-const CONFIGURATION: u8 = 0x08;
-const DOCUMENTATION: u8 = 0x3D;
-const UNNAMED: u8 = 0xFF;
-const ROUND_2: [u8; 1] = [0xBA];
-const DATA_OF_A_READ: [u8; 1] = [0x49];
+const ROUND_2: [u8; 1] = [FIREWORK_ROUND_2];
+const DATA_OF_A_READ: [u8; 1] = [FIREWORK_MSD];
 const STEPS_BETWEEN_TRAFFIC: u64 = 50;
 /// The master's own logical name.
 const MASTER: u8 = 0x80;
@@ -24,14 +24,15 @@ const SECOND_NAME: usize = 0x7B;
 /// Five frames captured on site: round 2; a write of E7 7F 00 00 to record 1 of file 0x10 of slave 01, its data
 /// broken at first (the check byte is D1); and round 2 again. First frame count and data length, then for each
 /// frame offset and length.
+#[rustfmt::skip]
 const CAPTURED: [u8; 39] = [
-    0x00, 0x05, 0x00, 0x14, //
-    0x00, 0x00, 0x01, 0x00, 0x01, 0x06, 0x00, 0x07, 0x06, 0x00, 0x0D, 0x06, 0x00, 0x13, 0x01, //
-    0xBA, //
-    0x55, 0x07, 0x01, 0x41, 0x01, 0x13, //
-    0x49, 0xE7, 0x7F, 0x00, 0x00, 0xD0, //
-    0x49, 0xE7, 0x7F, 0x00, 0x00, 0xD1, //
-    0xBA,
+    0x00, 0x05, 0x00, 0x14,
+    0x00, 0x00, 0x01, 0x00, 0x01, 0x06, 0x00, 0x07, 0x06, 0x00, 0x0D, 0x06, 0x00, 0x13, 0x01,
+    FIREWORK_ROUND_2,
+    FIREWORK_MSA, 0x07, 0x01, 0x41, 0x01, 0x13,
+    FIREWORK_MSD, 0xE7, 0x7F, 0x00, 0x00, 0xD0,
+    FIREWORK_MSD, 0xE7, 0x7F, 0x00, 0x00, 0xD1,
+    FIREWORK_ROUND_2,
 ];
 
 /// The cluster file and what the last round answered.
@@ -62,7 +63,7 @@ impl Cluster {
     /// A complete master-slave round: the address frame, then the data frame, one byte for a read.
     fn read_record(&mut self, name: u8, file: u8, record: u8) -> Result<(), TtpaError> {
         let mut frame = [0; FRAME_BYTES];
-        ttpa::write_address(&mut frame, &Address { epoch: 1, name, file, operation: READ, record })?;
+        ttpa::write_address(&mut frame, &Address { epoch: 1, name, file, operation: OPERATION_READ, record })?;
         self.send(&frame)?;
         self.send(&DATA_OF_A_READ)
     }
@@ -70,7 +71,7 @@ impl Cluster {
     /// A complete master-slave round that writes a record: the data frame has its four bytes.
     fn write_record(&mut self, name: u8, file: u8, record: u8, bytes: [u8; 4]) -> Result<(), TtpaError> {
         let mut frame = [0; FRAME_BYTES];
-        ttpa::write_address(&mut frame, &Address { epoch: 1, name, file, operation: WRITE, record })?;
+        ttpa::write_address(&mut frame, &Address { epoch: 1, name, file, operation: OPERATION_WRITE, record })?;
         self.send(&frame)?;
         ttpa::write_data(&mut frame, bytes)?;
         self.send(&frame)
@@ -88,9 +89,9 @@ impl Cluster {
     /// A foreign master writes record 1 of 0x08 of the unnamed slaves, with 05 where their logical name stands. It
     /// stays FF: only the execute of that record, which ends a naming, renames.
     fn show_foreign_write(&mut self) {
-        let written = self.write_record(UNNAMED, CONFIGURATION, 1, [0x00, 0x00, 0x05, 0x05]);
+        let written = self.write_record(NAME_UNNAMED, FILE_CONFIGURATION, 1, [0x00, 0x00, 0x05, 0x05]);
         print_verdict("a foreign master's write at FF", written);
-        print_verdict("read of 05", self.read_record(0x05, DOCUMENTATION, 2));
+        print_verdict("read of 05", self.read_record(0x05, FILE_DOCUMENTATION, 2));
         self.print_answer();
     }
 
@@ -103,7 +104,8 @@ impl Cluster {
 
     fn show_frames(&mut self) {
         let mut frame = [0; FRAME_BYTES];
-        let mut address = Address { epoch: 2, name: 0x01, file: DOCUMENTATION, operation: READ, record: 1 };
+        let mut address =
+            Address { epoch: 2, name: 0x01, file: FILE_DOCUMENTATION, operation: OPERATION_READ, record: 1 };
         print_verdict("write", ttpa::write_address(&mut frame, &address));
         print_bytes("frame", &frame);
         let read = ttpa::read_address(&frame);
@@ -113,7 +115,7 @@ impl Cluster {
         }
         frame[5] ^= 1;
         print_verdict("a wrong check byte", ttpa::read_address(&frame));
-        address.name = 0x00;
+        address.name = NAME_BROADCAST;
         print_verdict("a read at 00", ttpa::write_address(&mut frame, &address));
         print_verdict("a wrong check byte on the bus", self.send(&frame));
     }
@@ -121,7 +123,7 @@ impl Cluster {
     /// Rounds that others make meanwhile: a multipartner round and a read.
     fn other_traffic(&mut self) -> Result<(), TtpaError> {
         self.send(&ROUND_2)?;
-        self.read_record(0x01, DOCUMENTATION, 2)
+        self.read_record(0x01, FILE_DOCUMENTATION, 2)
     }
 
     fn name_slaves(&mut self, names: &[u8]) -> Result<(), TtpaError> {
@@ -193,8 +195,19 @@ fn print_plan(owners: Owners) {
     }
 }
 
+/// The file's bytes, but no more than one above what a cluster file may have, so that a longer one is seen and refused.
+fn load(path: String) -> std::io::Result<Vec<u8>> {
+    let mut bytes = Vec::new();
+    File::open(path)?.take(MOST_FILE_BYTES as u64 + 1).read_to_end(&mut bytes)?;
+    Ok(bytes)
+}
+
 fn main() -> ExitCode {
-    let Some(Ok(file)) = std::env::args().nth(1).map(std::fs::read) else {
+    if let Err(mismatch) = ttpa::check_version() {
+        eprintln!("{mismatch}");
+        return ExitCode::FAILURE;
+    }
+    let Some(Ok(file)) = std::env::args().nth(1).map(load) else {
         eprintln!("usage: demo FILE");
         return ExitCode::from(2);
     };
@@ -207,7 +220,7 @@ fn main() -> ExitCode {
     }
     cluster.show_equal_names();
     cluster.show_frames();
-    print_verdict("read of 01", cluster.read_record(0x01, DOCUMENTATION, 2));
+    print_verdict("read of 01", cluster.read_record(0x01, FILE_DOCUMENTATION, 2));
     cluster.print_answer();
     print_verdict("round 2 before naming", cluster.send(&ROUND_2));
     cluster.print_answer();
@@ -215,7 +228,7 @@ fn main() -> ExitCode {
     print_verdict("names with a repeat", Run::start(&[0x01, 0x02, 0x01]));
     print_verdict("naming", cluster.name_slaves(&[0x01, 0x02, 0x03, 0x04]));
     for name in 0x02..=0x03 {
-        print_verdict("read", cluster.read_record(name, DOCUMENTATION, 2));
+        print_verdict("read", cluster.read_record(name, FILE_DOCUMENTATION, 2));
         cluster.print_answer();
     }
     print_verdict("round 2 after naming", cluster.send(&ROUND_2));

@@ -1,12 +1,59 @@
-//! The C calls one by one, with slices in place of pointers and lengths. Each answers 0 or the documents'
-//! number. The rest of the crate is built on these; they are public for callers who want to lend every
-//! buffer themselves.
+//! The C calls one by one, with slices in place of pointers and lengths. Each but [`version`] answers 0 or the
+//! documents' number. The rest of the crate is built on these; they are public for callers who want to lend every
+//! buffer themselves, and with them the places in what is lent.
 
-/// The words of a run position: end, index, step, value, rounds, comparisons, and the high and the low half of a
-/// comparison value last written.
+/// The parts of an address frame.
+pub const ADDRESS_PARTS: usize = 5;
+/// Place of the epoch among the parts.
+pub const PART_EPOCH: usize = 0;
+/// Place of the logical name.
+pub const PART_NAME: usize = 1;
+/// Place of the file number.
+pub const PART_FILE: usize = 2;
+/// Place of the operation.
+pub const PART_OPERATION: usize = 3;
+/// Place of the record number.
+pub const PART_RECORD: usize = 4;
+
+/// The words of a run.
 pub const RUN_WORDS: usize = 8;
-/// The words of a trace's report: MSA, MSD, multipartner and refused frames, and their sum.
+/// Place of the end mark among the words of a run.
+pub const RUN_END: usize = 0;
+/// Place of the index: the place in the list of the name that is next.
+pub const RUN_INDEX: usize = 1;
+/// Place of the step: the place of the next round among those for this name.
+pub const RUN_STEP: usize = 2;
+/// Place of the value: the physical name looked for, as far as found.
+pub const RUN_VALUE: usize = 3;
+/// Place of the number of rounds made.
+pub const RUN_ROUNDS: usize = 4;
+/// Place of the number of comparisons made.
+pub const RUN_COMPARISONS: usize = 5;
+/// Place of the high half of a comparison value last written.
+pub const RUN_HIGH: usize = 6;
+/// Place of the low half last written.
+pub const RUN_LOW: usize = 7;
+
+/// The end mark of a run that has rounds to make.
+pub const RUNNING: u64 = 0;
+/// The end mark of a run that left no slave unnamed.
+pub const ALL_NAMED: u64 = 1;
+/// The end mark of a run that finished its list.
+pub const NAMES_USED_UP: u64 = 2;
+
+/// The words of a trace's report.
 pub const REPORT_WORDS: usize = 5;
+/// Place of the number of address frames carried out among the words of a report.
+pub const REPORT_MSA: usize = 0;
+/// Place of the number of data frames carried out.
+pub const REPORT_MSD: usize = 1;
+/// Place of the number of multipartner frames carried out.
+pub const REPORT_MULTIPARTNER: usize = 2;
+/// Place of the number of frames refused.
+pub const REPORT_REFUSED: usize = 3;
+/// Place of the sum of the four.
+pub const REPORT_SUM: usize = 4;
+
 /// The bytes of a record of an owner file.
 pub const OWNER_RECORD_BYTES: usize = 4;
 /// Where the index of an owner file begins.
@@ -14,6 +61,7 @@ pub const OWNER_INDEX: usize = 4;
 
 mod c {
     extern "C" {
+        pub fn ttpa_version() -> u32;
         pub fn ttpa_check(file: *const u8, n: usize) -> u8;
         pub fn ttpa_read_address(frame: *const u8, n: usize, parts: *mut u8) -> u8;
         pub fn ttpa_write_address(
@@ -60,7 +108,13 @@ mod c {
 
 // SAFETY, for every call below: each pointer comes from a reference and is lent with the length of its own
 // slice, or points to an array of the size the C signature states; mutable ones are exclusive, so no two
-// overlap. The engine keeps no pointer after it returns.
+// overlap. The engine keeps no pointer after it returns. The C signatures are those of a library of this crate's
+// version: the crate's other functions see to that, whoever calls these asks `check_version` first.
+
+/// The library's version, as [`VERSION`](crate::VERSION) is that of the crate.
+pub fn version() -> u32 {
+    unsafe { c::ttpa_version() }
+}
 
 /// Checks a file from outside: 0, or 1 to 8 or 22.
 pub fn check(file: &[u8]) -> u8 {
@@ -68,7 +122,7 @@ pub fn check(file: &[u8]) -> u8 {
 }
 
 /// Reads an address frame into epoch, name, file, operation and record: 0, or 10 to 14.
-pub fn read_address(frame: &[u8], parts: &mut [u8; 5]) -> u8 {
+pub fn read_address(frame: &[u8], parts: &mut [u8; ADDRESS_PARTS]) -> u8 {
     unsafe { c::ttpa_read_address(frame.as_ptr(), frame.len(), parts.as_mut_ptr()) }
 }
 

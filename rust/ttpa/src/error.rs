@@ -4,6 +4,7 @@ use core::fmt;
 #[derive(Clone, Copy, Debug, PartialEq, Eq)]
 #[non_exhaustive]
 pub enum TtpaError {
+    // .ci/refusals writes from here: variants
     /// 1: the file is shorter than 16 or longer than 32,768 bytes.
     FileSize,
     /// 2: the mark is wrong.
@@ -50,11 +51,13 @@ pub enum TtpaError {
     EqualLogicalNames,
     /// 23: a slave has a multiplexed send before the end of its list for one of the six rounds, able to send or not.
     MultiplexedSend,
+    // .ci/refusals writes to here
     /// A number that this edition of the crate does not know.
     Other(u8),
 }
 
 /// The variants in the order of their numbers, from 1.
+// .ci/refusals writes from here: numbered
 const NUMBERED: [TtpaError; 23] = [
     TtpaError::FileSize,
     TtpaError::Mark,
@@ -80,15 +83,13 @@ const NUMBERED: [TtpaError; 23] = [
     TtpaError::EqualLogicalNames,
     TtpaError::MultiplexedSend,
 ];
+// .ci/refusals writes to here
 
 impl TtpaError {
     /// The answer of a call: 0 is success.
     pub(crate) fn of(number: u8) -> Result<(), TtpaError> {
-        match number {
-            0 => Ok(()),
-            1..=23 => Err(NUMBERED[usize::from(number) - 1]),
-            _ => Err(TtpaError::Other(number)),
-        }
+        let Some(place) = number.checked_sub(1) else { return Ok(()) };
+        Err(NUMBERED.get(usize::from(place)).copied().unwrap_or(TtpaError::Other(number)))
     }
 
     /// The documents' number.
@@ -102,6 +103,7 @@ impl TtpaError {
     /// The texts of include/ttpa.h.
     fn text(self) -> &'static str {
         match self {
+            // .ci/refusals writes from here: arms
             TtpaError::FileSize => "the cluster file is shorter than 16 or longer than 32,768 bytes",
             TtpaError::Mark => "the file is no cluster file: it does not begin with the mark 0x54 0x41",
             TtpaError::Edition => "the cluster file's edition, byte 2 of its header, is not 1",
@@ -150,6 +152,7 @@ impl TtpaError {
                 "a slave has a multiplexed send in a round, and its slot need not have one owner in all epochs"
             }
             TtpaError::Other(_) => "refused on a ground that this version has no text for",
+            // .ci/refusals writes to here
         }
     }
 }
@@ -184,14 +187,31 @@ mod tests {
 
     #[test]
     fn numbers_are_those_of_the_document() {
+        // .ci/refusals writes from here: asserts
+        assert_eq!(TtpaError::FileSize.number(), 1);
+        assert_eq!(TtpaError::Mark.number(), 2);
+        assert_eq!(TtpaError::Edition.number(), 3);
+        assert_eq!(TtpaError::LengthField.number(), 4);
+        assert_eq!(TtpaError::Header.number(), 5);
+        assert_eq!(TtpaError::Layout.number(), 6);
+        assert_eq!(TtpaError::NeededFile.number(), 7);
         assert_eq!(TtpaError::EqualPhysicalNames.number(), 8);
+        assert_eq!(TtpaError::ShortBuffer.number(), 9);
+        assert_eq!(TtpaError::Firework.number(), 10);
+        assert_eq!(TtpaError::FrameLength.number(), 11);
         assert_eq!(TtpaError::CheckByte.number(), 12);
+        assert_eq!(TtpaError::Operation.number(), 13);
+        assert_eq!(TtpaError::BroadcastRead.number(), 14);
+        assert_eq!(TtpaError::ListedName.number(), 15);
+        assert_eq!(TtpaError::RepeatedName.number(), 16);
         assert_eq!(TtpaError::Position.number(), 17);
+        assert_eq!(TtpaError::FileNumber.number(), 18);
         assert_eq!(TtpaError::Trace.number(), 19);
         assert_eq!(TtpaError::TwoSenders.number(), 20);
         assert_eq!(TtpaError::OwnerBuffer.number(), 21);
         assert_eq!(TtpaError::EqualLogicalNames.number(), 22);
         assert_eq!(TtpaError::MultiplexedSend.number(), 23);
         assert_eq!(TtpaError::Other(24).number(), 24);
+        // .ci/refusals writes to here
     }
 }

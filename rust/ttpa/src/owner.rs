@@ -1,5 +1,5 @@
 use crate::calls::{self, OWNER_INDEX, OWNER_RECORD_BYTES};
-use crate::TtpaError;
+use crate::{version, TtpaError};
 
 /// An owner file has at most this many bytes.
 pub const MOST_OWNER_BYTES: usize = 396;
@@ -49,6 +49,7 @@ impl<'a> Owners<'a> {
 /// # Ok::<(), ttpa::TtpaError>(())
 /// ```
 pub fn owner<'a>(file: &[u8], master: u8, buffer: &'a mut [u8]) -> Result<Owners<'a>, TtpaError> {
+    version::hold();
     let mut length = 0;
     TtpaError::of(calls::owner(file, master, buffer, &mut length))?;
     Ok(Owners { bytes: &buffer[..length as usize] })

@@ -1,5 +1,5 @@
-use crate::calls::{self, RUN_WORDS};
-use crate::{Senders, TtpaError};
+use crate::calls::{self, ALL_NAMED, NAMES_USED_UP, RUNNING, RUN_WORDS};
+use crate::{version, Senders, TtpaError};
 
 /// How far a run is.
 #[derive(Clone, Copy, Debug, PartialEq, Eq)]
@@ -24,6 +24,7 @@ pub struct Run {
 impl Run {
     /// A fresh run; refused by 15 and 16.
     pub fn start(names: &[u8]) -> Result<Run, TtpaError> {
+        version::hold();
         let mut words = [0; RUN_WORDS];
         TtpaError::of(calls::start(names, &mut words))?;
         Ok(Run { words })
@@ -32,6 +33,7 @@ impl Run {
     /// One complete master-slave round; refused by 1 to 9 and 15 to 17. The answer becomes that to its data
     /// frame. A step of an ended run alters nothing, and nobody sends.
     pub fn step(&mut self, file: &mut [u8], names: &[u8], answer: &mut [u8]) -> Result<Senders, TtpaError> {
+        version::hold();
         let mut senders = 0;
         TtpaError::of(calls::step(file, &mut self.words, names, answer, &mut senders))?;
         Ok(Senders(senders))
@@ -49,42 +51,42 @@ impl Run {
 
     /// Whether and how the run has ended.
     pub fn end(&self) -> End {
-        match self.words[0] {
-            0 => End::Running,
-            1 => End::AllNamed,
-            2 => End::NamesUsedUp,
+        match self.words[calls::RUN_END] {
+            RUNNING => End::Running,
+            ALL_NAMED => End::AllNamed,
+            NAMES_USED_UP => End::NamesUsedUp,
             other => End::Unknown(other),
         }
     }
 
     /// The place in the list of names.
     pub fn index(&self) -> u64 {
-        self.words[1]
+        self.words[calls::RUN_INDEX]
     }
 
     /// The place of the next round that this pass makes, among 200; writes that are not needed are left out.
     pub fn next_round(&self) -> u64 {
-        self.words[2]
+        self.words[calls::RUN_STEP]
     }
 
     /// The comparison value so far; after a name is given, the physical name of its slave.
     pub fn value(&self) -> u64 {
-        self.words[3]
+        self.words[calls::RUN_VALUE]
     }
 
     /// Rounds made.
     pub fn rounds(&self) -> u64 {
-        self.words[4]
+        self.words[calls::RUN_ROUNDS]
     }
 
     /// Comparisons made.
     pub fn comparisons(&self) -> u64 {
-        self.words[5]
+        self.words[calls::RUN_COMPARISONS]
     }
 
     /// The high and the low half of a comparison value that were last written to the unnamed slaves; both 0 in a fresh
     /// run. A half is not written again while it stays the same, the first comparison for a name aside.
     pub fn last_written(&self) -> (u64, u64) {
-        (self.words[6], self.words[7])
+        (self.words[calls::RUN_HIGH], self.words[calls::RUN_LOW])
     }
 }

@@ -1,5 +1,5 @@
 use crate::calls::{self, REPORT_WORDS};
-use crate::TtpaError;
+use crate::{version, TtpaError};
 
 /// A trace has at most this many bytes.
 pub const MOST_TRACE_BYTES: usize = 16_384;
@@ -33,6 +33,7 @@ pub struct Report {
 /// # Ok::<(), ttpa::TtpaError>(())
 /// ```
 pub fn trace(file: &mut [u8], trace: &[u8]) -> Result<Report, TtpaError> {
+    version::hold();
     let mut words = [0; REPORT_WORDS];
     TtpaError::of(calls::trace(file, trace, &mut words))?;
     let [msa, msd, multipartner, refused, sum] = words;

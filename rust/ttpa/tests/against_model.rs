@@ -3,12 +3,8 @@
 
 use compare::campaign::agrees_with_model;
 use compare::case::hold_all;
-use compare::edges::hold_edges;
+use compare::edges;
 use compare::engine::{Engine, ReportWords, RunWords};
-use compare::multiplex_edges::hold_multiplex_edges;
-use compare::name_edges::hold_name_edges;
-use compare::naming_edges::hold_naming_edges;
-use compare::owner_edges::hold_owner_edges;
 use ttpa::{Address, End, Report, Run, Senders, TtpaError};
 
 /// The safe functions in the form of the C calls.
@@ -102,25 +98,25 @@ fn the_safe_functions_give_the_kept_results() {
 
 #[test]
 fn the_edges_of_a_trace_hold() {
-    hold_edges(&Wrapper);
+    edges::traces::hold(&Wrapper);
 }
 
 #[test]
 fn the_edges_of_an_owner_file_hold() {
-    hold_owner_edges(&Wrapper);
+    edges::owners::hold(&Wrapper);
 }
 
 #[test]
 fn the_edges_of_logical_names_hold() {
-    hold_name_edges(&Wrapper);
+    edges::logical_names::hold(&Wrapper);
 }
 
 #[test]
 fn the_edges_of_naming_steps_hold() {
-    hold_naming_edges(&Wrapper);
+    edges::naming_steps::hold(&Wrapper);
 }
 
 #[test]
 fn the_edges_of_multiplexed_entries_hold() {
-    hold_multiplex_edges(&Wrapper);
+    edges::multiplexed::hold(&Wrapper);
 }

@@ -1,5 +1,6 @@
 -- "A refusal returns its number and alters nothing lent" (document 01, "Grounds for turning something away"), for every C call: where the
--- number that it returns is not 0, everything lent to it is what it was. The check of a file is lent nothing that a call could alter.
+-- number that it returns is not 0, everything lent to it is what it was. The check of a file is lent nothing that a call could alter; the
+-- version is asked for with nothing lent, and never refused.
 use Prim.Native.Nat.{ℕ}
 use mathlib.Core.Path.{_≡_}
 use mathlib.Core.Logic.{_≢_}

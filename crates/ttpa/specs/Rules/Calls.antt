@@ -1,6 +1,6 @@
 -- The C calls (include/ttpa.h): 0 or the documents' number, and what lent memory holds then. "A refusal returns its number and alters
 -- nothing lent".
-use Prim.Native.Nat.{ℕ}
+use Prim.Native.Nat.{ℕ, _+_, _*_}
 use mathlib.Core.List.{List, [], _∷_}
 use lib.ListN.{getD}
 use Rattle.file.specs.Rules.Grounds.{loadVerdict}
@@ -12,6 +12,20 @@ use Rattle.trace.specs.Rules.Run.{reportWords, traceOn}
 use Rattle.owner.specs.Rules.Writing.{ownerOn}
 use Rattle.naming.specs.Rules.Run.{Position, startOver}
 use Rattle.naming.specs.Rules.Step.{StepDone, ended, made, stepOn}
+
+-- the version of these definitions, which is that of include/ttpa.h: the gate compares the three numbers
+unfoldable pub versionMajor : ℕ
+versionMajor = 0
+
+unfoldable pub versionMinor : ℕ
+versionMinor = 8
+
+unfoldable pub versionPatch : ℕ
+versionPatch = 0
+
+-- the version as one number, TTPA_VERSION of the header. The call that returns it is lent nothing and refuses nothing
+unfoldable pub versionCall : ℕ
+versionCall = 10000 * versionMajor + 100 * versionMinor + versionPatch
 
 -- what was lent is as it was after a refusal; else it becomes what the call did
 unfoldable pub lentAfter : {A B : Type 0} → Result A → B → (A → B) → B

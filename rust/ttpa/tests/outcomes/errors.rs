@@ -5,8 +5,9 @@ use std::error::Error;
 use ttpa::TtpaError;
 
 /// Each ground with its number in the documents and a word that its text cannot do without.
+// .ci/refusals writes from here: grounds
 const GROUNDS: [(TtpaError, u8, &str); 24] = [
-    (TtpaError::FileSize, 1, "bytes"),
+    (TtpaError::FileSize, 1, "32,768"),
     (TtpaError::Mark, 2, "mark"),
     (TtpaError::Edition, 3, "edition"),
     (TtpaError::LengthField, 4, "as long as its header"),
@@ -19,18 +20,19 @@ const GROUNDS: [(TtpaError, u8, &str); 24] = [
     (TtpaError::FrameLength, 11, "length"),
     (TtpaError::CheckByte, 12, "firework and the four bytes"),
     (TtpaError::Operation, 13, "operation"),
-    (TtpaError::BroadcastRead, 14, "read"),
+    (TtpaError::BroadcastRead, 14, "a read is"),
     (TtpaError::ListedName, 15, "0xFF"),
     (TtpaError::RepeatedName, 16, "twice"),
     (TtpaError::Position, 17, "stored naming run"),
-    (TtpaError::FileNumber, 18, "63"),
-    (TtpaError::Trace, 19, "trace"),
+    (TtpaError::FileNumber, 18, "file number"),
+    (TtpaError::Trace, 19, "the trace"),
     (TtpaError::TwoSenders, 20, "two slaves send"),
     (TtpaError::OwnerBuffer, 21, "owner file"),
-    (TtpaError::EqualLogicalNames, 22, "logical name"),
+    (TtpaError::EqualLogicalNames, 22, "logical name;"),
     (TtpaError::MultiplexedSend, 23, "multiplexed"),
     (TtpaError::Other(24), 24, "no text"),
 ];
+// .ci/refusals writes to here
 
 #[test]
 fn every_ground_has_its_number_and_text() {

@@ -1,0 +1,96 @@
+//! Cluster files for edges, their layout written out and not made by the model or an engine.
+
+use crate::case::bytes;
+
+pub const UNNAMED: u8 = 0xFF;
+const CONFIGURATION: u8 = 0x08;
+const DATA_FILE: u8 = 0x10;
+const DOCUMENTATION: u8 = 0x3D;
+
+/// A slave's logical name, and its lists: the round, and the entries from record 1 on; a file of another number may be
+/// among them. Beside files 0x08 and 0x3D, it has a file 0x10 of records 0x00 and 1, so of the places 0 to 7, which hold
+/// 0xD0 to 0xD7.
+#[derive(Clone)]
+pub struct Slave {
+    pub name: u8,
+    pub lists: Vec<(u8, String)>,
+}
+
+/// Bytes as hexadecimal digits, with blanks anywhere.
+pub fn hex(text: &str) -> Vec<u8> {
+    let digits: String = text.split_whitespace().collect();
+    bytes(&digits).expect("hexadecimal digits")
+}
+
+/// A slave with a list for one round.
+pub fn slave(name: u8, round: u8, entries: &str) -> Slave {
+    Slave { name, lists: vec![(round, entries.to_string())] }
+}
+
+/// The slave's files in rising order of their numbers, the physical name being 7 and its place in the table.
+fn files_of(slave: &Slave, place: u8) -> Vec<(u8, Vec<u8>)> {
+    let mut files: Vec<(u8, Vec<u8>)> =
+        slave.lists.iter().map(|(round, entries)| (*round, hex(&format!("00000000 {entries}")))).collect();
+    files.push((CONFIGURATION, vec![0, 0, 0, 0, 0, 0, 0, slave.name, 0, 0, 0, 0, 0, 0, 0, 0]));
+    files.push((DATA_FILE, vec![0xD0, 0xD1, 0xD2, 0xD3, 0xD4, 0xD5, 0xD6, 0xD7]));
+    files.push((DOCUMENTATION, vec![0, 0, 0, 0, 0, 0, 0, 7, 0, 0, 0, place]));
+    files.sort_by_key(|&(number, _)| number);
+    files
+}
+
+/// The cluster file of these slaves: epoch 0, nothing pending.
+pub fn cluster(slaves: &[Slave]) -> Vec<u8> {
+    let two_bytes = |number: usize| [(number / 256) as u8, (number % 256) as u8];
+    let mut table = Vec::new();
+    let mut rest = Vec::new();
+    let first = 16 + 4 * slaves.len();
+    for (place, slave) in (0..).zip(slaves) {
+        let files = files_of(slave, place);
+        table.extend(two_bytes(first + rest.len()));
+        table.extend([files.len() as u8, 0]);
+        let mut offset = first + rest.len() + 4 * files.len();
+        for (number, content) in &files {
+            rest.extend([*number, (content.len() / 4 - 1) as u8]);
+            rest.extend(two_bytes(offset));
+            offset += content.len();
+        }
+        files.iter().for_each(|(_, content)| rest.extend(content));
+    }
+    let [high, low] = two_bytes(first + rest.len());
+    let header = vec![0x54, 0x41, 1, slaves.len() as u8, 0, 16, high, low, 0, 0, 0, 0, 0, 0, 0, 0];
+    [header, table, rest].concat()
+}
+
+/// Where a file keeps what is pending: flag, logical name, PB2 and PB3.
+pub const PENDING: usize = 9;
+
+/// Slaves of these names, none with a list.
+pub fn named(names: &[u8]) -> Vec<u8> {
+    let slaves: Vec<Slave> = names.iter().map(|&name| Slave { name, lists: Vec::new() }).collect();
+    cluster(&slaves)
+}
+
+/// Where such a slave's part begins: its directory of three files, then 0x08, 0x10 and 0x3D.
+pub fn slave_place(slaves: usize, slave: usize) -> usize {
+    16 + 4 * slaves + slave * (12 + 16 + 8 + 12)
+}
+
+/// Bytes of a file that are others, by their place.
+pub type Changes<'a> = &'a [(usize, &'a str)];
+
+/// The file with other bytes in places.
+pub fn changed(file: &[u8], changes: Changes) -> Vec<u8> {
+    let mut file = file.to_vec();
+    for &(place, text) in changes {
+        let new = hex(text);
+        file[place..place + new.len()].copy_from_slice(&new);
+    }
+    file
+}
+
+/// An answer of 64 bytes: the firework, the bytes sent from slot 1 on, then silence.
+pub fn answer(firework: u8, sent: &[u8]) -> Vec<u8> {
+    let mut answer = [&[firework], sent].concat();
+    answer.resize(64, 0xFF);
+    answer
+}

@@ -1,0 +1,44 @@
+//! Cases by hand, each chosen for one thing that is just right or just wrong. Every expected result is worked out from the
+//! documents, and no input is made by the model or an engine. An engine, the model too, has to give what stands here.
+
+mod files;
+pub mod logical_names;
+pub mod multiplexed;
+pub mod naming_steps;
+pub mod owners;
+pub mod traces;
+
+use crate::case::{Call, Outcome};
+use crate::engine::Engine;
+
+/// One call, or the same one on several buffers, and what each has to answer and leave.
+#[derive(Clone)]
+struct Edge {
+    what: &'static str,
+    calls: Vec<(Call, Outcome)>,
+}
+
+impl Edge {
+    fn new(what: &'static str, call: Call, expected: Outcome) -> Edge {
+        Edge { what, calls: vec![(call, expected)] }
+    }
+
+    /// By this number, nothing altered.
+    fn refused(what: &'static str, call: Call, number: u8) -> Edge {
+        let expected = Outcome { number, ..call.before() };
+        Edge::new(what, call, expected)
+    }
+
+    fn hold(&self, engine: &dyn Engine) {
+        for (call, expected) in &self.calls {
+            assert_eq!(&call.make(engine), expected, "{}: {call}", self.what);
+        }
+    }
+}
+
+/// Panics at the first edge at which the engine does something else, and where there are not so many.
+fn hold_all<E: Into<Edge>>(engine: &dyn Engine, groups: impl IntoIterator<Item = Vec<E>>, count: usize) {
+    let edges: Vec<Edge> = groups.into_iter().flatten().map(Into::into).collect();
+    assert_eq!(edges.len(), count);
+    edges.iter().for_each(|edge| edge.hold(engine));
+}

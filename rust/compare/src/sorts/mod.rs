@@ -1,0 +1,21 @@
+//! What calls are examples of: the sorts that have to occur, and the tally of outcomes.
+
+pub mod names;
+pub mod owners;
+pub mod passes;
+mod sort;
+pub mod tally;
+pub mod traces;
+pub mod turns;
+
+use crate::case::{Call, Outcome};
+pub use sort::{Reached, Sort};
+
+/// What any call is an example of. Traces and owner files are sorted where they are drawn.
+pub fn of(call: &Call, outcome: &Outcome) -> Vec<Sort> {
+    let mut sorts = Vec::from_iter(Sort::of(call, outcome));
+    sorts.extend(names::sorts(call, outcome));
+    sorts.extend(passes::sorts(call, outcome));
+    sorts.extend(turns::sorts(call, outcome));
+    sorts
+}

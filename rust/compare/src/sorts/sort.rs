@@ -1,0 +1,297 @@
+//! Sorts of calls that random inputs must reach, besides every answer of every call.
+
+use crate::case::{Call, Outcome};
+use crate::frames::{is_multipartner, is_unfolded};
+use model::{check, Cluster, FileNumber, Pending, RecordNumber, MSA, MSD};
+
+/// What a call is an example of.
+#[derive(Clone, Copy, PartialEq, Eq, PartialOrd, Ord)]
+pub enum Sort {
+    /// A multipartner round that alters the file beyond its epoch.
+    Stores,
+    /// An address frame whose check is that of its four bytes alone, and which is therefore not read.
+    UnfoldedNotRead,
+    /// The same in a round.
+    UnfoldedAddress,
+    /// Data of a write with such a check.
+    UnfoldedData,
+    /// A read in which several answer, and slot 5 tells that each folds the firework into its own check.
+    ChecksDiffer,
+    /// A trace that was run and has a frame of the kind: so this count of its report rises.
+    TraceWithMsa,
+    TraceWithMsd,
+    TraceWithMultipartner,
+    TraceWithRefused,
+    /// One that was run and alters the file beyond its header.
+    TraceAltersSlaves,
+    /// One that was run and has an empty frame.
+    TraceWithEmptyFrame,
+    /// One that was run and is as long as a trace may be.
+    TraceOfMostBytes,
+    /// A trace refused by 19 that is shorter than a header.
+    TraceWithoutHeader,
+    /// One that is not as long as its header says.
+    TraceOfOtherLength,
+    /// One of the stated length in which an offset is not where the frame before it ends.
+    TraceWithWrongOffset,
+    /// One of the stated length whose frames are in their order and do not end with the data.
+    TraceNotFilled,
+    /// One in which nothing is wrong but that it is too long.
+    TraceTooLong,
+    /// An owner file that was written and in which a row does not fill its last record.
+    OwnerPadded,
+    /// One in which a round's last sender is in slot 63.
+    OwnerOfMostSlots,
+    /// One in which a slave named 0x00 sends.
+    OwnerNamedZero,
+    /// One in which a slave named 0x00 sends in the last slot of a row.
+    OwnerZeroLast,
+    /// One in which nobody sends in a round, and someone in another.
+    OwnerWithoutSenders,
+    /// One in which nobody sends in a slot before the last.
+    OwnerWithGap,
+    /// One in which every round has a row of several records.
+    OwnerOfLongRows,
+    /// One written into a buffer of exactly its bytes.
+    OwnerFits,
+    /// One refused by 21 where one byte more would do.
+    OwnerOneShort,
+    /// One refused by 20 where the buffer is empty.
+    OwnerClashBeforeShort,
+    /// One refused by 20 where only slaves of one name send in one slot.
+    OwnerClashOfOneName,
+    /// One refused by 20 for round 7 alone.
+    OwnerClashInLastRound,
+    /// One that was written although two slaves would clash if unnamed ones took part.
+    OwnerWithUnnamed,
+    /// A file loaded in which several slaves are unnamed.
+    SeveralUnnamed,
+    /// One refused by 22 for slaves named 0x00 alone.
+    OnlyZeroTwice,
+    /// One refused by 8 in which two logical names are equal as well.
+    BothNamesEqual,
+    /// A write of record 1 of 0x08 at 0xFF, its last byte another than the name that an addressed slave keeps.
+    NamesWrittenUnnamed,
+    /// The same at 0x00.
+    NamesWrittenAll,
+    /// The same at another name.
+    NamesWrittenOne,
+    /// A write of record 1 of another file that alters its last byte.
+    FourBytesWritten,
+    /// A round, a step and a trace carried out on a file that loading refuses by 22.
+    RoundOnEqualNames,
+    StepOnEqualNames,
+    TraceOnEqualNames,
+    /// A write of record 1 of 0x08 between the steps of a naming run, at another name than 0xFF, that alters a slave,
+    /// with a refused call between its two frames.
+    NamesWrittenBetweenSteps,
+    /// A step handed in at the write of the high half, the low half, or both halves of a comparison, which are those
+    /// last written: it makes the next round.
+    HighPassedOver,
+    LowPassedOver,
+    BothPassedOver,
+    /// The same at the halves of the value, before a name is given.
+    GivenHighPassedOver,
+    GivenLowPassedOver,
+    GivenBothPassedOver,
+    /// A write of the first comparison of a pass, though the stored half is the same.
+    FirstHalfWrittenAgain,
+    /// A half written though the lower 32 bits of the stored one are the same.
+    WideHalfWritten,
+    /// A step after which the position stands past a needless write.
+    StandsPastWrite,
+    /// The comparison with 0 answered, after which it stands past a write of the next.
+    ZeroAnsweredPastWrite,
+    /// A naming run whose steps engine and model made in turn, the words and the file handed over.
+    RunInTurn,
+    /// A multipartner round in which a multiplexed entry of this operation is in turn and sends or stores. The first
+    /// entry that covers the slot is multiplexed, here and in the next four.
+    Multiplexed(u8),
+    /// One in which such an entry is in turn and can do nothing, so that it hides a later one.
+    MultiplexedHides,
+    /// One in which such an entry is out of turn and a plain entry acts.
+    PassedToPlain,
+    /// One in which such an entry is out of turn and another multiplexed one acts.
+    PassedToMultiplexed,
+    /// One in which all entries that cover a slot are out of turn.
+    NobodyInTurn,
+    /// One in which a multiplexed entry acts and the epoch went from 255 to 0.
+    MultiplexedAfter255,
+    /// A round between the steps of a naming run in which a multiplexed entry acts.
+    MultiplexedBetweenSteps,
+    /// An owner file refused by 23 where two slaves send in one slot.
+    OwnerMultiplexedAndClash,
+    /// One refused by 23 where the buffer is empty.
+    OwnerMultiplexedBeforeShort,
+    /// One refused by 23 for round 7 alone.
+    OwnerMultiplexedInLastRound,
+    /// One that was written, with a multiplexed send after an end, in file 1 or 5, or of an unnamed slave.
+    OwnerMultiplexedAfterEnd,
+    OwnerMultiplexedInOtherFile,
+    OwnerMultiplexedUnnamed,
+    /// One that was written, a multiplexed receive covering a slot in which the slave sends.
+    OwnerPassesReceive,
+    /// A round planned in which such a receive, in turn, keeps the slave from sending, and one in which it does not.
+    PlannedAndHidden,
+    PlannedAndNotHidden,
+    /// A trace between the steps of a naming run that was run and has a round and a refused frame in it.
+    TraceBetweenSteps,
+}
+
+/// A sort, one in how many calls has to be of it, and what is printed of it.
+pub type Reached = (Sort, usize, &'static str);
+
+impl Sort {
+    /// Each sort with one in how many of the rounds asked for has to be of it.
+    pub const REACHED: [Reached; 5] = [
+        (Sort::Stores, 80, "multipartner rounds that stored"),
+        (Sort::UnfoldedNotRead, 2_000, "address frames not read, the firework missing in their check"),
+        (Sort::UnfoldedAddress, 80, "address frames refused, the firework missing in their check"),
+        (Sort::UnfoldedData, 160, "data frames refused, the firework missing in their check"),
+        (Sort::ChecksDiffer, 4_000, "reads in which slot 5 tells that each sender folds the firework in"),
+    ];
+
+    /// Sorts of calls about logical names likewise, with one in how many of the rounds asked for.
+    pub const REACHED_ABOUT_NAMES: [Reached; 10] = [
+        (Sort::SeveralUnnamed, 20, "files loaded, with several slaves unnamed"),
+        (Sort::OnlyZeroTwice, 100, "files not loaded, only the name 0x00 occurring twice"),
+        (Sort::BothNamesEqual, 2_000, "files not loaded, physical and logical names occurring twice"),
+        (Sort::NamesWrittenUnnamed, 800, "writes of record 1 of 0x08 at 0xFF that would rename"),
+        (Sort::NamesWrittenAll, 800, "writes of record 1 of 0x08 at 0x00 that would rename"),
+        (Sort::NamesWrittenOne, 400, "writes of record 1 of 0x08 at another name that would rename"),
+        (Sort::FourBytesWritten, 2_000, "writes of record 1 of another file that alter its last byte"),
+        (Sort::RoundOnEqualNames, 10, "rounds on a file with equal logical names"),
+        (Sort::StepOnEqualNames, 40, "steps on a file with equal logical names"),
+        (Sort::TraceOnEqualNames, 80, "traces on a file with equal logical names"),
+    ];
+
+    /// Sorts of multipartner rounds with multiplexed entries, with one in how many of the rounds asked for.
+    pub const REACHED_BY_TURNS: [Reached; 13] = [
+        (Sort::Multiplexed(8), 2_000, "rounds in which operation 8 acts"),
+        (Sort::Multiplexed(9), 2_000, "rounds in which operation 9 acts"),
+        (Sort::Multiplexed(10), 4_000, "rounds in which operation 10 acts"),
+        (Sort::Multiplexed(11), 4_000, "rounds in which operation 11 acts"),
+        (Sort::Multiplexed(12), 2_000, "rounds in which operation 12 acts"),
+        (Sort::Multiplexed(13), 2_000, "rounds in which operation 13 acts"),
+        (Sort::Multiplexed(14), 4_000, "rounds in which operation 14 acts"),
+        (Sort::Multiplexed(15), 4_000, "rounds in which operation 15 acts"),
+        (Sort::MultiplexedHides, 400, "rounds in which an entry in turn that can do nothing hides another"),
+        (Sort::PassedToPlain, 200, "rounds in which a plain entry acts after one out of turn"),
+        (Sort::PassedToMultiplexed, 200, "rounds in which a multiplexed entry acts after one out of turn"),
+        (Sort::NobodyInTurn, 100, "rounds in which all entries for a slot are out of turn"),
+        (Sort::MultiplexedAfter255, 8_000, "rounds in which a multiplexed entry acts after epoch 255"),
+    ];
+
+    /// Sorts of naming steps, with one in how many of those asked for; those of naming runs count too.
+    pub const REACHED_BY_STEPS: [Reached; 10] = [
+        (Sort::HighPassedOver, 400, "steps that pass over a comparison's high half"),
+        (Sort::LowPassedOver, 200, "steps that pass over a comparison's low half"),
+        (Sort::BothPassedOver, 400, "steps that pass over both halves of a comparison"),
+        (Sort::GivenHighPassedOver, 4_000, "steps that pass over the value's high half"),
+        (Sort::GivenLowPassedOver, 4_000, "steps that pass over the value's low half"),
+        (Sort::GivenBothPassedOver, 4_000, "steps that pass over both halves of the value"),
+        (Sort::FirstHalfWrittenAgain, 600, "steps that write a half of the first comparison again"),
+        (Sort::WideHalfWritten, 200, "steps that write a half since the stored one is wider"),
+        (Sort::StandsPastWrite, 4, "steps after which the run stands past a needless write"),
+        (
+            Sort::ZeroAnsweredPastWrite,
+            4_000,
+            "comparisons with 0 after which the run stands past a needless write",
+        ),
+    ];
+
+    /// Sorts of traces likewise, with one in how many of the traces asked for; those of naming runs do not count.
+    pub const REACHED_BY_TRACES: [Reached; 12] = [
+        (Sort::TraceWithMsa, 6, "traces run, with an MSA"),
+        (Sort::TraceWithMsd, 6, "traces run, with an MSD"),
+        (Sort::TraceWithMultipartner, 8, "traces run, with a multipartner frame"),
+        (Sort::TraceWithRefused, 5, "traces run, with a refused frame"),
+        (Sort::TraceAltersSlaves, 20, "traces run that altered slaves"),
+        (Sort::TraceWithEmptyFrame, 20, "traces run, with an empty frame"),
+        (Sort::TraceOfMostBytes, 1_000, "traces run, of the most bytes"),
+        (Sort::TraceWithoutHeader, 200, "traces refused, shorter than a header"),
+        (Sort::TraceOfOtherLength, 20, "traces refused, not as long as the header says"),
+        (Sort::TraceWithWrongOffset, 30, "traces refused, an offset wrong"),
+        (Sort::TraceNotFilled, 50, "traces refused, their frames not ending with the data"),
+        (Sort::TraceTooLong, 1_000, "traces refused, nothing wrong but too long"),
+    ];
+
+    /// Sorts of owner files, with one in how many of those asked for.
+    pub const REACHED_BY_OWNERS: [Reached; 22] = [
+        (Sort::OwnerPadded, 10, "owner files written, a row padded"),
+        (Sort::OwnerOfMostSlots, 20, "owner files written, with a row of 64 slots"),
+        (Sort::OwnerNamedZero, 20, "owner files written, with a sender named 0x00"),
+        (Sort::OwnerZeroLast, 40, "owner files written, with a sender named 0x00 in a row's last slot"),
+        (Sort::OwnerWithoutSenders, 20, "owner files written, with a round without senders and one with some"),
+        (Sort::OwnerWithGap, 20, "owner files written, with a slot before a row's last that nobody sends in"),
+        (Sort::OwnerOfLongRows, 50, "owner files written, every row of several records"),
+        (Sort::OwnerFits, 20, "owner files written, the buffer just long enough"),
+        (Sort::OwnerOneShort, 40, "owner files refused, the buffer one byte too short"),
+        (Sort::OwnerClashBeforeShort, 300, "owner files refused, two senders in a slot and no buffer"),
+        (Sort::OwnerClashOfOneName, 400, "owner files refused, only slaves of one name sending in one slot"),
+        (Sort::OwnerClashInLastRound, 300, "owner files refused, two senders in round 7 alone"),
+        (Sort::OwnerWithUnnamed, 150, "owner files written, in which unnamed slaves would clash"),
+        (Sort::OwnerMultiplexedAndClash, 200, "owner files refused by 23, two senders in a slot"),
+        (Sort::OwnerMultiplexedBeforeShort, 200, "owner files refused by 23, no buffer"),
+        (Sort::OwnerMultiplexedInLastRound, 400, "owner files refused by 23 for round 7 alone"),
+        (Sort::OwnerMultiplexedAfterEnd, 200, "owner files written, with a multiplexed send after an end"),
+        (Sort::OwnerMultiplexedInOtherFile, 400, "owner files written, with a multiplexed send in file 1 or 5"),
+        (
+            Sort::OwnerMultiplexedUnnamed,
+            200,
+            "owner files written, with a multiplexed send of an unnamed slave",
+        ),
+        (Sort::OwnerPassesReceive, 100, "owner files written, a multiplexed receive in a sender's slot"),
+        (Sort::PlannedAndHidden, 200, "rounds as planned, a sender hidden by its multiplexed receive"),
+        (Sort::PlannedAndNotHidden, 200, "rounds as planned, a sender not hidden by its multiplexed receive"),
+    ];
+
+    /// Sorts of calls in naming runs, with one in how many of the runs asked for.
+    pub const REACHED_BY_RUNS: [Reached; 4] = [
+        (Sort::TraceBetweenSteps, 1, "traces run between naming steps, with a round and a refused frame"),
+        (
+            Sort::NamesWrittenBetweenSteps,
+            1,
+            "writes of record 1 of 0x08 at a name between naming steps, around a refused call",
+        ),
+        (Sort::MultiplexedBetweenSteps, 1, "rounds between naming steps in which a multiplexed entry acts"),
+        (Sort::RunInTurn, 4, "naming runs made in turn"),
+    ];
+
+    /// What a call is an example of; logical names, naming steps, multiplexed entries, traces and owner files are
+    /// sorted in `names`, `passes`, `turns`, `traces` and `owners`.
+    pub fn of(call: &Call, outcome: &Outcome) -> Option<Sort> {
+        match call {
+            Call::Read { frame } if outcome.number == 12 && is_unfolded(frame) => Some(Sort::UnfoldedNotRead),
+            Call::Round { frame, .. } if outcome.number == 12 && is_unfolded(frame) => {
+                Some(if frame[0] == MSA { Sort::UnfoldedAddress } else { Sort::UnfoldedData })
+            }
+            Call::Round { file, frame, .. } if is_multipartner(frame) => {
+                outcome.alters_beyond_epoch(file).then_some(Sort::Stores)
+            }
+            Call::Round { file, frame, .. } if frame == &[MSD] && outcome.mask() == SLOTS_OF_A_READ => {
+                check(file).is_ok_and(|cluster| checks_differ(&cluster)).then_some(Sort::ChecksDiffer)
+            }
+            _ => None,
+        }
+    }
+}
+
+/// Slots 1 to 5.
+const SLOTS_OF_A_READ: u64 = 0b11_1110;
+
+/// Whether the and of the checks that slaves send after the pending read is another byte than the firework
+/// folded once into the and of their records' exclusive ors.
+fn checks_differ(cluster: &Cluster) -> bool {
+    let Pending { name, pb2, pb3, .. } = cluster.pending;
+    let records = cluster
+        .slaves
+        .iter()
+        .filter(|slave| slave.logical_name() == name)
+        .filter_map(|slave| slave.record(FileNumber(pb2 / 4), RecordNumber(pb3)));
+    let (each, all) = records.fold((0xFF, 0xFF), |(each, all), record| {
+        let folded = record.iter().fold(0, |folded, byte| folded ^ byte);
+        (each & (MSD ^ folded), all & folded)
+    });
+    each != MSD ^ all
+}

@@ -1,0 +1,316 @@
+//! How many calls were made, by kind, number and, of those carried out, what they did.
+
+use crate::case::{Call, Outcome};
+use crate::engine::{ReportWords, RunWords};
+use crate::layout::SLAVES;
+use model::{check, End, FileNumber, Pending, MSA, MSD};
+use std::collections::BTreeMap;
+
+/// Each kind of call with what it can do when it is carried out, and the numbers that can refuse it. A whole run is a
+/// kind of its own.
+const OUTCOMES: [(&str, &[&str], &[u8]); 10] = [
+    ("check", &[PLAIN], CHECK_NUMBERS),
+    ("read", &["read", "write", "execute"], READ_NUMBERS),
+    ("write", &["read", "write", "execute"], WRITE_NUMBERS),
+    ("data", &[PLAIN], DATA_NUMBERS),
+    (
+        "round",
+        &[
+            "address",
+            "nothing-pending",
+            "read-answered",
+            "read-silent",
+            "write-stored",
+            "write-left",
+            "comparison-answered",
+            "comparison-silent",
+            "baptism-named",
+            "baptism-left",
+            "other-execute",
+            "multipartner-stored",
+            "multipartner-answered",
+            "multipartner-silent",
+        ],
+        ROUND_NUMBERS,
+    ),
+    ("start", &["running", "ended"], START_NUMBERS),
+    (
+        "step",
+        &[
+            "ended",
+            "free",
+            "taken",
+            "taken-last",
+            "name-written",
+            "high-written",
+            "low-written",
+            "reply",
+            "silence",
+            "all-named",
+            "named",
+            "named-last",
+            "nobody-named",
+        ],
+        STEP_NUMBERS,
+    ),
+    ("trace", &["no-frames", "none-refused", "some-refused", "all-refused"], TRACE_NUMBERS),
+    ("owner", &[PLAIN], OWNER_NUMBERS),
+    (RUN, &[ALL_NAMED, USED_UP], &[]),
+];
+
+// The numbers of each call in the order in which it checks them.
+// .ci/refusals writes from here: calls
+const CHECK_NUMBERS: &[u8] = &[1, 2, 3, 4, 5, 6, 7, 8, 22];
+const READ_NUMBERS: &[u8] = &[10, 11, 12, 13, 14];
+const WRITE_NUMBERS: &[u8] = &[9, 13, 14, 18];
+const DATA_NUMBERS: &[u8] = &[9];
+const ROUND_NUMBERS: &[u8] = &[1, 2, 3, 4, 5, 6, 7, 8, 9, 10, 11, 12, 13, 14];
+const START_NUMBERS: &[u8] = &[15, 16];
+const STEP_NUMBERS: &[u8] = &[1, 2, 3, 4, 5, 6, 7, 8, 9, 15, 16, 17];
+const TRACE_NUMBERS: &[u8] = &[1, 2, 3, 4, 5, 6, 7, 8, 19];
+const OWNER_NUMBERS: &[u8] = &[1, 2, 3, 4, 5, 6, 7, 8, 23, 20, 21];
+// .ci/refusals writes to here
+
+/// A call that does one thing only.
+const PLAIN: &str = "";
+const RUN: &str = "run";
+const ALL_NAMED: &str = "all-named";
+const USED_UP: &str = "names-used-up";
+
+/// A call's kind and number, and what it did if it was carried out.
+type Came = (&'static str, u8, &'static str);
+
+#[derive(Default)]
+pub struct Tally {
+    counts: BTreeMap<Came, u64>,
+}
+
+impl Tally {
+    pub fn note(&mut self, call: &Call, outcome: &Outcome) {
+        let done = if outcome.number == 0 { done(call, outcome) } else { PLAIN };
+        self.add(call.kind(), outcome.number, done);
+    }
+
+    pub fn note_run(&mut self, end: End) {
+        self.add(RUN, 0, if end == End::AllNamed { ALL_NAMED } else { USED_UP });
+    }
+
+    fn add(&mut self, kind: &'static str, number: u8, done: &'static str) {
+        *self.counts.entry((kind, number, done)).or_insert(0) += 1;
+    }
+
+    /// How many calls of each kind.
+    pub fn kinds(&self) -> BTreeMap<&'static str, u64> {
+        let mut kinds = BTreeMap::new();
+        for (&(kind, ..), count) in &self.counts {
+            *kinds.entry(kind).or_insert(0) += count;
+        }
+        kinds
+    }
+
+    /// The outcomes that never came about.
+    pub fn missing(&self) -> Vec<String> {
+        outcomes().filter(|outcome| !self.counts.contains_key(outcome)).map(shown).collect()
+    }
+
+    /// The outcomes that came about and that no call can have.
+    pub fn impossible(&self) -> Vec<String> {
+        self.counts
+            .keys()
+            .filter(|&&came| outcomes().all(|outcome| outcome != came))
+            .map(|&came| shown(came))
+            .collect()
+    }
+
+    /// `made KIND N` for each kind, and `outcome KIND NUMBER N` or `outcome KIND 0/DONE N` for each outcome.
+    pub fn print(&self) {
+        self.kinds().iter().for_each(|(kind, count)| println!("made {kind} {count}"));
+        for outcome in outcomes() {
+            if let Some(count) = self.counts.get(&outcome) {
+                println!("outcome {} {count}", shown(outcome));
+            }
+        }
+    }
+}
+
+/// All outcomes, kind by kind.
+fn outcomes() -> impl Iterator<Item = Came> {
+    OUTCOMES.into_iter().flat_map(|(kind, dones, numbers)| {
+        let carried_out = dones.iter().map(move |&done| (kind, 0, done));
+        carried_out.chain(numbers.iter().map(move |&number| (kind, number, PLAIN)))
+    })
+}
+
+fn shown((kind, number, done): Came) -> String {
+    if done == PLAIN {
+        format!("{kind} {number}")
+    } else {
+        format!("{kind} {number}/{done}")
+    }
+}
+
+/// What a call did that was carried out.
+fn done(call: &Call, outcome: &Outcome) -> &'static str {
+    match call {
+        Call::Check { .. } | Call::Data { .. } | Call::Owner { .. } => PLAIN,
+        Call::Read { .. } => operation(outcome.parts.map_or(0, |parts| parts[3])),
+        Call::Write { parts, .. } => operation(parts[3]),
+        Call::Round { file, frame, .. } => in_round(file, frame, outcome),
+        Call::Start { names } => either(names.is_empty(), "ended", "running"),
+        Call::Step { file, run, .. } => in_step(file, run, outcome),
+        Call::Trace { .. } => in_trace(outcome.report_words()),
+    }
+}
+
+fn either(test: bool, yes: &'static str, no: &'static str) -> &'static str {
+    if test {
+        yes
+    } else {
+        no
+    }
+}
+
+fn operation(number: u8) -> &'static str {
+    match number {
+        0 => "read",
+        1 => "write",
+        _ => "execute",
+    }
+}
+
+fn in_round(file: &[u8], frame: &[u8], outcome: &Outcome) -> &'static str {
+    let (answered, altered) = (outcome.mask() != 0, alters_slaves(file, outcome));
+    match frame.first() {
+        Some(&MSA) => "address",
+        Some(&MSD) => check(file).map_or(PLAIN, |cluster| in_data(&cluster.pending, answered, altered)),
+        _ if altered => "multipartner-stored",
+        _ => either(answered, "multipartner-answered", "multipartner-silent"),
+    }
+}
+
+/// What the pending operation came to. A write of the bytes that stand there leaves the slaves as they are, and so
+/// does a new name that is the old one.
+fn in_data(pending: &Pending, answered: bool, altered: bool) -> &'static str {
+    if !pending.flag {
+        return "nothing-pending";
+    }
+    match (operation(pending.pb2 % 4), FileNumber(pending.pb2 / 4), pending.pb3) {
+        ("read", ..) => either(answered, "read-answered", "read-silent"),
+        ("write", ..) => either(altered, "write-stored", "write-left"),
+        (_, FileNumber::CONFIGURATION, 1) => either(altered, "baptism-named", "baptism-left"),
+        (_, FileNumber::CONFIGURATION, 2) => either(answered, "comparison-answered", "comparison-silent"),
+        _ => "other-execute",
+    }
+}
+
+/// By the round that was made, which the header still holds: operation and record at 0xFF, or the read.
+fn in_step(file: &[u8], &[end, ..]: &RunWords, outcome: &Outcome) -> &'static str {
+    let end_after = outcome.run.map_or(end, |run| run[0]);
+    let answered = outcome.mask() >> 1 & 1 == 1;
+    let last = end_after == End::NamesUsedUp.number();
+    let pending = outcome.file.as_deref().and_then(|after| check(after).ok()).map(|after| after.pending);
+    let (operation, record) = pending.map_or(("", 0), |made| (operation(made.pb2 % 4), made.pb3));
+    match (operation, record) {
+        _ if end != End::Running.number() => "ended",
+        ("read", _) if answered => either(last, "taken-last", "taken"),
+        ("read", _) => "free",
+        ("write", 1) => "name-written",
+        ("write", 2) => "high-written",
+        ("write", _) => "low-written",
+        (_, 1) if alters_slaves(file, outcome) => either(last, "named-last", "named"),
+        (_, 1) => "nobody-named",
+        _ if end_after == End::AllNamed.number() => "all-named",
+        _ => either(answered, "reply", "silence"),
+    }
+}
+
+fn in_trace(report: Option<ReportWords>) -> &'static str {
+    match report {
+        Some([.., 0]) => "no-frames",
+        Some([_, _, _, 0, _]) => "none-refused",
+        Some([.., refused, sum]) if refused == sum => "all-refused",
+        _ => "some-refused",
+    }
+}
+
+fn alters_slaves(before: &[u8], outcome: &Outcome) -> bool {
+    outcome.file.as_deref().is_some_and(|after| after[SLAVES..] != before[SLAVES..])
+}
+
+#[cfg(test)]
+mod tests {
+    use super::*;
+    use crate::case::bytes;
+    use crate::engine::Model;
+
+    /// M10: two unnamed slaves, 00000007000000A0 and 0000000700000010.
+    fn m10() -> Vec<u8> {
+        bytes(concat!(
+            "5441010200100060000000000000000000180200003C0200",
+            "080300203D02003000000000000000FF0000000000000000000000000000000700000010",
+            "080300443D02005400000000000000FF00000000000000000000000000000007000000A0"
+        ))
+        .expect("hexadecimal digits")
+    }
+
+    fn count(tally: &Tally, done: &str) -> u64 {
+        tally.counts.iter().filter(|((_, _, came), _)| *came == done).map(|(_, count)| count).sum()
+    }
+
+    /// A pass that gives a name polls once and compares 65 times: with 0 and for each bit, where those of the bits that
+    /// are 1 are replied to. It writes the high half for 0 and the upper 32 bits, the low half for 0, the lower 32 bits
+    /// and, since bit 0 of both names is 0, once more before the name is given; bit 32 of both is 1.
+    #[test]
+    fn the_steps_of_m10() {
+        let mut tally = Tally::default();
+        let (mut file, mut run) = (m10(), [0; 8]);
+        for _ in 0..275 {
+            let call = Call::Step { file, names: vec![1, 2, 3], run, answer_length: 64 };
+            let outcome = call.make(&Model);
+            tally.note(&call, &outcome);
+            (file, run) = (outcome.file.expect("a lent file"), outcome.run.expect("a lent run"));
+        }
+        let counted = ["free", "reply", "silence", "named", "all-named", "ended"];
+        assert_eq!(counted.map(|done| count(&tally, done)), [3, 6 + 5, 59 + 60, 2, 1, 1]);
+        let written = ["name-written", "high-written", "low-written"];
+        assert_eq!(written.map(|done| count(&tally, done)), [2, 2 * 33 + 1, 2 * 34 + 1]);
+        assert_eq!(tally.kinds(), BTreeMap::from([("step", 275)]));
+        assert_eq!(tally.impossible(), [""; 0]);
+    }
+
+    #[test]
+    fn rounds_by_what_was_pending() {
+        let (mut tally, mut file) = (Tally::default(), m10());
+        // Nothing, then at 0xFF: a comparison with 0, a write of record 1, a read, a baptism of nobody, round 2.
+        let frames = [
+            "49",
+            "5505FF22028F",
+            "49",
+            "5500FF21018A",
+            "49000001FFB7",
+            "5501FF20018A",
+            "49",
+            "5501FF220188",
+            "49",
+            "BA",
+        ];
+        for frame in frames {
+            let frame = bytes(frame).expect("hexadecimal digits");
+            let call = Call::Round { file, frame, answer_length: 64 };
+            let outcome = call.make(&Model);
+            assert_eq!(outcome.number, 0, "{call}");
+            tally.note(&call, &outcome);
+            file = outcome.file.expect("a lent file");
+        }
+        let counted = [
+            "nothing-pending",
+            "address",
+            "comparison-answered",
+            "write-stored",
+            "read-silent",
+            "baptism-left",
+            "multipartner-silent",
+        ];
+        assert_eq!(counted.map(|done| count(&tally, done)), [1, 4, 1, 1, 1, 1, 1]);
+    }
+}
