@@ -11,6 +11,7 @@ pub mod Rounds
 pub mod Replaced
 pub mod StaysPending
 pub mod UnnamedWrites
+pub mod RecordWrites
 pub mod Renaming
 -- loops along the slaves of a master-slave round: their replies, and their changes
 pub mod Hearing
@@ -36,7 +37,10 @@ pub mod FrameLaws
 pub mod Cases
 pub mod RoundCall
 pub mod Sent
+pub mod SentAsWritten
 pub mod SentRounds
 pub mod FrameCall
 -- the answers are told apart
 pub mod Distinct
+-- each claim with its theorem
+pub mod Claimed

@@ -12,7 +12,6 @@ use lib.Dec.{eqb}
 use borrow.Author.Tests.{eqb-true, eqb-false, eq-eqb, ne-eqb, lt-ltb, le-ltb, ltb-false}
 use Rattle.file.specs.Rules.Bytes.{Byte, Bytes, All}
 use Rattle.file.specs.Rules.Order.{Ground, firstOf}
-use Rattle.file.specs.Rules.Results.{refused}
 use Rattle.file.specs.Rules.Layout.{pendingFlag}
 use Rattle.file.specs.Rules.Cluster.{Cluster, operationOf, executeOperation}
 use Rattle.file.specs.Rules.Encode.{encode}
@@ -39,6 +38,7 @@ use Rattle.cluster.specs.Inner.Grounds.{noFirework, lengthFor, wrongLeng
 use Rattle.cluster.specs.Rules.Round.{passedOver, effectOf, frameOn, roundGround, roundOn}
 use Rattle.cluster.specs.Inner.Effects.{dataEffect, multipartnerEffect, carriedBy, bufferBy}
 use Rattle.cluster.specs.Claims.Edition.{UnknownEditionRound}
+use Rattle.cluster.specs.Claims.Kept.{RefusedAltersNothing, RoundKeepsFile}
 use Rattle.cluster.proofs.Kept.{ClusterKept, kept-refl, kept-trans, kept-epoch, kept-raised, kept-pending, kept-after, kept-below}
 
 -- ---- the grounds of a frame that is accepted
@@ -157,7 +157,7 @@ module _ (file buffer : List ℕ) (others : List Ground) where
 -- ---- the round call
 
 -- a refused round returns its number and leaves all as it was
-pub round-refused : (file frame buffer : List ℕ) → roundGround file frame buffer ≢ 0 → roundOn file frame buffer ≡ (refused (roundGround file frame buffer), buffer, file)
+pub round-refused : RefusedAltersNothing
 unfolding roundOn
 round-refused file frame buffer h = rw (ne-eqb _ _ h)
 
@@ -207,6 +207,14 @@ round-length file frame buffer fb rb e =
     let old : Becomes file (decode file) = accepted-becomes file fb (round-facts file frame buffer e .accepted) in
     let new : Becomes (roundOn file frame buffer .2) (frameOn (decode file) frame .after) = round-becomes file frame buffer fb rb e in
     ap (λ (l : List ℕ). length l) (new .encoded) ∙ encode-length (decode file) (frameOn (decode file) frame .after) (round-kept file frame buffer rb e) ∙ sym (ap (λ (l : List ℕ). length l) (old .encoded))
+
+pub round-keeps-file : RoundKeepsFile
+round-keeps-file file frame buffer fb rb accepted =
+    byCase (eqb (roundGround file frame buffer) 0)
+    (λ e.
+    let none = eqb-true _ _ e in
+    (round-becomes file frame buffer fb rb none .accepted, round-length file frame buffer fb rb none))
+    (λ e. rw (round-refused file frame buffer (eqb-false _ _ e)) (accepted, refl))
 
 -- a file of unknown edition: answer and buffer are the same for two files of one length with the same first three bytes
 pub round-edition : UnknownEditionRound

@@ -6,7 +6,7 @@ use Prim.Native.Nat.{ℕ, _≤_}
 use native.Mathlib.Omega.{arith}
 use mathlib.Core.Path.{_≡_, refl, sym, ap, _∙_}
 use mathlib.Core.List.{List, [], _∷_}
-use mathlib.Core.Bool.{true}
+use mathlib.Core.Bool.{true, false}
 use lib.ListN.{length, getD, take}
 use Rattle.file.specs.Rules.Results.{done}
 use Rattle.file.specs.Rules.Cluster.{Cluster, pb2Of}
@@ -14,11 +14,13 @@ use Rattle.file.specs.Rules.Encode.{encode}
 use Rattle.file.specs.Rules.Decode.{decode}
 use Rattle.file.specs.Rules.Grounds.{fileGround}
 use borrow.Author.Tests.{eq-eqb}
+use Rattle.file.specs.Rules.Order.{both}
 use Rattle.file.proofs.Order.{first-none}
 use Rattle.file.proofs.Results.{no-ground}
 use Rattle.frame.specs.Rules.Fireworks.{msd, msa, dataFirework, addressFirework, roundOf, roundIn}
 use Rattle.frame.specs.Rules.Frames.{frameSize, frameOf, between, dataFrame}
 use Rattle.frame.specs.Rules.Check.{dataCheck}
+use Rattle.frame.specs.Rules.Grounds.{wrongFrameLength}
 use Rattle.frame.specs.Rules.Reading.{parts, readGround, readAddress}
 use Rattle.frame.specs.Rules.Writing.{writeFrame, dataGround, writeAddress, writeData}
 use Rattle.frame.proofs.Tests as Tests
@@ -26,12 +28,12 @@ use Rattle.frame.proofs.RoundTrip.{written-reads}
 use Rattle.cluster.specs.Rules.Bus.{slots, senderMask, answerBytes, answerIn, nobody}
 use Rattle.cluster.specs.Rules.Slaves.{withAddress, epochRaised, writing, pendingDuty, sentTo, slavesAfter, replyTo}
 use Rattle.cluster.specs.Rules.Grounds.{roundBy, writePending}
-use Rattle.cluster.specs.Inner.Grounds.{frameGround}
+use Rattle.cluster.specs.Inner.Grounds.{noFirework, lengthFor, wrongLengthOn, wrongCheckOn, noOperationOn, broadcastReadOn, frameGround}
 use Rattle.cluster.specs.Rules.Round.{effectOf, frameOn, roundGround, roundOn}
 use Rattle.cluster.proofs.Bus.{mask-nobody, answer-alike}
 use Rattle.cluster.proofs.DataLaws.{sent-nothing, pending-writes}
 use Rattle.cluster.proofs.Cases.{quiet-mask}
-use Rattle.cluster.proofs.Rounds.{round-accepted}
+use Rattle.cluster.proofs.Rounds.{fits-none, round-accepted}
 use Rattle.cluster.proofs.RoundCall.{frame-decides}
 use Rattle.cluster.proofs.FrameLaws.{address-ground, data-first, data-fits, PartsAre, parts-facts}
 
@@ -65,6 +67,24 @@ written-address-sent file buffer answer epoch name number operation «record» a
     address-sent file (take frameSize (writeAddress buffer epoch name number operation «record» .1)) answer epoch name number operation «record» accepted long (sym (written-reads buffer epoch name number operation «record» written))
 
 -- ---- a data frame
+
+-- without data it is its firework alone
+pub alone-round : roundBy (dataFirework ∷ []) ≡ msd
+unfolding roundBy roundOf roundIn
+alone-round = refl
+
+pub alone-fits : (c : Cluster) → writePending c ≡ false → frameGround c (dataFirework ∷ []) ≡ 0
+unfolding frameGround
+alone-fits c none =
+    rw alone-round
+    (fits-none c msd (dataFirework ∷ [])
+    (record {
+      firework = unfold noFirework in refl;
+      size = unfold wrongLengthOn wrongFrameLength lengthFor in rw none;
+      check = unfold wrongCheckOn both in rw none;
+      operation = unfold noOperationOn in refl;
+      broadcastRead = unfold broadcastReadOn in refl;
+    }))
 
 nobody-sends : (name n r : ℕ) (c : Cluster) (slot : ℕ) → sentTo (writing name n r) (c .slaves) slot ≡ nobody slot
 unfolding nobody replyTo

@@ -41,7 +41,7 @@ use Rattle.cluster.specs.declared.types.MasterSlaveRound.{MasterSlaveRou
 use Rattle.cluster.proofs.Bus.{answerBytes-length, answer-length}
 use Rattle.cluster.proofs.Kept.{nextEpoch-byte}
 use Rattle.cluster.proofs.Rounds.{fits-none, address-pending, round-accepted, round-becomes}
-use Rattle.cluster.proofs.Sent.{round-fits, frame-fits}
+use Rattle.cluster.proofs.Sent.{round-fits, alone-fits, frame-fits}
 
 -- a frame that fits, on an accepted file and with a buffer that is long enough, is accepted
 pub frame-taken : (file frame buffer : List ℕ) → fileGround file ≡ 0 → shortAnswer buffer ≡ false → frameGround (decode file) frame ≡ 0 → roundGround file frame buffer ≡ 0
@@ -92,19 +92,7 @@ by-bytes (of-other e) = rw e firework-bytes
 by-accepted : (c : Cluster) {operation : ℕ} {content : List ℕ} → DataOf operation content → writePending c ≡ eqb operation writeOperation → frameGround c (dataBy operation content) ≡ 0
 unfolding dataSent
 by-accepted c (of-write {a} {b} {c = c′} {d} _ _ _ _) w = frame-fits a b c′ d c w
-by-accepted c (of-other {operation = operation} e) w = rw e (alone (w ∙ e))
-  where
-    alone : writePending c ≡ false → frameGround c (dataFirework ∷ []) ≡ 0
-    alone none =
-        unfold frameGround roundBy roundOf roundIn in
-        fits-none c msd (dataFirework ∷ [])
-        (record {
-          firework = unfold noFirework in refl;
-          size = unfold wrongLengthOn wrongFrameLength lengthFor in rw none;
-          check = unfold wrongCheckOn both in rw none;
-          operation = unfold noOperationOn in refl;
-          broadcastRead = unfold broadcastReadOn in refl;
-        })
+by-accepted c (of-other {operation = operation} e) w = rw e (alone-fits c (w ∙ e))
 
 -- the bytes between firework and check are a write's data
 by-between : {operation : ℕ} {content : List ℕ} → DataOf operation content → eqb operation writeOperation ≡ true → between (dataBy operation content) ≡ content

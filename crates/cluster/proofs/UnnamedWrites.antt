@@ -8,6 +8,7 @@ use mathlib.Core.List.{List, [], _∷_, map}
 use mathlib.Core.Bool.{true, not}
 use lib.ListN.{length, getD}
 use borrow.Author.Tests.{eq-eqb, ne-eqb}
+use Rattle.file.specs.Rules.Bytes.{Bytes}
 use Rattle.file.specs.Rules.Layout.{pendingFlag}
 use Rattle.file.specs.Rules.Cluster.{Slave, Cluster, hasRecord, recordOf, logicalName, unnamed, documentation, fileNumberOf, operationOf, pb2Of, writeOperation}
 use Rattle.file.specs.Rules.Decode.{decode}
@@ -17,7 +18,7 @@ use Rattle.frame.specs.Rules.Fireworks.{msd}
 use Rattle.frame.specs.Rules.Frames.{between}
 use Rattle.cluster.specs.Rules.Slaves.{epochRaised, Duty, writing, dutyBy, pendingDuty, addresses, addressed, mayWrite, takesWrite, slaveAfter, slavesAfter}
 use Rattle.cluster.specs.Rules.Grounds.{roundBy}
-use Rattle.cluster.specs.Rules.Round.{effectOf, frameOn, roundOn}
+use Rattle.cluster.specs.Rules.Round.{effectOf, frameOn, roundGround, roundOn}
 use Rattle.cluster.specs.Claims.Pending.{Pending}
 use Rattle.cluster.specs.Claims.Writes.{slaveIn, UnnamedTakeWrites}
 use Rattle.cluster.proofs.Rounds.{round-becomes}
@@ -55,18 +56,22 @@ takes n r s own has file «record» =
     both-true (eq-eqb (logicalName s) unnamed own)
     (both-true has (both-true (ap not (ne-eqb n documentation file)) (ap not (ne-eqb r 0x00 «record»))))
 
+-- the slave at an index after an accepted MSD with a write pending
+pub slave-written :
+    (file frame buffer : List ℕ) (name n r i : ℕ) → Bytes file → Bytes frame → roundBy frame ≡ msd → roundGround file frame buffer ≡ 0 →
+    Pending (decode file) pendingFlag name (pb2Of n writeOperation) r → i < length (decode file .slaves) →
+    slaveIn (roundOn file frame buffer .2) i ≡ slaveAfter (writing name n r) (between frame) (slaveIn file i)
+unfolding slaveIn
+slave-written file frame buffer name n r i fb rb isMsd accepted pending here =
+    let new = round-becomes file frame buffer fb rb accepted in
+    let slaves : decode (roundOn file frame buffer .2) .slaves ≡ map (slaveAfter (writing name n r) (between frame)) (decode file .slaves) =
+    ap (λ (c : Cluster). c .slaves) (new .decoded) ∙ slaves-after (decode file) frame isMsd (write-pending (decode file) name n r pending)
+    in
+    ap (λ (ss : List Slave). getD ss i (record { files = [] })) slaves ∙ mapped-at (slaveAfter (writing name n r) (between frame)) (decode file .slaves) i (record { files = [] }) here
+
 -- ---- the claim
 
 pub unnamed-take-writes : UnnamedTakeWrites
-unfolding slaveIn
 unnamed-take-writes file frame buffer n r fb rb w i here own has =
-    let new = round-becomes file frame buffer fb rb (w .accepted) in
-    let s : Slave = slaveIn file i in
-    let slaves : decode (roundOn file frame buffer .2) .slaves ≡ map (slaveAfter (writing unnamed n r) (between frame)) (decode file .slaves) =
-    ap (λ (c : Cluster). c .slaves) (new .decoded) ∙ slaves-after (decode file) frame (w .isMsd) (write-pending (decode file) unnamed n r (w .pending))
-    in
-    let at : slaveIn (roundOn file frame buffer .2) i ≡ slaveAfter (writing unnamed n r) (between frame) s =
-    ap (λ (ss : List Slave). getD ss i (record { files = [] })) slaves ∙ mapped-at (slaveAfter (writing unnamed n r) (between frame)) (decode file .slaves) i (record { files = [] }) here
-    in
-    ap (λ (t : Slave). recordOf t n r) at
-    ∙ write-taken unnamed n r (between frame) s refl (takes n r s own has (w .notDocumentation) (w .notHeader)) .here
+    ap (λ (t : Slave). recordOf t n r) (slave-written file frame buffer unnamed n r i fb rb (w .isMsd) (w .accepted) (w .pending) here)
+    ∙ write-taken unnamed n r (between frame) (slaveIn file i) refl (takes n r (slaveIn file i) own has (w .notDocumentation) (w .notHeader)) .here

@@ -50,7 +50,7 @@ position-back : (p : Position) → positionIn (wordsOf p) ≡ p
 unfolding positionIn wordsOf
 position-back p = refl
 
-step-number : (file : List ℕ) (p : Position) (names buffer : List ℕ) → numberIn (stepOn file p names buffer .0) ≡ stepGround file p names buffer
+pub step-number : (file : List ℕ) (p : Position) (names buffer : List ℕ) → numberIn (stepOn file p names buffer .0) ≡ stepGround file p names buffer
 unfolding numberIn
 step-number file p names buffer =
     byCase (eqb (stepGround file p names buffer) 0)
@@ -79,14 +79,14 @@ step-words file p names buffer =
     (λ e. rw (step-ended file p names buffer none (eqb-false _ _ e))))
     (λ z. rw (step-refused file p names buffer (eqb-false _ _ z)))
 
-round-number : (file bytes buffer : List ℕ) → numberIn (roundOn file bytes buffer .0) ≡ roundGround file bytes buffer
+pub round-number : (file bytes buffer : List ℕ) → numberIn (roundOn file bytes buffer .0) ≡ roundGround file bytes buffer
 unfolding numberIn
 round-number file bytes buffer =
     byCase (eqb (roundGround file bytes buffer) 0)
     (λ z. let none = eqb-true _ _ z in rw (round-accepted file bytes buffer none) (sym none))
     (λ z. rw (round-refused file bytes buffer (eqb-false _ _ z)))
 
-trace-number : (file t : List ℕ) → numberIn (traceOn file t .0) ≡ traceGround file t
+pub trace-number : (file t : List ℕ) → numberIn (traceOn file t .0) ≡ traceGround file t
 unfolding numberIn
 trace-number file t =
     byCase (eqb (traceGround file t) 0)
@@ -193,7 +193,7 @@ call-front names s p (ttpaStep arguments senders) cs = unfold rules.permitted ru
 call-front names s p (ttpaRound bytes buffer senders) cs = unfold rules.permitted rules.permittedCall in refl
 call-front names s p (ttpaTrace t report) cs = trace-front names s p t (singly (map argumentsOf cs))
 
--- the lists permitted here are those that the rules permit, so all that `naming/proofs/Lists` and `Between` permit
+-- the lists permitted here are those that the rules permit
 pub same-permitted : SamePermitted
 unfolding permitted rules.permitted singly
 same-permitted names s p [] = refl
@@ -227,7 +227,7 @@ unfolding checkCall loadVerdict
 check-number file = number-result (loadGround file) tt
 
 -- ttpa_check returns 0 or 22 exactly for the files that none of grounds 1 to 8 refuses
-runs-accepted : {file : List ℕ} → TakenByRounds file → fileGround file ≡ 0
+pub runs-accepted : {file : List ℕ} → TakenByRounds file → fileGround file ≡ 0
 runs-accepted {file} (loads e) = load-file file (sym (check-number file) ∙ e)
 runs-accepted {file} (equalNames e) =
     byCase (eqb (fileGround file) 0)
@@ -242,7 +242,7 @@ accepted-runs {file} g =
     (λ t. equalNames (check-number file ∙ load-last file g ∙ rw t))
     (λ t. loads (check-number file ∙ load-last file g ∙ rw t))
 
-start-number : (names run : List ℕ) → startCall names run .0 ≡ startGround names
+pub start-number : (names run : List ℕ) → startCall names run .0 ≡ startGround names
 unfolding startCall startOver
 start-number names run = number-result (startGround names) (fresh names)
 
@@ -250,12 +250,12 @@ start-memory : (file names run : List ℕ) → startGround names ≡ 0 → start
 unfolding startCall startOver lentAfter startOn
 start-memory file names run none = rw (result-done {value = fresh names} none)
 
-start-permitted :
-    (file names run : List ℕ) → startGround names ≡ 0 → (calls : List CCall) → permitted false names (started file names run) calls ≡ true →
-    rules.permitted names (startOn file) (fresh names) (singly (map argumentsOf calls)) ≡ true
+-- the lists permitted after ttpa_start are those that the rules permit from a fresh run on
+pub start-same :
+    (file names run : List ℕ) → startGround names ≡ 0 → (calls : List CCall) →
+    permitted false names (started file names run) calls ≡ rules.permitted names (startOn file) (fresh names) (singly (map argumentsOf calls))
 unfolding startOn
-start-permitted file names run none calls may =
-    sym (same-permitted names (startOn file) (fresh names) calls) ∙ rw (start-memory file names run none) at may
+start-same file names run none calls = rw (start-memory file names run none) (same-permitted names (startOn file) (fresh names) calls)
 
 -- what demand 3 says of file and position, said of file and words
 in-words :
@@ -278,7 +278,7 @@ pub throughout-calls : ThroughoutCalls
 throughout-calls file b checked names n run fresh-run calls more given may =
     let none : startGround names ≡ 0 = sym (start-number names run) ∙ fresh-run in
     let d = throughout-with-traces file b (runs-accepted checked) names n none (map argumentsOf calls) (map argumentsOf more) (all-given given)
-    (rw (map-append argumentsOf calls more) at (start-permitted file names run none (calls ++ more) may)) in
+    (rw (map-append argumentsOf calls more) at (sym (start-same file names run none (calls ++ more)) ∙ may)) in
     let after = afterAll names (startOn file) (fresh names) (map argumentsOf calls) in
     rw (start-memory file names run none, calls-memory names (startOn file) (fresh names) calls) (in-words b n none calls (after .0) (after .1) d)
 

@@ -1,9 +1,15 @@
 -- demand 3 over lists with traces
 pub mod Traces
--- there are such lists
-pub mod Between
 -- demand 3 over the C calls
 pub mod Calls
+-- which lists are permitted, and rounds among them
+pub mod Permitted
+-- a step is two calls of ttpa_round
+pub mod Steps
+-- a trace is its frames, one call of ttpa_round each
+pub mod TraceCalls
 -- what stays pending, and who is renamed, over lists of calls
 pub mod Pending
 pub mod Renaming
+-- each claim with its theorem
+pub mod Claimed

@@ -1,12 +1,13 @@
 -- Demand 3 over lists with traces, from demand 3: a trace leaves what its frames leave that are sent singly, so a list with traces
 -- leaves what the list leaves in which its frames stand for each trace.
 -- Assumes nothing.
-use Prim.Native.Nat.{ℕ}
+use Prim.Native.Nat.{ℕ, _≤_}
+use native.Mathlib.Omega.{arith}
 use mathlib.Core.Path.{_≡_, refl, sym, ap, _∙_}
 use mathlib.Core.Logic.{_≢_}
 use mathlib.Core.List.{List, [], _∷_, _++_, map, append-assoc}
 use mathlib.Core.Bool.{Bool, true, false}
-use lib.ListN.{replicate}
+use lib.ListN.{length, replicate, length-replicate}
 use lib.Dec.{eqb}
 use borrow.Author.Tests.{eqb-true, eqb-false}
 use Rattle.file.specs.Rules.Bytes.{Bytes, All, All.allEmpty, All.allNext as also}
@@ -18,14 +19,15 @@ use Rattle.cluster.specs.Rules.Round.{Answer, roundGround}
 use Rattle.cluster.proofs.Rounds.{round-refused, round-facts}
 use Rattle.trace.specs.Rules.Trace.{frameCount, brokenTrace, framesOf}
 use Rattle.trace.specs.Rules.Run.{sent, afterFrames, traceGround, traceOn}
-use Rattle.trace.proofs.Runs.{frames-bytes}
+use Rattle.trace.proofs.Runs.{sent-any, frames-bytes}
 use Rattle.trace.proofs.Calls as call
 use Rattle.naming.specs.Rules.Run.{Position, fresh, startGround}
 use Rattle.naming.specs.Rules.Account.{Call, frame, Account, accountCall, accountAfter}
 use Rattle.naming.specs.Claims.Demand.{State, startOn, halfwayAfter, callOn, permitted, afterCalls, OfBytes, of-frame, Demand}
+use Rattle.naming.specs.Claims.PermittedRounds.{SentBy, noFrames, oneMore}
 use Rattle.naming.proofs.OverBytes.{demand-3, throughout}
 use Rattle.demand.specs.Claims.Traces.{CallOrTrace, AllBytes, in-call, in-trace, halfwayFrom, halfwayAfterTrace, afterTrace, callOrTraceOn, afterAll}
-use Rattle.demand.specs.Claims.Traces.{frameCall, framesSingly, singly, tracesAside, TraceSentSingly, AllSentSingly, AccountTracesAside, DemandWithTraces}
+use Rattle.demand.specs.Claims.Traces.{frameCall, framesSingly, singly, tracesAside, TraceSentInOrder, TraceSentSingly, AllSentSingly, AccountTracesAside, DemandWithTraces}
 
 -- ---- frames sent singly
 
@@ -38,6 +40,17 @@ frames-singly :
 unfolding afterSingly afterCalls callOn frameCall afterFrames halfwayFrom sent
 frames-singly names s p [] = refl
 frames-singly names s p (x ∷ xs) = frames-singly names (callOn names s p (frameCall x) .0) p xs
+
+-- with any buffers of 64 bytes or more
+pub zeros-long : slots ≤ length {A = ℕ} (replicate slots 0)
+zeros-long = omega (arith, length-replicate {A = ℕ} slots 0)
+
+frames-in-order : (names : List ℕ) (s : State) (p : Position) {xs : List (List ℕ)} {cs : List Call} → SentBy xs cs → afterCalls names s p cs ≡ (afterSingly s xs, p)
+unfolding afterSingly afterCalls callOn frameCall afterFrames halfwayFrom sent
+frames-in-order names s p noFrames = refl
+frames-in-order names s p (oneMore {bytes = x} {buffer = buffer} long rest) =
+    rw (sent-any (s .file) x buffer long .answer, sent-any (s .file) x buffer long .file)
+    (frames-in-order names (callOn names s p (frameCall x) .0) p rest)
 
 -- on a file that is refused they leave all as it was
 module _ (file : List ℕ) (some : fileGround file ≢ 0) where
@@ -84,6 +97,12 @@ trace-sent-singly names s p t =
     byCase (brokenTrace t)
     (λ broken. rw (broken, trace-refused s t some) (unfold afterCalls in refl))
     (λ whole. rw (whole, trace-refused s t some) (frames-singly names s p (framesOf t) ∙ rw (file-refused s t some whole))))
+
+pub trace-sent-in-order : TraceSentInOrder
+trace-sent-in-order names s p t whole calls sends =
+    frames-in-order names s p sends
+    ∙ sym (frames-singly names s p (framesOf t))
+    ∙ (let e = trace-sent-singly names s p t in unfold framesSingly in rw whole at e)
 
 -- ---- lists
 

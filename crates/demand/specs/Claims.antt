@@ -1,6 +1,9 @@
--- Statements of theorems: demand 3 over lists with traces and over the C calls, and what stays pending and who is renamed over
--- lists of calls.
+-- Statements of theorems: demand 3 over lists with traces and over the C calls, the lists that it permits there, a step and a trace as
+-- calls of ttpa_round, and what stays pending and who is renamed over lists of calls.
 pub mod Traces
 pub mod Calls
+pub mod Permitted
+pub mod Steps
+pub mod TraceCalls
 pub mod Pending
 pub mod Renaming

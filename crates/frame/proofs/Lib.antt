@@ -6,3 +6,5 @@ pub mod Accepted
 pub mod Written
 pub mod RoundTrip
 pub mod Distinct
+-- each claim with its theorem
+pub mod Claimed

@@ -55,6 +55,7 @@ use Rattle.listing_text.specs.Rules.Text.{nameLine, totalsLine, refusedL
 use Rattle.listing_text.specs.Rules.Listing.{allNames, ListState, isMade, givesName, withoutName, withName, listStep, listSteps, mostSteps, startState, endState, withTotals, listing, fileListed}
 use Rattle.listing_text.specs.Claims.Edition.{UnknownEditionListed}
 use Rattle.listing_text.specs.Claims.Closed.{lines, namesGiven, closedListing, ListingClosed}
+use Rattle.listing_text.specs.Claims.Listed.{ListingEnded, NamesListed, RefusedListed}
 use Rattle.listing_text.proofs.ListLaws.{length-names}
 use Rattle.listing_text.proofs.GivingLaws.{names-accepted, toGive, LastFor, GivesNext, NoneGiven, OneGiven, Gives, none-given, one-given, RoundMade, nothing-left, account-round}
 
@@ -351,19 +352,18 @@ listing-closed file b g =
     rw (accepted-test file g) (same-text (t .after-step) (t .counted) (t .compared) (t .rounds))
 
 -- The steps that the listing makes at most suffice: the run has ended.
-pub listing-ended : (file : List ℕ) → Bytes file → fileGround file ≡ 0 → endState file .run .end ≡ running → ⊥
+pub listing-ended : ListingEnded
 listing-ended file b g = whole-state file b g .ended
 
 -- The slaves' names in the file that the listing leaves.
-pub listing-names :
-    (file : List ℕ) → Bytes file → loadGround file ≡ 0 → namesIn (decode (fileListed file)) ≡ namesAfter (namesIn (decode file)) allNames
+pub listing-names : NamesListed
 unfolding fileListed
 listing-names file b g = rw (accepted-test file g) (whole-state file b (load-file file g) .named)
 
 -- ---- files that are refused
 
 -- A refused file gives only its number, and is left as it was.
-pub listing-refused : (file : List ℕ) → (loadGround file ≡ 0 → ⊥) → (listing file ≡ refusedLine (loadGround file)) × (fileListed file ≡ file)
+pub listing-refused : RefusedListed
 unfolding listing fileListed
 listing-refused file some = let e = ne-eqb (loadGround file) 0 some in (rw e, rw e)
 

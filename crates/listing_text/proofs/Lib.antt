@@ -3,3 +3,5 @@ pub mod PutLaws
 pub mod ListLaws
 pub mod GivingLaws
 pub mod ClosedLaws
+-- each claim with its theorem
+pub mod Claimed

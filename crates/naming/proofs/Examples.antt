@@ -2,10 +2,9 @@
 -- Assumes nothing.
 use Prim.Native.Nat.{ℕ, zero, suc}
 use mathlib.Core.Path.{_≡_, refl, ap, _∙_}
-use mathlib.Core.Bool.{Bool, true, false, cond}
+use mathlib.Core.Bool.{true, false}
 use mathlib.Core.List.{List, [], _∷_}
 use lib.ListN.{length, replicate}
-use lib.Dec.{eqb, leb}
 use Rattle.file.specs.Rules.Grounds.{isAmong, hasRepeat, fileGround, fileGroundAt, fileGroundsAt, wrongSize, wrongMark, wrongEdition, wrongLength, wrongHeader, wrongPending, brokenLayout, walkFile, tableEnd, walkSlaves, andThen, walkSlave, goodTableEntry, walkDirectory, goodEntry, endsAt, lacksNeeded, allHaveNeeded, hasNeeded, equalPhysicalNames, heldNames}
 use Rattle.file.specs.Rules.Order.{firstOf, both, either}
 use Rattle.file.specs.Rules.Bytes.{numberOf, bytesOf, part, allZero}
@@ -14,10 +13,9 @@ use Rattle.file.specs.Rules.Decode.{decode, decodeAt, slavesAt, slaveAt, filesA
 use Rattle.naming.specs.Rules.Rounds.{sent, atUnnamed}
 use Rattle.cluster.specs.Rules.Slaves.{isNameRecord}
 use Rattle.cluster.specs.Rules.MasterSlave.{Sent}
-use Rattle.naming.specs.Rules.Run.{Position, fresh, endAt, PassPlace, poll, ask, giveName, giveHigh, giveLow, baptize, high, low, reply, wrote, atStep, moveOn, onward, nextName, endAllNamed, advance, roundHere, isNeedless, isFirst, isRepeated, passOver, onto, nextRound, roundAt, placeOf, askOrGive, questionOf, partOf, giveOf, tried}
+use Rattle.naming.specs.Rules.Run.{Position, wrote, atStep, moveOn, onward, advance, roundHere, isNeedless, isFirst, isRepeated, passOver, onto, nextRound, roundAt, placeOf, askOrGive, questionOf, partOf, giveOf, tried}
 use Rattle.cluster.specs.Rules.Grounds.{shortAnswer}
 use Rattle.naming.specs.Rules.Account.{namesOf, namesIn, Account, Call, Call.step as stepBy, argumentsGround, accountCall, accountAfter, accountOf, comparisonsOf, comparisonsAfter, highAgain, bitClear, namingRounds, oneRound, pass, freePass, goOn, passDone, give, falling, insert, unnamedAmong, namesHeld, endWith}
-use Rattle.naming.specs.Claims.Passes.{upperBits, lowerBits, ifMade, passRounds, passFor}
 use Rattle.naming.specs.Claims.Files.{m10File}
 use Rattle.naming.specs.Claims.Cases.{answerBuffer, from, slave, figures}
 
@@ -125,45 +123,6 @@ needless-stands :
     record { end = 0; index = 1; step = 7; value = 0; rounds = 10; comparisons = 3; high = 0x80000000; low = 0 }
 unfolding needless advance moveOn onward wrote roundHere onto passOver atStep isNeedless isFirst isRepeated both roundAt placeOf askOrGive questionOf partOf tried
 needless-stands = refl
-
--- the rounds really made of a pass of the run over one name with one unnamed slave, by the rules of the run: it stays silent at the poll
--- and at writes, and answers a comparison with a value up to its physical name
-answerOf : ℕ → PassPlace → ℕ → Bool
-answerOf p (ask q reply) value = leb (tried q value) p
-answerOf p (ask q high) value = false
-answerOf p (ask q low) value = false
-answerOf p poll value = false
-answerOf p giveName value = false
-answerOf p giveHigh value = false
-answerOf p giveLow value = false
-answerOf p baptize value = false
-
-made : ℕ → ℕ → Position → List PassPlace
-made p zero q = []
-made p (suc n) q =
-    let place = placeOf (q .step) in
-    let rest = made p n (advance (7 ∷ []) q (answerOf p place (q .value))) in
-    cond (eqb (q .end) 0) (place ∷ rest) []
-
-passBy : ℕ → List PassPlace
-passBy p = made p 200 (fresh (7 ∷ []))
-
--- they are those of the pass written out, for names with bits 32 and 0 as 00, 01, 10 and 11
-pass-00 : passBy 0x0000000000000000 ≡ passFor 0x0000000000000000
-unfolding passBy made answerOf fresh endAt advance moveOn onward nextName endAllNamed wrote roundHere onto passOver atStep isNeedless isFirst isRepeated both roundAt placeOf askOrGive questionOf partOf giveOf tried passFor passRounds upperBits lowerBits ifMade bitClear
-pass-00 = refl
-
-pass-01 : passBy 0x0000000000000001 ≡ passFor 0x0000000000000001
-unfolding passBy made answerOf fresh endAt advance moveOn onward nextName endAllNamed wrote roundHere onto passOver atStep isNeedless isFirst isRepeated both roundAt placeOf askOrGive questionOf partOf giveOf tried passFor passRounds upperBits lowerBits ifMade bitClear
-pass-01 = refl
-
-pass-10 : passBy 0x0000000700000010 ≡ passFor 0x0000000700000010
-unfolding passBy made answerOf fresh endAt advance moveOn onward nextName endAllNamed wrote roundHere onto passOver atStep isNeedless isFirst isRepeated both roundAt placeOf askOrGive questionOf partOf giveOf tried passFor passRounds upperBits lowerBits ifMade bitClear
-pass-10 = refl
-
-pass-11 : passBy 0xFFFFFFFFFFFFFFFF ≡ passFor 0xFFFFFFFFFFFFFFFF
-unfolding passBy made answerOf fresh endAt advance moveOn onward nextName endAllNamed wrote roundHere onto passOver atStep isNeedless isFirst isRepeated both roundAt placeOf askOrGive questionOf partOf giveOf tried passFor passRounds upperBits lowerBits ifMade bitClear
-pass-11 = refl
 
 -- which names 22 counts, and which record's last byte a write leaves: 0xFF is left out and 0x00 is not; record 1 of 0x08 and no other file's
 held-names : heldNames (0x00 ∷ 0xFF ∷ 0x05 ∷ 0x00 ∷ []) ≡ 0x00 ∷ 0x05 ∷ 0x00 ∷ []

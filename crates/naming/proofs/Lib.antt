@@ -10,6 +10,7 @@ pub mod Simulation
 pub mod Tally
 pub mod Closed
 pub mod Passes
+pub mod PassRounds
 pub mod Sorted
 pub mod Start
 pub mod Abstract
@@ -21,6 +22,8 @@ pub mod StepRound
 pub mod ByteLaws
 pub mod OverBytes
 pub mod Lists
+pub mod PermittedExactly
+pub mod PermittedRounds
 pub mod HeldOnce
 pub mod StepLaws
 pub mod PositionLaws
@@ -28,8 +31,14 @@ pub mod NameLaws
 pub mod SendLaws
 pub mod RunLaws
 pub mod StepCode
+pub mod Bytes
+pub mod StepFrames
+pub mod RoundsMade
 pub mod Renaming
 pub mod Witnesses
+pub mod WriteWitnesses
 pub mod Cases
 -- the answers are told apart
 pub mod Distinct
+-- each claim with its theorem
+pub mod Claimed

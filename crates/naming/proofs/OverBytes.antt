@@ -17,6 +17,7 @@ use Rattle.naming.specs.Rules.Run.{Position, fresh, startGround, unfitPo
 use Rattle.naming.specs.Rules.Step.{stepGround}
 use Rattle.naming.specs.Rules.Account.{Named, StepArguments, Call, argumentsGround, namesIn, accountOf, accountAfter}
 use Rattle.naming.specs.Claims.Demand.{State, startOn, callOn, permittedCall, permitted, afterCalls, OfBytes, Demand, DemandThree}
+use Rattle.naming.specs.Claims.Throughout.{Throughout}
 use Rattle.naming.proofs.Answers.{namedOf}
 use Rattle.naming.proofs.Start.{Names}
 use Rattle.naming.proofs.Abstract.{Permitted, all-made, one-more, runCalls}
@@ -105,10 +106,7 @@ demand-3 file b g names bytes accepted calls of-bytes may =
     holds-demand file names b g (accepted-names names bytes accepted) calls (all-permitted names (startOn file) (fresh names) of-bytes may)
 
 -- Throughout: after the calls at the front of a permitted list, wherever it is cut, also within a round of others.
-pub throughout :
-    (file : List ℕ) → Bytes file → fileGround file ≡ 0 → (names : List ℕ) → Bytes names → startGround names ≡ 0 → (cs ds : List Call) →
-    All OfBytes cs → permitted names (startOn file) (fresh names) (cs ++ ds) ≡ true →
-    Demand file names cs (afterCalls names (startOn file) (fresh names) cs .0 .file) (afterCalls names (startOn file) (fresh names) cs .1)
+pub throughout : Throughout
 throughout file b g names bytes accepted cs ds of-bytes may =
     holds-demand file names b g (accepted-names names bytes accepted) cs (front-permitted names (startOn file) (fresh names) ds of-bytes may)
 

@@ -36,7 +36,7 @@ below-length true false = omega arith
 below-length false true = omega arith
 below-length false false = omega arith
 
-all-executed : (h l : Bool) → executesIn (passRounds h l) ≡ 65
+pub all-executed : (h l : Bool) → executesIn (passRounds h l) ≡ 65
 unfolding passRounds upperBits lowerBits ifMade executesIn
 all-executed true true = refl
 all-executed true false = refl

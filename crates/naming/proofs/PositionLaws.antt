@@ -130,7 +130,7 @@ module _ (n v : ℕ) where
   writes-none p giveLow e = cc
   writes-none p baptize e = refl
 
-third-part : (j : ℕ) → (j ≡ 0 → ⊥) → (j ≡ 1 → ⊥) → partOf j ≡ reply
+pub third-part : (j : ℕ) → (j ≡ 0 → ⊥) → (j ≡ 1 → ⊥) → partOf j ≡ reply
 unfolding partOf
 third-part zero m l = absurd (m refl)
 third-part (suc zero) m l = absurd (l refl)
@@ -215,7 +215,7 @@ needless-late : (p : Position) → comparisonRounds < p .step → (names : List 
 unfolding isNeedless roundHere both
 needless-late p late names = rw (late-place (p .step) late)
 
-writes-nothing : (n v : ℕ) (p : Position) (l : PassPlace) → partAt l ≡ reply → isRepeated (roundAt l n v) p ≡ false
+pub writes-nothing : (n v : ℕ) (p : Position) (l : PassPlace) → partAt l ≡ reply → isRepeated (roundAt l n v) p ≡ false
 unfolding partAt roundAt isRepeated
 writes-nothing n v p poll e = refl
 writes-nothing n v p (ask q high) e = cc

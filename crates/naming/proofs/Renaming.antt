@@ -30,7 +30,7 @@ use Rattle.naming.proofs.Abstract.{Sendable, of-baptize}
 use Rattle.naming.proofs.SlaveRounds.{carriedOut, slave-changes}
 use Rattle.naming.proofs.StepLaws.{step-refused, step-ended, step-made}
 use Rattle.naming.proofs.StepRound.{Made, round-made}
-use Rattle.naming.proofs.RunLaws.{runs, next-sendable}
+use Rattle.naming.proofs.RunLaws.{runs, next-sendable, advanced-small}
 
 -- ---- the names by the views
 
@@ -125,3 +125,14 @@ step-bytes file p names buffer b n small =
     rw (step-made file p names buffer g going) (round file p names buffer b g going (sendable file p names buffer b g going n small) .bytes))
     (λ e. rw (step-ended file p names buffer g (eqb-false (p .end) running e)) b))
     (λ z. rw (step-refused file p names buffer (eqb-false (stepGround file p names buffer) 0 z)) b)
+
+-- and the position it leaves has a value of 64 bits
+pub step-value : (file : List ℕ) (p : Position) (names buffer : List ℕ) → p .value < 2 ^ bits → stepOn file p names buffer .1 .value < 2 ^ bits
+step-value file p names buffer small =
+    byCase (eqb (stepGround file p names buffer) 0)
+    (λ z.
+    let g = eqb-true (stepGround file p names buffer) 0 z in
+    byCase (eqb (p .end) running)
+    (λ e. rw (step-made file p names buffer g (eqb-true (p .end) running e)) (advanced-small names p _ small))
+    (λ e. rw (step-ended file p names buffer g (eqb-false (p .end) running e)) small))
+    (λ z. rw (step-refused file p names buffer (eqb-false (stepGround file p names buffer) 0 z)) small)

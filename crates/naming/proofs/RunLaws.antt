@@ -13,7 +13,7 @@ use Rattle.file.specs.Rules.Results.{done}
 use Rattle.file.specs.Rules.Cluster.{broadcast, unnamed}
 use Rattle.file.specs.Inner.Accepted.{Placed}
 use Rattle.file.proofs.Order.{byCase, either-false-left, either-false-right, both-false-next, first-none}
-use Rattle.naming.specs.Rules.Rounds.{half, comparisonRounds, sent}
+use Rattle.naming.specs.Rules.Rounds.{half, comparisonRounds, RunRound, sent}
 use Rattle.naming.specs.Rules.Run.{Position, running, unfitName, namesGrounds, startGround, runGrounds, unfitPosition, Question, questionOf, tried, Part, high, low, reply, partOf, giveOf, ask, bits, giveStep, PassPlace, poll, giveName, giveHigh, giveLow, baptize, least, bit, lastStep, askOrGive, placeOf, roundAt, roundHere, onto, nextRound, wrote, onward, nextName, endAllNamed, moveOn, advance}
 use Rattle.naming.specs.Rules.Step.{isReply, made, madeBy, stepMade}
 use Rattle.cluster.specs.declared.types.MasterSlaveRound.{MasterSlaveRound}
@@ -118,6 +118,9 @@ unfolding questionOf
 question-legal zero h = of-least
 question-legal (suc q) h = of-bit {b = bits - suc q} (omega arith)
 
+few-questions : (k : ℕ) → k < giveStep → (k - 1) / comparisonRounds ≤ bits
+few-questions k h = omega arith
+
 module _ {n v : ℕ} (f : Fit n) (small : v < 2 ^ bits) where
   ask-sendable : {q : Question} (r : Part) → LegalQuestion q → Sendable (roundAt (ask q r) n v)
   unfolding roundAt
@@ -135,11 +138,8 @@ module _ {n v : ℕ} (f : Fit n) (small : v < 2 ^ bits) where
   ask-or-give : (k : ℕ) → (k ≡ 0 → ⊥) → Sendable (roundAt (placeOf k) n v)
   ask-or-give k some =
       byCase (ltb k giveStep)
-      (λ e. rw (place-ask k some (ltb-true k giveStep e)) (ask-sendable (partOf ((k - 1) % comparisonRounds)) (question-legal ((k - 1) / comparisonRounds) (few k (ltb-true k giveStep e)))))
+      (λ e. rw (place-ask k some (ltb-true k giveStep e)) (ask-sendable (partOf ((k - 1) % comparisonRounds)) (question-legal ((k - 1) / comparisonRounds) (few-questions k (ltb-true k giveStep e)))))
       (λ e. rw (place-give k (ltb-false k giveStep e)) (give-sendable (k - giveStep)))
-    where
-      few : (k : ℕ) → k < giveStep → (k - 1) / comparisonRounds ≤ bits
-      few k h = omega arith
 
   place-sendable : (k : ℕ) → Sendable (roundAt (placeOf k) n v)
   unfolding roundAt placeOf
@@ -219,6 +219,53 @@ moved-within count p b h is =
 pub went-within : (p : Position) (x more : ℕ) {v : Position} → p .step ≤ comparisonRounds → v ≡ onward p x more → v .step ≤ lastStep
 unfolding onward
 went-within p x more h is = rw is (omega arith)
+
+-- its value is one of 64 bits again
+module _ (count : ℕ) (w : Position) (b : Bool) (small : w .value < 2 ^ bits) where
+  asked-small : {q : Question} (r : Part) → LegalQuestion q → moveOn (ask q r) count w b .value < 2 ^ bits
+  unfolding moveOn onward
+  asked-small high l = small
+  asked-small low l = small
+  asked-small reply of-least = byCase {P = moveOn (ask least reply) count w b .value < 2 ^ bits} b (λ t. rw t (omega arith)) (λ f. rw f (unfold endAllNamed in small))
+  asked-small {q} reply (of-bit {b = x} h) = byCase {P = moveOn (ask (bit x) reply) count w b .value < 2 ^ bits} b (λ t. rw t (tried-small (of-bit h) (w .value) small)) (λ f. rw f small)
+
+  gave-small : (j : ℕ) → moveOn (giveOf j) count w b .value < 2 ^ bits
+  unfolding moveOn giveOf onward nextName
+  gave-small zero = small
+  gave-small (suc zero) = small
+  gave-small (suc (suc zero)) = small
+  gave-small (suc (suc (suc j))) = small
+
+  polled-small : moveOn poll count w b .value < 2 ^ bits
+  unfolding moveOn
+  polled-small = byCase {P = moveOn poll count w b .value < 2 ^ bits} b (λ t. rw t (unfold nextName in small)) (λ f. rw f (unfold onward in small))
+
+  moved-small : (k : ℕ) → moveOn (placeOf k) count w b .value < 2 ^ bits
+  moved-small k =
+      byCase (eqb k 0)
+      (λ z. rw (poll-place (eqb-true k 0 z)) polled-small)
+      (λ z.
+      let some = eqb-false k 0 z in
+      byCase (ltb k giveStep)
+      (λ e. rw (place-ask k some (ltb-true k giveStep e)) (asked-small (partOf ((k - 1) % comparisonRounds)) (question-legal ((k - 1) / comparisonRounds) (few-questions k (ltb-true k giveStep e)))))
+      (λ e. rw (place-give k (ltb-false k giveStep e)) (gave-small (k - giveStep))))
+
+wrote-value : (r : RunRound) (p : Position) → wrote r p .value ≡ p .value
+unfolding wrote
+wrote-value (RunRound.poll n) p = refl
+wrote-value (RunRound.writeName n) p = refl
+wrote-value (RunRound.writeHigh h) p = refl
+wrote-value (RunRound.writeLow l) p = refl
+wrote-value RunRound.compare p = refl
+wrote-value RunRound.baptize p = refl
+
+pub advanced-small : (names : List ℕ) (p : Position) (b : Bool) → p .value < 2 ^ bits → advance names p b .value < 2 ^ bits
+unfolding advance
+advanced-small names p b small =
+    let q = onto names p in
+    let kept : wrote (roundHere names q) q .value < 2 ^ bits = rw (wrote-value (roundHere names q) q, onto-value names p) small in
+    rw (onto-value names (moveOn (placeOf (q .step)) (length names) (wrote (roundHere names q) q) b))
+    (moved-small (length names) (wrote (roundHere names q) q) b kept (q .step))
 
 -- ---- the whole step
 

@@ -249,7 +249,7 @@ cond-small true h k = h
 cond-small false h k = k
 
 -- the value that a bit's comparison sends
-tries : (b p : ℕ) {x : ℕ} → x ≡ cleared (suc b) p → tried (bit b) x ≡ attempt b p
+pub tries : (b p : ℕ) {x : ℕ} → x ≡ cleared (suc b) p → tried (bit b) x ≡ attempt b p
 unfolding attempt
 tries b p {x} e = tried-bit b p x e ∙ ap (λ (y : ℕ). y + 2 ^ b) e
 

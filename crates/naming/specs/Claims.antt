@@ -1,5 +1,11 @@
--- Statements of theorems: demand 3, who is renamed, an unknown edition, a pass written out, and the marked cases.
+-- Statements of theorems: demand 3, the lists that it permits, a step and its two frames, the rounds really made, a pass written out, who is
+-- renamed, an unknown edition, and the marked cases.
 pub mod Demand
+pub mod Throughout
+pub mod Permitted
+pub mod PermittedRounds
+pub mod StepFrames
+pub mod RoundsMade
 pub mod Renaming
 pub mod Edition
 pub mod Files

@@ -1,10 +1,10 @@
 -- Cluster files and their owner files, computed: eight slots of one entry; an entry that hides a part of a later one; slot 63; two
--- rounds; two slaves that send in one slot, and the same in a file that no round runs. Of multiplexed entries: a receive, which is passed over; sends that 23 is not about; and
--- one that it is about.
+-- rounds; two slaves that send in one slot, and the same in a file that no round runs. Of multiplexed entries: a receive, which is passed
+-- over; sends that 23 is not about; and one that it is about. Which of them are plain, and which slots a multiplexed receive covers.
 -- Assumes nothing.
 use Prim.Native.Nat.{ℕ}
 use mathlib.Core.Path.{_≡_, refl}
-use mathlib.Core.List.{List, [], _∷_, map}
+use mathlib.Core.List.{List, [], _∷_, _++_, map}
 use mathlib.Core.Bool.{true, false}
 use lib.ListN.{set}
 use Rattle.file.specs.Rules.Order.{both, either}
@@ -12,12 +12,13 @@ use Rattle.file.specs.Rules.Bytes.{numberOf, part}
 use Rattle.file.specs.Rules.Cluster.{bytesAmong, bytesIn, lastRecord, logicalName}
 use Rattle.file.specs.Rules.Decode.{offsetAt, fileSize, fileAt, filesAt, slaveAt, slavesAt, decodeAt, decode}
 use Rattle.cluster.specs.Rules.Slaves.{isUnnamed}
-use Rattle.cluster.specs.Rules.Entries.{entryOf, entryThere, entryAt, isMultiplexed, receives, sends, ends, covers, eligible, actingFrom, acting, bytePlace}
+use Rattle.cluster.specs.Rules.Entries.{Entry, entryOf, entryThere, entryAt, isMultiplexed, receives, sends, ends, covers, eligible, actingFrom, acting, bytePlace}
 use Rattle.cluster.specs.Rules.Multipartner.{within, sendPlace, plansFrom}
 use Rattle.owner.specs.Rules.Plan.{isOwned, isMultiplexedReceive, isThere, sendsIn, sendersAmong, sendersIn, someBelow, twoSendIn, twoSend, someEntryFrom, someEntry, someEntryOf, isMultiplexedSend, multiplexedSend}
 use Rattle.owner.specs.Rules.OwnerFile.{nameOf, ownerOf, lastOwned, ownersBelow, ownersOf, padded, rowOf, rowsBelow, indexOf, indexBelow, ownerFile}
+use Rattle.owner.specs.Claims.Rounds.{mayReceive, Plain}
 
-abbrev eight : List ℕ
+abbrev pub eight : List ℕ
 eight =
     0x54 ∷ 0x41 ∷ 0x01 ∷ 0x01 ∷ 0x00 ∷ 0x10 ∷ 0x00 ∷ 0x50 ∷ 0x7B ∷ 0x00 ∷ 0x00 ∷ 0x00 ∷ 0x00 ∷ 0x00 ∷ 0x00 ∷ 0x00 ∷ 0x00 ∷ 0x14 ∷ 0x04 ∷ 0x00 ∷ 0x00 ∷
     0x01 ∷ 0x00 ∷ 0x24 ∷ 0x08 ∷ 0x03 ∷ 0x00 ∷ 0x2C ∷ 0x10 ∷ 0x01 ∷ 0x00 ∷ 0x3C ∷ 0x3D ∷ 0x02 ∷ 0x00 ∷ 0x44 ∷ 0x45 ∷ 0x7B ∷ 0x1F ∷ 0xBC ∷ 0x40 ∷ 0x00 ∷
@@ -62,7 +63,7 @@ abbrev clashInRoundOne : List ℕ
 clashInRoundOne = set (set clash 24 1) 80 1
 
 -- a multiplexed receive before a send
-abbrev passed : List ℕ
+abbrev pub passed : List ℕ
 passed =
     0x54 ∷ 0x41 ∷ 0x01 ∷ 0x01 ∷ 0x00 ∷ 0x10 ∷ 0x00 ∷ 0x54 ∷ 0x01 ∷ 0x00 ∷ 0x00 ∷ 0x00 ∷ 0x00 ∷ 0x00 ∷ 0x00 ∷ 0x00 ∷ 0x00 ∷ 0x14 ∷ 0x04 ∷ 0x00 ∷
     0x02 ∷ 0x02 ∷ 0x00 ∷ 0x24 ∷ 0x08 ∷ 0x03 ∷ 0x00 ∷ 0x30 ∷ 0x10 ∷ 0x01 ∷ 0x00 ∷ 0x40 ∷ 0x3D ∷ 0x02 ∷ 0x00 ∷ 0x48 ∷ 0x00 ∷ 0x00 ∷ 0x00 ∷ 0x00 ∷
@@ -83,8 +84,12 @@ unseen =
     0x00 ∷ 0x00 ∷ 0x00 ∷ 0x00 ∷ 0x00 ∷ 0x00 ∷ 0x00 ∷ 0x00 ∷ 0xA0 ∷ 0xA1 ∷ 0xA2 ∷ 0xA3 ∷ 0x00 ∷ 0x00 ∷ 0x00 ∷ 0x00 ∷ 0x00 ∷ 0x00 ∷ 0x00 ∷ 0x00 ∷
     0x00 ∷ 0x00 ∷ 0x00 ∷ 0x02 ∷ []
 
+-- the same with the one of file 5 in file 1
+abbrev unseenInRoundOne : List ℕ
+unseenInRoundOne = set unseen 28 1
+
 -- one in round 7, from a place outside, of one of two slaves that send in one slot of round 0
-abbrev outranked : List ℕ
+abbrev pub outranked : List ℕ
 outranked =
     0x54 ∷ 0x41 ∷ 0x01 ∷ 0x02 ∷ 0x00 ∷ 0x10 ∷ 0x00 ∷ 0x9C ∷ 0x01 ∷ 0x00 ∷ 0x00 ∷ 0x00 ∷ 0x00 ∷ 0x00 ∷ 0x00 ∷ 0x00 ∷ 0x00 ∷ 0x18 ∷ 0x04 ∷ 0x00 ∷
     0x00 ∷ 0x54 ∷ 0x05 ∷ 0x00 ∷ 0x00 ∷ 0x01 ∷ 0x00 ∷ 0x28 ∷ 0x08 ∷ 0x03 ∷ 0x00 ∷ 0x30 ∷ 0x10 ∷ 0x01 ∷ 0x00 ∷ 0x40 ∷ 0x3D ∷ 0x02 ∷ 0x00 ∷ 0x48 ∷
@@ -129,8 +134,18 @@ pub record Examples : Type 0 where
       0x00 ∷ 0x00 ∷ 0x00 ∷ 0x00 ∷ 0x03 ∷ 0x00 ∷ 0x04 ∷ 0x05 ∷ 0x06 ∷ 0x00 ∷ 0x07 ∷ 0x08 ∷ 0x01 ∷ 0x00 ∷ 0x00 ∷ 0x00 ∷ 0x01 ∷ 0x02 ∷ 0x00 ∷ 0x00 ∷
       0x01 ∷ 0x00 ∷ 0x00 ∷ 0x00 ∷ 0x01 ∷ 0x00 ∷ 0x00 ∷ 0x00 ∷ 0x01 ∷ 0x00 ∷ 0x00 ∷ 0x00 ∷ 0x01 ∷ 0x00 ∷ 0x00 ∷ 0x00 ∷ []
   pub unseenNone : multiplexedSend (decode unseen .slaves) ≡ false
+  pub roundOneNone : multiplexedSend (decode unseenInRoundOne .slaves) ≡ false
+  pub roundOneThere : someEntryOf isMultiplexedSend 1 (decode unseenInRoundOne .slaves) ≡ true
   pub outrankedSend : multiplexedSend (decode outranked .slaves) ≡ true
   pub outrankedTwice : twoSend (decode outranked .slaves) ≡ true
+  -- without multiplexed entries, and with one
+  pub eightNone : multiplexedSend (decode eight .slaves) ≡ false
+  pub eightPlain : Plain (decode eight) 0
+  pub passedNotPlain : someEntryOf (λ (e : Entry). isMultiplexed (e .operation)) 2 (decode passed .slaves) ≡ true
+  -- of the slots 2 and 3 that its send has, the multiplexed receive covers the first
+  pub passedSends : map (sendsIn 2 2) (decode passed .slaves) ++ map (sendsIn 2 3) (decode passed .slaves) ≡ true ∷ true ∷ []
+  pub passedCovered : map (mayReceive 2 2) (decode passed .slaves) ≡ true ∷ []
+  pub passedFree : map (mayReceive 2 3) (decode passed .slaves) ≡ false ∷ []
 
 -- The definitions are unfolded in steps: what a step unfolds, the next unfolds with it.
 
@@ -145,6 +160,6 @@ unfolding eight-named isUnnamed entryOf entryThere entryAt isMultiplexed receive
 eight-sends = refl
 
 pub examples : Examples
-unfolding eight-sends isOwned sendersAmong sendersIn someBelow twoSendIn twoSend nameOf ownerOf lastOwned ownersBelow ownersOf padded rowOf rowsBelow indexOf indexBelow ownerFile someEntryFrom someEntry someEntryOf isMultiplexedSend multiplexedSend
+unfolding eight-sends isOwned sendersAmong sendersIn someBelow twoSendIn twoSend nameOf ownerOf lastOwned ownersBelow ownersOf padded rowOf rowsBelow indexOf indexBelow ownerFile someEntryFrom someEntry someEntryOf isMultiplexedSend multiplexedSend mayReceive
 examples =
-    record { eightOwners = refl; hiddenOwners = refl; slot63Owners = refl; twoRoundsOwners = refl; eightOnce = refl; clashTwice = refl; roundOneAside = refl; passedOwners = refl; passedNone = refl; unseenOwners = refl; unseenNone = refl; outrankedSend = refl; outrankedTwice = refl }
+    record { eightOwners = refl; hiddenOwners = refl; slot63Owners = refl; twoRoundsOwners = refl; eightOnce = refl; clashTwice = refl; roundOneAside = refl; passedOwners = refl; passedNone = refl; unseenOwners = refl; unseenNone = refl; roundOneNone = refl; roundOneThere = refl; outrankedSend = refl; outrankedTwice = refl; eightNone = refl; eightPlain = refl; passedNotPlain = refl; passedSends = refl; passedCovered = refl; passedFree = refl }

@@ -12,9 +12,13 @@ pub mod RoundLaws
 pub mod RowLaws
 -- the call, by its answers
 pub mod Calls
+pub mod Grounds
+pub mod Witnesses
 pub mod Distinct
 -- who sends in a round as it runs; the file's size and its index
 pub mod Runs
 pub mod Sizes
 -- the buffer that the call leaves
 pub mod Buffer
+-- each claim with its theorem
+pub mod Claimed

@@ -11,8 +11,11 @@ pub mod RunExamples
 -- what running frames keeps, and the call
 pub mod Runs
 pub mod Calls
+pub mod Grounds
 -- one frame more in a report, and the loop along the frames
 pub mod ReportLaws
 pub mod RunLaws
 -- the answers are told apart
 pub mod Distinct
+-- each claim with its theorem
+pub mod Claimed

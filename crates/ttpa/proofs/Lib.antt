@@ -1,2 +1,5 @@
 pub mod CallLaws
 pub mod Refusals
+pub mod Numbers
+-- each claim with its theorem
+pub mod Claimed

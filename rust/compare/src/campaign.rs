@@ -12,6 +12,9 @@ use std::collections::BTreeMap;
 /// Cases that are printed before the rest is only counted.
 const MOST_PRINTED: u64 = 10;
 const MOST_SAMPLED_CHARACTERS: usize = 2_000;
+/// For so many of the rounds asked for there is one more write of a record, and one for each file that alters it.
+const ROUNDS_FOR_A_WRITE: usize = 40;
+const ROUNDS_FOR_EACH_FILE: usize = 8_000;
 
 /// How many calls of each kind.
 pub struct Amounts {
@@ -138,6 +141,7 @@ impl<'a> Campaign<'a> {
         self.steps(amounts.steps, &mut Random::from_seed(seed ^ 6));
         self.traces(amounts.traces, &mut Random::from_seed(seed ^ 8));
         self.owners(amounts.owners, &mut Random::from_seed(seed ^ 9));
+        self.record_writes(amounts.rounds / ROUNDS_FOR_A_WRITE, &mut Random::from_seed(seed ^ 11));
         for run in 0..amounts.runs {
             // Every number of slaves has its turn; 20 and 33 have no divisor in common.
             let slaves = 20 * run % (model::MOST_SLAVES + 1);
@@ -148,6 +152,7 @@ impl<'a> Campaign<'a> {
         }
         self.sorts_reached(&Sort::REACHED, amounts.rounds);
         self.sorts_reached(&Sort::REACHED_ABOUT_NAMES, amounts.rounds);
+        self.each_file_written(amounts.rounds);
         self.sorts_reached(&Sort::REACHED_BY_TURNS, amounts.rounds);
         self.sorts_reached(&Sort::REACHED_BY_STEPS, amounts.steps);
         self.sorts_reached(&Sort::REACHED_BY_TRACES, amounts.traces);
@@ -208,6 +213,20 @@ impl<'a> Campaign<'a> {
                 }
                 file = outcome.file.unwrap_or(file);
             }
+        }
+    }
+
+    /// Writes of record 1 of each file in turn, and of the first records of 0x08, to a slave that has the record.
+    fn record_writes(&mut self, amount: usize, random: &mut Random) {
+        for write in 0..amount {
+            let (number, record) = inputs::record_to_write(write);
+            let (cluster, name) = clusters::with_record(random, number, record);
+            let address = inputs::write_of(random, name, number, record);
+            let call = Call::Round { file: cluster.encode(), frame: address, answer_length: 64 };
+            let file = self.call(&call).file.expect("a lent file");
+            let cluster = model::check(&file).expect("a file that the last call left");
+            let data = inputs::fitting_data(random, &cluster);
+            self.call(&Call::Round { file, frame: data, answer_length: 64 });
         }
     }
 
@@ -280,6 +299,7 @@ impl<'a> Campaign<'a> {
     fn planned_round(&mut self, random: &mut Random, file: Vec<u8>) {
         let frame = vec![random.one_of(&MULTIPARTNER)];
         let (planned, hideable) = sorts::owners::planned_masks(&file, frame[0]);
+        let own_list = sorts::owners::own_list_mask(&file, frame[0]);
         let call = Call::Round { file, frame, answer_length: 64 };
         let outcome = self.call(&call);
         let sent = outcome.mask();
@@ -289,6 +309,7 @@ impl<'a> Campaign<'a> {
         }
         self.note_sorts((hideable & !sent != 0).then_some(Sort::PlannedAndHidden));
         self.note_sorts((hideable & sent != 0).then_some(Sort::PlannedAndNotHidden));
+        self.note_sorts((own_list & sent != 0).then_some(Sort::PlannedFromOwnList));
     }
 
     pub(crate) fn note_sorts(&mut self, sorts: impl IntoIterator<Item = Sort>) {
@@ -335,6 +356,21 @@ impl<'a> Campaign<'a> {
             if count < least as u64 {
                 self.differ(&format!("{text}: fewer than {least}"), "inputs too tame");
             }
+        }
+    }
+
+    /// Record 1 of each file but 0x08 and 0x3D must have been written so often that its last byte was altered.
+    fn each_file_written(&mut self, rounds: usize) {
+        let count = |number| *self.sorts.get(&Sort::RecordOneWritten(number)).unwrap_or(&0);
+        let files = (0x00..=0x3F).filter(|number| ![0x08, 0x3D].contains(number));
+        let (fewest, number) = files.map(|number| (count(number), number)).min().expect("62 files");
+        println!("writes of record 1 of each other file that alter its last byte, at least: {fewest}");
+        let least = rounds / ROUNDS_FOR_EACH_FILE;
+        if fewest < least as u64 {
+            self.differ(
+                &format!("record 1 of file {number:02X} written: fewer than {least}"),
+                "inputs too tame",
+            );
         }
     }
 

@@ -2,6 +2,8 @@
 //! (`edges`), what calls are examples of (`sorts`), and the comparison itself.
 
 #![forbid(unsafe_code)]
+// an edge or a draw that nobody makes is noticed
+#![deny(dead_code)]
 
 pub mod campaign;
 pub mod case;

@@ -10,6 +10,11 @@ fn the_edges_of_naming_steps_hold() {
     edges::naming_steps::hold(&Model);
 }
 
+#[test]
+fn the_grounds_of_a_step_hold() {
+    edges::step_grounds::hold(&Model);
+}
+
 /// The pass that is written out has as many rounds as document 02 says, and 65 of them are executes of comparisons.
 #[test]
 fn the_figure_of_a_pass_is_its_length() {

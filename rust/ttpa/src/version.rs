@@ -3,9 +3,12 @@ use core::fmt;
 
 /// The version of this crate as one number, 10,000 times its first part, 100 times the second and the third:
 /// TTPA_VERSION of include/ttpa.h.
-pub const VERSION: u32 = 10_000 * number(env!("CARGO_PKG_VERSION_MAJOR"))
-    + 100 * number(env!("CARGO_PKG_VERSION_MINOR"))
-    + number(env!("CARGO_PKG_VERSION_PATCH"));
+pub const VERSION: u32 =
+    of(env!("CARGO_PKG_VERSION_MAJOR"), env!("CARGO_PKG_VERSION_MINOR"), env!("CARGO_PKG_VERSION_PATCH"));
+
+const fn of(major: &str, minor: &str, patch: &str) -> u32 {
+    10_000 * number(major) + 100 * number(minor) + number(patch)
+}
 
 const fn number(digits: &str) -> u32 {
     let digits = digits.as_bytes();
@@ -86,6 +89,7 @@ mod tests {
 
     #[test]
     fn a_number_has_all_its_digits() {
+        assert_eq!(of("12", "34", "56"), 123_456);
         assert_eq!([number("0"), number("8"), number("10"), number("205")], [0, 8, 10, 205]);
     }
 }

@@ -13,9 +13,9 @@ use Rattle.naming.specs.Claims.Renaming.{StepBaptizes}
 use Rattle.demand.specs.Claims.Traces.{CallOrTrace, AllBytes, singly, afterAll}
 use Rattle.demand.specs.Claims.Calls.{CCall, GivenBytes, afterCalls, memoryOf, argumentsOf}
 
--- a call does not baptize: a step, its position being of 64-bit numbers, or a frame
+-- a call does not baptize: a step, or a frame
 pub data NoBaptism (names : List ℕ) (s : State) (p : Position) : Call → Type 0 where
-  in-step : {arguments : StepArguments} → p .value < 2 ^ bits → (StepBaptizes (s .file) p names (arguments .buffer) → ⊥) → NoBaptism names s p (step arguments)
+  in-step : {arguments : StepArguments} → (StepBaptizes (s .file) p names (arguments .buffer) → ⊥) → NoBaptism names s p (step arguments)
   in-frame : {bytes buffer : List ℕ} → ((name : ℕ) → Baptizes (s .file) bytes buffer name → ⊥) → NoBaptism names s p (frame bytes buffer)
 
 -- none of the calls does, each on the file and the run as they then are
@@ -24,15 +24,15 @@ pub data NoneBaptizes (names : List ℕ) : State → Position → List Call → 
   oneMore : {s : State} {p : Position} {c : Call} {cs : List Call} →
       NoBaptism names s p c → NoneBaptizes names (callOn names s p c .0) (callOn names s p c .1) cs → NoneBaptizes names s p (c ∷ cs)
 
--- then nobody is renamed, the frames of a trace being sent singly
+-- then nobody is renamed, from a position whose value is one of 64 bits, the frames of a trace being sent singly
 abbrev pub CallsRenameNobody : Type 0
 CallsRenameNobody =
-    (file names : List ℕ) (p : Position) (calls : List CallOrTrace) → Bytes file → Bytes names → All AllBytes calls →
+    (file names : List ℕ) (p : Position) (calls : List CallOrTrace) → Bytes file → Bytes names → p .value < 2 ^ bits → All AllBytes calls →
     NoneBaptizes names (startOn file) p (singly calls) → namesOf (afterAll names (startOn file) p calls .0 .file) ≡ namesOf file
 
 -- and so over the C calls ttpa_step, ttpa_round and ttpa_trace, on the bytes of the file and the eight stored words
 abbrev pub CCallsRenameNobody : Type 0
 CCallsRenameNobody =
-    (file names : List ℕ) (p : Position) (calls : List CCall) → Bytes file → Bytes names → All GivenBytes calls →
+    (file names : List ℕ) (p : Position) (calls : List CCall) → Bytes file → Bytes names → p .value < 2 ^ bits → All GivenBytes calls →
     NoneBaptizes names (startOn file) p (singly (map argumentsOf calls)) →
     namesOf (afterCalls names (memoryOf (startOn file) p) calls .file) ≡ namesOf file

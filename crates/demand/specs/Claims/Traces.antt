@@ -3,7 +3,7 @@
 use Prim.Native.Nat.{ℕ}
 use mathlib.Core.Path.{_≡_}
 use mathlib.Core.List.{List, [], _∷_, _++_, map}
-use mathlib.Core.Bool.{Bool, true, cond}
+use mathlib.Core.Bool.{Bool, true, false, cond}
 use lib.ListN.{replicate}
 use Rattle.file.specs.Rules.Bytes.{Bytes, All}
 use Rattle.file.specs.Rules.Results.{Result, refused, done}
@@ -14,6 +14,7 @@ use Rattle.trace.specs.Rules.Trace.{brokenTrace, framesOf}
 use Rattle.trace.specs.Rules.Run.{sent, Report, traceOn}
 use Rattle.naming.specs.Rules.Run.{Position, fresh, startGround}
 use Rattle.naming.specs.Rules.Account.{Call, frame, Account, accountAfter}
+use Rattle.naming.specs.Claims.PermittedRounds.{SentBy}
 use Rattle.naming.specs.Claims.Demand.{State, startOn, halfwayAfter, callOn, permitted, afterCalls, OfBytes, Demand}
 
 -- one of demand 3's calls, or a trace run on the file
@@ -82,6 +83,12 @@ tracesAside (trace t ∷ cs) = tracesAside cs
 -- "The end state is that of the frames sent singly in order.": of every trace on every file, carried or refused
 abbrev pub TraceSentSingly : Type 0
 TraceSentSingly = (names : List ℕ) (s : State) (p : Position) (t : List ℕ) → afterCalls names s p (framesSingly t) ≡ (afterTrace s t, p)
+
+-- and with any answer buffers of 64 bytes or more
+abbrev pub TraceSentInOrder : Type 0
+TraceSentInOrder =
+    (names : List ℕ) (s : State) (p : Position) (t : List ℕ) → brokenTrace t ≡ false → (calls : List Call) → SentBy (framesOf t) calls →
+    afterCalls names s p calls ≡ (afterTrace s t, p)
 
 -- and so of every list
 abbrev pub AllSentSingly : Type 0

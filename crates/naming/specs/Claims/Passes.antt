@@ -1,13 +1,14 @@
--- A pass that names a slave, its rounds written out in order (document 02, request 6), and what the plain account says of it: how many
--- rounds it makes, and how many comparisons after each of them.
-use Prim.Native.Nat.{ℕ, zero, suc, _+_}
+-- A pass that names a slave, its rounds written out in order (document 02, request 6): the run makes just these rounds, and what the plain
+-- account says of them: how many there are, and how many comparisons after each.
+use Prim.Native.Nat.{ℕ, zero, suc, _+_, _/_, _%_, _^_, _<_}
 use mathlib.Core.Path.{_≡_}
 use mathlib.Core.List.{List, [], _∷_, _++_}
-use mathlib.Core.Bool.{Bool, cond}
+use mathlib.Core.Bool.{Bool, false, cond}
 use lib.ListN.{length, take}
-use lib.Dec.{eqb}
-use Rattle.naming.specs.Rules.Run.{PassPlace, poll, ask, giveName, giveHigh, giveLow, baptize, least, bit, high, low, reply}
-use Rattle.naming.specs.Rules.Account.{bitClear, namingRounds, comparisonsAfter}
+use lib.Dec.{eqb, leb}
+use Rattle.naming.specs.Rules.Rounds.{half}
+use Rattle.naming.specs.Rules.Run.{Position, endAt, bits, PassPlace, poll, ask, giveName, giveHigh, giveLow, baptize, least, bit, high, low, reply, tried, placeOf, onto, advance}
+use Rattle.naming.specs.Rules.Account.{bitClear, namingRounds, namingComparisons, comparisonsAfter}
 
 -- bits 31 + n down to 32: the high half changes, the low one does not
 unfoldable pub upperBits : ℕ → List PassPlace
@@ -49,3 +50,53 @@ executesIn (baptize ∷ ls) = executesIn ls
 pub record PassesCounted : Type 0 where
   pub rounds : (p : ℕ) → length (passFor p) ≡ namingRounds p
   pub comparisons : (p k : ℕ) → executesIn (take k (passFor p)) ≡ comparisonsAfter (bitClear 32 p) k
+
+-- ---- the run makes them
+
+-- whether someone sends in slot 1, where the name is free and p is the greatest physical name of the unnamed: nobody at the poll, and at the
+-- execute of a comparison exactly if p is at least the value tried
+unfoldable pub answerFor : ℕ → PassPlace → ℕ → Bool
+answerFor p poll value = false
+answerFor p (ask q high) value = false
+answerFor p (ask q low) value = false
+answerFor p (ask q reply) value = leb (tried q value) p
+answerFor p giveName value = false
+answerFor p giveHigh value = false
+answerFor p giveLow value = false
+answerFor p baptize value = false
+
+-- the place of the round that a step makes (`nextRound` is the round there), and the position after it
+unfoldable pub placeMade : List ℕ → Position → PassPlace
+placeMade names q = placeOf (onto names q .step)
+
+unfoldable pub afterStep : List ℕ → ℕ → Position → Position
+afterStep names p q = advance names q (answerFor p (placeMade names q) (onto names q .value))
+
+-- n steps, one after the other
+unfoldable pub placesMade : List ℕ → ℕ → ℕ → Position → List PassPlace
+placesMade names p zero q = []
+placesMade names p (suc n) q = placeMade names q ∷ placesMade names p n (afterStep names p q)
+
+unfoldable pub afterSteps : List ℕ → ℕ → ℕ → Position → Position
+afterSteps names p zero q = q
+afterSteps names p (suc n) q = afterSteps names p n (afterStep names p q)
+
+-- as many steps as the pass has rounds make just these, in order, and leave the run at step 0 of the next name with p as the value found
+pub record PassMade (names : List ℕ) (p : ℕ) (q : Position) : Type 0 where
+  pub places : placesMade names p (length (passFor p)) q ≡ passFor p
+  pub after :
+      afterSteps names p (length (passFor p)) q ≡
+      record {
+        end = endAt (length names) (suc (q .index));
+        index = suc (q .index);
+        step = 0;
+        value = p;
+        rounds = q .rounds + length (passFor p);
+        comparisons = q .comparisons + namingComparisons;
+        high = p / half;
+        low = p % half;
+      }
+
+-- from step 0 of any name, whatever else the position holds, for every physical name
+abbrev pub PassesMade : Type 0
+PassesMade = (names : List ℕ) (p : ℕ) (q : Position) → p < 2 ^ bits → q .step ≡ 0 → PassMade names p q

@@ -22,8 +22,8 @@ pub data StepDone : Type 0 where
   ended : StepDone
   made : ℕ → StepDone
 
--- by the answer to its data frame. A step that no ground refuses has its frames accepted (`cluster/proofs/SentRounds` address-accepted
--- and data-accepted), so a refusal of the step is by its own ground alone.
+-- by the answer to its data frame. The first case never comes, of files and names of bytes and a value of 64 bits: a step that no
+-- ground refuses has both its frames accepted (`Claims/StepFrames` StepsAreFrames), so a refusal of the step is by its own ground alone.
 unfoldable pub madeBy : Answer → StepDone
 madeBy (refused n) = made 0
 madeBy (done mask) = made mask

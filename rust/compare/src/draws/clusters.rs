@@ -192,11 +192,15 @@ fn share_a_slot(random: &mut Random, slaves: &mut [Slave], round: u8) {
     let slave = named.swap_remove(random.below(named.len()));
     let sends = u8::from(random.once_in(3));
     let file = if sends == 1 { random.one_of(&numbers_of(slave)) } else { storing_file(random, slave) };
-    let fours: &[u8] = random.one_of(&[&[8], &[12], &[10, 14]]);
+    let mut fours = random.one_of::<&[u8]>(&[&[8], &[12], &[10, 14]]).to_vec();
     let slot = start_slot(random);
+    // Of eight the second four come first in half of the slots, so that they are tried before one of the others acts.
+    if slot % 2 == 1 {
+        fours.reverse();
+    }
     let last_record = file_in(random, slave, file).last_record();
     let mut entries = Vec::new();
-    for &operation in fours {
+    for operation in fours {
         for multiplex in 0..4 {
             let record = random.between(0, last_record) as u8;
             entries.push([file << 2 | multiplex, record, (operation | sends) << 4, multiplex << 6 | slot]);
@@ -246,6 +250,18 @@ fn file_in<'a>(random: &mut Random, slave: &'a mut Slave, number: u8) -> &'a mut
         slave.files.insert(place, added);
     }
     &mut slave.files[place]
+}
+
+/// A cluster in which a slave has this record, and that slave's logical name.
+pub fn with_record(random: &mut Random, number: u8, record: u8) -> (Cluster, u8) {
+    let count = random.between(1, 6);
+    let mut cluster = cluster_of(random, count);
+    let slave = &mut cluster.slaves[random.below(count)];
+    let file = file_in(random, slave, number);
+    let missing = (4 * (usize::from(record) + 1)).saturating_sub(file.bytes.len());
+    file.bytes.extend(random.bytes(missing));
+    let name = slave.logical_name().0;
+    (cluster, name)
 }
 
 /// A file of this many bytes, its last slave's files grown to reach it; 32 slaves of 64 files each if asked.

@@ -4,7 +4,7 @@ use super::clusters::logical_name;
 use super::random::Random;
 use crate::engine::RunWords;
 use crate::frames::{framed, unfolded, MULTIPARTNER};
-use model::{firework_of, Cluster, MSA, MSD};
+use model::{firework_of, Cluster, FileNumber, MSA, MSD};
 
 /// PB2 and PB3 of a write of record 1 of 0x08.
 pub const WRITE_OF_CONFIGURATION: u8 = 0x21;
@@ -23,6 +23,20 @@ pub fn address(random: &mut Random, cluster: &Cluster) -> Vec<u8> {
     }
     let record = if random.once_in(8) { random.byte() } else { random.below(6) as u8 };
     framed(MSA, [random.byte(), name, file << 2 | random.below(4) as u8, record])
+}
+
+/// Record 1 of each file, then records 2 to 4 of 0x08, one after the other.
+pub fn record_to_write(turn: usize) -> (u8, u8) {
+    match (turn % 67) as u8 {
+        number @ 0..64 => (number, 1),
+        others => (FileNumber::CONFIGURATION.0, others - 62),
+    }
+}
+
+/// The address frame of a write of this record, at the name or, where it is not 0xFF, now and then at 0x00.
+pub fn write_of(random: &mut Random, name: u8, file: u8, record: u8) -> Vec<u8> {
+    let at = if name != 0xFF && random.once_in(4) { 0x00 } else { name };
+    framed(MSA, [random.byte(), at, file << 2 | 1, record])
 }
 
 fn address_target(random: &mut Random, cluster: &Cluster) -> (u8, u8) {

@@ -75,6 +75,24 @@ pub fn slave_place(slaves: usize, slave: usize) -> usize {
     16 + 4 * slaves + slave * (12 + 16 + 8 + 12)
 }
 
+/// Two slaves of these names, in a file that each of 1 to 8 refuses: what is wrong with it, and the number.
+pub fn refused_files(names: [u8; 2]) -> [(&'static str, Vec<u8>, u8); 8] {
+    let file = named(&names);
+    // The second slave's directory ends with the entry of 0x3D; the last byte of the file is its serial number.
+    let documentation = slave_place(2, 1) + 8;
+    let serial = file.len() - 1;
+    [
+        ("15 bytes", file[..15].to_vec(), 1),
+        ("a wrong mark", changed(&file, &[(0, "55")]), 2),
+        ("a wrong edition", changed(&file, &[(2, "02")]), 3),
+        ("a wrong length", changed(&file, &[(7, "00")]), 4),
+        ("a header zero", changed(&file, &[(13, "01")]), 5),
+        ("a table entry's zero", changed(&file, &[(0x13, "01")]), 6),
+        ("a slave without 0x3D", changed(&file, &[(documentation, "3E")]), 7),
+        ("equal physical names", changed(&file, &[(serial, "00")]), 8),
+    ]
+}
+
 /// Bytes of a file that are others, by their place.
 pub type Changes<'a> = &'a [(usize, &'a str)];
 

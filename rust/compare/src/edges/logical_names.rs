@@ -1,7 +1,9 @@
 //! The edges of logical names (document 02, request 5): which files loading refuses for equal ones, that nothing else
 //! does, and that a write renames nobody.
 
-use super::files::{answer, changed, named, slave_place, Changes, PENDING, UNNAMED};
+use super::files::{
+    answer, changed, cluster, hex, named, refused_files, slave_place, Changes, Slave, PENDING, UNNAMED,
+};
 use super::Edge;
 use crate::case::{Call, Outcome};
 use crate::engine::{Engine, RunWords};
@@ -13,11 +15,19 @@ use model::{MSA, MSD};
 const EQUAL_NAMES: u8 = 22;
 
 /// So many edges there are, a naming run aside.
-const EDGES: usize = 51;
+const EDGES: usize = 117;
 
 pub fn hold(engine: &dyn Engine) {
-    let groups =
-        [loaded(), not_loaded(), other_grounds_first(), names_written(), four_bytes(), on_equal_names()];
+    let groups = [
+        loaded(),
+        not_loaded(),
+        other_grounds_first(),
+        names_written(),
+        four_bytes(),
+        record_1_of_each_file(),
+        records_of_configuration(),
+        on_equal_names(),
+    ];
     super::hold_all(engine, groups, EDGES);
     writes_between_steps(engine);
 }
@@ -66,37 +76,29 @@ fn not_loaded() -> Vec<Edge> {
 
 /// 22 comes "after 8": two slaves of one name in a file that each of 1 to 8 refuses.
 fn other_grounds_first() -> Vec<Edge> {
-    let file = named(&[0x05, 0x05]);
-    // The second slave's directory ends with the entry of 0x3D; the last byte of the file is its serial number.
-    let documentation = slave_place(2, 1) + 8;
-    let serial = file.len() - 1;
-    vec![
-        loading("15 bytes", file[..15].to_vec(), 1),
-        loading("a wrong mark", changed(&file, &[(0, "55")]), 2),
-        loading("a wrong edition", changed(&file, &[(2, "02")]), 3),
-        loading("a wrong length", changed(&file, &[(7, "00")]), 4),
-        loading("a header zero", changed(&file, &[(13, "01")]), 5),
-        loading("a table entry's zero", changed(&file, &[(0x13, "01")]), 6),
-        loading("a slave without 0x3D", changed(&file, &[(documentation, "3E")]), 7),
-        loading("equal physical names", changed(&file, &[(serial, "00")]), 8),
-    ]
+    refused_files([0x05, 0x05]).map(|(what, file, number)| loading(what, file, number)).into()
 }
 
 /// Four slaves: two unnamed, one named 0x05, one 0x00.
 const FOUR: [u8; 4] = [UNNAMED, UNNAMED, 0x05, 0x00];
 const WRITE: u8 = 1;
 
-/// The data frame of a pending write on [`FOUR`] with the data 11 22 33 and this byte: epoch 0 becomes 1, nobody sends,
-/// and these bytes of the slaves are then others.
-fn writes(what: &'static str, [name, file, record]: [u8; 3], last: u8, changes: Changes) -> Edge {
-    let header = format!("00 01 {name:02X} {:02X} {record:02X}", file << 2 | WRITE);
-    let before = changed(&named(&FOUR), &[(EPOCH, &header)]);
+/// The data frame of a pending write on [`FOUR`] with the data 11 22 33 and this byte: these bytes of the slaves are then
+/// others.
+fn writes(what: &'static str, target: [u8; 3], last: u8, changes: Changes) -> Edge {
+    Edge { what, calls: vec![writing(&named(&FOUR), target, last, changes)] }
+}
+
+/// The same on any file, at a name, of a record of a slave's file: epoch 0 becomes 1, and nobody sends.
+fn writing(file: &[u8], [name, number, record]: [u8; 3], last: u8, changes: Changes) -> (Call, Outcome) {
+    let header = format!("00 01 {name:02X} {:02X} {record:02X}", number << 2 | WRITE);
+    let before = changed(file, &[(EPOCH, &header)]);
     let after = changed(&changed(&before, &[(EPOCH, "01")]), changes);
     let frame = framed(MSD, [0x11, 0x22, 0x33, last]);
     let call = Call::Round { file: before, frame, answer_length: 64 };
     let expected =
         Outcome { senders: Some(0), file: Some(after), buffer: Some(answer(MSD, &[])), ..call.before() };
-    Edge::new(what, call, expected)
+    (call, expected)
 }
 
 /// Where a slave of [`FOUR`] keeps record 1 of 0x08, and of 0x10.
@@ -144,6 +146,59 @@ fn four_bytes() -> Vec<Edge> {
         writes("record 1 of 0x3D", [0x05, 0x3D, 1], 5, &[]),
         writes("record 1 of a file that is not there", [0x05, 0x11, 1], 5, &[]),
         writes("record 4 of 0x08, which is not there", [0x05, 8, 4], 5, &[]),
+    ]
+}
+
+/// A slave's name and an address at which it takes a write: its own name, 0x00, and 0xFF.
+const ADDRESSED: [(u8, u8); 3] = [(0x05, 0x05), (0x05, 0x00), (UNNAMED, 0xFF)];
+
+/// Record 1 of every other file that may be written takes all four bytes, 0x3C and the round files among them.
+fn record_1_of_each_file() -> Vec<Edge> {
+    let may_be_written = |number: &u8| ![0x08, 0x3D].contains(number);
+    let edge = |number| Edge {
+        what: "record 1 of a file that is not 0x08",
+        calls: ADDRESSED.map(|(name, at)| writing_record_1(number, name, at)).to_vec(),
+    };
+    (0x00..=0x3F).filter(may_be_written).map(edge).collect()
+}
+
+/// A slave that has this file, its record 1 being D4 D5 D6 D7.
+fn writing_record_1(number: u8, name: u8, at: u8) -> (Call, Outcome) {
+    let record_1 = "D4D5D6D7";
+    // Every slave here has such a file 0x10.
+    let lists = if number == 0x10 { vec![] } else { vec![(number, record_1.to_string())] };
+    let file = cluster(&[Slave { name, lists }]);
+    let mut places = file.windows(4).enumerate().filter(|(_, bytes)| bytes == &hex(record_1));
+    // Of two files the one with the lower number comes first.
+    let place = if number > 0x10 { places.next_back() } else { places.next() };
+    let (place, _) = place.expect("record 1 of the file");
+    writing(&file, [at, number, 1], 0x05, &[(place, "11223305")])
+}
+
+/// Of 0x08 record 1 alone keeps its last byte; records 2 to 4 take all four.
+fn records_of_configuration() -> Vec<Edge> {
+    // One slave, whose 0x08 begins at place 28 and has four records: a name, 00000000, A0A1A2A3 and A4A5A6A7.
+    let with = |name: u8| {
+        let records = format!("00000000 000021{name:02X} 00000000 A0A1A2A3 A4A5A6A7");
+        hex(&format!(
+            "54410101 0010003C 00000000 00000000  00140200  0804001C 3D020030  {records}
+             00000000 00000007 00000010"
+        ))
+    };
+    let edge = |what, record: u8, written: fn(u8) -> String| Edge {
+        what,
+        calls: ADDRESSED
+            .map(|(name, at)| {
+                let place = 28 + 4 * usize::from(record);
+                writing(&with(name), [at, 8, record], 0x44, &[(place, &written(name))])
+            })
+            .to_vec(),
+    };
+    vec![
+        edge("record 1 of 0x08 keeps its last byte", 1, |name| format!("112233{name:02X}")),
+        edge("record 2 of 0x08 takes four bytes", 2, |_| "11223344".to_string()),
+        edge("record 3 of 0x08 takes four bytes", 3, |_| "11223344".to_string()),
+        edge("record 4 of 0x08 takes four bytes", 4, |_| "11223344".to_string()),
     ]
 }
 

@@ -6,6 +6,7 @@ pub mod logical_names;
 pub mod multiplexed;
 pub mod naming_steps;
 pub mod owners;
+pub mod step_grounds;
 pub mod traces;
 
 use crate::case::{Call, Outcome};
@@ -30,6 +31,7 @@ impl Edge {
     }
 
     fn hold(&self, engine: &dyn Engine) {
+        assert!(!self.calls.is_empty(), "{}: no call", self.what);
         for (call, expected) in &self.calls {
             assert_eq!(&call.make(engine), expected, "{}: {call}", self.what);
         }
@@ -41,4 +43,34 @@ fn hold_all<E: Into<Edge>>(engine: &dyn Engine, groups: impl IntoIterator<Item =
     let edges: Vec<Edge> = groups.into_iter().flatten().map(Into::into).collect();
     assert_eq!(edges.len(), count);
     edges.iter().for_each(|edge| edge.hold(engine));
+}
+
+#[cfg(test)]
+mod tests {
+    use super::{hold_all, Edge};
+    use crate::case::{Call, Outcome};
+    use crate::engine::Model;
+
+    fn empty_file(number: u8) -> Edge {
+        let call = Call::Check { file: Vec::new() };
+        let expected = Outcome { number, ..call.before() };
+        Edge::new("an empty file", call, expected)
+    }
+
+    #[test]
+    fn a_right_answer_holds() {
+        hold_all(&Model, [vec![empty_file(1)]], 1);
+    }
+
+    #[test]
+    #[should_panic(expected = "an empty file")]
+    fn a_wrong_answer_does_not() {
+        hold_all(&Model, [vec![empty_file(2)]], 1);
+    }
+
+    #[test]
+    #[should_panic(expected = "no call")]
+    fn an_edge_without_a_call_does_not() {
+        hold_all(&Model, [vec![Edge { what: "nothing", calls: Vec::new() }]], 1);
+    }
 }

@@ -19,10 +19,18 @@ struct Round {
 }
 
 /// So many edges there are; each turn of each operation, and naming runs, aside.
-const EDGES: usize = 70;
+const EDGES: usize = 142;
 
 pub fn hold(engine: &dyn Engine) {
-    let groups = [four_on_a_slot(), eight_on_a_slot(), passed_over(), covering(), receiving(), others()];
+    let groups = [
+        four_on_a_slot(),
+        eight_on_a_slot(),
+        passed_over(),
+        covering(),
+        receiving(),
+        modulo_4_and_8(),
+        others(),
+    ];
     super::hold_all(engine, groups, EDGES);
     every_turn(engine);
     rounds_between_steps(engine);
@@ -188,6 +196,46 @@ fn receiving() -> Vec<Round> {
         ),
         with("out of turn, then a plain receive", into(8, 1) + &entry(0, 0, 1, 6), 3, vec![(1, 6, 0xD4)]),
     ]
+}
+
+/// Epochs that, already raised, differ modulo 8 and not modulo 4, and 255 going to 0: operations 8, 9, 12 and 13 act in
+/// both of two such epochs, 10 and 11 in the first alone, 14 and 15 in the second alone.
+fn modulo_4_and_8() -> Vec<Round> {
+    // The field, the epoch before the round, and whether 8, 9, 12 and 13, whether 10 and 11, whether 14 and 15 act.
+    let turns = [
+        // raised to 2, 6, 3 and 7
+        (2, 1, [true, true, false]),
+        (2, 5, [true, false, true]),
+        (2, 2, [false, false, false]),
+        (2, 6, [false, false, false]),
+        // raised to 0 and to 4, which is 0 modulo 4
+        (0, 255, [true, true, false]),
+        (0, 3, [true, false, true]),
+        (0, 7, [true, true, false]),
+        // 255 is 3 modulo 4 and 7 modulo 8; of 256 nothing is left
+        (3, 254, [true, false, true]),
+        (3, 255, [false, false, false]),
+    ];
+    let of_turn = |(field, epoch, [of_four, first, second]): (u8, u8, [bool; 3])| {
+        let operations = [(8, of_four), (9, of_four), (10, first), (11, first)].into_iter();
+        let operations = operations.chain([(12, of_four), (13, of_four), (14, second), (15, second)]);
+        operations.map(move |(operation, acts)| in_slot_1(operation, field, epoch, acts))
+    };
+    turns.into_iter().flat_map(of_turn).collect()
+}
+
+/// An entry for slot 1 that comes first in its list, and after it one for the same slot that is not multiplexed: of the
+/// two the first acts or, passed over, the second.
+fn in_slot_1(operation: u8, field: u8, epoch: u8, acts: bool) -> Round {
+    if operation % 2 == 1 {
+        let list = entry(operation, field, 1, 4) + &entry(1, 0, 1, 5);
+        return one("a send, and a plain one after it", &list, epoch, Some(if acts { 0xD4 } else { 0xD5 }));
+    }
+    // The second slave sends D2, the first stores it at place 6 or, passed over, at place 7.
+    let list = entry(operation, field, 1, 6) + &entry(0, 0, 1, 7);
+    let slaves = [slave(0x01, 2, &list), slave(0x02, 2, &entry(1, 0, 1, 2))];
+    let stored = vec![(0, if acts { 6 } else { 7 }, 0xD2)];
+    Round { stored, ..round("a receive, and a plain one after it", &slaves, epoch, &[(1, 0xD2)]) }
 }
 
 /// Several senders, an unnamed slave, another round's list, a later slot.

@@ -35,7 +35,7 @@ enum Made {
 }
 
 /// So many edges there are, whole runs aside.
-const EDGES: usize = 64;
+const EDGES: usize = 68;
 
 pub fn hold(engine: &dyn Engine) {
     let groups =
@@ -149,6 +149,11 @@ fn after_zero() -> Vec<Step> {
         step("answered, a wide low half", [3, 5, TOP_HALF, WIDE], ANSWERED, [5, 0, TOP_HALF, WIDE]),
         silent("silence, halves 0", [3, 5, 0, 0], [3, 5, 0, 0]),
         silent("silence, the halves of bit 63 stored", [3, 5, TOP_HALF, 0], [3, 5, TOP_HALF, 0]),
+        // "all named" leaves index and step, and the halves are those last written, whatever they are.
+        silent("silence, another low half", [3, 5, 0, 9], [3, 5, 0, 9]),
+        silent("silence, two other halves", [3, 5, STALE, 9], [3, 5, STALE, 9]),
+        silent("silence, wide halves", [3, 0, WIDE, WIDE | 5], [3, 0, WIDE, WIDE | 5]),
+        silent("silence, the widest halves", [3, 5, u64::MAX, u64::MAX], [3, 5, u64::MAX, u64::MAX]),
     ]
 }
 

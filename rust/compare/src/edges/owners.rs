@@ -1,11 +1,12 @@
 //! The edges of an owner file (document 02, request 4), and of its multiplexed entries (request 7): each for a buffer that
 //! is just long enough, longer by 1 and by 9 bytes, shorter by 1, and empty; one that is refused for five others.
 
-use super::files::{cluster, hex, slave, Slave, UNNAMED};
+use super::files::{answer, changed, cluster, hex, slave, Slave, UNNAMED};
 use super::Edge;
 use crate::case::{Call, Outcome, FILL};
 use crate::engine::Engine;
-use crate::layout::{MOST_OWNER_BYTES, ROUNDS};
+use crate::frames::MULTIPARTNER;
+use crate::layout::{EPOCH, MOST_OWNER_BYTES, ROUNDS};
 
 /// The master's name in every edge but those about it.
 const MASTER: u8 = 0x63;
@@ -23,7 +24,7 @@ const SHORTEST: &str = "03000405 06000708";
 const NOBODY: &str = "63000000";
 
 /// So many edges there are.
-const EDGES: usize = 167;
+const EDGES: usize = 209;
 
 pub fn hold(engine: &dyn Engine) {
     let groups = [
@@ -31,6 +32,7 @@ pub fn hold(engine: &dyn Engine) {
         row_places(),
         slots(),
         places(),
+        from_its_own_list(),
         hiding(),
         passed_over(),
         multiplexed_sends(),
@@ -247,6 +249,77 @@ fn places() -> Vec<Edge> {
         // Slots 1 to 3, of which only slot 1 is inside; then slot 2 again, hidden, and slot 3 likewise.
         one_record("slots outside stay hidden", &one("43011201 40011002 40011003"), "63050000"),
     ]
+}
+
+/// An entry may send from the file in which it stands: the bytes sent are those of its own list, and the row has its
+/// name where one was sent. Each round's list is asked for the plan and run.
+fn from_its_own_list() -> Vec<Edge> {
+    ROUNDS.into_iter().flat_map(own_lists_of).collect()
+}
+
+/// The lists of one round. Byte 0 of an entry is the round's number in the six high bits.
+fn own_lists_of(round: u8) -> Vec<Edge> {
+    let first = round << 2;
+    let of = |what, entries: &str, sent: &[(usize, u8)]| as_it_runs(what, ANY, round, entries, sent);
+    let byte = |place: u8, slot: u8| format!("{:02X}0110{slot:02X}", first | place);
+    vec![
+        // Record 1 is the entry itself: slots 1 to 4 have its four bytes.
+        of(
+            "an entry that sends itself",
+            &format!("{first:02X}011301"),
+            &[(1, first), (2, 1), (3, 0x13), (4, 1)],
+        ),
+        of(
+            "each byte by an entry of its own",
+            &[(0, 3), (3, 1)].map(|(place, slot)| byte(place, slot)).concat(),
+            &[(1, 0x03), (3, first)],
+        ),
+        // Two slots from the last place on, the second of which is outside.
+        of("the last place of its list", &format!("{:02X}011102", first | 3), &[(2, 0x02)]),
+        // Record 3 stands behind the end and is not run, but its bytes are there.
+        of("a record behind the end", &format!("{first:02X}031101 00006000 ABCDEF01"), &[(1, 0xAB), (2, 0xCD)]),
+        of("record 0x00 of its list", &format!("{first:02X}001002"), &[(2, 0x00)]),
+        of("a record that its list does not have", &format!("{first:02X}021001"), &[]),
+        as_it_runs("an unnamed slave's own list", UNNAMED, round, &format!("{first:02X}011301"), &[]),
+    ]
+}
+
+/// One slave with a list for one round that sends these bytes in slots up to 7: the owner file, and the round.
+fn as_it_runs(what: &'static str, name: u8, round: u8, entries: &str, sent: &[(usize, u8)]) -> Edge {
+    let file = cluster(&[slave(name, round, entries)]);
+    let last = sent.iter().map(|&(slot, _)| slot).max().unwrap_or(0);
+    let mut row = vec![0; 4 * (last / 4 + 1)];
+    row[0] = MASTER;
+    sent.iter().for_each(|&(slot, _)| row[slot] = name);
+    let row: String = row.iter().map(|byte| format!("{byte:02X}")).collect();
+    let place = ROUNDS.iter().position(|&other| other == round).expect("one of the six");
+    let mut rows = [NOBODY; 6];
+    rows[place] = &row;
+    let index = if last < 4 { SHORTEST } else { SECOND_RECORD_IN[place] };
+    let mut edge = of_content(what, file.clone(), MASTER, &content_of(index, rows));
+    edge.calls.push(running(file, MULTIPARTNER[place], sent));
+    edge
+}
+
+/// The index where the row of this one of the six rounds has two records.
+const SECOND_RECORD_IN: [&str; 6] = [
+    "03000506 07000809",
+    "03000406 07000809",
+    "03000405 07000809",
+    "03000405 06000809",
+    "03000405 06000709",
+    "03000405 06000708",
+];
+
+/// The round on the file: epoch 0 becomes 1, and nothing is stored.
+fn running(file: Vec<u8>, firework: u8, sent: &[(usize, u8)]) -> (Call, Outcome) {
+    let mut bytes = answer(firework, &[]);
+    sent.iter().for_each(|&(slot, byte)| bytes[slot] = byte);
+    let mask = sent.iter().fold(0, |mask, &(slot, _)| mask | 1 << slot);
+    let after = changed(&file, &[(EPOCH, "01")]);
+    let call = Call::Round { file, frame: vec![firework], answer_length: 64 };
+    let expected = Outcome { senders: Some(mask), file: Some(after), buffer: Some(bytes), ..call.before() };
+    (call, expected)
 }
 
 /// "the first entry before the end that covers it acts"

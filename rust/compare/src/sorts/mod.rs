@@ -1,5 +1,6 @@
 //! What calls are examples of: the sorts that have to occur, and the tally of outcomes.
 
+pub mod grounds;
 pub mod names;
 pub mod owners;
 pub mod passes;
@@ -16,6 +17,7 @@ pub fn of(call: &Call, outcome: &Outcome) -> Vec<Sort> {
     let mut sorts = Vec::from_iter(Sort::of(call, outcome));
     sorts.extend(names::sorts(call, outcome));
     sorts.extend(passes::sorts(call, outcome));
+    sorts.extend(grounds::sorts(call, outcome));
     sorts.extend(turns::sorts(call, outcome));
     sorts
 }

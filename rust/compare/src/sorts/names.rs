@@ -16,7 +16,7 @@ pub fn sorts(call: &Call, outcome: &Outcome) -> Vec<Sort> {
     match call {
         Call::Check { file } => at_loading(file, outcome.number),
         Call::Round { file, frame, .. } if carried_out => {
-            [write_of_record_1(file, frame, outcome), on_equal_names(file, Sort::RoundOnEqualNames)].concat()
+            [write_of_last_byte(file, frame, outcome), on_equal_names(file, Sort::RoundOnEqualNames)].concat()
         }
         Call::Step { file, run, .. } if carried_out && outcome.run != Some(*run) => {
             on_equal_names(file, Sort::StepOnEqualNames)
@@ -66,29 +66,38 @@ fn equal_names_beneath(file: &[u8]) -> bool {
     load(&apart) == Err(Refusal(EQUAL_LOGICAL_NAMES))
 }
 
-/// A data frame that writes record 1 of a file, where it tells which bytes the record keeps.
-fn write_of_record_1(file: &[u8], frame: &[u8], outcome: &Outcome) -> Vec<Sort> {
-    let (Ok(cluster), &[MSD, _, _, _, last, _]) = (check(file), frame) else {
+/// A data frame that writes a record, where it tells whether the record keeps its last byte.
+fn write_of_last_byte(file: &[u8], frame: &[u8], outcome: &Outcome) -> Vec<Sort> {
+    let (Ok(before), &[MSD, _, _, _, last, _]) = (check(file), frame) else {
         return Vec::new();
     };
-    let pending = cluster.pending;
-    if pending.pb2 % 4 != WRITE || pending.pb3 != NAMES_RECORD.0 {
+    let pending = before.pending;
+    if pending.pb2 % 4 != WRITE {
         return Vec::new();
     }
-    let number = FileNumber(pending.pb2 / 4);
-    let sort = match pending.name {
-        _ if number != FileNumber::CONFIGURATION => Sort::FourBytesWritten,
-        LogicalName::UNNAMED => Sort::NamesWrittenUnnamed,
-        LogicalName::BROADCAST => Sort::NamesWrittenAll,
-        _ => Sort::NamesWrittenOne,
-    };
+    let (number, record) = (FileNumber(pending.pb2 / 4), RecordNumber(pending.pb3));
     let would_alter = |slave: &Slave| {
         let addressed = match pending.name {
             LogicalName::BROADCAST => !slave.is_unnamed(),
             name => slave.logical_name() == name,
         };
-        addressed && slave.record(number, NAMES_RECORD).is_some_and(|record| record[3] != last)
+        addressed && slave.record(number, record).is_some_and(|bytes| bytes[3] != last)
     };
-    let told = cluster.slaves.iter().any(would_alter) && outcome.alters_beyond_epoch(file);
-    told.then_some(sort).into_iter().collect()
+    let altered = |slave: usize| {
+        let after = outcome.file.as_deref().and_then(|file| check(file).ok());
+        let bytes = after.as_ref().and_then(|after| after.slaves[slave].record(number, record));
+        bytes.is_some_and(|bytes| bytes[3] == last)
+    };
+    let told = before.slaves.iter().any(would_alter) && outcome.alters_beyond_epoch(file);
+    let takes_it = (0..).zip(&before.slaves).any(|(place, slave)| would_alter(slave) && altered(place));
+    match (number, record, pending.name) {
+        (FileNumber::CONFIGURATION, NAMES_RECORD, _) if !told => Vec::new(),
+        (FileNumber::CONFIGURATION, NAMES_RECORD, LogicalName::UNNAMED) => vec![Sort::NamesWrittenUnnamed],
+        (FileNumber::CONFIGURATION, NAMES_RECORD, LogicalName::BROADCAST) => vec![Sort::NamesWrittenAll],
+        (FileNumber::CONFIGURATION, NAMES_RECORD, _) => vec![Sort::NamesWrittenOne],
+        _ if !takes_it => Vec::new(),
+        (FileNumber::CONFIGURATION, RecordNumber(record), _) => vec![Sort::ConfigurationWritten(record)],
+        (FileNumber(number), NAMES_RECORD, _) => vec![Sort::FourBytesWritten, Sort::RecordOneWritten(number)],
+        _ => Vec::new(),
+    }
 }

@@ -29,6 +29,25 @@ fn hideable_mask(cluster: &Cluster, round: u8) -> u64 {
     cluster.slaves.iter().map(of_slave).fold(0, |mask, slots| mask | slots)
 }
 
+/// The slots of a planned round in which a slave sends a byte of the list that it runs.
+pub fn own_list_mask(file: &[u8], firework: u8) -> u64 {
+    let cluster = check(file).expect("an accepted file");
+    let number = FileNumber(round_of(firework).expect("a firework"));
+    let of_slave = |slave: &Slave| {
+        let Some(round_file) = slave.file(number).filter(|_| !slave.is_unnamed()) else {
+            return 0;
+        };
+        let mut list = list_of(round_file);
+        list.retain(|entry| !entry.is_multiplexed_receive());
+        let acting = |slot: usize| list.iter().find(|entry| entry.covers(slot));
+        let sends = |&slot: &usize| {
+            acting(slot).is_some_and(|entry| entry.sends_from(number, slot, round_file.bytes.len()))
+        };
+        (1..=LAST_SLOT).filter(sends).fold(0, |mask, slot| mask | 1 << slot)
+    };
+    cluster.slaves.iter().map(of_slave).fold(0, |mask, slots| mask | slots)
+}
+
 /// The owned rounds in which a named slave has a multiplexed send before the end.
 fn multiplexed_rounds(cluster: &Cluster) -> Vec<u8> {
     let sends = |slave: &Slave, round: u8| {

@@ -66,6 +66,7 @@ pub fn sorts(call: &Call, outcome: &Outcome) -> Vec<Sort> {
         (past_a_write, Sort::StandsPastWrite),
         (answered_with_zero, Sort::ZeroAnsweredPastWrite),
         (is_wide(run, made), Sort::WideHalfWritten),
+        (ends_with_halves(run, &after), Sort::AllNamedWithHalves),
     ];
     let others = occurs.into_iter().filter_map(|(occurs, sort)| occurs.then_some(sort));
     passed_over(run, made).into_iter().chain(others).collect()
@@ -94,6 +95,11 @@ fn stands_past(made: Made, after: &RunWords) -> bool {
         (Made::Write(1), place) => place != Place::GiveHigh,
         _ => false,
     }
+}
+
+/// Whether the run ends "all named", the halves that it was handed being others than 0.
+fn ends_with_halves(run: &RunWords, after: &RunWords) -> bool {
+    after[0] == End::AllNamed.number() && run[6] != 0 && run[7] != 0
 }
 
 /// Whether a half was written only because the stored one has more than 32 bits.

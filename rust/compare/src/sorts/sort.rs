@@ -76,8 +76,11 @@ pub enum Sort {
     NamesWrittenAll,
     /// The same at another name.
     NamesWrittenOne,
-    /// A write of record 1 of another file that alters its last byte.
+    /// A write of record 1 of another file that alters its last byte, and the same of the file of this number.
     FourBytesWritten,
+    RecordOneWritten(u8),
+    /// A write of this record of 0x08, 2 to 4, that alters its last byte.
+    ConfigurationWritten(u8),
     /// A round, a step and a trace carried out on a file that loading refuses by 22.
     RoundOnEqualNames,
     StepOnEqualNames,
@@ -102,11 +105,28 @@ pub enum Sort {
     StandsPastWrite,
     /// The comparison with 0 answered, after which it stands past a write of the next.
     ZeroAnsweredPastWrite,
+    /// A step that ends the run "all named", both stored halves being others than 0.
+    AllNamedWithHalves,
+    /// A step refused by the first of these two of the grounds 9, 15, 16 and 17, the second being the next that holds.
+    StepGrounds(u8, u8),
+    /// One refused by 9 for which all four hold.
+    StepOfAllGrounds,
+    /// One refused by 1 to 8 for which one of the four holds.
+    StepFileFirst,
+    /// A step of an ended run, and its number: 0, or 9, 15, 16 or 17.
+    EndedStep(u8),
+    /// One refused by 1 to 8.
+    EndedOnRefusedFile,
     /// A naming run whose steps engine and model made in turn, the words and the file handed over.
     RunInTurn,
     /// A multipartner round in which a multiplexed entry of this operation is in turn and sends or stores. The first
-    /// entry that covers the slot is multiplexed, here and in the next four.
+    /// entry that covers the slot is multiplexed, here and in the next six.
     Multiplexed(u8),
+    /// One in which a multiplexed entry of this operation is out of turn, and would send or store if it were not.
+    PassedOver(u8),
+    /// One in which such an entry would do the opposite if operations 8, 9, 12 and 13 went by the epoch modulo 8, or 10, 11,
+    /// 14 and 15 by the epoch modulo 4.
+    OtherModulo(u8),
     /// One in which such an entry is in turn and can do nothing, so that it hides a later one.
     MultiplexedHides,
     /// One in which such an entry is out of turn and a plain entry acts.
@@ -134,6 +154,8 @@ pub enum Sort {
     /// A round planned in which such a receive, in turn, keeps the slave from sending, and one in which it does not.
     PlannedAndHidden,
     PlannedAndNotHidden,
+    /// A round planned in which a slave sends a byte of the list that it runs.
+    PlannedFromOwnList,
     /// A trace between the steps of a naming run that was run and has a round and a refused frame in it.
     TraceBetweenSteps,
 }
@@ -152,21 +174,24 @@ impl Sort {
     ];
 
     /// Sorts of calls about logical names likewise, with one in how many of the rounds asked for.
-    pub const REACHED_ABOUT_NAMES: [Reached; 10] = [
+    pub const REACHED_ABOUT_NAMES: [Reached; 13] = [
         (Sort::SeveralUnnamed, 20, "files loaded, with several slaves unnamed"),
         (Sort::OnlyZeroTwice, 100, "files not loaded, only the name 0x00 occurring twice"),
         (Sort::BothNamesEqual, 2_000, "files not loaded, physical and logical names occurring twice"),
         (Sort::NamesWrittenUnnamed, 800, "writes of record 1 of 0x08 at 0xFF that would rename"),
         (Sort::NamesWrittenAll, 800, "writes of record 1 of 0x08 at 0x00 that would rename"),
         (Sort::NamesWrittenOne, 400, "writes of record 1 of 0x08 at another name that would rename"),
-        (Sort::FourBytesWritten, 2_000, "writes of record 1 of another file that alter its last byte"),
+        (Sort::FourBytesWritten, 100, "writes of record 1 of another file that alter its last byte"),
+        (Sort::ConfigurationWritten(2), 2_000, "writes of record 2 of 0x08 that alter its last byte"),
+        (Sort::ConfigurationWritten(3), 2_000, "writes of record 3 of 0x08 that alter its last byte"),
+        (Sort::ConfigurationWritten(4), 2_000, "writes of record 4 of 0x08 that alter its last byte"),
         (Sort::RoundOnEqualNames, 10, "rounds on a file with equal logical names"),
         (Sort::StepOnEqualNames, 40, "steps on a file with equal logical names"),
         (Sort::TraceOnEqualNames, 80, "traces on a file with equal logical names"),
     ];
 
     /// Sorts of multipartner rounds with multiplexed entries, with one in how many of the rounds asked for.
-    pub const REACHED_BY_TURNS: [Reached; 13] = [
+    pub const REACHED_BY_TURNS: [Reached; 29] = [
         (Sort::Multiplexed(8), 2_000, "rounds in which operation 8 acts"),
         (Sort::Multiplexed(9), 2_000, "rounds in which operation 9 acts"),
         (Sort::Multiplexed(10), 4_000, "rounds in which operation 10 acts"),
@@ -175,6 +200,22 @@ impl Sort {
         (Sort::Multiplexed(13), 2_000, "rounds in which operation 13 acts"),
         (Sort::Multiplexed(14), 4_000, "rounds in which operation 14 acts"),
         (Sort::Multiplexed(15), 4_000, "rounds in which operation 15 acts"),
+        (Sort::PassedOver(8), 2_000, "rounds in which operation 8 is passed over"),
+        (Sort::PassedOver(9), 2_000, "rounds in which operation 9 is passed over"),
+        (Sort::PassedOver(10), 2_000, "rounds in which operation 10 is passed over"),
+        (Sort::PassedOver(11), 2_000, "rounds in which operation 11 is passed over"),
+        (Sort::PassedOver(12), 2_000, "rounds in which operation 12 is passed over"),
+        (Sort::PassedOver(13), 2_000, "rounds in which operation 13 is passed over"),
+        (Sort::PassedOver(14), 2_000, "rounds in which operation 14 is passed over"),
+        (Sort::PassedOver(15), 2_000, "rounds in which operation 15 is passed over"),
+        (Sort::OtherModulo(8), 4_000, "rounds in which operation 8 acts, and would not modulo 8"),
+        (Sort::OtherModulo(9), 4_000, "rounds in which operation 9 acts, and would not modulo 8"),
+        (Sort::OtherModulo(10), 4_000, "rounds in which operation 10 is passed over, and would act modulo 4"),
+        (Sort::OtherModulo(11), 4_000, "rounds in which operation 11 is passed over, and would act modulo 4"),
+        (Sort::OtherModulo(12), 4_000, "rounds in which operation 12 acts, and would not modulo 8"),
+        (Sort::OtherModulo(13), 4_000, "rounds in which operation 13 acts, and would not modulo 8"),
+        (Sort::OtherModulo(14), 4_000, "rounds in which operation 14 is passed over, and would act modulo 4"),
+        (Sort::OtherModulo(15), 4_000, "rounds in which operation 15 is passed over, and would act modulo 4"),
         (Sort::MultiplexedHides, 400, "rounds in which an entry in turn that can do nothing hides another"),
         (Sort::PassedToPlain, 200, "rounds in which a plain entry acts after one out of turn"),
         (Sort::PassedToMultiplexed, 200, "rounds in which a multiplexed entry acts after one out of turn"),
@@ -183,7 +224,7 @@ impl Sort {
     ];
 
     /// Sorts of naming steps, with one in how many of those asked for; those of naming runs count too.
-    pub const REACHED_BY_STEPS: [Reached; 10] = [
+    pub const REACHED_BY_STEPS: [Reached; 25] = [
         (Sort::HighPassedOver, 400, "steps that pass over a comparison's high half"),
         (Sort::LowPassedOver, 200, "steps that pass over a comparison's low half"),
         (Sort::BothPassedOver, 400, "steps that pass over both halves of a comparison"),
@@ -198,6 +239,21 @@ impl Sort {
             4_000,
             "comparisons with 0 after which the run stands past a needless write",
         ),
+        (Sort::AllNamedWithHalves, 4_000, "steps that end a run \"all named\", with halves other than 0"),
+        (Sort::StepGrounds(9, 15), 400, "steps refused by 9 for which 15 holds too"),
+        (Sort::StepGrounds(9, 16), 400, "steps refused by 9 for which 16 holds too, and not 15"),
+        (Sort::StepGrounds(9, 17), 40, "steps refused by 9 for which 17 holds too, and not 15 and 16"),
+        (Sort::StepGrounds(15, 16), 400, "steps refused by 15 for which 16 holds too"),
+        (Sort::StepGrounds(15, 17), 400, "steps refused by 15 for which 17 holds too, and not 16"),
+        (Sort::StepGrounds(16, 17), 400, "steps refused by 16 for which 17 holds too"),
+        (Sort::StepOfAllGrounds, 4_000, "steps refused by 9 for which 15, 16 and 17 hold too"),
+        (Sort::StepFileFirst, 40, "steps refused by 1 to 8 for which 9, 15, 16 or 17 holds too"),
+        (Sort::EndedStep(0), 40, "steps of an ended run"),
+        (Sort::EndedStep(9), 40, "steps of an ended run refused by 9"),
+        (Sort::EndedStep(15), 400, "steps of an ended run refused by 15"),
+        (Sort::EndedStep(16), 400, "steps of an ended run refused by 16"),
+        (Sort::EndedStep(17), 400, "steps of an ended run refused by 17"),
+        (Sort::EndedOnRefusedFile, 100, "steps of an ended run refused by 1 to 8"),
     ];
 
     /// Sorts of traces likewise, with one in how many of the traces asked for; those of naming runs do not count.
@@ -217,7 +273,7 @@ impl Sort {
     ];
 
     /// Sorts of owner files, with one in how many of those asked for.
-    pub const REACHED_BY_OWNERS: [Reached; 22] = [
+    pub const REACHED_BY_OWNERS: [Reached; 23] = [
         (Sort::OwnerPadded, 10, "owner files written, a row padded"),
         (Sort::OwnerOfMostSlots, 20, "owner files written, with a row of 64 slots"),
         (Sort::OwnerNamedZero, 20, "owner files written, with a sender named 0x00"),
@@ -244,6 +300,7 @@ impl Sort {
         (Sort::OwnerPassesReceive, 100, "owner files written, a multiplexed receive in a sender's slot"),
         (Sort::PlannedAndHidden, 200, "rounds as planned, a sender hidden by its multiplexed receive"),
         (Sort::PlannedAndNotHidden, 200, "rounds as planned, a sender not hidden by its multiplexed receive"),
+        (Sort::PlannedFromOwnList, 400, "rounds as planned, a byte of the list that is run sent"),
     ];
 
     /// Sorts of calls in naming runs, with one in how many of the runs asked for.
@@ -258,8 +315,8 @@ impl Sort {
         (Sort::RunInTurn, 4, "naming runs made in turn"),
     ];
 
-    /// What a call is an example of; logical names, naming steps, multiplexed entries, traces and owner files are
-    /// sorted in `names`, `passes`, `turns`, `traces` and `owners`.
+    /// What a call is an example of; logical names, naming steps, their grounds, multiplexed entries, traces and
+    /// owner files are sorted in `names`, `passes`, `grounds`, `turns`, `traces` and `owners`.
     pub fn of(call: &Call, outcome: &Outcome) -> Option<Sort> {
         match call {
             Call::Read { frame } if outcome.number == 12 && is_unfolded(frame) => Some(Sort::UnfoldedNotRead),

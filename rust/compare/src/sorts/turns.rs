@@ -44,10 +44,28 @@ impl Entry {
         }
     }
 
+    /// Whether it would do the opposite in this epoch if operations 8, 9, 12 and 13 went by the epoch modulo 8, and 10, 11,
+    /// 14 and 15 by the epoch modulo 4.
+    fn by_other_modulo(&self, epoch: u8) -> bool {
+        let multiplex = self.bytes[3] >> 6;
+        match self.operation() {
+            8 | 9 | 12 | 13 => self.in_turn(epoch) && epoch % 8 != multiplex,
+            _ => !self.in_turn(epoch) && epoch % 4 == multiplex,
+        }
+    }
+
+    /// Whether it is a plain send of a byte of this file, which has so many.
+    pub fn sends_from(&self, number: FileNumber, slot: usize, length: usize) -> bool {
+        matches!(self.operation(), 1 | 5) && self.bytes[0] >> 2 == number.0 && self.place(slot) < length
+    }
+
+    fn place(&self, slot: usize) -> usize {
+        4 * usize::from(self.bytes[1]) + usize::from(self.bytes[0] & 3) + slot - usize::from(self.bytes[3] & 63)
+    }
+
     /// Whether the slave has a byte to send there, or a place where it stores what someone has sent.
     fn can_act(&self, slave: &Slave, slot: usize, someone_sent: bool) -> bool {
-        let place = 4 * usize::from(self.bytes[1]) + usize::from(self.bytes[0] & 3) + slot
-            - usize::from(self.bytes[3] & 63);
+        let place = self.place(slot);
         let number = FileNumber(self.bytes[0] >> 2);
         let inside = slave.file(number).is_some_and(|file| place < file.bytes.len());
         let stores = someone_sent && place >= 4 && (0x10..=0x3C).contains(&number.0);
@@ -91,16 +109,27 @@ fn in_slot(slave: &Slave, list: &[Entry], slot: usize, epoch: u8, mask: u64) -> 
     if !covering.first().is_some_and(|entry| entry.is_multiplexed()) {
         return Vec::new();
     }
-    let Some(place) = covering.iter().position(|entry| entry.in_turn(epoch)) else {
-        return vec![Sort::NobodyInTurn];
+    let able = |entry: &Entry| entry.can_act(slave, slot, mask >> slot & 1 == 1);
+    let turn = covering.iter().position(|entry| entry.in_turn(epoch));
+    let mut sorts = Vec::new();
+    for entry in covering[..turn.unwrap_or(covering.len())].iter().filter(|entry| able(entry)) {
+        sorts.push(Sort::PassedOver(entry.operation()));
+        sorts.extend(entry.by_other_modulo(epoch).then_some(Sort::OtherModulo(entry.operation())));
+    }
+    let Some(place) = turn else {
+        sorts.push(Sort::NobodyInTurn);
+        return sorts;
     };
     let (acting, hides) = (covering[place], place + 1 < covering.len());
-    let can_act = acting.can_act(slave, slot, mask >> slot & 1 == 1);
+    let can_act = able(acting);
+    let acts_by_modulo = acting.is_multiplexed() && can_act && acting.by_other_modulo(epoch);
     let occurs = [
+        (acts_by_modulo, Sort::OtherModulo(acting.operation())),
         (acting.is_multiplexed() && can_act, Sort::Multiplexed(acting.operation())),
         (acting.is_multiplexed() && !can_act && hides, Sort::MultiplexedHides),
         (place > 0 && acting.is_multiplexed(), Sort::PassedToMultiplexed),
         (place > 0 && !acting.is_multiplexed(), Sort::PassedToPlain),
     ];
-    occurs.into_iter().filter_map(|(occurs, sort)| occurs.then_some(sort)).collect()
+    sorts.extend(occurs.into_iter().filter_map(|(occurs, sort)| occurs.then_some(sort)));
+    sorts
 }

@@ -1,0 +1,71 @@
+-- Each claim of specs/Claims, and the theorem that has it as its type.
+use Rattle.cluster.specs.Claims.Cases.{RoundCases}
+use Rattle.cluster.specs.Claims.Edition.{UnknownEditionRound}
+use Rattle.cluster.specs.Claims.Kept.{RefusedAltersNothing, RoundKeepsFile}
+use Rattle.cluster.specs.Claims.Mask.{BitsAreSenders, BitZeroNeverSet}
+use Rattle.cluster.specs.Claims.Pending.{MsaBecomesPending, StaysPending}
+use Rattle.cluster.specs.Claims.Renaming.{BaptizingRenames, OnlyBaptizingRenames, NobodyRenamed}
+use Rattle.cluster.specs.Claims.Writes.{UnnamedTakeWrites, NameRecordWritten, RecordWritten, NothingWritten}
+use Rattle.cluster.specs.Claims.Written.{AddressSentAsWritten, DataSentAsWritten, FireworkAlone}
+use Rattle.cluster.proofs.Cases.{round-cases}
+use Rattle.cluster.proofs.Rounds.{round-edition, round-refused, round-keeps-file}
+use Rattle.cluster.proofs.Mask.{bits-are-senders, bit-zero-never-set}
+use Rattle.cluster.proofs.StaysPending.{msa-becomes-pending, stays-pending}
+use Rattle.cluster.proofs.Renaming.{baptizing-renames, only-baptizing-renames, nobody-renamed}
+use Rattle.cluster.proofs.UnnamedWrites.{unnamed-take-writes}
+use Rattle.cluster.proofs.SentAsWritten.{address-sent-as-written, data-sent-as-written, firework-alone}
+use Rattle.cluster.proofs.RecordWrites.{name-record-written, record-written, nothing-written}
+
+pub held-round-cases : RoundCases
+held-round-cases = round-cases
+
+pub held-unknown-edition-round : UnknownEditionRound
+held-unknown-edition-round = round-edition
+
+pub held-refused-alters-nothing : RefusedAltersNothing
+held-refused-alters-nothing = round-refused
+
+pub held-round-keeps-file : RoundKeepsFile
+held-round-keeps-file = round-keeps-file
+
+pub held-bits-are-senders : BitsAreSenders
+held-bits-are-senders = bits-are-senders
+
+pub held-bit-zero-never-set : BitZeroNeverSet
+held-bit-zero-never-set = bit-zero-never-set
+
+pub held-msa-becomes-pending : MsaBecomesPending
+held-msa-becomes-pending = msa-becomes-pending
+
+pub held-stays-pending : StaysPending
+held-stays-pending = stays-pending
+
+pub held-baptizing-renames : BaptizingRenames
+held-baptizing-renames = baptizing-renames
+
+pub held-only-baptizing-renames : OnlyBaptizingRenames
+held-only-baptizing-renames = only-baptizing-renames
+
+pub held-nobody-renamed : NobodyRenamed
+held-nobody-renamed = nobody-renamed
+
+pub held-unnamed-take-writes : UnnamedTakeWrites
+held-unnamed-take-writes = unnamed-take-writes
+
+pub held-address-sent-as-written : AddressSentAsWritten
+held-address-sent-as-written = address-sent-as-written
+
+pub held-data-sent-as-written : DataSentAsWritten
+held-data-sent-as-written = data-sent-as-written
+
+pub held-firework-alone : FireworkAlone
+held-firework-alone = firework-alone
+
+pub held-name-record-written : NameRecordWritten
+held-name-record-written = name-record-written
+
+pub held-record-written : RecordWritten
+held-record-written = record-written
+
+pub held-nothing-written : NothingWritten
+held-nothing-written = nothing-written

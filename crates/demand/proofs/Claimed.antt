@@ -1,0 +1,69 @@
+-- Each claim of specs/Claims, and the theorem that has it as its type.
+use Rattle.demand.specs.Claims.Calls.{DemandOverCalls, ThroughoutCalls, StepsPermitted, SamePermitted}
+use Rattle.demand.specs.Claims.Pending.{CallsStayPending}
+use Rattle.demand.specs.Claims.Renaming.{CallsRenameNobody, CCallsRenameNobody}
+use Rattle.demand.specs.Claims.Traces.{TraceSentSingly, AllSentSingly, AccountTracesAside, DemandWithTraces, TraceSentInOrder}
+use Rattle.demand.specs.Claims.Permitted.{CallsPermittedExactly, TraceFits, RoundsFitCalls, TraceSends}
+use Rattle.demand.specs.Claims.Steps.{StepsAreRounds}
+use Rattle.demand.specs.Claims.TraceCalls.{TracesAreRounds}
+use Rattle.demand.proofs.Calls.{demand-over-calls, throughout-calls, steps-permitted, same-permitted}
+use Rattle.demand.proofs.Pending.{calls-stay-pending}
+use Rattle.demand.proofs.Renaming.{calls-rename-nobody, c-calls-rename-nobody}
+use Rattle.demand.proofs.Traces.{trace-sent-singly, all-sent-singly, account-traces-aside, demand-with-traces, trace-sent-in-order}
+use Rattle.demand.proofs.Permitted.{calls-permitted-exactly, trace-fits, rounds-fit-calls, trace-sends}
+use Rattle.demand.proofs.Steps.{steps-are-rounds}
+use Rattle.demand.proofs.TraceCalls.{traces-are-rounds}
+
+pub held-demand-over-calls : DemandOverCalls
+held-demand-over-calls = demand-over-calls
+
+pub held-throughout-calls : ThroughoutCalls
+held-throughout-calls = throughout-calls
+
+pub held-steps-permitted : StepsPermitted
+held-steps-permitted = steps-permitted
+
+pub held-same-permitted : SamePermitted
+held-same-permitted = same-permitted
+
+pub held-calls-stay-pending : CallsStayPending
+held-calls-stay-pending = calls-stay-pending
+
+pub held-calls-rename-nobody : CallsRenameNobody
+held-calls-rename-nobody = calls-rename-nobody
+
+pub held-c-calls-rename-nobody : CCallsRenameNobody
+held-c-calls-rename-nobody = c-calls-rename-nobody
+
+pub held-trace-sent-singly : TraceSentSingly
+held-trace-sent-singly = trace-sent-singly
+
+pub held-all-sent-singly : AllSentSingly
+held-all-sent-singly = all-sent-singly
+
+pub held-account-traces-aside : AccountTracesAside
+held-account-traces-aside = account-traces-aside
+
+pub held-demand-with-traces : DemandWithTraces
+held-demand-with-traces = demand-with-traces
+
+pub held-calls-permitted-exactly : CallsPermittedExactly
+held-calls-permitted-exactly = calls-permitted-exactly
+
+pub held-trace-fits : TraceFits
+held-trace-fits = trace-fits
+
+pub held-rounds-fit-calls : RoundsFitCalls
+held-rounds-fit-calls = rounds-fit-calls
+
+pub held-trace-sends : TraceSends
+held-trace-sends = trace-sends
+
+pub held-steps-are-rounds : StepsAreRounds
+held-steps-are-rounds = steps-are-rounds
+
+pub held-traces-are-rounds : TracesAreRounds
+held-traces-are-rounds = traces-are-rounds
+
+pub held-trace-sent-in-order : TraceSentInOrder
+held-trace-sent-in-order = trace-sent-in-order

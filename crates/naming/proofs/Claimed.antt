@@ -1,0 +1,79 @@
+-- Each claim of specs/Claims, and the theorem that has it as its type.
+use Rattle.naming.specs.Claims.Cases.{MarkedCases}
+use Rattle.naming.specs.Claims.Demand.{DemandThree}
+use Rattle.naming.specs.Claims.Edition.{UnknownEditionStep}
+use Rattle.naming.specs.Claims.Passes.{PassesCounted, PassesMade}
+use Rattle.naming.specs.Claims.Renaming.{BaptizingStepRenames, OnlyBaptizingStepsRename, StaysLoadable}
+use Rattle.naming.specs.Claims.Throughout.{Throughout}
+use Rattle.naming.specs.Claims.Permitted.{PermittedExactly}
+use Rattle.naming.specs.Claims.PermittedRounds.{RoundsFit, EachMultipartner, MayNotAskExactly, BarredMsa, LoneMsa, LoneMsd}
+use Rattle.naming.specs.Claims.StepFrames.{StepsAreFrames}
+use Rattle.naming.specs.Claims.RoundsMade.{MovesOn, Stands}
+use Rattle.naming.proofs.Cases.{marked-cases}
+use Rattle.naming.proofs.OverBytes.{demand-3, throughout}
+use Rattle.naming.proofs.StepLaws.{step-edition}
+use Rattle.naming.proofs.Passes.{passes-counted}
+use Rattle.naming.proofs.Renaming.{baptizing-step-renames, only-baptizing-steps-rename}
+use Rattle.naming.proofs.HeldOnce.{stays-loadable}
+use Rattle.naming.proofs.PermittedExactly.{permitted-exactly}
+use Rattle.naming.proofs.PermittedRounds.{rounds-fit, each-multipartner, may-not-ask-exactly, barred-msa, lone-msa, lone-msd}
+use Rattle.naming.proofs.StepFrames.{steps-are-frames}
+use Rattle.naming.proofs.RoundsMade.{moves-on, stands}
+use Rattle.naming.proofs.PassRounds.{passes-made}
+
+pub held-marked-cases : MarkedCases
+held-marked-cases = marked-cases
+
+pub held-demand-three : DemandThree
+held-demand-three = demand-3
+
+pub held-unknown-edition-step : UnknownEditionStep
+held-unknown-edition-step = step-edition
+
+pub held-passes-counted : PassesCounted
+held-passes-counted = passes-counted
+
+pub held-baptizing-step-renames : BaptizingStepRenames
+held-baptizing-step-renames = baptizing-step-renames
+
+pub held-only-baptizing-steps-rename : OnlyBaptizingStepsRename
+held-only-baptizing-steps-rename = only-baptizing-steps-rename
+
+pub held-stays-loadable : StaysLoadable
+held-stays-loadable = stays-loadable
+
+pub held-throughout : Throughout
+held-throughout = throughout
+
+pub held-permitted-exactly : PermittedExactly
+held-permitted-exactly = permitted-exactly
+
+pub held-rounds-fit : RoundsFit
+held-rounds-fit = rounds-fit
+
+pub held-each-multipartner : EachMultipartner
+held-each-multipartner = each-multipartner
+
+pub held-may-not-ask-exactly : MayNotAskExactly
+held-may-not-ask-exactly = may-not-ask-exactly
+
+pub held-barred-msa : BarredMsa
+held-barred-msa = barred-msa
+
+pub held-lone-msa : LoneMsa
+held-lone-msa = lone-msa
+
+pub held-lone-msd : LoneMsd
+held-lone-msd = lone-msd
+
+pub held-steps-are-frames : StepsAreFrames
+held-steps-are-frames = steps-are-frames
+
+pub held-moves-on : MovesOn
+held-moves-on = moves-on
+
+pub held-stands : Stands
+held-stands = stands
+
+pub held-passes-made : PassesMade
+held-passes-made = passes-made

@@ -1,0 +1,157 @@
+-- Every position moves on to a round really made: of three places that follow one another one writes no half.
+-- Assumes nothing.
+use Prim.Native.Nat.{ℕ, zero, suc, _-_, _%_, _≤_, _<_}
+use mathlib.Core.Path.{_≡_, refl, sym, ap, _∙_}
+use mathlib.Core.List.{List}
+use mathlib.Core.Bool.{true, false}
+use native.Mathlib.Omega.{arith}
+use lib.Dec.{eqb, ltb}
+use lib.ListN.{length, getD}
+use borrow.Author.Tests.{ltb-true, ltb-false, eqb-true, eqb-false}
+use Rattle.file.specs.Rules.Order.{both}
+use Rattle.file.proofs.Order.{byCase, clash}
+use Rattle.naming.specs.Inner.Answers.{partAt}
+use Rattle.naming.specs.Rules.Run.{Position, reply, partOf, placeOf, giveStep, roundHere, isFirst, isNeedless, atStep, passOver, onto, nextRound, wrote, moveOn, advance}
+use Rattle.naming.specs.Rules.Rounds.{comparisonRounds}
+use Rattle.naming.specs.Claims.RoundsMade.{NextMade, MovesOn, Stands}
+use Rattle.naming.proofs.PositionLaws.{part-poll, part-asked, part-none, third-part, writes-nothing, stays}
+
+-- a round that writes no half is made
+made-at : (names : List ℕ) (p : Position) → partAt (placeOf (p .step)) ≡ reply → isNeedless names p ≡ false
+unfolding isNeedless roundHere both
+made-at names p e =
+    byCase (isFirst (placeOf (p .step)))
+    (λ t. rw t)
+    (λ f. rw f (writes-nothing (getD names (p .index) 0) (p .value) p (placeOf (p .step)) e))
+
+executes : (k : ℕ) → (k ≡ 0 → ⊥) → k < giveStep → (k - 1) % comparisonRounds ≡ 2 → partAt (placeOf k) ≡ reply
+executes k n h e = sym (part-asked k n h) ∙ third-part ((k - 1) % comparisonRounds) (λ z. omega arith) (λ z. omega arith)
+
+-- at most two writes of halves follow one another
+two-writes : (k : ℕ) → (partAt (placeOf k) ≡ reply → ⊥) → (partAt (placeOf (suc k)) ≡ reply → ⊥) → partAt (placeOf (suc (suc k))) ≡ reply
+two-writes zero here next = absurd (here (sym (part-poll refl) ∙ unfold partOf in refl))
+two-writes (suc j) here next =
+    byCase (ltb (suc (suc (suc j))) giveStep)
+    (λ t.
+    let inside : suc (suc (suc j)) < giveStep = ltb-true (suc (suc (suc j))) giveStep t in
+    byCase (eqb (j % 3) 2)
+    (λ a. let e : j % 3 ≡ 2 = eqb-true _ _ a in absurd (here (executes (suc j) (λ z. omega arith) (omega arith) (omega arith))))
+    (λ a.
+    let m : j % 3 ≡ 2 → ⊥ = eqb-false _ _ a in
+    byCase (eqb (j % 3) 1)
+    (λ b. let e : j % 3 ≡ 1 = eqb-true _ _ b in absurd (next (executes (suc (suc j)) (λ z. omega arith) (omega arith) (omega arith))))
+    (λ b.
+    let l : j % 3 ≡ 1 → ⊥ = eqb-false _ _ b in
+    let z : j % 3 ≡ 0 = first-part j m l in
+    executes (suc (suc (suc j))) (λ z. omega arith) inside (omega arith))))
+    (λ f.
+    let outside : giveStep ≤ suc (suc (suc j)) = ltb-false (suc (suc (suc j))) giveStep f in
+    sym (part-none (suc (suc (suc j))) outside
+    (λ e. here (executes (suc j) (λ z. omega arith) (omega arith) (omega arith)))
+    (λ e. here (sym (part-none (suc j) (omega arith) (λ z. omega arith) (λ z. omega arith)) ∙ unfold partOf in refl)))
+    ∙ unfold partOf in refl)
+  where
+    first-part : (j : ℕ) → (j % 3 ≡ 2 → ⊥) → (j % 3 ≡ 1 → ⊥) → j % 3 ≡ 0
+    first-part j m l = omega arith
+
+-- moved on, a position stands at a round really made
+pub needed-there : (names : List ℕ) (p : Position) → isNeedless names (onto names p) ≡ false
+unfolding onto passOver atStep
+needed-there names p =
+    byCase (isNeedless names p)
+    (λ t.
+    byCase (isNeedless names (atStep (suc (p .step)) p))
+    (λ u.
+    let here : partAt (placeOf (p .step)) ≡ reply → ⊥ = λ e. clash t (made-at names p e) in
+    let next : partAt (placeOf (suc (p .step))) ≡ reply → ⊥ = λ e. clash u (made-at names (atStep (suc (p .step)) p) e) in
+    rw (t, u) (made-at names (atStep (suc (suc (p .step))) p) (two-writes (p .step) here next)))
+    (λ f. rw (t, f) f))
+    (λ f. rw (f, f) f)
+
+-- it passes over the needless writes before that round, and over nothing else
+module _ (names : List ℕ) (p : Position) where
+  at-own : atStep (p .step) p ≡ p
+  unfolding atStep
+  at-own = refl
+
+  moved-to : onto names p ≡ atStep (onto names p .step) p
+  unfolding onto passOver atStep
+  moved-to =
+      byCase (isNeedless names p)
+      (λ t. byCase (isNeedless names (atStep (suc (p .step)) p)) (λ u. rw (t, u)) (λ f. rw (t, f)))
+      (λ f. rw (f, f))
+
+  ahead-of : p .step ≤ onto names p .step
+  unfolding onto passOver atStep
+  ahead-of =
+      byCase (isNeedless names p)
+      (λ t. byCase (isNeedless names (atStep (suc (p .step)) p)) (λ u. rw (t, u) (omega arith)) (λ f. rw (t, f) (omega arith)))
+      (λ f. rw (f, f) (omega arith))
+
+  passed-over : (k : ℕ) → p .step ≤ k → k < onto names p .step → isNeedless names (atStep k p) ≡ true
+  unfolding onto passOver
+  passed-over k low high =
+      byCase (isNeedless names p)
+      (λ t.
+      byCase (isNeedless names (atStep (suc (p .step)) p))
+      (λ u.
+      let short : k < suc (suc (p .step)) = unfold atStep in rw (t, u) at high in
+      byCase (eqb k (p .step))
+      (λ e. let is : k ≡ p .step = eqb-true k (p .step) e in rw is (ap (isNeedless names) at-own ∙ t))
+      (λ n. let other : k ≡ p .step → ⊥ = eqb-false k (p .step) n in let is : k ≡ suc (p .step) = omega (arith, other, short, low) in rw is u))
+      (λ f.
+      let short : k < suc (p .step) = unfold atStep in rw (t, f) at high in
+      let is : k ≡ p .step = omega arith in
+      rw is (ap (isNeedless names) at-own ∙ t)))
+      (λ f. let short : k < p .step = rw (f, f) at high in absurd (omega arith))
+
+pub moves-on : MovesOn
+unfolding nextRound
+moves-on names p =
+    record {
+      step = onto names p .step;
+      ahead = ahead-of names p;
+      needless = passed-over names p;
+      needed = rw (sym (moved-to names p)) (needed-there names p);
+      made = ap (roundHere names) (moved-to names p);
+    }
+
+-- there is one next round
+next-once : {names : List ℕ} {p : Position} (a b : NextMade names p) → a .step ≡ b .step
+next-once a b =
+    byCase (ltb (a .step) (b .step))
+    (λ t. absurd (clash (b .needless (a .step) (a .ahead) (ltb-true _ _ t)) (a .needed)))
+    (λ f.
+    byCase (ltb (b .step) (a .step))
+    (λ t. absurd (clash (a .needless (b .step) (b .ahead) (ltb-true _ _ t)) (b .needed)))
+    (λ g.
+    let low : b .step ≤ a .step = ltb-false (a .step) (b .step) f in
+    let high : a .step ≤ b .step = ltb-false (b .step) (a .step) g in
+    omega (arith, low, high)))
+
+-- moved on, the position stands there
+there : (names : List ℕ) (p : Position) (here : NextMade names p) → onto names p ≡ atStep (here .step) p
+unfolding moves-on
+there names p here = moved-to names p ∙ ap (λ (k : ℕ). atStep k p) (next-once (moves-on names p) here)
+
+pub stands : Stands
+unfolding advance atStep moves-on
+stands names p here answered =
+    let go : Position → Position = λ q. moveOn (placeOf (q .step)) (length names) (wrote (roundHere names q) q) answered in
+    record {
+      next = moves-on names (go (atStep (here .step) p));
+      stands = ap (λ (q : Position). onto names (go q)) (there names p here) ∙ moved-to names (go (atStep (here .step) p));
+    }
+
+-- moved on twice is moved on once; a needless write passed over is on the way
+pub onto-again : (names : List ℕ) (p : Position) → onto names (onto names p) ≡ onto names p
+onto-again names p = stays names (onto names p) (needed-there names p)
+
+pub onto-passed : (names : List ℕ) (p : Position) → isNeedless names p ≡ true → onto names p ≡ onto names (atStep (suc (p .step)) p)
+onto-passed names p t = sym third ∙ unfold onto in rw passed
+  where
+    passed : passOver names p ≡ atStep (suc (p .step)) p
+    passed = unfold passOver in rw t
+
+    third : passOver names (onto names p) ≡ onto names p
+    third = unfold passOver in rw (needed-there names p)

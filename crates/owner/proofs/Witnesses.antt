@@ -1,0 +1,70 @@
+-- The call on two of the files of Examples: one that 23, 20 and 21 are all about is refused by 23 and its buffer stays as it was; one is
+-- written whole, and past what is written the buffer keeps its content.
+-- Assumes nothing.
+use Prim.Native.Nat.{ℕ, _<_}
+use mathlib.Core.Path.{_≡_, refl, ap, _∙_}
+use mathlib.Core.List.{List, [], _∷_}
+use mathlib.Core.Bool.{true, false}
+use lib.ListN.{length, replicate}
+use lib.Dec.{ltb}
+use native.Mathlib.Omega.{arith}
+use borrow.Author.Tests.{lt-ltb}
+use Rattle.file.specs.Rules.Order.{firstOf, both, either}
+use Rattle.file.specs.Rules.Results.{Result, refused, done}
+use Rattle.file.specs.Rules.Bytes.{numberOf, part, allZero}
+use Rattle.file.specs.Rules.Cluster.{bytesAmong, bytesIn, lastRecord, physicalName}
+use Rattle.file.specs.Rules.Decode.{decode, decodeAt, slavesAt, slaveAt, filesAt, fileAt, fileSize, offsetAt}
+use Rattle.file.specs.Rules.Grounds.{isAmong, hasRepeat, fileGround, fileGroundAt, fileGroundsAt, wrongSize, wrongMark, wrongEdition, wrongLength, wrongHeader, wrongPending, brokenLayout, walkFile, tableEnd, walkSlaves, andThen, walkSlave, goodTableEntry, walkDirectory, goodEntry, endsAt, lacksNeeded, allHaveNeeded, hasNeeded, equalPhysicalNames}
+use Rattle.owner.specs.Rules.OwnerFile.{ownerFile}
+use Rattle.owner.specs.Rules.Writing.{tooShort, ownerGround, writtenIn, ownerOn}
+use Rattle.owner.proofs.Examples.{eight, outranked, examples}
+use Rattle.owner.proofs.Calls.{multiplexed-decides, none-holds, owner-refused, owner-written}
+
+eight-accepted : fileGround eight ≡ 0
+unfolding fileGround fileGroundAt fileGroundsAt firstOf both either wrongSize wrongMark wrongEdition wrongLength wrongHeader wrongPending allZero part numberOf offsetAt brokenLayout walkFile tableEnd walkSlaves andThen walkSlave goodTableEntry walkDirectory goodEntry fileSize endsAt lacksNeeded allHaveNeeded hasNeeded lastRecord decodeAt slavesAt slaveAt filesAt fileAt equalPhysicalNames hasRepeat isAmong physicalName bytesIn bytesAmong
+eight-accepted = refl
+
+outranked-accepted : fileGround outranked ≡ 0
+unfolding eight-accepted
+outranked-accepted = refl
+
+-- ---- refused by 23
+
+module _ (master : ℕ) where
+  outranked-short : tooShort [] master (decode outranked .slaves) ≡ true
+  unfolding tooShort ownerFile
+  outranked-short =
+      let some : 0 < length (ownerFile master (decode outranked .slaves)) = omega arith in
+      lt-ltb 0 (length (ownerFile master (decode outranked .slaves))) some
+
+  outranked-refused : ownerOn outranked master [] ≡ (refused 23, [])
+  outranked-refused =
+      let first : ownerGround outranked master [] ≡ 23 = multiplexed-decides outranked master [] outranked-accepted (examples .outrankedSend) in
+      owner-refused outranked master [] (λ z. omega (arith, first, z)) ∙ rw first
+
+-- ---- written
+
+-- six bytes more than the owner file has
+buffer : List ℕ
+buffer = replicate 50 0xEE
+
+eight-fits : tooShort buffer 1 (decode eight .slaves) ≡ false
+unfolding tooShort buffer
+eight-fits = ap (λ (l : List ℕ). ltb (length buffer) (length l)) (examples .eightOwners)
+
+-- the answer, and the buffer with these bytes in front
+answerWith : List ℕ → Result ℕ × List ℕ
+answerWith bytes = (done (length bytes), writtenIn buffer bytes)
+
+eight-written :
+    ownerOn eight 1 buffer ≡ (
+      done 44,
+      0x00 ∷ 0x00 ∷ 0x00 ∷ 0x00 ∷ 0x03 ∷ 0x00 ∷ 0x06 ∷ 0x07 ∷ 0x08 ∷ 0x00 ∷ 0x09 ∷ 0x0A ∷ 0x01 ∷ 0x02 ∷ 0x02 ∷ 0x02 ∷ 0x02 ∷ 0x02 ∷ 0x02 ∷ 0x02 ∷ 0x02 ∷
+          0x00 ∷ 0x00 ∷ 0x00 ∷ 0x01 ∷ 0x00 ∷ 0x00 ∷ 0x00 ∷ 0x01 ∷ 0x00 ∷ 0x00 ∷ 0x00 ∷ 0x01 ∷ 0x00 ∷ 0x00 ∷ 0x00 ∷ 0x01 ∷ 0x00 ∷ 0x00 ∷ 0x00 ∷ 0x01 ∷ 0x00 ∷
+          0x00 ∷ 0x00 ∷ 0xEE ∷ 0xEE ∷ 0xEE ∷ 0xEE ∷ 0xEE ∷ 0xEE ∷ [],
+    )
+unfolding writtenIn buffer answerWith
+eight-written =
+    let none : ownerGround eight 1 buffer ≡ 0 = none-holds eight 1 buffer eight-accepted (examples .eightNone) (examples .eightOnce) eight-fits in
+    owner-written eight 1 buffer none
+    ∙ ap answerWith (examples .eightOwners)

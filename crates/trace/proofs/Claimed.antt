@@ -1,0 +1,33 @@
+-- Each claim of specs/Claims, and the theorem that has it as its type.
+use Rattle.trace.specs.Claims.Encoding.{AcceptedIsEncoded, EncodedIsAccepted}
+use Rattle.trace.specs.Claims.Grounds.{GroundsInOrder}
+use Rattle.trace.specs.Claims.Refused.{RefusedIsCounted}
+use Rattle.trace.specs.Claims.Run.{SumIsCount, CarriedHasRound, RunKeepsFile, UnknownEdition}
+use Rattle.trace.proofs.Encoded.{accepted-exactly, encoded-accepted}
+use Rattle.trace.proofs.Grounds.{grounds-in-order, refused-is-counted}
+use Rattle.trace.proofs.Calls.{sum-is-count, run-keeps-file, trace-edition}
+use Rattle.trace.proofs.Runs.{carried-has-round}
+
+pub held-accepted-is-encoded : AcceptedIsEncoded
+held-accepted-is-encoded = accepted-exactly
+
+pub held-encoded-is-accepted : EncodedIsAccepted
+held-encoded-is-accepted = encoded-accepted
+
+pub held-grounds-in-order : GroundsInOrder
+held-grounds-in-order = grounds-in-order
+
+pub held-refused-is-counted : RefusedIsCounted
+held-refused-is-counted = refused-is-counted
+
+pub held-sum-is-count : SumIsCount
+held-sum-is-count = sum-is-count
+
+pub held-carried-has-round : CarriedHasRound
+held-carried-has-round = carried-has-round
+
+pub held-run-keeps-file : RunKeepsFile
+held-run-keeps-file = run-keeps-file
+
+pub held-unknown-edition : UnknownEdition
+held-unknown-edition = trace-edition

@@ -1,0 +1,155 @@
+-- A C call returns 0 or the number of one of its grounds.
+-- Assumes nothing.
+use Prim.Native.Nat.{ℕ}
+use mathlib.Core.Path.{_≡_, sym}
+use mathlib.Core.List.{List, [], _∷_, _++_, map}
+use lib.Dec.{eqb}
+use borrow.Author.Tests.{eqb-true}
+use Rattle.file.specs.Rules.Order.{Ground, firstOf}
+use Rattle.file.specs.Rules.Results.{resultOf, numberIn}
+use Rattle.file.specs.Rules.Cluster.{Cluster}
+use Rattle.file.specs.Rules.Decode.{decode}
+use Rattle.file.specs.Rules.Grounds.{fileGroundsAt, fileGrounds, loadGround, loadVerdict}
+use Rattle.file.proofs.Order.{byCase}
+use Rattle.frame.specs.Rules.Fireworks.{Round, multipartner, msd, msa, noRound}
+use Rattle.frame.specs.Rules.Reading.{readGround, partsOf, readAddress}
+use Rattle.frame.specs.Rules.Writing.{writeFrame, writeGround, writeAddress, dataGround, writeData}
+use Rattle.cluster.specs.Rules.Grounds.{roundBy, groundsOn}
+use Rattle.cluster.specs.Rules.Round.{roundGround, roundOn}
+use Rattle.trace.specs.Rules.Run.{traceGrounds, traceGround, traceOn}
+use Rattle.owner.specs.Rules.Writing.{ownerGrounds, ownerGround, ownerOn}
+use Rattle.naming.specs.Rules.Run.{Position, running, namesGrounds, startGround, runGrounds, fresh, startOver}
+use Rattle.naming.specs.Rules.Step.{stepGround, stepMade, stepOn}
+use Rattle.ttpa.specs.Rules.Calls.{checkCall, readAddressCall, writeAddressCall, writeDataCall, roundCall, traceCall, ownerCall, positionIn, startCall, stepCall}
+use Rattle.ttpa.specs.Claims.Numbers.{OneOf, here, later, ZeroOr, fileNumbers, RefusedByNumbers}
+
+-- ---- the first ground that holds
+
+numbersOf : List Ground → List ℕ
+numbersOf gs = map (λ (g : Ground). g .0) gs
+
+one-more : {n m : ℕ} {ns : List ℕ} → ZeroOr n ns → ZeroOr n (m ∷ ns)
+one-more here = here
+one-more (later x) = later (later x)
+
+first-number : (gs : List Ground) → ZeroOr (firstOf gs) (numbersOf gs)
+unfolding firstOf numbersOf
+first-number [] = here
+first-number (g ∷ gs) = byCase (g .1) (λ e. rw e (later here)) (λ e. rw e (one-more (first-number gs)))
+
+-- behind the same numbers
+behind : (front : List ℕ) {n : ℕ} {ns ms : List ℕ} → (OneOf n ns → OneOf n ms) → OneOf n (front ++ ns) → OneOf n (front ++ ms)
+behind [] f x = f x
+behind (m ∷ front) f here = here
+behind (m ∷ front) f (later x) = later (behind front f x)
+
+-- ---- a call returns its ground
+
+result-number : {A : Type 0} (ground : ℕ) (value : A) → numberIn (resultOf ground value) ≡ ground
+unfolding resultOf numberIn
+result-number ground value = byCase (eqb ground 0) (λ e. rw e (sym (eqb-true ground 0 e))) (λ e. rw e)
+
+round-number : (file frame answer : List ℕ) (senders : ℕ) → roundCall file frame answer senders .0 ≡ roundGround file frame answer
+unfolding roundCall roundOn numberIn
+round-number file frame answer senders =
+    byCase (eqb (roundGround file frame answer) 0) (λ e. rw e (sym (eqb-true _ _ e))) (λ e. rw e)
+
+trace-number : (file t report : List ℕ) → traceCall file t report .0 ≡ traceGround file t
+unfolding traceCall traceOn numberIn
+trace-number file t report = byCase (eqb (traceGround file t) 0) (λ e. rw e (sym (eqb-true _ _ e))) (λ e. rw e)
+
+owner-number : (file : List ℕ) (master : ℕ) (buffer : List ℕ) (length : ℕ) → ownerCall file master buffer length .0 ≡ ownerGround file master buffer
+unfolding ownerCall ownerOn numberIn
+owner-number file master buffer length = byCase (eqb (ownerGround file master buffer) 0) (λ e. rw e (sym (eqb-true _ _ e))) (λ e. rw e)
+
+step-number : (file run names answer : List ℕ) (senders : ℕ) → stepCall file run names answer senders .0 ≡ stepGround file (positionIn run) names answer
+unfolding stepCall stepOn stepMade numberIn
+step-number file run names answer senders =
+    byCase (eqb (stepGround file (positionIn run) names answer) 0)
+    (λ e. byCase (eqb (positionIn run .end) running) (λ u. rw (e, u) (sym (eqb-true _ _ e))) (λ u. rw (e, u) (sym (eqb-true _ _ e))))
+    (λ e. rw e)
+
+-- ---- the numbers of each call's grounds
+
+-- those of a frame, whatever round it opens
+frame-numbers : (c : Cluster) (round : Round) (frame : List ℕ) {n : ℕ} → OneOf n (numbersOf (groundsOn c round frame)) → OneOf n (10 ∷ 11 ∷ 12 ∷ 13 ∷ 14 ∷ [])
+unfolding groundsOn numbersOf
+frame-numbers c noRound frame here = here
+frame-numbers c (multipartner r) frame here = later here
+frame-numbers c msd frame here = later here
+frame-numbers c msd frame (later here) = later (later here)
+frame-numbers c msa frame x = later x
+
+check-numbers : (file : List ℕ) → ZeroOr (loadGround file) (fileNumbers ++ 22 ∷ [])
+unfolding loadGround fileGrounds fileGroundsAt numbersOf
+check-numbers file = first-number _
+
+read-numbers : (frame : List ℕ) → ZeroOr (readGround frame) (10 ∷ 11 ∷ 12 ∷ 13 ∷ 14 ∷ [])
+unfolding readGround numbersOf
+read-numbers frame = first-number _
+
+write-numbers : (buffer : List ℕ) (name file operation : ℕ) → ZeroOr (writeGround buffer name file operation) (9 ∷ 13 ∷ 14 ∷ 18 ∷ [])
+unfolding writeGround numbersOf
+write-numbers buffer name file operation = first-number _
+
+data-numbers : (buffer : List ℕ) → ZeroOr (dataGround buffer) (9 ∷ [])
+unfolding dataGround numbersOf
+data-numbers buffer = first-number _
+
+round-numbers : (file frame buffer : List ℕ) → ZeroOr (roundGround file frame buffer) (fileNumbers ++ 9 ∷ 10 ∷ 11 ∷ 12 ∷ 13 ∷ 14 ∷ [])
+unfolding roundGround fileGrounds fileGroundsAt numbersOf
+round-numbers file frame buffer =
+    behind (0 ∷ fileNumbers ++ 9 ∷ []) (frame-numbers (decode file) (roundBy frame) frame) (first-number _)
+
+trace-numbers : (file t : List ℕ) → ZeroOr (traceGround file t) (fileNumbers ++ 19 ∷ [])
+unfolding traceGround traceGrounds fileGrounds fileGroundsAt numbersOf
+trace-numbers file t = first-number _
+
+owner-numbers : (file : List ℕ) (master : ℕ) (buffer : List ℕ) → ZeroOr (ownerGround file master buffer) (fileNumbers ++ 23 ∷ 20 ∷ 21 ∷ [])
+unfolding ownerGround ownerGrounds fileGrounds fileGroundsAt numbersOf
+owner-numbers file master buffer = first-number _
+
+start-numbers : (names : List ℕ) → ZeroOr (startGround names) (15 ∷ 16 ∷ [])
+unfolding startGround namesGrounds numbersOf
+start-numbers names = first-number _
+
+step-numbers : (file : List ℕ) (p : Position) (names buffer : List ℕ) → ZeroOr (stepGround file p names buffer) (fileNumbers ++ 9 ∷ 15 ∷ 16 ∷ 17 ∷ [])
+unfolding stepGround runGrounds namesGrounds fileGrounds fileGroundsAt numbersOf
+step-numbers file p names buffer = first-number _
+
+-- ---- the claim
+
+check-returns : (file : List ℕ) → ZeroOr (checkCall file) (fileNumbers ++ 22 ∷ [])
+unfolding checkCall loadVerdict
+check-returns file = rw (result-number (loadGround file) (tt {0})) (check-numbers file)
+
+read-returns : (frame parts : List ℕ) → ZeroOr (readAddressCall frame parts .0) (10 ∷ 11 ∷ 12 ∷ 13 ∷ 14 ∷ [])
+unfolding readAddressCall readAddress
+read-returns frame parts = rw (result-number (readGround frame) (partsOf frame)) (read-numbers frame)
+
+write-returns :
+    (frame : List ℕ) (epoch name file operation «record» : ℕ) → ZeroOr (writeAddressCall frame epoch name file operation «record» .0) (9 ∷ 13 ∷ 14 ∷ 18 ∷ [])
+unfolding writeAddressCall writeAddress writeFrame
+write-returns frame epoch name file operation «record» = rw (result-number (writeGround frame name file operation) (tt {0})) (write-numbers frame name file operation)
+
+data-returns : (frame bytes : List ℕ) → ZeroOr (writeDataCall frame bytes .0) (9 ∷ [])
+unfolding writeDataCall writeData writeFrame
+data-returns frame bytes = rw (result-number (dataGround frame) (tt {0})) (data-numbers frame)
+
+start-returns : (names run : List ℕ) → ZeroOr (startCall names run .0) (15 ∷ 16 ∷ [])
+unfolding startCall startOver
+start-returns names run = rw (result-number (startGround names) (fresh names)) (start-numbers names)
+
+pub refused-by-numbers : RefusedByNumbers
+refused-by-numbers =
+    record {
+      check = check-returns;
+      readAddress = read-returns;
+      writeAddress = write-returns;
+      writeData = data-returns;
+      round = λ file frame answer senders. rw (round-number file frame answer senders) (round-numbers file frame answer);
+      trace = λ file t report. rw (trace-number file t report) (trace-numbers file t);
+      owner = λ file master buffer length. rw (owner-number file master buffer length) (owner-numbers file master buffer);
+      start = start-returns;
+      step = λ file run names answer senders. rw (step-number file run names answer senders) (step-numbers file (positionIn run) names answer);
+    }

@@ -1,0 +1,36 @@
+-- "A cluster file, a frame, a list of names or a stored run position of any content is carried out or refused by one of document 01's
+-- numbers (02 adds more)." (the customer's first demand): which numbers each C call returns, whatever it is handed.
+use Prim.Native.Nat.{ℕ}
+use mathlib.Core.List.{List, [], _∷_, _++_}
+use Rattle.ttpa.specs.Rules.Calls.{checkCall, readAddressCall, writeAddressCall, writeDataCall, roundCall, traceCall, ownerCall, startCall, stepCall}
+
+pub data OneOf : ℕ → List ℕ → Type 0 where
+  here : {n : ℕ} {ns : List ℕ} → OneOf n (n ∷ ns)
+  later : {n m : ℕ} {ns : List ℕ} → OneOf n ns → OneOf n (m ∷ ns)
+
+-- carried out, which is 0, or refused by one of these
+abbrev pub ZeroOr : ℕ → List ℕ → Type 0
+ZeroOr n numbers = OneOf n (0 ∷ numbers)
+
+-- the file's
+abbrev pub fileNumbers : List ℕ
+fileNumbers = 1 ∷ 2 ∷ 3 ∷ 4 ∷ 5 ∷ 6 ∷ 7 ∷ 8 ∷ []
+
+pub record RefusedByNumbers : Type 0 where
+  pub check : (file : List ℕ) → ZeroOr (checkCall file) (fileNumbers ++ 22 ∷ [])
+  pub readAddress : (frame parts : List ℕ) → ZeroOr (readAddressCall frame parts .0) (10 ∷ 11 ∷ 12 ∷ 13 ∷ 14 ∷ [])
+  pub writeAddress :
+      (frame : List ℕ) (epoch name file operation «record» : ℕ) →
+      ZeroOr (writeAddressCall frame epoch name file operation «record» .0) (9 ∷ 13 ∷ 14 ∷ 18 ∷ [])
+  pub writeData : (frame bytes : List ℕ) → ZeroOr (writeDataCall frame bytes .0) (9 ∷ [])
+  pub round :
+      (file frame answer : List ℕ) (senders : ℕ) →
+      ZeroOr (roundCall file frame answer senders .0) (fileNumbers ++ 9 ∷ 10 ∷ 11 ∷ 12 ∷ 13 ∷ 14 ∷ [])
+  pub trace : (file t report : List ℕ) → ZeroOr (traceCall file t report .0) (fileNumbers ++ 19 ∷ [])
+  pub owner :
+      (file : List ℕ) (master : ℕ) (buffer : List ℕ) (length : ℕ) →
+      ZeroOr (ownerCall file master buffer length .0) (fileNumbers ++ 23 ∷ 20 ∷ 21 ∷ [])
+  pub start : (names run : List ℕ) → ZeroOr (startCall names run .0) (15 ∷ 16 ∷ [])
+  pub step :
+      (file run names answer : List ℕ) (senders : ℕ) →
+      ZeroOr (stepCall file run names answer senders .0) (fileNumbers ++ 9 ∷ 15 ∷ 16 ∷ 17 ∷ [])
