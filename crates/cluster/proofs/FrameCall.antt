@@ -1,22 +1,28 @@
--- One frame of any bytes: one law for each firework, and for each way of the call from outside.
+-- One frame of any bytes: one law for each firework, and for each way of the call from outside; and the places, which it leaves as they
+-- were.
 -- Assumes nothing.
 use Prim.Native.Nat.{ℕ, _≤_, _<_}
 use mathlib.Core.Path.{_≡_, refl, sym, _∙_, subst}
 use mathlib.Core.List.{List, [], _∷_}
 use native.Mathlib.Omega.{arith}
-use borrow.Author.Tests.{eq-eqb, ne-eqb}
+use borrow.Author.Tests.{eqb-true, eq-eqb, ne-eqb}
 use lib.ListN.{length, getD}
+use lib.Dec.{eqb}
+use Rattle.file.specs.Rules.Bytes.{Bytes}
 use Rattle.file.specs.Rules.Order.{firstOf}
 use Rattle.file.specs.Rules.Results.{refused, done}
 use Rattle.file.specs.Rules.Cluster.{Cluster}
 use Rattle.file.specs.Rules.Decode.{decode}
-use Rattle.file.specs.Inner.Accepted.{Becomes}
+use Rattle.file.specs.Inner.Accepted.{Becomes, Placed}
+use Rattle.file.specs.Inner.Places.{SameShape}
 use Rattle.file.specs.Inner.Surveyed.{Surveyed}
 use Rattle.file.specs.Inner.Answers.{checkedOf}
 use Rattle.file.specs.declared.survey.FileAnswer.{FileAnswer}
 use Rattle.file.specs.declared.survey.FileAnswer.the-variants as answers
 use Rattle.file.specs.declared.types.Refusal.{Refusal}
-use Rattle.file.proofs.Surveyed.{survey-accepted, survey-becomes, survey-refused}
+use Rattle.file.proofs.Order.{byCase}
+use Rattle.file.proofs.Shape.{shape-refl}
+use Rattle.file.proofs.Surveyed.{survey-accepted, survey-becomes, survey-refused, placed-kept}
 use Rattle.frame.specs.Rules.Fireworks.{Round, multipartner, msd, msa, roundOf}
 use Rattle.frame.specs.Rules.Grounds.{wrongFrameLength}
 use Rattle.frame.specs.Inner.Answers.{fireworkRound}
@@ -27,7 +33,8 @@ use Rattle.cluster.specs.Rules.Grounds.{roundBy, groundsOn}
 use Rattle.cluster.specs.Inner.Grounds.{noFirework, fireworkSize, lengthFor, wrongLengthOn, wrongCheckOn, noOperationOn, broadcastReadOn, frameGround}
 use Rattle.cluster.specs.Rules.Round.{Effect, Answer, effectOf, frameOn, roundOn}
 use Rattle.cluster.specs.Inner.Effects.{multipartnerEffect}
-use Rattle.cluster.specs.Inner.Carried.{Carried, Exchanged}
+use Rattle.cluster.specs.Inner.Carried.{Carried, exchange, Exchanged}
+use Rattle.cluster.proofs.Rounds.{frame-kept}
 use Rattle.cluster.proofs.FrameLaws.{exchange-refused, exchange-carried}
 use Rattle.cluster.proofs.RoundNumbers.{multipartner-low}
 use Rattle.cluster.proofs.RoundCall.{file-refused, buffer-refused, exchanged-round}
@@ -98,3 +105,22 @@ module _ (frame buffer : List ℕ) {file places : List ℕ} {a : FileAnswer} (s 
 
     pub call-made : {new : List ℕ} {answer : Answer} {after : List ℕ} → slots ≤ length buffer → Exchanged (decode file) frame buffer new answer after → (answer, new, after) ≡ roundOn file frame buffer
     call-made long x = exchanged-round file frame (survey-becomes s yes) long x
+
+-- ---- the places after a frame
+
+-- a frame leaves a cluster of the same shape
+exchange-shape : (c : Cluster) (frame buffer : List ℕ) → Bytes frame → SameShape (c .slaves) (exchange c frame buffer .2 .slaves)
+unfolding exchange
+exchange-shape c frame buffer b =
+    byCase (eqb (frameGround c frame) 0)
+    (λ e. rw e (frame-kept c frame b (eqb-true _ _ e) .shape))
+    (λ e. rw e (shape-refl (c .slaves)))
+
+-- so the places of the slaves' files are what they were
+pub exchange-placed :
+    {file places frame old new : List ℕ} {answer : Answer} {file′ : List ℕ}
+    → Placed file places
+    → Bytes frame
+    → Exchanged (decode file) frame old new answer file′
+    → Placed file′ places
+exchange-placed {file} {places} {frame} {old} p b x = placed-kept p (x .becomes) (exchange-shape (decode file) frame old b)

@@ -26,8 +26,7 @@ use Rattle.file.proofs.Bytes.{byte-at}
 use Rattle.file.proofs.Sizes.{encodeAt-length}
 use Rattle.file.proofs.Shape.{shape-fileLength}
 use Rattle.file.proofs.Accepted.{encode-bytes, legal-becomes, accepted-becomes}
-use Rattle.file.proofs.AcceptedFacts as AcceptedFacts
-use Rattle.file.proofs.Edition.{unknown-edition}
+use Rattle.file.proofs.Edition.{unknown-edition, refused-edition}
 use Rattle.frame.specs.Rules.Fireworks.{Round, multipartner, msd, msa, noRound}
 use Rattle.frame.specs.Rules.Frames.{between}
 use Rattle.frame.specs.Rules.Grounds.{noOperation, broadcastRead}
@@ -218,9 +217,9 @@ round-keeps-file file frame buffer fb rb accepted =
 
 -- a file of unknown edition: answer and buffer are the same for two files of one length with the same first three bytes
 pub round-edition : UnknownEditionRound
-unfolding roundGround fileGround
+unfolding roundGround
 round-edition f g frame buffer long front other =
-    let refused-f : fileGround f ≢ 0 = λ z. other (AcceptedFacts.accepted _ f .0 z .edition) in
+    let refused-f : fileGround f ≢ 0 = refused-edition f other in
     let same : fileGround f ≡ fileGround g = unknown-edition f g long front other in
     let here-f : roundGround f frame buffer ≡ fileGround f = file-decides f buffer _ refused-f in
     let refused-g : fileGround g ≢ 0 = λ z. refused-f (same ∙ z) in

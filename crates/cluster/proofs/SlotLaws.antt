@@ -36,11 +36,16 @@ use Rattle.cluster.proofs.HearLaws.{someone, someone-yes, someone-no, S
 
 -- ---- the round files stay where and what they are
 
+-- whether a slave takes part in the round, and by which entries, is as it was
+record PartKept (c d : Cluster) (round s : ℕ) : Type 0 where
+  files : bytesIn (slaveOf d s) round ≡ bytesIn (slaveOf c s) round
+  names : bytesIn (slaveOf d s) configuration ≡ bytesIn (slaveOf c s) configuration
+
 module _ (c d : Cluster) (same : SameShape (c .slaves) (d .slaves)) (round : ℕ) where
-  module _ (s : ℕ) (files : bytesIn (slaveOf d s) round ≡ bytesIn (slaveOf c s) round) (names : bytesIn (slaveOf d s) configuration ≡ bytesIn (slaveOf c s) configuration) where
+  module _ (s : ℕ) (kept : PartKept c d round s) where
     entries-kept : entriesIn round (slaveOf d s) ≡ entriesIn round (slaveOf c s)
     unfolding entriesIn isUnnamed logicalName
-    entries-kept = rw (files, names)
+    entries-kept = rw (kept .files, kept .names)
 
     place-kept : filePlace d s round ≡ filePlace c s round
     unfolding filePlace
@@ -63,16 +68,16 @@ module _ (c d : Cluster) (same : SameShape (c .slaves) (d .slaves)) (round : ℕ
           k = o .k;
           left = o .left;
           rest = rest-kept (o .rest);
-          same = λ later l. rw (files, entries-kept) (o .same later l);
+          same = λ later l. rw (kept .files, entries-kept) (o .same later l);
         }
 
-  files-kept : {passed : Entry → Bool} {slot : ℕ} {starts ends : List ℕ} → ((s : ℕ) → bytesIn (slaveOf d s) round ≡ bytesIn (slaveOf c s) round) → ((s : ℕ) → bytesIn (slaveOf d s) configuration ≡ bytesIn (slaveOf c s) configuration)
+  files-kept : {passed : Entry → Bool} {slot : ℕ} {starts ends : List ℕ} → ((s : ℕ) → PartKept c d round s)
       → OpenAll passed c round slot starts ends → OpenAll passed d round slot starts ends
-  files-kept files names are =
+  files-kept kept are =
       record {
         startsRoom = are .startsRoom;
         endsRoom = are .endsRoom;
-        file = λ s l. open-kept s (files s) (names s) (are .file s (omega (arith, shape-count same)));
+        file = λ s l. open-kept s (kept s) (are .file s (omega (arith, shape-count same)));
       }
 
 -- the file, the number of its slaves, and the entries that they still have to look at
@@ -94,7 +99,7 @@ module _ {passed : Entry → Bool} {f : List ℕ} {round count slot : ℕ} {star
       let shape : SameShape (c .slaves) (d .slaves) = kept-received passed round slot c sent .shape in
       let files = filesOf-slave round c d (received-other passed round slot c sent round (λ l. absurd (above (r .low) l))) in
       let names = filesOf-slave configuration c d (received-other passed round slot c sent configuration (λ l. omega (arith, l))) in
-      let are : OpenAll passed d round (slot + 1) starts ends = files-kept c d shape round files names (open-later (r .files)) in
+      let are : OpenAll passed d round (slot + 1) starts ends = files-kept c d shape round (λ s. record { files = files s; names = names s }) (open-later (r .files)) in
       record {
         becomes = becomes-decoded h;
         low = r .low;

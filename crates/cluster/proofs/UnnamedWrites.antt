@@ -10,7 +10,7 @@ use lib.ListN.{length, getD}
 use borrow.Author.Tests.{eq-eqb, ne-eqb}
 use Rattle.file.specs.Rules.Bytes.{Bytes}
 use Rattle.file.specs.Rules.Layout.{pendingFlag}
-use Rattle.file.specs.Rules.Cluster.{Slave, Cluster, hasRecord, recordOf, logicalName, unnamed, documentation, fileNumberOf, operationOf, pb2Of, writeOperation}
+use Rattle.file.specs.Rules.Cluster.{Slave, Cluster, noSlave, hasRecord, recordOf, logicalName, unnamed, documentation, fileNumberOf, operationOf, pb2Of, writeOperation}
 use Rattle.file.specs.Rules.Decode.{decode}
 use Rattle.file.specs.Rules.Changes.{withSlaves, withEpoch}
 use Rattle.file.proofs.Order.{both-true}
@@ -67,7 +67,7 @@ slave-written file frame buffer name n r i fb rb isMsd accepted pending here =
     let slaves : decode (roundOn file frame buffer .2) .slaves ≡ map (slaveAfter (writing name n r) (between frame)) (decode file .slaves) =
     ap (λ (c : Cluster). c .slaves) (new .decoded) ∙ slaves-after (decode file) frame isMsd (write-pending (decode file) name n r pending)
     in
-    ap (λ (ss : List Slave). getD ss i (record { files = [] })) slaves ∙ mapped-at (slaveAfter (writing name n r) (between frame)) (decode file .slaves) i (record { files = [] }) here
+    ap (λ (ss : List Slave). getD ss i noSlave) slaves ∙ mapped-at (slaveAfter (writing name n r) (between frame)) (decode file .slaves) i noSlave here
 
 -- ---- the claim
 

@@ -13,10 +13,11 @@ use borrow.Author.Tests.{eqb-true, eqb-false, ne-eqb}
 use Rattle.file.specs.Rules.Bytes.{Bytes, All, All.allEmpty, All.allNext as also}
 use Rattle.file.specs.Rules.Order.{both}
 use Rattle.file.specs.Rules.Results.{refused, done, resultOf, numberIn}
-use Rattle.file.specs.Rules.Layout.{offsetWidth}
-use Rattle.file.specs.Rules.Grounds.{fileGround, equalLogicalNames, loadGround, loadVerdict}
+use Rattle.file.specs.Rules.Cluster.{logicalNames}
+use Rattle.file.specs.Rules.Decode.{decode}
+use Rattle.file.specs.Rules.Grounds.{fileGround, hasRepeat, heldNames, loadGround, loadVerdict}
 use Rattle.file.proofs.Order.{byCase, both-true, both-next}
-use Rattle.file.proofs.Results.{file-most, load-first, load-last, load-file, result-done}
+use Rattle.file.proofs.Results.{file-most, load-first, load-file, load-twice, result-done}
 use Rattle.cluster.specs.Rules.Bus.{slots}
 use Rattle.cluster.specs.Rules.Grounds.{roundBy}
 use Rattle.cluster.specs.Rules.Round.{Answer, roundGround, roundOn}
@@ -219,7 +220,7 @@ calls-fed : (cs : List CCall) → tracesAside (map argumentsOf cs) ≡ callsFed 
 unfolding tracesAside callsFed argumentsOf
 calls-fed [] = refl
 calls-fed (ttpaStep arguments senders ∷ cs) = ap (λ (l : List Call). stepBy arguments ∷ l) (calls-fed cs)
-calls-fed (ttpaRound bytes buffer senders ∷ cs) = ap (λ (l : List Call). frameOf bytes buffer ∷ l) (calls-fed cs)
+calls-fed (ttpaRound bytes buffer senders ∷ cs) = ap (λ (l : List Call). frameOf (record { bytes = bytes; buffer = buffer }) ∷ l) (calls-fed cs)
 calls-fed (ttpaTrace t report ∷ cs) = calls-fed cs
 
 check-number : (file : List ℕ) → checkCall file ≡ loadGround file
@@ -238,9 +239,9 @@ runs-accepted {file} (equalNames e) =
 
 accepted-runs : {file : List ℕ} → fileGround file ≡ 0 → TakenByRounds file
 accepted-runs {file} g =
-    byCase (equalLogicalNames offsetWidth file)
-    (λ t. equalNames (check-number file ∙ load-last file g ∙ rw t))
-    (λ t. loads (check-number file ∙ load-last file g ∙ rw t))
+    byCase (hasRepeat (heldNames (logicalNames (decode file))))
+    (λ t. equalNames (check-number file ∙ load-twice file g ∙ rw t))
+    (λ t. loads (check-number file ∙ load-twice file g ∙ rw t))
 
 pub start-number : (names run : List ℕ) → startCall names run .0 ≡ startGround names
 unfolding startCall startOver

@@ -66,11 +66,11 @@ calls-leave names s p (step arguments ∷ cs) fb (also of-step os) (oneMore (in-
     same-trans (s .file) (t .file) (afterCalls names t q cs .0 .file)
     (subst (λ (f : List ℕ). Same (s .file) f) stays (same-refl (s .file)))
     (calls-leave names t q cs (subst (λ (f : List ℕ). Bytes f) stays fb) os rest)
-calls-leave names s p (frame bytes buffer ∷ cs) fb (also (of-frame rb) os) (oneMore (in-frame none) rest) =
-    let t : State = callOn names s p (frame bytes buffer) .0 in
+calls-leave names s p (frame arguments ∷ cs) fb (also (of-frame rb) os) (oneMore (in-frame none) rest) =
+    let t : State = callOn names s p (frame arguments) .0 in
     same-trans (s .file) (t .file) (afterCalls names t p cs .0 .file)
-    (frame-leaves (s .file) bytes buffer fb rb none)
-    (calls-leave names t p cs (round-bytes (s .file) bytes buffer fb rb) os rest)
+    (frame-leaves (s .file) (arguments .bytes) (arguments .buffer) fb rb none)
+    (calls-leave names t p cs (round-bytes (s .file) (arguments .bytes) (arguments .buffer) fb rb) os rest)
 
 pub calls-stay-pending : CallsStayPending
 unfolding startOn

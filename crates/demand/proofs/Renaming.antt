@@ -29,10 +29,10 @@ calls-rename names s p (step arguments ∷ cs) fb nb small (also of-step os) (on
     let q : Position = callOn names s p (step arguments) .1 in
     calls-rename names t q cs (step-bytes (s .file) p names (arguments .buffer) fb nb small) nb (step-value (s .file) p names (arguments .buffer) small) os rest
     ∙ only-baptizing-steps-rename (s .file) p names (arguments .buffer) fb nb small none
-calls-rename names s p (frame bytes buffer ∷ cs) fb nb small (also (of-frame rb) os) (oneMore (in-frame none) rest) =
-    let t : State = callOn names s p (frame bytes buffer) .0 in
-    calls-rename names t p cs (round-bytes (s .file) bytes buffer fb rb) nb small os rest
-    ∙ only-baptizing-renames (s .file) bytes buffer fb rb none
+calls-rename names s p (frame arguments ∷ cs) fb nb small (also (of-frame rb) os) (oneMore (in-frame none) rest) =
+    let t : State = callOn names s p (frame arguments) .0 in
+    calls-rename names t p cs (round-bytes (s .file) (arguments .bytes) (arguments .buffer) fb rb) nb small os rest
+    ∙ only-baptizing-renames (s .file) (arguments .bytes) (arguments .buffer) fb rb none
 
 pub calls-rename-nobody : CallsRenameNobody
 unfolding startOn

@@ -41,11 +41,12 @@ pub unknown-edition : UnknownEdition
 unfolding fileGround
 unknown-edition f g long front other = unknown-edition-at offsetWidth f g long front other
 
--- So the checker's call answers the same: a file of an unknown edition is refused by a ground of its own.
-refused-edition : (f : List ℕ) → (getD f 2 0 ≡ 1 → ⊥) → fileGround f ≡ 0 → ⊥
+-- a file of an unknown edition is refused
+pub refused-edition : (f : List ℕ) → (getD f 2 0 ≡ 1 → ⊥) → fileGround f ≡ 0 → ⊥
 unfolding fileGround
 refused-edition f other g = other (accepted offsetWidth f .0 g .edition)
 
+-- So the checker's call answers the same, by the file's own ground.
 pub unknown-edition-answer : UnknownEditionAnswer
 unfolding loadVerdict
 unknown-edition-answer f g long first other =

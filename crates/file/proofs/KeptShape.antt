@@ -14,6 +14,7 @@ use Rattle.file.specs.Rules.Encode.{encode}
 use Rattle.file.specs.Rules.Legal.{LegalFile, LegalSlave, LegalPending, LegalAt, Legal, Distinct}
 use Rattle.file.specs.Inner.Places.{SameFiles, noFiles, sameFile, SameShape, noSlaves, sameSlave}
 use Rattle.file.specs.Inner.Accepted.{Becomes}
+use Rattle.file.proofs.Bytes.{all-map}
 use Rattle.file.proofs.Shape.{files-bytes-length, shape-count, shape-fileLength}
 use Rattle.file.proofs.Kept.{lastRecord-same, files-rising}
 use Rattle.file.proofs.Accepted.{legal-becomes}
@@ -21,6 +22,9 @@ use Rattle.file.proofs.Accepted.{legal-becomes}
 -- the files of a slave are bytes
 pub record HoldsBytes (s : Slave) : Type 0 where
   pub files : All (λ x. Bytes (x .bytes)) (s .files)
+
+pub legal-bytes : (s : Slave) → LegalSlave s → HoldsBytes s
+legal-bytes s l = record { files = all-map (λ (x : File) (h : LegalFile x). h .bytes) (l .files) }
 
 -- files of the same shape, of bytes, are legal where the others are
 pub same-file-legal : (x y : File) → x .number ≡ y .number → length (x .bytes) ≡ length (y .bytes) → Bytes (y .bytes) → LegalFile x → LegalFile y

@@ -1,28 +1,30 @@
 -- Other logical names in an accepted file: the cluster stays legal, and holds them.
 -- Assumes nothing.
-use Prim.Native.Nat.{ℕ, _≤_, _<_}
+use Prim.Native.Nat.{ℕ, _<_}
 use native.Mathlib.Omega.{arith}
-use mathlib.Core.Path.{_≡_, refl, sym, ap, _∙_, subst}
+use mathlib.Core.Path.{_≡_, refl, ap, _∙_}
 use mathlib.Core.List.{List, [], _∷_, map}
+use mathlib.Core.Bool.{cond}
 use lib.ListN.{length}
 use lib.Seq.{getD-set-same}
 use Rattle.file.specs.Rules.Bytes.{Bytes, All, allEmpty, allNext}
-use Rattle.file.specs.Rules.Layout.{offsetWidth, maxSlaves, maxLength}
 use Rattle.file.specs.Inner.Layout.{logicalNamePlace}
 use Rattle.file.specs.Rules.Cluster.{Slave, Cluster, bytesIn, lastRecord, configuration, physicalName, logicalName, logicalNames}
 use Rattle.file.specs.Rules.Encode.{encode}
 use Rattle.file.specs.Rules.Decode.{decode}
 use Rattle.file.specs.Rules.Changes.{putInSlave, withSlaves}
-use Rattle.file.specs.Rules.Legal.{LegalSlave, LegalPending, Legal, Distinct}
+use Rattle.file.specs.Rules.Legal.{LegalSlave, LegalPending, Legal}
 use Rattle.file.specs.Claims.LogicalNames.{renamed, withNames, AnyNamesAccepted}
 use Rattle.file.specs.Inner.Places.{SameShape, noSlaves, sameSlave}
 use Rattle.file.specs.Inner.Accepted.{Becomes}
-use Rattle.file.proofs.Shape.{shape-refl, shape-count, shape-fileLength, slave-put}
+use Rattle.file.proofs.Bytes.{all-map}
+use Rattle.file.proofs.Shape.{shape-refl, slave-put}
 use Rattle.file.proofs.Puts.{inSlave-same, inSlave-physicalName}
 use Rattle.file.proofs.Kept.{slave-legal}
-use Rattle.file.specs.Rules.Grounds.{hasRepeat, heldNames, equalLogicalNames}
-use Rattle.file.proofs.Results.{load-last}
-use Rattle.file.proofs.Accepted.{accepted-legal, legal-becomes}
+use Rattle.file.proofs.KeptShape.{Keeps, legal-bytes, kept-legal}
+use Rattle.file.specs.Rules.Grounds.{hasRepeat, heldNames}
+use Rattle.file.proofs.Results.{load-twice}
+use Rattle.file.proofs.Accepted.{accepted-legal}
 
 -- ---- the slaves: their shape and physical names stay, and they stay legal
 
@@ -78,22 +80,25 @@ pending-kept c ss p =
       broadcastRead = p .broadcastRead;
     }
 
-cluster-legal : (c : Cluster) {names : List ℕ} → Bytes names → Legal c → Legal (withSlaves c (renamed (c .slaves) names))
+renamed-keeps : (c : Cluster) {names : List ℕ} → Bytes names → Legal c → Keeps c (withSlaves c (renamed (c .slaves) names))
 unfolding withSlaves
-cluster-legal c {names} bs l =
+renamed-keeps c {names} bs l =
     record {
-      count = subst (λ (n : ℕ). n ≤ maxSlaves offsetWidth) (shape-count (renamed-shape (c .slaves) names)) (l .count);
       pending = pending-kept c (renamed (c .slaves) names) (l .pending);
-      slaves = renamed-legal (l .slaves) bs;
-      names = subst (λ (ns : List ℕ). Distinct ns) (sym (renamed-physical (c .slaves) names)) (l .names);
-      size = subst (λ (n : ℕ). n ≤ maxLength offsetWidth) (shape-fileLength offsetWidth (renamed-shape (c .slaves) names)) (l .size);
+      shape = renamed-shape (c .slaves) names;
+      bytes = all-map legal-bytes (renamed-legal (l .slaves) bs);
+      names = renamed-physical (c .slaves) names;
     }
 
 -- "Equal logical names do not refuse a file."
 pub any-names-accepted : AnyNamesAccepted
 unfolding withNames withSlaves
 any-names-accepted file names b accepted bs each =
-    record { accepted = new .accepted; held = held; loaded = load-last (encode d) (new .accepted) ∙ rw twice }
+    record {
+      accepted = new .accepted;
+      held = held;
+      loaded = load-twice (encode d) (new .accepted) ∙ ap (λ (ns : List ℕ). cond (hasRepeat (heldNames ns)) 22 0) held;
+    }
   where
     d : Cluster
     d = withSlaves (decode file) (renamed (decode file .slaves) names)
@@ -102,10 +107,7 @@ any-names-accepted file names b accepted bs each =
     l = accepted-legal file b accepted
 
     new : Becomes (encode d) d
-    new = legal-becomes d (cluster-legal (decode file) bs l)
+    new = kept-legal (decode file) d l (renamed-keeps (decode file) bs l)
 
     held : logicalNames (decode (encode d)) ≡ names
     held = unfold logicalNames in (ap (λ (c : Cluster). map logicalName (c .slaves)) (new .decoded) ∙ renamed-logical names (l .slaves) each)
-
-    twice : equalLogicalNames offsetWidth (encode d) ≡ hasRepeat (heldNames names)
-    twice = unfold equalLogicalNames decode in ap (λ (ns : List ℕ). hasRepeat (heldNames ns)) held

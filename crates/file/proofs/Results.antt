@@ -11,7 +11,9 @@ use borrow.Author.Tests.{eqb-true, eqb-false, eq-eqb, ne-eqb}
 use Rattle.file.specs.Rules.Bytes.{All, allEmpty, allNext}
 use Rattle.file.specs.Rules.Order.{firstOf}
 use Rattle.file.specs.Rules.Layout.{offsetWidth}
-use Rattle.file.specs.Rules.Grounds.{fileGroundsAt, fileGroundAt, fileGrounds, fileGround, equalLogicalNames, loadGround}
+use Rattle.file.specs.Rules.Cluster.{logicalNames}
+use Rattle.file.specs.Rules.Decode.{decode}
+use Rattle.file.specs.Rules.Grounds.{fileGroundsAt, fileGroundAt, fileGrounds, fileGround, hasRepeat, heldNames, equalLogicalNames, loadGround}
 use Rattle.file.proofs.Order.{Numbered, byCase, first-none, first-most, joined-here, joined-next, joined-left, joined-right}
 use Rattle.file.specs.Rules.Results.{refused, done, resultOf}
 
@@ -49,6 +51,15 @@ module _ (f : List ℕ) where
   pub load-names : loadGround f ≡ 0 → equalLogicalNames offsetWidth f ≡ false
   unfolding loadGround
   load-names none = first-none 21 (equalLogicalNames offsetWidth f) [] (joined-right (fileGrounds f) _ (file-numbered f) none) .0
+
+  -- the same by the names of the decoded cluster, for the layers above: 22 exactly where a name other than 0xFF is held twice
+  pub load-twice : fileGround f ≡ 0 → loadGround f ≡ cond (hasRepeat (heldNames (logicalNames (decode f)))) 22 0
+  unfolding equalLogicalNames decode
+  load-twice none = load-last none
+
+  pub load-once : loadGround f ≡ 0 → hasRepeat (heldNames (logicalNames (decode f))) ≡ false
+  unfolding equalLogicalNames decode
+  load-once none = load-names none
 
 -- ---- a result taken apart
 

@@ -14,12 +14,10 @@ use lib.Dec.{eqb}
 use borrow.Author.Tests.{eq-eqb, ne-eqb, eqb-true, eqb-false}
 use Rattle.file.specs.Rules.Bytes.{Bytes}
 use Rattle.file.specs.Rules.Decode.{decode}
-use Rattle.file.specs.Rules.Layout.{offsetWidth}
 use Rattle.file.specs.Rules.Grounds.{fileGround, loadGround}
 use Rattle.file.proofs.Results.{load-first, load-file}
 use Rattle.file.specs.Rules.Legal.{Legal}
-use Rattle.file.proofs.AcceptedFacts.{accepted}
-use Rattle.file.proofs.Edition.{unknown-edition}
+use Rattle.file.proofs.Edition.{unknown-edition, refused-edition}
 use Rattle.file.proofs.Accepted.{accepted-legal}
 use Rattle.file.proofs.Order.{byCase, clash, both-true, both-false-right}
 use Rattle.cluster.specs.Rules.Grounds.{shortAnswer}
@@ -367,15 +365,11 @@ pub listing-refused : RefusedListed
 unfolding listing fileListed
 listing-refused file some = let e = ne-eqb (loadGround file) 0 some in (rw e, rw e)
 
-accepted-edition : (file : List ℕ) → fileGround file ≡ 0 → getD file 2 0 ≡ 1
-unfolding fileGround
-accepted-edition file e = accepted offsetWidth file .0 e .edition
-
 -- An unknown edition is refused before any offset is followed: the listing depends on nothing but length and the first three bytes.
 pub unknown-edition-listed : UnknownEditionListed
 unknown-edition-listed f g long front other =
     let same = unknown-edition f g long front other in
-    let none : fileGround f ≡ 0 → ⊥ = λ e. other (accepted-edition f e) in
+    let none : fileGround f ≡ 0 → ⊥ = refused-edition f other in
     let none′ : fileGround g ≡ 0 → ⊥ = λ e. none (same ∙ e) in
     refused-by f none ∙ ap refusedLine same ∙ sym (refused-by g none′)
   where

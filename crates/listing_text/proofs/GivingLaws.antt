@@ -13,7 +13,7 @@ use Rattle.file.specs.Rules.Cluster.{unnamed, broadcast}
 use Rattle.file.specs.Rules.Grounds.{isAmong, hasRepeat}
 use Rattle.file.proofs.Order.{byCase, clash, either-false}
 use Rattle.naming.specs.Rules.Run.{unfitName}
-use Rattle.naming.specs.Rules.Account.{Named, Account, endWith, give, oneRound, namingRounds, namingComparisons, endingRounds}
+use Rattle.naming.specs.Rules.Account.{Named, Account, endWith, give, passOn, oneRound, namingRounds, namingComparisons, endingRounds}
 use Rattle.naming.specs.Rules.Figures.{freeNames, givings}
 use Rattle.naming.proofs.Rounds.{account, goes-on, taken-round, giving-round, ending-round}
 use Rattle.naming.proofs.Start.{Names}
@@ -119,7 +119,7 @@ module _ (n : ℕ) (ns : List ℕ) (slaves : List Named) (held : List ℕ) (roun
       record { rounds = refl; spent = λ f. refl; gives = none-given (record { within = λ g. g .1; same = refl; compared = refl }) }
 
   free-gives : (ws : List ℕ) → isAmong n held ≡ false → k < length-of-pass false ws →
-      RoundMade (account (n ∷ ns) ws slaves held 0 rounds done k) (oneRound (account (n ∷ ns) ws slaves held 0 rounds done k))
+      RoundMade (account (n ∷ ns) ws slaves held 0 rounds done k) (passOn (account (n ∷ ns) ws slaves held 0 rounds done k))
   unfolding length-of-pass
   free-gives [] f w =
       byCase (eqb (suc k) endingRounds)
@@ -135,11 +135,15 @@ module _ (n : ℕ) (ns : List ℕ) (slaves : List Named) (held : List ℕ) (roun
       rw (goes-on n ns (p ∷ ps) slaves held rounds done k f m) (goes-gives (p ∷ ps) e))
 
 -- every round of an account that has not ended
-pub account-round : {R C : ℕ} {F : List Named} {a : Account} → Tally R C F a → a .end ≡ 0 → RoundMade a (oneRound a)
-account-round (in-pass {n = n} {rounds = rounds} {done = done} {k = k} {ns = ns} {ws = ws} {held = held} {slaves = slaves} d) e =
+pass-round : {R C : ℕ} {F : List Named} {a : Account} → Tally R C F a → a .end ≡ 0 → RoundMade a (passOn a)
+pass-round (in-pass {n = n} {rounds = rounds} {done = done} {k = k} {ns = ns} {ws = ws} {held = held} {slaves = slaves} d) e =
     byCase (isAmong n held)
     (λ t.
     let w : k < length-of-pass true ws = rw t at (d .within) in
     rw (taken-round n ns ws slaves held rounds done k t) (taken-gives n ns slaves held rounds done k ws t (unfold length-of-pass in w)))
     (λ f. let w : k < length-of-pass false ws = rw f at (d .within) in free-gives n ns slaves held rounds done k ws f w)
-account-round (ended d) e = absurd (omega (arith, d .some))
+pass-round (ended d) e = absurd (omega (arith, d .some))
+
+pub account-round : {R C : ℕ} {F : List Named} {a : Account} → Tally R C F a → a .end ≡ 0 → RoundMade a (oneRound a)
+unfolding oneRound
+account-round t e = pass-round t e

@@ -15,7 +15,7 @@ use Rattle.file.proofs.Order.{byCase}
 use Rattle.file.specs.Rules.Results.{Result, refused, done}
 use Rattle.cluster.specs.Rules.Bus.{slots}
 use Rattle.cluster.proofs.Rounds.{none-holds}
-use Rattle.naming.specs.Rules.Run.{Position, running, fresh, runGrounds, PassPlace, PassPlace.poll, ask, giveName, giveHigh, giveLow, PassPlace.baptize, least, bit, high, low, reply, placeOf, roundHere, onto, wrote, moveOn, onward, nextName, endAllNamed, advance, lastStep}
+use Rattle.naming.specs.Rules.Run.{Position, running, fresh, runGrounds, PassPlace, PassPlace.poll, ask, giveName, giveHigh, giveLow, PassPlace.baptize, least, bit, high, low, reply, placeOf, roundHere, onto, wrote, moveOn, onward, nextName, endAllNamed, passAdvance, advance, lastStep}
 use Rattle.naming.specs.Rules.Rounds.{RunRound, RunRound.poll as pollOf, writeName, writeHigh, writeLow, compare, RunRound.baptize as baptizeAll}
 use Rattle.naming.specs.Rules.Step.{StepDone, ended, made, stepGround, stepMade, stepOn}
 use Rattle.naming.specs.Inner.Answers.{positionOf, steppedOf, runAfter}
@@ -70,7 +70,7 @@ wrote-same compare p = (refl, refl)
 wrote-same baptizeAll p = (refl, refl)
 
 advance-rises : (names : List ℕ) (p : Position) (b : Bool) → Rises p (advance names p b)
-unfolding advance
+unfolding advance passAdvance
 advance-rises names p b =
     let first = onto-same names p in
     let same = wrote-same (roundHere names (onto names p)) (onto names p) in
@@ -93,7 +93,7 @@ unfolding moveOn nextName
 baptized count p b e = rw e
 
 last-names : (names : List ℕ) (p : Position) (b : Bool) → p .step ≡ lastStep → advance names p b .index ≡ suc (p .index)
-unfolding advance
+unfolding advance passAdvance
 last-names names p b e =
     let here : onto names p ≡ p = stays names p (last-real names p e) in
     rw here

@@ -15,9 +15,9 @@ use Rattle.file.proofs.Bytes.{all-first}
 use Rattle.file.proofs.Order.{byCase, either-false, both-false-left, both-false-right}
 use Rattle.naming.specs.Inner.View.{SlaveView, changeAll, answers}
 use Rattle.naming.specs.Rules.Rounds.{RunRound, RunRound.poll as pollOf, writeName, writeHigh, writeLow, compare, RunRound.baptize as baptizeAll, half}
-use Rattle.naming.specs.Rules.Run.{Position, running, namesUsedUp, PassPlace, high, low, reply, roundAt, isNeedless, nextRound, advance, unfitPosition, countLimit, lastStep, bits, tried}
+use Rattle.naming.specs.Rules.Run.{Position, running, namesUsedUp, PassPlace, high, low, reply, roundAt, isNeedless, passRound, nextRound, passAdvance, advance, unfitPosition, countLimit, lastStep, bits, tried}
 use Rattle.naming.specs.Inner.PassPlaces.{stepOf}
-use Rattle.naming.specs.Rules.Account.{namingComparisons, Named, Account, StepArguments, Call, step, frame, argumentsGround, accountCall, accountAfter, oneRound, comparisonsOf}
+use Rattle.naming.specs.Rules.Account.{namingComparisons, Named, Account, StepArguments, FrameArguments, Call, step, frame, argumentsGround, accountCall, accountAfter, passOn, oneRound, comparisonsOf}
 use Rattle.naming.proofs.Places.{LegalPlace, inner, at-poll, at-ask, at-name, at-high, at-low, at-baptize, step-lt}
 use Rattle.naming.proofs.Walk.{compared-most, count-past}
 use Rattle.naming.proofs.Search.{tried-small}
@@ -69,8 +69,8 @@ pub record Laws
       Sendable (nextRound names p) → Stepped S names view Good s p (call s p (step arguments))
   -- a frame of others, refused or not, leaves each slave's names, and an unnamed slave whole, and the run
   pub others :
-      (s : S) (p : Position) (bytes buffer : List ℕ) → Good s → Allowed s p (frame bytes buffer) →
-      Left S view Good s p (call s p (frame bytes buffer))
+      (s : S) (p : Position) (arguments : FrameArguments) → Good s → Allowed s p (frame arguments) →
+      Left S view Good s p (call s p (frame arguments))
 
 -- ---- the tie, call by call
 
@@ -78,22 +78,29 @@ operation-here :
     {names : List ℕ} {vs : List SlaveView} {l : PassPlace} {index step value rounds comparisons h l′ n done k : ℕ} {ns ws held : List ℕ} {slaves : List Named} →
     At names vs l index step value rounds comparisons h l′ n ns ws slaves held done k →
     isNeedless names (position running index step value rounds comparisons h l′) ≡ false →
-    nextRound names (position running index step value rounds comparisons h l′) ≡ roundAt l n value
-unfolding nextRound
+    passRound names (position running index step value rounds comparisons h l′) ≡ roundAt l n value
+unfolding passRound
 operation-here {names} i real = rw (stays names _ real) (round-here i)
+
+-- a round of the pass
+tie-pass :
+    {names : List ℕ} {vs : List SlaveView} {p : Position} {a : Account} → Tie names vs p a → p .end ≡ running →
+    Tie names (changeAll (passRound names p) vs) (passAdvance names p (answers (passRound names p) vs)) (passOn a)
+unfolding passAdvance
+tie-pass {names} {vs} (going {l = l} {index = index} {step = j} {value = value} {rounds = rounds} {comparisons = comparisons} {h = h} {l′ = l′} {n = n} {done = done} {k = k} {ns = ns} {ws = ws} {held = held} {slaves = slaves} i real) m =
+    rw (operation-here i real, stays names (position running index j value rounds comparisons h l′) real, round-here i, place-here i)
+    (settle (moves names vs l index j value rounds comparisons h l′ n ns ws slaves held done k (i .legal) i (sym (needless-here i) ∙ real)))
+tie-pass (over o) m = absurd (omega (arith, o .some))
 
 pub tie-step :
     {names : List ℕ} {vs : List SlaveView} {p : Position} {a : Account} → Tie names vs p a → p .end ≡ running →
     Tie names (changeAll (nextRound names p) vs) (advance names p (answers (nextRound names p) vs)) (oneRound a)
-unfolding advance
-tie-step {names} {vs} (going {l = l} {index = index} {step = j} {value = value} {rounds = rounds} {comparisons = comparisons} {h = h} {l′ = l′} {n = n} {done = done} {k = k} {ns = ns} {ws = ws} {held = held} {slaves = slaves} i real) m =
-    rw (operation-here i real, stays names (position running index j value rounds comparisons h l′) real, round-here i, place-here i)
-    (settle (moves names vs l index j value rounds comparisons h l′ n ns ws slaves held done k (i .legal) i (sym (needless-here i) ∙ real)))
-tie-step (over o) m = absurd (omega (arith, o .some))
+unfolding nextRound advance oneRound
+tie-step t m = tie-pass t m
 
 -- an ended account makes no more rounds
 tie-idle : {names : List ℕ} {vs : List SlaveView} {p : Position} {a : Account} → Tie names vs p a → (p .end ≡ running → ⊥) → oneRound a ≡ a
-unfolding oneRound
+unfolding oneRound passOn
 tie-idle (going i real) n = absurd (n refl)
 tie-idle (over {end = end} o) n = let z : end ≡ 0 → ⊥ = omega (arith, o .some) in rw (ne-eqb end 0 z)
 
@@ -153,9 +160,13 @@ sendable-at {value = value} (inner at-high) i = let k : value / half < half = om
 sendable-at {value = value} (inner at-low) i = let k : value % half < half = omega arith in of-low k
 sendable-at at-baptize i = of-baptize
 
+pass-sendable : {names : List ℕ} {vs : List SlaveView} {p : Position} {a : Account} → Tie names vs p a → p .end ≡ running → Sendable (passRound names p)
+pass-sendable (going i real) m = rw (operation-here i real) (sendable-at (i .legal) i)
+pass-sendable (over o) m = absurd (omega (arith, o .some))
+
 pub tie-sendable : {names : List ℕ} {vs : List SlaveView} {p : Position} {a : Account} → Tie names vs p a → p .end ≡ running → Sendable (nextRound names p)
-tie-sendable (going i real) m = rw (operation-here i real) (sendable-at (i .legal) i)
-tie-sendable (over o) m = absurd (omega (arith, o .some))
+unfolding nextRound
+tie-sendable t m = pass-sendable t m
 
 -- ---- the tally, and ground 17
 
@@ -264,8 +275,8 @@ module _
       (λ e. running-step w a arguments h allowed none (eqb-true _ _ e))
       (λ e. idle-step w a arguments h none (eqb-false _ _ e))))
       (λ f. rw (f, laws .turned (w .0) (w .1) arguments (h .good) (λ z. eqb-false _ _ f (sym same ∙ z))) h)
-  one-call w a (frame bytes buffer) h allowed =
-      let o : Left S view Good (w .0) (w .1) (call (w .0) (w .1) (frame bytes buffer)) = laws .others (w .0) (w .1) bytes buffer (h .good) allowed in
+  one-call w a (frame arguments) h allowed =
+      let o : Left S view Good (w .0) (w .1) (call (w .0) (w .1) (frame arguments)) = laws .others (w .0) (w .1) arguments (h .good) allowed in
       record { good = o .good; tie = rw (o .stays) (tie-others (o .same) (h .tie)); tally = h .tally }
 
   pub all-calls :

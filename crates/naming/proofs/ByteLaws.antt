@@ -34,7 +34,7 @@ use Rattle.naming.specs.Rules.Rounds.{sent}
 use Rattle.naming.specs.Rules.Run.{Position, running, unfitPosition, namesGrounds, runGrounds, nextRound}
 use Rattle.cluster.specs.Rules.MasterSlave.{roundSent}
 use Rattle.naming.specs.Rules.Step.{stepGround, stepMade, stepOn}
-use Rattle.naming.specs.Rules.Account.{Named, StepArguments, Call, step, frame, argumentsGround}
+use Rattle.naming.specs.Rules.Account.{Named, StepArguments, FrameArguments, Call, step, frame, argumentsGround}
 use Rattle.naming.specs.Claims.Demand.{State, halfwayAfter, callOn, changesConfiguration, writesNamed, permittedAddress, permittedFrame, permittedCall, OfBytes, of-frame}
 use Rattle.naming.proofs.Answers.{namedOf, SameSlave, Same, same-refl}
 use Rattle.naming.proofs.Start.{Names}
@@ -253,8 +253,14 @@ module _ (c : Cluster) (bytes : List ℕ) where
   next-harmless false mask noRound p l = clash p refl
 
 -- a frame of others, refused or accepted
-module _ (names : List ℕ) (s : State) (p : Position) (bytes buffer : List ℕ) (good : Good s) where
-  refused-frame : (roundGround (s .file) bytes buffer ≡ 0 → ⊥) → callOn names s p (frame bytes buffer) ≡ (s, p)
+module _ (names : List ℕ) (s : State) (p : Position) (arguments : FrameArguments) (good : Good s) where
+  abbrev bytes : List ℕ
+  bytes = arguments .bytes
+
+  abbrev buffer : List ℕ
+  buffer = arguments .buffer
+
+  refused-frame : (roundGround (s .file) bytes buffer ≡ 0 → ⊥) → callOn names s p (frame arguments) ≡ (s, p)
   unfolding callOn halfwayAfter
   refused-frame n = rw (round-refused (s .file) bytes buffer n)
 
@@ -273,7 +279,7 @@ module _ (names : List ℕ) (s : State) (p : Position) (bytes buffer : List ℕ)
       next-harmless (decode (s .file)) bytes (s .halfway) _ (roundBy bytes) may (rw (round-accepted (s .file) bytes buffer g) at h)
 
   accepted-frame : Bytes bytes → roundGround (s .file) bytes buffer ≡ 0 → permittedFrame (s .halfway) (roundBy bytes) bytes ≡ true →
-      Left State viewIn Good s p (callOn names s p (frame bytes buffer))
+      Left State viewIn Good s p (callOn names s p (frame arguments))
   unfolding callOn viewIn
   accepted-frame b g may =
       record {
@@ -289,16 +295,16 @@ module _ (names : List ℕ) (s : State) (p : Position) (bytes buffer : List ℕ)
       after : Becomes (roundOn (s .file) bytes buffer .2) (frameOn (decode (s .file)) bytes .after)
       after = round-becomes (s .file) bytes buffer (good .bytes) b g
 
-  any-frame : Allowed names s p (frame bytes buffer) → Left State viewIn Good s p (callOn names s p (frame bytes buffer))
+  any-frame : Allowed names s p (frame arguments) → Left State viewIn Good s p (callOn names s p (frame arguments))
   any-frame allowed =
       byCase (eqb (roundGround (s .file) bytes buffer) 0)
       (λ t. accepted-frame (frame-of (allowed .bytes)) (eqb-true _ _ t) (accepted-may t (allowed .may)))
       (λ f. rw (refused-frame (eqb-false _ _ f)) (record { good = good; same = same-refl (viewIn s); stays = refl }))
     where
-      frame-of : OfBytes (frame bytes buffer) → Bytes bytes
+      frame-of : OfBytes (frame arguments) → Bytes bytes
       frame-of (of-frame b) = b
 
-      accepted-may : eqb (roundGround (s .file) bytes buffer) 0 ≡ true → permittedCall names s p (frame bytes buffer) ≡ true → permittedFrame (s .halfway) (roundBy bytes) bytes ≡ true
+      accepted-may : eqb (roundGround (s .file) bytes buffer) 0 ≡ true → permittedCall names s p (frame arguments) ≡ true → permittedFrame (s .halfway) (roundBy bytes) bytes ≡ true
       accepted-may t may = unfold permittedCall in (rw t at may)
 
 -- ---- the laws
@@ -309,5 +315,5 @@ byte-laws names n =
       turned = refused-step names n;
       idle = idle-step names n;
       steps = running-step names n;
-      others = λ s p bytes buffer good allowed. any-frame names s p bytes buffer good allowed;
+      others = λ s p arguments good allowed. any-frame names s p arguments good allowed;
     }

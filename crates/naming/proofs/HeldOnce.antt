@@ -8,19 +8,18 @@ use mathlib.Core.Bool.{Bool, true, false, cond}
 use lib.Dec.{eqb}
 use borrow.Author.Tests.{eqb-true, eqb-false, ne-eqb}
 use Rattle.file.specs.Rules.Bytes.{Bytes}
-use Rattle.file.specs.Rules.Layout.{offsetWidth}
 use Rattle.file.specs.Rules.Cluster.{Slave, Cluster, logicalName, logicalNames, unnamed}
 use Rattle.file.specs.Rules.Decode.{decode}
 use Rattle.file.specs.Rules.Legal.{Distinct}
-use Rattle.file.specs.Rules.Grounds.{isAmong, hasRepeat, heldNames, equalLogicalNames, loadGround}
+use Rattle.file.specs.Rules.Grounds.{isAmong, hasRepeat, heldNames, loadGround}
 use Rattle.file.proofs.Order.{byCase, either-false, either-false-left, either-false-right}
 use Rattle.file.proofs.Bytes.{all-first}
 use Rattle.file.proofs.AcceptedFacts.{among-not}
 use Rattle.file.proofs.Accepted.{accepted-legal}
 use Rattle.file.proofs.HeldLaws.{held-first, held-rest}
-use Rattle.file.proofs.Results.{load-last, load-file, load-names}
+use Rattle.file.proofs.Results.{load-file, load-twice, load-once}
 use Rattle.naming.specs.Rules.Run.{Position, startGround}
-use Rattle.naming.specs.Rules.Account.{namingRounds, namingComparisons, endingRounds, Named, namesOf, namesIn, Account, accountOf, give, goOn, passDone, freePass, pass, oneRound, namesHeld, Call, step, frame, argumentsGround, accountCall, accountAfter}
+use Rattle.naming.specs.Rules.Account.{namingRounds, namingComparisons, endingRounds, Named, namesOf, namesIn, Account, accountOf, give, goOn, passDone, freePass, pass, passOn, oneRound, namesHeld, Call, step, frame, argumentsGround, accountCall, accountAfter}
 use Rattle.naming.specs.Claims.Demand.{Demand}
 use Rattle.naming.specs.Claims.Renaming.{StaysLoadable}
 use Rattle.naming.proofs.Facts.{Facts, physicals, differs, differ-tail, drop-taken, give-physicals, give-greatest}
@@ -155,10 +154,10 @@ one-pass a (n ∷ ns) is h =
     byCase (isAmong n (a .held)) (λ t. rw t (name-taken is h)) (λ t. rw t (free-pass a n ns (a .waiting) is refl t h))
 
 one-call : (a : Account) (c : Call) → Holds a → Holds (accountCall a c)
-unfolding accountCall oneRound
+unfolding accountCall oneRound passOn
 one-call a (step arguments) h =
     either-way (eqb (argumentsGround (a .slaves) arguments) 0) (either-way (eqb (a .end) 0) (one-pass a (a .left) refl h) h) h
-one-call a (frame bytes buffer) h = h
+one-call a (frame arguments) h = h
 
 all-calls : (a : Account) (calls : List Call) → Holds a → Holds (accountAfter a calls)
 unfolding accountAfter
@@ -180,9 +179,8 @@ names-held : (c : Cluster) → namesHeld (namesIn c) ≡ logicalNames c
 unfolding namesIn logicalNames
 names-held c = logical-names (c .slaves)
 
-once-by : (f : List ℕ) → equalLogicalNames offsetWidth f ≡ hasRepeat (heldNames (namesHeld (namesIn (decode f))))
-unfolding equalLogicalNames decode
-once-by f = ap (λ (l : List ℕ). hasRepeat (heldNames l)) (sym (names-held (decode f)))
+once-by : (c : Cluster) → hasRepeat (heldNames (logicalNames c)) ≡ hasRepeat (heldNames (namesHeld (namesIn c)))
+once-by c = ap (λ (l : List ℕ). hasRepeat (heldNames l)) (sym (names-held c))
 
 -- what demand 3 says of the logical names is enough
 pub demand-loadable :
@@ -191,9 +189,9 @@ pub demand-loadable :
 demand-loadable {file} {names} {now} {calls} b loaded n accepted d =
     let start : Holds (accountOf (namesIn (decode file)) names) =
     account-start (namesIn (decode file)) names (legal-slaves (decode file) (accepted-legal file b (load-file file loaded))) (accepted-names names n accepted)
-    (sym (once-by file) ∙ load-names file loaded) in
+    (sym (once-by (decode file)) ∙ load-once file loaded) in
     let after : Once (namesIn (decode now)) = rw (d .logical) (all-calls _ calls start .once) in
-    load-last now (d .accepted) ∙ rw (once-by now ∙ after)
+    load-twice now (d .accepted) ∙ rw (once-by (decode now) ∙ after)
 
 pub stays-loadable : StaysLoadable
 stays-loadable file b loaded names n accepted calls of-bytes may =

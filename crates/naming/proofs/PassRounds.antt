@@ -12,7 +12,7 @@ use borrow.Author.Tests.{eq-eqb, ne-eqb, eqb-true, eqb-false, le-leb}
 use Rattle.file.specs.Rules.Order.{both}
 use Rattle.file.proofs.Order.{byCase}
 use Rattle.naming.specs.Rules.Rounds.{half, RunRound, RunRound.poll as pollOf, writeName, writeHigh, writeLow, compare, RunRound.baptize as baptizeAll}
-use Rattle.naming.specs.Rules.Run.{Position, endAt, PassPlace, poll, ask, giveName, giveHigh, giveLow, baptize, least, bit, high, low, reply, placeOf, tried, roundAt, roundHere, isFirst, isRepeated, isNeedless, atStep, passOver, onto, wrote, onward, nextName, endAllNamed, moveOn, advance, bits}
+use Rattle.naming.specs.Rules.Run.{Position, endAt, PassPlace, poll, ask, giveName, giveHigh, giveLow, baptize, least, bit, high, low, reply, placeOf, tried, roundAt, roundHere, isFirst, isRepeated, isNeedless, atStep, passOver, onto, wrote, onward, nextName, endAllNamed, moveOn, passAdvance, advance, bits}
 use Rattle.naming.specs.Inner.PassPlaces.{questionNumber, partNumber, stepOf}
 use Rattle.naming.specs.Rules.Account.{bitClear, namingComparisons}
 use Rattle.naming.specs.Claims.Passes.{upperBits, lowerBits, ifMade, passRounds, passFor, executesIn, answerFor, placeMade, afterStep, placesMade, afterSteps, PassesMade}
@@ -36,7 +36,7 @@ pub data Makes (names : List ℕ) (p : ℕ) (P : Position → Type 0) : Position
 
 -- a step depends on the position once it is moved on
 after-settled : (names : List ℕ) (p : ℕ) (q : Position) → afterStep names p (onto names q) ≡ afterStep names p q
-unfolding afterStep placeMade advance
+unfolding afterStep placeMade advance passAdvance
 after-settled names p q = rw (onto-again names q)
 
 place-settled : (names : List ℕ) (q : Position) → placeMade names (onto names q) ≡ placeMade names q
@@ -58,7 +58,7 @@ abbrev next : List ℕ → ℕ → Position → Position
 next names p q = moveOn (placeOf (q .step)) (length names) (wrote (roundHere names q) q) (answerFor p (placeOf (q .step)) (q .value))
 
 step-makes : (names : List ℕ) (p : ℕ) (q : Position) → isNeedless names q ≡ false → afterStep names p q ≡ onto names (next names p q)
-unfolding afterStep placeMade advance
+unfolding afterStep placeMade advance passAdvance
 step-makes names p q f = rw (stays names q f)
 
 one-place : (names : List ℕ) (p n : ℕ) (q : Position) → isNeedless names q ≡ false →
@@ -358,7 +358,7 @@ onto-counts names q =
     (second .0 ∙ first .0, second .1 ∙ first .1)
 
 step-counted : (names : List ℕ) (p : ℕ) (q : Position) → Counted q (afterStep names p q) (placeMade names q)
-unfolding afterStep advance placeMade
+unfolding afterStep advance passAdvance placeMade
 step-counted names p q =
     let r = onto names q in
     let written = wrote (roundHere names r) r in

@@ -23,7 +23,7 @@ use Rattle.cluster.specs.Rules.Round.{roundGround, roundOn}
 use Rattle.cluster.proofs.Rounds.{round-refused}
 use Rattle.naming.specs.Rules.Run.{Position}
 use Rattle.naming.specs.Rules.Step.{stepGround, stepOn}
-use Rattle.naming.specs.Rules.Account.{StepArguments, Call, step, frame}
+use Rattle.naming.specs.Rules.Account.{StepArguments, FrameArguments, Call, step, frame}
 use Rattle.naming.specs.Claims.Demand.{State, startOn, halfwayAfter, callOn, changesConfiguration, writesNamed, permittedAddress, permittedFrame, permittedCall, permitted, OfBytes, of-step, of-frame}
 use Rattle.naming.specs.Claims.Permitted.{MayAsk, read, otherFile, writeAtName, writeAtAll, Accepted, Refused, in-step, in-frame, PermittedList, noCalls, refusedCall, aStep, multipartnerRound, masterSlaveRound, PermittedExactly}
 use Rattle.naming.proofs.StepLaws.{step-refused}
@@ -83,7 +83,7 @@ module _ (names file : List ℕ) (h : Bool) (p : Position) where
   refused-call : {c : Call} → Refused names file p c → callOn names (on file h) p c ≡ (on file h, p)
   unfolding callOn halfwayAfter
   refused-call (in-step {arguments} some) = rw (step-refused file p names (arguments .buffer) some)
-  refused-call (in-frame {bytes} {buffer} some) = rw (round-refused file bytes buffer some)
+  refused-call (in-frame {arguments} some) = rw (round-refused file (arguments .bytes) (arguments .buffer) some)
 
   refused-may : {c : Call} → Refused names file p c → permittedCall names (on file h) p c ≡ true
   unfolding permittedCall
@@ -102,12 +102,17 @@ module _ (names file : List ℕ) (h : Bool) (p : Position) where
 
 module _ (names file : List ℕ) (p : Position) where
   pub frame-front :
-      (h : Bool) {bytes buffer : List ℕ} {round : Round} (cs : List Call) → Accepted file bytes buffer round →
-      permitted names (on file h) p (frame bytes buffer ∷ cs) ≡
-      both (permittedFrame h round bytes) (permitted names (on (roundOn file bytes buffer .2) (halfwayAfter h (done 0) round)) p cs)
+      (h : Bool) {arguments : FrameArguments} {round : Round} (cs : List Call) → Accepted file arguments round →
+      permitted names (on file h) p (frame arguments ∷ cs) ≡
+      both (permittedFrame h round (arguments .bytes))
+      (permitted names (on (roundOn file (arguments .bytes) (arguments .buffer) .2) (halfwayAfter h (done 0) round)) p cs)
   unfolding permitted permittedCall callOn
-  frame-front h {bytes} {buffer} {round} cs a =
-      rw (accepted-halfway h file bytes buffer round (a .none) (a .opens), eq-eqb _ _ (a .none), a .opens)
+  frame-front h {arguments} {round} cs a =
+      rw (
+        accepted-halfway h file (arguments .bytes) (arguments .buffer) round (a .none) (a .opens),
+        eq-eqb _ _ (a .none),
+        a .opens,
+      )
 
   pub step-front :
       (h : Bool) (arguments : StepArguments) (cs : List Call) → stepGround file p names (arguments .buffer) ≡ 0 →
@@ -121,8 +126,8 @@ module _ (names file : List ℕ) (p : Position) where
 -- the rest of a round whose MSA is accepted: refused calls, the accepted MSD, and a permitted list
 data RestOfRound (names file : List ℕ) (p : Position) : List Call → Type 0 where
   restOfRound :
-      {content buffer : List ℕ} {cs ds : List Call} → All (Refused names file p) cs → Accepted file content buffer msd →
-      PermittedList names (roundOn file content buffer .2) p ds → RestOfRound names file p (cs ++ frame content buffer ∷ ds)
+      {content : FrameArguments} {cs ds : List Call} → All (Refused names file p) cs → Accepted file content msd →
+      PermittedList names (roundOn file (content .bytes) (content .buffer) .2) p ds → RestOfRound names file p (cs ++ frame content ∷ ds)
 
 -- calls that begin where a round of others is half done, or where none is
 abbrev Described : List ℕ → List Call → List ℕ → Bool → Position → Type 0
@@ -148,18 +153,19 @@ module _ (names file : List ℕ) where
   step-described false p arguments cs g e l = aStep g l
 
   frame-described :
-      (h : Bool) (p : Position) (round : Round) (bytes buffer : List ℕ) (cs : List Call) → Bytes bytes → Accepted file bytes buffer round →
-      permittedFrame h round bytes ≡ true → Described names cs (roundOn file bytes buffer .2) (halfwayAfter h (done 0) round) p →
-      Described names (frame bytes buffer ∷ cs) file h p
+      (h : Bool) (p : Position) (round : Round) (arguments : FrameArguments) (cs : List Call) → Bytes (arguments .bytes) →
+      Accepted file arguments round → permittedFrame h round (arguments .bytes) ≡ true →
+      Described names cs (roundOn file (arguments .bytes) (arguments .buffer) .2) (halfwayAfter h (done 0) round) p →
+      Described names (frame arguments ∷ cs) file h p
   unfolding permittedFrame halfwayAfter
-  frame-described true p (multipartner r) bytes buffer cs b a e l = clash e refl
-  frame-described true p msd bytes buffer cs b a e l = restOfRound allEmpty a l
-  frame-described true p msa bytes buffer cs b a e l = clash e refl
-  frame-described true p noRound bytes buffer cs b a e l = clash e refl
-  frame-described false p (multipartner r) bytes buffer cs b a e l = multipartnerRound a l
-  frame-described false p msd bytes buffer cs b a e l = clash e refl
-  frame-described false p msa bytes buffer cs b a e (restOfRound rs a′ l) = masterSlaveRound a (may-ask bytes b e) rs a′ l
-  frame-described false p noRound bytes buffer cs b a e l = clash e refl
+  frame-described true p (multipartner r) arguments cs b a e l = clash e refl
+  frame-described true p msd arguments cs b a e l = restOfRound allEmpty a l
+  frame-described true p msa arguments cs b a e l = clash e refl
+  frame-described true p noRound arguments cs b a e l = clash e refl
+  frame-described false p (multipartner r) arguments cs b a e l = multipartnerRound a l
+  frame-described false p msd arguments cs b a e l = clash e refl
+  frame-described false p msa arguments cs b a e (restOfRound rs a′ l) = masterSlaveRound a (may-ask (arguments .bytes) b e) rs a′ l
+  frame-described false p noRound arguments cs b a e l = clash e refl
 
 -- a call in front of permitted calls, the law being known of these
 module _
@@ -178,40 +184,43 @@ module _
       step-described names file h p arguments cs g (both-left _ _ k) (rest _ h _ (both-right _ _ k)))
       (λ f. after-refused (step arguments) e (in-step (eqb-false _ _ f)))
 
-  after-frame : (bytes buffer : List ℕ) → Bytes bytes → permitted names (on file h) p (frame bytes buffer ∷ cs) ≡ true → Described names (frame bytes buffer ∷ cs) file h p
-  after-frame bytes buffer b e =
-      byCase (eqb (roundGround file bytes buffer) 0)
+  after-frame :
+      (arguments : FrameArguments) → Bytes (arguments .bytes) → permitted names (on file h) p (frame arguments ∷ cs) ≡ true →
+      Described names (frame arguments ∷ cs) file h p
+  after-frame arguments b e =
+      byCase (eqb (roundGround file (arguments .bytes) (arguments .buffer)) 0)
       (λ t.
-      let a : Accepted file bytes buffer (roundBy bytes) = record { none = eqb-true _ _ t; opens = refl } in
+      let a : Accepted file arguments (roundBy (arguments .bytes)) = record { none = eqb-true _ _ t; opens = refl } in
       let k = sym (frame-front names file p h cs a) ∙ e in
-      frame-described names file h p (roundBy bytes) bytes buffer cs b a (both-left _ _ k) (rest _ _ p (both-right _ _ k)))
-      (λ f. after-refused (frame bytes buffer) e (in-frame (eqb-false _ _ f)))
+      frame-described names file h p (roundBy (arguments .bytes)) arguments cs b a (both-left _ _ k) (rest _ _ p (both-right _ _ k)))
+      (λ f. after-refused (frame arguments) e (in-frame (eqb-false _ _ f)))
 
 described :
     (names : List ℕ) {calls : List Call} → All OfBytes calls → (file : List ℕ) (h : Bool) (p : Position) → permitted names (on file h) p calls ≡ true →
     Described names calls file h p
 described names allEmpty file h p e = nothing-described names file h p (unfold permitted in e)
 described names (allNext {l = cs} (of-step {arguments}) bs) file h p e = after-step names cs (described names bs) file h p arguments e
-described names (allNext {l = cs} (of-frame {bytes} {buffer} b) bs) file h p e = after-frame names cs (described names bs) file h p bytes buffer b e
+described names (allNext {l = cs} (of-frame {arguments} b) bs) file h p e = after-frame names cs (described names bs) file h p arguments b e
 
 -- ---- and back
 
 module _ (names file : List ℕ) (p : Position) where
   multipartner-front :
-      {bytes buffer : List ℕ} {r : ℕ} (cs : List Call) → Accepted file bytes buffer (multipartner r) →
-      permitted names (on file false) p (frame bytes buffer ∷ cs) ≡ permitted names (on (roundOn file bytes buffer .2) false) p cs
+      {arguments : FrameArguments} {r : ℕ} (cs : List Call) → Accepted file arguments (multipartner r) →
+      permitted names (on file false) p (frame arguments ∷ cs) ≡ permitted names (on (roundOn file (arguments .bytes) (arguments .buffer) .2) false) p cs
   unfolding permittedFrame halfwayAfter
   multipartner-front cs a = frame-front names file p false cs a ∙ both-next _ refl
 
   pub address-front :
-      {bytes buffer : List ℕ} (cs : List Call) → Accepted file bytes buffer msa →
-      permitted names (on file false) p (frame bytes buffer ∷ cs) ≡ both (permittedAddress bytes) (permitted names (on (roundOn file bytes buffer .2) true) p cs)
+      {arguments : FrameArguments} (cs : List Call) → Accepted file arguments msa →
+      permitted names (on file false) p (frame arguments ∷ cs) ≡
+      both (permittedAddress (arguments .bytes)) (permitted names (on (roundOn file (arguments .bytes) (arguments .buffer) .2) true) p cs)
   unfolding permittedFrame halfwayAfter
   address-front cs a = frame-front names file p false cs a
 
   data-front :
-      {bytes buffer : List ℕ} (cs : List Call) → Accepted file bytes buffer msd →
-      permitted names (on file true) p (frame bytes buffer ∷ cs) ≡ permitted names (on (roundOn file bytes buffer .2) false) p cs
+      {arguments : FrameArguments} (cs : List Call) → Accepted file arguments msd →
+      permitted names (on file true) p (frame arguments ∷ cs) ≡ permitted names (on (roundOn file (arguments .bytes) (arguments .buffer) .2) false) p cs
   unfolding permittedFrame halfwayAfter
   data-front cs a = frame-front names file p true cs a ∙ both-next _ refl
 
@@ -220,10 +229,10 @@ list-permitted {names} {file} {p} noCalls = unfold permitted in refl
 list-permitted {names} {file} {p} (refusedCall {cs = cs} r l) = refused-front names file false p cs r ∙ list-permitted l
 list-permitted {names} {file} {p} (aStep {arguments = arguments} {cs} g l) = step-front names file p false arguments cs g ∙ both-next _ refl ∙ list-permitted l
 list-permitted {names} {file} {p} (multipartnerRound {cs = cs} a l) = multipartner-front names file p cs a ∙ list-permitted l
-list-permitted {names} {file} {p} (masterSlaveRound {address = address} {buffer} {content} {buffer′} {cs} {ds} a ask rs a′ l) =
-    address-front names file p (cs ++ frame content buffer′ ∷ ds) a ∙ both-next _ (asked-permitted address ask) ∙
-    all-refused names (roundOn file address buffer .2) true p (frame content buffer′ ∷ ds) rs ∙
-    data-front names (roundOn file address buffer .2) p ds a′ ∙ list-permitted l
+list-permitted {names} {file} {p} (masterSlaveRound {address = address} {content} {cs} {ds} a ask rs a′ l) =
+    address-front names file p (cs ++ frame content ∷ ds) a ∙ both-next _ (asked-permitted (address .bytes) ask) ∙
+    all-refused names (roundOn file (address .bytes) (address .buffer) .2) true p (frame content ∷ ds) rs ∙
+    data-front names (roundOn file (address .bytes) (address .buffer) .2) p ds a′ ∙ list-permitted l
 
 pub permitted-exactly : PermittedExactly
 unfolding startOn

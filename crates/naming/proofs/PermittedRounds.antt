@@ -130,13 +130,13 @@ module _ {a : Parts} (may : Sendable a) where
 
 -- on an accepted file
 module _ (file : List ℕ) (g : fileGround file ≡ 0) (buffer : List ℕ) (long : slots ≤ length buffer) where
-  multipartner-accepted : (firework : ℕ) {r : ℕ} → roundOf firework ≡ multipartner r → Accepted file (firework ∷ []) buffer (multipartner r)
+  multipartner-accepted : (firework : ℕ) {r : ℕ} → roundOf firework ≡ multipartner r → Accepted file (record { bytes = firework ∷ []; buffer = buffer }) (multipartner r)
   multipartner-accepted firework is = record { none = Sent.round-fits file _ buffer g long (multipartner-fits (decode file) firework is); opens = unfold roundBy in is }
 
-  address-accepted : {a : Parts} → Sendable a → Accepted file (addressOf a) buffer msa
+  address-accepted : {a : Parts} → Sendable a → Accepted file (record { bytes = addressOf a; buffer = buffer }) msa
   address-accepted {a} may = record { none = Sent.round-fits file _ buffer g long (address-fits may (decode file)); opens = address-round a }
 
-  data-accepted : {write : Bool} {content : List ℕ} → DataFor write content → writePending (decode file) ≡ write → Accepted file content buffer msd
+  data-accepted : {write : Bool} {content : List ℕ} → DataFor write content → writePending (decode file) ≡ write → Accepted file (record { bytes = content; buffer = buffer }) msd
   data-accepted d e = record { none = Sent.round-fits file _ buffer g long (data-fits (decode file) d e); opens = data-round d }
 
 -- ---- rounds that fit
@@ -156,7 +156,8 @@ rounds-listed names p (masterSlaveNext {a = a} {content} may ask d rounds) (oneM
     let becomes : Becomes middle (frameOn (decode file) (addressOf a) .after) = round-becomes file _ buffer b (address-of-bytes may) (first .none) in
     let b′ : Bytes middle = round-bytes file _ buffer b (address-of-bytes may) in
     let second = data-accepted middle (becomes .accepted) buffer′ long′ d (rw (becomes .decoded) (address-pending may (decode file))) in
-    masterSlaveRound first (rw (parts-back may) ask) allEmpty second
+    let asks : MayAsk (partsOf (addressOf a)) = rw (parts-back may) ask in
+    masterSlaveRound first asks allEmpty second
     (rounds-listed names p rounds sent (roundOn middle content buffer′ .2) (round-bytes middle _ buffer′ b′ (data-frame-bytes d))
     (round-becomes middle _ buffer′ b′ (data-frame-bytes d) (second .none) .accepted))
 
@@ -275,25 +276,26 @@ half-done : (names file : List ℕ) (p : Position) {ds : List Call} → NoMsdNex
 half-done names file p atTheEnd = unfold permitted in refl
 half-done names file p (refusedNext {cs = cs} r n) = refused-front names file true p cs r ∙ half-done names file p n
 half-done names file p (stepNext {arguments} {cs} g) = step-front names file p true arguments cs g ∙ both-false-left _ refl
-half-done names file p (frameNext {bytes} {round = round} {cs} a other) = frame-front names file p true cs a ∙ both-false-left _ (no-frame round bytes other)
+half-done names file p (frameNext {arguments} {round = round} {cs} a other) =
+    frame-front names file p true cs a ∙ both-false-left _ (no-frame round (arguments .bytes) other)
 
 pub barred-msa : BarredMsa
 barred-msa file names cs from a may barred buffer long ds =
-    judged-after file names cs from (frame (addressOf a) buffer ∷ ds)
+    judged-after file names cs from (frame (record { bytes = addressOf a; buffer = buffer }) ∷ ds)
     ∙ address-front names (fileAfter file names cs) (runAfter file names cs) ds
     (address-accepted (fileAfter file names cs) (file-accepted file names cs from) buffer long may)
     ∙ both-false-left _ (address-barred may barred)
 
 pub lone-msa : LoneMsa
 lone-msa file names cs from a may buffer long ds none =
-    judged-after file names cs from (frame (addressOf a) buffer ∷ ds)
+    judged-after file names cs from (frame (record { bytes = addressOf a; buffer = buffer }) ∷ ds)
     ∙ address-front names (fileAfter file names cs) (runAfter file names cs) ds
     (address-accepted (fileAfter file names cs) (file-accepted file names cs from) buffer long may)
     ∙ both-false-right _ (half-done names _ (runAfter file names cs) none)
 
 pub lone-msd : LoneMsd
 lone-msd file names cs from content d buffer long ds =
-    judged-after file names cs from (frame content buffer ∷ ds)
+    judged-after file names cs from (frame (record { bytes = content; buffer = buffer }) ∷ ds)
     ∙ frame-front names (fileAfter file names cs) (runAfter file names cs) false ds
     (data-accepted (fileAfter file names cs) (file-accepted file names cs from) buffer long d refl)
     ∙ both-false-left _ (unfold permittedFrame in refl)

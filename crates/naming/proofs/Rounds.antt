@@ -8,7 +8,7 @@ use native.Mathlib.Omega.{arith}
 use lib.Dec.{eqb}
 use borrow.Author.Tests.{eq-eqb, ne-eqb}
 use Rattle.file.specs.Rules.Grounds.{isAmong}
-use Rattle.naming.specs.Rules.Account.{Named, Account, endWith, goOn, passDone, give, freePass, pass, oneRound, namingRounds, namingComparisons, endingRounds}
+use Rattle.naming.specs.Rules.Account.{Named, Account, endWith, goOn, passDone, give, freePass, pass, passOn, namingRounds, namingComparisons, endingRounds}
 
 abbrev pub account : List ℕ → List ℕ → List Named → List ℕ → ℕ → ℕ → ℕ → ℕ → Account
 account left waiting slaves held end rounds done k =
@@ -21,28 +21,28 @@ Goes (p ∷ ps) k = suc k < namingRounds p
 
 pub goes-on :
     (n : ℕ) (ns ws : List ℕ) (slaves : List Named) (held : List ℕ) (rounds done k : ℕ) → isAmong n held ≡ false → Goes ws k →
-    oneRound (account (n ∷ ns) ws slaves held 0 rounds done k) ≡ account (n ∷ ns) ws slaves held 0 (suc rounds) done (suc k)
-unfolding oneRound pass freePass goOn
+    passOn (account (n ∷ ns) ws slaves held 0 rounds done k) ≡ account (n ∷ ns) ws slaves held 0 (suc rounds) done (suc k)
+unfolding passOn pass freePass goOn
 goes-on n ns [] slaves held rounds done k free g = rw (free, g)
 goes-on n ns (p ∷ ps) slaves held rounds done k free g = rw (free, ne-eqb (suc k) (namingRounds p) (λ (e : suc k ≡ namingRounds p). omega arith))
 
 -- the account's last round of a pass: of a taken name, of one that is given, of the run
 pub taken-round :
     (n : ℕ) (ns ws : List ℕ) (slaves : List Named) (held : List ℕ) (rounds done k : ℕ) → isAmong n held ≡ true →
-    oneRound (account (n ∷ ns) ws slaves held 0 rounds done k) ≡ account ns ws slaves held (endWith ns) (suc rounds) (done + 0) 0
-unfolding oneRound pass passDone
+    passOn (account (n ∷ ns) ws slaves held 0 rounds done k) ≡ account ns ws slaves held (endWith ns) (suc rounds) (done + 0) 0
+unfolding passOn pass passDone
 taken-round n ns ws slaves held rounds done k t = rw t
 
 pub giving-round :
     (n : ℕ) (ns : List ℕ) (p : ℕ) (ps : List ℕ) (slaves : List Named) (held : List ℕ) (rounds done k : ℕ) → isAmong n held ≡ false →
     suc k ≡ namingRounds p →
-    oneRound (account (n ∷ ns) (p ∷ ps) slaves held 0 rounds done k) ≡
+    passOn (account (n ∷ ns) (p ∷ ps) slaves held 0 rounds done k) ≡
     account ns ps (map (give p n) slaves) held (endWith ns) (suc rounds) (done + namingComparisons) 0
-unfolding oneRound pass freePass passDone
+unfolding passOn pass freePass passDone
 giving-round n ns p ps slaves held rounds done k f e = rw (f, eq-eqb (suc k) (namingRounds p) e)
 
 pub ending-round :
     (n : ℕ) (ns : List ℕ) (slaves : List Named) (held : List ℕ) (rounds done k : ℕ) → isAmong n held ≡ false → suc k ≡ endingRounds →
-    oneRound (account (n ∷ ns) [] slaves held 0 rounds done k) ≡ account (n ∷ ns) [] slaves held 1 (suc rounds) done (suc k)
-unfolding oneRound pass freePass goOn
+    passOn (account (n ∷ ns) [] slaves held 0 rounds done k) ≡ account (n ∷ ns) [] slaves held 1 (suc rounds) done (suc k)
+unfolding passOn pass freePass goOn
 ending-round n ns slaves held rounds done k f e = rw (f, eq-eqb (suc k) endingRounds e)

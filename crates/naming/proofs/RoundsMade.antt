@@ -11,7 +11,7 @@ use borrow.Author.Tests.{ltb-true, ltb-false, eqb-true, eqb-false}
 use Rattle.file.specs.Rules.Order.{both}
 use Rattle.file.proofs.Order.{byCase, clash}
 use Rattle.naming.specs.Inner.Answers.{partAt}
-use Rattle.naming.specs.Rules.Run.{Position, reply, partOf, placeOf, giveStep, roundHere, isFirst, isNeedless, atStep, passOver, onto, nextRound, wrote, moveOn, advance}
+use Rattle.naming.specs.Rules.Run.{Position, reply, partOf, placeOf, giveStep, roundHere, isFirst, isNeedless, atStep, passOver, onto, passRound, nextRound, wrote, moveOn, passAdvance, advance}
 use Rattle.naming.specs.Rules.Rounds.{comparisonRounds}
 use Rattle.naming.specs.Claims.RoundsMade.{NextMade, MovesOn, Stands}
 use Rattle.naming.proofs.PositionLaws.{part-poll, part-asked, part-none, third-part, writes-nothing, stays}
@@ -106,7 +106,7 @@ module _ (names : List ℕ) (p : Position) where
       (λ f. let short : k < p .step = rw (f, f) at high in absurd (omega arith))
 
 pub moves-on : MovesOn
-unfolding nextRound
+unfolding nextRound passRound
 moves-on names p =
     record {
       step = onto names p .step;
@@ -135,7 +135,7 @@ unfolding moves-on
 there names p here = moved-to names p ∙ ap (λ (k : ℕ). atStep k p) (next-once (moves-on names p) here)
 
 pub stands : Stands
-unfolding advance atStep moves-on
+unfolding advance passAdvance atStep moves-on
 stands names p here answered =
     let go : Position → Position = λ q. moveOn (placeOf (q .step)) (length names) (wrote (roundHere names q) q) answered in
     record {

@@ -14,7 +14,7 @@ use Rattle.file.specs.Rules.Cluster.{broadcast, unnamed}
 use Rattle.file.specs.Inner.Accepted.{Placed}
 use Rattle.file.proofs.Order.{byCase, either-false-left, either-false-right, both-false-next, first-none}
 use Rattle.naming.specs.Rules.Rounds.{half, comparisonRounds, RunRound, sent}
-use Rattle.naming.specs.Rules.Run.{Position, running, unfitName, namesGrounds, startGround, runGrounds, unfitPosition, Question, questionOf, tried, Part, high, low, reply, partOf, giveOf, ask, bits, giveStep, PassPlace, poll, giveName, giveHigh, giveLow, baptize, least, bit, lastStep, askOrGive, placeOf, roundAt, roundHere, onto, nextRound, wrote, onward, nextName, endAllNamed, moveOn, advance}
+use Rattle.naming.specs.Rules.Run.{Position, running, unfitName, namesGrounds, startGround, runGrounds, unfitPosition, Question, questionOf, tried, Part, high, low, reply, partOf, giveOf, ask, bits, giveStep, PassPlace, poll, giveName, giveHigh, giveLow, baptize, least, bit, lastStep, askOrGive, placeOf, roundAt, roundHere, onto, passRound, nextRound, wrote, onward, nextName, endAllNamed, moveOn, passAdvance, advance}
 use Rattle.naming.specs.Rules.Step.{isReply, made, madeBy, stepMade}
 use Rattle.cluster.specs.declared.types.MasterSlaveRound.{MasterSlaveRound}
 use Rattle.naming.specs.declared.position.Reply.{Reply}
@@ -152,10 +152,14 @@ here-sendable :
 unfolding roundHere
 here-sendable names {p} fit g b v = place-sendable (fit-at names (p .index) fit (g .within) b) v (p .step)
 
+pass-sendable : {names : List ℕ} {p : Position} → Runs names p → getD names (p .index) 0 < 256 → p .value < 2 ^ bits → Sendable (passRound names p)
+unfolding passRound
+pass-sendable {names} {p} r b v =
+    here-sendable names (r .fit) (onto-goes names (r .goes)) (rw (onto-same names p .1) b) (rw (onto-value names p) v)
+
 pub next-sendable : {names : List ℕ} {p : Position} → Runs names p → getD names (p .index) 0 < 256 → p .value < 2 ^ bits → Sendable (nextRound names p)
 unfolding nextRound
-next-sendable {names} {p} r b v =
-    here-sendable names (r .fit) (onto-goes names (r .goes)) (rw (onto-same names p .1) b) (rw (onto-value names p) v)
+next-sendable r b v = pass-sendable r b v
 
 -- ---- the position after the round, by its place and answer
 
@@ -260,7 +264,7 @@ wrote-value RunRound.compare p = refl
 wrote-value RunRound.baptize p = refl
 
 pub advanced-small : (names : List ℕ) (p : Position) (b : Bool) → p .value < 2 ^ bits → advance names p b .value < 2 ^ bits
-unfolding advance
+unfolding advance passAdvance
 advanced-small names p b small =
     let q = onto names p in
     let kept : wrote (roundHere names q) q .value < 2 ^ bits = rw (wrote-value (roundHere names q) q, onto-value names p) small in
@@ -284,7 +288,7 @@ module _
     sends = record { parts = rw name at (round .parts) }
 
     next-here : nextRound names p ≡ roundHere names s
-    unfolding nextRound
+    unfolding nextRound passRound
     next-here = rw (settled names)
 
     pub send-may : MaySend (sentFor r)
@@ -294,7 +298,7 @@ module _
         {new file : List ℕ} {mask : ℕ} {w q : Position} {b : Bool} →
         (done mask, new, file) ≡ roundSent f (sentFor r) buffer → Wrote s w → b ≡ isReply (done mask) →
         q ≡ onto names (moveOn (placeOf (w .step)) (length names) w b) → (done (made mask), q, new, file) ≡ stepMade f p names buffer
-    unfolding stepMade advance madeBy wrote
+    unfolding stepMade advance passAdvance madeBy wrote
     step-is {w = w} {q} {b} carry written replied moved =
         let is : w ≡ wrote (roundHere names s) s = unfold roundHere in written (getD names (s .index) 0) in
         let on : q ≡ onto names (moveOn (placeOf (s .step)) (length names) (wrote (roundHere names s) s) b) = rw (is, wrote-step (roundHere names s) s) at moved in

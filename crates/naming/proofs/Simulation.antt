@@ -20,7 +20,7 @@ use Rattle.naming.specs.Inner.View.{SlaveView, unnamedChange, changeAll,
 use Rattle.naming.specs.Rules.Rounds.{RunRound, RunRound.poll as pollOf, writeName, writeHigh, writeLow, compare, half}
 use Rattle.naming.specs.Rules.Run.{Position, running, fresh, endAt, PassPlace, PassPlace.poll, ask, giveName, giveHigh, giveLow, PassPlace.baptize, Question, least, bit, Part, high, low, reply, placeOf, tried, roundAt, roundHere, isFirst, isRepeated, isNeedless, atStep, passOver, onto, wrote, onward, nextName, endAllNamed, moveOn, bits}
 use Rattle.naming.specs.Inner.PassPlaces.{stepOf}
-use Rattle.naming.specs.Rules.Account.{Named, Account, bitClear, comparisonsAfter, highAgain, endWith, give, oneRound, namingRounds, namingComparisons, endingRounds}
+use Rattle.naming.specs.Rules.Account.{Named, Account, bitClear, comparisonsAfter, highAgain, endWith, give, passOn, namingRounds, namingComparisons, endingRounds}
 use Rattle.naming.proofs.Places.{of-least, of-bit, Inner, LegalPlace, inner, at-poll, at-ask, at-name, at-high, at-low, at-baptize, afterBit, afterPlace, place-of-step, step-after, legal-after}
 use Rattle.naming.proofs.Places.{comparing as counting}
 use Rattle.naming.proofs.Search.{cleared, cleared-all, cleared-none, tried-bit, answered, tried-small, halves}
@@ -198,7 +198,7 @@ go-on :
     x < 2 ^ bits → Known (afterPlace l) n held x ws → Halves (afterPlace l) x (getD ws 0 0) a b →
     OfUnnamed (Told (afterPlace l) n a b) (changeAll o vs) →
     Loose names (changeAll o vs) (onward (position running index step value rounds comparisons a b) x (counting l))
-    (oneRound (account (n ∷ ns) ws slaves held 0 rounds done k))
+    (passOn (account (n ∷ ns) ws slaves held 0 rounds done k))
 unfolding onward
 go-on {names} {vs} {l} {index} {step} {value} {rounds} {comparisons} {h} {l′} {n} {done} {k} {ns} {ws} {held} {slaves} {o} x a b i here free g up q small known halves heard =
     let on : stepOf (afterPlace l) ≡ suc (stepOf l) = step-after here in
@@ -407,7 +407,7 @@ Moves names vs l index step value rounds comparisons h l′ n ns ws slaves held 
     needlessAt l n value (position running index step value rounds comparisons h l′) ≡ false →
     Loose names (changeAll (roundAt l n value) vs)
     (moveOn l (length names) (wrote (roundAt l n value) (position running index step value rounds comparisons h l′)) (answers (roundAt l n value) vs))
-    (oneRound (account (n ∷ ns) ws slaves held 0 rounds done k))
+    (passOn (account (n ∷ ns) ws slaves held 0 rounds done k))
 
 module _
     (names : List ℕ) (vs : List SlaveView) (index step value rounds comparisons h l′ n : ℕ) (ns ws : List ℕ) (slaves : List Named) (held : List ℕ)
@@ -426,7 +426,7 @@ module _
       replied = poll-answers n vs (all-first (i .facts .fit) .named) ∙ rw (i .views) (sym (all-first (i .facts .taken)))
 
       taken : isAmong n held ≡ true →
-          Loose names (changeAll (pollOf n) vs) (nextName (length names) (position running index step value rounds comparisons h l′)) (oneRound (account (n ∷ ns) ws slaves held 0 rounds done k))
+          Loose names (changeAll (pollOf n) vs) (nextName (length names) (position running index step value rounds comparisons h l′)) (passOn (account (n ∷ ns) ws slaves held 0 rounds done k))
       taken t =
           rw (taken-round n ns ws slaves held rounds done k t)
           (next-name names index step value rounds comparisons h l′ n (done + 0) ns (drop-taken (i .facts)) (i .here)

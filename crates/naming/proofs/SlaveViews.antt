@@ -1,30 +1,20 @@
 -- The view of a slave by the bytes of its files 0x08 and 0x3D: a slave with the same bytes there has the same view, and what a write
 -- of record 1, 2 or 3 of 0x08 and a new logical name make of it.
 -- Assumes nothing.
-use Prim.Native.Nat.{ℕ, _+_, _*_, _^_, _≤_, _<_}
+use Prim.Native.Nat.{ℕ, _+_, _≤_, _<_}
 use mathlib.Core.Path.{_≡_, refl, _∙_}
-use mathlib.Core.List.{List, [], _∷_, _++_}
+use mathlib.Core.List.{List, [], _∷_}
 use native.Mathlib.Omega.{arith}
-use native.Mathlib.Nat.{add-mul, mul-assoc, add-assoc}
-use lib.ListN.{length, getD, set, take, drop, length-set, length-append, length-drop}
+use lib.ListN.{length, getD, set, take, drop, length-set, length-drop}
 use lib.Seq.{sets, length-take-le, take-add, drop-drop, getD-set-same, getD-set-other}
-use lib.Pow.{pow-add}
 use Rattle.file.specs.Rules.Bytes.{numberOf, bytesOf, part}
 use Rattle.file.specs.Rules.Cluster.{Slave, bytesIn, configuration, documentation, physicalName, logicalName, newLogicalName, recordOf}
 use Rattle.file.proofs.Bytes.{numberOf-bytesOf}
+use Rattle.file.proofs.NumberLaws.{number-append}
 use Rattle.file.proofs.Puts.{part-sets, getD-sets, part-set, sets-part}
 use Rattle.file.proofs.Sizes.{bytesOf-length}
 use Rattle.naming.specs.Inner.View.{SlaveView, viewOf, comparisonOf, unnamedChange}
 use Rattle.naming.specs.Rules.Rounds.{half, writeName, writeHigh, writeLow}
-
--- ---- bytes
-
--- the number of two lists of bytes, one after the other
-number-append : (a b : List ℕ) → numberOf (a ++ b) ≡ numberOf a * 256 ^ length b + numberOf b
-unfolding numberOf
-number-append [] b = omega arith
-number-append (x ∷ a) b =
-    rw (length-append a b, number-append a b, pow-add 256 (length a) (length b), add-mul, mul-assoc, add-assoc)
 
 -- ---- the view
 

@@ -7,11 +7,9 @@ use mathlib.Core.Path.{_≡_, sym, _∙_}
 use mathlib.Core.Logic.{_≢_}
 use mathlib.Core.List.{List}
 use borrow.Author.Tests.{eq-eqb, ne-eqb}
-use Rattle.file.specs.Rules.Layout.{offsetWidth}
 use Rattle.file.specs.Rules.Grounds.{fileGround}
 use Rattle.file.specs.Rules.Results.{refused, done}
-use Rattle.file.proofs.AcceptedFacts as AcceptedFacts
-use Rattle.file.proofs.Edition.{unknown-edition}
+use Rattle.file.proofs.Edition.{unknown-edition, refused-edition}
 use Rattle.cluster.proofs.Rounds.{file-decides}
 use Rattle.naming.specs.Rules.Rounds.{sent}
 use Rattle.naming.specs.Rules.Run.{Position, running, nextRound, advance}
@@ -40,9 +38,9 @@ module _ (file : List ℕ) (p : Position) (names buffer : List ℕ) where
 
 -- a file of unknown edition
 pub step-edition : UnknownEditionStep
-unfolding stepGround fileGround
+unfolding stepGround
 step-edition f g p names buffer long front other =
-    let refused-f : fileGround f ≢ 0 = λ z. other (AcceptedFacts.accepted offsetWidth f .0 z .edition) in
+    let refused-f : fileGround f ≢ 0 = refused-edition f other in
     let same : fileGround f ≡ fileGround g = unknown-edition f g long front other in
     let refused-g : fileGround g ≢ 0 = λ z. refused-f (same ∙ z) in
     let here-f : stepGround f p names buffer ≡ fileGround f = file-decides f buffer _ refused-f in

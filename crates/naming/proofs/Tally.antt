@@ -9,7 +9,7 @@ use lib.Dec.{eqb}
 use borrow.Author.Tests.{eqb-true, eqb-false, ne-eqb}
 use Rattle.file.specs.Rules.Grounds.{isAmong}
 use Rattle.file.proofs.Order.{byCase, either-false-left, either-false-right}
-use Rattle.naming.specs.Rules.Account.{Named, Account, endWith, give, oneRound, comparisonsAfter, highAgain, namingRounds, namingComparisons, endingRounds, endingComparisons}
+use Rattle.naming.specs.Rules.Account.{Named, Account, endWith, give, passOn, oneRound, comparisonsAfter, highAgain, namingRounds, namingComparisons, endingRounds, endingComparisons}
 use Rattle.naming.specs.Rules.Figures.{freeNames, givings, nameGiven, renamed}
 use Rattle.naming.proofs.Facts.{Falling, fall-first, fall-others, not-among}
 use Rattle.naming.proofs.Rounds.{account, goes-on, taken-round, giving-round, ending-round}
@@ -182,7 +182,7 @@ module _ (R C : ℕ) (F : List Named) where
 
   free-pass :
       (n : ℕ) (ns ws : List ℕ) (slaves : List Named) (held : List ℕ) (rounds done k : ℕ) → Due R C F n ns ws slaves held rounds done k →
-      isAmong n held ≡ false → Tally R C F (oneRound (account (n ∷ ns) ws slaves held 0 rounds done k))
+      isAmong n held ≡ false → Tally R C F (passOn (account (n ∷ ns) ws slaves held 0 rounds done k))
   unfolding length-of-pass
   free-pass n ns [] slaves held rounds done k d f =
       let w : k < endingRounds = rw f at (d .within) in
@@ -206,15 +206,19 @@ module _ (R C : ℕ) (F : List Named) where
       rw (goes-on n ns (p ∷ ps) slaves held rounds done k f l) (goes-on-pass n ns (p ∷ ps) slaves held rounds done k d (rw f l)))
 
   ended-stays : (left ws : List ℕ) (slaves : List Named) (held : List ℕ) (end rounds done k : ℕ) → 0 < end →
-      oneRound (account left ws slaves held end rounds done k) ≡ account left ws slaves held end rounds done k
-  unfolding oneRound
+      passOn (account left ws slaves held end rounds done k) ≡ account left ws slaves held end rounds done k
+  unfolding passOn
   ended-stays left ws slaves held end rounds done k h = let n : end ≡ 0 → ⊥ = omega arith in rw (ne-eqb end 0 n)
 
   -- a round keeps the tally
-  pub tally-round : {a : Account} → Tally R C F a → Tally R C F (oneRound a)
-  tally-round (in-pass {n = n} {rounds = rounds} {done = done} {k = k} {ns = ns} {ws = ws} {held = held} {slaves = slaves} d) =
+  pass-tally : {a : Account} → Tally R C F a → Tally R C F (passOn a)
+  pass-tally (in-pass {n = n} {rounds = rounds} {done = done} {k = k} {ns = ns} {ws = ws} {held = held} {slaves = slaves} d) =
       byCase (isAmong n held)
       (λ t. rw (taken-round n ns ws slaves held rounds done k t) (taken-pass n ns ws slaves held rounds done k d t))
       (λ f. free-pass n ns ws slaves held rounds done k d f)
-  tally-round (ended {end = end} {rounds = rounds} {done = done} {k = k} {left = left} {ws = ws} {held = held} {slaves = slaves} d) =
+  pass-tally (ended {end = end} {rounds = rounds} {done = done} {k = k} {left = left} {ws = ws} {held = held} {slaves = slaves} d) =
       rw (ended-stays left ws slaves held end rounds done k (d .some)) (ended d)
+
+  pub tally-round : {a : Account} → Tally R C F a → Tally R C F (oneRound a)
+  unfolding oneRound
+  tally-round t = pass-tally t

@@ -69,7 +69,7 @@ fn run_ground(names: &[u8], run: RunPosition) -> u8
 
 // A step of a running position, on an accepted file and with the places of its slaves. A name that is taken ends its pass, silence at the
 // comparison with 0 the run.
-fn make_step(
+pub fn make_step(
     file: &mut [u8],
     places: &SlavePlaces,
     run: RunPosition,

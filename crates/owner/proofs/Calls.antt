@@ -12,7 +12,7 @@ use borrow.Author.Tests.{eq-eqb, ne-eqb, lt-ltb, le-ltb}
 use borrow.Rule.Slice.PartMut.{putMid}
 use Rattle.file.specs.Rules.Order.{firstOf}
 use Rattle.file.specs.Rules.Results.{refused, done}
-use Rattle.file.specs.Rules.Layout.{offsetWidth, recordSize}
+use Rattle.file.specs.Rules.Layout.{recordSize}
 use Rattle.file.specs.Rules.Cluster.{Slave}
 use Rattle.file.specs.Rules.Decode.{decode}
 use Rattle.file.specs.Rules.Grounds.{fileGrounds, fileGround}
@@ -24,8 +24,7 @@ use Rattle.file.specs.declared.types.Refusal.{Refusal}
 use Rattle.file.proofs.Order.{joined-here, joined-next}
 use Rattle.file.proofs.Results.{file-first, file-numbered}
 use Rattle.file.proofs.Surveyed.{survey-accepted, survey-refused}
-use Rattle.file.proofs.AcceptedFacts
-use Rattle.file.proofs.Edition.{unknown-edition}
+use Rattle.file.proofs.Edition.{unknown-edition, refused-edition}
 use Rattle.owner.specs.Rules.Plan.{rounds, twoSend, multiplexedSend}
 use Rattle.owner.specs.Rules.OwnerFile.{noOwner, rowsBelow, indexBelow, ownerFile}
 use Rattle.owner.specs.Rules.Writing.{tooShort, ownerGrounds, ownerGround, writtenIn, ownerOn}
@@ -179,9 +178,8 @@ put-parts buffer head rows middle part start fits at first second =
 -- ---- a file of unknown edition
 
 pub owner-edition : UnknownEdition
-unfolding fileGround
 owner-edition f g m n a b long front other =
-    let refused-f : fileGround f ≢ 0 = λ z. other (AcceptedFacts.accepted offsetWidth f .0 z .edition) in
+    let refused-f : fileGround f ≢ 0 = refused-edition f other in
     let same : fileGround f ≡ fileGround g = unknown-edition f g long front other in
     let refused-g : fileGround g ≢ 0 = λ z. refused-f (same ∙ z) in
     let here-f = file-decides f m a refused-f in

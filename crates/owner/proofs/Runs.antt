@@ -191,15 +191,15 @@ module _ (passed : Entry → Bool) (only : OnlyMultiplexed passed) (round slot :
 
 -- ---- a slave whose 0x08 and round file are the same, with files of the same lengths
 
-place-alike : {s t : Slave} → SameFiles (s .files) (t .files) → (slot : ℕ) (a : Acting) → sendPlace t slot a ≡ sendPlace s slot a
+place-alike : (s t : Slave) → SameFiles (s .files) (t .files) → (slot : ℕ) (a : Acting) → sendPlace t slot a ≡ sendPlace s slot a
 unfolding sendPlace within bytesIn
-place-alike same slot noEntry = refl
-place-alike same slot (acts e) = rw (files-bytes-length (e .file) same)
+place-alike s t same slot noEntry = refl
+place-alike s t same slot (acts e) = rw (files-bytes-length (e .file) same)
 
 slave-alike : (passed : Entry → Bool) (s t : Slave) → SameFiles (s .files) (t .files) → (round slot : ℕ) → bytesIn t configuration ≡ bytesIn s configuration → bytesIn t round ≡ bytesIn s round
     → sendsFrom passed round slot t ≡ plansFrom passed round slot s
 unfolding sendsFrom plansFrom isUnnamed logicalName
-slave-alike passed s t same round slot config rodl = rw (config, rodl, place-alike same slot)
+slave-alike passed s t same round slot config rodl = rw (config, rodl, place-alike s t same slot)
 
 -- ---- all slaves
 

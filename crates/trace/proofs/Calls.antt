@@ -11,7 +11,6 @@ use lib.Dec.{eqb}
 use borrow.Author.Tests.{eqb-true, eqb-false, eq-eqb, ne-eqb}
 use Rattle.file.specs.Rules.Bytes.{Bytes}
 use Rattle.file.specs.Rules.Order.{firstOf}
-use Rattle.file.specs.Rules.Layout.{offsetWidth}
 use Rattle.file.specs.Rules.Results.{Result, refused, done}
 use Rattle.file.specs.Rules.Grounds.{fileGrounds, fileGround}
 use Rattle.file.specs.Inner.Answers.{checkedOf}
@@ -21,9 +20,8 @@ use Rattle.file.specs.declared.survey.FileAnswer.the-variants as answers
 use Rattle.file.specs.declared.types.Refusal.{Refusal}
 use Rattle.file.proofs.Order.{byCase, first-none, joined-here, joined-next, joined-right}
 use Rattle.file.proofs.Results.{file-first, file-numbered}
-use Rattle.file.proofs.AcceptedFacts
 use Rattle.file.proofs.Surveyed.{survey-accepted, survey-refused}
-use Rattle.file.proofs.Edition.{unknown-edition}
+use Rattle.file.proofs.Edition.{unknown-edition, refused-edition}
 use Rattle.trace.specs.Rules.Trace.{frameCount, dataPlace, brokenTrace, framesOf}
 use Rattle.trace.specs.Rules.Run.{afterFrames, Report, noFrames, sumOf, reportFrom, traceGrounds, traceGround, traceOn}
 use Rattle.trace.specs.Inner.Sent.{FewFrames, TraceSent}
@@ -120,9 +118,8 @@ run-keeps-file file t b tb g =
     (λ z. rw (trace-refused file t (eqb-false _ _ z)) (record { accepted = g; length = refl }))
 
 pub trace-edition : UnknownEdition
-unfolding fileGround
 trace-edition f g t u long front other =
-    let refused-f : fileGround f ≢ 0 = λ z. other (AcceptedFacts.accepted offsetWidth f .0 z .edition) in
+    let refused-f : fileGround f ≢ 0 = refused-edition f other in
     let same : fileGround f ≡ fileGround g = unknown-edition f g long front other in
     let refused-g : fileGround g ≢ 0 = λ z. refused-f (same ∙ z) in
     let here-f = file-decides f t refused-f in

@@ -3,10 +3,8 @@
 use Prim.Native.Nat.{ℕ}
 use mathlib.Core.Path.{_≡_, refl}
 use mathlib.Core.List.{List, [], _∷_}
-use mathlib.Core.Bool.{false}
 use Rattle.file.specs.Rules.Order.{firstOf, both, either}
 use Rattle.file.specs.Rules.Results.{Result, refused, done}
-use Rattle.file.specs.Rules.Layout.{offsetWidth}
 use Rattle.file.specs.Rules.Bytes.{numberOf, bytesOf, part, allZero}
 use Rattle.file.specs.Rules.Cluster.{noOperation, broadcastRead}
 use Rattle.file.specs.Rules.Changes.{withSlaves, withEpoch, withPending}
@@ -56,12 +54,8 @@ pub record RunExamples : Type 0 where
 
 -- The definitions are unfolded in steps: what a step names, and what it unfolds, the next unfolds with it.
 
-layout-whole : brokenLayout offsetWidth least ≡ false
-unfolding brokenLayout walkFile tableEnd walkSlaves andThen endsAt part numberOf offsetAt
-layout-whole = refl
-
 least-accepted : firstOf (fileGrounds least) ≡ 0
-unfolding layout-whole fileGrounds fileGroundsAt firstOf both either wrongSize wrongMark wrongEdition wrongLength wrongHeader wrongPending allZero lacksNeeded allHaveNeeded decodeAt slavesAt equalPhysicalNames hasRepeat
+unfolding fileGrounds fileGroundsAt firstOf both either wrongSize wrongMark wrongEdition wrongLength wrongHeader wrongPending allZero brokenLayout walkFile tableEnd walkSlaves andThen endsAt part numberOf offsetAt lacksNeeded allHaveNeeded decodeAt slavesAt equalPhysicalNames hasRepeat
 least-accepted = refl
 
 encoded-again : encode (decode least) ≡ least

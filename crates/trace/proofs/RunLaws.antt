@@ -7,26 +7,18 @@ use mathlib.Core.Path.{_≡_, refl, sym, ap, ap₂, _∙_, subst}
 use mathlib.Core.List.{List, [], _∷_}
 use mathlib.Core.Bool.{true, false}
 use lib.ListN.{length, take, drop}
-use lib.Dec.{eqb}
 use borrow.Author.Tests.{eqb-true}
 use Rattle.file.specs.Rules.Bytes.{Bytes, part}
 use Rattle.file.specs.Inner.Numbers.{ByteAt, NumberAt}
 use Rattle.file.specs.Rules.Decode.{decode}
-use Rattle.file.specs.Rules.Cluster.{Cluster}
 use Rattle.file.specs.Inner.Accepted.{Placed}
-use Rattle.file.specs.Inner.Places.{SameShape}
-use Rattle.file.proofs.Shape.{shape-refl}
-use Rattle.file.proofs.Surveyed.{placed-kept}
-use Rattle.file.proofs.Order.{byCase}
 use Rattle.file.proofs.NumberLaws.{byte-number}
 use Rattle.cluster.specs.Rules.Bus.{slots}
 use Rattle.cluster.specs.Rules.Grounds.{roundBy}
-use Rattle.cluster.specs.Inner.Grounds.{frameGround}
 use Rattle.cluster.specs.Rules.Round.{Answer}
-use Rattle.cluster.specs.Inner.Carried.{exchange}
 use Rattle.cluster.specs.Inner.Carried.{Exchanged}
-use Rattle.cluster.proofs.Rounds.{frame-kept}
 use Rattle.cluster.proofs.RoundCall.{exchanged-round}
+use Rattle.cluster.proofs.FrameCall.{exchange-placed}
 use Rattle.trace.specs.Rules.Layout.{headerSize, rowSize}
 use Rattle.trace.specs.Rules.Trace.{frameCount, dataLength, offsetIn, lengthIn, dataPlace, wholeRows, brokenTrace, framesFrom, framesOf}
 use Rattle.trace.specs.Rules.Run.{sent, afterFrames, Report, noFrames, sumOf, counted, reportFrom}
@@ -35,14 +27,6 @@ use Rattle.trace.proofs.Facts.{row-here, row-rest, rows-end, TraceFacts
 use Rattle.trace.proofs.Runs.{sent-any, counted-sum}
 
 -- ---- one frame
-
--- a frame leaves a cluster of the same shape
-exchange-shape : (c : Cluster) (frame buffer : List ℕ) → Bytes frame → SameShape (c .slaves) (exchange c frame buffer .2 .slaves)
-unfolding exchange
-exchange-shape c frame buffer b =
-    byCase (eqb (frameGround c frame) 0)
-    (λ e. rw e (frame-kept c frame b (eqb-true _ _ e) .shape))
-    (λ e. rw e (shape-refl (c .slaves)))
 
 -- a frame exchanged with a buffer of 64 bytes or more is sent
 pub frame-sent :
@@ -59,7 +43,7 @@ frame-sent {file} {places} {frame} {old} {new} {answer} {file′} {r} {r′} p b
     record {
       report = is ∙ ap (λ (a : Answer). counted a (roundBy frame) r) (ap (λ (z : Answer × List ℕ × List ℕ). z .0) all ∙ same .answer);
       after = ap (λ (z : Answer × List ℕ × List ℕ). z .2) all ∙ same .file;
-      placed = placed-kept p (x .becomes) (exchange-shape (decode file) frame old b);
+      placed = exchange-placed p b x;
     }
 
 -- ---- the frames that are left

@@ -8,7 +8,7 @@ use mathlib.Core.Bool.{true, false, cond}
 use lib.ListN.{length, getD, take, drop}
 use Rattle.file.specs.Rules.Bytes.{Bytes}
 use Rattle.file.specs.Rules.Layout.{pendingFlag}
-use Rattle.file.specs.Rules.Cluster.{Slave, hasRecord, recordOf, logicalName, unnamed, documentation, pb2Of, writeOperation}
+use Rattle.file.specs.Rules.Cluster.{Slave, noSlave, hasRecord, recordOf, logicalName, unnamed, documentation, pb2Of, writeOperation}
 use Rattle.file.specs.Rules.Decode.{decode}
 use Rattle.frame.specs.Rules.Fireworks.{msd}
 use Rattle.frame.specs.Rules.Frames.{between}
@@ -19,7 +19,7 @@ use Rattle.cluster.specs.Claims.Pending.{Pending}
 
 -- the slave at an index of the file's slave table
 unfoldable pub slaveIn : List ℕ → ℕ → Slave
-slaveIn file i = getD (decode file .slaves) i (record { files = [] })
+slaveIn file i = getD (decode file .slaves) i noSlave
 
 -- an accepted MSD on a file with a write of record r of file n pending at 0xFF, "except in 0x3D and in any record 0x00"
 pub record WriteAtUnnamed (file frame buffer : List ℕ) (n r : ℕ) : Type 0 where

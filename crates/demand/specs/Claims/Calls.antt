@@ -98,7 +98,7 @@ permitted h names m (c ∷ cs) =
 unfoldable pub callsFed : List CCall → List Call
 callsFed [] = []
 callsFed (ttpaStep arguments senders ∷ cs) = stepBy arguments ∷ callsFed cs
-callsFed (ttpaRound bytes buffer senders ∷ cs) = frameOf bytes buffer ∷ callsFed cs
+callsFed (ttpaRound bytes buffer senders ∷ cs) = frameOf (record { bytes = bytes; buffer = buffer }) ∷ callsFed cs
 callsFed (ttpaTrace t report ∷ cs) = callsFed cs
 
 -- the slaves' names in a file, and the account after the calls
@@ -170,7 +170,7 @@ memoryOf s p = record { file = s .file; run = wordsOf p }
 
 unfoldable pub argumentsOf : CCall → CallOrTrace
 argumentsOf (ttpaStep arguments senders) = CallOrTrace.call (stepBy arguments)
-argumentsOf (ttpaRound bytes buffer senders) = CallOrTrace.call (frameOf bytes buffer)
+argumentsOf (ttpaRound bytes buffer senders) = CallOrTrace.call (frameOf (record { bytes = bytes; buffer = buffer }))
 argumentsOf (ttpaTrace t report) = CallOrTrace.trace t
 
 abbrev pub SamePermitted : Type 0

@@ -9,7 +9,7 @@ use Rattle.file.specs.Rules.Decode.{decode}
 use Rattle.cluster.specs.Claims.Pending.{AcceptedMsa, Pending}
 use Rattle.naming.specs.Rules.Run.{Position, running}
 use Rattle.naming.specs.Rules.Step.{stepGround}
-use Rattle.naming.specs.Rules.Account.{StepArguments, Call, step, frame}
+use Rattle.naming.specs.Rules.Account.{StepArguments, FrameArguments, Call, step, frame}
 use Rattle.naming.specs.Claims.Demand.{State, startOn, callOn}
 use Rattle.demand.specs.Claims.Traces.{CallOrTrace, AllBytes, singly, afterAll}
 
@@ -17,7 +17,8 @@ use Rattle.demand.specs.Claims.Traces.{CallOrTrace, AllBytes, singly, af
 -- run.
 pub data NoMsa (names : List ℕ) (s : State) (p : Position) : Call → Type 0 where
   in-step : {arguments : StepArguments} → (stepGround (s .file) p names (arguments .buffer) ≡ 0 → p .end ≡ running → ⊥) → NoMsa names s p (step arguments)
-  in-frame : {bytes buffer : List ℕ} → (AcceptedMsa (s .file) bytes buffer → ⊥) → NoMsa names s p (frame bytes buffer)
+  in-frame :
+      {arguments : FrameArguments} → (AcceptedMsa (s .file) (arguments .bytes) (arguments .buffer) → ⊥) → NoMsa names s p (frame arguments)
 
 -- in none of the calls, each on the file and the run as they then are
 pub data NoMsaAmong (names : List ℕ) : State → Position → List Call → Type 0 where

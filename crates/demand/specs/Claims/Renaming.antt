@@ -7,7 +7,7 @@ use mathlib.Core.List.{List, [], _∷_, map}
 use Rattle.file.specs.Rules.Bytes.{Bytes, All}
 use Rattle.cluster.specs.Claims.Renaming.{Baptizes, namesOf}
 use Rattle.naming.specs.Rules.Run.{Position, bits}
-use Rattle.naming.specs.Rules.Account.{StepArguments, Call, step, frame}
+use Rattle.naming.specs.Rules.Account.{StepArguments, FrameArguments, Call, step, frame}
 use Rattle.naming.specs.Claims.Demand.{State, startOn, callOn}
 use Rattle.naming.specs.Claims.Renaming.{StepBaptizes}
 use Rattle.demand.specs.Claims.Traces.{CallOrTrace, AllBytes, singly, afterAll}
@@ -16,7 +16,8 @@ use Rattle.demand.specs.Claims.Calls.{CCall, GivenBytes, afterCalls, mem
 -- a call does not baptize: a step, or a frame
 pub data NoBaptism (names : List ℕ) (s : State) (p : Position) : Call → Type 0 where
   in-step : {arguments : StepArguments} → (StepBaptizes (s .file) p names (arguments .buffer) → ⊥) → NoBaptism names s p (step arguments)
-  in-frame : {bytes buffer : List ℕ} → ((name : ℕ) → Baptizes (s .file) bytes buffer name → ⊥) → NoBaptism names s p (frame bytes buffer)
+  in-frame :
+      {arguments : FrameArguments} → ((name : ℕ) → Baptizes (s .file) (arguments .bytes) (arguments .buffer) name → ⊥) → NoBaptism names s p (frame arguments)
 
 -- none of the calls does, each on the file and the run as they then are
 pub data NoneBaptizes (names : List ℕ) : State → Position → List Call → Type 0 where

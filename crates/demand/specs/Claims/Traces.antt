@@ -60,7 +60,7 @@ afterAll names s p (c ∷ cs) = afterAll names (callOrTraceOn names s p c .0) (c
 
 -- a frame sent singly: demand 3's frame call, with an answer buffer of 64 bytes
 unfoldable pub frameCall : List ℕ → Call
-frameCall x = frame x (replicate slots 0)
+frameCall x = frame (record { bytes = x; buffer = replicate slots 0 })
 
 -- what a trace stands for: its frames sent singly; nothing if 19 refuses it
 unfoldable pub framesSingly : List ℕ → List Call

@@ -8,12 +8,9 @@ use lib.ListN.{length, getD, set}
 use lib.Dec.{eqb}
 use Rattle.file.specs.Rules.Layout.{offsetWidth, entrySize, maxSlaves}
 use Rattle.file.specs.Rules.Cluster.{File, Slave, Cluster}
+pub use Rattle.file.specs.Rules.Cluster.{noSlave}
 use Rattle.file.specs.Rules.Encode.{slaveSize, slavesPlace}
 use Rattle.file.specs.Rules.Changes.{putInSlave, withSlaves}
-
--- a slave with no files
-abbrev pub noSlave : Slave
-noSlave = record { files = [] }
 
 -- the slave at an index of the slave table
 unfoldable pub slaveOf : Cluster → ℕ → Slave

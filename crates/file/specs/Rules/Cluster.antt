@@ -17,6 +17,10 @@ pub record File : Type 0 where
 pub record Slave : Type 0 where
   pub files : List File
 
+-- a slave with no files, for an index beyond the slave table
+abbrev pub noSlave : Slave
+noSlave = record { files = [] }
+
 -- the epoch, the pending flag, the pending logical name, PB2 and PB3, and the slaves in table order
 pub record Cluster : Type 0 where
   pub epoch : ℕ

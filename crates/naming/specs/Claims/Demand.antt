@@ -17,7 +17,7 @@ use Rattle.cluster.specs.Rules.Grounds.{roundBy}
 use Rattle.cluster.specs.Rules.Round.{Answer, roundGround, roundOn}
 use Rattle.naming.specs.Rules.Run.{Position, fresh, startGround, unfitPosition}
 use Rattle.naming.specs.Rules.Step.{stepGround, stepOn}
-use Rattle.naming.specs.Rules.Account.{StepArguments, Call, step, frame, argumentsGround}
+use Rattle.naming.specs.Rules.Account.{StepArguments, FrameArguments, Call, step, frame, argumentsGround}
 use Rattle.naming.specs.Rules.Account.{namesIn, accountOf, accountAfter, comparisonsOf}
 use Rattle.naming.specs.Rules.Figures.{Outcome}
 
@@ -41,9 +41,9 @@ halfwayAfter h (done mask) noRound = h
 unfoldable pub callOn : List ℕ → State → Position → Call → State × Position
 callOn names s p (step arguments) =
     let r = stepOn (s .file) p names (arguments .buffer) in (record { file = r .3; halfway = s .halfway }, r .1)
-callOn names s p (frame bytes buffer) =
-    let r = roundOn (s .file) bytes buffer in
-    (record { file = r .2; halfway = halfwayAfter (s .halfway) (r .0) (roundBy bytes) }, p)
+callOn names s p (frame arguments) =
+    let r = roundOn (s .file) (arguments .bytes) (arguments .buffer) in
+    (record { file = r .2; halfway = halfwayAfter (s .halfway) (r .0) (roundBy (arguments .bytes)) }, p)
 
 -- "no write to or execute of 0x08": PB2 of an MSA
 unfoldable pub changesConfiguration : ℕ → Bool
@@ -73,8 +73,9 @@ permittedFrame false noRound bytes = false
 -- a call: a refused one always; an accepted step within no round of others
 unfoldable pub permittedCall : List ℕ → State → Position → Call → Bool
 permittedCall names s p (step arguments) = cond (eqb (stepGround (s .file) p names (arguments .buffer)) 0) (not (s .halfway)) true
-permittedCall names s p (frame bytes buffer) =
-    cond (eqb (roundGround (s .file) bytes buffer) 0) (permittedFrame (s .halfway) (roundBy bytes) bytes) true
+permittedCall names s p (frame arguments) =
+    let bytes = arguments .bytes in
+    cond (eqb (roundGround (s .file) bytes (arguments .buffer)) 0) (permittedFrame (s .halfway) (roundBy bytes) bytes) true
 
 -- "every list of steps, permitted rounds .. and refused steps and frames": each judged where it comes, and no round left half done
 unfoldable pub permitted : List ℕ → State → Position → List Call → Bool
@@ -90,7 +91,7 @@ afterCalls names s p (c ∷ cs) = afterCalls names (callOn names s p c .0) (call
 -- a frame is bytes
 pub data OfBytes : Call → Type 0 where
   of-step : {arguments : StepArguments} → OfBytes (step arguments)
-  of-frame : {bytes buffer : List ℕ} → Bytes bytes → OfBytes (frame bytes buffer)
+  of-frame : {arguments : FrameArguments} → Bytes (arguments .bytes) → OfBytes (frame arguments)
 
 -- "Demand 3 compares every logical name, the end and both counts carried in the run with this account"; the file stays accepted,
 -- ground 17 does not hold, a step that comes next meets no ground but that of its own arguments, and the closed figures

@@ -13,7 +13,7 @@ use Rattle.cluster.specs.Rules.Grounds.{roundBy}
 use Rattle.cluster.specs.Rules.Round.{roundGround, roundOn}
 use Rattle.naming.specs.Rules.Run.{Position}
 use Rattle.naming.specs.Rules.Step.{stepGround, stepOn}
-use Rattle.naming.specs.Rules.Account.{StepArguments, Call, step, frame}
+use Rattle.naming.specs.Rules.Account.{StepArguments, FrameArguments, Call, step, frame}
 use Rattle.naming.specs.Claims.Demand.{startOn, permitted, OfBytes}
 
 -- what the MSA of a permitted round may ask for
@@ -28,14 +28,15 @@ pub data MayAsk (a : Parts) : Type 0 where
   writeAtAll : a .file ≡ configuration → a .operation ≡ writeOperation → a .«record» ≡ 1 → a .name ≡ broadcast → MayAsk a
 
 -- a frame that no ground refuses, of that round
-pub record Accepted (file bytes buffer : List ℕ) (round : Round) : Type 0 where
-  pub none : roundGround file bytes buffer ≡ 0
-  pub opens : roundBy bytes ≡ round
+pub record Accepted (file : List ℕ) (arguments : FrameArguments) (round : Round) : Type 0 where
+  pub none : roundGround file (arguments .bytes) (arguments .buffer) ≡ 0
+  pub opens : roundBy (arguments .bytes) ≡ round
 
 -- "refused steps and frames"
 pub data Refused (names file : List ℕ) (p : Position) : Call → Type 0 where
   in-step : {arguments : StepArguments} → stepGround file p names (arguments .buffer) ≢ 0 → Refused names file p (step arguments)
-  in-frame : {bytes buffer : List ℕ} → roundGround file bytes buffer ≢ 0 → Refused names file p (frame bytes buffer)
+  in-frame :
+      {arguments : FrameArguments} → roundGround file (arguments .bytes) (arguments .buffer) ≢ 0 → Refused names file p (frame arguments)
 
 -- "every list of steps, permitted rounds (complete ones, but no write to or execute of 0x08) and refused steps and frames", each call on
 -- the file and the run as the last one left them
@@ -50,15 +51,15 @@ pub data PermittedList (names : List ℕ) : List ℕ → Position → List Call 
       PermittedList names file p (step arguments ∷ cs)
   -- "A complete round is .. a multipartner frame"
   multipartnerRound :
-      {file : List ℕ} {p : Position} {bytes buffer : List ℕ} {r : ℕ} {cs : List Call} → Accepted file bytes buffer (multipartner r) →
-      PermittedList names (roundOn file bytes buffer .2) p cs → PermittedList names file p (frame bytes buffer ∷ cs)
+      {file : List ℕ} {p : Position} {arguments : FrameArguments} {r : ℕ} {cs : List Call} → Accepted file arguments (multipartner r) →
+      PermittedList names (roundOn file (arguments .bytes) (arguments .buffer) .2) p cs → PermittedList names file p (frame arguments ∷ cs)
   -- or "an accepted MSA followed directly, refused calls aside, by an accepted MSD"
   masterSlaveRound :
-      {file : List ℕ} {p : Position} {address buffer content buffer′ : List ℕ} {cs ds : List Call} → Accepted file address buffer msa →
-      MayAsk (partsOf address) → All (Refused names (roundOn file address buffer .2) p) cs →
-      Accepted (roundOn file address buffer .2) content buffer′ msd →
-      PermittedList names (roundOn (roundOn file address buffer .2) content buffer′ .2) p ds →
-      PermittedList names file p (frame address buffer ∷ (cs ++ frame content buffer′ ∷ ds))
+      {file : List ℕ} {p : Position} {address content : FrameArguments} {cs ds : List Call} → Accepted file address msa →
+      MayAsk (partsOf (address .bytes)) → All (Refused names (roundOn file (address .bytes) (address .buffer) .2) p) cs →
+      Accepted (roundOn file (address .bytes) (address .buffer) .2) content msd →
+      PermittedList names (roundOn (roundOn file (address .bytes) (address .buffer) .2) (content .bytes) (content .buffer) .2) p ds →
+      PermittedList names file p (frame address ∷ (cs ++ frame content ∷ ds))
 
 -- a list of calls, frames being bytes, is permitted from a file and a run on if and only if it is such a list
 abbrev pub PermittedExactly : Type 0

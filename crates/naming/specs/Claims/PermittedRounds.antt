@@ -19,7 +19,7 @@ use Rattle.cluster.specs.Rules.Grounds.{writePending}
 use Rattle.cluster.specs.Rules.Round.{roundOn}
 use Rattle.naming.specs.Rules.Run.{Position, fresh, startGround}
 use Rattle.naming.specs.Rules.Step.{stepGround}
-use Rattle.naming.specs.Rules.Account.{StepArguments, Call, step, frame}
+use Rattle.naming.specs.Rules.Account.{StepArguments, FrameArguments, Call, step, frame}
 use Rattle.naming.specs.Claims.Demand.{startOn, permitted, afterCalls, OfBytes}
 use Rattle.naming.specs.Claims.Permitted.{MayAsk, Accepted, Refused}
 
@@ -73,7 +73,7 @@ pub data SentBy : List (List ℕ) → List Call → Type 0 where
   noFrames : SentBy [] []
   oneMore :
       {bytes buffer : List ℕ} {frames : List (List ℕ)} {calls : List Call} → slots ≤ length buffer → SentBy frames calls →
-      SentBy (bytes ∷ frames) (frame bytes buffer ∷ calls)
+      SentBy (bytes ∷ frames) (frame (record { bytes = bytes; buffer = buffer }) ∷ calls)
 
 -- ---- rounds that fit
 
@@ -105,7 +105,7 @@ abbrev pub BarredMsa : Type 0
 BarredMsa =
     (file names : List ℕ) (cs : List Call) → PermittedFrom file names cs → (a : Parts) → Sendable a → MayNotAsk a →
     (buffer : List ℕ) → slots ≤ length buffer → (ds : List Call) →
-    permitted names (startOn file) (fresh names) (cs ++ frame (addressOf a) buffer ∷ ds) ≡ false
+    permitted names (startOn file) (fresh names) (cs ++ frame (record { bytes = addressOf a; buffer = buffer }) ∷ ds) ≡ false
 
 -- no MSD comes next: refused calls aside, the calls end, or a step or a frame that is no MSD is accepted
 pub data NoMsdNext (names file : List ℕ) (p : Position) : List Call → Type 0 where
@@ -113,18 +113,18 @@ pub data NoMsdNext (names file : List ℕ) (p : Position) : List Call → Type 0
   refusedNext : {c : Call} {cs : List Call} → Refused names file p c → NoMsdNext names file p cs → NoMsdNext names file p (c ∷ cs)
   stepNext : {arguments : StepArguments} {cs : List Call} → stepGround file p names (arguments .buffer) ≡ 0 → NoMsdNext names file p (step arguments ∷ cs)
   frameNext :
-      {bytes buffer : List ℕ} {round : Round} {cs : List Call} → Accepted file bytes buffer round → round ≢ msd →
-      NoMsdNext names file p (frame bytes buffer ∷ cs)
+      {arguments : FrameArguments} {round : Round} {cs : List Call} → Accepted file arguments round → round ≢ msd →
+      NoMsdNext names file p (frame arguments ∷ cs)
 
 -- "a lone MSA or MSD is none": neither fits, an MSA whatever it asks for, an MSD whatever is pending
 abbrev pub LoneMsa : Type 0
 LoneMsa =
     (file names : List ℕ) (cs : List Call) → PermittedFrom file names cs → (a : Parts) → Sendable a → (buffer : List ℕ) → slots ≤ length buffer →
     (ds : List Call) → NoMsdNext names (roundOn (fileAfter file names cs) (addressOf a) buffer .2) (runAfter file names cs) ds →
-    permitted names (startOn file) (fresh names) (cs ++ frame (addressOf a) buffer ∷ ds) ≡ false
+    permitted names (startOn file) (fresh names) (cs ++ frame (record { bytes = addressOf a; buffer = buffer }) ∷ ds) ≡ false
 
 abbrev pub LoneMsd : Type 0
 LoneMsd =
     (file names : List ℕ) (cs : List Call) → PermittedFrom file names cs →
     (content : List ℕ) → DataFor (writePending (decode (fileAfter file names cs))) content → (buffer : List ℕ) → slots ≤ length buffer → (ds : List Call) →
-    permitted names (startOn file) (fresh names) (cs ++ frame content buffer ∷ ds) ≡ false
+    permitted names (startOn file) (fresh names) (cs ++ frame (record { bytes = content; buffer = buffer }) ∷ ds) ≡ false

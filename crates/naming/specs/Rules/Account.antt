@@ -120,9 +120,13 @@ unfoldable pub pass : Account → List ℕ → Account
 pass a [] = a
 pass a (n ∷ ns) = cond (isAmong n (a .held)) (passDone a ns (a .waiting) (a .slaves) 0) (freePass a n ns (a .waiting))
 
+-- a round of the pass, until the end
+unfoldable pub passOn : Account → Account
+passOn a = cond (eqb (a .end) 0) (pass a (a .left)) a
+
 -- "Each step that no numbered ground refuses for those arguments, until the end, adds 1 to the rounds and to k."
 unfoldable pub oneRound : Account → Account
-oneRound a = cond (eqb (a .end) 0) (pass a (a .left)) a
+oneRound a = passOn a
 
 -- ---- the calls
 
@@ -130,9 +134,13 @@ oneRound a = cond (eqb (a .end) 0) (pass a (a .left)) a
 pub record StepArguments : Type 0 where
   pub buffer : List ℕ
 
+pub record FrameArguments : Type 0 where
+  pub bytes : List ℕ
+  pub buffer : List ℕ
+
 pub data Call : Type 0 where
   step : StepArguments → Call
-  frame : List ℕ → List ℕ → Call
+  frame : FrameArguments → Call
 
 -- the ground that refuses a step "for those arguments", the slaves being as the account has them, 0 if there is none: 9 is the one
 -- that they can meet
@@ -142,7 +150,7 @@ argumentsGround slaves arguments = firstOf ((9, shortAnswer (arguments .buffer))
 -- "Each step that no numbered ground refuses for those arguments"; "Refused calls and others' rounds change nothing here."
 unfoldable pub accountCall : Account → Call → Account
 accountCall a (step arguments) = cond (eqb (argumentsGround (a .slaves) arguments) 0) (oneRound a) a
-accountCall a (frame bytes buffer) = a
+accountCall a (frame arguments) = a
 
 unfoldable pub accountAfter : Account → List Call → Account
 accountAfter a [] = a

@@ -172,9 +172,13 @@ passOver names p = cond (isNeedless names p) (atStep (suc (p .step)) p) p
 unfoldable pub onto : List ℕ → Position → Position
 onto names p = passOver names (passOver names p)
 
--- the next round of a running position
+-- the next round of a pass
+unfoldable pub passRound : List ℕ → Position → RunRound
+passRound names p = roundHere names (onto names p)
+
+-- the next round of a running position: its pass's
 unfoldable pub nextRound : List ℕ → Position → RunRound
-nextRound names p = roundHere names (onto names p)
+nextRound names p = passRound names p
 
 -- ---- how the position moves on, by the answer: someone sent in slot 1
 
@@ -205,10 +209,14 @@ moveOn giveHigh count p answered = onward p (p .value) 0
 moveOn giveLow count p answered = onward p (p .value) 0
 moveOn baptize count p answered = nextName count p
 
--- from the round really made to the next one: request 6, it "stands at the next round really made"
-unfoldable pub advance : List ℕ → Position → Bool → Position
-advance names p answered =
+-- from a pass's round really made to the next one: request 6, it "stands at the next round really made"
+unfoldable pub passAdvance : List ℕ → Position → Bool → Position
+passAdvance names p answered =
     let q = onto names p in onto names (moveOn (placeOf (q .step)) (length names) (wrote (roundHere names q) q) answered)
+
+-- from the next round of a running position on
+unfoldable pub advance : List ℕ → Position → Bool → Position
+advance names p answered = passAdvance names p answered
 
 -- ---- grounds 15 to 17
 
