@@ -74,7 +74,8 @@ module _ {g : Slave → Slave} {f₀ : List ℕ} {i : ℕ} {file : List ℕ} (h 
   shape = changed-shape g (h .keeps) i (decode f₀ .slaves)
 
   pub changing-placed : {places : List ℕ} → Placed f₀ places → Placed file places
-  changing-placed p = placed-kept p (h .becomes) shape
+  unfolding withSlaves
+  changing-placed p = placed-kept p (h .becomes) refl shape
 
   module _ {count : ℕ} (all : count ≡ slaveCount f₀) where
     module _ (more : i < count) where

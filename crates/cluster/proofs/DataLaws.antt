@@ -213,7 +213,7 @@ module _ (c : Cluster) (d : CodeDuty) (a : RecordAddress) (bytes : List ℕ) {ol
 -- ---- the file with the epoch raised
 
 pub raised-placed : {f g places : List ℕ} → Placed f places → Becomes g (epochRaised (decode f)) → Placed g places
-raised-placed {f} p h = placed-kept p h (kept-raised (decode f) .shape)
+raised-placed {f} p h = let kept = kept-raised (decode f) in placed-kept p h (kept .edition) (kept .shape)
 
 pub raised-done : {f : List ℕ} (c : Cluster) {o : Duty} (bytes : List ℕ) {firework : ℕ} {old new : List ℕ} {mask : ℕ} {file : List ℕ} → o ≡ pendingDuty c → Becomes f (epochRaised c) → Carried (dutyEffect o bytes (decode f)) firework old new mask file →
     Carried (dataEffect c bytes) firework old new mask file

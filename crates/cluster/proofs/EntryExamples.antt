@@ -57,7 +57,7 @@ like-11 = (refl, refl)
 
 -- by "the epoch already raised for this round", 255 going to 0: in epoch 255 field 0 of operation 9 is in turn and field 3 is not
 lastEpoch : Cluster
-lastEpoch = record { epoch = 255; flag = 0; pendingName = 0; pendingPB2 = 0; pendingPB3 = 0; slaves = [] }
+lastEpoch = record { edition = 1; epoch = 255; flag = 0; pendingName = 0; pendingPB2 = 0; pendingPB3 = 0; slaves = [] }
 
 by-raised : (passedOver lastEpoch (entryOf 0x40 0x01 0x90 0x01) ≡ false) × (passedOver lastEpoch (entryOf 0x40 0x01 0x90 0xC1) ≡ true)
 unfolding lastEpoch passedOver epochRaised withEpoch nextEpoch outOfTurn inTurn entryOf either

@@ -14,14 +14,12 @@ use Rattle.file.specs.Rules.Results.{refused, done}
 use Rattle.file.specs.Rules.Cluster.{Cluster}
 use Rattle.file.specs.Rules.Decode.{decode}
 use Rattle.file.specs.Inner.Accepted.{Becomes, Placed}
-use Rattle.file.specs.Inner.Places.{SameShape}
 use Rattle.file.specs.Inner.Surveyed.{Surveyed}
 use Rattle.file.specs.Inner.Answers.{checkedOf}
 use Rattle.file.specs.declared.survey.FileAnswer.{FileAnswer}
 use Rattle.file.specs.declared.survey.FileAnswer.the-variants as answers
 use Rattle.file.specs.declared.types.Refusal.{Refusal}
 use Rattle.file.proofs.Order.{byCase}
-use Rattle.file.proofs.Shape.{shape-refl}
 use Rattle.file.proofs.Surveyed.{survey-accepted, survey-becomes, survey-refused, placed-kept}
 use Rattle.frame.specs.Rules.Fireworks.{Round, multipartner, msd, msa, roundOf}
 use Rattle.frame.specs.Rules.Grounds.{wrongFrameLength}
@@ -34,6 +32,7 @@ use Rattle.cluster.specs.Inner.Grounds.{noFirework, fireworkSize, length
 use Rattle.cluster.specs.Rules.Round.{Effect, Answer, effectOf, frameOn, roundOn}
 use Rattle.cluster.specs.Inner.Effects.{multipartnerEffect}
 use Rattle.cluster.specs.Inner.Carried.{Carried, exchange, Exchanged}
+use Rattle.cluster.proofs.Kept.{ClusterKept, kept-refl}
 use Rattle.cluster.proofs.Rounds.{frame-kept}
 use Rattle.cluster.proofs.FrameLaws.{exchange-refused, exchange-carried}
 use Rattle.cluster.proofs.RoundNumbers.{multipartner-low}
@@ -108,13 +107,13 @@ module _ (frame buffer : List ℕ) {file places : List ℕ} {a : FileAnswer} (s 
 
 -- ---- the places after a frame
 
--- a frame leaves a cluster of the same shape
-exchange-shape : (c : Cluster) (frame buffer : List ℕ) → Bytes frame → SameShape (c .slaves) (exchange c frame buffer .2 .slaves)
+-- a frame leaves a cluster of the same edition and shape
+exchange-kept : (c : Cluster) (frame buffer : List ℕ) → Bytes frame → ClusterKept c (exchange c frame buffer .2)
 unfolding exchange
-exchange-shape c frame buffer b =
+exchange-kept c frame buffer b =
     byCase (eqb (frameGround c frame) 0)
-    (λ e. rw e (frame-kept c frame b (eqb-true _ _ e) .shape))
-    (λ e. rw e (shape-refl (c .slaves)))
+    (λ e. rw e (frame-kept c frame b (eqb-true _ _ e)))
+    (λ e. rw e (kept-refl c))
 
 -- so the places of the slaves' files are what they were
 pub exchange-placed :
@@ -123,4 +122,6 @@ pub exchange-placed :
     → Bytes frame
     → Exchanged (decode file) frame old new answer file′
     → Placed file′ places
-exchange-placed {file} {places} {frame} {old} p b x = placed-kept p (x .becomes) (exchange-shape (decode file) frame old b)
+exchange-placed {file} {places} {frame} {old} p b x =
+    let kept = exchange-kept (decode file) frame old b in
+    placed-kept p (x .becomes) (kept .edition) (kept .shape)

@@ -274,7 +274,7 @@ module _ {f : List ℕ} (c : Cluster) (epoch name pb2 pb3 : ℕ) (raised : Becom
 module _ (f : List ℕ) {g : List ℕ} (epoch name pb2 pb3 : ℕ) (h : Becomes g (withAddress (decode f) epoch name pb2 pb3)) where
   pub address-placed : {places : List ℕ} → Placed f places → Placed g places
   unfolding withAddress withPending withEpoch
-  address-placed p = placed-kept p h (shape-refl (decode f .slaves))
+  address-placed p = placed-kept p h refl (shape-refl (decode f .slaves))
 
   pub address-carried : (bytes : List ℕ) {old new file : List ℕ} {mask : ℕ} → Carried (dataEffect (decode g) bytes) dataFirework old new mask file → Carried (dataEffect (withAddress (decode f) epoch name pb2 pb3) bytes) dataFirework old new mask file
   address-carried bytes {old} {new} {file} {mask} k =

@@ -14,7 +14,7 @@ use borrow.Author.Tests.{eqb-true, eqb-false}
 use Rattle.file.specs.Rules.Order.{either}
 use Rattle.file.specs.Rules.Cluster.{Slave, Cluster}
 use Rattle.file.specs.Rules.Decode.{decode}
-use Rattle.file.specs.Inner.Places.{mostSlaves, noSlave, slaveOf}
+use Rattle.file.specs.Inner.Places.{slavesRoom, noSlave, slaveOf}
 use Rattle.file.specs.Inner.Accepted.{Becomes}
 use Rattle.file.proofs.Order.{byCase}
 use Rattle.file.proofs.ReaderLaws.{place-within, header-within}
@@ -74,10 +74,10 @@ pub record SlotHearing (passed : Entry → Bool) (c : Cluster) (round slot n bus
   pub most : n ≤ length (c .slaves)
   pub byte : bus ≡ busByte (sentBy passed round slot (take n (c .slaves)))
   pub any : heard ≡ someone (sentBy passed round slot (take n (c .slaves)))
-  pub room : length stores ≡ mostSlaves
+  pub room : length stores ≡ slavesRoom
   pub aims : (s : ℕ) → s < n → getD stores s 0 ≡ placeIn c s (storesAt passed round slot (slaveOf c s))
 
-pub slot-hearing-start : (passed : Entry → Bool) (c : Cluster) (round slot : ℕ) {stores : List ℕ} → length stores ≡ mostSlaves → SlotHearing passed c round slot 0 255 false stores
+pub slot-hearing-start : (passed : Entry → Bool) (c : Cluster) (round slot : ℕ) {stores : List ℕ} → length stores ≡ slavesRoom → SlotHearing passed c round slot 0 255 false stores
 unfolding busByte joined sentBy someone
 slot-hearing-start passed c round slot room =
     record { most = omega arith; byte = refl; any = refl; room = room; aims = λ s l. absurd (omega arith) }
@@ -88,7 +88,7 @@ module _ {passed : Entry → Bool} {c : Cluster} {round slot n bus : ℕ} {heard
     unfolding slaveOf
     sent-act = rw (add-one, does .sends) (sent-next passed round slot (c .slaves) n more)
 
-    pub slot-hearing-next : {bus′ place : ℕ} {heard′ : Bool} → length (c .slaves) ≤ mostSlaves → bus′ ≡ joined bus (actSends act) → heard′ ≡ either heard (isSender act) → place ≡ actStores act
+    pub slot-hearing-next : {bus′ place : ℕ} {heard′ : Bool} → length (c .slaves) ≤ slavesRoom → bus′ ≡ joined bus (actSends act) → heard′ ≡ either heard (isSender act) → place ≡ actStores act
         → SlotHearing passed c round slot (n + 1) bus′ heard′ (set stores n place)
     slot-hearing-next {place = place} few byte any at =
         record {

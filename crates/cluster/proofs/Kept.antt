@@ -1,4 +1,4 @@
--- What a round keeps: the slaves' shape, their physical names, and that the cluster is legal; and the files that it leaves alone.
+-- What a round keeps: the edition, the slaves' shape, their physical names, and that the cluster is legal; and the files that it leaves alone.
 -- Assumes nothing.
 use Prim.Native.Nat.{ℕ, zero, suc, _*_, _≤_, _<_}
 use native.Mathlib.Omega.{arith}
@@ -152,16 +152,22 @@ stored-other s b (here {n = m} {k} h) n out = inSlave-other m k b s n (λ e. ome
 -- ---- a cluster
 
 pub record ClusterKept (c d : Cluster) : Type 0 where
+  pub edition : d .edition ≡ c .edition
   pub shape : SameShape (c .slaves) (d .slaves)
   pub names : map physicalName (d .slaves) ≡ map physicalName (c .slaves)
   pub legal : Legal c → Legal d
 
 pub kept-refl : (c : Cluster) → ClusterKept c c
-kept-refl c = record { shape = shape-refl (c .slaves); names = refl; legal = λ l. l }
+kept-refl c = record { edition = refl; shape = shape-refl (c .slaves); names = refl; legal = λ l. l }
 
 pub kept-trans : {c d e : Cluster} → ClusterKept c d → ClusterKept d e → ClusterKept c e
 kept-trans p q =
-    record { shape = shape-trans (p .shape) (q .shape); names = q .names ∙ p .names; legal = λ l. q .legal (p .legal l) }
+    record {
+      edition = q .edition ∙ p .edition;
+      shape = shape-trans (p .shape) (q .shape);
+      names = q .names ∙ p .names;
+      legal = λ l. q .legal (p .legal l);
+    }
 
 module _ (f : Slave → Slave) (keeps : (s : Slave) → SlaveKept s (f s)) where
   map-shape : (ss : List Slave) → SameShape ss (map f ss)
@@ -180,9 +186,11 @@ module _ (f : Slave → Slave) (keeps : (s : Slave) → SlaveKept s (f s)) where
   unfolding withSlaves
   kept-map c =
       record {
+        edition = refl;
         shape = map-shape (c .slaves);
         names = map-names (c .slaves);
         legal = λ l. record {
+          edition = l .edition;
           count = rw (← shape-count (map-shape (c .slaves))) (l .count);
           pending = pending-slaves c (map f (c .slaves)) (l .pending);
           slaves = map-legal (l .slaves);
@@ -210,7 +218,7 @@ nextEpoch-byte n = omega arith
 pub kept-epoch : (c : Cluster) (epoch : ℕ) → Byte epoch → ClusterKept c (withEpoch c epoch)
 unfolding withEpoch
 kept-epoch c epoch byte =
-    record { shape = shape-refl (c .slaves); names = refl; legal = λ l. legal-withEpoch c epoch byte l }
+    record { edition = refl; shape = shape-refl (c .slaves); names = refl; legal = λ l. legal-withEpoch c epoch byte l }
 
 pub kept-raised : (c : Cluster) → ClusterKept c (epochRaised c)
 unfolding epochRaised
@@ -219,7 +227,7 @@ kept-raised c = kept-epoch c (nextEpoch (c .epoch)) (nextEpoch-byte (c .epoch))
 pub kept-pending : (c : Cluster) (flag name pb2 pb3 : ℕ) → LegalPending (withPending c flag name pb2 pb3) → ClusterKept c (withPending c flag name pb2 pb3)
 unfolding withPending
 kept-pending c flag name pb2 pb3 p =
-    record { shape = shape-refl (c .slaves); names = refl; legal = λ l. legal-withPending c flag name pb2 pb3 p l }
+    record { edition = refl; shape = shape-refl (c .slaves); names = refl; legal = λ l. legal-withPending c flag name pb2 pb3 p l }
 
 pub kept-after : (o : Duty) {bs : List ℕ} → Bytes bs → (c : Cluster) → ClusterKept c (slavesAfter o bs c)
 unfolding slavesAfter

@@ -12,7 +12,7 @@ use lib.Dec.{eqb}
 use borrow.Author.Tests.{eq-eqb, ne-eqb, eqb-true, eqb-false}
 use Rattle.file.specs.Rules.Layout.{recordSize}
 use Rattle.file.specs.Rules.Cluster.{Slave, Cluster, bytesIn, lastRecord}
-use Rattle.file.specs.Inner.Places.{mostSlaves, slaveOf, filePlace}
+use Rattle.file.specs.Inner.Places.{slavesRoom, slaveOf, filePlace}
 use Rattle.file.specs.Inner.Accepted.{Becomes}
 use Rattle.file.proofs.Order.{byCase}
 use Rattle.file.proofs.ReaderLaws.{byte-there, place-within}
@@ -225,8 +225,8 @@ module _ {passed : Entry → Bool} {f : List ℕ} {c : Cluster} {round slot s st
 
 -- the same of every slave
 pub record OpenAll (passed : Entry → Bool) (c : Cluster) (round slot : ℕ) (starts ends : List ℕ) : Type 0 where
-  pub startsRoom : length starts ≡ mostSlaves
-  pub endsRoom : length ends ≡ mostSlaves
+  pub startsRoom : length starts ≡ slavesRoom
+  pub endsRoom : length ends ≡ slavesRoom
   pub file : (s : ℕ) → s < length (c .slaves) → OpenAt passed c round slot s (getD starts s 0) (getD ends s 0)
 
 pub open-start : {passed : Entry → Bool} {c : Cluster} {round : ℕ} (slot : ℕ) {starts ends : List ℕ} → RoundFilesAre c round starts ends → OpenAll passed c round slot starts ends
@@ -246,7 +246,7 @@ open-start {c} {round} slot are =
 
 module _ {passed : Entry → Bool} {c : Cluster} {round slot : ℕ} {starts ends : List ℕ} (o : OpenAll passed c round slot starts ends) where
   -- one slave's entries are looked at
-  pub open-set : (n : ℕ) {at : ℕ} → n < mostSlaves → OpenAt passed c round slot n at (getD ends n 0) → OpenAll passed c round slot (set starts n at) ends
+  pub open-set : (n : ℕ) {at : ℕ} → n < slavesRoom → OpenAt passed c round slot n at (getD ends n 0) → OpenAll passed c round slot (set starts n at) ends
   open-set n {at} few now =
       record {
         startsRoom = length-set starts n at ∙ o .startsRoom;

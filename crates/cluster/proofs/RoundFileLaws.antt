@@ -13,7 +13,7 @@ use Rattle.file.specs.Rules.Bytes.{All, allEmpty, allNext}
 use Rattle.file.specs.Rules.Layout.{recordSize}
 use Rattle.file.specs.Rules.Cluster.{File, Cluster, bytesAmong, bytesIn, lastRecord, logicalName, unnamed}
 use Rattle.file.specs.Rules.Legal.{LegalFile}
-use Rattle.file.specs.Inner.Places.{mostSlaves, slaveOf}
+use Rattle.file.specs.Inner.Places.{slavesRoom, slaveOf}
 use Rattle.file.specs.Rules.Decode.{decode}
 use Rattle.file.specs.Inner.Accepted.{Becomes, AcceptedFile, slaveCount, findFile}
 use Rattle.file.specs.Inner.Answers.{foundFile}
@@ -106,18 +106,18 @@ module _ (c : Cluster) (round s : ℕ) where
 pub record Finding (f : List ℕ) (round : ℕ) (starts ends : List ℕ) (n : ℕ) : Type 0 where
   pub becomes : AcceptedFile f
   pub most : n ≤ slaveCount f
-  pub startsRoom : length starts ≡ mostSlaves
-  pub endsRoom : length ends ≡ mostSlaves
+  pub startsRoom : length starts ≡ slavesRoom
+  pub endsRoom : length ends ≡ slavesRoom
   pub file : (s : ℕ) → s < n → RoundFileIs (decode f) round s (getD starts s 0) (getD ends s 0)
 
-pub finding-start : {f : List ℕ} (round : ℕ) {starts ends : List ℕ} → AcceptedFile f → length starts ≡ mostSlaves → length ends ≡ mostSlaves → Finding f round starts ends 0
+pub finding-start : {f : List ℕ} (round : ℕ) {starts ends : List ℕ} → AcceptedFile f → length starts ≡ slavesRoom → length ends ≡ slavesRoom → Finding f round starts ends 0
 finding-start round h p e =
     record { becomes = h; most = omega arith; startsRoom = p; endsRoom = e; file = λ s l. absurd (omega arith) }
 
 module _ {f : List ℕ} {round : ℕ} {starts ends : List ℕ} {n : ℕ} (h : Finding f round starts ends n) {count : ℕ} (all : count ≡ slaveCount f) where
   pub finding-next : {start end : ℕ} → n < count → RoundFileIs (decode f) round n start end → Finding f round (set starts n start) (set ends n end) (n + 1)
   finding-next {start} {end} more is =
-      let few : n < mostSlaves = omega (arith, h .becomes .legal .count) in
+      let few : n < slavesRoom = omega (arith, h .becomes .legal .count) in
       record {
         becomes = h .becomes;
         most = omega arith;

@@ -3,7 +3,7 @@
 -- Assumes nothing.
 use Prim.Native.Nat.{ℕ, _≤_, _<_}
 use native.Mathlib.Omega.{arith}
-use mathlib.Core.Path.{_≡_, refl, sym, ap, _∙_}
+use mathlib.Core.Path.{_≡_, refl, sym, _∙_}
 use mathlib.Core.Logic.{_≢_}
 use mathlib.Core.List.{List, _∷_, _++_}
 use mathlib.Core.Bool.{false}
@@ -23,8 +23,7 @@ use Rattle.file.specs.Inner.Accepted.{Becomes}
 use Rattle.file.proofs.Order.{byCase, clash, first-none, first-next, both-true, joined-next, joined-here, joined-left, joined-right}
 use Rattle.file.proofs.Results.{file-first, file-numbered}
 use Rattle.file.proofs.Bytes.{byte-at}
-use Rattle.file.proofs.Sizes.{encodeAt-length}
-use Rattle.file.proofs.Shape.{shape-fileLength}
+use Rattle.file.proofs.AtWidth.{length-kept}
 use Rattle.file.proofs.Accepted.{encode-bytes, legal-becomes, accepted-becomes}
 use Rattle.file.proofs.Edition.{unknown-edition, refused-edition}
 use Rattle.frame.specs.Rules.Fireworks.{Round, multipartner, msd, msa, noRound}
@@ -197,15 +196,12 @@ pub round-kept : (file frame buffer : List ℕ) → Bytes frame → roundGround 
 round-kept file frame buffer rb e = frame-kept (decode file) frame rb (round-facts file frame buffer e .fits)
 
 -- an accepted round leaves a file of the same length
-encode-length : (c d : Cluster) → ClusterKept c d → length (encode d) ≡ length (encode c)
-unfolding encode
-encode-length c d kept = encodeAt-length (omega arith) d ∙ sym (shape-fileLength _ (kept .shape)) ∙ sym (encodeAt-length (omega arith) c)
-
 pub round-length : (file frame buffer : List ℕ) → Bytes file → Bytes frame → roundGround file frame buffer ≡ 0 → length (roundOn file frame buffer .2) ≡ length file
 round-length file frame buffer fb rb e =
     let old : Becomes file (decode file) = accepted-becomes file fb (round-facts file frame buffer e .accepted) in
     let new : Becomes (roundOn file frame buffer .2) (frameOn (decode file) frame .after) = round-becomes file frame buffer fb rb e in
-    ap (λ (l : List ℕ). length l) (new .encoded) ∙ encode-length (decode file) (frameOn (decode file) frame .after) (round-kept file frame buffer rb e) ∙ sym (ap (λ (l : List ℕ). length l) (old .encoded))
+    let kept = round-kept file frame buffer rb e in
+    length-kept old new (kept .edition) (kept .shape)
 
 pub round-keeps-file : RoundKeepsFile
 round-keeps-file file frame buffer fb rb accepted =

@@ -17,7 +17,6 @@ use Rattle.file.specs.Rules.Order.{both}
 use Rattle.file.specs.Rules.Layout.{recordSize}
 use Rattle.file.specs.Inner.Layout.{logicalNamePlace}
 use Rattle.file.specs.Rules.Cluster.{Slave, Cluster, hasRecord, recordOf, logicalName, physicalName, comparisonValue, newLogicalName, configuration, documentation, unnamed, broadcast}
-use Rattle.file.specs.Rules.Encode.{encode}
 use Rattle.file.specs.Inner.Places.{noSlave, slaveOf, filePlace, putByte, putBytes}
 use Rattle.file.specs.Rules.Changes.{putInSlave, withSlaves}
 use Rattle.file.specs.Inner.Accepted.{Becomes, FoundRecord, recordAt, findRecord}
@@ -25,9 +24,8 @@ use Rattle.file.specs.Inner.Answers.{foundRecord}
 use Rattle.file.specs.declared.readers.RecordPlace.{RecordPlace}
 use Rattle.file.specs.declared.readers.RecordPlace.the-variants.{At, NoRecord}
 use Rattle.file.proofs.Order.{byCase, clash, both-true, both-left, both-next, both-false-left, both-false-right}
-use Rattle.file.proofs.Stores.{read-record}
 use Rattle.file.proofs.Puts.{putByte-slave-same, putByte-count, sets-again, hasRecord-fits}
-use Rattle.file.proofs.ReaderLaws.{place-within}
+use Rattle.file.proofs.ReaderLaws.{place-within, part-there}
 use Rattle.file.proofs.StoreLaws.{becomes-record}
 use Rattle.cluster.specs.Rules.Slaves.{addresses, addressed, isUnnamed, reading, writing, comparing, baptizing, answersRead, readReply, answersCompare, replyTo, mayWrite, isNameRecord, written, takesWrite, takesName, named, replaced, slaveAfter}
 use Rattle.cluster.proofs.Kept.{written-bytes}
@@ -163,14 +161,14 @@ module _ {f : List ℕ} {c : Cluster} (h : Becomes f c) (s name n r : ℕ) {own 
       (answersRead-as name n r (slaveOf c s) named′ ∙ both-false-right (both (addresses name own) (not (eqb own unnamed))) (missing-facts c s n r e is)))
 
   pub read-found : not t ≡ false → {x : RecordPlace} {place : ℕ} {new : List ℕ} → foundRecord x ≡ findRecord c s n r → x ≡ At place → new ≡ said b 1 (readReply (part f place 4)) → Replied (replyTo (reading name n r) (slaveOf c s)) b new last 5
-  unfolding encode filePlace
+  unfolding recordOf
   read-found yes′ {x} {place} e is stored =
       let found : Found c s n r place = found-facts c s n r e is in
       let answers : answersRead name n r (slaveOf c s) ≡ true =
       answersRead-as name n r (slaveOf c s) named′ ∙ both-true (sym test ∙ not-false t yes′) (found .has)
       in
       let bytes : part f place 4 ≡ recordOf (slaveOf c s) n r =
-      ap (λ (l : List ℕ). part l place 4) (h .encoded) ∙ ap (λ (p : ℕ). part (encode c) p 4) (found .at) ∙ read-record (omega arith) s n c r (found .has)
+      ap (λ (p : ℕ). part f p 4) (found .at) ∙ part-there h s n (recordSize * r) recordSize (hasRecord-fits (slaveOf c s) n r (found .has))
       in
       let reply : replyTo (reading name n r) (slaveOf c s) ≡ readReply (recordOf (slaveOf c s) n r) = reply-read name n r (slaveOf c s) answers in
       reply-full last (stored ∙ ap (λ (l : List ℕ). said b 1 (readReply l)) bytes ∙ ap (λ (l : List ℕ). said b 1 l) (sym reply)) (ap length reply ∙ readReply-length (recordOf (slaveOf c s) n r) (recordOf-length (slaveOf c s) n r (found .has)))

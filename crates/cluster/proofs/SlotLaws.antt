@@ -11,9 +11,10 @@ use Rattle.file.specs.Rules.Order.{either}
 use Rattle.file.specs.Rules.Layout.{recordSize}
 use Rattle.file.specs.Rules.Cluster.{Cluster, bytesIn, logicalName, configuration}
 use Rattle.file.specs.Rules.Decode.{decode}
-use Rattle.file.specs.Inner.Places.{mostSlaves, slaveOf, filePlace, SameShape}
+use Rattle.file.specs.Inner.Places.{slavesRoom, slaveOf, filePlace, SameShape}
 use Rattle.file.specs.Inner.Accepted.{Becomes}
-use Rattle.file.proofs.Shape.{shape-count, shape-filePlaceAt}
+use Rattle.file.proofs.Shape.{shape-count}
+use Rattle.file.proofs.AtWidth.{shape-filePlace}
 use Rattle.file.proofs.ReaderLaws.{becomes-decoded}
 use Rattle.cluster.specs.Rules.Bus.{Senders, joined, busByte, anyone, maskBelow, slots, senderMask}
 use Rattle.cluster.specs.Rules.Slaves.{isUnnamed, epochRaised}
@@ -41,15 +42,14 @@ record PartKept (c d : Cluster) (round s : ℕ) : Type 0 where
   files : bytesIn (slaveOf d s) round ≡ bytesIn (slaveOf c s) round
   names : bytesIn (slaveOf d s) configuration ≡ bytesIn (slaveOf c s) configuration
 
-module _ (c d : Cluster) (same : SameShape (c .slaves) (d .slaves)) (round : ℕ) where
+module _ (c d : Cluster) (edition : d .edition ≡ c .edition) (same : SameShape (c .slaves) (d .slaves)) (round : ℕ) where
   module _ (s : ℕ) (kept : PartKept c d round s) where
     entries-kept : entriesIn round (slaveOf d s) ≡ entriesIn round (slaveOf c s)
     unfolding entriesIn isUnnamed logicalName
     entries-kept = rw (kept .files, kept .names)
 
     place-kept : filePlace d s round ≡ filePlace c s round
-    unfolding filePlace
-    place-kept = sym (shape-filePlaceAt c d same _ s round)
+    place-kept = sym (shape-filePlace c d (sym edition) same s round)
 
     rest-kept : {k left at end : ℕ} → Rest c round s k left at end → Rest d round s k left at end
     rest-kept q =
@@ -99,7 +99,7 @@ module _ {passed : Entry → Bool} {f : List ℕ} {round count slot : ℕ} {star
       let shape : SameShape (c .slaves) (d .slaves) = kept-received passed round slot c sent .shape in
       let files = filesOf-slave round c d (received-other passed round slot c sent round (λ l. absurd (above (r .low) l))) in
       let names = filesOf-slave configuration c d (received-other passed round slot c sent configuration (λ l. omega (arith, l))) in
-      let are : OpenAll passed d round (slot + 1) starts ends = files-kept c d shape round (λ s. record { files = files s; names = names s }) (open-later (r .files)) in
+      let are : OpenAll passed d round (slot + 1) starts ends = files-kept c d (kept-received passed round slot c sent .edition) shape round (λ s. record { files = files s; names = names s }) (open-later (r .files)) in
       record {
         becomes = becomes-decoded h;
         low = r .low;
@@ -117,7 +117,7 @@ pub record SlotHeard (passed : Entry → Bool) (f : List ℕ) (round count slot 
   pub ready : Ready passed f round count slot starts ends
   pub hearing : SlotHearing passed (decode f) round slot n bus heard stores
 
-pub heard-none : {passed : Entry → Bool} {f : List ℕ} {round count slot : ℕ} {starts ends stores : List ℕ} → Ready passed f round count slot starts ends → length stores ≡ mostSlaves → SlotHeard passed f round count slot 0 255 false starts ends stores
+pub heard-none : {passed : Entry → Bool} {f : List ℕ} {round count slot : ℕ} {starts ends stores : List ℕ} → Ready passed f round count slot starts ends → length stores ≡ slavesRoom → SlotHeard passed f round count slot 0 255 false starts ends stores
 heard-none {passed} {f} {round} {slot = slot} r room = record { ready = r; hearing = slot-hearing-start passed (decode f) round slot room }
 
 module _ {passed : Entry → Bool} {f : List ℕ} {round count slot n bus : ℕ} {heard : Bool} {starts ends stores : List ℕ} (h : SlotHeard passed f round count slot n bus heard starts ends stores) where
@@ -161,7 +161,7 @@ pub record Running (passed : Entry → Bool) (f₀ : List ℕ) (round firework c
   pub after : Becomes file (clusterBelow passed round (decode f₀) slot)
   pub ready : Ready passed file round count slot starts ends
   pub size : length file ≡ length f₀
-  pub room : length stores ≡ mostSlaves
+  pub room : length stores ≡ slavesRoom
 
 start-mask : (r : Senders) → anyone (r 0) ≡ 0 → 0 ≡ maskBelow r 1
 unfolding maskBelow
@@ -172,7 +172,7 @@ unfolding clusterBelow receivedIn sentIn
 start-after passed round c h = h
 
 pub running-start : {passed : Entry → Bool} {f : List ℕ} {round count : ℕ} {starts ends stores : List ℕ} (firework : ℕ) (old : List ℕ) → Becomes f (decode f) → round < 0x10 → count ≡ length (decode f .slaves)
-    → RoundFilesAre (decode f) round starts ends → slots ≤ length old → length stores ≡ mostSlaves → Running passed f round firework count starts ends stores (set old 0 firework) 1 0 (set old 0 firework) f
+    → RoundFilesAre (decode f) round starts ends → slots ≤ length old → length stores ≡ slavesRoom → Running passed f round firework count starts ends stores (set old 0 firework) 1 0 (set old 0 firework) f
 unfolding sentDuring sentIn anyone
 running-start {passed} {f} {round} firework old h low all files long room =
     record {

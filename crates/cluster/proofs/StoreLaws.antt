@@ -14,16 +14,12 @@ use Rattle.file.specs.Rules.Bytes.{Byte}
 use Rattle.file.specs.Rules.Order as Order
 use Rattle.file.specs.Rules.Layout.{recordSize}
 use Rattle.file.specs.Rules.Cluster.{Slave, Cluster, bytesIn, documentation}
-use Rattle.file.specs.Rules.Encode.{encode}
-use Rattle.file.specs.Rules.Legal.{Legal}
 use Rattle.file.specs.Inner.Places.{noSlave, slaveOf, filePlace, putByte, SameShape}
 use Rattle.file.specs.Rules.Changes.{putInSlave, withSlaves}
 use Rattle.file.specs.Inner.Accepted.{Becomes}
 use Rattle.file.proofs.Order.{byCase, both-left, both-right}
-use Rattle.file.proofs.Shape.{shape-filePlaceAt}
-use Rattle.file.proofs.Stores.{store-byte}
-use Rattle.file.proofs.Kept.{legal-putByte}
-use Rattle.file.proofs.Accepted.{legal-becomes}
+use Rattle.file.proofs.AtWidth.{shape-filePlace}
+use Rattle.file.proofs.StoreLaws.{becomes-byte}
 use Rattle.cluster.specs.Rules.Slaves.{isUnnamed}
 use Rattle.cluster.specs.Rules.Entries.{Entry, Acting, acts, acting, bytePlace, receives}
 use Rattle.cluster.specs.Rules.Multipartner.{SlaveByte, nowhere, byteOf, within, mayStore, storePlace, storesAt, storedThere}
@@ -118,9 +114,12 @@ module _ (passed : Entry → Bool) (c : Cluster) (round slot b : ℕ) (byte : By
   unfolding receivedBy withSlaves
   received-shape n = changed-shape (receiver passed c round slot b) receiver-kept n (c .slaves)
 
+  received-edition : (n : ℕ) → c .edition ≡ receivedBy passed c round slot b n .edition
+  unfolding receivedBy withSlaves
+  received-edition n = refl
+
   received-place : (n s m : ℕ) → filePlace (receivedBy passed c round slot b n) s m ≡ filePlace c s m
-  unfolding filePlace
-  received-place n s m = sym (shape-filePlaceAt c (receivedBy passed c round slot b n) (received-shape n) _ s m)
+  received-place n s m = sym (shape-filePlace c (receivedBy passed c round slot b n) (received-edition n) (received-shape n) s m)
 
   received-slave : (n : ℕ) → slaveOf (receivedBy passed c round slot b n) n ≡ slaveOf c n
   unfolding slaveOf receivedBy withSlaves
@@ -149,17 +148,12 @@ module _ (passed : Entry → Bool) (c : Cluster) (round slot b : ℕ) (byte : By
   module _ (stores : List ℕ) (aimed : (s : ℕ) → s < length (c .slaves) → getD stores s 0 ≡ placeIn c s (storesAt passed round slot (slaveOf c s))) where
     store-there : {f : List ℕ} {m k : ℕ} (n : ℕ) → n < length (c .slaves) → Becomes f (receivedBy passed c round slot b n) → storesAt passed round slot (slaveOf c n) ≡ byteOf m k → m ≢ documentation
         → k < length (bytesIn (slaveOf c n) m) → Becomes (set f (filePlace c n m + k) b) (receivedBy passed c round slot b (suc n))
-    unfolding encode filePlace
     store-there {f} {m} {k} n l h at other inside =
         let d : Cluster = receivedBy passed c round slot b n in
         let fits : k < length (bytesIn (slaveOf d n) m) = rw (received-slave n) inside in
         let there : filePlace d n m ≡ filePlace c n m = received-place n n m in
         let put : putByte d n m k b ≡ receivedBy passed c round slot b (suc n) = put-next n m k l at in
-        let legal : Legal (receivedBy passed c round slot b (suc n)) = rw put at (legal-putByte d n m k b other byte (h .legal)) in
-        let stored : set f (filePlace c n m + k) b ≡ encode (receivedBy passed c round slot b (suc n)) =
-        rw (h .encoded, ← there, ← put) (store-byte {w = 2} (omega arith) n m d k b fits)
-        in
-        rw stored (legal-becomes (receivedBy passed c round slot b (suc n)) legal)
+        rw (← there, ← put) (becomes-byte h n m k b other byte fits)
 
     store-next : {f : List ℕ} (p : SlaveByte) (n : ℕ) → n < length (c .slaves) → Lands (slaveOf c n) p → storesAt passed round slot (slaveOf c n) ≡ p → Becomes f (receivedBy passed c round slot b n)
         → Becomes (cond (eqb (placeIn c n p) 0) f (set f (placeIn c n p) b)) (receivedBy passed c round slot b (suc n))

@@ -36,7 +36,7 @@ use file::readers::read_epoch;
 use file::readers::slave_count;
 use file::types::FileNumber;
 use file::types::LogicalName;
-use file::types::MOST_SLAVES;
+use file::types::SLAVES_ROOM;
 use file::types::SlavePlaces;
 
 // Where the entries that a slave runs begin, and where they end.
@@ -49,8 +49,8 @@ const NO_ROUND_FILE: RoundFile = RoundFile { start: 0, end: 0 };
 
 // The same of every slave.
 pub struct RoundFiles {
-    pub starts: [usize; MOST_SLAVES],
-    pub ends: [usize; MOST_SLAVES],
+    pub starts: [usize; SLAVES_ROOM],
+    pub ends: [usize; SLAVES_ROOM],
 }
 
 pub fn round_file(file: &[u8], places: &SlavePlaces, slave: usize, round: FileNumber) -> RoundFile
@@ -75,8 +75,8 @@ fn round_files(file: &[u8], places: &SlavePlaces, round: FileNumber) -> RoundFil
     requires { ⌜ Placed (now file) (now places) ⌝ }
     ensures { λ r. ⌜ RoundFilesAre (decode (now (file .entry))) (fileIn round) (r .starts) (r .ends) ⌝ }
 {
-    let mut starts = [0usize; MOST_SLAVES];
-    let mut ends = [0usize; MOST_SLAVES];
+    let mut starts = [0usize; SLAVES_ROOM];
+    let mut ends = [0usize; SLAVES_ROOM];
     let count = slave_count(file);
     let mut slave = 0;
     while slave < count {
@@ -222,7 +222,7 @@ fn store_place(act: SlotAct) -> usize
 }
 
 // The slot's byte stored by every slave that receives it.
-fn store(file: &mut [u8], stores: &[usize; MOST_SLAVES], count: usize, byte: u8)
+fn store(file: &mut [u8], stores: &[usize; SLAVES_ROOM], count: usize, byte: u8)
     requires { ⌜ StoresWithin (now file) (now stores) count ⌝ }
     ensures { λ _. ⌜ now (file .exit) ≡ storedBelow (now (file .entry)) (now (stores .entry)) byte count ⌝ }
 {
@@ -254,7 +254,7 @@ fn run_slots(
     let files = round_files(file, places, FileNumber(round));
     let mut starts = files.starts;
     let ends = files.ends;
-    let mut stores = [NO_PLACE; MOST_SLAVES];
+    let mut stores = [NO_PLACE; SLAVES_ROOM];
     let mut mask = NOBODY;
     buffer[FIREWORK_SLOT] = firework;
     let mut slot = FIRST_SLOT;

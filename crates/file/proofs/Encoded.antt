@@ -11,7 +11,7 @@ use lib.ListN.{length, getD}
 use lib.Dec.{leb}
 use borrow.Author.Tests.{leb-true, le-leb}
 use Rattle.file.specs.Rules.Bytes.{All, Bytes}
-use Rattle.file.specs.Rules.Layout.{zerosLength, headerSize, entrySize, maxSlaves, maxLength}
+use Rattle.file.specs.Rules.Layout.{editionOf, zerosLength, headerSize, entrySize, maxSlaves, maxLength}
 use Rattle.file.specs.Inner.Layout.{epochPlace, flagPlace, pendingNamePlace, pendingPB2Place, pendingPB3Place}
 use Rattle.file.specs.Rules.Cluster.{Slave, Cluster}
 use Rattle.file.specs.Rules.Encode.{slavesBytes, table, slavesPlace, fileLength, header, encodeAt}
@@ -127,6 +127,7 @@ module _ {w : ℕ} (wide : Width w) where
         pending-fits _ _ _ .0 (a .header .pending)
         in
         record {
+          edition = refl;
           count = subst (λ (n : ℕ). n ≤ maxSlaves w) (e .header .count) (a .header .count);
           pending =
               record {
@@ -145,14 +146,14 @@ module _ {w : ℕ} (wide : Width w) where
 
     -- ---- encoded clusters
 
-    pub encoded-decode : {c : Cluster} → length f < 256 ^ w → Encoded w f c → decodeAt w f ≡ c
+    pub encoded-decode : {c : Cluster} → c .edition ≡ editionOf w → length f < 256 ^ w → Encoded w f c → decodeAt w f ≡ c
     unfolding decodeAt
-    encoded-decode {c} short e =
+    encoded-decode {c} edition short e =
         let h : HeaderBytes w f c = e .header in
         let read : slavesAt w f (headerSize w) (getD f 3 0) ≡ c .slaves =
         ap (λ (n : ℕ). slavesAt w f (headerSize w) n) (h .count) ∙ slaves-read (wide .two) short (c .slaves) (e .slaves)
         in
-        rw (h .epoch, h .flag, h .name, h .pb2, h .pb3, read)
+        rw (h .epoch, h .flag, h .name, h .pb2, h .pb3, read, edition)
 
     pub encoded-accepted : {c : Cluster} → LegalAt w c → Encoded w f c → Accepted w f
     unfolding walkFile tableEnd slavesPlace fileLength offsetAt
@@ -161,7 +162,7 @@ module _ {w : ℕ} (wide : Width w) where
         let most : length f ≤ maxLength w = subst (λ (n : ℕ). n ≤ maxLength w) (e .whole) (l .size) in
         let short : length f < 256 ^ w = place-fits wide most in
         let long : headerSize w + entrySize w * length (c .slaves) ≤ length f = omega (arith, e .whole) in
-        let slaves : decodeAt w f .slaves ≡ c .slaves = ap (λ (d : Cluster). d .slaves) (encoded-decode short e) in
+        let slaves : decodeAt w f .slaves ≡ c .slaves = ap (λ (d : Cluster). d .slaves) (encoded-decode (l .edition) short e) in
         record {
           size = record { low = omega arith; high = most };
           mark = record { first = h .first; second = h .second };

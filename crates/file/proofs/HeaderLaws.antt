@@ -1,62 +1,68 @@
 -- One law for each way through the checks of the header: what the tests on the way say, and the ground that follows.
 -- Assumes nothing.
-use Prim.Native.Nat.{ℕ, suc, _+_, _≤_, _<_}
+use Prim.Native.Nat.{ℕ, suc, _+_, _*_, _-_, _/_, _≤_, _<_}
 use mathlib.Core.Path.{_≡_, refl, sym, _∙_}
 use mathlib.Core.List.{List, [], _∷_}
 use mathlib.Core.Bool.{Bool, true, false, not}
 use native.Mathlib.Omega.{arith}
-use borrow.Author.Tests.{lt-ltb, le-ltb, eq-eqb, ne-eqb}
+use borrow.Author.Tests.{lt-ltb, le-ltb, eq-eqb, ne-eqb, eqb-true, eqb-false}
 use lib.ListN.{length, getD}
 use lib.Dec.{eqb}
 use Rattle.file.specs.Rules.Order.{firstOf, either}
 use Rattle.file.specs.Rules.Layout.{pendingFlag}
+use Rattle.file.specs.Inner.Layout.{OffsetWidth}
 use Rattle.file.specs.Rules.Cluster.{operationOf, noOperation, broadcastRead}
 use Rattle.file.specs.Rules.Bytes.{part, allZero}
 use Rattle.file.specs.Inner.Numbers.{ByteAt, NumberAt}
 use Rattle.file.specs.Rules.Decode.{offsetAt}
-use Rattle.file.specs.Rules.Grounds.{wrongSize, wrongMark, wrongEdition, wrongLength, wrongHeader, wrongPending, brokenLayout, lacksNeeded, equalPhysicalNames, fileGroundsAt, fileGroundAt, fileGround}
+use Rattle.file.specs.Rules.Grounds.{wrongSize, wrongMark, wrongEdition, wrongLength, wrongHeader, wrongPending, brokenLayout, lacksNeeded, equalPhysicalNames, fileGroundsAt, fileGroundAt}
 use Rattle.file.specs.Inner.Checked.{HeaderFits, GoodHeader, HeaderChecked}
-use Rattle.file.proofs.Order.{both-false-left, both-next, either-left, either-next, either-false}
-use Rattle.file.proofs.Facts.{true-unless, size-facts, header-facts, zeros-at, zeros-more, zeros-none}
+use Rattle.file.proofs.Order.{byCase, clash, both-false-left, both-next, either-left, either-next, either-false}
+use Rattle.file.proofs.Facts.{true-unless, false-unless, size-facts, header-facts, zeros-at, zeros-rest, zeros-more, zeros-none}
+use Rattle.file.proofs.NumberLaws.{zero-number, number-zero}
+use Rattle.file.proofs.Width.{Which, narrow, wide, which}
 
 -- ---- the header's ground
 
-refuse : {f : List ℕ} {n : ℕ} → suc n ≡ fileGround f → HeaderChecked f (suc n)
+refuse : {w : ℕ} {f : List ℕ} {n : ℕ} → suc n ≡ fileGroundAt w f → HeaderChecked w f (suc n)
 refuse e = record { refused = λ _. e; passed = λ z. absurd (no z) }
   where
     no : {n : ℕ} → suc n ≡ 0 → ⊥
     no z = omega arith
 
 -- a file is long enough for its header once ground 1 does not hold
-pub long-enough : (f : List ℕ) {t : Bool} → t ≡ wrongSize 2 f → t ≡ false → HeaderFits f
-long-enough f p e = record { room = size-facts 2 f (sym p ∙ e) .low }
+pub long-enough : {w : ℕ} (f : List ℕ) {t : Bool} → OffsetWidth w → t ≡ wrongSize w f → t ≡ false → HeaderFits w f
+long-enough {w} f width p e = record { width = width; room = size-facts w f (sym p ∙ e) .low }
 
-module _ {f : List ℕ} {a : Bool} (is₁ : a ≡ wrongSize 2 f) where
-  pub ground-1 : a ≡ true → HeaderChecked f 1
-  unfolding fileGround fileGroundAt fileGroundsAt firstOf
+pub long-mark : (w : ℕ) (f : List ℕ) {t : Bool} → t ≡ wrongSize w f → t ≡ false → 2 ≤ length f
+long-mark w f p e = omega (arith, size-facts w f (sym p ∙ e) .low)
+
+module _ {w : ℕ} {f : List ℕ} {a : Bool} (is₁ : a ≡ wrongSize w f) where
+  pub ground-1 : a ≡ true → HeaderChecked w f 1
+  unfolding fileGroundAt fileGroundsAt firstOf
   ground-1 e = refuse (rw (← is₁, e))
 
   module _ (no₁ : a ≡ false) {b : Bool} (is₂ : b ≡ wrongMark f) where
-    pub ground-2 : b ≡ true → HeaderChecked f 2
-    unfolding fileGround fileGroundAt fileGroundsAt firstOf
+    pub ground-2 : b ≡ true → HeaderChecked w f 2
+    unfolding fileGroundAt fileGroundsAt firstOf
     ground-2 e = refuse (rw (← is₁, no₁, ← is₂, e))
 
-    module _ (no₂ : b ≡ false) {c : Bool} (is₃ : c ≡ wrongEdition 2 f) where
-      pub ground-3 : c ≡ true → HeaderChecked f 3
-      unfolding fileGround fileGroundAt fileGroundsAt firstOf
+    module _ (no₂ : b ≡ false) {c : Bool} (is₃ : c ≡ wrongEdition w f) where
+      pub ground-3 : c ≡ true → HeaderChecked w f 3
+      unfolding fileGroundAt fileGroundsAt firstOf
       ground-3 e = refuse (rw (← is₁, no₁, ← is₂, no₂, ← is₃, e))
 
-      module _ (no₃ : c ≡ false) {d : Bool} (is₄ : d ≡ wrongLength 2 f) where
-        pub ground-4 : d ≡ true → HeaderChecked f 4
-        unfolding fileGround fileGroundAt fileGroundsAt firstOf
+      module _ (no₃ : c ≡ false) {d : Bool} (is₄ : d ≡ wrongLength w f) where
+        pub ground-4 : d ≡ true → HeaderChecked w f 4
+        unfolding fileGroundAt fileGroundsAt firstOf
         ground-4 e = refuse (rw (← is₁, no₁, ← is₂, no₂, ← is₃, no₃, ← is₄, e))
 
-        module _ (no₄ : d ≡ false) {x : Bool} (is₅ : x ≡ wrongHeader 2 f) where
-          pub ground-5 : x ≡ true → HeaderChecked f 5
-          unfolding fileGround fileGroundAt fileGroundsAt firstOf
+        module _ (no₄ : d ≡ false) {x : Bool} (is₅ : x ≡ wrongHeader w f) where
+          pub ground-5 : x ≡ true → HeaderChecked w f 5
+          unfolding fileGroundAt fileGroundsAt firstOf
           ground-5 e = refuse (rw (← is₁, no₁, ← is₂, no₂, ← is₃, no₃, ← is₄, no₄, ← is₅, e))
 
-          pub header-passed : x ≡ false → HeaderChecked f 0
+          pub header-passed : x ≡ false → HeaderChecked w f 0
           header-passed no₅ =
               record {
                 refused = λ no. absurd (no refl);
@@ -70,10 +76,10 @@ module _ {f : List ℕ} {a : Bool} (is₁ : a ≡ wrongSize 2 f) where
               }
 
 -- after a good header the other three grounds decide
-pub after-header : (f : List ℕ) → GoodHeader 2 f → fileGround f ≡
-    firstOf ((6, brokenLayout 2 f) ∷ (7, lacksNeeded 2 f) ∷ (8, equalPhysicalNames 2 f) ∷ [])
-unfolding fileGround fileGroundAt fileGroundsAt firstOf
-after-header f h = rw (h .size, h .mark, h .edition, h .lengthField, h .rest)
+pub after-header : (w : ℕ) (f : List ℕ) → GoodHeader w f → fileGroundAt w f ≡
+    firstOf ((6, brokenLayout w f) ∷ (7, lacksNeeded w f) ∷ (8, equalPhysicalNames w f) ∷ [])
+unfolding fileGroundAt fileGroundsAt firstOf
+after-header w f h = rw (h .size, h .mark, h .edition, h .lengthField, h .rest)
 
 -- ---- the tests
 
@@ -85,36 +91,79 @@ pub mark-second : {f : List ℕ} {a b : ℕ} → ByteAt f 0 a → a ≡ 0x54 →
 unfolding wrongMark
 mark-second {f} {a} {b} p e q = rw (both-next (eqb (getD f 1 0) 0x41) (eq-eqb (getD f 0 0) 0x54 (sym (p .is) ∙ e)), ← (q .is))
 
-pub edition-test : {f : List ℕ} {b : ℕ} → ByteAt f 2 b → not (eqb b 1) ≡ wrongEdition 2 f
+pub edition-test : (w : ℕ) {f : List ℕ} {b : ℕ} → ByteAt f 2 b → not (eqb b (w / 2)) ≡ wrongEdition w f
 unfolding wrongEdition
-edition-test k = rw (k .is)
+edition-test w k = rw (k .is)
 
-pub length-test : {f : List ℕ} {n : ℕ} → NumberAt f 6 2 n → not (eqb n (length f)) ≡ wrongLength 2 f
+pub length-test : {w : ℕ} {f : List ℕ} {n : ℕ} → NumberAt f (4 + w) w n → not (eqb n (length f)) ≡ wrongLength w f
 unfolding wrongLength offsetAt
 length-test k = rw (k .is)
 
-pub header-count : {f : List ℕ} {b : ℕ} → ByteAt f 3 b → 32 < b → true ≡ wrongHeader 2 f
-header-count {f} {b} k h = sym (true-unless (λ e. let facts = header-facts 2 f e in omega (arith, facts .count, k .is)))
+pub header-count : (w : ℕ) {f : List ℕ} {b : ℕ} → ByteAt f 3 b → 16 * w < b → true ≡ wrongHeader w f
+header-count w {f} {b} k h = sym (true-unless (λ e. let facts = header-facts w f e in omega (arith, facts .count, k .is)))
 
-pub header-table : {f : List ℕ} {n : ℕ} → NumberAt f 4 2 n → (n ≡ 16 → ⊥) → true ≡ wrongHeader 2 f
+pub header-table : {w : ℕ} {f : List ℕ} {n : ℕ} → NumberAt f 4 w n → (n ≡ 8 + 4 * w → ⊥) → true ≡ wrongHeader w f
 unfolding offsetAt
-header-table {f} {n} k h = sym (true-unless (λ e. h (k .is ∙ header-facts 2 f e .table)))
+header-table {w} {f} {n} k h = sym (true-unless (λ e. h (k .is ∙ header-facts w f e .table)))
 
-pub header-zero : (k : ℕ) {f : List ℕ} {b : ℕ} → k < 3 → HeaderFits f → ByteAt f (13 + k) b → (b ≡ 0 → ⊥) → true ≡ wrongHeader 2 f
-header-zero k {f} {b} l long is h = sym (true-unless (λ e. h (is .is ∙ zeros-at f 13 3 k (long .room) l (header-facts 2 f e .zeros))))
+pub header-zero : (k : ℕ) {w : ℕ} {f : List ℕ} {b : ℕ} → k < 3 → HeaderFits w f → ByteAt f (4 + 2 * w + (5 + k)) b → (b ≡ 0 → ⊥) → true ≡ wrongHeader w f
+header-zero k {w} {f} {b} l long is h =
+    let there : 9 + 2 * w + k ≡ 4 + 2 * w + (5 + k) = omega arith in
+    let few : k < 2 * w - 1 = omega (arith, long .width .least) in
+    let room : 9 + 2 * w + (2 * w - 1) ≤ length f = omega (arith, long .room, long .width .least) in
+    sym (true-unless (λ e. h (is .is ∙ rw there at (zeros-at f (9 + 2 * w) (2 * w - 1) k room few (header-facts w f e .zeros)))))
 
-pub header-last : {f : List ℕ} {count table z₁ z₂ z₃ name : ℕ} {r : Bool} → HeaderFits f → ByteAt f 3 count → count ≤ 32 →
-    NumberAt f 4 2 table → table ≡ 16 → ByteAt f 13 z₁ → z₁ ≡ 0 → ByteAt f 14 z₂ → z₂ ≡ 0 → ByteAt f 15 z₃ → z₃ ≡ 0 →
-    name ≡ getD f 10 0 → r ≡ wrongPending (getD f 9 0) name (getD f 11 0) → r ≡ wrongHeader 2 f
+-- the zeros beyond the first three
+zeros-behind : (w : ℕ) (f : List ℕ) → 2 ≤ w → 8 + 4 * w ≤ length f → allZero (part f (9 + 2 * w) (2 * w - 1)) ≡ true → allZero (part f (4 + 2 * w + 8) (2 * w - 4)) ≡ true
+zeros-behind w f least room z =
+    let more : 2 * w - 1 ≡ suc (suc (suc (2 * w - 4))) = omega arith in
+    let three : suc (suc (suc (9 + 2 * w))) ≡ 4 + 2 * w + 8 = omega arith in
+    let z₁ = zeros-rest f (9 + 2 * w) (suc (suc (2 * w - 4))) (omega arith) (rw more at z) in
+    let z₂ = zeros-rest f (suc (9 + 2 * w)) (suc (2 * w - 4)) (omega arith) z₁ in
+    rw three at (zeros-rest f (suc (suc (9 + 2 * w))) (2 * w - 4) (omega arith) z₂)
+
+pub header-more : {w : ℕ} {f : List ℕ} {t : Bool} → HeaderFits w f → t ≡ allZero (part f (4 + 2 * w + 8) (2 * w - 4)) → t ≡ false → true ≡ wrongHeader w f
+header-more {w} {f} long is e = sym (true-unless (λ h. clash (zeros-behind w f (long .width .least) (long .room) (header-facts w f h .zeros)) (sym is ∙ e)))
+
+pub header-last : {w : ℕ} {f : List ℕ} {count table z₁ z₂ z₃ name : ℕ} {t r : Bool} → HeaderFits w f → ByteAt f 3 count → count ≤ 16 * w →
+    NumberAt f 4 w table → table ≡ 8 + 4 * w → ByteAt f (4 + 2 * w + 5) z₁ → z₁ ≡ 0 → ByteAt f (4 + 2 * w + 6) z₂ → z₂ ≡ 0 → ByteAt f (4 + 2 * w + 7) z₃ → z₃ ≡ 0 →
+    t ≡ allZero (part f (4 + 2 * w + 8) (2 * w - 4)) → t ≡ true →
+    name ≡ getD f (4 + 2 * w + 2) 0 → r ≡ wrongPending (getD f (4 + 2 * w + 1) 0) name (getD f (4 + 2 * w + 3) 0) → r ≡ wrongHeader w f
 unfolding wrongHeader offsetAt
-header-last {f} fits is₁ low is₂ sixteen is₃ e₃ is₄ e₄ is₅ e₅ named r =
+header-last {w} {f} fits is₁ low is₂ size is₃ e₃ is₄ e₄ is₅ e₅ is₆ e₆ named r =
     let long = fits .room in
-    let c = le-ltb 32 (getD f 3 0) (omega (arith, is₁ .is)) in
-    let t = eq-eqb _ _ (sym (is₂ .is) ∙ sixteen) in
-    let z : allZero (part f 13 3) ≡ true =
-    zeros-more f 13 2 (omega arith) (sym (is₃ .is) ∙ e₃)
-    (zeros-more f 14 1 (omega arith) (sym (is₄ .is) ∙ e₄) (zeros-more f 15 0 (omega arith) (sym (is₅ .is) ∙ e₅) (zeros-none f 16))) in
-    rw (either-next _ c, t, either-next _ refl, z, either-next _ refl, ← named) r
+    let least = fits .width .least in
+    let c = le-ltb (16 * w) (getD f 3 0) (omega (arith, is₁ .is)) in
+    let t = eq-eqb _ _ (sym (is₂ .is) ∙ size) in
+    let a₀ : 4 + 2 * w + 5 ≡ 9 + 2 * w = omega arith in
+    let a₁ : 4 + 2 * w + 6 ≡ suc (9 + 2 * w) = omega arith in
+    let a₂ : 4 + 2 * w + 7 ≡ suc (suc (9 + 2 * w)) = omega arith in
+    let a₃ : 4 + 2 * w + 8 ≡ suc (suc (suc (9 + 2 * w))) = omega arith in
+    let y₀ : getD f (9 + 2 * w) 0 ≡ 0 = rw a₀ at (sym (is₃ .is) ∙ e₃) in
+    let y₁ : getD f (suc (9 + 2 * w)) 0 ≡ 0 = rw a₁ at (sym (is₄ .is) ∙ e₄) in
+    let y₂ : getD f (suc (suc (9 + 2 * w))) 0 ≡ 0 = rw a₂ at (sym (is₅ .is) ∙ e₅) in
+    let y₃ : allZero (part f (suc (suc (suc (9 + 2 * w)))) (2 * w - 4)) ≡ true = rw a₃ at (sym is₆ ∙ e₆) in
+    let more : suc (suc (suc (2 * w - 4))) ≡ 2 * w - 1 = omega arith in
+    let z : allZero (part f (9 + 2 * w) (2 * w - 1)) ≡ true =
+    rw more at (zeros-more f (9 + 2 * w) (suc (suc (2 * w - 4))) (omega arith) y₀ (zeros-more f (suc (9 + 2 * w)) (suc (2 * w - 4)) (omega arith) y₁ (zeros-more f (suc (suc (9 + 2 * w))) (2 * w - 4) (omega arith) y₂ y₃))) in
+    let f₁ : 5 + 2 * w ≡ 4 + 2 * w + 1 = omega arith in
+    let f₂ : 6 + 2 * w ≡ 4 + 2 * w + 2 = omega arith in
+    let f₃ : 7 + 2 * w ≡ 4 + 2 * w + 3 = omega arith in
+    rw (either-next _ c, t, either-next _ refl, z, either-next _ refl, f₁, f₂, f₃, ← named) r
+
+-- the four zeros more
+pub more-none : {w : ℕ} (f : List ℕ) (at : ℕ) → w ≡ 2 → true ≡ allZero (part f at (2 * w - 4))
+more-none f at e = rw e (sym (zeros-none f at))
+
+more-there : {w n : ℕ} {f : List ℕ} {at : ℕ} → Which w → (w ≡ 2 → ⊥) → NumberAt f at w n → eqb n 0 ≡ allZero (part f at (2 * w - 4))
+more-there narrow other h = absurd (other refl)
+more-there {n = n} {f} {at} wide other h =
+    byCase (eqb n 0)
+    (λ t. t ∙ sym (number-zero (part f at 4) (sym (h .is) ∙ eqb-true n 0 t)))
+    (λ t. t ∙ sym (false-unless (λ z. eqb-false n 0 t (h .is ∙ zero-number (part f at 4) z))))
+
+pub more-zeros : {w n : ℕ} {f : List ℕ} {at : ℕ} → OffsetWidth w → (w ≡ 2 → ⊥) → NumberAt f at w n → eqb n 0 ≡ allZero (part f at (2 * w - 4))
+more-zeros width other h = more-there (which width) other h
 
 -- ---- the pending operation
 

@@ -4,7 +4,7 @@
 -- Assumes nothing.
 use Prim.Native.Nat.{ℕ, _≤_}
 use native.Mathlib.Omega.{arith}
-use mathlib.Core.Path.{_≡_, sym, subst}
+use mathlib.Core.Path.{_≡_, sym, _∙_, subst}
 use mathlib.Core.List.{List, map}
 use lib.ListN.{length}
 use Rattle.file.specs.Rules.Bytes.{All, Bytes}
@@ -66,6 +66,7 @@ same-slaves-legal (sameSlave {s = s} {t = t} same r) (All.allNext b bs) (All.all
 
 -- what an update of the cluster c to d has to keep
 pub record Keeps (c d : Cluster) : Type 0 where
+  pub edition : d .edition ≡ c .edition
   pub pending : LegalPending d
   pub shape : SameShape (c .slaves) (d .slaves)
   pub bytes : All HoldsBytes (d .slaves)
@@ -74,6 +75,7 @@ pub record Keeps (c d : Cluster) : Type 0 where
 pub kept-legal-at : (w : ℕ) (c d : Cluster) → LegalAt w c → Keeps c d → LegalAt w d
 kept-legal-at w c d l k =
     record {
+      edition = k .edition ∙ l .edition;
       count = subst (λ (n : ℕ). n ≤ maxSlaves w) (shape-count (k .shape)) (l .count);
       pending = k .pending;
       slaves = same-slaves-legal (k .shape) (k .bytes) (l .slaves);

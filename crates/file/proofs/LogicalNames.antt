@@ -84,6 +84,7 @@ renamed-keeps : (c : Cluster) {names : List ℕ} → Bytes names → Legal c →
 unfolding withSlaves
 renamed-keeps c {names} bs l =
     record {
+      edition = refl;
       pending = pending-kept c (renamed (c .slaves) names) (l .pending);
       shape = renamed-shape (c .slaves) names;
       bytes = all-map legal-bytes (renamed-legal (l .slaves) bs);

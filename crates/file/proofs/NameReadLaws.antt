@@ -8,10 +8,9 @@ use mathlib.Core.List.{List, [], _∷_, _++_, append-assoc}
 use mathlib.Core.Bool.{Bool}
 use lib.ListN.{length, getD, take, drop, set, length-set, length-map, List·getD-map}
 use lib.Seq.{take-suc, take-all, take-at, drop-cons, length-take-le, set-at}
-use Rattle.file.specs.Rules.Layout.{offsetWidth}
 use Rattle.file.specs.Rules.Cluster.{Cluster, logicalName, logicalNames}
 use Rattle.file.specs.Rules.Decode.{decode}
-use Rattle.file.specs.Rules.Grounds.{hasRepeat, heldNames, equalLogicalNames}
+use Rattle.file.specs.Rules.Grounds.{hasRepeat, heldNames}
 use Rattle.file.specs.Inner.Places.{noSlave, slaveOf}
 use Rattle.file.specs.Inner.Accepted.{slaveCount}
 
@@ -62,6 +61,5 @@ module _ (f old : List ℕ) {new : List ℕ} {n : ℕ} (are : new ≡ logicalNam
   pub front-count : n ≡ length (take n new)
   front-count = is ∙ sym (ap length front ∙ names-count (decode f))
 
-  pub names-decide : {t : Bool} → t ≡ hasRepeat (heldNames (take n new)) → t ≡ equalLogicalNames offsetWidth f
-  unfolding equalLogicalNames decode
+  pub names-decide : {t : Bool} → t ≡ hasRepeat (heldNames (take n new)) → t ≡ hasRepeat (heldNames (logicalNames (decode f)))
   names-decide test = test ∙ ap (λ (l : List ℕ). hasRepeat (heldNames l)) front

@@ -1,7 +1,11 @@
 -- Numbers of several bytes at a place of a list: one law joins two of them, whatever their widths.
 -- Assumes nothing.
-use Prim.Native.Nat.{ℕ, _+_, _*_, _%_, _^_, _≤_, _<_}
-use mathlib.Core.Path.{_≡_, sym, _∙_, subst}
+use Prim.Native.Nat.{ℕ, zero, suc, _+_, _*_, _-_, _%_, _^_, _≤_, _<_}
+use mathlib.Core.Path.{_≡_, refl, sym, _∙_, subst}
+use mathlib.Core.Bool.{Bool, true, false}
+use native.Mathlib.Nat.{one-le-pow}
+use lib.Dec.{eqb}
+use borrow.Author.Tests.{eqb-true, eqb-false}
 use mathlib.Core.List.{List, [], _∷_, _++_}
 use native.Mathlib.Omega.{arith}
 use lib.Arith.{digits-lt}
@@ -9,8 +13,11 @@ use lib.Bits.{bitOr, or-shifted}
 use lib.Pow.{pow-add, shl-exact, shl-lt}
 use lib.ListN.{length, getD, drop, length-append, length-take, length-drop}
 use lib.Seq.{take-add, drop-drop, drop-cons}
-use Rattle.file.specs.Rules.Bytes.{numberOf, part}
+use Rattle.file.specs.Inner.Layout.{OffsetWidth}
+use Rattle.file.specs.Rules.Bytes.{numberOf, part, allZero}
 use Rattle.file.specs.Inner.Numbers.{ByteAt, NumberAt}
+use Rattle.file.proofs.Order.{byCase, clash}
+use Rattle.file.proofs.Width.{Which, narrow, wide, which}
 
 -- the number that two runs of bytes spell together
 pub number-append : (xs ys : List ℕ) → numberOf (xs ++ ys) ≡ numberOf xs * 256 ^ length ys + numberOf ys
@@ -101,3 +108,62 @@ eight-bytes {l} {at} h p₀ p₁ p₂ p₃ p₄ p₅ p₆ p₇ =
     let s₆ = shifted-next {l = l} {at = at} {m = 5} 16 (omega arith) (omega arith) s₅ p₅ in
     let s₇ = shifted-next {l = l} {at = at} {m = 6} 8 (omega arith) (omega arith) s₆ p₆ in
     shifted-last {l = l} {at = at} {m = 7} (omega arith) s₇ p₇
+
+-- ---- an offset, of either width
+
+pub offset-narrow : {l : List ℕ} {at w r : ℕ} → w ≡ 2 → NumberAt l at 2 r → NumberAt l at w r
+offset-narrow {l} {at} {w} {r} e n = subst (λ (k : ℕ). NumberAt l at k r) (sym e) n
+
+offset-joined : {l : List ℕ} {at w a b : ℕ} → Which w → (w ≡ 2 → ⊥) → at + w ≤ length l → NumberAt l at 2 a → NumberAt l (at + 2) 2 b → NumberAt l at w (bitOr ((a * 2 ^ 16) % 2 ^ 64) b)
+offset-joined narrow other h p q = absurd (other refl)
+offset-joined wide other h p q = number-or 2 16 refl (omega arith) (omega arith) p q
+
+pub offset-wide : {l : List ℕ} {at w a b : ℕ} → OffsetWidth w → (w ≡ 2 → ⊥) → at + w ≤ length l → NumberAt l at 2 a → NumberAt l (at + 2) 2 b → NumberAt l at w (bitOr ((a * 2 ^ 16) % 2 ^ 64) b)
+offset-wide width other h p q = offset-joined (which width) other h p q
+
+-- ---- zeros, and the number that they spell
+
+pub zero-number : (l : List ℕ) → allZero l ≡ true → numberOf l ≡ 0
+unfolding allZero numberOf
+zero-number [] e = refl
+zero-number (b ∷ bs) e =
+    byCase (eqb b 0)
+    (λ t.
+    let z : b ≡ 0 = eqb-true b 0 t in
+    let r : numberOf bs ≡ 0 = zero-number bs (rw t at e) in
+    rw (z, r) (omega arith))
+    (λ f. clash (rw f at e) refl)
+
+some-power : (b n : ℕ) → 0 < b → b * 256 ^ n ≡ 0 → ⊥
+some-power (suc b) n h e =
+    let p : 1 ≤ 256 ^ n = one-le-pow n 256 (omega arith) in
+    omega (arith, e)
+some-power zero n h e = absurd (omega arith)
+
+pub number-zero : (l : List ℕ) → numberOf l ≡ 0 → allZero l ≡ true
+unfolding allZero numberOf
+number-zero [] e = refl
+number-zero (b ∷ bs) e =
+    let r : numberOf bs ≡ 0 = omega arith in
+    let p : b * 256 ^ length bs ≡ 0 = omega arith in
+    byCase (eqb b 0)
+    (λ t. rw t (number-zero bs r))
+    (λ f. absurd (some-power b (length bs) (let z : b ≡ 0 → ⊥ = eqb-false b 0 f in omega arith) p))
+
+-- the zeros that fill an entry of either width up
+pub filled-narrow : {w : ℕ} (f : List ℕ) (at : ℕ) → w ≡ 2 → true ≡ allZero (part f at (w - 2))
+unfolding part allZero
+filled-narrow f at e = rw e
+
+filled : {w n : ℕ} {f : List ℕ} {at : ℕ} → Which w → (w ≡ 2 → ⊥) → NumberAt f at 2 n → eqb n 0 ≡ allZero (part f at (w - 2))
+filled narrow other h = absurd (other refl)
+filled {n = n} {f} {at} wide other h =
+    byCase (eqb n 0)
+    (λ t. t ∙ sym (number-zero (part f at 2) (sym (h .is) ∙ eqb-true n 0 t)))
+    (λ t. t ∙ sym (false-unless (λ z. eqb-false n 0 t (h .is ∙ zero-number (part f at 2) z))))
+  where
+    false-unless : {b : Bool} → (b ≡ true → ⊥) → b ≡ false
+    false-unless {b} never = byCase b (λ e. absurd (never e)) (λ e. e)
+
+pub filled-wide : {w n : ℕ} {f : List ℕ} {at : ℕ} → OffsetWidth w → (w ≡ 2 → ⊥) → NumberAt f at 2 n → eqb n 0 ≡ allZero (part f at (w - 2))
+filled-wide width other h = filled (which width) other h

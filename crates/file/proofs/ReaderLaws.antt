@@ -10,21 +10,25 @@ use lib.ListN.{length, getD}
 use lib.Dec.{eqb, leb}
 use Rattle.file.specs.Rules.Bytes.{numberOf, part}
 use Rattle.file.specs.Inner.Numbers.{ByteAt, NumberAt}
-use Rattle.file.specs.Rules.Layout.{offsetWidth, entrySize}
+use Rattle.file.specs.Rules.Layout.{headerSize, entrySize}
+use mir.Syntax.{w64}
+use mir.Val.{Fits}
 use Rattle.file.specs.Rules.Cluster.{File, Cluster, lastRecord, bytesAmong, bytesIn, hasRecord, configuration, documentation, logicalName, physicalName, comparisonValue}
-use Rattle.file.specs.Rules.Encode.{encode, slavesPlace}
+use Rattle.file.specs.Rules.Encode.{slavesPlace}
 use Rattle.file.specs.Rules.Decode.{offsetAt, fileSize, filesAt, slaveAt, slavesAt, decodeAt, decode}
 use Rattle.file.specs.Rules.Decode
 use Rattle.file.specs.Rules.Legal.{LegalSlave}
-use Rattle.file.specs.Rules.Grounds.{to, walkDirectory, walkSlave, walkSlaves, walkFile, tableEnd, fileGround}
-use Rattle.file.specs.Inner.Places.{noSlave, slaveOf, placeAmong, filePlaceFrom, filePlaceAt, filePlace, configurationIndex, documentationIndex}
-use Rattle.file.specs.Inner.Accepted.{Becomes, slaveCount, Placed, FoundFile, fileFound, FoundRecord, recordAt, findFile, findRecord}
+use Rattle.file.specs.Rules.Grounds.{to, walkDirectory, walkSlave, walkSlaves, walkFile, tableEnd}
+use Rattle.file.specs.Inner.Places.{noSlave, slaveOf, widthIn, placeAmong, filePlaceFrom, filePlaceAt, filePlace, configurationIndex, documentationIndex}
+use Rattle.file.specs.Inner.Accepted.{Becomes, WidthOf, slaveCount, Placed, FoundFile, fileFound, FoundRecord, recordAt, findFile, findRecord}
 use Rattle.file.specs.Inner.Checked.{EntriesFit, searchDirectory}
 use Rattle.file.proofs.Order.{byCase}
 use Rattle.file.proofs.Bytes.{all-at}
 use Rattle.file.proofs.AcceptedFacts.{accepted}
 use Rattle.file.proofs.Stores.{file-fits, read-byte, read-part}
 use Rattle.file.proofs.Arrivals.{broken-arrives, walk-took, slave-took, slaves-took, length-filesAt, length-slavesAt}
+use Rattle.file.proofs.AtWidth.{BecomesAt, at-edition, becomes-at, width-in, header-room-at, length-at}
+use Rattle.file.proofs.WalkLaws.{more-left, none-left, entry-fits}
 use Rattle.file.proofs.Stated.{entry-number, entry-length}
 use Rattle.file.proofs.StatedSlaves.{slave-end}
 
@@ -55,18 +59,21 @@ module _ {f : List ℕ} {c : Cluster} (h : Becomes f c) (s : ℕ) where
   pub documentation-room : s < length (c .slaves) → 12 ≤ length (bytesIn (slaveOf c s) documentation)
   documentation-room l = last-room 2 _ (omega arith) (slave-legal l .documented)
 
+  wide : 2 ≤ widthIn (c .edition)
+  wide = at-edition h .width .least
+
   -- a file's bytes lie within the accepted file, and are read at its place
   pub place-within : (n : ℕ) → 0 < length (bytesIn (slaveOf c s) n) → filePlace c s n + length (bytesIn (slaveOf c s) n) ≤ length f
-  unfolding filePlace encode
-  place-within n some = rw (h .encoded) (file-fits {w = 2} (omega arith) s n c some)
+  unfolding filePlace
+  place-within n some = rw (at-edition h .encoded) (file-fits wide s n c some)
 
   pub byte-there : (n k : ℕ) → k < length (bytesIn (slaveOf c s) n) → getD f (filePlace c s n + k) 0 ≡ getD (bytesIn (slaveOf c s) n) k 0
-  unfolding filePlace encode
-  byte-there n k l = rw (h .encoded) (read-byte {w = 2} (omega arith) s n c k l)
+  unfolding filePlace
+  byte-there n k l = rw (at-edition h .encoded) (read-byte wide s n c k l)
 
   pub part-there : (n a m : ℕ) → a + m ≤ length (bytesIn (slaveOf c s) n) → part f (filePlace c s n + a) m ≡ part (bytesIn (slaveOf c s) n) a m
-  unfolding filePlace encode
-  part-there n a m l = rw (h .encoded) (read-part {w = 2} (omega arith) s n c a m l)
+  unfolding filePlace
+  part-there n a m l = rw (at-edition h .encoded) (read-part wide s n c a m l)
 
 -- ---- the readers of 0x08 and 0x3D
 
@@ -121,35 +128,56 @@ search-next w f n d (suc k) h e =
     rw (ne-eqb (getD f d 0) n e, same)
 
 -- what the loop along a directory keeps
-pub record Searching (f : List ℕ) (n d k entry : ℕ) : Type 0 where
+pub record Searching (w : ℕ) (f : List ℕ) (n d k entry : ℕ) : Type 0 where
   pub left : ℕ
-  pub at : entry + 4 * left ≡ d + 4 * k
-  pub same : searchDirectory 2 f n entry left ≡ searchDirectory 2 f n d k
+  pub at : entry + 2 * w * left ≡ d + 2 * w * k
+  pub same : searchDirectory w f n entry left ≡ searchDirectory w f n d k
 
-pub searching-start : {f : List ℕ} (d k n : ℕ) → Searching f n d k d
+pub searching-start : {w : ℕ} {f : List ℕ} (d k n : ℕ) → Searching w f n d k d
 searching-start d k n = record { left = k; at = refl; same = refl }
 
-module _ {f : List ℕ} {n d k entry b : ℕ} (h : Searching f n d k entry) (more : entry < d + 4 * k) (is : ByteAt f entry b) where
-  some-left : 0 < h .left
-  some-left = omega (arith, h .at)
+module _ {w : ℕ} {f : List ℕ} {n d k entry : ℕ} (fit : EntriesFit w f d k) (h : Searching w f n d k entry) where
+  pub searching-done : d + 2 * w * k ≤ entry → FoundFile.noFile ≡ searchDirectory w f n d k
+  unfolding searchDirectory
+  searching-done none =
+      let z : h .left ≡ 0 = none-left w entry (d + 2 * w * k) (h .left) (fit .width .least) (h .at) none in
+      rw z at (h .same)
 
-  pub searching-here : {last place : ℕ} → b ≡ n → ByteAt f (entry + 1) last → NumberAt f (entry + 2) 2 place → fileFound place (4 * (last + 1)) ≡ searchDirectory 2 f n d k
-  unfolding offsetAt fileSize
-  searching-here here l p = rw (l .is, p .is) (sym (search-here 2 f n entry (h .left) some-left (sym (is .is) ∙ here)) ∙ h .same)
+  module _ (more : entry < d + 2 * w * k) where
+    -- the entry of a turn lies within the bytes
+    pub searching-entry : EntriesFit w f entry 1
+    searching-entry = entry-fits fit entry (h .left) (h .at) more
 
-  pub searching-next : (b ≡ n → ⊥) → Searching f n d k (entry + 4)
-  searching-next other =
-      record {
-        left = h .left - 1;
-        at = omega (arith, h .at);
-        same = sym (search-next 2 f n entry (h .left) some-left (λ q. other (is .is ∙ q))) ∙ h .same;
-      }
+    pub searching-first : entry < length f
+    searching-first = omega (arith, searching-entry .within, fit .width .least)
 
-pub searching-done : {f : List ℕ} {n d k entry : ℕ} → Searching f n d k entry → d + 4 * k ≤ entry → FoundFile.noFile ≡ searchDirectory 2 f n d k
-unfolding searchDirectory
-searching-done h none =
-    let z : h .left ≡ 0 = omega (arith, h .at) in
-    rw z at (h .same)
+    pub searching-second : entry + 1 < length f
+    searching-second = omega (arith, searching-entry .within, fit .width .least)
+
+    pub searching-offset : entry + w + w ≤ length f
+    searching-offset = omega (arith, searching-entry .within)
+
+    pub searching-offset-fits : Fits w64 (entry + w)
+    searching-offset-fits = record { fits = omega (arith, searching-entry .within, fit .short, fit .width .most) }
+
+    some-left : (l : ℕ) × (h .left ≡ suc l)
+    some-left = more-left w entry (d + 2 * w * k) (h .left) (h .at) more
+
+    module _ {b : ℕ} (is : ByteAt f entry b) where
+      pub searching-here : {last place : ℕ} → b ≡ n → ByteAt f (entry + 1) last → NumberAt f (entry + w) w place → fileFound place (4 * (last + 1)) ≡ searchDirectory w f n d k
+      unfolding offsetAt fileSize
+      searching-here here l p = rw (l .is, p .is) (sym (search-here w f n entry (h .left) (omega (arith, some-left .1)) (sym (is .is) ∙ here)) ∙ h .same)
+
+      pub searching-next : (b ≡ n → ⊥) → Searching w f n d k (entry + 2 * w)
+      searching-next other =
+          let m = some-left in
+          let less : h .left - 1 ≡ m .0 = omega (arith, m .1) in
+          let was : entry + 2 * w * suc (m .0) ≡ d + 2 * w * k = rw (m .1) at (h .at) in
+          record {
+            left = h .left - 1;
+            at = rw less (omega (arith, was));
+            same = sym (search-next w f n entry (h .left) (omega (arith, m .1)) (λ q. other (is .is ∙ q))) ∙ h .same;
+          }
 
 -- ---- a directory that was walked states each of its files
 
@@ -226,73 +254,107 @@ slave-there w f t place (suc k) e (suc s) h l =
 
 -- ---- the table of an accepted file
 
-walk-moved : (f : List ℕ) {d k a b e : ℕ} → d ≡ a → k ≡ b → walkDirectory 2 f a 0 (a + 4 * b) b ≡ to e → walkDirectory 2 f d 0 (d + 4 * k) k ≡ to e
-walk-moved f p q h = rw (p, q) h
+-- the most bytes of either width: enough for places to be numbers of the machine
+pub length-limit : {f : List ℕ} → Becomes f (decode f) → length f ≤ 65536
+length-limit h = let b = at-edition h in omega (arith, length-at b, b .width .most)
 
-table-walk : (f : List ℕ) → fileGround f ≡ 0 → (16 + 4 * getD f 3 0 ≤ length f) × (walkSlaves 2 f 16 (16 + 4 * getD f 3 0) (getD f 3 0) ≡ to (length f))
-unfolding fileGround walkFile tableEnd
-table-walk f g =
-    let walk = accepted 2 f .0 g .layout in
-    byCase (leb (16 + 4 * getD f 3 0) (length f))
-    (λ t. (leb-true _ _ t, rw t at walk))
-    (λ t. broken-arrives (rw t at walk))
+pub header-within : {f : List ℕ} → Becomes f (decode f) → 3 < length f
+header-within h = omega (arith, header-room-at (at-edition h))
 
-pub count-there : (f : List ℕ) → length (decode f .slaves) ≡ getD f 3 0
-unfolding decode decodeAt
-count-there f = length-slavesAt 2 f 16 (getD f 3 0)
+-- an entry is one of so many
+entry-below : (w s k : ℕ) → s < k → 2 * w * s + 2 * w ≤ 2 * w * k
+entry-below w zero (suc k) l = omega arith
+entry-below w (suc s) (suc k) l = omega (arith, entry-below w s k (omega arith))
 
-module _ {f : List ℕ} (h : Becomes f (decode f)) where
-  pub header-within : 3 < length f
-  header-within = omega (arith, table-walk f (h .accepted) .0)
+walk-moved : (w : ℕ) (f : List ℕ) {d k a b e : ℕ} → d ≡ a → k ≡ b → walkDirectory w f a 0 (a + 2 * w * b) b ≡ to e → walkDirectory w f d 0 (d + 2 * w * k) k ≡ to e
+walk-moved w f p q h = rw (p, q) h
 
-  pub length-limit : length f ≤ 32768
-  unfolding fileGround
-  length-limit = accepted 2 f .0 (h .accepted) .size .high
+room-moved : (w n : ℕ) {d k a b : ℕ} → d ≡ a → k ≡ b → a + 2 * w * b ≤ n → d + 2 * w * k ≤ n
+room-moved w n p q h = rw (p, q) h
 
-  pub entry-within : (s : ℕ) → s < length (decode f .slaves) → 16 + 4 * s + 4 ≤ length f
-  entry-within s l = omega (arith, table-walk f (h .accepted) .0, count-there f)
+module _ {w : ℕ} {f : List ℕ} {c : Cluster} (h : BecomesAt w f c) where
+  table-walk : (headerSize w + 2 * w * getD f 3 0 ≤ length f) × (walkSlaves w f (headerSize w) (headerSize w + 2 * w * getD f 3 0) (getD f 3 0) ≡ to (length f))
+  unfolding walkFile tableEnd
+  table-walk =
+      let walk = accepted w f .0 (h .accepted) .layout in
+      byCase (leb (headerSize w + 2 * w * getD f 3 0) (length f))
+      (λ t. (leb-true _ _ t, rw t at walk))
+      (λ t. broken-arrives (rw t at walk))
 
-  pub entry-offset : (s : ℕ) → s < slaveCount f → 16 + 4 * s + offsetWidth ≤ length f
-  entry-offset s l = omega (arith, entry-within s l)
+  slaves-are : c .slaves ≡ slavesAt w f (headerSize w) (getD f 3 0)
+  unfolding decodeAt
+  slaves-are = ap (λ (d : Cluster). d .slaves) (sym (h .decoded))
 
-  pub entry-count : (s : ℕ) → s < slaveCount f → 16 + 4 * s + 2 < length f
-  entry-count s l = omega (arith, entry-within s l)
+  slaves-count : length (c .slaves) ≡ getD f 3 0
+  slaves-count = rw slaves-are (length-slavesAt w f (headerSize w) (getD f 3 0))
 
-  module _ (s : ℕ) (l : s < length (decode f .slaves)) {d k : ℕ} (offset : NumberAt f (16 + 4 * s) 2 d) (count : ByteAt f (16 + 4 * s + 2) k) where
-    there : SlaveThere 2 f 16 (16 + 4 * getD f 3 0) (getD f 3 0) s
-    there = slave-there 2 f 16 (16 + 4 * getD f 3 0) (getD f 3 0) (length f) s (table-walk f (h .accepted) .1) (omega (arith, count-there f))
+  module _ (s : ℕ) (l : s < length (c .slaves)) where
+    -- its entry of the table, and what that states
+    entry-room : headerSize w + 2 * w * s + 2 * w ≤ length f
+    entry-room = omega (arith, table-walk .0, entry-below w s (getD f 3 0) (rw slaves-count at l))
 
-    directory-is : d ≡ there .at
-    unfolding offsetAt
-    directory-is = offset .is ∙ slave-took 2 f (16 + 4 * s) (there .at) (there .end) (there .walk) .facts .offset
+    module _ {d k : ℕ} (offset : NumberAt f (headerSize w + 2 * w * s) w d) (count : ByteAt f (headerSize w + 2 * w * s + w) k) where
+      there : SlaveThere w f (headerSize w) (headerSize w + 2 * w * getD f 3 0) (getD f 3 0) s
+      there = slave-there w f (headerSize w) (headerSize w + 2 * w * getD f 3 0) (getD f 3 0) (length f) s (table-walk .1) (rw slaves-count at l)
 
-    pub directory-within : d + 4 * k ≤ length f
-    directory-within =
-        let took = slave-took 2 f (16 + 4 * s) (there .at) (there .end) (there .walk) in
-        omega (arith, took .facts .within, directory-is, count .is)
+      directory-is : d ≡ there .at
+      unfolding offsetAt
+      directory-is = offset .is ∙ slave-took w f (headerSize w + 2 * w * s) (there .at) (there .end) (there .walk) .facts .offset
 
-    pub directory-fits : EntriesFit f d k
-    directory-fits = record { within = directory-within; short = length-limit }
+      entries-fit : EntriesFit w f d k
+      entries-fit =
+          let took = slave-took w f (headerSize w + 2 * w * s) (there .at) (there .end) (there .walk) in
+          record { width = h .width; within = room-moved w (length f) directory-is (count .is) (took .facts .within); short = length-at h }
 
-    files-there : slaveOf (decode f) s .files ≡ filesAt 2 f d k
-    unfolding slaveOf decode decodeAt slaveAt
-    files-there =
-        let took = slave-took 2 f (16 + 4 * s) (there .at) (there .end) (there .walk) in
-        rw (there .slave, took .facts .offset, ← directory-is, ← (count .is))
+      files-there : slaveOf c s .files ≡ filesAt w f d k
+      unfolding slaveOf slaveAt
+      files-there =
+          let took = slave-took w f (headerSize w + 2 * w * s) (there .at) (there .end) (there .walk) in
+          rw (slaves-are, there .slave, took .facts .offset, ← directory-is, ← (count .is))
 
-    place-there : (n : ℕ) → filePlace (decode f) s n ≡ placeAmong (d + 4 * k) (filesAt 2 f d k) n
-    unfolding filePlace filePlaceAt slavesPlace decode decodeAt slaveAt
-    place-there n =
-        let took = slave-took 2 f (16 + 4 * s) (there .at) (there .end) (there .walk) in
-        let at = there .place′ n in
-        rw (length-slavesAt 2 f 16 (getD f 3 0), at, took .facts .offset, ← directory-is, ← (count .is), length-filesAt 2 f d k)
+      place-there : (n : ℕ) → filePlace c s n ≡ placeAmong (d + 2 * w * k) (filesAt w f d k) n
+      unfolding filePlace filePlaceAt slavesPlace slaveAt
+      place-there n =
+          let took = slave-took w f (headerSize w + 2 * w * s) (there .at) (there .end) (there .walk) in
+          let at = there .place′ n in
+          rw (← width-in h, slaves-are, length-slavesAt w f (headerSize w) (getD f 3 0), at, took .facts .offset, ← directory-is, ← (count .is), length-filesAt w f d k)
 
-    pub file-found : {r : FoundFile} (n : ℕ) → r ≡ searchDirectory 2 f n d k → r ≡ findFile (decode f) s n
-    unfolding findFile bytesIn foundAmong
-    file-found n is =
-        let took = slave-took 2 f (16 + 4 * s) (there .at) (there .end) (there .walk) in
-        let walk : walkDirectory 2 f d 0 (d + 4 * k) k ≡ to (there .end) = walk-moved f directory-is (count .is) (took .files) in
-        rw (files-there, place-there n) (is ∙ search-finds 2 f n d 0 (d + 4 * k) k (there .end) walk)
+      search-found : {r : FoundFile} (n : ℕ) → r ≡ searchDirectory w f n d k → r ≡ findFile c s n
+      unfolding findFile bytesIn foundAmong
+      search-found n is =
+          let took = slave-took w f (headerSize w + 2 * w * s) (there .at) (there .end) (there .walk) in
+          let walk : walkDirectory w f d 0 (d + 2 * w * k) k ≡ to (there .end) = walk-moved w f directory-is (count .is) (took .files) in
+          rw (files-there, place-there n) (is ∙ search-finds w f n d 0 (d + 2 * w * k) k (there .end) walk)
+
+pub count-there : {f : List ℕ} {n : ℕ} → Becomes f (decode f) → ByteAt f 3 n → n ≡ slaveCount f
+count-there h k = k .is ∙ sym (slaves-count (at-edition h))
+
+-- the same, as the readers ask: the width is that of the file
+module _ {f : List ℕ} {w : ℕ} (h : Becomes f (decode f)) (v : WidthOf f w) (s : ℕ) (l : s < slaveCount f) where
+  pub entry-within : headerSize w + 2 * w * s + 2 * w ≤ length f
+  entry-within = entry-room (becomes-at v h) s l
+
+  pub entry-size-fits : Fits w64 (2 * w * s)
+  entry-size-fits = record { fits = omega (arith, entry-within, length-limit h) }
+
+  pub entry-place-fits : Fits w64 (headerSize w + 2 * w * s)
+  entry-place-fits = record { fits = omega (arith, entry-within, length-limit h) }
+
+  pub entry-count-fits : Fits w64 (headerSize w + 2 * w * s + w)
+  entry-count-fits = record { fits = omega (arith, entry-within, length-limit h) }
+
+  pub entry-offset : headerSize w + 2 * w * s + w ≤ length f
+  entry-offset = omega (arith, entry-within)
+
+  pub entry-count : headerSize w + 2 * w * s + w < length f
+  entry-count = omega (arith, entry-within, v .width .least)
+
+  module _ {d k : ℕ} (offset : NumberAt f (headerSize w + 2 * w * s) w d) (count : ByteAt f (headerSize w + 2 * w * s + w) k) where
+    pub directory-fits : EntriesFit w f d k
+    directory-fits = entries-fit (becomes-at v h) s l offset count
+
+    pub file-found : {r : FoundFile} (n : ℕ) → r ≡ searchDirectory w f n d k → r ≡ findFile (decode f) s n
+    file-found n is = search-found (becomes-at v h) s l offset count n is
 
 -- ---- a record of a file that was found
 

@@ -25,7 +25,7 @@ module _ {w : ℕ} (wide : Width w) where
     pub decode-encode : decodeAt w (encodeAt w c) ≡ c
     decode-encode =
         let short : length (encodeAt w c) < 256 ^ w = rw (encodeAt-length (wide .two) c) (place-fits wide (l .size)) in
-        E.encoded-decode wide short legal-encoded
+        E.encoded-decode wide (l .edition) short legal-encoded
 
     pub encode-accepted : fileGroundAt w (encodeAt w c) ≡ 0
     encode-accepted = accepted w (encodeAt w c) .1 (E.encoded-accepted wide l legal-encoded)

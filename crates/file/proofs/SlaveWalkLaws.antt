@@ -8,17 +8,19 @@ use native.Mathlib.Omega.{arith}
 use native.Mathlib.Numerals.{add-one}
 use lib.ListN.{length, getD, take, set, length-set}
 use lib.Seq.{take-suc-set, append-snoc}
-use Rattle.file.specs.Rules.Bytes.{numberOf, part}
+use Rattle.file.specs.Rules.Bytes.{part, allZero}
+use mir.Syntax.{w64}
+use mir.Val.{Fits}
 use Rattle.file.specs.Inner.Numbers.{ByteAt, NumberAt}
-use Rattle.file.specs.Rules.Layout.{offsetWidth, headerSize, entrySize}
+use Rattle.file.specs.Rules.Layout.{headerSize, entrySize}
 use Rattle.file.specs.Inner.Layout.{neededConfiguration, neededDocumentation}
 use Rattle.file.specs.Rules.Cluster.{configuration, documentation}
 use Rattle.file.specs.Rules.Decode.{offsetAt}
 use Rattle.file.specs.Rules.Grounds.{broken, to, andThen, goodTableEntry, walkDirectory, walkSlave, walkSlaves}
 use Rattle.file.specs.Inner.Places.{placesEach}
-use Rattle.file.specs.Inner.Checked.{statedPlace, statedIn, statedPlaces, walkOf, DirectoryWalked, Arrives, SlaveWalked, SlavesWalked}
+use Rattle.file.specs.Inner.Checked.{EntriesFit, statedPlace, statedIn, statedPlaces, walkOf, DirectoryWalked, FilesWalked, Arrives, SlaveWalked, SlavesWalked}
 use Rattle.file.proofs.Order.{clash}
-use Rattle.file.proofs.Facts.{false-unless, TableEntryFacts, table-entry-facts, table-entry-yes, zeros-first, zeros-more, zeros-none}
+use Rattle.file.proofs.Facts.{false-unless, TableEntryFacts, table-entry-facts, table-entry-yes, zeros-first, zeros-rest, zeros-more}
 
 -- ---- one slave
 
@@ -31,71 +33,99 @@ pub slave-step : (w : ℕ) (f : List ℕ) (t place : ℕ) → goodTableEntry w f
 unfolding walkSlave
 slave-step w f t place e = rw e
 
-refused : {f : List ℕ} {t place : ℕ} → (TableEntryFacts 2 f t place → ⊥) → SlaveWalked f t place false 0 0 0
+refused : {w : ℕ} {f : List ℕ} {t place : ℕ} → (TableEntryFacts w f t place → ⊥) → SlaveWalked w f t place false 0 0 0
 unfolding walkOf
-refused {f} {t} {place} not-so =
+refused {w} {f} {t} {place} not-so =
     record {
-      walk = sym (slave-stop 2 f t place (false-unless (λ e. not-so (table-entry-facts 2 f t place e))));
+      walk = sym (slave-stop w f t place (false-unless (λ e. not-so (table-entry-facts w f t place e))));
       config = λ e. clash e refl;
       document = λ e. clash e refl;
       within = λ e. clash e refl;
     }
 
-pub slave-elsewhere : {f : List ℕ} {t place n : ℕ} → NumberAt f t 2 n → (n ≡ place → ⊥) → SlaveWalked f t place false 0 0 0
+pub slave-elsewhere : {w : ℕ} {f : List ℕ} {t place n : ℕ} → NumberAt f t w n → (n ≡ place → ⊥) → SlaveWalked w f t place false 0 0 0
 unfolding offsetAt
 slave-elsewhere k h = refused (λ g. h (k .is ∙ g .offset))
 
-pub slave-zero : {f : List ℕ} {t : ℕ} (place : ℕ) {n : ℕ} → t + 4 ≤ length f → ByteAt f (t + 3) n → (n ≡ 0 → ⊥) → SlaveWalked f t place false 0 0 0
-slave-zero {f} {t} place {n} long k h =
-    let same : t + 3 ≡ t + 2 + 1 = omega arith in
-    let near : t + 2 + 1 < length f = omega arith in
-    refused (λ (g : TableEntryFacts 2 f t place). h (k .is ∙ rw same (zeros-first f (t + 2 + 1) 0 near (g .zeros))))
+-- the first zero behind the file count lies within the bytes
+zero-near : {w : ℕ} {f : List ℕ} {t : ℕ} → EntriesFit w f t 1 → t + w + 1 < length f
+zero-near fit = omega (arith, fit .width .least, fit .within)
 
-pub slave-past : {f : List ℕ} {t place n : ℕ} → ByteAt f (t + 2) n → length f < place + 4 * n → SlaveWalked f t place false 0 0 0
-slave-past k h = refused (λ g. omega (arith, g .within, k .is))
+pub slave-zero : {w : ℕ} {f : List ℕ} {t : ℕ} (place : ℕ) {n : ℕ} → EntriesFit w f t 1 → ByteAt f (t + w + 1) n → (n ≡ 0 → ⊥) → SlaveWalked w f t place false 0 0 0
+slave-zero {w} {f} {t} place fit k h =
+    refused (λ (g : TableEntryFacts w f t place). h (k .is ∙ zeros-first f (t + w + 1) (w - 2) (zero-near fit) (g .zeros)))
 
-module _ {f : List ℕ} {t place n offset zero′ : ℕ} {good : Bool} {end : ℕ} (long : t + 4 ≤ length f) (count : ByteAt f (t + 2) n) (o : NumberAt f t 2 offset) (here : offset ≡ place)
-    (z : ByteAt f (t + 3) zero′) (none : zero′ ≡ 0) (fits : place + 4 * n ≤ length f) (h : DirectoryWalked f place n good end) where
-  offset-there : offsetAt 2 f t ≡ place
+pub slave-unfilled : {w : ℕ} {f : List ℕ} {t : ℕ} (place : ℕ) {filled : Bool} → EntriesFit w f t 1 → filled ≡ allZero (part f (t + w + 2) (w - 2)) → filled ≡ false → SlaveWalked w f t place false 0 0 0
+slave-unfilled {w} {f} {t} place fit is e =
+    let same : suc (t + w + 1) ≡ t + w + 2 = omega arith in
+    refused (λ (g : TableEntryFacts w f t place).
+    let there : allZero (part f (t + w + 2) (w - 2)) ≡ true = rw same at (zeros-rest f (t + w + 1) (w - 2) (zero-near fit) (g .zeros)) in
+    clash there (sym is ∙ e))
+
+pub slave-past : {w : ℕ} {f : List ℕ} {t place n : ℕ} → ByteAt f (t + w) n → length f < place + 2 * w * n → SlaveWalked w f t place false 0 0 0
+slave-past {w} {f} {t} {place} {n} k h =
+    let past : length f < place + 2 * w * getD f (t + w) 0 = rw (← (k .is)) h in
+    refused (λ g. omega (arith, g .within, past))
+
+module _ {w : ℕ} {f : List ℕ} {t place n offset zero′ : ℕ} {filled good : Bool} {end conf doc : ℕ} (fit : EntriesFit w f t 1) (count : ByteAt f (t + w) n) (o : NumberAt f t w offset) (here : offset ≡ place)
+    (z : ByteAt f (t + w + 1) zero′) (none : zero′ ≡ 0) (is : filled ≡ allZero (part f (t + w + 2) (w - 2))) (all : filled ≡ true)
+    (fits : place + 2 * w * n ≤ length f) (h : FilesWalked w f place n good end conf doc) where
+  offset-there : offsetAt w f t ≡ place
   unfolding offsetAt
   offset-there = sym (o .is) ∙ here
 
-  directory : walkSlave 2 f t place ≡ walkOf good end
-  directory =
-      let same : t + 3 ≡ t + 2 + 1 = omega arith in
-      let zero-there : getD f (t + 2 + 1) 0 ≡ 0 = rw (← same, ← (z .is)) none in
-      let facts : TableEntryFacts 2 f t place = record {
+  pub slave-walked : SlaveWalked w f t place good end conf doc
+  unfolding statedIn
+  slave-walked =
+      let within : place + 2 * w * getD f (t + w) 0 ≤ length f = rw (← (count .is)) fits in
+      let same : suc (t + w + 1) ≡ t + w + 2 = omega arith in
+      let rest : allZero (part f (suc (t + w + 1)) (w - 2)) ≡ true = rw same (sym is ∙ all) in
+      let facts : TableEntryFacts w f t place = record {
         offset = offset-there;
-        zeros = zeros-more f (t + 2 + 1) 0 (omega arith) zero-there (zeros-none f (suc (t + 2 + 1)));
-        within = omega (arith, count .is);
+        zeros = zeros-more f (t + w + 1) (w - 2) (zero-near fit) (sym (z .is) ∙ none) rest;
+        within = within;
       } in
-      slave-step 2 f t place (table-entry-yes 2 f t place facts) ∙ rw (← (count .is)) (sym (h .walk))
-
-  pub slave-breaks : good ≡ false → SlaveWalked f t place false 0 0 0
-  unfolding walkOf
-  slave-breaks e =
       record {
-        walk = sym (rw e at directory);
+        walk = sym (slave-step w f t place (table-entry-yes w f t place facts) ∙ rw (← (count .is)) (sym (h .walked .walk)));
+        config = λ e. rw (offset-there, ← (count .is)) (h .config e);
+        document = λ e. rw (offset-there, ← (count .is)) (h .document e);
+        within = h .walked .within;
+      }
+
+-- ---- its files
+
+module _ {w : ℕ} {f : List ℕ} {d k : ℕ} {good : Bool} {end : ℕ} (h : DirectoryWalked w f d k good end) where
+  pub files-broken : good ≡ false → FilesWalked w f d k false 0 0 0
+  unfolding walkOf
+  files-broken e =
+      record {
+        walked = record { walk = rw e at (h .walk); within = λ q. clash q refl };
         config = λ q. clash q refl;
         document = λ q. clash q refl;
-        within = λ q. clash q refl;
       }
 
-  pub slave-walks : {conf doc : ℕ} → good ≡ true → conf ≡ statedPlace 2 f configuration 3 0 place n → doc ≡ statedPlace 2 f documentation 2 0 place n → SlaveWalked f t place true end conf doc
-  unfolding walkOf statedIn offsetAt
-  slave-walks e conf-is doc-is =
-      let there : numberOf (part f t 2) ≡ place = sym (o .is) ∙ here in
-      record {
-        walk = sym (rw e at directory);
-        config = λ _. rw (there, ← (count .is)) conf-is;
-        document = λ _. rw (there, ← (count .is)) doc-is;
-        within = λ _. h .within e;
-      }
+  pub files-walked : {conf doc : ℕ} → good ≡ true → conf ≡ statedPlace w f configuration 3 0 d k → doc ≡ statedPlace w f documentation 2 0 d k → FilesWalked w f d k true end conf doc
+  files-walked e conf-is doc-is = record { walked = rw e at h; config = λ _. conf-is; document = λ _. doc-is }
 
 -- a good directory comes to an end
-pub directory-arrives : {f : List ℕ} {d k : ℕ} {good : Bool} {end : ℕ} → DirectoryWalked f d k good end → good ≡ true → Arrives f d k
+pub directory-arrives : {w : ℕ} {f : List ℕ} {d k : ℕ} {good : Bool} {end : ℕ} → DirectoryWalked w f d k good end → good ≡ true → Arrives w f d k
 unfolding walkOf
 directory-arrives {end = end} h e = record { end = end; walk = sym (rw e at (h .walk)) }
+
+-- and its entries fit
+pub directory-fits : {w : ℕ} {f : List ℕ} {t : ℕ} (place n : ℕ) → EntriesFit w f t 1 → place + 2 * w * n ≤ length f → EntriesFit w f place n
+directory-fits place n fit h = record { width = fit .width; within = h; short = fit .short }
+
+-- a directory of as many entries as a byte counts ends at a number of the machine
+pub entries-many : (w n : ℕ) → w ≤ 4 → 2 * w * n ≤ 8 * n
+entries-many w zero h = omega arith
+entries-many w (suc n) h = omega (arith, entries-many w n h)
+
+pub directory-size-fits : {w : ℕ} {f : List ℕ} {t at n : ℕ} → EntriesFit w f t 1 → ByteAt f at n → Fits w64 (2 * w * n)
+directory-size-fits {w} {n = n} fit b = record { fits = omega (arith, entries-many w n (fit .width .most), b .byte) }
+
+pub directory-end-fits : {w : ℕ} {f : List ℕ} {t at place n : ℕ} → EntriesFit w f t 1 → ByteAt f at n → place ≤ 16384 * w → Fits w64 (place + 2 * w * n)
+directory-end-fits {w} {n = n} fit b h = record { fits = omega (arith, entries-many w n (fit .width .most), b .byte, h, fit .width .most) }
 
 -- ---- all slaves
 
@@ -126,71 +156,86 @@ take-two l i a b h =
     rw (take-suc-set (set l i a) (suc i) b (simp length-set (omega arith)), take-suc-set l i a (omega arith), append-snoc)
 
 -- the places written so far, in front of those to come
-pub record Written (f : List ℕ) (count slave entry : ℕ) (places : List ℕ) : Type 0 where
+pub record Written (w : ℕ) (f : List ℕ) (count slave entry : ℕ) (places : List ℕ) : Type 0 where
   pub room : placesEach * count ≤ length places
-  pub all : take (placesEach * slave) places ++ statedPlaces offsetWidth f entry (count - slave) ≡ statedPlaces offsetWidth f (headerSize offsetWidth) count
+  pub all : take (placesEach * slave) places ++ statedPlaces w f entry (count - slave) ≡ statedPlaces w f (headerSize w) count
 
-written-next : {f : List ℕ} {count slave entry : ℕ} {places : List ℕ} {conf doc : ℕ} → Written f count slave entry places → slave < count →
-    conf ≡ statedIn offsetWidth f configuration neededConfiguration entry → doc ≡ statedIn offsetWidth f documentation neededDocumentation entry →
-    Written f count (slave + 1) (entry + 4) (set (set places (2 * slave) conf) (2 * slave + 1) doc)
-written-next {f} {count} {slave} {entry} {places} {conf} {doc} h more is-conf is-doc =
+written-next : {w : ℕ} {f : List ℕ} {count slave entry : ℕ} {places : List ℕ} {conf doc : ℕ} → Written w f count slave entry places → slave < count →
+    conf ≡ statedIn w f configuration neededConfiguration entry → doc ≡ statedIn w f documentation neededDocumentation entry →
+    Written w f count (slave + 1) (entry + 2 * w) (set (set places (2 * slave) conf) (2 * slave + 1) doc)
+written-next {w} {f} {count} {slave} {entry} {places} {conf} {doc} h more is-conf is-doc =
     let long : suc (2 * slave) < length places = omega (arith, h .room) in
     let less : count - (slave + 1) ≡ count - slave - 1 = omega arith in
     let two : 2 * (slave + 1) ≡ suc (suc (2 * slave)) = omega arith in
-    let cons = stated-cons 2 f entry (count - slave) (omega arith) in
-    let old : take (2 * slave) places ++ (conf ∷ doc ∷ statedPlaces 2 f (entry + 4) (count - slave - 1)) ≡ statedPlaces 2 f 16 count = rw (cons, ← is-conf, ← is-doc) at (h .all) in
+    let cons = stated-cons w f entry (count - slave) (omega arith) in
+    let old : take (2 * slave) places ++ (conf ∷ doc ∷ statedPlaces w f (entry + 2 * w) (count - slave - 1)) ≡ statedPlaces w f (headerSize w) count = rw (cons, ← is-conf, ← is-doc) at (h .all) in
     record {
       room = simp length-set (h .room);
       all = rw (two, add-one (2 * slave), take-two places (2 * slave) conf doc long, append-assoc, less) old;
     }
 
 -- what the loop along the table keeps
-pub record Surveying (f : List ℕ) (count size slave entry place : ℕ) (places : List ℕ) : Type 0 where
-  pub at : entry ≡ headerSize offsetWidth + entrySize offsetWidth * slave
+pub record Surveying (w : ℕ) (f : List ℕ) (count size slave entry place : ℕ) (places : List ℕ) : Type 0 where
+  pub at : entry ≡ headerSize w + 2 * w * slave
   pub most : slave ≤ count
   pub within : place ≤ length f
-  pub walk : walkSlaves offsetWidth f entry place (count - slave) ≡ walkSlaves offsetWidth f (headerSize offsetWidth) (headerSize offsetWidth + entrySize offsetWidth * count) count
-  pub written : Written f count slave entry places
+  pub walk : walkSlaves w f entry place (count - slave) ≡ walkSlaves w f (headerSize w) (headerSize w + 2 * w * count) count
+  pub written : Written w f count slave entry places
   pub same : length places ≡ size
 
-pub surveying-start : {f : List ℕ} {count : ℕ} {places : List ℕ} → 16 + 4 * count ≤ length f → 2 * count ≤ length places → Surveying f count (length places) 0 16 (16 + 4 * count) places
-surveying-start {f} {count} h room =
+pub surveying-start : {w : ℕ} {f : List ℕ} {count : ℕ} {places : List ℕ} → EntriesFit w f (headerSize w) count → 2 * count ≤ length places →
+    Surveying w f count (length places) 0 (headerSize w) (headerSize w + 2 * w * count) places
+surveying-start {w} {f} {count} h room =
     let same : count - 0 ≡ count = omega arith in
     record {
-      at = refl;
+      at = omega arith;
       most = omega arith;
-      within = h;
+      within = h .within;
       walk = rw same;
       written = record { room = room; all = rw same };
       same = refl;
     }
 
-module _ {f : List ℕ} {count size slave entry place : ℕ} {places : List ℕ} (h : Surveying f count size slave entry place places) where
-  pub surveying-stop : {good : Bool} {end conf doc : ℕ} → slave < count → SlaveWalked f entry place good end conf doc → good ≡ false → SlavesWalked f count false 0 places
+entries-rise : (w a b : ℕ) → a ≤ b → 2 * w * a ≤ 2 * w * b
+entries-rise w zero b l = omega arith
+entries-rise w (suc a) zero l = absurd (omega arith)
+entries-rise w (suc a) (suc b) l = omega (arith, entries-rise w a b (omega arith))
+
+module _ {w : ℕ} {f : List ℕ} {count size slave entry place : ℕ} {places : List ℕ} (h : Surveying w f count size slave entry place places) where
+  -- the table entry of a turn lies within the bytes
+  pub surveying-entry : EntriesFit w f (headerSize w) count → slave < count → EntriesFit w f entry 1
+  surveying-entry fit more =
+      let rise : 2 * w * suc slave ≤ 2 * w * count = entries-rise w (suc slave) count more in
+      record { width = fit .width; within = omega (arith, h .at, rise, fit .within); short = fit .short }
+
+  pub surveying-place : EntriesFit w f (headerSize w) count → place ≤ 16384 * w
+  surveying-place fit = omega (arith, h .within, fit .short)
+
+  pub surveying-stop : {good : Bool} {end conf doc : ℕ} → slave < count → SlaveWalked w f entry place good end conf doc → good ≡ false → SlavesWalked w f count false 0 places
   unfolding walkOf
   surveying-stop {good} {end} more s e =
-      let stopped : broken ≡ walkSlave 2 f entry place = rw e at (s .walk) in
+      let stopped : broken ≡ walkSlave w f entry place = rw e at (s .walk) in
       record {
-        walk = sym (slaves-stop 2 f entry place (count - slave) (omega arith) (sym stopped)) ∙ h .walk;
+        walk = sym (slaves-stop w f entry place (count - slave) (omega arith) (sym stopped)) ∙ h .walk;
         stated = λ t. clash t refl;
       }
 
-  pub surveying-next : {good : Bool} {end conf doc : ℕ} → slave < count → SlaveWalked f entry place good end conf doc → good ≡ true →
-      Surveying f count size (slave + 1) (entry + 4) end (set (set places (2 * slave) conf) (2 * slave + 1) doc)
+  pub surveying-next : {good : Bool} {end conf doc : ℕ} → slave < count → SlaveWalked w f entry place good end conf doc → good ≡ true →
+      Surveying w f count size (slave + 1) (entry + 2 * w) end (set (set places (2 * slave) conf) (2 * slave + 1) doc)
   unfolding walkOf
   surveying-next {good} {end} {conf} {doc} more s e =
-      let here : to end ≡ walkSlave 2 f entry place = rw e at (s .walk) in
+      let here : to end ≡ walkSlave w f entry place = rw e at (s .walk) in
       let less : count - (slave + 1) ≡ count - slave - 1 = omega arith in
       record {
         at = omega (arith, h .at);
         most = omega arith;
         within = s .within e;
-        walk = rw (less, ← (slaves-step 2 f entry place (count - slave) end (omega arith) (sym here))) (h .walk);
+        walk = rw (less, ← (slaves-step w f entry place (count - slave) end (omega arith) (sym here))) (h .walk);
         written = written-next (h .written) more (s .config e) (s .document e);
         same = simp length-set (h .same);
       }
 
-  pub surveying-done : count ≤ slave → SlavesWalked f count true place places
+  pub surveying-done : count ≤ slave → SlavesWalked w f count true place places
   unfolding walkOf walkSlaves statedPlaces
   surveying-done none =
       let z : count - slave ≡ 0 = omega arith in

@@ -9,28 +9,24 @@ use mathlib.Core.List.{List}
 use lib.ListN.{length, getD, set}
 use lib.Seq.{sets}
 use Rattle.file.specs.Rules.Bytes.{Byte, Bytes}
-use Rattle.file.specs.Rules.Layout.{offsetWidth, headerSize, recordSize}
+use mir.Syntax.{w64}
+use mir.Val.{Fits}
+use Rattle.file.specs.Rules.Layout.{recordSize}
 use Rattle.file.specs.Inner.Layout.{logicalNamePlace, epochPlace, flagPlace, pendingNamePlace, pendingPB2Place, pendingPB3Place}
 use Rattle.file.specs.Rules.Cluster.{Cluster, fileNumberOf, operationOf, bytesIn, configuration, documentation, newLogicalName, hasRecord}
-use Rattle.file.specs.Rules.Encode.{encode}
 use Rattle.file.specs.Rules.Decode.{decode, decodeAt}
-use Rattle.file.specs.Rules.Legal.{LegalPending, Legal}
-use Rattle.file.specs.Inner.Places.{slaveOf, filePlace, configurationIndex, putByte, putBytes}
+use Rattle.file.specs.Rules.Legal.{LegalPending}
+use Rattle.file.specs.Inner.Places.{slaveOf, widthIn, filePlace, configurationIndex, putByte, putBytes}
 use Rattle.file.specs.Rules.Changes.{withEpoch, withPending}
-use Rattle.file.specs.Inner.Accepted.{Becomes, slaveCount, Placed, PendingIs}
+use Rattle.file.specs.Inner.Accepted.{Becomes, AcceptedFile, EpochAt, slaveCount, Placed, PendingIs}
 use Rattle.file.proofs.Stores.{store-byte, store-bytes}
 use Rattle.file.proofs.Puts.{hasRecord-fits}
+use Rattle.file.proofs.AtWidth.{BecomesAt, at-edition, becomes-as, putByte-width, putBytes-width}
 use Rattle.file.proofs.HeaderStores.{store-epoch, store-pending}
 use Rattle.file.proofs.Kept.{legal-putByte, legal-putBytes, legal-withEpoch, legal-withPending}
-use Rattle.file.proofs.Accepted.{legal-becomes, encode-bytes}
-use Rattle.file.specs.Rules.Grounds.{fileGround}
-use Rattle.file.proofs.AcceptedFacts.{accepted}
+use Rattle.file.proofs.Accepted.{encode-bytes}
 use Rattle.file.proofs.ReaderLaws.{configuration-room, byte-there}
 use Rattle.file.proofs.Bytes.{byte-at}
-
--- the encoding of a legal cluster, by another name
-becomes-as : {f : List ℕ} {c : Cluster} → f ≡ encode c → Legal c → Becomes f c
-becomes-as {f} {c} e l = rw e (legal-becomes c l)
 
 -- an accepted file holds bytes
 pub becomes-bytes : {f : List ℕ} {c : Cluster} → Becomes f c → Bytes f
@@ -40,51 +36,89 @@ pub pending-byte : (c : Cluster) (flag name pb2 pb3 : ℕ) → LegalPending (wit
 unfolding withPending
 pending-byte c flag name pb2 pb3 p = p .pb2
 
-pub pending-read : (f : List ℕ) {name file operation : ℕ} → name ≡ getD f (pendingNamePlace offsetWidth) 0 → file ≡ fileNumberOf (getD f (pendingPB2Place offsetWidth) 0) →
-    operation ≡ operationOf (getD f (pendingPB2Place offsetWidth) 0) → PendingIs (decode f) (getD f (flagPlace offsetWidth) 0) name file operation (getD f (pendingPB3Place offsetWidth) 0)
-unfolding decode decodeAt
-pending-read f named number does = record { flagIs = refl; nameIs = named; fileIs = number; operationIs = does; recordIs = refl }
+-- ---- the header: the epoch and, behind it, the pending operation
 
-pub epoch-read : (f : List ℕ) → getD f (epochPlace offsetWidth) 0 ≡ decode f .epoch
-unfolding decode decodeAt
-epoch-read f = refl
+module _ {f : List ℕ} {at : ℕ} (e : EpochAt f at) where
+  -- each of its bytes is within the file
+  pub header-byte : (k : ℕ) → k < 8 → at + k < length f
+  header-byte k inside = omega (arith, e .room)
 
-pub header-room : {f : List ℕ} {c : Cluster} → Becomes f c → 16 ≤ length f
-unfolding fileGround
-header-room {f} h = accepted offsetWidth f .0 (h .accepted) .size .low
+  pub epoch-byte : at < length f
+  epoch-byte = omega (arith, e .room)
 
--- each of its bytes is within the file
-pub header-byte : {f : List ℕ} {c : Cluster} → Becomes f c → (k : ℕ) → k < headerSize offsetWidth → k < length f
-header-byte h k inside = omega (arith, header-room h)
+  pub header-byte-fits : (k : ℕ) → k < 8 → Fits w64 (at + k)
+  header-byte-fits k inside = record { fits = omega (arith, e .low) }
+
+module _ {f : List ℕ} {at : ℕ} (h : AcceptedFile f) (e : EpochAt f at) where
+  abbrev w : ℕ
+  w = widthIn (decode f .edition)
+
+  here : BecomesAt w f (decode f)
+  here = at-edition h
+
+  pub epoch-read : getD f at 0 ≡ decode f .epoch
+  unfolding decodeAt
+  epoch-read = rw (e .is) (ap (λ (c : Cluster). c .epoch) (here .decoded))
+
+  flag-at : at + 1 ≡ flagPlace w
+  flag-at = omega (arith, e .is)
+
+  name-at : at + 2 ≡ pendingNamePlace w
+  name-at = omega (arith, e .is)
+
+  pb2-at : at + 3 ≡ pendingPB2Place w
+  pb2-at = omega (arith, e .is)
+
+  pb3-at : at + 4 ≡ pendingPB3Place w
+  pb3-at = omega (arith, e .is)
+
+  pub pending-read : {name file operation : ℕ} → name ≡ getD f (at + 2) 0 → file ≡ fileNumberOf (getD f (at + 3) 0) →
+      operation ≡ operationOf (getD f (at + 3) 0) → PendingIs (decode f) (getD f (at + 1) 0) name file operation (getD f (at + 4) 0)
+  unfolding decodeAt
+  pending-read named number does =
+      record {
+        flagIs = rw flag-at (ap (λ (c : Cluster). c .flag) (here .decoded));
+        nameIs = (rw name-at at named) ∙ ap (λ (c : Cluster). c .pendingName) (here .decoded);
+        fileIs = (rw pb2-at at number) ∙ ap (λ (c : Cluster). fileNumberOf (c .pendingPB2)) (here .decoded);
+        operationIs = (rw pb2-at at does) ∙ ap (λ (c : Cluster). operationOf (c .pendingPB2)) (here .decoded);
+        recordIs = rw pb3-at (ap (λ (c : Cluster). c .pendingPB3) (here .decoded));
+      }
+
+  pub becomes-epoch : {b : ℕ} → Byte b → Becomes (set f at b) (withEpoch (decode f) b)
+  unfolding withEpoch
+  becomes-epoch {b} byte =
+      rw (e .is)
+      (becomes-as refl (ap (λ (l : List ℕ). set l (epochPlace w) b) (here .encoded) ∙ store-epoch w (decode f) b) (legal-withEpoch (decode f) b byte (h .legal)))
+
+  pub becomes-pending : (flag name pb2 pb3 : ℕ) {byte : ℕ} → byte ≡ pb2 → LegalPending (withPending (decode f) flag name pb2 pb3) →
+      Becomes (set (set (set (set f (at + 1) flag) (at + 2) name) (at + 3) byte) (at + 4) pb3) (withPending (decode f) flag name pb2 pb3)
+  unfolding withPending
+  becomes-pending flag name pb2 pb3 same p =
+      rw (flag-at, name-at, pb2-at, pb3-at, same)
+      (becomes-as refl
+      (ap (λ (l : List ℕ). set (set (set (set l (flagPlace w) flag) (pendingNamePlace w) name) (pendingPB2Place w) pb2) (pendingPB3Place w) pb3) (here .encoded)
+      ∙ store-pending w (decode f) flag name pb2 pb3)
+      (legal-withPending (decode f) flag name pb2 pb3 p (h .legal)))
+
+-- ---- the bytes of files
 
 module _ {f : List ℕ} {c : Cluster} (h : Becomes f c) where
-  pub becomes-epoch : {e : ℕ} → Byte e → Becomes (set f (epochPlace offsetWidth) e) (withEpoch c e)
-  unfolding encode
-  becomes-epoch {e} byte =
-      becomes-as (ap (λ (l : List ℕ). set l (epochPlace offsetWidth) e) (h .encoded) ∙ store-epoch offsetWidth c e) (legal-withEpoch c e byte (h .legal))
-
-  pub becomes-pending : (flag name pb2 pb3 : ℕ) {byte : ℕ} → byte ≡ pb2 → LegalPending (withPending c flag name pb2 pb3) →
-      Becomes (set (set (set (set f (flagPlace offsetWidth) flag) (pendingNamePlace offsetWidth) name) (pendingPB2Place offsetWidth) byte) (pendingPB3Place offsetWidth) pb3) (withPending c flag name pb2 pb3)
-  unfolding encode
-  becomes-pending flag name pb2 pb3 same p =
-      rw same
-      (becomes-as
-      (ap (λ (l : List ℕ). set (set (set (set l (flagPlace offsetWidth) flag) (pendingNamePlace offsetWidth) name) (pendingPB2Place offsetWidth) pb2) (pendingPB3Place offsetWidth) pb3) (h .encoded)
-      ∙ store-pending offsetWidth c flag name pb2 pb3)
-      (legal-withPending c flag name pb2 pb3 p (h .legal)))
+  wide : 2 ≤ widthIn (c .edition)
+  wide = at-edition h .width .least
 
   pub becomes-byte : (s n k b : ℕ) → n ≢ documentation → Byte b → k < length (bytesIn (slaveOf c s) n) → Becomes (set f (filePlace c s n + k) b) (putByte c s n k b)
-  unfolding encode filePlace
+  unfolding filePlace
   becomes-byte s n k b differ byte inside =
-      becomes-as (ap (λ (l : List ℕ). set l (filePlace c s n + k) b) (h .encoded) ∙ store-byte (omega arith) s n c k b inside) (legal-putByte c s n k b differ byte (h .legal))
+      becomes-as (putByte-width c s n k b)
+      (ap (λ (l : List ℕ). set l (filePlace c s n + k) b) (at-edition h .encoded) ∙ store-byte wide s n c k b inside) (legal-putByte c s n k b differ byte (h .legal))
 
   pub becomes-record : (s n r : ℕ) {bs : List ℕ} → n ≢ documentation → Bytes bs → length bs ≤ recordSize → hasRecord (slaveOf c s) n r ≡ true →
       Becomes (sets f (filePlace c s n + recordSize * r) bs) (putBytes c s n (recordSize * r) bs)
-  unfolding encode filePlace
+  unfolding filePlace
   becomes-record s n r {bs} differ bytes most has =
-      becomes-as
-      (ap (λ (l : List ℕ). sets l (filePlace c s n + recordSize * r) bs) (h .encoded)
-      ∙ store-bytes (omega arith) s n c (recordSize * r) bs (omega (arith, hasRecord-fits (slaveOf c s) n r has)))
+      becomes-as (putBytes-width c s n (recordSize * r) bs)
+      (ap (λ (l : List ℕ). sets l (filePlace c s n + recordSize * r) bs) (at-edition h .encoded)
+      ∙ store-bytes wide s n c (recordSize * r) bs (omega (arith, hasRecord-fits (slaveOf c s) n r has)))
       (legal-putBytes c s n (recordSize * r) differ bytes (h .legal))
 
 -- a slave's new logical name, stored as its logical name

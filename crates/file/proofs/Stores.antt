@@ -7,20 +7,19 @@ use native.Mathlib.Omega.{arith}
 use native.Mathlib.Nat.{zero-add, suc-add, add-zero}
 use mathlib.Core.Path.{_≡_, refl, ap, _∙_}
 use mathlib.Core.List.{List, [], _∷_, _++_, append-assoc}
-use mathlib.Core.Bool.{true}
 use lib.ListN.{length, getD, set, drop, length-drop, length-append, List·getD-append}
 use lib.Seq.{getD-append-add, drop-append-add, drop-append-le, take-append-le, set-append-left, sets}
 use lib.Dec.{eqb}
 use Rattle.file.specs.Rules.Bytes.{part}
-use Rattle.file.specs.Rules.Layout.{entrySize, recordSize}
-use Rattle.file.specs.Rules.Cluster.{File, Slave, Cluster, bytesAmong, bytesIn, hasRecord, recordOf}
+use Rattle.file.specs.Rules.Layout.{entrySize}
+use Rattle.file.specs.Rules.Cluster.{File, Slave, Cluster, bytesAmong, bytesIn}
 use Rattle.file.specs.Rules.Encode.{directory, contents, slaveSize, slaveBytes, slavesBytes, table, slavesPlace, header, encodeAt}
 use Rattle.file.specs.Inner.Places.{noSlave, slaveOf, placeAmong, filePlaceFrom, filePlaceAt, putByte, putBytes, SameShape}
 use Rattle.file.specs.Rules.Changes.{putAmong, putInSlave, withSlaves}
 use Rattle.file.proofs.Order.{byCase}
 use Rattle.file.proofs.Sizes.{directory-length, slaveBytes-length, table-length, header-length}
 use Rattle.file.proofs.Shape.{files-put, slave-put, files-count, files-directory, slave-size, shape-table, shape-count, shape-slavesPlace, shape-fileLength, shape-putByte}
-use Rattle.file.proofs.Puts.{putByte-filePlaceAt, putByte-bytes-length, hasRecord-fits}
+use Rattle.file.proofs.Puts.{putByte-filePlaceAt, putByte-bytes-length}
 
 -- ---- bytes that stand in a list
 
@@ -165,12 +164,3 @@ module _ {w : ℕ} (wide : 2 ≤ w) (s n : ℕ) where
       let here : k < length (bytesIn (slaveOf c s) n) = omega arith in
       let rest : suc k + length bs ≤ length (bytesIn (slaveOf (putByte c s n k b) s) n) = rw (putByte-bytes-length c s n k b s n) (omega arith) in
       rw (e, store-byte c k b here, ← putByte-filePlaceAt c s n k b w s n) (store-bytes (putByte c s n k b) (suc k) bs rest)
-
-  -- both of a record that is there
-  pub read-record : (c : Cluster) (r : ℕ) → hasRecord (slaveOf c s) n r ≡ true → part (encodeAt w c) (filePlaceAt w c s n + recordSize * r) recordSize ≡ recordOf (slaveOf c s) n r
-  unfolding recordOf
-  read-record c r has = read-part c (recordSize * r) recordSize (hasRecord-fits (slaveOf c s) n r has)
-
-  pub store-record : (c : Cluster) (r : ℕ) (bs : List ℕ) → length bs ≡ recordSize → hasRecord (slaveOf c s) n r ≡ true
-      → sets (encodeAt w c) (filePlaceAt w c s n + recordSize * r) bs ≡ encodeAt w (putBytes c s n (recordSize * r) bs)
-  store-record c r bs four has = store-bytes c (recordSize * r) bs (omega (arith, hasRecord-fits (slaveOf c s) n r has))

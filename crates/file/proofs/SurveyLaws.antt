@@ -10,16 +10,20 @@ use lib.Dec.{leb, eqb}
 use lib.ListN.{length, getD, take}
 use lib.Seq.{getD-take}
 use Rattle.file.specs.Rules.Order.{firstOf}
+use Rattle.file.specs.Rules.Layout.{editionOf, headerSize, entrySize, maxSlaves, maxLength}
+use Rattle.file.specs.Inner.Layout.{OffsetWidth}
 use Rattle.file.specs.Rules.Bytes.{All, Bytes}
+use mir.Syntax.{w64}
+use mir.Val.{Fits}
 use Rattle.file.specs.Inner.Numbers.{ByteAt}
 use Rattle.file.specs.Rules.Cluster.{physicalName}
-use Rattle.file.specs.Rules.Decode.{slavesAt, decodeAt, decode}
+use Rattle.file.specs.Rules.Decode.{slavesAt, decodeAt}
 use Rattle.file.specs.Rules.Results.{refused, done, resultOf}
-use Rattle.file.specs.Rules.Grounds.{to, walkSlaves, tableEnd, walkFile, brokenLayout, lacksNeeded, equalPhysicalNames, isAmong, hasRepeat, fileGround}
+use Rattle.file.specs.Rules.Grounds.{to, walkSlaves, tableEnd, walkFile, brokenLayout, lacksNeeded, equalPhysicalNames, isAmong, hasRepeat, fileGroundAt, fileGround}
 use Rattle.file.specs.Rules.Encode.{slavesPlace}
-use Rattle.file.specs.Inner.Places.{filePlaceAt, filePlace, placesEach}
-use Rattle.file.specs.Inner.Accepted.{PlacesOf, Placed}
-use Rattle.file.specs.Inner.Checked.{GoodHeader, HeaderChecked, PlacesFit, statedPlaces, documentationPlaces, walkOf, SlavesWalked, WholeWalk, BodyWalked, slavesGround, NameStands, namesAt, NamesStand}
+use Rattle.file.specs.Inner.Places.{widthIn, filePlaceAt, filePlace, placesEach}
+use Rattle.file.specs.Inner.Accepted.{PlacesOf, WidthOf}
+use Rattle.file.specs.Inner.Checked.{EntriesFit, GoodHeader, HeaderChecked, PlacesFit, statedPlaces, documentationPlaces, walkOf, SlavesWalked, WholeWalk, BodyWalked, slavesGround, NameStands, namesAt, NamesStand}
 use Rattle.file.specs.Inner.Surveyed.{Surveyed}
 use Rattle.file.proofs.Order.{byCase, clash}
 use Rattle.file.proofs.Facts.{true-unless, size-facts, header-facts}
@@ -27,113 +31,125 @@ use Rattle.file.proofs.Results.{result-done, result-refused}
 use Rattle.file.proofs.AcceptedFacts.{layout-whole}
 use Rattle.file.proofs.Arrivals.{broken-arrives, length-slavesAt}
 use Rattle.file.proofs.StatedSlaves.{needed-places, stated-names, stated-config, stated-document}
+use Rattle.file.proofs.SlaveWalkLaws.{entries-many}
 use Rattle.file.proofs.HeaderLaws.{after-header}
 use Rattle.file.proofs.Accepted.{accepted-becomes}
+use Rattle.file.proofs.AtWidth.{ground-at, decode-at}
 
 -- ---- ground 6 after a good header
 
 -- what the header says of the sizes
-pub header-sizes : (f : List ℕ) → GoodHeader 2 f → (16 ≤ length f) × (length f ≤ 32768) × (getD f 3 0 ≤ 32)
-header-sizes f h =
-    let size = size-facts 2 f (h .size) in
-    let rest = header-facts 2 f (h .rest) in
+pub header-sizes : (w : ℕ) (f : List ℕ) → GoodHeader w f → (headerSize w ≤ length f) × (length f ≤ maxLength w) × (getD f 3 0 ≤ maxSlaves w)
+header-sizes w f h =
+    let size = size-facts w f (h .size) in
+    let rest = header-facts w f (h .rest) in
     (size .low, size .high, rest .count)
 
-pub header-good : {f : List ℕ} {n : ℕ} → HeaderChecked f n → n ≡ 0 → GoodHeader 2 f
+pub header-good : {w : ℕ} {f : List ℕ} {n : ℕ} → HeaderChecked w f n → n ≡ 0 → GoodHeader w f
 header-good h none = h .passed none
 
-pub whole : {f places : List ℕ} {good : Bool} → BodyWalked f good places → good ≡ true → WholeWalk f places
+pub whole : {w : ℕ} {f places : List ℕ} {good : Bool} → BodyWalked w f good places → good ≡ true → WholeWalk w f places
 whole w e = w .whole e
 
 -- the count is within the bytes, and a list of places has room for it
-pub count-within : {f : List ℕ} → GoodHeader 2 f → 3 < length f
-count-within {f} h = omega (arith, header-sizes f h)
+pub count-within : {w : ℕ} {f : List ℕ} → GoodHeader w f → 3 < length f
+count-within {w} {f} h = omega (arith, header-sizes w f h)
 
-pub count-fits : {f places : List ℕ} {n : ℕ} → GoodHeader 2 f → PlacesFit places → ByteAt f 3 n → placesEach * n ≤ length places
-count-fits {f} {places} {n} h fit k = omega (arith, header-sizes f h, k .is, fit .room)
+pub count-fits : {w : ℕ} {f places : List ℕ} {n : ℕ} → GoodHeader w f → PlacesFit w places → ByteAt f 3 n → placesEach * n ≤ length places
+count-fits {w} {f} {places} {n} h fit k = omega (arith, header-sizes w f h, k .is, fit .room)
 
-pub file-fits : {f : List ℕ} → GoodHeader 2 f → length f ≤ 32768
-file-fits {f} h = omega (arith, header-sizes f h)
+pub file-fits : {w : ℕ} {f : List ℕ} → GoodHeader w f → length f ≤ maxLength w
+file-fits {w} {f} h = omega (arith, header-sizes w f h)
+
+-- the table's size and its end are numbers of the machine
+pub table-size-fits : {w : ℕ} {f : List ℕ} {at n : ℕ} → OffsetWidth w → ByteAt f at n → Fits w64 (2 * w * n)
+table-size-fits {w} {n = n} width b = record { fits = omega (arith, entries-many w n (width .most), b .byte) }
+
+pub table-end-fits : {w : ℕ} {f : List ℕ} {at n : ℕ} → OffsetWidth w → ByteAt f at n → Fits w64 (8 + 4 * w + 2 * w * n)
+table-end-fits {w} {n = n} width b = record { fits = omega (arith, entries-many w n (width .most), b .byte, width .most) }
+
+pub table-fits : {w : ℕ} {f : List ℕ} {n : ℕ} → OffsetWidth w → GoodHeader w f → 8 + 4 * w + 2 * w * n ≤ length f → EntriesFit w f (headerSize w) n
+table-fits width h fits = record { width = width; within = fits; short = file-fits h }
 
 arrived : {a b : ℕ} → to a ≡ to b → a ≡ b
 arrived q = cc
 
-layout-broken : (f : List ℕ) → (walkFile 2 f ≡ to (length f) → ⊥) → brokenLayout 2 f ≡ true
-layout-broken f h = true-unless (λ e. h (layout-whole 2 f .0 e))
+layout-broken : (w : ℕ) (f : List ℕ) → (walkFile w f ≡ to (length f) → ⊥) → brokenLayout w f ≡ true
+layout-broken w f h = true-unless (λ e. h (layout-whole w f .0 e))
 
-walk-file : (f : List ℕ) → 16 + 4 * getD f 3 0 ≤ length f → walkFile 2 f ≡ walkSlaves 2 f 16 (16 + 4 * getD f 3 0) (getD f 3 0)
+walk-file : (w : ℕ) (f : List ℕ) → headerSize w + entrySize w * getD f 3 0 ≤ length f → walkFile w f ≡ walkSlaves w f (headerSize w) (headerSize w + entrySize w * getD f 3 0) (getD f 3 0)
 unfolding walkFile tableEnd
-walk-file f h = rw (le-leb (16 + 4 * getD f 3 0) (length f) h)
+walk-file w f h = rw (le-leb (headerSize w + entrySize w * getD f 3 0) (length f) h)
 
-pub body-short : {f : List ℕ} {n : ℕ} (places : List ℕ) → ByteAt f 3 n → length f < 16 + 4 * n → BodyWalked f false places
+pub body-short : {w : ℕ} {f : List ℕ} {n : ℕ} (places : List ℕ) → ByteAt f 3 n → length f < headerSize w + entrySize w * n → BodyWalked w f false places
 unfolding walkFile tableEnd
-body-short {f} {n} places k h =
-    let past : length f < 16 + 4 * getD f 3 0 = omega (arith, k .is) in
+body-short {w} {f} {n} places k h =
+    let past : length f < headerSize w + entrySize w * getD f 3 0 = rw (← (k .is)) h in
     record {
-      broke = λ _. layout-broken f (λ e. broken-arrives (rw (lt-leb (16 + 4 * getD f 3 0) (length f) past) at e));
+      broke = λ _. layout-broken w f (λ e. broken-arrives (rw (lt-leb (headerSize w + entrySize w * getD f 3 0) (length f) past) at e));
       whole = λ t. clash t refl;
     }
 
-module _ {f : List ℕ} {n : ℕ} {good : Bool} {end : ℕ} {places : List ℕ} (k : ByteAt f 3 n) (fits : 16 + 4 * n ≤ length f) (w : SlavesWalked f n good end places) where
-  whole-is : walkFile 2 f ≡ walkOf good end
+module _ {w : ℕ} {f : List ℕ} {n : ℕ} {good : Bool} {end : ℕ} {places : List ℕ} (k : ByteAt f 3 n) (fits : headerSize w + entrySize w * n ≤ length f) (walked : SlavesWalked w f n good end places) where
+  whole-is : walkFile w f ≡ walkOf good end
   whole-is =
       let count = k .is in
-      let there : 16 + 4 * getD f 3 0 ≤ length f = omega (arith, count) in
-      walk-file f there ∙ rw (← count) (sym (w .walk))
+      let there : headerSize w + entrySize w * getD f 3 0 ≤ length f = rw (← count) fits in
+      walk-file w f there ∙ rw (← count) (sym (walked .walk))
 
-  pub body-broken : good ≡ false → BodyWalked f false places
+  pub body-broken : good ≡ false → BodyWalked w f false places
   unfolding walkOf
-  body-broken e = record { broke = λ _. layout-broken f (λ q. broken-arrives (rw (whole-is, e) at q)); whole = λ t. clash t refl }
+  body-broken e = record { broke = λ _. layout-broken w f (λ q. broken-arrives (rw (whole-is, e) at q)); whole = λ t. clash t refl }
 
-  pub body-walked : {t : Bool} → GoodHeader 2 f → good ≡ true → t ≡ eqb end (length f) → BodyWalked f t places
+  pub body-walked : {t : Bool} → GoodHeader w f → good ≡ true → t ≡ eqb end (length f) → BodyWalked w f t places
   unfolding walkOf
   body-walked header e same =
       record {
-        broke = λ t. layout-broken f (λ q. eqb-false end (length f) (sym same ∙ t) (arrived (rw (whole-is, e) at q)));
+        broke = λ t. layout-broken w f (λ q. eqb-false end (length f) (sym same ∙ t) (arrived (rw (whole-is, e) at q)));
         whole = λ t. record {
           header = header;
           walk = whole-is ∙ rw (e, eqb-true end (length f) (sym same ∙ t));
-          stated = rw (← (k .is)) (w .stated e);
+          stated = rw (← (k .is)) (walked .stated e);
         };
       }
 
 -- ---- grounds 7 and 8
 
-module _ {f places : List ℕ} (h : WholeWalk f places) where
-  slaves-walk : walkSlaves 2 f 16 (16 + 4 * getD f 3 0) (getD f 3 0) ≡ to (length f)
+module _ {w : ℕ} {f places : List ℕ} (h : WholeWalk w f places) where
+  slaves-walk : walkSlaves w f (headerSize w) (headerSize w + entrySize w * getD f 3 0) (getD f 3 0) ≡ to (length f)
   unfolding walkFile tableEnd
   slaves-walk =
-      byCase (leb (16 + 4 * getD f 3 0) (length f))
+      byCase (leb (headerSize w + entrySize w * getD f 3 0) (length f))
       (λ t. rw t at (h .walk))
       (λ t. broken-arrives (rw t at (h .walk)))
 
   pub whole-count-within : 3 < length f
   whole-count-within = count-within (h .header)
 
-  pub whole-count-fits : {n : ℕ} → PlacesFit places → ByteAt f 3 n → placesEach * n ≤ length places
+  pub whole-count-fits : {n : ℕ} → PlacesFit w places → ByteAt f 3 n → placesEach * n ≤ length places
   whole-count-fits fit k = count-fits (h .header) fit k
 
   abbrev stated-places : List ℕ
   stated-places = take (placesEach * getD f 3 0) places
 
-  lacks : lacksNeeded 2 f ≡ isAmong 0 stated-places
+  lacks : lacksNeeded w f ≡ isAmong 0 stated-places
   unfolding lacksNeeded decodeAt
-  lacks = rw (needed-places 2 f 16 (16 + 4 * getD f 3 0) (getD f 3 0) (length f) (omega arith) slaves-walk, ← (h .stated)) (twice (isAmong 0 stated-places))
+  lacks = rw (needed-places w f (headerSize w) (headerSize w + entrySize w * getD f 3 0) (getD f 3 0) (length f) (omega arith) slaves-walk, ← (h .stated)) (twice (isAmong 0 stated-places))
     where
       twice : (b : Bool) → not (not b) ≡ b
       twice true = refl
       twice false = refl
 
-  stand : isAmong 0 stated-places ≡ false → (map physicalName (slavesAt 2 f 16 (getD f 3 0)) ≡ namesAt f stated-places) × All (NameStands f) (documentationPlaces stated-places)
+  stand : isAmong 0 stated-places ≡ false → (map physicalName (slavesAt w f (headerSize w) (getD f 3 0)) ≡ namesAt f stated-places) × All (NameStands f) (documentationPlaces stated-places)
   stand e =
-      rw (h .stated) (stated-names 2 f 16 (16 + 4 * getD f 3 0) (getD f 3 0) (length f) (omega arith) slaves-walk (rw (h .stated) at e))
+      rw (h .stated) (stated-names w f (headerSize w) (headerSize w + entrySize w * getD f 3 0) (getD f 3 0) (length f) (omega arith) slaves-walk (rw (h .stated) at e))
 
   -- the code's count and its tests are values of its own, with their equations
   module _ {n : ℕ} (count : ByteAt f 3 n) {a : Bool} (missing : a ≡ isAmong 0 (take (placesEach * n) places)) where
     missing-is : a ≡ isAmong 0 stated-places
     missing-is = rw (count .is) at missing
 
-    pub lacks-file : a ≡ true → 7 ≡ slavesGround f
+    pub lacks-file : a ≡ true → 7 ≡ slavesGround w f
     unfolding slavesGround firstOf
     lacks-file e = rw (lacks, ← missing-is, e)
 
@@ -142,81 +158,85 @@ module _ {f places : List ℕ} (h : WholeWalk f places) where
       names-stand = rw (count .is) (record { all = stand (sym missing-is ∙ none) .1 })
 
       module _ {t : Bool} (is : t ≡ hasRepeat (namesAt f (take (placesEach * n) places))) where
-        repeats : equalPhysicalNames 2 f ≡ t
+        repeats : equalPhysicalNames w f ≡ t
         unfolding equalPhysicalNames decodeAt
         repeats = rw (stand (sym missing-is ∙ none) .0) (sym (rw (count .is) at is))
 
-        lacks-none : lacksNeeded 2 f ≡ false
+        lacks-none : lacksNeeded w f ≡ false
         lacks-none = lacks ∙ sym missing-is ∙ none
 
-        pub names-equal : t ≡ true → 8 ≡ slavesGround f
+        pub names-equal : t ≡ true → 8 ≡ slavesGround w f
         unfolding slavesGround firstOf
         names-equal e = rw (lacks-none, repeats, e)
 
-        pub slaves-good : t ≡ false → 0 ≡ slavesGround f
+        pub slaves-good : t ≡ false → 0 ≡ slavesGround w f
         unfolding slavesGround firstOf
         slaves-good e = rw (lacks-none, repeats, e)
 
 -- ---- the whole answer
 
 -- after a whole walk grounds 7 and 8 decide
-after-layout : {f places : List ℕ} → WholeWalk f places → fileGround f ≡ slavesGround f
+after-layout : {w : ℕ} {f places : List ℕ} → WholeWalk w f places → fileGroundAt w f ≡ slavesGround w f
 unfolding firstOf slavesGround
-after-layout {f} w = rw (after-header f (w .header), layout-whole 2 f .1 (w .walk))
+after-layout {w} {f} h = rw (after-header w f (h .header), layout-whole w f .1 (h .walk))
 
 -- where neither holds, no place is missing
-none-missing : {f places : List ℕ} → WholeWalk f places → slavesGround f ≡ 0 → isAmong 0 (take (placesEach * getD f 3 0) places) ≡ false
+none-missing : {w : ℕ} {f places : List ℕ} → WholeWalk w f places → slavesGround w f ≡ 0 → isAmong 0 (take (placesEach * getD f 3 0) places) ≡ false
 unfolding slavesGround firstOf
-none-missing {f} w e =
-    byCase (lacksNeeded 2 f)
+none-missing {w} {f} h e =
+    byCase (lacksNeeded w f)
     (λ t. absurd (seven (rw t at e)))
-    (λ t. sym (lacks w) ∙ t)
+    (λ t. sym (lacks h) ∙ t)
   where
     seven : _≡_ {A = ℕ} 7 0 → ⊥
     seven q = omega arith
 
 -- and they are those of the slaves
-placed-there : {f : List ℕ} (places : List ℕ) → WholeWalk f places → slavesGround f ≡ 0 → PlacesOf (decode f) places
-unfolding filePlace filePlaceAt slavesPlace decode decodeAt
-placed-there {f} places w e =
+placed-there : {w : ℕ} {f : List ℕ} (places : List ℕ) → OffsetWidth w → WholeWalk w f places → slavesGround w f ≡ 0 → PlacesOf (decodeAt w f) places
+unfolding filePlace filePlaceAt slavesPlace decodeAt
+placed-there {w} {f} places width h e =
     let k = getD f 3 0 in
-    let count = length-slavesAt 2 f 16 k in
-    let some = rw (w .stated) at (none-missing w e) in
-    let same : (i : ℕ) → i < 2 * k → getD places i 0 ≡ getD (statedPlaces 2 f 16 k) i 0 = λ i l. rw (← (w .stated)) (sym (getD-take (2 * k) places i 0 l)) in
+    let back : widthIn (editionOf w) ≡ w = omega (arith, width .even) in
+    let count = length-slavesAt w f (headerSize w) k in
+    let some = rw (h .stated) at (none-missing h e) in
+    let same : (i : ℕ) → i < 2 * k → getD places i 0 ≡ getD (statedPlaces w f (headerSize w) k) i 0 = λ i l. rw (← (h .stated)) (sym (getD-take (2 * k) places i 0 l)) in
     record {
       config = λ s l.
           let inside : s < k = rw count at l in
-          rw (same (2 * s) (omega arith), count) (stated-config 2 f 16 (16 + 4 * k) k (length f) s (slaves-walk w) some inside);
+          rw (back, same (2 * s) (omega arith), count) (stated-config w f (headerSize w) (headerSize w + entrySize w * k) k (length f) s (slaves-walk h) some inside);
       document = λ s l.
           let inside : s < k = rw count at l in
-          rw (same (2 * s + 1) (omega arith), count) (stated-document 2 f 16 (16 + 4 * k) k (length f) s (slaves-walk w) some inside);
+          rw (back, same (2 * s + 1) (omega arith), count) (stated-document w f (headerSize w) (headerSize w + entrySize w * k) k (length f) s (slaves-walk h) some inside);
     }
 
-module _ {f : List ℕ} (places : List ℕ) where
-  survey-refuses : {n : ℕ} → n ≡ fileGround f → (n ≡ 0 → ⊥) → Surveyed f (refused n) places
+module _ {f : List ℕ} {w : ℕ} (v : WidthOf f w) (places : List ℕ) where
+  survey-refuses : {n : ℕ} → n ≡ fileGroundAt w f → (n ≡ 0 → ⊥) → Surveyed f (refused n) places
   survey-refuses {n} is some =
       record {
-        is = result-refused tt some ∙ ap (λ (m : ℕ). resultOf m tt) is;
+        is = result-refused tt some ∙ ap (λ (m : ℕ). resultOf m tt) (is ∙ sym (ground-at v));
         placed = λ a. let z : _≡_ {A = ℕ} 0 1 = cc in absurd (omega arith);
       }
 
-  pub refused-by-header : {n : ℕ} → HeaderChecked f n → (n ≡ 0 → ⊥) → Surveyed f (refused n) places
+  pub refused-by-header : {n : ℕ} → HeaderChecked w f n → (n ≡ 0 → ⊥) → Surveyed f (refused n) places
   refused-by-header h some = survey-refuses (h .refused some) some
 
-  pub refused-by-layout : {good : Bool} {a : List ℕ} → GoodHeader 2 f → BodyWalked f good a → good ≡ false → Surveyed f (refused 6) places
+  pub refused-by-layout : {good : Bool} {a : List ℕ} → GoodHeader w f → BodyWalked w f good a → good ≡ false → Surveyed f (refused 6) places
   unfolding firstOf
-  refused-by-layout h w bad = survey-refuses (rw (after-header f h, w .broke bad)) (λ z. omega arith)
+  refused-by-layout h b bad = survey-refuses (rw (after-header w f h, b .broke bad)) (λ z. omega arith)
 
-  pub refused-by-slaves : {good : Bool} {n : ℕ} {a : List ℕ} → BodyWalked f good a → good ≡ true → n ≡ slavesGround f → (n ≡ 0 → ⊥) → Surveyed f (refused n) places
-  refused-by-slaves w good is some = survey-refuses (is ∙ sym (after-layout (w .whole good))) some
+  pub refused-by-slaves : {good : Bool} {n : ℕ} {a : List ℕ} → BodyWalked w f good a → good ≡ true → n ≡ slavesGround w f → (n ≡ 0 → ⊥) → Surveyed f (refused n) places
+  refused-by-slaves b good is some = survey-refuses (is ∙ sym (after-layout (b .whole good))) some
 
-  pub survey-accepts : {good : Bool} {n : ℕ} → Bytes f → BodyWalked f good places → good ≡ true → n ≡ slavesGround f → n ≡ 0 → Surveyed f (done tt) places
+  pub survey-accepts : {good : Bool} {n : ℕ} → Bytes f → BodyWalked w f good places → good ≡ true → n ≡ slavesGround w f → n ≡ 0 → Surveyed f (done tt) places
   survey-accepts bytes body walked is none =
-      let w = body .whole walked in
-      let good : fileGround f ≡ 0 = after-layout w ∙ (sym is ∙ none) in
+      let h = body .whole walked in
+      let good : fileGround f ≡ 0 = ground-at v ∙ after-layout h ∙ (sym is ∙ none) in
       record {
         is = sym (result-done good);
-        placed = λ _. record { file = accepted-becomes f bytes good; at = placed-there places w (sym is ∙ none) };
+        placed = λ _. record {
+          file = accepted-becomes f bytes good;
+          at = rw (decode-at v) (placed-there places (v .width) h (sym is ∙ none));
+        };
       }
 
 -- a list whose every element is a byte

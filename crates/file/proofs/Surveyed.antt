@@ -1,25 +1,25 @@
 -- What the layers above take from the survey of a file, by its answer; and that the places of an accepted file stay those of every file
--- with a cluster of the same shape.
+-- with a cluster of the same edition and shape.
 -- Assumes nothing.
 use Prim.Native.Nat.{ℕ, _<_}
 use mathlib.Core.Path.{_≡_, sym, ap, _∙_, subst}
 use mathlib.Core.List.{List}
 use mathlib.Core.Bool.{Bool, true, false, cond}
-use lib.ListN.{length, getD}
-use Rattle.file.specs.Rules.Cluster.{Cluster, configuration, documentation}
+use lib.ListN.{length}
+use Rattle.file.specs.Rules.Cluster.{Cluster, configuration, documentation, logicalNames}
 use Rattle.file.specs.Rules.Decode.{decode}
-use Rattle.file.specs.Rules.Layout.{offsetWidth}
-use Rattle.file.specs.Rules.Grounds.{fileGround, equalLogicalNames, loadGround, loadVerdict}
+use Rattle.file.specs.Rules.Grounds.{fileGround, hasRepeat, heldNames, loadGround, loadVerdict}
 use Rattle.file.specs.Rules.Results.{refused, done, resultOf}
 use Rattle.file.specs.Inner.Places.{filePlace, SameShape}
-use Rattle.file.specs.Inner.Accepted.{Becomes, AcceptedFile, slaveCount, PlacesOf, Placed}
+use Rattle.file.specs.Inner.Accepted.{Becomes, AcceptedFile, slaveCount, Placed}
 use Rattle.file.specs.Inner.Answers.{checkedOf}
 use Rattle.file.specs.Inner.Surveyed.{Surveyed}
 use Rattle.file.specs.declared.survey.FileAnswer.{FileAnswer}
 use Rattle.file.specs.declared.survey.FileAnswer.the-variants as answers
 use Rattle.file.specs.declared.types.Refusal.{Refusal}
-use Rattle.file.proofs.Results.{load-first, load-last, result-refused, no-ground, that-ground}
-use Rattle.file.proofs.Shape.{shape-count, shape-filePlaceAt}
+use Rattle.file.proofs.Results.{load-first, load-twice, result-refused, no-ground, that-ground}
+use Rattle.file.proofs.Shape.{shape-count}
+use Rattle.file.proofs.AtWidth.{shape-filePlace}
 use Rattle.file.proofs.ReaderLaws.{becomes-decoded}
 
 -- ---- the answer of the survey
@@ -48,9 +48,9 @@ module _ {f places : List ℕ} {a : FileAnswer} (s : Surveyed f (checkedOf a) pl
       let ground : loadGround f ≡ why .0 = load-first f (λ z. some (is ∙ z)) ∙ sym is in
       rw ground (result-refused tt some)
 
-  module _ (e : a ≡ answers.Accepted) {t : Bool} (test : t ≡ equalLogicalNames offsetWidth f) where
+  module _ (e : a ≡ answers.Accepted) {t : Bool} (test : t ≡ hasRepeat (heldNames (logicalNames (decode f)))) where
     last-ground : loadGround f ≡ cond t 22 0
-    last-ground = load-last f (survey-accepted e) ∙ rw test
+    last-ground = load-twice f (survey-accepted e) ∙ rw test
 
     pub check-equal : t ≡ true → refused 22 ≡ loadVerdict f
     unfolding loadVerdict resultOf
@@ -60,23 +60,19 @@ module _ {f places : List ℕ} {a : FileAnswer} (s : Surveyed f (checkedOf a) pl
     unfolding loadVerdict resultOf
     check-accepts once = rw (last-ground, once)
 
--- ---- another file, with a cluster of the same shape
+-- ---- another file, with a cluster of the same edition and shape
 
-module _ (f : List ℕ) {g : List ℕ} {c : Cluster} (b : Becomes g c) (same : SameShape (decode f .slaves) (c .slaves)) where
-  pub kept-count : slaveCount g ≡ slaveCount f
-  kept-count = ap (λ (d : Cluster). length (d .slaves)) (b .decoded) ∙ sym (shape-count same)
+pub kept-count : (f : List ℕ) {g : List ℕ} {c : Cluster} → Becomes g c → SameShape (decode f .slaves) (c .slaves) → slaveCount g ≡ slaveCount f
+kept-count f b same = ap (λ (d : Cluster). length (d .slaves)) (b .decoded) ∙ sym (shape-count same)
 
-  pub kept-place : (s n : ℕ) → filePlace (decode g) s n ≡ filePlace (decode f) s n
-  unfolding filePlace
-  kept-place s n = rw (b .decoded) (sym (shape-filePlaceAt (decode f) c same _ s n))
-
-pub placed-kept : {f g places : List ℕ} {c : Cluster} → Placed f places → Becomes g c → SameShape (decode f .slaves) (c .slaves) → Placed g places
-placed-kept {f} {g} p b same =
+pub placed-kept : {f g places : List ℕ} {c : Cluster} → Placed f places → Becomes g c → c .edition ≡ decode f .edition → SameShape (decode f .slaves) (c .slaves) → Placed g places
+placed-kept {f} {g} {c = c} p b edition same =
     let inside : (s : ℕ) → s < slaveCount g → s < slaveCount f = λ s l. subst (λ (n : ℕ). s < n) (kept-count f b same) l in
+    let place : (s n : ℕ) → filePlace (decode f) s n ≡ filePlace (decode g) s n = λ s n. rw (b .decoded) (shape-filePlace (decode f) c (sym edition) same s n) in
     record {
       file = becomes-decoded b;
       at = record {
-        config = λ s l. p .at .config s (inside s l) ∙ sym (kept-place f b same s configuration);
-        document = λ s l. p .at .document s (inside s l) ∙ sym (kept-place f b same s documentation);
+        config = λ s l. p .at .config s (inside s l) ∙ place s configuration;
+        document = λ s l. p .at .document s (inside s l) ∙ place s documentation;
       };
     }

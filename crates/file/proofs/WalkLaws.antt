@@ -10,13 +10,15 @@ use borrow.Author.Tests.{eq-eqb, ne-eqb, le-leb, lt-leb, leb-true, eqb-true}
 use lib.ListN.{length, getD}
 use lib.Dec.{leb, eqb}
 use Rattle.file.specs.Rules.Bytes.{allZero, part}
+use mir.Syntax.{w64}
+use mir.Val.{Fits}
 use Rattle.file.specs.Inner.Numbers.{ByteAt, NumberAt}
-use Rattle.file.specs.Rules.Layout.{entrySize, fillLength}
+use Rattle.file.specs.Rules.Layout.{entrySize}
 use Rattle.file.specs.Rules.Decode.{offsetAt, fileSize}
 use Rattle.file.specs.Rules.Grounds.{Walk, broken, to, goodEntry, walkDirectory}
 use Rattle.file.specs.Inner.Checked.{EntriesFit, states, statedPlace, nextEntry, fitsSoFar, walkOf, DirectoryWalked}
 use Rattle.file.proofs.Order.{byCase, clash, both-left, both-right, both-true, both-next, both-false-left, both-false-right}
-use Rattle.file.proofs.Facts.{false-unless, EntryFacts, entry-facts, entry-yes, zeros-none}
+use Rattle.file.proofs.Facts.{false-unless, EntryFacts, entry-facts, entry-yes}
 
 -- ---- the definitions, an entry at a time
 
@@ -121,43 +123,71 @@ walk-next w f d low place k more e =
     (λ t. rw t (walk-step w f d low place k more (good ∙ t)))
     (λ t. rw t (walk-stop w f d low place k more (good ∙ t)))
 
+-- ---- entries that fit
+
+-- there are few of them, and one more of those that are left
+entries-few : (w k : ℕ) → 2 ≤ w → 4 * k ≤ 2 * w * k
+entries-few w zero h = omega arith
+entries-few w (suc k) h = omega (arith, entries-few w k h)
+
+pub fit-few : {w : ℕ} {f : List ℕ} {d k : ℕ} → EntriesFit w f d k → k ≤ 16384
+fit-few {w} {f} {d} {k} fit = omega (arith, fit .within, fit .short, fit .width .most, entries-few w k (fit .width .least))
+
+pub more-left : (w a b left : ℕ) → a + 2 * w * left ≡ b → a < b → (l : ℕ) × (left ≡ suc l)
+more-left w a b zero e h = absurd (omega arith)
+more-left w a b (suc l) e h = (l, refl)
+
+pub none-left : (w a b left : ℕ) → 2 ≤ w → a + 2 * w * left ≡ b → b ≤ a → left ≡ 0
+none-left w a b zero p e h = refl
+none-left w a b (suc l) p e h = absurd (omega arith)
+
+-- the entry at which a loop along them stands is one of them
+pub entry-fits : {w : ℕ} {f : List ℕ} {d k : ℕ} → EntriesFit w f d k → (entry left : ℕ) → entry + 2 * w * left ≡ d + 2 * w * k → entry < d + 2 * w * k → EntriesFit w f entry 1
+entry-fits {w} {f} {d} {k} fit entry left at more =
+    let m = more-left w entry (d + 2 * w * k) left at more in
+    let e : entry + 2 * w * suc (m .0) ≡ d + 2 * w * k = rw (m .1) at at in
+    record { width = fit .width; within = omega (arith, e, fit .within); short = fit .short }
+
 -- what the loop along the k entries of the directory at d keeps
-pub record Walking (f : List ℕ) (d k entry low place : ℕ) : Type 0 where
+pub record Walking (w : ℕ) (f : List ℕ) (d k entry low place : ℕ) : Type 0 where
   pub left : ℕ
-  pub at : entry + 4 * left ≡ d + 4 * k
-  pub small : place + 1024 * left ≤ 32768 + 1024 * k
-  pub walk : held f low place (walkDirectory 2 f entry low place left) ≡ walkDirectory 2 f d 0 (d + 4 * k) k
+  pub at : entry + 2 * w * left ≡ d + 2 * w * k
+  pub small : place + 1024 * left ≤ 65536 + 1024 * k
+  pub walk : held f low place (walkDirectory w f entry low place left) ≡ walkDirectory w f d 0 (d + 2 * w * k) k
 
-pub walking-start : {f : List ℕ} {d k : ℕ} → EntriesFit f d k → Walking f d k d 0 (d + 4 * k)
+pub walking-start : {w : ℕ} {f : List ℕ} {d k : ℕ} → EntriesFit w f d k → Walking w f d k d 0 (d + 2 * w * k)
 unfolding held fitsSoFar
-walking-start {f} {d} {k} fit =
+walking-start {w} {f} {d} {k} fit =
     let h = fit .within in
-    let most = fit .short in
-    let all : fitsSoFar f 0 (d + 4 * k) ≡ true = both-true (le-leb 0 64 (omega arith)) (le-leb (d + 4 * k) (length f) h) in
-    record { left = k; at = refl; small = omega arith; walk = rw all }
+    let all : fitsSoFar f 0 (d + 2 * w * k) ≡ true = both-true (le-leb 0 64 (omega arith)) (le-leb (d + 2 * w * k) (length f) h) in
+    record { left = k; at = refl; small = omega (arith, h, fit .short, fit .width .most); walk = rw all }
 
-module _ {f : List ℕ} {d k entry low place : ℕ} (h : Walking f d k entry low place) where
+module _ {w : ℕ} {f : List ℕ} {d k entry low place : ℕ} (fit : EntriesFit w f d k) (h : Walking w f d k entry low place) where
   -- the entry of a turn lies within the bytes
-  pub walking-entry : EntriesFit f d k → entry < d + 4 * k → EntriesFit f entry 1
-  walking-entry fit more = record { within = omega (arith, h .at, fit .within); short = fit .short }
+  pub walking-entry : entry < d + 2 * w * k → EntriesFit w f entry 1
+  walking-entry more = entry-fits fit entry (h .left) (h .at) more
 
-  some-left : entry < d + 4 * k → 0 < h .left
-  some-left more = omega (arith, h .at)
+  -- the place of the next turn is a number of the machine
+  pub walking-fits : {at last : ℕ} → ByteAt f at last → Fits w64 (place + 4 * (last + 1))
+  walking-fits b = record { fits = omega (arith, h .small, fit-few fit, b .byte) }
 
-  pub walking-stop : {t : Bool} → entry < d + 4 * k → t ≡ nextEntry 2 f entry low place → t ≡ false → DirectoryWalked f d k false 0
+  some-left : entry < d + 2 * w * k → 0 < h .left
+  some-left more = let m = more-left w entry (d + 2 * w * k) (h .left) (h .at) more in omega (arith, m .1)
+
+  pub walking-stop : {t : Bool} → entry < d + 2 * w * k → t ≡ nextEntry w f entry low place → t ≡ false → DirectoryWalked w f d k false 0
   unfolding walkOf
   walking-stop more is e =
-      let stopped = walk-stop 2 f entry low place (h .left) (some-left more) (good-other 2 f entry low place (sym is ∙ e)) in
+      let stopped = walk-stop w f entry low place (h .left) (some-left more) (good-other w f entry low place (sym is ∙ e)) in
       record {
         walk = sym (held-broken f low place) ∙ (rw stopped at (h .walk));
         within = λ t. clash t refl;
       }
 
-  pub walking-done : {t : Bool} → d + 4 * k ≤ entry → t ≡ fitsSoFar f low place → DirectoryWalked f d k t place
+  pub walking-done : {t : Bool} → d + 2 * w * k ≤ entry → t ≡ fitsSoFar f low place → DirectoryWalked w f d k t place
   unfolding walkOf walkDirectory held fitsSoFar
   walking-done {t} none is =
-      let z : h .left ≡ 0 = omega (arith, h .at) in
-      let ended : cond (fitsSoFar f low place) (to place) broken ≡ walkDirectory 2 f d 0 (d + 4 * k) k = rw z at (h .walk) in
+      let z : h .left ≡ 0 = none-left w entry (d + 2 * w * k) (h .left) (fit .width .least) (h .at) none in
+      let ended : cond (fitsSoFar f low place) (to place) broken ≡ walkDirectory w f d 0 (d + 2 * w * k) k = rw z at (h .walk) in
       byCase t
       (λ e. record {
         walk = rw e (rw (sym is ∙ e) at ended);
@@ -168,38 +198,46 @@ module _ {f : List ℕ} {d k entry low place : ℕ} (h : Walking f d k entry low
         within = λ q. clash q e;
       })
 
-  pub walking-next : {t : Bool} {number last : ℕ} → entry < d + 4 * k → t ≡ nextEntry 2 f entry low place → t ≡ true →
-      ByteAt f entry number → ByteAt f (entry + 1) last → Walking f d k (entry + 4) (number + 1) (place + 4 * (last + 1))
+  pub walking-next : {t : Bool} {number last : ℕ} → entry < d + 2 * w * k → t ≡ nextEntry w f entry low place → t ≡ true →
+      ByteAt f entry number → ByteAt f (entry + 1) last → Walking w f d k (entry + 2 * w) (number + 1) (place + 4 * (last + 1))
   unfolding fileSize nextEntry
   walking-next {number = number} {last = last} more is e a b =
       let some = some-left more in
+      let m = more-left w entry (d + 2 * w * k) (h .left) (h .at) more in
+      let less : h .left - 1 ≡ m .0 = omega (arith, m .1) in
+      let was : entry + 2 * w * suc (m .0) ≡ d + 2 * w * k = rw (m .1) at (h .at) in
       let rising : low ≤ getD f entry 0 = leb-true _ _ (both-left _ _ (sym is ∙ e)) in
-      let rest = walkDirectory 2 f (entry + 4) (suc (getD f entry 0)) (place + 4 * (getD f (entry + 1) 0 + 1)) (h .left - 1) in
+      let rest = walkDirectory w f (entry + 2 * w) (suc (getD f entry 0)) (place + 4 * (getD f (entry + 1) 0 + 1)) (h .left - 1) in
       let twice = held-twice f {low = low} {low′ = suc (getD f entry 0)} {place = place} {place′ = place + 4 * (getD f (entry + 1) 0 + 1)} rest (omega arith) (omega arith) in
       record {
         left = h .left - 1;
-        at = omega (arith, h .at);
+        at = rw less (omega (arith, was));
         small = omega (arith, h .small, b .byte);
-        walk = rw (add-one number, a .is, b .is, ← twice, ← (walk-next 2 f entry low place (h .left) some (sym is ∙ e))) (h .walk);
+        walk = rw (add-one number, a .is, b .is, ← twice, ← (walk-next w f entry low place (h .left) some (sym is ∙ e))) (h .walk);
       }
 
 -- ---- the tests of an entry
 
-pub next-low : {f : List ℕ} (d low place : ℕ) {n : ℕ} → ByteAt f d n → n < low → false ≡ nextEntry 2 f d low place
-unfolding nextEntry
-next-low {f} d low place k h = sym (both-false-left _ (lt-leb low (getD f d 0) (omega (arith, k .is))))
+module _ (w : ℕ) (f : List ℕ) (d low place : ℕ) where
+  pub next-low : {n : ℕ} → ByteAt f d n → n < low → false ≡ nextEntry w f d low place
+  unfolding nextEntry
+  next-low k h = sym (both-false-left _ (lt-leb low (getD f d 0) (omega (arith, k .is))))
 
-pub next-empty : {f : List ℕ} (d low place : ℕ) {n : ℕ} → ByteAt f (d + 1) n → n < 1 → false ≡ nextEntry 2 f d low place
-unfolding nextEntry
-next-empty {f} d low place k h = sym (both-false-right (leb low (getD f d 0)) (both-false-left _ (lt-leb 1 (getD f (d + 1) 0) (omega (arith, k .is)))))
+  pub next-empty : {n : ℕ} → ByteAt f (d + 1) n → n < 1 → false ≡ nextEntry w f d low place
+  unfolding nextEntry
+  next-empty k h = sym (both-false-right (leb low (getD f d 0)) (both-false-left _ (lt-leb 1 (getD f (d + 1) 0) (omega (arith, k .is)))))
 
-pub next-last : {f : List ℕ} (d low place : ℕ) {number last offset : ℕ} → ByteAt f d number → ByteAt f (d + 1) last → low ≤ number → 1 ≤ last →
-    NumberAt f (d + 2) 2 offset → eqb offset place ≡ nextEntry 2 f d low place
-unfolding nextEntry offsetAt
-next-last {f} d low place {number} {last} {offset} a b rising some o =
-    let p₁ = le-leb low (getD f d 0) (omega (arith, a .is)) in
-    let p₂ = le-leb 1 (getD f (d + 1) 0) (omega (arith, b .is)) in
-    rw (both-next _ p₁, both-next _ p₂, both-next _ (zeros-none f (d + 2)), o .is)
+  pub next-unfilled : {t : Bool} → t ≡ allZero (part f (d + 2) (w - 2)) → t ≡ false → false ≡ nextEntry w f d low place
+  unfolding nextEntry
+  next-unfilled is e = sym (both-false-right (leb low (getD f d 0)) (both-false-right (leb 1 (getD f (d + 1) 0)) (both-false-left _ (sym is ∙ e))))
+
+  pub next-last : {t : Bool} {number last offset : ℕ} → ByteAt f d number → ByteAt f (d + 1) last → low ≤ number → 1 ≤ last →
+      t ≡ allZero (part f (d + 2) (w - 2)) → t ≡ true → NumberAt f (d + w) w offset → eqb offset place ≡ nextEntry w f d low place
+  unfolding nextEntry offsetAt
+  next-last {number = number} {last} {offset} a b rising some is e o =
+      let p₁ = le-leb low (getD f d 0) (omega (arith, a .is)) in
+      let p₂ = le-leb 1 (getD f (d + 1) 0) (omega (arith, b .is)) in
+      rw (both-next _ p₁, both-next _ p₂, both-next _ (sym is ∙ e), o .is)
 
 pub fits-not : (f : List ℕ) (low place : ℕ) → 64 < low → false ≡ fitsSoFar f low place
 unfolding fitsSoFar

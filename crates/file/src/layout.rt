@@ -1,5 +1,6 @@
-// The numbers of the layout, edition 1 (document 01, "The cluster file"). The layers above take what they need of them by name: the size
-// of a record, how many slaves and bytes a file may have, the flag of a pending operation.
+// The numbers of the layout (document 01, "The cluster file"): those of edition 1, and what they are over the width of an offset. The
+// layers above take what they need of them by name: the size of a record, how many bytes a file may have, the flag of a pending
+// operation.
 use crate::types::RecordNumber;
 
 // "Header, 16 bytes: 0 to 1 the mark 0x54 0x41; 2 the edition, 1; 3 the slave count, 0 to 32; 4 to 5 the offset of the slave table, 16;
@@ -14,49 +15,65 @@ pub const MARK_1: usize = 0x41;
 
 pub const EDITION_PLACE: usize = 2;
 
-pub const EDITION: usize = 1;
-
 pub const COUNT_PLACE: usize = 3;
 
 pub const TABLE_PLACE: usize = 4;
 
-pub const LENGTH_PLACE: usize = 6;
+// The bytes of an offset in edition 1: an edition's number is its width by this one.
+pub const OFFSET_WIDTH: usize = 2;
 
-pub const EPOCH_PLACE: usize = 8;
+// The header over the width: 8 bytes and four offsets. The table's offset and the file's length stand behind the slave count, then the
+// epoch; the fields behind that, counted from it. Edition 1 has three zeros.
+pub const HEADER_BYTES: usize = 8;
 
-pub const FLAG_PLACE: usize = 9;
+pub const HEADER_OFFSETS: usize = 4;
 
-pub const PENDING_NAME_PLACE: usize = 10;
+pub const EPOCH_OFFSETS: usize = 2;
 
-pub const PENDING_PB2_PLACE: usize = 11;
+pub const FLAG_FIELD: usize = 1;
 
-pub const PENDING_PB3_PLACE: usize = 12;
+pub const PENDING_NAME_FIELD: usize = 2;
 
-pub const ZEROS_PLACE: usize = 13;
+pub const PENDING_PB2_FIELD: usize = 3;
 
-pub const HEADER_SIZE: usize = 16;
+pub const PENDING_PB3_FIELD: usize = 4;
+
+pub const ZERO_FIELD_0: usize = 5;
+
+pub const ZERO_FIELD_1: usize = 6;
+
+pub const ZERO_FIELD_2: usize = 7;
+
+pub const MORE_ZEROS_FIELD: usize = 8;
+
+// "the slave count, 0 to 32", "longer than 32,768 bytes": 16 slaves and 16,384 bytes for each byte of an offset.
+pub const MOST_SLAVES_BY_WIDTH: usize = 16;
+
+pub const LONGEST_BY_WIDTH: usize = 16384;
 
 // The flag of a pending operation.
 pub const PENDING: u8 = 1;
 
-// "A table entry is 4 bytes: directory offset (2), file count (1), zero."
-pub const ENTRY_SIZE: usize = 4;
+// "A table entry is 4 bytes: directory offset (2), file count (1), zero." Over the width an entry is two offsets. Behind a table entry's
+// offset: the file count, its zero, and the zeros that fill the entry up.
+pub const ENTRY_OFFSETS: usize = 2;
 
-pub const FILE_COUNT_PLACE: usize = 2;
+pub const TABLE_ZERO_FIELD: usize = 1;
 
-pub const TABLE_ZERO_PLACE: usize = 3;
+pub const TABLE_FILL_FIELD: usize = 2;
 
 // "A directory entry is 4 bytes: file number 0 to 63, strictly rising; record count r, 1 to 255; offset (2)."
 pub const RECORD_COUNT_PLACE: usize = 1;
 
-pub const FILE_OFFSET_PLACE: usize = 2;
+// Its offset is its second half; the zeros that fill the first half up stand behind the record count.
+pub const FILL_PLACE: usize = 2;
 
 pub const FILE_NUMBERS: usize = 64;
 
 pub const LEAST_RECORD: usize = 1;
 
 // "longer than 32,768 bytes"
-pub const LONGEST: usize = 32768;
+pub const LONGEST: usize = LONGEST_BY_WIDTH * OFFSET_WIDTH;
 
 // "A file is 4(r + 1) bytes, records 0x00 to r"
 pub const RECORD_SIZE: usize = 4;

@@ -2,7 +2,8 @@
 ghost use Prim.Native.Nat.{_+_, _≤_, _<_};
 ghost use lib.ListN.{length};
 ghost use Rattle.file.specs.Inner.Numbers.{ByteAt, NumberAt};
-ghost use Rattle.file.specs.Inner.Layout.{shortWidth, longWidth};
+ghost use Rattle.file.specs.Inner.Layout.{OffsetWidth, shortWidth, longWidth};
+use crate::layout::OFFSET_WIDTH;
 
 // The byte at a place, as an index.
 pub fn byte_at(file: &[u8], at: usize) -> usize
@@ -20,6 +21,19 @@ pub fn u16_at(file: &[u8], at: usize) -> usize
     let high = byte_at(file, at);
     let low = byte_at(file, at + 1);
     (high << 8) | low
+}
+
+// The offset at a place, of the width of its edition.
+pub fn offset_at(file: &[u8], width: usize, at: usize) -> usize
+    requires { ⌜ OffsetWidth width × (at + width ≤ length (now file)) ⌝ }
+    ensures { λ r. ⌜ NumberAt (now (file .entry)) at width r ⌝ }
+{
+    if width == OFFSET_WIDTH {
+        return u16_at(file, at);
+    }
+    let high = u16_at(file, at);
+    let low = u16_at(file, at + 2);
+    (high << 16) | low
 }
 
 // The eight-byte number at a place. Eight shifted bytes joined in one row are compiled to one load; two halves of four are not.

@@ -3,33 +3,33 @@ ghost use mathlib.Core.Path.{_≡_};
 ghost use mathlib.Core.List.{_++_};
 ghost use Prim.Native.Nat.{_≤_, _<_};
 ghost use lib.ListN.{length, drop};
-ghost use Rattle.file.specs.Rules.Layout.{offsetWidth};
 ghost use Rattle.file.specs.Rules.Cluster.{logicalName, logicalNames, physicalName, comparisonValue};
 ghost use Rattle.file.specs.Rules.Decode.{decode};
 ghost use Rattle.file.specs.Inner.Places.{slaveOf};
 ghost use Rattle.file.specs.Inner.Typed.{fileIn, recordIn, nameIn, operationIn};
-ghost use Rattle.file.specs.Inner.Accepted.{AcceptedFile, slaveCount, Placed, PendingIs, findFile, findRecord, isDocumented};
+ghost use Rattle.file.specs.Inner.Accepted.{AcceptedFile, WidthOf, EpochAt, slaveCount, Placed, PendingIs, findFile, findRecord, isDocumented};
 ghost use Rattle.file.specs.Inner.Checked.{EntriesFit, searchDirectory};
 ghost use Rattle.file.specs.Inner.Answers.{foundFile, foundRecord};
 use crate::layout::COMPARISON_VALUE_PLACE;
 use crate::layout::COUNT_PLACE;
-use crate::layout::ENTRY_SIZE;
-use crate::layout::EPOCH_PLACE;
-use crate::layout::FILE_COUNT_PLACE;
-use crate::layout::FILE_OFFSET_PLACE;
-use crate::layout::FLAG_PLACE;
-use crate::layout::HEADER_SIZE;
+use crate::layout::ENTRY_OFFSETS;
+use crate::layout::EPOCH_OFFSETS;
+use crate::layout::FLAG_FIELD;
+use crate::layout::HEADER_BYTES;
+use crate::layout::HEADER_OFFSETS;
 use crate::layout::LOGICAL_NAME_PLACE;
 use crate::layout::NEEDED_CONFIGURATION;
 use crate::layout::NEEDED_DOCUMENTATION;
-use crate::layout::PENDING_NAME_PLACE;
-use crate::layout::PENDING_PB2_PLACE;
-use crate::layout::PENDING_PB3_PLACE;
+use crate::layout::OFFSET_WIDTH;
+use crate::layout::PENDING_NAME_FIELD;
+use crate::layout::PENDING_PB2_FIELD;
+use crate::layout::PENDING_PB3_FIELD;
 use crate::layout::PHYSICAL_NAME_PLACE;
 use crate::layout::RECORD_COUNT_PLACE;
 use crate::layout::RECORD_SIZE;
+use crate::layout::TABLE_PLACE;
 use crate::numbers::byte_at;
-use crate::numbers::u16_at;
+use crate::numbers::offset_at;
 use crate::numbers::u64_at;
 use crate::operations::file_number_of;
 use crate::operations::operation_of;
@@ -39,6 +39,21 @@ use crate::types::Operation;
 use crate::types::PLACES_EACH;
 use crate::types::RecordNumber;
 use crate::types::SlavePlaces;
+
+// The bytes of an offset in a file, by its edition: there is one, edition 1.
+pub fn width_of(file: &[u8]) -> usize
+    ensures { λ r. ⌜ WidthOf (now (file .entry)) r ⌝ }
+{
+    OFFSET_WIDTH
+}
+
+// Where the header keeps the epoch. The pending operation stands behind it.
+pub fn epoch_place(file: &[u8]) -> usize
+    requires { ⌜ AcceptedFile (now file) ⌝ }
+    ensures { λ r. ⌜ EpochAt (now (file .entry)) r ⌝ }
+{
+    TABLE_PLACE + EPOCH_OFFSETS * width_of(file)
+}
 
 // The number of slaves.
 pub fn slave_count(file: &[u8]) -> usize
@@ -52,7 +67,7 @@ pub fn read_epoch(file: &[u8]) -> u8
     requires { ⌜ AcceptedFile (now file) ⌝ }
     ensures { λ r. ⌜ r ≡ decode (now (file .entry)) .epoch ⌝ }
 {
-    file[EPOCH_PLACE]
+    file[epoch_place(file)]
 }
 
 // The pending flag and the pending operation, PB2 split into file number and operation.
@@ -68,13 +83,14 @@ pub fn read_pending(file: &[u8]) -> Pending
     requires { ⌜ AcceptedFile (now file) ⌝ }
     ensures { λ r. ⌜ PendingIs (decode (now (file .entry))) (r .flag) (nameIn (r .name)) (fileIn (r .number)) (operationIn (r .operation)) (recordIn (r .«record»)) ⌝ }
 {
-    let pb2 = file[PENDING_PB2_PLACE];
+    let epoch = epoch_place(file);
+    let pb2 = file[epoch + PENDING_PB2_FIELD];
     Pending {
-        flag: file[FLAG_PLACE],
-        name: LogicalName::new(file[PENDING_NAME_PLACE]),
+        flag: file[epoch + FLAG_FIELD],
+        name: LogicalName::new(file[epoch + PENDING_NAME_FIELD]),
         number: file_number_of(pb2),
         operation: operation_of(pb2),
-        record: RecordNumber(file[PENDING_PB3_PLACE]),
+        record: RecordNumber(file[epoch + PENDING_PB3_FIELD]),
     }
 }
 
@@ -138,20 +154,27 @@ pub enum RecordPlace {
 }
 
 // What a directory states for a file number.
-fn search_directory(file: &[u8], directory: usize, count: usize, number: usize) -> FilePlace
-    requires { ⌜ EntriesFit (now file) directory count ⌝ }
-    ensures { λ r. ⌜ foundFile r ≡ searchDirectory offsetWidth (now (file .entry)) number directory count ⌝ }
+fn search_directory(
+    file: &[u8],
+    width: usize,
+    directory: usize,
+    count: usize,
+    number: usize,
+) -> FilePlace
+    requires { ⌜ EntriesFit width (now file) directory count ⌝ }
+    ensures { λ r. ⌜ foundFile r ≡ searchDirectory width (now (file .entry)) number directory count ⌝ }
 {
-    let end = directory + ENTRY_SIZE * count;
+    let entry_size = ENTRY_OFFSETS * width;
+    let end = directory + entry_size * count;
     let mut entry = directory;
     while entry < end {
         if byte_at(file, entry) == number {
             let last = byte_at(file, entry + RECORD_COUNT_PLACE);
-            let place = u16_at(file, entry + FILE_OFFSET_PLACE);
+            let place = offset_at(file, width, entry + width);
             let size = RECORD_SIZE * (last + 1);
             return FilePlace::Bytes(FileBytes { place, size });
         }
-        entry = entry + ENTRY_SIZE;
+        entry = entry + entry_size;
     }
     FilePlace::NoFile
 }
@@ -161,10 +184,13 @@ pub fn find_file(file: &[u8], slave: usize, number: FileNumber) -> FilePlace
     requires { ⌜ AcceptedFile (now file) × (slave < slaveCount (now file)) ⌝ }
     ensures { λ r. ⌜ foundFile r ≡ findFile (decode (now (file .entry))) slave (fileIn number) ⌝ }
 {
-    let entry = HEADER_SIZE + ENTRY_SIZE * slave;
-    let directory = u16_at(file, entry);
-    let count = byte_at(file, entry + FILE_COUNT_PLACE);
-    search_directory(file, directory, count, number.0 as usize)
+    let width = width_of(file);
+    let table = HEADER_BYTES + HEADER_OFFSETS * width;
+    let size = ENTRY_OFFSETS * width;
+    let entry = table + size * slave;
+    let directory = offset_at(file, width, entry);
+    let count = byte_at(file, entry + width);
+    search_directory(file, width, directory, count, number.0 as usize)
 }
 
 // Where a slave keeps a record of a file, or that it has none.

@@ -1,7 +1,9 @@
 // The checker: grounds 1 to 8, with where each slave keeps 0x08 and 0x3D; and 22, on loading.
 ghost use mathlib.Core.Path.{_≡_};
-ghost use Rattle.file.specs.Rules.Layout.{offsetWidth};
-ghost use Rattle.file.specs.Rules.Grounds.{isAmong, equalLogicalNames, loadVerdict};
+ghost use Rattle.file.specs.Rules.Cluster.{logicalNames};
+ghost use Rattle.file.specs.Rules.Decode.{decode};
+ghost use Rattle.file.specs.Inner.Layout.{OffsetWidth};
+ghost use Rattle.file.specs.Rules.Grounds.{isAmong, hasRepeat, heldNames, loadVerdict};
 ghost use Rattle.file.specs.Inner.Checked.{GoodHeader, BodyWalked, PlacesFit, WholeWalk, slavesGround};
 ghost use Rattle.file.specs.Inner.Accepted.{Placed};
 ghost use Rattle.file.specs.Inner.Surveyed.{Surveyed};
@@ -9,16 +11,18 @@ ghost use Rattle.file.specs.Inner.Answers.{checkedOf};
 use crate::header::header_ground;
 use crate::held::is_held_twice;
 use crate::layout::COUNT_PLACE;
-use crate::layout::ENTRY_SIZE;
-use crate::layout::HEADER_SIZE;
+use crate::layout::ENTRY_OFFSETS;
+use crate::layout::HEADER_BYTES;
+use crate::layout::HEADER_OFFSETS;
+use crate::layout::OFFSET_WIDTH;
 use crate::names::equal_names;
 use crate::numbers::byte_at;
 use crate::readers::logical_names;
 use crate::readers::slave_count;
-use crate::types::MOST_SLAVES;
 use crate::types::PLACES;
 use crate::types::PLACES_EACH;
 use crate::types::Refusal;
+use crate::types::SLAVES_ROOM;
 use crate::types::SlavePlaces;
 use crate::walk::walk_slaves;
 
@@ -42,15 +46,17 @@ fn is_missing(places: &[u16]) -> bool
 }
 
 // Ground 6 after a good header: whether the layout is whole; the places that its directories state are put into the lent array.
-fn walk_body(file: &[u8], places: &mut [u16]) -> bool
-    requires { ⌜ GoodHeader offsetWidth (now file) × PlacesFit (now places) ⌝ }
-    ensures { λ r. ⌜ BodyWalked (now (file .entry)) r (now (places .exit)) ⌝ }
+fn walk_body(file: &[u8], width: usize, places: &mut [u16]) -> bool
+    requires { ⌜ OffsetWidth width × GoodHeader width (now file) × PlacesFit width (now places) ⌝ }
+    ensures { λ r. ⌜ BodyWalked width (now (file .entry)) r (now (places .exit)) ⌝ }
 {
     let count = byte_at(file, COUNT_PLACE);
-    if file.len() < HEADER_SIZE + ENTRY_SIZE * count {
+    let header = HEADER_BYTES + HEADER_OFFSETS * width;
+    let size = ENTRY_OFFSETS * width;
+    if file.len() < header + size * count {
         return false;
     }
-    let walk = walk_slaves(file, count, places);
+    let walk = walk_slaves(file, width, count, places);
     if !walk.good {
         return false;
     }
@@ -58,9 +64,9 @@ fn walk_body(file: &[u8], places: &mut [u16]) -> bool
 }
 
 // Grounds 7 and 8, by the places that the directories of all slaves state.
-fn slaves_ground(file: &[u8], places: &[u16]) -> u8
-    requires { ⌜ WholeWalk (now file) (now places) × PlacesFit (now places) ⌝ }
-    ensures { λ r. ⌜ r ≡ slavesGround (now (file .entry)) ⌝ }
+fn slaves_ground(file: &[u8], width: usize, places: &[u16]) -> u8
+    requires { ⌜ WholeWalk width (now file) (now places) × PlacesFit width (now places) ⌝ }
+    ensures { λ r. ⌜ r ≡ slavesGround width (now (file .entry)) ⌝ }
 {
     let count = byte_at(file, COUNT_PLACE);
     let stated = &places[..PLACES_EACH * count];
@@ -79,14 +85,14 @@ pub fn survey(file: &[u8], places: &mut SlavePlaces) -> FileAnswer
 {
     // The whole file as a slice of its own: then its place and its length are handed over in registers.
     let bytes = &file[..];
-    let ground = header_ground(bytes);
+    let ground = header_ground(bytes, OFFSET_WIDTH);
     if ground != 0 {
         return FileAnswer::Refused(Refusal(ground));
     }
-    if !walk_body(bytes, places) {
+    if !walk_body(bytes, OFFSET_WIDTH, places) {
         return FileAnswer::Refused(Refusal::LAYOUT);
     }
-    let last = slaves_ground(bytes, places);
+    let last = slaves_ground(bytes, OFFSET_WIDTH, places);
     if last != 0 {
         return FileAnswer::Refused(Refusal(last));
     }
@@ -96,9 +102,9 @@ pub fn survey(file: &[u8], places: &mut SlavePlaces) -> FileAnswer
 // Ground 22, of an accepted file: whether a logical name other than 0xFF is held twice.
 fn equal_logical_names(file: &[u8], places: &SlavePlaces) -> bool
     requires { ⌜ Placed (now file) (now places) ⌝ }
-    ensures { λ r. ⌜ r ≡ equalLogicalNames offsetWidth (now (file .entry)) ⌝ }
+    ensures { λ r. ⌜ r ≡ hasRepeat (heldNames (logicalNames (decode (now (file .entry))))) ⌝ }
 {
-    let mut names = [0u8; MOST_SLAVES];
+    let mut names = [0u8; SLAVES_ROOM];
     logical_names(file, places, &mut names);
     let count = slave_count(file);
     is_held_twice(&names[..count])

@@ -106,12 +106,12 @@ impl Refusal {
     pub const MULTIPLEXED_SEND: Refusal = Refusal(23);
 }
 
-// "the slave count, 0 to 32".
-pub const MOST_SLAVES: usize = 32;
+// The slaves that an array has room for.
+pub const SLAVES_ROOM: usize = 32;
 
 // Where the slaves keep 0x08 and 0x3D, in the order of the slave table: a slave's two places together, that of 0x08 first.
 pub const PLACES_EACH: usize = 2;
 
-pub const PLACES: usize = PLACES_EACH * MOST_SLAVES;
+pub const PLACES: usize = PLACES_EACH * SLAVES_ROOM;
 
 pub type SlavePlaces = [u16; PLACES];

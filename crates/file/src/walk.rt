@@ -1,24 +1,29 @@
 // Ground 6: the walk along table and directories. An offset is followed only after it was compared with the running place.
 ghost use mathlib.Core.Path.{_≡_};
-ghost use Prim.Native.Nat.{_+_, _*_, _≤_};
+ghost use Prim.Native.Nat.{_+_, _*_, _-_, _≤_};
 ghost use lib.ListN.{length};
 ghost use Rattle.file.specs.Inner.Numbers.{ByteAt};
-ghost use Rattle.file.specs.Rules.Layout.{offsetWidth, headerSize, maxLength};
+ghost use Rattle.file.specs.Rules.Bytes.{part, allZero};
+ghost use Rattle.file.specs.Rules.Layout.{headerSize, maxLength};
+ghost use Rattle.file.specs.Inner.Layout.{OffsetWidth};
 ghost use Rattle.file.specs.Inner.Typed.{fileIn};
 ghost use Rattle.file.specs.Inner.Places.{placesEach};
-ghost use Rattle.file.specs.Inner.Checked.{EntriesFit, nextEntry, fitsSoFar, states, statedPlace, Arrives, DirectoryWalked, SlaveWalked, SlavesWalked};
-use crate::layout::ENTRY_SIZE;
-use crate::layout::FILE_COUNT_PLACE;
+ghost use Rattle.file.specs.Inner.Checked.{EntriesFit, nextEntry, fitsSoFar, states, statedPlace, Arrives, DirectoryWalked, FilesWalked, SlaveWalked, SlavesWalked};
+use crate::layout::ENTRY_OFFSETS;
 use crate::layout::FILE_NUMBERS;
-use crate::layout::FILE_OFFSET_PLACE;
-use crate::layout::HEADER_SIZE;
+use crate::layout::FILL_PLACE;
+use crate::layout::HEADER_BYTES;
+use crate::layout::HEADER_OFFSETS;
 use crate::layout::LEAST_RECORD;
 use crate::layout::NEEDED_CONFIGURATION;
 use crate::layout::NEEDED_DOCUMENTATION;
+use crate::layout::OFFSET_WIDTH;
 use crate::layout::RECORD_COUNT_PLACE;
 use crate::layout::RECORD_SIZE;
-use crate::layout::TABLE_ZERO_PLACE;
+use crate::layout::TABLE_FILL_FIELD;
+use crate::layout::TABLE_ZERO_FIELD;
 use crate::numbers::byte_at;
+use crate::numbers::offset_at;
 use crate::numbers::u16_at;
 use crate::types::FileNumber;
 use crate::types::PLACES_EACH;
@@ -29,10 +34,30 @@ pub struct Walk {
     pub end: usize,
 }
 
-// Whether a directory entry may come next: its file number is low or more, it counts records, and its offset is the running place.
-fn is_next(file: &[u8], entry: usize, number: usize, last: usize, low: usize, place: usize) -> bool
-    requires { ⌜ EntriesFit (now file) entry 1 × ByteAt (now file) entry number × ByteAt (now file) (entry + 1) last ⌝ }
-    ensures { λ r. ⌜ r ≡ nextEntry offsetWidth (now (file .entry)) entry low place ⌝ }
+// Whether the zeros that fill an entry up are zero: none in edition 1, two in edition 2.
+fn is_filled(file: &[u8], width: usize, at: usize) -> bool
+    requires { ⌜ OffsetWidth width × (at + (width - 2) ≤ length (now file)) ⌝ }
+    ensures { λ r. ⌜ r ≡ allZero (part (now (file .entry)) at (width - 2)) ⌝ }
+{
+    if width == OFFSET_WIDTH {
+        return true;
+    }
+    u16_at(file, at) == 0
+}
+
+// Whether a directory entry may come next: its file number is low or more, it counts records, its zeros are zero, and its offset is the
+// running place.
+fn is_next(
+    file: &[u8],
+    width: usize,
+    entry: usize,
+    number: usize,
+    last: usize,
+    low: usize,
+    place: usize,
+) -> bool
+    requires { ⌜ EntriesFit width (now file) entry 1 × ByteAt (now file) entry number × ByteAt (now file) (entry + 1) last ⌝ }
+    ensures { λ r. ⌜ r ≡ nextEntry width (now (file .entry)) entry low place ⌝ }
 {
     if number < low {
         return false;
@@ -40,7 +65,10 @@ fn is_next(file: &[u8], entry: usize, number: usize, last: usize, low: usize, pl
     if last < LEAST_RECORD {
         return false;
     }
-    u16_at(file, entry + FILE_OFFSET_PLACE) == place
+    if !is_filled(file, width, entry + FILL_PLACE) {
+        return false;
+    }
+    offset_at(file, width, entry + width) == place
 }
 
 // Whether no file number was above the last one and no file ended past the bytes: numbers and places rise, so it is enough to look at
@@ -55,18 +83,19 @@ fn fits_so_far(file: &[u8], low: usize, place: usize) -> bool
 }
 
 // The directory at a place that the running place has come to, of count entries.
-fn walk_directory(file: &[u8], directory: usize, count: usize) -> Walk
-    requires { ⌜ EntriesFit (now file) directory count ⌝ }
-    ensures { λ r. ⌜ DirectoryWalked (now (file .entry)) directory count (r .good) (r .end) ⌝ }
+fn walk_directory(file: &[u8], width: usize, directory: usize, count: usize) -> Walk
+    requires { ⌜ EntriesFit width (now file) directory count ⌝ }
+    ensures { λ r. ⌜ DirectoryWalked width (now (file .entry)) directory count (r .good) (r .end) ⌝ }
 {
-    let end = directory + ENTRY_SIZE * count;
+    let size = ENTRY_OFFSETS * width;
+    let end = directory + size * count;
     let mut entry = directory;
     let mut low = 0;
     let mut place = end;
     while entry < end {
         let number = byte_at(file, entry);
         let last = byte_at(file, entry + RECORD_COUNT_PLACE);
-        if !is_next(file, entry, number, last, low, place) {
+        if !is_next(file, width, entry, number, last, low, place) {
             return Walk {
                 good: false,
                 end: 0,
@@ -74,7 +103,7 @@ fn walk_directory(file: &[u8], directory: usize, count: usize) -> Walk
         }
         low = number + 1;
         place = place + RECORD_SIZE * (last + 1);
-        entry = entry + ENTRY_SIZE;
+        entry = entry + size;
     }
     Walk {
         good: fits_so_far(file, low, place),
@@ -84,7 +113,7 @@ fn walk_directory(file: &[u8], directory: usize, count: usize) -> Walk
 
 // Whether a directory entry states the wanted file with enough records.
 fn is_stated(file: &[u8], entry: usize, wanted: FileNumber, least: u8) -> bool
-    requires { ⌜ EntriesFit (now file) entry 1 ⌝ }
+    requires { ⌜ entry + 2 ≤ length (now file) ⌝ }
     ensures { λ r. ⌜ r ≡ states (now (file .entry)) (fileIn wanted) least entry ⌝ }
 {
     if file[entry] != wanted.0 {
@@ -96,21 +125,23 @@ fn is_stated(file: &[u8], entry: usize, wanted: FileNumber, least: u8) -> bool
 // Where a walked directory states the wanted file to lie, 0 where it does not: found from the front, for a low file number.
 fn stated_from_front(
     file: &[u8],
+    width: usize,
     directory: usize,
     count: usize,
     wanted: FileNumber,
     least: u8,
 ) -> u16
-    requires { ⌜ EntriesFit (now file) directory count × Arrives (now file) directory count ⌝ }
-    ensures { λ r. ⌜ r ≡ statedPlace offsetWidth (now (file .entry)) (fileIn wanted) least 0 directory count ⌝ }
+    requires { ⌜ EntriesFit width (now file) directory count × Arrives width (now file) directory count ⌝ }
+    ensures { λ r. ⌜ r ≡ statedPlace width (now (file .entry)) (fileIn wanted) least 0 directory count ⌝ }
 {
-    let end = directory + ENTRY_SIZE * count;
+    let size = ENTRY_OFFSETS * width;
+    let end = directory + size * count;
     let mut entry = directory;
     while entry < end {
         if is_stated(file, entry, wanted, least) {
-            return u16_at(file, entry + FILE_OFFSET_PLACE) as u16;
+            return offset_at(file, width, entry + width) as u16;
         }
-        entry = entry + ENTRY_SIZE;
+        entry = entry + size;
     }
     0
 }
@@ -118,19 +149,21 @@ fn stated_from_front(
 // The same from the back, for a high file number.
 fn stated_from_back(
     file: &[u8],
+    width: usize,
     directory: usize,
     count: usize,
     wanted: FileNumber,
     least: u8,
 ) -> u16
-    requires { ⌜ EntriesFit (now file) directory count ⌝ }
-    ensures { λ r. ⌜ r ≡ statedPlace offsetWidth (now (file .entry)) (fileIn wanted) least 0 directory count ⌝ }
+    requires { ⌜ EntriesFit width (now file) directory count × Arrives width (now file) directory count ⌝ }
+    ensures { λ r. ⌜ r ≡ statedPlace width (now (file .entry)) (fileIn wanted) least 0 directory count ⌝ }
 {
-    let mut entry = directory + ENTRY_SIZE * count;
+    let size = ENTRY_OFFSETS * width;
+    let mut entry = directory + size * count;
     while directory < entry {
-        entry = entry - ENTRY_SIZE;
+        entry = entry - size;
         if is_stated(file, entry, wanted, least) {
-            return u16_at(file, entry + FILE_OFFSET_PLACE) as u16;
+            return offset_at(file, width, entry + width) as u16;
         }
     }
     0
@@ -152,22 +185,12 @@ const BROKEN: SlaveWalk = SlaveWalk {
     documentation: 0,
 };
 
-// The slave of a table entry, its directory at the running place.
-fn walk_slave(file: &[u8], entry: usize, place: usize) -> SlaveWalk
-    requires { ⌜ EntriesFit (now file) entry 1 × (place ≤ maxLength offsetWidth) ⌝ }
-    ensures { λ r. ⌜ SlaveWalked (now (file .entry)) entry place (r .good) (r .end) (r .configuration) (r .documentation) ⌝ }
+// The files of the directory at a place that the running place has come to, and where it states 0x08 and 0x3D.
+fn walk_files(file: &[u8], width: usize, directory: usize, count: usize) -> SlaveWalk
+    requires { ⌜ EntriesFit width (now file) directory count ⌝ }
+    ensures { λ r. ⌜ FilesWalked width (now (file .entry)) directory count (r .good) (r .end) (r .configuration) (r .documentation) ⌝ }
 {
-    let count = byte_at(file, entry + FILE_COUNT_PLACE);
-    if u16_at(file, entry) != place {
-        return BROKEN;
-    }
-    if byte_at(file, entry + TABLE_ZERO_PLACE) != 0 {
-        return BROKEN;
-    }
-    if file.len() < place + ENTRY_SIZE * count {
-        return BROKEN;
-    }
-    let files = walk_directory(file, place, count);
+    let files = walk_directory(file, width, directory, count);
     if !files.good {
         return BROKEN;
     }
@@ -176,14 +199,16 @@ fn walk_slave(file: &[u8], entry: usize, place: usize) -> SlaveWalk
         end: files.end,
         configuration: stated_from_front(
             file,
-            place,
+            width,
+            directory,
             count,
             FileNumber::CONFIGURATION,
             NEEDED_CONFIGURATION,
         ),
         documentation: stated_from_back(
             file,
-            place,
+            width,
+            directory,
             count,
             FileNumber::DOCUMENTATION,
             NEEDED_DOCUMENTATION,
@@ -191,16 +216,40 @@ fn walk_slave(file: &[u8], entry: usize, place: usize) -> SlaveWalk
     }
 }
 
-// All slaves, their places put in front of the lent ones.
-pub fn walk_slaves(file: &[u8], count: usize, places: &mut [u16]) -> Walk
-    requires { ⌜ EntriesFit (now file) (headerSize offsetWidth) count × (placesEach * count ≤ length (now places)) ⌝ }
-    ensures { λ r. ⌜ SlavesWalked (now (file .entry)) count (r .good) (r .end) (now (places .exit)) ⌝ }
+// The slave of a table entry, its directory at the running place.
+fn walk_slave(file: &[u8], width: usize, entry: usize, place: usize) -> SlaveWalk
+    requires { ⌜ EntriesFit width (now file) entry 1 × (place ≤ maxLength width) ⌝ }
+    ensures { λ r. ⌜ SlaveWalked width (now (file .entry)) entry place (r .good) (r .end) (r .configuration) (r .documentation) ⌝ }
 {
-    let mut entry = HEADER_SIZE;
-    let mut place = HEADER_SIZE + ENTRY_SIZE * count;
+    let after = entry + width;
+    let count = byte_at(file, after);
+    if offset_at(file, width, entry) != place {
+        return BROKEN;
+    }
+    if byte_at(file, after + TABLE_ZERO_FIELD) != 0 {
+        return BROKEN;
+    }
+    if !is_filled(file, width, after + TABLE_FILL_FIELD) {
+        return BROKEN;
+    }
+    let size = ENTRY_OFFSETS * width;
+    if file.len() < place + size * count {
+        return BROKEN;
+    }
+    walk_files(file, width, place, count)
+}
+
+// All slaves, their places put in front of the lent ones.
+pub fn walk_slaves(file: &[u8], width: usize, count: usize, places: &mut [u16]) -> Walk
+    requires { ⌜ EntriesFit width (now file) (headerSize width) count × (placesEach * count ≤ length (now places)) ⌝ }
+    ensures { λ r. ⌜ SlavesWalked width (now (file .entry)) count (r .good) (r .end) (now (places .exit)) ⌝ }
+{
+    let size = ENTRY_OFFSETS * width;
+    let mut entry = HEADER_BYTES + HEADER_OFFSETS * width;
+    let mut place = entry + size * count;
     let mut slave = 0;
     while slave < count {
-        let walk = walk_slave(file, entry, place);
+        let walk = walk_slave(file, width, entry, place);
         if !walk.good {
             return Walk {
                 good: false,
@@ -210,7 +259,7 @@ pub fn walk_slaves(file: &[u8], count: usize, places: &mut [u16]) -> Walk
         places[PLACES_EACH * slave] = walk.configuration;
         places[PLACES_EACH * slave + 1] = walk.documentation;
         place = walk.end;
-        entry = entry + ENTRY_SIZE;
+        entry = entry + size;
         slave = slave + 1;
     }
     Walk {

@@ -13,15 +13,15 @@ ghost use Rattle.file.specs.Rules.Legal.{LegalPending};
 ghost use Rattle.file.specs.Inner.Places.{slaveOf, putByte};
 ghost use Rattle.file.specs.Rules.Changes.{withEpoch, withPending};
 ghost use Rattle.file.specs.Inner.Accepted.{AcceptedFile, slaveCount, Becomes, Placed};
-use crate::layout::EPOCH_PLACE;
-use crate::layout::FLAG_PLACE;
+use crate::layout::FLAG_FIELD;
 use crate::layout::LOGICAL_NAME_PLACE;
 use crate::layout::NEW_LOGICAL_NAME_PLACE;
 use crate::layout::PENDING;
-use crate::layout::PENDING_NAME_PLACE;
-use crate::layout::PENDING_PB2_PLACE;
-use crate::layout::PENDING_PB3_PLACE;
+use crate::layout::PENDING_NAME_FIELD;
+use crate::layout::PENDING_PB2_FIELD;
+use crate::layout::PENDING_PB3_FIELD;
 use crate::operations::pb2_of;
+use crate::readers::epoch_place;
 use crate::types::FileNumber;
 use crate::types::LogicalName;
 use crate::types::Operation;
@@ -33,7 +33,8 @@ pub fn set_epoch(file: &mut [u8], epoch: u8)
     requires { ⌜ AcceptedFile (now file) ⌝ }
     ensures { λ _. ⌜ Becomes (now (file .exit)) (withEpoch (decode (now (file .entry))) epoch) ⌝ }
 {
-    file[EPOCH_PLACE] = epoch;
+    let at = epoch_place(file);
+    file[at] = epoch;
 }
 
 // An operation becomes pending.
@@ -48,10 +49,11 @@ pub fn set_pending(
     ensures { λ _. ⌜ Becomes (now (file .exit)) (withPending (decode (now (file .entry))) pendingFlag (nameIn name) (pb2Of (fileIn number) (operationIn operation)) (recordIn «record»)) ⌝ }
 {
     let pb2 = pb2_of(number, operation);
-    file[FLAG_PLACE] = PENDING;
-    file[PENDING_NAME_PLACE] = name.0;
-    file[PENDING_PB2_PLACE] = pb2;
-    file[PENDING_PB3_PLACE] = record.0;
+    let epoch = epoch_place(file);
+    file[epoch + FLAG_FIELD] = PENDING;
+    file[epoch + PENDING_NAME_FIELD] = name.0;
+    file[epoch + PENDING_PB2_FIELD] = pb2;
+    file[epoch + PENDING_PB3_FIELD] = record.0;
 }
 
 // A slave's new logical name becomes its logical name.

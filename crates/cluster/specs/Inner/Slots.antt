@@ -7,7 +7,7 @@ use lib.ListN.{length, getD, set}
 use lib.Dec.{eqb}
 use Rattle.file.specs.Rules.Layout.{recordSize}
 use Rattle.file.specs.Rules.Cluster.{Slave, Cluster, bytesIn, lastRecord}
-use Rattle.file.specs.Inner.Places.{mostSlaves, slaveOf, filePlace}
+use Rattle.file.specs.Inner.Places.{slavesRoom, slaveOf, filePlace}
 use Rattle.cluster.specs.Rules.Bus.{slots}
 use Rattle.cluster.specs.Rules.Slaves.{isUnnamed}
 use Rattle.cluster.specs.Rules.Entries.{Entry, entryThere, Acting, bytePlace}
@@ -36,8 +36,8 @@ pub record RoundFileIs (c : Cluster) (round s start end : ℕ) : Type 0 where
 
 -- the same of every slave, in front of whatever else the arrays hold
 pub record RoundFilesAre (c : Cluster) (round : ℕ) (starts ends : List ℕ) : Type 0 where
-  pub startsRoom : length starts ≡ mostSlaves
-  pub endsRoom : length ends ≡ mostSlaves
+  pub startsRoom : length starts ≡ slavesRoom
+  pub endsRoom : length ends ≡ slavesRoom
   pub file : (s : ℕ) → s < length (c .slaves) → RoundFileIs c round s (getD starts s 0) (getD ends s 0)
 
 -- from start to end the file has whole entries
@@ -106,5 +106,5 @@ storedBelow f places b (suc n) =
 
 -- every place lies in the file, 0 too
 pub record StoresWithin (f places : List ℕ) (count : ℕ) : Type 0 where
-  pub few : count ≤ mostSlaves
+  pub few : count ≤ slavesRoom
   pub within : (s : ℕ) → s < count → getD places s 0 < length f

@@ -1,5 +1,5 @@
 -- The numbers of the layout at the width of edition 1, as document 01 has them ("The cluster file": "Our own layout, edition 1. Header, 16
--- bytes: .. 6 to 7 the file's length; 8 the epoch; 9 the pending flag, 0 or 1; 10 to 12 the pending logical name, PB2 and PB3; 13 to 15
+-- bytes: .. 2 the edition, 1; .. 6 to 7 the file's length; 8 the epoch; 9 the pending flag, 0 or 1; 10 to 12 the pending logical name, PB2 and PB3; 13 to 15
 -- zero. A table entry is 4 bytes .. A directory entry is 4 bytes"; "Records 1 and 2 of 0x3D are the physical name"; "In 0x08 (layout of
 -- 004): record 1 holds the new logical name in byte 2 and the logical name in byte 3; records 2 and 3 hold the comparison value IDCV.").
 use Prim.Native.Nat.{ℕ, _-_}
@@ -12,10 +12,11 @@ use Rattle.file.specs.Rules.Bytes.{numberOf, part}
 use Rattle.file.specs.Rules.Layout.{offsetWidth, editionOf, zerosLength, headerSize, entrySize, fillLength, maxSlaves, maxLength}
 use Rattle.file.specs.Rules.Cluster.{Slave, bytesIn, physicalName, newLogicalName, logicalName, comparisonValue}
 use Rattle.file.specs.Rules.Decode.{offsetAt, decode}
-use Rattle.file.specs.Rules.Grounds.{wrongLength}
+use Rattle.file.specs.Rules.Grounds.{wrongLength, fileGround}
 
 pub record EditionOne : Type 0 where
   pub edition : editionOf offsetWidth ≡ 1
+  pub editionAt : (f : List ℕ) → fileGround f ≡ 0 → decode f .edition ≡ getD f 2 0
   pub lengthAt : (f : List ℕ) → wrongLength offsetWidth f ≡ not (eqb (offsetAt 2 f 6) (length f))
   pub epochAt : (f : List ℕ) → decode f .epoch ≡ getD f 8 0
   pub flagAt : (f : List ℕ) → decode f .flag ≡ getD f 9 0

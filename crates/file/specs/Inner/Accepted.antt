@@ -1,5 +1,5 @@
 -- An accepted file and the cluster it holds, as the layers above hand it on.
-use Prim.Native.Nat.{ℕ, _+_, _*_, _<_}
+use Prim.Native.Nat.{ℕ, _+_, _*_, _≤_, _<_}
 use mathlib.Core.Path.{_≡_}
 use mathlib.Core.List.{List}
 use mathlib.Core.Bool.{Bool, cond}
@@ -7,13 +7,13 @@ use lib.ListN.{length, getD}
 use lib.Dec.{eqb, leb}
 use Rattle.file.specs.Rules.Order.{both}
 use Rattle.file.specs.Rules.Layout.{recordSize}
-use Rattle.file.specs.Inner.Layout.{neededDocumentation}
+use Rattle.file.specs.Inner.Layout.{OffsetWidth, epochPlace, neededDocumentation}
 use Rattle.file.specs.Rules.Cluster.{Cluster, bytesIn, hasRecord, configuration, documentation, fileNumberOf, operationOf}
 use Rattle.file.specs.Rules.Encode.{encode}
 use Rattle.file.specs.Rules.Decode.{decode}
 use Rattle.file.specs.Rules.Legal.{Legal}
 use Rattle.file.specs.Rules.Grounds.{fileGround}
-use Rattle.file.specs.Inner.Places.{slaveOf, filePlace, configurationIndex, documentationIndex}
+use Rattle.file.specs.Inner.Places.{slaveOf, widthIn, filePlace, configurationIndex, documentationIndex}
 
 -- the file is accepted, and it is that cluster's one encoding
 pub record Becomes (f : List ℕ) (c : Cluster) : Type 0 where
@@ -25,6 +25,17 @@ pub record Becomes (f : List ℕ) (c : Cluster) : Type 0 where
 -- the file is accepted: it is the one encoding of the cluster that it holds
 abbrev pub AcceptedFile : List ℕ → Type 0
 AcceptedFile f = Becomes f (decode f)
+
+-- w is the offset width of the file's edition
+pub record WidthOf (f : List ℕ) (w : ℕ) : Type 0 where
+  pub is : w ≡ widthIn (decode f .edition)
+  pub width : OffsetWidth w
+
+-- where its header keeps the epoch
+pub record EpochAt (f : List ℕ) (at : ℕ) : Type 0 where
+  pub is : at ≡ epochPlace (widthIn (decode f .edition))
+  pub room : at + 8 ≤ length f
+  pub low : at ≤ 12
 
 -- how many slaves it has
 abbrev pub slaveCount : List ℕ → ℕ

@@ -6,24 +6,26 @@ use mathlib.Core.Bool.{Bool, true, false, cond}
 use lib.ListN.{length, getD, take}
 use lib.Dec.{eqb, leb}
 use Rattle.file.specs.Rules.Order.{firstOf, both}
-use Rattle.file.specs.Rules.Layout.{offsetWidth, headerSize, entrySize}
+use Rattle.file.specs.Rules.Layout.{headerSize, entrySize}
 use Rattle.file.specs.Rules.Layout.{fillLength, maxSlaves, maxLength}
-use Rattle.file.specs.Inner.Layout.{neededConfiguration, neededDocumentation, physicalNamePlace, longWidth}
+use Rattle.file.specs.Inner.Layout.{OffsetWidth, neededConfiguration, neededDocumentation, physicalNamePlace, longWidth}
 use Rattle.file.specs.Rules.Cluster.{configuration, documentation}
 use Rattle.file.specs.Rules.Bytes.{All, numberOf, part, allZero}
 use Rattle.file.specs.Rules.Decode.{offsetAt, fileSize}
 use Rattle.file.specs.Inner.Places.{placesEach}
 use Rattle.file.specs.Inner.Accepted.{FoundFile, fileFound}
-use Rattle.file.specs.Rules.Grounds.{wrongSize, wrongMark, wrongEdition, wrongLength, wrongHeader, fileGround, Walk, broken, to, walkDirectory, walkSlave, walkSlaves, walkFile, brokenLayout, lacksNeeded, equalPhysicalNames}
+use Rattle.file.specs.Rules.Grounds.{wrongSize, wrongMark, wrongEdition, wrongLength, wrongHeader, fileGroundAt, Walk, broken, to, walkDirectory, walkSlave, walkSlaves, walkFile, brokenLayout, lacksNeeded, equalPhysicalNames}
 
 -- the file has room for its header
-pub record HeaderFits (f : List ℕ) : Type 0 where
-  pub room : headerSize offsetWidth ≤ length f
+pub record HeaderFits (w : ℕ) (f : List ℕ) : Type 0 where
+  pub width : OffsetWidth w
+  pub room : headerSize w ≤ length f
 
--- k entries from a place on lie within the bytes, and the file is no longer than a file may be
-pub record EntriesFit (f : List ℕ) (at k : ℕ) : Type 0 where
-  pub within : at + entrySize offsetWidth * k ≤ length f
-  pub short : length f ≤ maxLength offsetWidth
+-- k entries from a place on lie within the bytes, at an offset width that there is, and the file is no longer than a file may be
+pub record EntriesFit (w : ℕ) (f : List ℕ) (at k : ℕ) : Type 0 where
+  pub width : OffsetWidth w
+  pub within : at + entrySize w * k ≤ length f
+  pub short : length f ≤ maxLength w
 
 -- none of grounds 1 to 5 holds
 pub record GoodHeader (w : ℕ) (f : List ℕ) : Type 0 where
@@ -34,9 +36,9 @@ pub record GoodHeader (w : ℕ) (f : List ℕ) : Type 0 where
   pub rest : wrongHeader w f ≡ false
 
 -- n is the ground that refuses the file, or 0, and then none of grounds 1 to 5 holds
-pub record HeaderChecked (f : List ℕ) (n : ℕ) : Type 0 where
-  pub refused : (n ≡ 0 → ⊥) → n ≡ fileGround f
-  pub passed : n ≡ 0 → GoodHeader offsetWidth f
+pub record HeaderChecked (w : ℕ) (f : List ℕ) (n : ℕ) : Type 0 where
+  pub refused : (n ≡ 0 → ⊥) → n ≡ fileGroundAt w f
+  pub passed : n ≡ 0 → GoodHeader w f
 
 -- ---- where the directories state 0x08 and 0x3D to lie
 
@@ -68,14 +70,20 @@ unfoldable pub fitsSoFar : List ℕ → ℕ → ℕ → Bool
 fitsSoFar f low place = both (leb low (suc 63)) (leb place (length f))
 
 -- the walk of the k entries of the directory at d
-pub record DirectoryWalked (f : List ℕ) (d k : ℕ) (good : Bool) (end : ℕ) : Type 0 where
-  pub walk : walkOf good end ≡ walkDirectory offsetWidth f d 0 (d + entrySize offsetWidth * k) k
+pub record DirectoryWalked (w : ℕ) (f : List ℕ) (d k : ℕ) (good : Bool) (end : ℕ) : Type 0 where
+  pub walk : walkOf good end ≡ walkDirectory w f d 0 (d + entrySize w * k) k
   pub within : good ≡ true → end ≤ length f
 
+-- the same, with where its entries state 0x08 and 0x3D to lie in the needed size, 0 where they do not
+pub record FilesWalked (w : ℕ) (f : List ℕ) (d k : ℕ) (good : Bool) (end conf doc : ℕ) : Type 0 where
+  pub walked : DirectoryWalked w f d k good end
+  pub config : good ≡ true → conf ≡ statedPlace w f configuration neededConfiguration 0 d k
+  pub document : good ≡ true → doc ≡ statedPlace w f documentation neededDocumentation 0 d k
+
 -- it comes to an end
-pub record Arrives (f : List ℕ) (d k : ℕ) : Type 0 where
+pub record Arrives (w : ℕ) (f : List ℕ) (d k : ℕ) : Type 0 where
   pub end : ℕ
-  pub walk : walkDirectory offsetWidth f d 0 (d + entrySize offsetWidth * k) k ≡ to end
+  pub walk : walkDirectory w f d 0 (d + entrySize w * k) k ≡ to end
 
 -- the place that the slave of the table entry at t states for file n
 unfoldable pub statedIn : ℕ → List ℕ → ℕ → ℕ → ℕ → ℕ
@@ -95,35 +103,35 @@ documentationPlaces (c ∷ d ∷ places) = d ∷ documentationPlaces places
 
 -- the walk of the slave of the table entry at t, its directory at the place, and where 0x08 and 0x3D lie in the needed size, 0 where
 -- they are not there
-pub record SlaveWalked (f : List ℕ) (t place : ℕ) (good : Bool) (end conf doc : ℕ) : Type 0 where
-  pub walk : walkOf good end ≡ walkSlave offsetWidth f t place
-  pub config : good ≡ true → conf ≡ statedIn offsetWidth f configuration neededConfiguration t
-  pub document : good ≡ true → doc ≡ statedIn offsetWidth f documentation neededDocumentation t
+pub record SlaveWalked (w : ℕ) (f : List ℕ) (t place : ℕ) (good : Bool) (end conf doc : ℕ) : Type 0 where
+  pub walk : walkOf good end ≡ walkSlave w f t place
+  pub config : good ≡ true → conf ≡ statedIn w f configuration neededConfiguration t
+  pub document : good ≡ true → doc ≡ statedIn w f documentation neededDocumentation t
   pub within : good ≡ true → end ≤ length f
 
 -- the same of all the slaves, with their places in front of whatever else the list holds
-pub record SlavesWalked (f : List ℕ) (count : ℕ) (good : Bool) (end : ℕ) (places : List ℕ) : Type 0 where
-  pub walk : walkOf good end ≡ walkSlaves offsetWidth f (headerSize offsetWidth) (headerSize offsetWidth + entrySize offsetWidth * count) count
-  pub stated : good ≡ true → take (placesEach * count) places ≡ statedPlaces offsetWidth f (headerSize offsetWidth) count
+pub record SlavesWalked (w : ℕ) (f : List ℕ) (count : ℕ) (good : Bool) (end : ℕ) (places : List ℕ) : Type 0 where
+  pub walk : walkOf good end ≡ walkSlaves w f (headerSize w) (headerSize w + entrySize w * count) count
+  pub stated : good ≡ true → take (placesEach * count) places ≡ statedPlaces w f (headerSize w) count
 
--- a list with room for the places of the most slaves
-pub record PlacesFit (places : List ℕ) : Type 0 where
-  pub room : placesEach * maxSlaves offsetWidth ≤ length places
+-- a list with room for the places of the most slaves of that width
+pub record PlacesFit (w : ℕ) (places : List ℕ) : Type 0 where
+  pub room : placesEach * maxSlaves w ≤ length places
 
 -- the walk of the whole file ends with its last byte, and the list has in front the places that its directories state
-pub record WholeWalk (f places : List ℕ) : Type 0 where
-  pub header : GoodHeader offsetWidth f
-  pub walk : walkFile offsetWidth f ≡ to (length f)
-  pub stated : take (placesEach * getD f 3 0) places ≡ statedPlaces offsetWidth f (headerSize offsetWidth) (getD f 3 0)
+pub record WholeWalk (w : ℕ) (f places : List ℕ) : Type 0 where
+  pub header : GoodHeader w f
+  pub walk : walkFile w f ≡ to (length f)
+  pub stated : take (placesEach * getD f 3 0) places ≡ statedPlaces w f (headerSize w) (getD f 3 0)
 
 -- the layout is broken, or walked whole
-pub record BodyWalked (f : List ℕ) (good : Bool) (places : List ℕ) : Type 0 where
-  pub broke : good ≡ false → brokenLayout offsetWidth f ≡ true
-  pub whole : good ≡ true → WholeWalk f places
+pub record BodyWalked (w : ℕ) (f : List ℕ) (good : Bool) (places : List ℕ) : Type 0 where
+  pub broke : good ≡ false → brokenLayout w f ≡ true
+  pub whole : good ≡ true → WholeWalk w f places
 
 -- the first of grounds 7 and 8 that holds
-unfoldable pub slavesGround : List ℕ → ℕ
-slavesGround f = firstOf ((7, lacksNeeded offsetWidth f) ∷ (8, equalPhysicalNames offsetWidth f) ∷ [])
+unfoldable pub slavesGround : ℕ → List ℕ → ℕ
+slavesGround w f = firstOf ((7, lacksNeeded w f) ∷ (8, equalPhysicalNames w f) ∷ [])
 
 -- what the k directory entries from d on state for file n
 unfoldable pub searchDirectory : ℕ → List ℕ → ℕ → ℕ → ℕ → FoundFile

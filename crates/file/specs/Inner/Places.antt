@@ -1,12 +1,12 @@
 -- Where a cluster's encoding keeps a file's bytes, the cluster with bytes put there, and clusters of the same shape, whose encodings
--- keep every file at the same place.
+-- at one width keep every file at the same place.
 use Prim.Native.Nat.{ℕ, zero, suc, _+_, _*_}
 use mathlib.Core.Path.{_≡_}
 use mathlib.Core.List.{List, [], _∷_}
 use mathlib.Core.Bool.{cond}
 use lib.ListN.{length, getD, set}
 use lib.Dec.{eqb}
-use Rattle.file.specs.Rules.Layout.{offsetWidth, entrySize, maxSlaves}
+use Rattle.file.specs.Rules.Layout.{entrySize}
 use Rattle.file.specs.Rules.Cluster.{File, Slave, Cluster}
 pub use Rattle.file.specs.Rules.Cluster.{noSlave}
 use Rattle.file.specs.Rules.Encode.{slaveSize, slavesPlace}
@@ -30,13 +30,17 @@ filePlaceFrom w place (x ∷ xs) (suc s) n = filePlaceFrom w (place + slaveSize 
 unfoldable pub filePlaceAt : ℕ → Cluster → ℕ → ℕ → ℕ
 filePlaceAt w c s n = filePlaceFrom w (slavesPlace w (c .slaves)) (c .slaves) s n
 
--- edition 1: where the cluster's encoding keeps file n of slave s
-unfoldable pub filePlace : Cluster → ℕ → ℕ → ℕ
-filePlace c s n = filePlaceAt offsetWidth c s n
+-- the bytes of an offset in an edition
+abbrev pub widthIn : ℕ → ℕ
+widthIn edition = 2 * edition
 
--- the slaves that a file may have, in edition 1
-abbrev pub mostSlaves : ℕ
-mostSlaves = maxSlaves offsetWidth
+-- where the encoding at the width of its edition, which is a legal cluster's encoding, keeps file n of slave s
+unfoldable pub filePlace : Cluster → ℕ → ℕ → ℕ
+filePlace c s n = filePlaceAt (widthIn (c .edition)) c s n
+
+-- the slaves that an array has room for
+abbrev pub slavesRoom : ℕ
+slavesRoom = 32
 
 -- a list of places has a slave's two together: that of 0x08, then that of 0x3D
 abbrev pub placesEach : ℕ

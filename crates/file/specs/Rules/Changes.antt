@@ -16,12 +16,12 @@ unfoldable pub putInSlave : Slave → ℕ → ℕ → ℕ → Slave
 putInSlave s n k b = record { files = putAmong (s .files) n k b }
 
 unfoldable pub withSlaves : Cluster → List Slave → Cluster
-withSlaves c ss = record { epoch = c .epoch; flag = c .flag; pendingName = c .pendingName; pendingPB2 = c .pendingPB2; pendingPB3 = c .pendingPB3; slaves = ss }
+withSlaves c ss = record { edition = c .edition; epoch = c .epoch; flag = c .flag; pendingName = c .pendingName; pendingPB2 = c .pendingPB2; pendingPB3 = c .pendingPB3; slaves = ss }
 
 -- the header's five bytes replaced: the epoch, and the pending flag, logical name, PB2 and PB3
 unfoldable pub withEpoch : Cluster → ℕ → Cluster
-withEpoch c epoch = record { epoch = epoch; flag = c .flag; pendingName = c .pendingName; pendingPB2 = c .pendingPB2; pendingPB3 = c .pendingPB3; slaves = c .slaves }
+withEpoch c epoch = record { edition = c .edition; epoch = epoch; flag = c .flag; pendingName = c .pendingName; pendingPB2 = c .pendingPB2; pendingPB3 = c .pendingPB3; slaves = c .slaves }
 
 unfoldable pub withPending : Cluster → ℕ → ℕ → ℕ → ℕ → Cluster
 withPending c flag name pb2 pb3 =
-    record { epoch = c .epoch; flag = flag; pendingName = name; pendingPB2 = pb2; pendingPB3 = pb3; slaves = c .slaves }
+    record { edition = c .edition; epoch = c .epoch; flag = flag; pendingName = name; pendingPB2 = pb2; pendingPB3 = pb3; slaves = c .slaves }

@@ -21,8 +21,10 @@ pub record Slave : Type 0 where
 abbrev pub noSlave : Slave
 noSlave = record { files = [] }
 
--- the epoch, the pending flag, the pending logical name, PB2 and PB3, and the slaves in table order
+-- the edition of the file that holds it, the epoch, the pending flag, the pending logical name, PB2 and PB3, and the slaves in table
+-- order
 pub record Cluster : Type 0 where
+  pub edition : ℕ
   pub epoch : ℕ
   pub flag : ℕ
   pub pendingName : ℕ

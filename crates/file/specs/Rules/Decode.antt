@@ -4,7 +4,7 @@ use Prim.Native.Nat.{ℕ, zero, suc, _+_, _*_}
 use mathlib.Core.List.{List, [], _∷_}
 use lib.ListN.{getD}
 use Rattle.file.specs.Rules.Bytes.{numberOf, part}
-use Rattle.file.specs.Rules.Layout.{offsetWidth, headerSize, entrySize, recordSize}
+use Rattle.file.specs.Rules.Layout.{offsetWidth, editionOf, headerSize, entrySize, recordSize}
 use Rattle.file.specs.Rules.Cluster.{File, Slave, Cluster}
 
 -- a number of the offset's width at a place
@@ -35,7 +35,7 @@ slavesAt w f t (suc n) = slaveAt w f t ∷ slavesAt w f (t + entrySize w) n
 
 -- bytes 8 to 12 in edition 1 are the epoch, the pending flag, the pending logical name, PB2 and PB3; byte 3 is the slave count
 unfoldable pub decodeAt : ℕ → List ℕ → Cluster
-decodeAt w f = record { epoch = getD f (4 + 2 * w) 0; flag = getD f (5 + 2 * w) 0; pendingName = getD f (6 + 2 * w) 0; pendingPB2 = getD f (7 + 2 * w) 0; pendingPB3 = getD f (8 + 2 * w) 0; slaves = slavesAt w f (headerSize w) (getD f 3 0) }
+decodeAt w f = record { edition = editionOf w; epoch = getD f (4 + 2 * w) 0; flag = getD f (5 + 2 * w) 0; pendingName = getD f (6 + 2 * w) 0; pendingPB2 = getD f (7 + 2 * w) 0; pendingPB3 = getD f (8 + 2 * w) 0; slaves = slavesAt w f (headerSize w) (getD f 3 0) }
 
 -- edition 1
 unfoldable pub decode : List ℕ → Cluster

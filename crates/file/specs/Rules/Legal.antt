@@ -4,7 +4,7 @@ use mathlib.Core.Path.{_≡_}
 use mathlib.Core.List.{List, [], _∷_, map}
 use lib.ListN.{length}
 use Rattle.file.specs.Rules.Bytes.{Byte, Bytes, All}
-use Rattle.file.specs.Rules.Layout.{offsetWidth, pendingFlag, maxSlaves, maxLength, recordSize}
+use Rattle.file.specs.Rules.Layout.{offsetWidth, editionOf, pendingFlag, maxSlaves, maxLength, recordSize}
 use Rattle.file.specs.Rules.Cluster.{File, Slave, Cluster, bytesIn, lastRecord, configuration, documentation, physicalName, operationOf, readOperation, broadcast}
 use Rattle.file.specs.Rules.Encode.{fileLength}
 
@@ -44,6 +44,7 @@ pub record LegalPending (c : Cluster) : Type 0 where
   pub broadcastRead : c .flag ≡ pendingFlag → operationOf (c .pendingPB2) ≡ readOperation → c .pendingName ≡ broadcast → ⊥
 
 pub record LegalAt (w : ℕ) (c : Cluster) : Type 0 where
+  pub edition : c .edition ≡ editionOf w
   pub count : length (c .slaves) ≤ maxSlaves w
   pub pending : LegalPending c
   pub slaves : All LegalSlave (c .slaves)

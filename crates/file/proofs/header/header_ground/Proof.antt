@@ -1,6 +1,6 @@
 -- `file::header::header_ground` meets its contract: a law for each way.
 -- Assumes nothing.
-use Rattle.file.proofs.HeaderLaws.{ground-1, ground-2, ground-3, ground-4, ground-5, header-passed, long-enough}
+use Rattle.file.proofs.HeaderLaws.{ground-1, ground-2, ground-3, ground-4, ground-5, header-passed, long-enough, long-mark}
 use borrow.Author.Needs.{needs}
 use Rattle.file.proofs.header.header_ground.Statement.{statement}
 use Rattle.file.proofs.header.header_ground.Tie as tie
@@ -12,7 +12,7 @@ returns : tie.Need-returns
 returns c = search (needs, ground-1)
 
 wrong-mark-requires : tie.Need-wrong-mark-requires
-wrong-mark-requires c κs = search (needs, long-enough)
+wrong-mark-requires c κs = search (needs, long-mark)
 
 returns-2 : tie.Need-returns-2
 returns-2 c = search (needs, ground-2)

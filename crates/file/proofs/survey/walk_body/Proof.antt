@@ -2,7 +2,7 @@
 -- Assumes nothing.
 use native.Mathlib.Omega.{arith}
 use borrow.Author.Tests.{not-true, not-false}
-use Rattle.file.proofs.SurveyLaws.{count-within, count-fits, file-fits, body-short, body-broken, body-walked}
+use Rattle.file.proofs.SurveyLaws.{count-within, count-fits, table-size-fits, table-end-fits, table-fits, body-short, body-broken, body-walked}
 use borrow.Author.Needs.{needs}
 use Rattle.file.proofs.survey.walk_body.Statement.{statement}
 use Rattle.file.proofs.survey.walk_body.Tie as tie
@@ -10,17 +10,26 @@ use Rattle.file.proofs.survey.walk_body.Tie as tie
 byte-at-requires : tie.Need-byte-at-requires
 byte-at-requires c κs = search (needs, count-within)
 
+mul-header : tie.Need-mul-header
+mul-header c = omega arith
+
+add-header : tie.Need-add-header
+add-header c = omega arith
+
+mul-size : tie.Need-mul-size
+mul-size c = omega arith
+
 mul-if1 : tie.Need-mul-if1
-mul-if1 c = search needs
+mul-if1 c = search (needs, table-size-fits)
 
 add-if1 : tie.Need-add-if1
-add-if1 c = search needs
+add-if1 c = search (needs, table-end-fits)
 
 returns : tie.Need-returns
 returns c = search (needs, body-short)
 
 walk-slaves-requires : tie.Need-walk-slaves-requires
-walk-slaves-requires c κs = search (needs, count-fits, file-fits)
+walk-slaves-requires c κs = (search (needs, table-fits), search (needs, count-fits))
 
 same-length : tie.Need-same-length
 same-length c = search needs
@@ -39,6 +48,9 @@ walk-body-spec =
     tie.close
     (tie.spec
     byte-at-requires
+    mul-header
+    add-header
+    mul-size
     mul-if1
     add-if1
     returns

@@ -1,7 +1,9 @@
 -- `file::walk::is_next` meets its contract: a law for each way.
 -- Assumes nothing.
-use Rattle.file.proofs.WalkLaws.{next-low, next-empty, next-last}
+use Rattle.file.proofs.WalkLaws.{next-low, next-empty, next-unfilled, next-last}
 use borrow.Author.Needs.{needs}
+use borrow.Author.Tests.{not-true, not-false}
+use native.Mathlib.Omega.{arith}
 use Rattle.file.proofs.walk.is_next.Statement.{statement}
 use Rattle.file.proofs.walk.is_next.Tie as tie
 
@@ -11,14 +13,23 @@ returns c = search (needs, next-low)
 returns-2 : tie.Need-returns-2
 returns-2 c = search (needs, next-empty)
 
-add-u16-at : tie.Need-add-u16-at
-add-u16-at c = search needs
+add-is-filled : tie.Need-add-is-filled
+add-is-filled c = omega arith
 
-u16-at-requires : tie.Need-u16-at-requires
-u16-at-requires c κs = search needs
+is-filled-requires : tie.Need-is-filled-requires
+is-filled-requires c κs = search needs
 
 returns-3 : tie.Need-returns-3
-returns-3 c = search (needs, next-last)
+returns-3 c = search (needs, next-unfilled, not-true)
+
+add-offset-at : tie.Need-add-offset-at
+add-offset-at c = omega arith
+
+offset-at-requires : tie.Need-offset-at-requires
+offset-at-requires c κs = search needs
+
+returns-4 : tie.Need-returns-4
+returns-4 c = search (needs, next-last, not-false)
 
 pub is-next-spec : {M : Type 1} → statement M
-is-next-spec = tie.close (tie.spec returns returns-2 add-u16-at u16-at-requires returns-3)
+is-next-spec = tie.close (tie.spec returns returns-2 add-is-filled is-filled-requires returns-3 add-offset-at offset-at-requires returns-4)

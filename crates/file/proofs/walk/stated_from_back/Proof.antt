@@ -3,15 +3,18 @@
 use borrow.Author.Needs.{needs}
 use native.Mathlib.Omega.{arith}
 use Rattle.file.specs.Inner.Typed.{fileIn}
-use Rattle.file.proofs.SeekLaws.{SeekingBack, back-start, back-done, back-next, back-here}
+use Rattle.file.proofs.SeekLaws.{SeekingBack, back-start, back-done, back-next, back-here, back-two, back-offset, back-offset-fits, back-short, back-size}
 use Rattle.file.proofs.walk.stated_from_back.Statement.{statement}
 use Rattle.file.proofs.walk.stated_from_back.Tie as tie
 
 abbrev Inv-loop : tie.InvT-loop
-Inv-loop file directory count wanted least entry₀ entry = SeekingBack file directory count (fileIn wanted) least entry
+Inv-loop file width directory count wanted least size entry₀ entry = SeekingBack width file directory count (fileIn wanted) least entry
 
 abbrev μ-loop : tie.MeasureT-loop
-μ-loop file directory count wanted least entry₀ entry = entry
+μ-loop file width directory count wanted least size entry₀ entry = entry
+
+mul-size : tie.Need-mul-size Inv-loop μ-loop
+mul-size c = search needs
 
 mul-entry : tie.Need-mul-entry Inv-loop μ-loop
 mul-entry c = search needs
@@ -23,19 +26,19 @@ loop-holds : tie.Need-loop-holds Inv-loop μ-loop
 loop-holds c = back-start _ _
 
 sub-entry : tie.Need-sub-entry Inv-loop μ-loop
-sub-entry c = omega arith
+sub-entry c = search (needs, back-size)
 
 is-stated-requires : tie.Need-is-stated-requires Inv-loop μ-loop
-is-stated-requires c κs = record { within = omega arith; short = omega arith }
+is-stated-requires c κs = search (needs, back-two)
 
-add-u16-at : tie.Need-add-u16-at Inv-loop μ-loop
-add-u16-at c = omega arith
+add-offset-at : tie.Need-add-offset-at Inv-loop μ-loop
+add-offset-at c = search (needs, back-offset-fits)
 
-u16-at-requires : tie.Need-u16-at-requires Inv-loop μ-loop
-u16-at-requires c κs = omega arith
+offset-at-requires : tie.Need-offset-at-requires Inv-loop μ-loop
+offset-at-requires c κs = search (needs, back-offset)
 
 cast-result : tie.Need-cast-result Inv-loop μ-loop
-cast-result c = omega (arith, c .u16-at .ensures .below)
+cast-result c = search (needs, back-short)
 
 returns : tie.Need-returns Inv-loop μ-loop
 returns c = search (needs, back-here)
@@ -55,13 +58,14 @@ stated-from-back-spec =
     (tie.spec
     Inv-loop
     μ-loop
+    mul-size
     mul-entry
     add-entry
     loop-holds
     sub-entry
     is-stated-requires
-    add-u16-at
-    u16-at-requires
+    add-offset-at
+    offset-at-requires
     cast-result
     returns
     loop-less

@@ -4,15 +4,18 @@ use Prim.Native.Nat.{_-_}
 use borrow.Author.Needs.{needs}
 use native.Mathlib.Omega.{arith}
 use Rattle.file.specs.Inner.Typed.{fileIn}
-use Rattle.file.proofs.SeekLaws.{Seeking, seeking-start, seeking-done, seeking-next, seeking-here}
+use Rattle.file.proofs.SeekLaws.{Seeking, seeking-start, seeking-done, seeking-next, seeking-here, seeking-two, seeking-offset, seeking-offset-fits, seeking-short}
 use Rattle.file.proofs.walk.stated_from_front.Statement.{statement}
 use Rattle.file.proofs.walk.stated_from_front.Tie as tie
 
 abbrev Inv-loop : tie.InvT-loop
-Inv-loop file directory count wanted least end entry₀ entry = Seeking file directory count (fileIn wanted) least entry
+Inv-loop file width directory count wanted least size end entry₀ entry = Seeking width file directory count (fileIn wanted) least entry
 
 abbrev μ-loop : tie.MeasureT-loop
-μ-loop file directory count wanted least end entry₀ entry = end - entry
+μ-loop file width directory count wanted least size end entry₀ entry = end - entry
+
+mul-size : tie.Need-mul-size Inv-loop μ-loop
+mul-size c = search needs
 
 mul-end : tie.Need-mul-end Inv-loop μ-loop
 mul-end c = search needs
@@ -24,16 +27,16 @@ loop-holds : tie.Need-loop-holds Inv-loop μ-loop
 loop-holds c = search (needs, seeking-start)
 
 is-stated-requires : tie.Need-is-stated-requires Inv-loop μ-loop
-is-stated-requires c κs = record { within = omega arith; short = omega arith }
+is-stated-requires c κs = search (needs, seeking-two)
 
-add-u16-at : tie.Need-add-u16-at Inv-loop μ-loop
-add-u16-at c = omega arith
+add-offset-at : tie.Need-add-offset-at Inv-loop μ-loop
+add-offset-at c = search (needs, seeking-offset-fits)
 
-u16-at-requires : tie.Need-u16-at-requires Inv-loop μ-loop
-u16-at-requires c κs = omega arith
+offset-at-requires : tie.Need-offset-at-requires Inv-loop μ-loop
+offset-at-requires c κs = search (needs, seeking-offset)
 
 cast-result : tie.Need-cast-result Inv-loop μ-loop
-cast-result c = omega (arith, c .u16-at .ensures .below)
+cast-result c = search (needs, seeking-short)
 
 returns : tie.Need-returns Inv-loop μ-loop
 returns c = search (needs, seeking-here)
@@ -56,12 +59,13 @@ stated-from-front-spec =
     (tie.spec
     Inv-loop
     μ-loop
+    mul-size
     mul-end
     add-end
     loop-holds
     is-stated-requires
-    add-u16-at
-    u16-at-requires
+    add-offset-at
+    offset-at-requires
     cast-result
     returns
     add-entry

@@ -4,15 +4,18 @@ use Prim.Native.Nat.{_-_}
 use borrow.Author.Needs.{needs}
 use borrow.Author.Tests.{not-true, not-false}
 use native.Mathlib.Omega.{arith}
-use Rattle.file.proofs.WalkLaws.{Walking, walking-start, walking-entry, walking-stop, walking-next, walking-done}
+use Rattle.file.proofs.WalkLaws.{Walking, walking-start, walking-fits, walking-entry, walking-stop, walking-next, walking-done}
 use Rattle.file.proofs.walk.walk_directory.Statement.{statement}
 use Rattle.file.proofs.walk.walk_directory.Tie as tie
 
 abbrev Inv-loop : tie.InvT-loop
-Inv-loop file directory count end entry₀ low₀ place₀ entry low place = Walking file directory count entry low place
+Inv-loop file width directory count size end entry₀ low₀ place₀ entry low place = Walking width file directory count entry low place
 
 abbrev μ-loop : tie.MeasureT-loop
-μ-loop file directory count end entry₀ low₀ place₀ entry low place = end - entry
+μ-loop file width directory count size end entry₀ low₀ place₀ entry low place = end - entry
+
+mul-size : tie.Need-mul-size Inv-loop μ-loop
+mul-size c = search needs
 
 mul-end : tie.Need-mul-end Inv-loop μ-loop
 mul-end c = search needs
@@ -48,7 +51,7 @@ mul-place : tie.Need-mul-place Inv-loop μ-loop
 mul-place c = omega arith
 
 add-place-2 : tie.Need-add-place-2 Inv-loop μ-loop
-add-place-2 c = omega arith
+add-place-2 c = search (needs, walking-fits)
 
 add-entry : tie.Need-add-entry Inv-loop μ-loop
 add-entry c = omega arith
@@ -60,7 +63,7 @@ loop-again : tie.Need-loop-again Inv-loop μ-loop
 loop-again c =
     let read = c .before .before in
     let turn = read .before .before in
-    walking-next (turn .before .loop .inv) (turn .loop-test .taken) (c .before .is-next .ensures) (not-false _ (c .if1 .left)) (read .before .byte-at .ensures) (read .byte-at2 .ensures)
+    walking-next (turn .before .before .before .pre) (turn .before .loop .inv) (turn .loop-test .taken) (c .before .is-next .ensures) (not-false _ (c .if1 .left)) (read .before .byte-at .ensures) (read .byte-at2 .ensures)
 
 fits-so-far-requires : tie.Need-fits-so-far-requires Inv-loop μ-loop
 fits-so-far-requires c κs = search needs
@@ -74,6 +77,7 @@ walk-directory-spec =
     (tie.spec
     Inv-loop
     μ-loop
+    mul-size
     mul-end
     add-end
     loop-holds

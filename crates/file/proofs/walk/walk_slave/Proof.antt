@@ -1,72 +1,77 @@
 -- `file::walk::walk_slave` meets its contract: a law for each way.
 -- Assumes nothing.
 use borrow.Author.Tests.{not-true, not-false}
-use Rattle.file.proofs.SlaveWalkLaws.{slave-elsewhere, slave-zero, slave-past, slave-breaks, slave-walks, directory-arrives}
+use native.Mathlib.Omega.{arith}
+use Rattle.file.proofs.SlaveWalkLaws.{slave-elsewhere, slave-zero, slave-unfilled, slave-past, slave-walked, directory-fits, directory-size-fits, directory-end-fits}
 use borrow.Author.Needs.{needs}
 use Rattle.file.proofs.walk.walk_slave.Statement.{statement}
 use Rattle.file.proofs.walk.walk_slave.Tie as tie
 
-add-byte-at : tie.Need-add-byte-at
-add-byte-at c = search needs
+add-after : tie.Need-add-after
+add-after c = omega arith
 
 byte-at-requires : tie.Need-byte-at-requires
-byte-at-requires c κs = search needs
+byte-at-requires c κs = omega arith
 
-u16-at-requires : tie.Need-u16-at-requires
-u16-at-requires c κs = search needs
+offset-at-requires : tie.Need-offset-at-requires
+offset-at-requires c κs = search needs
 
 returns : tie.Need-returns
 returns c = search (needs, slave-elsewhere)
 
-add-byte-at-2 : tie.Need-add-byte-at-2
-add-byte-at-2 c = search needs
+add-byte-at : tie.Need-add-byte-at
+add-byte-at c = omega arith
 
 byte-at-requires-2 : tie.Need-byte-at-requires-2
-byte-at-requires-2 c κs = search needs
+byte-at-requires-2 c κs = omega arith
 
 returns-2 : tie.Need-returns-2
 returns-2 c = search (needs, slave-zero)
 
-mul-if3 : tie.Need-mul-if3
-mul-if3 c = search needs
+add-is-filled : tie.Need-add-is-filled
+add-is-filled c = omega arith
 
-add-if3 : tie.Need-add-if3
-add-if3 c = search needs
+is-filled-requires : tie.Need-is-filled-requires
+is-filled-requires c κs = search needs
 
 returns-3 : tie.Need-returns-3
-returns-3 c = search (needs, slave-past)
+returns-3 c = search (needs, slave-unfilled, not-true)
 
-walk-directory-requires : tie.Need-walk-directory-requires
-walk-directory-requires c κs = search needs
+mul-size : tie.Need-mul-size
+mul-size c = omega arith
+
+mul-if4 : tie.Need-mul-if4
+mul-if4 c = search (needs, directory-size-fits)
+
+add-if4 : tie.Need-add-if4
+add-if4 c = search (needs, directory-end-fits)
 
 returns-4 : tie.Need-returns-4
-returns-4 c = search (needs, slave-breaks, not-true)
+returns-4 c = search (needs, slave-past)
 
-stated-from-front-requires : tie.Need-stated-from-front-requires
-stated-from-front-requires c κs = search (needs, directory-arrives, not-false)
-
-stated-from-back-requires : tie.Need-stated-from-back-requires
-stated-from-back-requires c κs = search needs
+walk-files-requires : tie.Need-walk-files-requires
+walk-files-requires c κs = search (needs, directory-fits)
 
 returns-5 : tie.Need-returns-5
-returns-5 c = search (needs, slave-walks, not-false)
+returns-5 c = search (needs, slave-walked, not-false)
 
 pub walk-slave-spec : {M : Type 1} → statement M
 walk-slave-spec =
     tie.close
     (tie.spec
-    add-byte-at
+    add-after
     byte-at-requires
-    u16-at-requires
+    offset-at-requires
     returns
-    add-byte-at-2
+    add-byte-at
     byte-at-requires-2
     returns-2
-    mul-if3
-    add-if3
+    add-is-filled
+    is-filled-requires
     returns-3
-    walk-directory-requires
+    mul-size
+    mul-if4
+    add-if4
     returns-4
-    stated-from-front-requires
-    stated-from-back-requires
+    walk-files-requires
     returns-5)

@@ -4,16 +4,25 @@ use Prim.Native.Nat.{_-_}
 use borrow.Author.Tests.{not-true, not-false}
 use native.Mathlib.Omega.{arith}
 use lib.ListN.{length, length-set}
-use Rattle.file.proofs.SlaveWalkLaws.{Surveying, surveying-start, surveying-stop, surveying-next, surveying-done}
+use Rattle.file.proofs.SlaveWalkLaws.{Surveying, surveying-start, surveying-entry, surveying-place, surveying-stop, surveying-next, surveying-done}
 use borrow.Author.Needs.{needs}
 use Rattle.file.proofs.walk.walk_slaves.Statement.{statement}
 use Rattle.file.proofs.walk.walk_slaves.Tie as tie
 
 abbrev Inv-loop : tie.InvT-loop
-Inv-loop file count places₀ entry₀ place₀ slave₀ places entry place slave = Surveying file count (length places₀) slave entry place places
+Inv-loop file width count places₀ size entry₀ place₀ slave₀ places entry place slave = Surveying width file count (length places₀) slave entry place places
 
 abbrev μ-loop : tie.MeasureT-loop
-μ-loop file count places₀ entry₀ place₀ slave₀ places entry place slave = count - slave
+μ-loop file width count places₀ size entry₀ place₀ slave₀ places entry place slave = count - slave
+
+mul-size : tie.Need-mul-size Inv-loop μ-loop
+mul-size c = omega arith
+
+mul-entry : tie.Need-mul-entry Inv-loop μ-loop
+mul-entry c = omega arith
+
+add-entry : tie.Need-add-entry Inv-loop μ-loop
+add-entry c = omega arith
 
 mul-place : tie.Need-mul-place Inv-loop μ-loop
 mul-place c = omega arith
@@ -25,7 +34,7 @@ loop-holds : tie.Need-loop-holds Inv-loop μ-loop
 loop-holds c = surveying-start (omega arith) (omega arith)
 
 walk-slave-requires : tie.Need-walk-slave-requires Inv-loop μ-loop
-walk-slave-requires c κs = omega arith
+walk-slave-requires c κs = (search (needs, surveying-entry), search (needs, surveying-place))
 
 same-length : tie.Need-same-length Inv-loop μ-loop
 same-length c = search needs
@@ -54,8 +63,11 @@ mul-places-4 c = omega arith
 slice-write-places-2 : tie.Need-slice-write-places-2 Inv-loop μ-loop
 slice-write-places-2 c = simp length-set (omega arith)
 
-add-entry : tie.Need-add-entry Inv-loop μ-loop
-add-entry c = omega arith
+add-entry-2 : tie.Need-add-entry-2 Inv-loop μ-loop
+add-entry-2 c =
+    let turn = c .before .before .before in
+    let pre = turn .before .before .before .before .pre .0 in
+    omega (arith, surveying-entry (turn .before .loop .inv) pre (turn .loop-test .taken) .within, pre .short, pre .width .most)
 
 add-slave : tie.Need-add-slave Inv-loop μ-loop
 add-slave c = omega arith
@@ -64,7 +76,9 @@ loop-less : tie.Need-loop-less Inv-loop μ-loop
 loop-less c = omega arith
 
 loop-again : tie.Need-loop-again Inv-loop μ-loop
-loop-again c = search (needs, surveying-next, not-false)
+loop-again c =
+    let turn = c .before .before .before in
+    surveying-next (turn .before .loop .inv) (turn .loop-test .taken) (c .before .before .walk-slave .ensures) (not-false _ (c .if1 .left))
 
 same-length-2 : tie.Need-same-length-2 Inv-loop μ-loop
 same-length-2 c = search needs
@@ -78,6 +92,9 @@ walk-slaves-spec =
     (tie.spec
     Inv-loop
     μ-loop
+    mul-size
+    mul-entry
+    add-entry
     mul-place
     add-place
     loop-holds
@@ -91,7 +108,7 @@ walk-slaves-spec =
     add-places
     mul-places-4
     slice-write-places-2
-    add-entry
+    add-entry-2
     add-slave
     loop-less
     loop-again
