@@ -34,7 +34,7 @@ FNR == NR && /^    (part|ground|text|word): ./ {
     next
 }
 
-FNR == NR && /^call [a-z]+ ttpa_[a-z_]+( [0-9]+)+$/ {
+FNR == NR && /^call [a-z-]+ ttpa_[a-z_]+( [0-9]+)+$/ {
     kind[++calls] = $2
     called[calls] = $3
     for (i = 4; i <= NF; i++) {
@@ -122,8 +122,12 @@ function write_grounds(of) {
     print "    (TtpaError::Other(" last + 1 "), " last + 1 ", " quoted("other", "word") "),\n];"
 }
 
-function write_calls(i) {
-    for (i = 1; i <= calls; i++) print "const " toupper(kind[i]) "_NUMBERS: &[u8] = &[" checked[i] "];"
+function write_calls(i, made) {
+    for (i = 1; i <= calls; i++) {
+        made = toupper(kind[i])
+        gsub(/-/, "_", made)
+        print "const " made "_NUMBERS: &[u8] = &[" checked[i] "];"
+    }
 }
 
 function write_part(part) {

@@ -2,8 +2,8 @@
  *
  * Sees to it that header and library are of one version, loads a cluster file, checks it, reads a record of a named
  * slave, has a foreign master try to name slaves by a write, names the unnamed slaves while other rounds go on in
- * between, runs a captured trace, plans who sends in which slot, has a slot multiplexed, and prints what happened.
- * examples/demo.rs of the Rust crate does the same and prints the same. */
+ * between, tells before and after it who holds a name, runs a captured trace, plans who sends in which slot, has a slot
+ * multiplexed, and prints what happened. examples/demo.rs of the Rust crate does the same and prints the same. */
 #include <inttypes.h>
 #include <stdio.h>
 
@@ -21,6 +21,10 @@ static uint8_t cluster[TTPA_FILE_BYTES + 1];
 static size_t length;
 static uint8_t answer[TTPA_ANSWER_BYTES];
 static uint64_t senders;
+
+/* A summary of the file: each slave's logical name in table order. */
+static uint8_t held[TTPA_MOST_SLAVES];
+static uint64_t held_count;
 
 static void print_version(const char *what, uint32_t version)
 {
@@ -95,6 +99,12 @@ static uint8_t send(const uint8_t *frame, size_t bytes)
     return ttpa_round(cluster, length, frame, bytes, answer, sizeof answer, &senders);
 }
 
+static uint8_t send_keeping(const uint8_t *frame, size_t bytes)
+{
+    return ttpa_round_keeping(cluster, length, frame, bytes, answer, sizeof answer, &senders, held, sizeof held,
+                              held_count);
+}
+
 /* A complete master-slave round: the address frame, then the data frame, which is one byte for a read. */
 static uint8_t read_record(uint8_t name, uint8_t file, uint8_t record)
 {
@@ -126,11 +136,12 @@ static void show_frames(void)
     print_verdict("a wrong check byte on the bus", send(frame, sizeof frame));
 }
 
-/* Rounds that others make meanwhile: a multipartner round and a read. */
+/* Rounds that others make meanwhile: a multipartner round, given the summary, and a read, which may do without: it
+ * renames nobody. */
 static uint8_t other_traffic(void)
 {
     static const uint8_t round[1] = {TTPA_FIREWORK_ROUND_2};
-    uint8_t number = send(round, sizeof round);
+    uint8_t number = send_keeping(round, sizeof round);
     return number != TTPA_ACCEPTED ? number : read_record(0x01, TTPA_FILE_DOCUMENTATION, 2);
 }
 
@@ -145,7 +156,8 @@ static uint8_t name_slaves(const uint8_t *names, size_t count)
             number = other_traffic();
         }
         if (number == TTPA_ACCEPTED) {
-            number = ttpa_step(cluster, length, run, names, count, answer, sizeof answer, &senders);
+            number = ttpa_step_keeping(cluster, length, run, names, count, answer, sizeof answer, &senders, held,
+                                       sizeof held, held_count);
         }
         if (number == TTPA_ACCEPTED && run[TTPA_RUN_INDEX] != index) {
             if (step == 0) {
@@ -161,6 +173,43 @@ static uint8_t name_slaves(const uint8_t *names, size_t count)
                run[TTPA_RUN_ROUNDS], run[TTPA_RUN_COMPARISONS]);
     }
     return number;
+}
+
+/* Who holds a name, asked of the summary alone. */
+static void print_holder(uint8_t name)
+{
+    uint64_t place;
+    uint8_t number = ttpa_holder(held, sizeof held, held_count, name, &place);
+    if (number != TTPA_ACCEPTED) {
+        print_verdict("a holder", number);
+    } else if (place == TTPA_NOBODY) {
+        printf("%02X is held by nobody\n", (unsigned)name);
+    } else {
+        printf("%02X is held by slave %" PRIu64 "\n", (unsigned)name, place);
+    }
+}
+
+static void print_holders(void)
+{
+    for (uint8_t name = 0x01; name <= 0x03; name++) {
+        print_holder(name);
+    }
+    print_holder(TTPA_NAME_UNNAMED);
+}
+
+static void fill_summary(void)
+{
+    print_verdict("a summary", ttpa_fill(cluster, length, held, sizeof held, &held_count));
+    print_bytes("names held", held, (size_t)held_count);
+}
+
+/* A summary that lacks the last slave's name does not match. */
+static void show_wrong_summary(void)
+{
+    static const uint8_t round[1] = {TTPA_FIREWORK_ROUND_2};
+    held_count--;
+    print_verdict("round 2 with a name too few", send_keeping(round, sizeof round));
+    held_count++;
 }
 
 /* Five frames captured on site: round 2; a write of E7 7F 00 00 to record 1 of file 0x10 of slave 01, its data
@@ -304,9 +353,13 @@ int main(int count, char **arguments)
     print_verdict("round 2 before naming", number);
     print_answer("answer");
     show_foreign_write();
+    fill_summary();
+    print_holders();
     print_verdict("names with a repeat", ttpa_start(bad_names, sizeof bad_names, run));
     number = name_slaves(names, sizeof names);
     print_verdict("naming", number);
+    print_holders();
+    show_wrong_summary();
     for (uint8_t name = 0x02; name <= 0x03; name++) {
         number = read_record(name, TTPA_FILE_DOCUMENTATION, 2);
         print_verdict("read", number);
@@ -316,7 +369,9 @@ int main(int count, char **arguments)
     print_verdict("round 2 after naming", number);
     print_answer("answer");
     show_trace();
-    number = send(round, sizeof round);
+    /* a trace takes no summary and may have renamed slaves: it is filled again */
+    fill_summary();
+    number = send_keeping(round, sizeof round);
     print_verdict("round 2 after the trace", number);
     print_answer("answer");
     show_owners();

@@ -54,6 +54,7 @@ VALUE(TTPA_REFUSED_TWO_SENDERS, 20);
 VALUE(TTPA_REFUSED_OWNER_BUFFER, 21);
 VALUE(TTPA_REFUSED_EQUAL_LOGICAL_NAMES, 22);
 VALUE(TTPA_REFUSED_MULTIPLEXED_SEND, 23);
+VALUE(TTPA_REFUSED_SUMMARY, 24);
 /* .ci/refusals writes to here */
 
 VALUE(TTPA_FILE_BYTES, 32768);
@@ -112,6 +113,9 @@ VALUE(TTPA_OWNER_BYTES, 396);
 VALUE(TTPA_OWNER_RECORD_BYTES, 4);
 VALUE(TTPA_OWNER_INDEX, 4);
 
+VALUE(TTPA_MOST_SLAVES, 32);
+VALUE(TTPA_NOBODY, UINT64_C(0xFFFFFFFFFFFFFFFF));
+
 /* ---- the prototypes */
 
 typedef const char *text_type(uint8_t);
@@ -126,6 +130,12 @@ typedef uint8_t step_type(uint8_t *, size_t, uint64_t *, const uint8_t *, size_t
                           uint64_t *);
 typedef uint8_t trace_type(uint8_t *, size_t, const uint8_t *, size_t, uint64_t *);
 typedef uint8_t owner_type(const uint8_t *, size_t, uint8_t, uint8_t *, size_t, uint64_t *);
+typedef uint8_t fill_type(const uint8_t *, size_t, uint8_t *, size_t, uint64_t *);
+typedef uint8_t holder_type(const uint8_t *, size_t, uint64_t, uint8_t, uint64_t *);
+typedef uint8_t round_keeping_type(uint8_t *, size_t, const uint8_t *, size_t, uint8_t *, size_t, uint64_t *,
+                                   uint8_t *, size_t, uint64_t);
+typedef uint8_t step_keeping_type(uint8_t *, size_t, uint64_t *, const uint8_t *, size_t, uint8_t *, size_t,
+                                  uint64_t *, uint8_t *, size_t, uint64_t);
 
 PROTOTYPE(ttpa_refusal_text, text_type);
 PROTOTYPE(ttpa_version, version_type);
@@ -138,6 +148,10 @@ PROTOTYPE(ttpa_start, start_type);
 PROTOTYPE(ttpa_step, step_type);
 PROTOTYPE(ttpa_trace, trace_type);
 PROTOTYPE(ttpa_owner, owner_type);
+PROTOTYPE(ttpa_fill, fill_type);
+PROTOTYPE(ttpa_holder, holder_type);
+PROTOTYPE(ttpa_round_keeping, round_keeping_type);
+PROTOTYPE(ttpa_step_keeping, step_keeping_type);
 
 /* ---- the comparisons */
 
@@ -254,6 +268,7 @@ static const struct {
     {TTPA_REFUSED_OWNER_BUFFER, "owner file"},
     {TTPA_REFUSED_EQUAL_LOGICAL_NAMES, "logical name;"},
     {TTPA_REFUSED_MULTIPLEXED_SEND, "multiplexed"},
+    {TTPA_REFUSED_SUMMARY, "summary"},
     /* .ci/refusals writes to here */
 };
 
@@ -858,6 +873,188 @@ static void multiplexed_rounds(void)
     }
 }
 
+/* ---- summaries */
+
+/* The names held, a byte more room than M10 has slaves, and what *count and *place hold. */
+static uint8_t held[3];
+static uint64_t held_count;
+static uint64_t place;
+
+static void renew_held(uint8_t first, uint8_t second)
+{
+    held[0] = first;
+    held[1] = second;
+    held[2] = OLD;
+    held_count = OLD_WORD;
+    place = OLD_WORD;
+}
+
+static int held_is(uint8_t first, uint8_t second)
+{
+    return held[0] == first && held[1] == second && held[2] == OLD;
+}
+
+/* M10 with these names: room for one more, exactly room, and one byte too few; then no slaves and no room. */
+static void filled(void)
+{
+    static const uint8_t empty[] = {0x54, 0x41, 1, 0, 0, 16, 0, 16, 0, 0, 0, 0, 0, 0, 0, 0};
+    renew();
+    cluster[FIRST_NAME] = 0x05;
+    renew_held(OLD, OLD);
+    EXPECT(ttpa_fill(cluster, sizeof cluster, held, sizeof held, &held_count) == TTPA_ACCEPTED);
+    EXPECT(held_count == 2 && held_is(0x05, TTPA_NAME_UNNAMED));
+    renew_held(OLD, OLD);
+    EXPECT(ttpa_fill(cluster, sizeof cluster, held, 2, &held_count) == TTPA_ACCEPTED);
+    EXPECT(held_count == 2 && held_is(0x05, TTPA_NAME_UNNAMED));
+    renew_held(OLD, OLD);
+    EXPECT(ttpa_fill(cluster, sizeof cluster, held, 1, &held_count) == TTPA_REFUSED_SUMMARY);
+    EXPECT(ttpa_fill(cluster, sizeof cluster, NULL, 0, &held_count) == TTPA_REFUSED_SUMMARY);
+    EXPECT(ttpa_fill(cluster, sizeof cluster - 1, NULL, 0, &held_count) == TTPA_REFUSED_LENGTH_FIELD);
+    EXPECT(ttpa_fill(NULL, 0, NULL, 0, &held_count) == TTPA_REFUSED_FILE_SIZE);
+    EXPECT(held_count == OLD_WORD && held_is(OLD, OLD));
+    EXPECT(ttpa_fill(empty, sizeof empty, NULL, 0, &held_count) == TTPA_ACCEPTED);
+    EXPECT(held_count == 0);
+}
+
+/* The place of a name among the first count of two bytes; OLD_WORD where the call refuses by 24. */
+static uint64_t holder_of(uint8_t name, uint64_t count)
+{
+    place = OLD_WORD;
+    uint8_t answered = ttpa_holder(held, 2, count, name, &place);
+    return answered == TTPA_ACCEPTED || (answered == TTPA_REFUSED_SUMMARY && place == OLD_WORD) ? place : 99;
+}
+
+static void holders(void)
+{
+    renew_held(0x05, TTPA_NAME_UNNAMED);
+    EXPECT(holder_of(0x05, 2) == 0 && holder_of(TTPA_NAME_UNNAMED, 2) == 1);
+    EXPECT(holder_of(TTPA_NAME_UNNAMED, 1) == TTPA_NOBODY && holder_of(0x06, 2) == TTPA_NOBODY);
+    EXPECT(holder_of(TTPA_NAME_BROADCAST, 2) == TTPA_NOBODY && holder_of(0x05, 0) == TTPA_NOBODY);
+    EXPECT(holder_of(0x05, 3) == OLD_WORD && holder_of(0x05, UINT64_MAX) == OLD_WORD);
+    EXPECT(holder_of(0x05, (UINT64_C(1) << 32) + 2) == OLD_WORD);
+    renew_held(0x00, 0x00);
+    EXPECT(holder_of(TTPA_NAME_BROADCAST, 2) == 0);
+    EXPECT(ttpa_holder(NULL, 0, 0, 0x05, &place) == TTPA_ACCEPTED && place == TTPA_NOBODY);
+    EXPECT(held_is(0x00, 0x00));
+}
+
+static uint8_t send_keeping(const uint8_t *frame, size_t bytes, size_t answer_bytes, uint64_t count)
+{
+    return ttpa_round_keeping(cluster, sizeof cluster, frame, bytes, answer, answer_bytes, &senders, held,
+                              sizeof held, count);
+}
+
+/* Both slaves hold their physical names as comparison values: the second is to become 0x22, the first 0x21. */
+static void renew_to_baptize(void)
+{
+    renew();
+    cluster[FIRST_NAME - 1] = 0x21;
+    cluster[SECOND_NAME - 1] = 0x22;
+    memcpy(cluster + FIRST_NAME + 1, m10 + sizeof m10 - 8, 8);
+    memcpy(cluster + SECOND_NAME + 1, m10 + sizeof m10 - 8, 8);
+    cluster[FIRST_NAME + 8] = 0x10;
+}
+
+/* An execute of record 1 at 0xFF: the address frame leaves the names, the data frame renames, and again nobody. */
+static void kept_rounds(void)
+{
+    static const uint8_t baptize[] = {0x55, 0x05, 0xFF, 0x22, 0x01, 0x8C};
+    static const uint8_t data[] = {TTPA_FIREWORK_MSD};
+    renew_to_baptize();
+    renew_held(TTPA_NAME_UNNAMED, TTPA_NAME_UNNAMED);
+    EXPECT(send_keeping(baptize, sizeof baptize, sizeof answer, 2) == TTPA_ACCEPTED);
+    EXPECT(senders == 0 && silent_from(TTPA_FIREWORK_MSA, 1) && held_is(0xFF, 0xFF));
+    EXPECT(send_keeping(data, 0, sizeof answer, 2) == TTPA_REFUSED_FIREWORK && held_is(0xFF, 0xFF));
+    EXPECT(send_keeping(data, sizeof data, sizeof answer, 2) == TTPA_ACCEPTED);
+    EXPECT(senders == 0 && silent_from(TTPA_FIREWORK_MSD, 1) && held_is(0x21, 0x22));
+    EXPECT(cluster[FIRST_NAME] == 0x21 && cluster[SECOND_NAME] == 0x22 && cluster[EPOCH] == 6);
+    EXPECT(send_keeping(data, sizeof data, sizeof answer, 2) == TTPA_ACCEPTED);
+    EXPECT(cluster[EPOCH] == 7 && held_is(0x21, 0x22));
+    EXPECT(send_keeping(data, sizeof data, sizeof answer, 1) == TTPA_REFUSED_SUMMARY);
+    EXPECT(cluster[EPOCH] == 7 && held_is(0x21, 0x22));
+}
+
+/* 24 after the file's numbers and before 9, and what it is for: count, room and each name. */
+static void refused_summaries(void)
+{
+    static const uint8_t round[] = {TTPA_FIREWORK_ROUND_2};
+    renew();
+    renew_held(TTPA_NAME_UNNAMED, TTPA_NAME_UNNAMED);
+    EXPECT(ttpa_round_keeping(cluster, sizeof cluster - 1, NULL, 0, NULL, 0, &senders, NULL, 0, 9) ==
+           TTPA_REFUSED_LENGTH_FIELD);
+    EXPECT(ttpa_round_keeping(cluster, sizeof cluster, NULL, 0, NULL, 0, &senders, NULL, 0, 9) ==
+           TTPA_REFUSED_SUMMARY);
+    EXPECT(ttpa_round_keeping(cluster, sizeof cluster, round, 1, answer, sizeof answer, &senders, held, 1, 2) ==
+           TTPA_REFUSED_SUMMARY);
+    EXPECT(send_keeping(round, sizeof round, TTPA_ANSWER_BYTES - 1, 2) == TTPA_REFUSED_SHORT_BUFFER);
+    EXPECT(send_keeping(round, sizeof round, sizeof answer, 0) == TTPA_REFUSED_SUMMARY);
+    EXPECT(send_keeping(round, sizeof round, sizeof answer, 1) == TTPA_REFUSED_SUMMARY);
+    EXPECT(send_keeping(round, sizeof round, sizeof answer, 3) == TTPA_REFUSED_SUMMARY);
+    EXPECT(send_keeping(round, sizeof round, sizeof answer, UINT64_MAX) == TTPA_REFUSED_SUMMARY);
+    for (int wrong = 0; wrong < 2; wrong++) {
+        renew_held(TTPA_NAME_UNNAMED, TTPA_NAME_UNNAMED);
+        held[wrong] = 0x05;
+        EXPECT(send_keeping(round, sizeof round, 0, 2) == TTPA_REFUSED_SUMMARY);
+        EXPECT(held[wrong] == 0x05 && held[1 - wrong] == TTPA_NAME_UNNAMED && held[2] == OLD);
+    }
+    EXPECT(senders == OLD_SENDERS && is_old(answer, sizeof answer));
+    EXPECT(memcmp(cluster, m10, sizeof m10) == 0);
+}
+
+static uint8_t step_keeping(const uint8_t *list, size_t listed, size_t answer_bytes)
+{
+    return ttpa_step_keeping(cluster, sizeof cluster, run, list, listed, answer, answer_bytes, &senders, held,
+                             sizeof held, 2);
+}
+
+/* The run of all_names by steps that keep the summary, with a round that keeps it between any two; then a step of the
+ * ended run, with the summary and with a wrong one. */
+static void kept_steps(void)
+{
+    static const uint8_t round[] = {TTPA_FIREWORK_ROUND_2};
+    renew();
+    renew_held(TTPA_NAME_UNNAMED, TTPA_NAME_UNNAMED);
+    put_run(9, 9, 9, 9);
+    EXPECT(ttpa_start(names, sizeof names, run) == TTPA_ACCEPTED);
+    int refused = 0, matching = 1;
+    while (refused == 0 && run[TTPA_RUN_END] == TTPA_RUNNING) {
+        refused |= step_keeping(names, sizeof names, sizeof answer);
+        matching &= held_is(cluster[FIRST_NAME], cluster[SECOND_NAME]);
+        refused |= send_keeping(round, sizeof round, sizeof answer, 2);
+    }
+    EXPECT(refused == 0 && matching);
+    EXPECT(run_is(TTPA_ALL_NAMED, 2, 3, UINT64_C(0x0000000700000010)) && counts_are(274, 131));
+    EXPECT(held_is(names[1], names[0]) && holder_of(names[0], 2) == 1 && holder_of(names[1], 2) == 0);
+    senders = OLD_SENDERS;
+    EXPECT(step_keeping(names, sizeof names, sizeof answer) == TTPA_ACCEPTED);
+    EXPECT(senders == OLD_SENDERS && held_is(names[1], names[0]) && counts_are(274, 131));
+    held[1] = names[1];
+    EXPECT(step_keeping(names, sizeof names, sizeof answer) == TTPA_REFUSED_SUMMARY);
+    EXPECT(held_is(names[1], names[1]) && cluster[SECOND_NAME] == names[0]);
+}
+
+/* The order of the grounds of a step that keeps a summary. */
+static void refused_kept_steps(void)
+{
+    static const uint8_t unfit[] = {0x21, 0x21, TTPA_NAME_UNNAMED};
+    static const uint8_t twice[] = {0x21, 0x21, 0x22};
+    renew();
+    put_run(TTPA_NAMES_USED_UP + 1, 0, 0, 0);
+    renew_held(TTPA_NAME_UNNAMED, 0x05);
+    EXPECT(ttpa_step_keeping(cluster, sizeof cluster - 1, run, unfit, sizeof unfit, NULL, 0, &senders, held, 1,
+                             2) == TTPA_REFUSED_LENGTH_FIELD);
+    EXPECT(step_keeping(unfit, sizeof unfit, 0) == TTPA_REFUSED_SUMMARY);
+    EXPECT(held_is(TTPA_NAME_UNNAMED, 0x05));
+    renew_held(TTPA_NAME_UNNAMED, TTPA_NAME_UNNAMED);
+    EXPECT(step_keeping(unfit, sizeof unfit, TTPA_ANSWER_BYTES - 1) == TTPA_REFUSED_SHORT_BUFFER);
+    EXPECT(step_keeping(unfit, sizeof unfit, TTPA_ANSWER_BYTES) == TTPA_REFUSED_LISTED_NAME);
+    EXPECT(step_keeping(twice, sizeof twice, TTPA_ANSWER_BYTES) == TTPA_REFUSED_REPEATED_NAME);
+    EXPECT(step_keeping(names, sizeof names, TTPA_ANSWER_BYTES) == TTPA_REFUSED_POSITION);
+    EXPECT(run_is(TTPA_NAMES_USED_UP + 1, 0, 0, 0) && counts_are(0, 0));
+    EXPECT(senders == OLD_SENDERS && is_old(answer, sizeof answer));
+    EXPECT(held_is(TTPA_NAME_UNNAMED, TTPA_NAME_UNNAMED) && memcmp(cluster, m10, sizeof m10) == 0);
+}
+
 int main(void)
 {
     EXPECT(ttpa_version() == TTPA_VERSION);
@@ -885,6 +1082,12 @@ int main(void)
     refused_owners();
     multiplexed_owners();
     multiplexed_rounds();
+    filled();
+    holders();
+    kept_rounds();
+    refused_summaries();
+    kept_steps();
+    refused_kept_steps();
     printf("%d comparisons, %d failed\n", comparisons, failures);
     return failures == 0 ? 0 : 1;
 }

@@ -2,9 +2,9 @@
  *
  * Each call is made on a stack of its own that was filled with one byte value; the deepest byte that has
  * another value afterwards is the deepest that was used. The calls are made on a cluster file of the
- * greatest length with the most slaves: every kind of frame, a whole naming run over all names, the frames
- * again as a trace, owner files, and refusals. All of it runs three times: first to have the linker's work done,
- * then with two different fillings, since a byte may be written with the value that it has. */
+ * greatest length with the most slaves: every kind of frame, a whole naming run over all names, both without and
+ * with a summary, the frames again as a trace, owner files, and refusals. All of it runs three times: first to have
+ * the linker's work done, then with two different fillings, since a byte may be written with the value that it has. */
 #define _XOPEN_SOURCE 700
 #include <stdio.h>
 #include <string.h>
@@ -36,6 +36,9 @@ static uint64_t report[TTPA_REPORT_WORDS];
 static uint8_t owner[TTPA_OWNER_BYTES];
 static size_t owner_bytes;
 static uint64_t owner_length;
+static uint8_t held[TTPA_MOST_SLAVES];
+static uint64_t held_count;
+static uint64_t place;
 static uint8_t number;
 static uint32_t version;
 
@@ -175,7 +178,46 @@ static void owner_call(void)
     number = ttpa_owner(cluster, sizeof cluster, 0xFE, owner, owner_bytes, &owner_length);
 }
 
-enum kind { NOTHING, VERSION, CHECK, READ_ADDRESS, WRITE_ADDRESS, WRITE_DATA, ROUND, START, STEP, TRACE, OWNER, KINDS };
+static void fill_call(void)
+{
+    number = ttpa_fill(cluster, sizeof cluster, held, sizeof held, &held_count);
+}
+
+static void holder_call(void)
+{
+    number = ttpa_holder(held, sizeof held, held_count, held[SLAVES - 1], &place);
+}
+
+static void round_keeping_call(void)
+{
+    number = ttpa_round_keeping(cluster, sizeof cluster, frame, frame_bytes, answer, sizeof answer, &senders, held,
+                                sizeof held, held_count);
+}
+
+static void step_keeping_call(void)
+{
+    number = ttpa_step_keeping(cluster, sizeof cluster, run, names, sizeof names, answer, sizeof answer, &senders,
+                               held, sizeof held, held_count);
+}
+
+enum kind {
+    NOTHING,
+    VERSION,
+    CHECK,
+    READ_ADDRESS,
+    WRITE_ADDRESS,
+    WRITE_DATA,
+    ROUND,
+    START,
+    STEP,
+    TRACE,
+    OWNER,
+    FILL,
+    HOLDER,
+    ROUND_KEEPING,
+    STEP_KEEPING,
+    KINDS
+};
 
 struct call {
     const char *name;
@@ -194,6 +236,10 @@ static const struct call calls[KINDS] = {
     [STEP] = {"ttpa_step", step_call},
     [TRACE] = {"ttpa_trace", trace_call},
     [OWNER] = {"ttpa_owner", owner_call},
+    [FILL] = {"ttpa_fill", fill_call},
+    [HOLDER] = {"ttpa_holder", holder_call},
+    [ROUND_KEEPING] = {"ttpa_round_keeping", round_keeping_call},
+    [STEP_KEEPING] = {"ttpa_step_keeping", step_keeping_call},
 };
 
 /* The most stack that a call of each kind has used. */
@@ -240,9 +286,16 @@ static uint8_t data[MOST_FRAMES * TTPA_FRAME_BYTES];
 static size_t frames;
 static size_t data_bytes;
 
-/* Carries out the frame as a round, and keeps it. */
+/* The file as it was before calls that are made again without a summary. */
+static uint8_t before[TTPA_FILE_BYTES];
+
+/* Carries out the frame as a round, with a summary and again without, and keeps it. */
 static void send(uint8_t expected)
 {
+    memcpy(before, cluster, sizeof cluster);
+    make(FILL, TTPA_ACCEPTED);
+    make(ROUND_KEEPING, expected);
+    memcpy(cluster, before, sizeof cluster);
     memcpy(data + data_bytes, frame, frame_bytes);
     data_bytes += frame_bytes;
     lengths[frames++] = (uint8_t)frame_bytes;
@@ -348,19 +401,34 @@ static void refused_frames(void)
     send(TTPA_REFUSED_FIREWORK);
 }
 
-static void name_all(void)
+/* A whole run by steps of this kind, and calls that are refused. */
+static void name_all(enum kind step)
 {
     for (unsigned i = 0; i < NAMES; i++) {
         names[i] = (uint8_t)(i + 1);
     }
     make(START, TTPA_ACCEPTED);
     while (!failed && run[TTPA_RUN_END] == TTPA_RUNNING) {
-        make(STEP, TTPA_ACCEPTED);
+        make(step, TTPA_ACCEPTED);
     }
-    make(STEP, TTPA_ACCEPTED);
+    make(step, TTPA_ACCEPTED);
     names[NAMES - 1] = names[0];
     make(START, TTPA_REFUSED_REPEATED_NAME);
-    make(STEP, TTPA_REFUSED_REPEATED_NAME);
+    make(step, TTPA_REFUSED_REPEATED_NAME);
+}
+
+/* With a summary, which then tells that the last name is held by the last slave; and calls that refuse it. */
+static void name_all_keeping(void)
+{
+    memcpy(before, cluster, sizeof cluster);
+    make(FILL, TTPA_ACCEPTED);
+    name_all(STEP_KEEPING);
+    make(HOLDER, TTPA_ACCEPTED);
+    failed |= place != SLAVES - 1;
+    held_count++;
+    make(HOLDER, TTPA_REFUSED_SUMMARY);
+    make(STEP_KEEPING, TTPA_REFUSED_SUMMARY);
+    memcpy(cluster, before, sizeof cluster);
 }
 
 static void run_trace(void)
@@ -403,7 +471,8 @@ static void all_calls(void)
     check_files();
     multipartner_rounds();
     write_owner(TTPA_ACCEPTED);
-    name_all();
+    name_all_keeping();
+    name_all(STEP);
     write_owner(TTPA_REFUSED_TWO_SENDERS);
     refuse_multiplexed();
     multipartner_rounds();

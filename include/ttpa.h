@@ -1,6 +1,6 @@
 /* The TTP/A cluster engine for C and C++: check a cluster file, read and write frames, carry out rounds on
- * the file, name its slaves, run captured traces and write the owner file. The words and rules are those of
- * document 01, the scope document, and of document 02, the change requests.
+ * the file, name its slaves, run captured traces, write the owner file and tell who holds a logical name. The
+ * words and rules are those of document 01, the scope document, and of document 02, the change requests.
  *
  * Numbers. Every call but ttpa_version returns 0 or the number of the ground on which it refused, see enum
  * ttpa_refusal. The comment of a call gives its numbers in the order in which it checks them; the first that
@@ -9,10 +9,10 @@
  * Memory. All memory is the caller's, lent until the call returns; no pointer is kept. No byte is read or
  * written outside the length that is given with a pointer.
  * - NULL: a pointer with length 0 is not followed and may be NULL. With any other length it points to that
- *   many bytes. parts, run, senders, report and length are lent without a length and are never NULL, not in a
- *   refused call either.
- * - Alignment: run, senders, report and length as uint64_t has it, so not inside a packed structure; all
- *   others none.
+ *   many bytes. parts, run, senders, report, length, place and the count that ttpa_fill writes are lent without
+ *   a length and are never NULL, not in a refused call either.
+ * - Alignment: run, senders, report, length, place and that count as uint64_t has it, so not inside a packed
+ *   structure; all others none.
  * - Overlap: what a call may write (each pointer without const) overlaps nothing else of the same call.
  * The calls keep no state, allocate nothing, never wait and always return, whatever the bytes hold. Calls on
  * different memory may run at the same time.
@@ -41,13 +41,13 @@ extern "C" {
  * does not link; this is so from 0.8.0 on. Older headers have no ttpa_version, and those before 0.6.0 have fewer words
  * in a run, which a linked program does not notice: what was compiled with them is to be compiled again. */
 #define TTPA_VERSION_MAJOR 0
-#define TTPA_VERSION_MINOR 8
+#define TTPA_VERSION_MINOR 9
 #define TTPA_VERSION_PATCH 0
 #define TTPA_VERSION (10000 * TTPA_VERSION_MAJOR + 100 * TTPA_VERSION_MINOR + TTPA_VERSION_PATCH)
 
 /* What the library takes: code and constants of all calls, and the most stack that a call uses, with its
  * return address and arguments. No other memory. Both are measured, and rounded up. */
-#define TTPA_CODE_BYTES 10496
+#define TTPA_CODE_BYTES 12288
 #define TTPA_STACK_BYTES 2176
 
 /* What the calls return: 0, or the documents' number for the ground on which something was refused. */
@@ -85,7 +85,9 @@ enum ttpa_refusal {
     /* a cluster file that is loaded from outside, see ttpa_check */
     TTPA_REFUSED_EQUAL_LOGICAL_NAMES = 22,
     /* an owner file, before 20 */
-    TTPA_REFUSED_MULTIPLEXED_SEND = 23
+    TTPA_REFUSED_MULTIPLEXED_SEND = 23,
+    /* a summary of the logical names, after 8 */
+    TTPA_REFUSED_SUMMARY = 24
     /* .ci/refusals writes to here */
 };
 
@@ -143,6 +145,8 @@ static inline const char *ttpa_refusal_text(uint8_t number)
         return "two slaves have the same logical name; 0xFF (unnamed) alone may occur more than once";
     case TTPA_REFUSED_MULTIPLEXED_SEND:
         return "a slave has a multiplexed send in a round, and its slot need not have one owner in all epochs";
+    case TTPA_REFUSED_SUMMARY:
+        return "the summary does not match the cluster file, or has more names than there is room for";
     default:
         return "refused on a ground that this version has no text for";
     /* .ci/refusals writes to here */
@@ -244,6 +248,19 @@ static inline const char *ttpa_refusal_text(uint8_t number)
 #define TTPA_OWNER_RECORD_BYTES 4
 #define TTPA_OWNER_INDEX 4
 
+/* A summary of a cluster file tells who holds a logical name without a look at the file. It is a count and, in the
+ * first count of the room bytes at held, each slave's logical name in the order of the slave table; the bytes after
+ * them are free. It matches its file if the count is not above room and these names are exactly the file's, so that
+ * the count is the number of its slaves. TTPA_MOST_SLAVES bytes are room enough for every cluster.
+ *
+ * ttpa_fill fills it. ttpa_round_keeping and ttpa_step_keeping are given it and leave it matching the file that they
+ * leave; refused, they leave both. It has to be filled again where the file was changed without it: after a file is
+ * loaded, always; after ttpa_trace, which takes no summary, ttpa_round and ttpa_step where a data frame had record 1 of
+ * 0x08 executed, which a step does when it gives a name. Every other call leaves it matching. */
+#define TTPA_MOST_SLAVES 32
+/* What ttpa_holder tells in the place of a slave where nobody holds the name. */
+#define TTPA_NOBODY UINT64_MAX
+
 /* The version of the library, as TTPA_VERSION is that of the header. Refuses nothing. */
 uint32_t ttpa_version(void);
 
@@ -311,6 +328,32 @@ uint8_t ttpa_trace(uint8_t *file, size_t n, const uint8_t *trace, size_t m,
  * file, and the first *length bytes of buffer, and no other, are written. */
 uint8_t ttpa_owner(const uint8_t *file, size_t n, uint8_t master, uint8_t *buffer, size_t k,
                    uint64_t *length);
+
+/* Fills a summary from the cluster file of n bytes into the front of the room bytes at held.
+ * Refuses by 1, 2, 3, 4, 5, 6, 7, 8, 24 in this order; 24 is for fewer bytes than the file has slaves. On 0 *count is
+ * the number of slaves, and the first *count bytes of held, and no other, are their logical names. */
+uint8_t ttpa_fill(const uint8_t *file, size_t n, uint8_t *held, size_t room, uint64_t *count);
+
+/* Tells the place in the slave table, 0 the first, of the first slave that holds the name, any byte: 0xFF finds an
+ * unnamed slave, 0x00 one that is named so. It looks at the summary alone and stops at the first holder; if the
+ * summary matches its file, a reading of the whole file finds the same.
+ * Refuses by 24, for a count above room. On 0 *place is that place, or TTPA_NOBODY. */
+uint8_t ttpa_holder(const uint8_t *held, size_t room, uint64_t count, uint8_t name, uint64_t *place);
+
+/* Carries out one frame as ttpa_round does, given a summary of the file, and keeps it matching.
+ * Refuses by 1, 2, 3, 4, 5, 6, 7, 8, 24, 9, 10, 11, 12, 13, 14 in this order; 24 is for a summary that does not match
+ * the file handed in. On 0 file, answer and *senders are as ttpa_round leaves them, and the first count bytes of held
+ * are the names of the file left; those after them are as they were. */
+uint8_t ttpa_round_keeping(uint8_t *file, size_t n, const uint8_t *frame, size_t m, uint8_t *answer, size_t k,
+                           uint64_t *senders, uint8_t *held, size_t room, uint64_t count);
+
+/* Makes a run's next round as ttpa_step does, given a summary of the file, and keeps it matching.
+ * Refuses by 1, 2, 3, 4, 5, 6, 7, 8, 24, 9, 15, 16, 17 in this order; 24 is for a summary that does not match the file
+ * handed in, also at a step of an ended run. On 0 file, run, answer and *senders are as ttpa_step leaves them, and the
+ * first count bytes of held are the names of the file left; those after them are as they were. */
+uint8_t ttpa_step_keeping(uint8_t *file, size_t n, uint64_t run[TTPA_RUN_WORDS], const uint8_t *names, size_t m,
+                          uint8_t *answer, size_t k, uint64_t *senders, uint8_t *held, size_t room,
+                          uint64_t count);
 
 #ifdef __cplusplus
 }

@@ -368,13 +368,13 @@ outcome_table() {
         { add($1, $2 " " $3, $4) }
         END {
             columns = split(sources, source, " ")
-            line = sprintf("%-5s  %-23s", "call", "outcome")
+            line = sprintf("%-13s  %-23s", "call", "outcome")
             for (column = 1; column <= columns; column++) line = line cell(source[column])
             print line
             for (i = 1; i <= rows; i++) {
                 what = order[i]
                 split(what, words, " ")
-                line = sprintf("%-5s  %-23s", words[1], words[2])
+                line = sprintf("%-13s  %-23s", words[1], words[2])
                 all = 0
                 for (column = 1; column <= columns; column++) {
                     count = sum[source[column], what] + 0

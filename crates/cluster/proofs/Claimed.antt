@@ -1,10 +1,11 @@
 -- Each claim of specs/Claims, and the theorem that has it as its type.
 use Rattle.cluster.specs.Claims.Cases.{RoundCases}
-use Rattle.cluster.specs.Claims.Edition.{UnknownEditionRound}
+use Rattle.cluster.specs.Claims.Edition.{UnknownEditionRound, UnknownEditionKeeping, UnknownEditionFilling}
 use Rattle.cluster.specs.Claims.Kept.{RefusedAltersNothing, RoundKeepsFile}
 use Rattle.cluster.specs.Claims.Mask.{BitsAreSenders, BitZeroNeverSet}
 use Rattle.cluster.specs.Claims.Pending.{MsaBecomesPending, StaysPending}
 use Rattle.cluster.specs.Claims.Renaming.{BaptizingRenames, OnlyBaptizingRenames, NobodyRenamed}
+use Rattle.cluster.specs.Claims.Summary.{MatchesExactly, RoundWithout, RoundsInOrder, RoundRefusedBy24, RefusedKeepsSummary, KeepingIsRound, RoundKeepsSummary, StillMatchesExactly, StillMatches, StillMatchesBaptized, NoBaptizingExactly, FillingMatches, FillingsRefused, FullReadings, QuestionIsFirst, QuestionIsReading, QuestionRefused}
 use Rattle.cluster.specs.Claims.Writes.{UnnamedTakeWrites, NameRecordWritten, RecordWritten, NothingWritten}
 use Rattle.cluster.specs.Claims.Written.{AddressSentAsWritten, DataSentAsWritten, FireworkAlone}
 use Rattle.cluster.proofs.Cases.{round-cases}
@@ -12,6 +13,9 @@ use Rattle.cluster.proofs.Rounds.{round-edition, round-refused, round-k
 use Rattle.cluster.proofs.Mask.{bits-are-senders, bit-zero-never-set}
 use Rattle.cluster.proofs.StaysPending.{msa-becomes-pending, stays-pending}
 use Rattle.cluster.proofs.Renaming.{baptizing-renames, only-baptizing-renames, nobody-renamed}
+use Rattle.cluster.proofs.SummaryLaws.{matches-exactly}
+use Rattle.cluster.proofs.Keeping.{keeping-edition, round-without, rounds-in-order, round-refused-by-24, keeping-refused, keeping-is-round, round-keeps-summary, still-matches-exactly, still-matches, still-matches-baptized, no-baptizing-exactly}
+use Rattle.cluster.proofs.Holders.{filling-edition, filling-matches, fillings-refused, full-readings, question-is-first, question-is-reading, question-refused}
 use Rattle.cluster.proofs.UnnamedWrites.{unnamed-take-writes}
 use Rattle.cluster.proofs.SentAsWritten.{address-sent-as-written, data-sent-as-written, firework-alone}
 use Rattle.cluster.proofs.RecordWrites.{name-record-written, record-written, nothing-written}
@@ -69,3 +73,60 @@ held-record-written = record-written
 
 pub held-nothing-written : NothingWritten
 held-nothing-written = nothing-written
+
+pub held-matches-exactly : MatchesExactly
+held-matches-exactly = matches-exactly
+
+pub held-round-without : RoundWithout
+held-round-without = round-without
+
+pub held-rounds-in-order : RoundsInOrder
+held-rounds-in-order = rounds-in-order
+
+pub held-round-refused-by-24 : RoundRefusedBy24
+held-round-refused-by-24 = round-refused-by-24
+
+pub held-refused-keeps-summary : RefusedKeepsSummary
+held-refused-keeps-summary = keeping-refused
+
+pub held-keeping-is-round : KeepingIsRound
+held-keeping-is-round = keeping-is-round
+
+pub held-round-keeps-summary : RoundKeepsSummary
+held-round-keeps-summary = round-keeps-summary
+
+pub held-still-matches-exactly : StillMatchesExactly
+held-still-matches-exactly = still-matches-exactly
+
+pub held-still-matches : StillMatches
+held-still-matches = still-matches
+
+pub held-still-matches-baptized : StillMatchesBaptized
+held-still-matches-baptized = still-matches-baptized
+
+pub held-no-baptizing-exactly : NoBaptizingExactly
+held-no-baptizing-exactly = no-baptizing-exactly
+
+pub held-filling-matches : FillingMatches
+held-filling-matches = filling-matches
+
+pub held-fillings-refused : FillingsRefused
+held-fillings-refused = fillings-refused
+
+pub held-full-readings : FullReadings
+held-full-readings = full-readings
+
+pub held-question-is-first : QuestionIsFirst
+held-question-is-first = question-is-first
+
+pub held-question-is-reading : QuestionIsReading
+held-question-is-reading = question-is-reading
+
+pub held-question-refused : QuestionRefused
+held-question-refused = question-refused
+
+pub held-unknown-edition-keeping : UnknownEditionKeeping
+held-unknown-edition-keeping = keeping-edition
+
+pub held-unknown-edition-filling : UnknownEditionFilling
+held-unknown-edition-filling = filling-edition

@@ -13,6 +13,10 @@ pub mod StaysPending
 pub mod UnnamedWrites
 pub mod RecordWrites
 pub mod Renaming
+-- the summary: which ones match, a round given it, the filling and the question
+pub mod SummaryLaws
+pub mod Keeping
+pub mod Holders
 -- loops along the slaves of a master-slave round: their replies, and their changes
 pub mod Hearing
 pub mod Changing

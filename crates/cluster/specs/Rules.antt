@@ -1,5 +1,5 @@
--- What document 01 says of a round on a cluster, in its order: "What slaves do", "Multipartner rounds", one frame on a file, and a
--- complete master-slave round.
+-- What document 01 says of a round on a cluster, in its order: "What slaves do", "Multipartner rounds", one frame on a file, a
+-- complete master-slave round; and what document 02 says of the summary beside a file.
 pub mod Bus
 pub mod Slaves
 pub mod Entries
@@ -7,3 +7,4 @@ pub mod Multipartner
 pub mod Grounds
 pub mod Round
 pub mod MasterSlave
+pub mod Summary

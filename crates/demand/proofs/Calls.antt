@@ -21,24 +21,28 @@ use Rattle.file.proofs.Results.{file-most, load-first, load-file, load-twice, r
 use Rattle.cluster.specs.Rules.Bus.{slots}
 use Rattle.cluster.specs.Rules.Grounds.{roundBy}
 use Rattle.cluster.specs.Rules.Round.{Answer, roundGround, roundOn}
+use Rattle.cluster.specs.Rules.Summary.{Summary, without, kept, roundKeepingGround, roundKeeping}
+use Rattle.cluster.proofs.Keeping.{keeping-round, keeping-accepted, keeping-refused}
 use Rattle.cluster.proofs.Rounds.{round-refused, round-accepted}
 use Rattle.trace.specs.Rules.Trace.{brokenTrace, framesOf}
 use Rattle.trace.specs.Rules.Run.{sent, afterFrames, traceGround, traceOn}
 use Rattle.trace.proofs.Calls as call
 use Rattle.naming.specs.Rules.Run.{Position, running, fresh, startGround, startOver}
-use Rattle.naming.specs.Rules.Step.{madeBy, stepGround, stepOn}
-use Rattle.naming.specs.Rules.Account.{Call, Call.step as stepBy, Call.frame as frameOf}
-use Rattle.naming.specs.Claims.Demand.{State, startOn, halfwayAfter, callOn, of-step, of-frame, Demand}
+use Rattle.naming.specs.Rules.Step.{madeBy, stepGround, stepOn, stepKeepingGround, stepKeeping}
+use Rattle.naming.specs.Rules.Account.{Call, step, frame}
+use Rattle.naming.specs.Claims.Demand.{State, startOn, halfwayAfter, of-step, of-frame, Demand}
 use Rattle.naming.specs.Claims.Demand as rules
 use Rattle.naming.proofs.Lists.{accepted-halfway}
 use Rattle.naming.proofs.HeldOnce.{demand-loadable}
 use Rattle.naming.proofs.StepLaws.{step-refused, step-ended, step-made}
-use Rattle.ttpa.specs.Rules.Calls.{lentAfter, checkCall, startCall, stepCall, stepWords, roundCall, traceCall, wordsOf, positionIn}
-use Rattle.demand.specs.Claims.Traces.{CallOrTrace, AllBytes, in-call, in-trace, halfwayFrom, halfwayAfterTrace, afterTrace}
+use Rattle.naming.proofs.StepKeeping.{keeping-step, step-keeping-accepted, step-keeping-refused}
+use Rattle.naming.proofs.Unasked.{plainStep, plainFrame, step-unasked, step-plain, frame-plain, step-plain-may, frame-plain-may}
+use Rattle.ttpa.specs.Rules.Calls.{lentAfter, checkCall, startCall, stepCall, stepWords, stepKeepingCall, roundCall, roundKeepingCall, traceCall, wordsOf, positionIn}
+use Rattle.demand.specs.Claims.Traces.{AllBytes, in-call, in-trace, halfwayFrom, halfwayAfterTrace, afterTrace}
 use Rattle.demand.specs.Claims.Traces.{callOrTraceOn, afterAll, frameCall, framesSingly, singly, tracesAside}
-use Rattle.demand.specs.Claims.Calls.{CCall, ttpaStep, ttpaRound, ttpaTrace, GivenBytes, given-step, given-frame, given-trace, Memory, returned, memoryAfter, afterCalls}
+use Rattle.demand.specs.Claims.Calls.{CCall, ttpaStep, ttpaStepKeeping, ttpaRound, ttpaRoundKeeping, ttpaTrace, GivenBytes, given-step, given-step-keeping, given-frame, given-frame-keeping, given-trace, Memory, returned, memoryAfter, afterCalls}
 use Rattle.demand.specs.Claims.Calls.{permittedFrames, permittedCall, halfwayOn, permitted, callsFed, TakenByRounds, loads, equalNames, CallsDemand, started}
-use Rattle.demand.specs.Claims.Calls.{DemandOverCalls, ThroughoutCalls, IsStep, is-step, StepsPermitted, memoryOf, argumentsOf, SamePermitted}
+use Rattle.demand.specs.Claims.Calls.{DemandOverCalls, ThroughoutCalls, IsStep, is-step, is-step-keeping, StepsPermitted, memoryOf, argumentsOf, SamePermitted}
 use Rattle.demand.proofs.Traces.{afterSingly, frame-refused, trace-run, trace-refused, file-refused, throughout-with-traces}
 
 -- ---- numbers and words
@@ -80,12 +84,45 @@ step-words file p names buffer =
     (λ e. rw (step-ended file p names buffer none (eqb-false _ _ e))))
     (λ z. rw (step-refused file p names buffer (eqb-false _ _ z)))
 
+-- given a summary
+pub keeping-step-number :
+    (file : List ℕ) (p : Position) (names : List ℕ) (summary : Summary) (buffer : List ℕ) →
+    numberIn (stepKeeping file p names summary buffer .0) ≡ stepKeepingGround file p names summary buffer
+keeping-step-number file p names summary buffer =
+    byCase (eqb (stepKeepingGround file p names summary buffer) 0)
+    (λ z.
+    let none = eqb-true (stepKeepingGround file p names summary buffer) 0 z in
+    rw (step-keeping-accepted file p names summary buffer none)
+    (step-number file p names buffer ∙ keeping-step file p names summary buffer none ∙ sym none))
+    (λ z. rw (step-keeping-refused file p names summary buffer (eqb-false _ _ z)) (unfold numberIn in refl))
+
+keeping-step-words :
+    (file : List ℕ) (p : Position) (names : List ℕ) (summary : Summary) (buffer : List ℕ) →
+    stepWords (stepKeeping file p names summary buffer .0) (stepKeeping file p names summary buffer .1) (wordsOf p) ≡
+    wordsOf (stepKeeping file p names summary buffer .1)
+keeping-step-words file p names summary buffer =
+    byCase (eqb (stepKeepingGround file p names summary buffer) 0)
+    (λ z. rw (step-keeping-accepted file p names summary buffer (eqb-true _ _ z)) (step-words file p names buffer))
+    (λ z. rw (step-keeping-refused file p names summary buffer (eqb-false _ _ z)) (unfold stepWords in refl))
+
 pub round-number : (file bytes buffer : List ℕ) → numberIn (roundOn file bytes buffer .0) ≡ roundGround file bytes buffer
 unfolding numberIn
 round-number file bytes buffer =
     byCase (eqb (roundGround file bytes buffer) 0)
     (λ z. let none = eqb-true _ _ z in rw (round-accepted file bytes buffer none) (sym none))
     (λ z. rw (round-refused file bytes buffer (eqb-false _ _ z)))
+
+-- given a summary
+pub keeping-round-number :
+    (file : List ℕ) (summary : Summary) (bytes buffer : List ℕ) →
+    numberIn (roundKeeping file summary bytes buffer .0) ≡ roundKeepingGround file summary bytes buffer
+keeping-round-number file summary bytes buffer =
+    byCase (eqb (roundKeepingGround file summary bytes buffer) 0)
+    (λ z.
+    let none = eqb-true (roundKeepingGround file summary bytes buffer) 0 z in
+    rw (keeping-accepted file summary bytes buffer none)
+    (round-number file bytes buffer ∙ keeping-round file summary bytes buffer none ∙ sym none))
+    (λ z. rw (keeping-refused file summary bytes buffer (eqb-false _ _ z)) (unfold numberIn in refl))
 
 pub trace-number : (file t : List ℕ) → numberIn (traceOn file t .0) ≡ traceGround file t
 unfolding numberIn
@@ -98,31 +135,53 @@ trace-number file t =
 
 -- the ground of a call
 unfoldable groundOf : List ℕ → State → Position → CCall → ℕ
-groundOf names s p (ttpaStep arguments senders) = stepGround (s .file) p names (arguments .buffer)
+groundOf names s p (ttpaStep buffer senders) = stepGround (s .file) p names buffer
+groundOf names s p (ttpaStepKeeping buffer senders held count) = stepKeepingGround (s .file) p names (kept count held) buffer
 groundOf names s p (ttpaRound bytes buffer senders) = roundGround (s .file) bytes buffer
+groundOf names s p (ttpaRoundKeeping bytes buffer senders held count) = roundKeepingGround (s .file) (kept count held) bytes buffer
 groundOf names s p (ttpaTrace t report) = traceGround (s .file) t
 
 module _ (names : List ℕ) (s : State) (p : Position) where
   call-number : (c : CCall) → returned names (memoryOf s p) c ≡ groundOf names s p c
-  unfolding returned groundOf stepCall roundCall traceCall
-  call-number (ttpaStep arguments senders) = rw (position-back p) (step-number (s .file) p names (arguments .buffer))
+  unfolding returned groundOf stepCall stepKeepingCall roundCall roundKeepingCall traceCall
+  call-number (ttpaStep buffer senders) = rw (position-back p) (step-number (s .file) p names buffer)
+  call-number (ttpaStepKeeping buffer senders held count) = rw (position-back p) (keeping-step-number (s .file) p names (kept count held) buffer)
   call-number (ttpaRound bytes buffer senders) = round-number (s .file) bytes buffer
+  call-number (ttpaRoundKeeping bytes buffer senders held count) = keeping-round-number (s .file) (kept count held) bytes buffer
   call-number (ttpaTrace t report) = trace-number (s .file) t
 
   call-memory : (c : CCall) → memoryAfter names (memoryOf s p) c ≡ memoryOf (callOrTraceOn names s p (argumentsOf c) .0) (callOrTraceOn names s p (argumentsOf c) .1)
-  unfolding memoryAfter argumentsOf callOrTraceOn callOn afterTrace stepCall roundCall traceCall
-  call-memory (ttpaStep arguments senders) = rw (position-back p, step-words (s .file) p names (arguments .buffer))
-  call-memory (ttpaRound bytes buffer senders) = refl
+  unfolding memoryAfter argumentsOf callOrTraceOn afterTrace stepCall stepKeepingCall roundCall roundKeepingCall traceCall
+  call-memory (ttpaStep buffer senders) = rw (step-plain names s p buffer, position-back p, step-words (s .file) p names buffer)
+  call-memory (ttpaStepKeeping buffer senders held count) =
+      unfold rules.callOn in rw (position-back p, keeping-step-words (s .file) p names (kept count held) buffer)
+  call-memory (ttpaRound bytes buffer senders) = rw (frame-plain names s p bytes buffer)
+  call-memory (ttpaRoundKeeping bytes buffer senders held count) = unfold rules.callOn in refl
   call-memory (ttpaTrace t report) = refl
 
   call-halfway : (c : CCall) → cond (eqb (groundOf names s p c) 0) (halfwayOn (s .halfway) (memoryOf s p) c) (s .halfway) ≡ callOrTraceOn names s p (argumentsOf c) .0 .halfway
-  unfolding groundOf halfwayOn argumentsOf callOrTraceOn callOn afterTrace
-  call-halfway (ttpaStep arguments senders) =
-      byCase (eqb (stepGround (s .file) p names (arguments .buffer)) 0) (λ z. rw z) (λ z. rw z)
+  unfolding groundOf halfwayOn argumentsOf callOrTraceOn afterTrace
+  call-halfway (ttpaStep buffer senders) =
+      byCase (eqb (stepGround (s .file) p names buffer) 0)
+      (λ z. rw (z, step-plain names s p buffer))
+      (λ z. rw (z, step-plain names s p buffer))
+  call-halfway (ttpaStepKeeping buffer senders held count) =
+      unfold rules.callOn in
+      byCase (eqb (stepKeepingGround (s .file) p names (kept count held) buffer) 0)
+      (λ z. rw z)
+      (λ z. rw z)
   call-halfway (ttpaRound bytes buffer senders) =
       byCase (eqb (roundGround (s .file) bytes buffer) 0)
-      (λ z. rw z (sym (accepted-halfway (s .halfway) (s .file) bytes buffer (roundBy bytes) (eqb-true _ _ z) refl)))
-      (λ z. rw (z, round-refused (s .file) bytes buffer (eqb-false _ _ z)) (unfold halfwayAfter in refl))
+      (λ z. rw (z, frame-plain names s p bytes buffer) (sym (accepted-halfway (s .halfway) (s .file) bytes buffer (roundBy bytes) (eqb-true _ _ z) refl)))
+      (λ z. rw (z, frame-plain names s p bytes buffer, round-refused (s .file) bytes buffer (eqb-false _ _ z)) (unfold halfwayAfter in refl))
+  call-halfway (ttpaRoundKeeping bytes buffer senders held count) =
+      unfold rules.callOn in
+      byCase (eqb (roundKeepingGround (s .file) (kept count held) bytes buffer) 0)
+      (λ z.
+      let none = eqb-true (roundKeepingGround (s .file) (kept count held) bytes buffer) 0 z in
+      rw (z, keeping-accepted (s .file) (kept count held) bytes buffer none)
+      (sym (accepted-halfway (s .halfway) (s .file) bytes buffer (roundBy bytes) (keeping-round (s .file) (kept count held) bytes buffer none) refl)))
+      (λ z. rw (z, keeping-refused (s .file) (kept count held) bytes buffer (eqb-false _ _ z)) (unfold halfwayAfter in refl))
   call-halfway (ttpaTrace t report) =
       byCase (eqb (traceGround (s .file) t) 0)
       (λ z. rw (z, call.trace-run (s .file) t (eqb-true _ _ z)) (unfold halfwayAfterTrace in refl))
@@ -146,14 +205,27 @@ unfolding both
 both-both true b c = refl
 both-both false b c = refl
 
+-- a frame sent singly
+abbrev afterOne : State → List ℕ → State
+afterOne s x =
+    record {
+      file = roundOn (s .file) x (replicate slots 0) .2;
+      halfway = halfwayAfter (s .halfway) (roundOn (s .file) x (replicate slots 0) .0) (roundBy x);
+    }
+
 -- frames sent singly, in front of other calls
 frames-front :
     (names : List ℕ) (s : State) (p : Position) (xs : List (List ℕ)) (ds : List Call) →
     rules.permitted names s p (map frameCall xs ++ ds) ≡ both (permittedFrames (s .halfway) (s .file) xs) (rules.permitted names (afterSingly s xs) p ds)
-unfolding permittedFrames afterSingly afterFrames halfwayFrom rules.permitted rules.permittedCall callOn frameCall sent
+unfolding permittedFrames afterSingly afterFrames halfwayFrom rules.permitted frameCall sent
 frames-front names s p [] ds = sym (both-next _ refl)
 frames-front names s p (x ∷ xs) ds =
-    rw (round-number (s .file) x (replicate slots 0), frames-front names (callOn names s p (frameCall x) .0) p xs ds)
+    rw (
+      frame-plain-may names s p x (replicate slots 0),
+      frame-plain names s p x (replicate slots 0),
+      round-number (s .file) x (replicate slots 0),
+      frames-front names (afterOne s x) p xs ds,
+    )
     (both-both _ _ _)
 
 -- those of a trace on a file that is refused
@@ -190,8 +262,10 @@ call-front :
     both (cond (eqb (groundOf names s p c) 0) (permittedCall (s .halfway) (memoryOf s p) c) true)
     (rules.permitted names (callOrTraceOn names s p (argumentsOf c) .0) (callOrTraceOn names s p (argumentsOf c) .1) (singly (map argumentsOf cs)))
 unfolding groundOf permittedCall argumentsOf callOrTraceOn singly
-call-front names s p (ttpaStep arguments senders) cs = unfold rules.permitted rules.permittedCall in refl
-call-front names s p (ttpaRound bytes buffer senders) cs = unfold rules.permitted rules.permittedCall in refl
+call-front names s p (ttpaStep buffer senders) cs = unfold rules.permitted in rw (step-plain-may names s p buffer)
+call-front names s p (ttpaStepKeeping buffer senders held count) cs = unfold rules.permitted rules.permittedCall in refl
+call-front names s p (ttpaRound bytes buffer senders) cs = unfold rules.permitted in rw (frame-plain-may names s p bytes buffer)
+call-front names s p (ttpaRoundKeeping bytes buffer senders held count) cs = unfold rules.permitted rules.permittedCall in refl
 call-front names s p (ttpaTrace t report) cs = trace-front names s p t (singly (map argumentsOf cs))
 
 -- the lists permitted here are those that the rules permit
@@ -213,14 +287,20 @@ pub all-given : {cs : List CCall} → All GivenBytes cs → All AllBytes (map ar
 unfolding argumentsOf
 all-given allEmpty = allEmpty
 all-given (also given-step gs) = also (in-call of-step) (all-given gs)
+all-given (also given-step-keeping gs) = also (in-call of-step) (all-given gs)
 all-given (also (given-frame b) gs) = also (in-call (of-frame b)) (all-given gs)
+all-given (also (given-frame-keeping b) gs) = also (in-call (of-frame b)) (all-given gs)
 all-given (also (given-trace b) gs) = also (in-trace b) (all-given gs)
 
 calls-fed : (cs : List CCall) → tracesAside (map argumentsOf cs) ≡ callsFed cs
 unfolding tracesAside callsFed argumentsOf
 calls-fed [] = refl
-calls-fed (ttpaStep arguments senders ∷ cs) = ap (λ (l : List Call). stepBy arguments ∷ l) (calls-fed cs)
-calls-fed (ttpaRound bytes buffer senders ∷ cs) = ap (λ (l : List Call). frameOf (record { bytes = bytes; buffer = buffer }) ∷ l) (calls-fed cs)
+calls-fed (ttpaStep buffer senders ∷ cs) = ap (λ (l : List Call). plainStep buffer ∷ l) (calls-fed cs)
+calls-fed (ttpaStepKeeping buffer senders held count ∷ cs) =
+    ap (λ (l : List Call). step (record { summary = kept count held; buffer = buffer }) ∷ l) (calls-fed cs)
+calls-fed (ttpaRound bytes buffer senders ∷ cs) = ap (λ (l : List Call). plainFrame bytes buffer ∷ l) (calls-fed cs)
+calls-fed (ttpaRoundKeeping bytes buffer senders held count ∷ cs) =
+    ap (λ (l : List Call). frame (record { summary = kept count held; bytes = bytes; buffer = buffer }) ∷ l) (calls-fed cs)
 calls-fed (ttpaTrace t report ∷ cs) = calls-fed cs
 
 check-number : (file : List ℕ) → checkCall file ≡ loadGround file
@@ -237,7 +317,7 @@ runs-accepted {file} (equalNames e) =
     let own : 22 ≡ fileGround file = sym e ∙ check-number file ∙ load-first file (eqb-false _ _ z) in
     absurd (omega (arith, file-most file)))
 
-accepted-runs : {file : List ℕ} → fileGround file ≡ 0 → TakenByRounds file
+pub accepted-runs : {file : List ℕ} → fileGround file ≡ 0 → TakenByRounds file
 accepted-runs {file} g =
     byCase (hasRepeat (heldNames (logicalNames (decode file))))
     (λ t. equalNames (check-number file ∙ load-twice file g ∙ rw t))
@@ -271,7 +351,12 @@ in-words {file} {names} b n none calls s p d =
       comparisons = rw (calls-fed calls) at (d .comparisons);
       accepted = accepted-runs (d .accepted);
       loaded = λ e. check-number (s .file) ∙ demand-loadable b (sym (check-number file) ∙ e) n none d;
-      next = λ arguments senders. call-number names s p (ttpaStep arguments senders) ∙ unfold groundOf in d .grounds arguments;
+      next = λ buffer senders.
+          call-number names s p (ttpaStep buffer senders)
+          ∙ unfold groundOf in (sym (step-unasked (s .file) p names buffer) ∙ d .grounds (record { summary = without; buffer = buffer }));
+      nextKeeping = λ buffer senders held count.
+          call-number names s p (ttpaStepKeeping buffer senders held count)
+          ∙ unfold groundOf in d .grounds (record { summary = kept count held; buffer = buffer });
       outcome = d .outcome;
     }
 
@@ -293,9 +378,12 @@ demand-over-calls file b checked names n run fresh-run calls given may =
 steps-from : (names : List ℕ) (m : Memory) {calls : List CCall} → All IsStep calls → permitted false names m calls ≡ true
 unfolding permitted permittedCall halfwayOn
 steps-from names m allEmpty = refl
-steps-from names m (also (is-step {arguments} {senders}) steps) =
-    let rest = steps-from names (memoryAfter names m (ttpaStep arguments senders)) steps in
-    byCase (eqb (returned names m (ttpaStep arguments senders)) 0) (λ z. rw z (both-true refl rest)) (λ z. rw z (both-true refl rest))
+steps-from names m (also (is-step {buffer} {senders}) steps) =
+    let rest = steps-from names (memoryAfter names m (ttpaStep buffer senders)) steps in
+    byCase (eqb (returned names m (ttpaStep buffer senders)) 0) (λ z. rw z (both-true refl rest)) (λ z. rw z (both-true refl rest))
+steps-from names m (also (is-step-keeping {buffer} {senders} {held} {count}) steps) =
+    let rest = steps-from names (memoryAfter names m (ttpaStepKeeping buffer senders held count)) steps in
+    byCase (eqb (returned names m (ttpaStepKeeping buffer senders held count)) 0) (λ z. rw z (both-true refl rest)) (λ z. rw z (both-true refl rest))
 
 pub steps-permitted : StepsPermitted
 steps-permitted names m calls steps = steps-from names m steps

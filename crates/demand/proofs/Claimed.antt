@@ -6,6 +6,7 @@ use Rattle.demand.specs.Claims.Traces.{TraceSentSingly, AllSentSingly, A
 use Rattle.demand.specs.Claims.Permitted.{CallsPermittedExactly, TraceFits, RoundsFitCalls, TraceSends}
 use Rattle.demand.specs.Claims.Steps.{StepsAreRounds}
 use Rattle.demand.specs.Claims.TraceCalls.{TracesAreRounds}
+use Rattle.demand.specs.Claims.Summary.{KeptByCalls, FilledAndAsked, RoundsWithSummary, StepsWithSummary, GivenMakesNoDifferenceInCalls}
 use Rattle.demand.proofs.Calls.{demand-over-calls, throughout-calls, steps-permitted, same-permitted}
 use Rattle.demand.proofs.Pending.{calls-stay-pending}
 use Rattle.demand.proofs.Renaming.{calls-rename-nobody, c-calls-rename-nobody}
@@ -13,6 +14,7 @@ use Rattle.demand.proofs.Traces.{trace-sent-singly, all-sent-singly, ac
 use Rattle.demand.proofs.Permitted.{calls-permitted-exactly, trace-fits, rounds-fit-calls, trace-sends}
 use Rattle.demand.proofs.Steps.{steps-are-rounds}
 use Rattle.demand.proofs.TraceCalls.{traces-are-rounds}
+use Rattle.demand.proofs.Summary.{kept-by-calls, filled-and-asked, rounds-with-summary, steps-with-summary, given-makes-no-difference-in-calls}
 
 pub held-demand-over-calls : DemandOverCalls
 held-demand-over-calls = demand-over-calls
@@ -67,3 +69,18 @@ held-traces-are-rounds = traces-are-rounds
 
 pub held-trace-sent-in-order : TraceSentInOrder
 held-trace-sent-in-order = trace-sent-in-order
+
+pub held-kept-by-calls : KeptByCalls
+held-kept-by-calls = kept-by-calls
+
+pub held-filled-and-asked : FilledAndAsked
+held-filled-and-asked = filled-and-asked
+
+pub held-rounds-with-summary : RoundsWithSummary
+held-rounds-with-summary = rounds-with-summary
+
+pub held-steps-with-summary : StepsWithSummary
+held-steps-with-summary = steps-with-summary
+
+pub held-given-makes-no-difference-in-calls : GivenMakesNoDifferenceInCalls
+held-given-makes-no-difference-in-calls = given-makes-no-difference-in-calls

@@ -6,10 +6,13 @@ pub mod Calls
 pub mod Permitted
 -- a step is two calls of ttpa_round
 pub mod Steps
--- a trace is its frames, one call of ttpa_round each
+-- a trace is its frames, one call of ttpa_round or ttpa_round_keeping each
 pub mod TraceCalls
 -- what stays pending, and who is renamed, over lists of calls
 pub mod Pending
 pub mod Renaming
+-- the summary over the C calls
+pub mod Summary
+pub mod SummaryExamples
 -- each claim with its theorem
 pub mod Claimed

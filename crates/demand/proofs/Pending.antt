@@ -9,16 +9,18 @@ use borrow.Author.Tests.{eqb-true, eqb-false}
 use Rattle.file.specs.Rules.Bytes.{Bytes, All, All.allEmpty, All.allNext as also}
 use Rattle.file.specs.Rules.Decode.{decode}
 use Rattle.file.proofs.Order.{byCase}
-use Rattle.cluster.specs.Rules.Round.{roundOn}
+use Rattle.cluster.specs.Rules.Summary.{Summary, roundKeepingGround, roundKeeping}
 use Rattle.cluster.specs.Claims.Pending.{fileAfter, AcceptedMsa, Pending}
 use Rattle.cluster.specs.Claims.Pending as frames
-use Rattle.cluster.proofs.Rounds.{round-bytes}
+use Rattle.cluster.proofs.Keeping.{keeping-accepted, keeping-refused}
 use Rattle.cluster.proofs.StaysPending.{stays-pending}
 use Rattle.naming.specs.Rules.Run.{Position, running}
-use Rattle.naming.specs.Rules.Step.{stepGround, stepOn}
+use Rattle.naming.specs.Rules.Step.{stepKeepingGround, stepKeeping}
 use Rattle.naming.specs.Rules.Account.{Call, step, frame}
 use Rattle.naming.specs.Claims.Demand.{State, startOn, callOn, afterCalls, OfBytes, of-frame, of-step}
-use Rattle.naming.proofs.StepLaws.{step-refused, step-ended}
+use Rattle.naming.proofs.StepLaws.{step-ended}
+use Rattle.naming.proofs.StepKeeping.{keeping-step, step-keeping-refused, step-keeping-accepted}
+use Rattle.naming.proofs.Summaries.{keeping-round-bytes}
 use Rattle.demand.specs.Claims.Traces.{singly}
 use Rattle.demand.specs.Claims.Pending.{in-step, in-frame, NoMsaAmong, noCalls, oneMore, CallsStayPending}
 use Rattle.demand.proofs.Traces.{all-sent-singly, singly-of-bytes}
@@ -41,18 +43,27 @@ same-trans f g h p q =
 
 -- a step that makes no round leaves the file
 step-leaves :
-    (file names : List ℕ) (p : Position) (buffer : List ℕ) → (stepGround file p names buffer ≡ 0 → p .end ≡ running → ⊥) →
-    stepOn file p names buffer .3 ≡ file
-step-leaves file names p buffer none =
-    byCase (eqb (stepGround file p names buffer) 0)
-    (λ e. let g = eqb-true _ _ e in rw (step-ended file p names buffer g (none g)))
-    (λ e. rw (step-refused file p names buffer (eqb-false _ _ e)))
+    (file names : List ℕ) (p : Position) (summary : Summary) (buffer : List ℕ) → (stepKeepingGround file p names summary buffer ≡ 0 → p .end ≡ running → ⊥) →
+    stepKeeping file p names summary buffer .3 ≡ file
+step-leaves file names p summary buffer none =
+    byCase (eqb (stepKeepingGround file p names summary buffer) 0)
+    (λ e.
+    let g = eqb-true (stepKeepingGround file p names summary buffer) 0 e in
+    rw (step-keeping-accepted file p names summary buffer g, step-ended file p names buffer (keeping-step file p names summary buffer g) (none g)))
+    (λ e. rw (step-keeping-refused file p names summary buffer (eqb-false _ _ e)))
 
 -- a frame that is no accepted MSA leaves what is pending
-frame-leaves : (file bytes buffer : List ℕ) → Bytes file → Bytes bytes → (AcceptedMsa file bytes buffer → ⊥) → Same file (roundOn file bytes buffer .2)
+frame-leaves :
+    (file : List ℕ) (summary : Summary) (bytes buffer : List ℕ) → Bytes file → Bytes bytes →
+    (roundKeepingGround file summary bytes buffer ≡ 0 → AcceptedMsa file bytes buffer → ⊥) → Same file (roundKeeping file summary bytes buffer .2)
 unfolding fileAfter
-frame-leaves file bytes buffer fb rb none =
-    stays-pending file (record { frame = bytes; buffer = buffer } ∷ []) fb (also rb allEmpty) (frames.oneMore none frames.noCalls)
+frame-leaves file summary bytes buffer fb rb none =
+    byCase (eqb (roundKeepingGround file summary bytes buffer) 0)
+    (λ e.
+    let g = eqb-true (roundKeepingGround file summary bytes buffer) 0 e in
+    rw (keeping-accepted file summary bytes buffer g)
+    (stays-pending file (record { frame = bytes; buffer = buffer } ∷ []) fb (also rb allEmpty) (frames.oneMore (none g) frames.noCalls)))
+    (λ e. rw (keeping-refused file summary bytes buffer (eqb-false _ _ e)) (same-refl file))
 
 calls-leave :
     (names : List ℕ) (s : State) (p : Position) (calls : List Call) → Bytes (s .file) → All OfBytes calls → NoMsaAmong names s p calls →
@@ -62,15 +73,15 @@ calls-leave names s p [] fb allEmpty noCalls = same-refl (s .file)
 calls-leave names s p (step arguments ∷ cs) fb (also of-step os) (oneMore (in-step none) rest) =
     let t : State = callOn names s p (step arguments) .0 in
     let q : Position = callOn names s p (step arguments) .1 in
-    let stays : s .file ≡ t .file = sym (step-leaves (s .file) names p (arguments .buffer) none) in
+    let stays : s .file ≡ t .file = sym (step-leaves (s .file) names p (arguments .summary) (arguments .buffer) none) in
     same-trans (s .file) (t .file) (afterCalls names t q cs .0 .file)
     (subst (λ (f : List ℕ). Same (s .file) f) stays (same-refl (s .file)))
     (calls-leave names t q cs (subst (λ (f : List ℕ). Bytes f) stays fb) os rest)
 calls-leave names s p (frame arguments ∷ cs) fb (also (of-frame rb) os) (oneMore (in-frame none) rest) =
     let t : State = callOn names s p (frame arguments) .0 in
     same-trans (s .file) (t .file) (afterCalls names t p cs .0 .file)
-    (frame-leaves (s .file) (arguments .bytes) (arguments .buffer) fb rb none)
-    (calls-leave names t p cs (round-bytes (s .file) (arguments .bytes) (arguments .buffer) fb rb) os rest)
+    (frame-leaves (s .file) (arguments .summary) (arguments .bytes) (arguments .buffer) fb rb none)
+    (calls-leave names t p cs (keeping-round-bytes (s .file) (arguments .summary) (arguments .bytes) (arguments .buffer) fb rb) os rest)
 
 pub calls-stay-pending : CallsStayPending
 unfolding startOn

@@ -4,7 +4,7 @@
 use Prim.Native.Nat.{ℕ, _≤_}
 use mathlib.Core.Path.{_≡_, refl, sym, ap, _∙_}
 use mathlib.Core.List.{List, [], _∷_, _++_, map, map-append, append-nil}
-use mathlib.Core.Bool.{Bool, false}
+use mathlib.Core.Bool.{Bool}
 use native.Mathlib.Omega.{arith}
 use lib.ListN.{length}
 use Rattle.file.specs.Rules.Bytes.{All, All.allEmpty, All.allNext as also}
@@ -19,7 +19,7 @@ use Rattle.naming.specs.Claims.PermittedRounds.{IsStep as IsStepByRules, is-ste
 use Rattle.naming.proofs.PermittedExactly.{permitted-exactly}
 use Rattle.naming.proofs.PermittedRounds.{address-of-bytes, data-frame-bytes, rounds-fit}
 use Rattle.demand.specs.Claims.Traces.{CallOrTrace, frameCall, framesSingly, singly}
-use Rattle.demand.specs.Claims.Calls.{CCall, IsStep, is-step, argumentsOf}
+use Rattle.demand.specs.Claims.Calls.{CCall, IsStep, is-step, is-step-keeping, argumentsOf}
 use Rattle.demand.specs.Claims.Permitted.{CallsPermittedExactly, TraceFits, RoundsFitCalls, TraceSends}
 use Rattle.demand.proofs.Traces.{zeros-long, singly-append, singly-of-bytes}
 use Rattle.demand.proofs.Calls.{all-given, runs-accepted, start-number, start-same}
@@ -86,6 +86,7 @@ steps-singly : {ds : List CCall} → All IsStep ds → All IsStepByRules (singly
 unfolding singly argumentsOf
 steps-singly allEmpty = allEmpty
 steps-singly (also is-step steps) = also is-step-by-rules (steps-singly steps)
+steps-singly (also is-step-keeping steps) = also is-step-by-rules (steps-singly steps)
 
 calls-apart : (cs ds : List CCall) → singly (map argumentsOf (cs ++ ds)) ≡ singly (map argumentsOf cs) ++ singly (map argumentsOf ds)
 calls-apart cs ds = rw (map-append argumentsOf cs ds) (singly-append (map argumentsOf cs) (map argumentsOf ds))

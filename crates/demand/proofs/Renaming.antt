@@ -6,33 +6,64 @@ use mathlib.Core.List.{List, [], _∷_, map}
 use lib.Dec.{eqb}
 use borrow.Author.Tests.{eqb-true, eqb-false}
 use Rattle.file.specs.Rules.Bytes.{Bytes, All, All.allEmpty, All.allNext as also}
+use Rattle.file.proofs.Order.{byCase}
 use Rattle.cluster.specs.Claims.Renaming.{namesOf}
-use Rattle.cluster.proofs.Rounds.{round-bytes}
+use Rattle.cluster.specs.Rules.Summary.{roundKeepingGround}
+use Rattle.cluster.proofs.Keeping.{keeping-accepted, keeping-refused}
 use Rattle.cluster.proofs.Renaming.{only-baptizing-renames}
 use Rattle.naming.specs.Rules.Run.{Position, bits}
-use Rattle.naming.specs.Rules.Account.{Call, step, frame}
+use Rattle.naming.specs.Rules.Step.{stepKeepingGround}
+use Rattle.naming.specs.Rules.Account.{StepArguments, FrameArguments, Call, step, frame}
 use Rattle.naming.specs.Claims.Demand.{State, startOn, callOn, afterCalls, OfBytes, of-frame, of-step}
-use Rattle.naming.proofs.Renaming.{step-bytes, step-value, only-baptizing-steps-rename}
+use Rattle.naming.proofs.StepKeeping.{step-keeping-refused, step-keeping-accepted}
+use Rattle.naming.proofs.Renaming.{only-baptizing-steps-rename}
+use Rattle.naming.proofs.Summaries.{keeping-step-bytes, keeping-step-value, keeping-round-bytes}
 use Rattle.demand.specs.Claims.Traces.{singly}
-use Rattle.demand.specs.Claims.Renaming.{in-step, in-frame, NoneBaptizes, noCalls, oneMore, CallsRenameNobody, CCallsRenameNobody}
+use Rattle.demand.specs.Claims.Renaming.{NoBaptism, in-step, in-frame, NoneBaptizes, noCalls, oneMore, CallsRenameNobody, CCallsRenameNobody}
 use Rattle.demand.specs.Claims.Calls.{argumentsOf}
 use Rattle.demand.proofs.Traces.{all-sent-singly, singly-of-bytes}
 use Rattle.demand.proofs.Calls.{calls-memory, all-given}
 
+-- a call that is given a summary leaves the file, or is the call without
+step-names :
+    (names : List ℕ) (s : State) (p : Position) (arguments : StepArguments) → Bytes (s .file) → Bytes names → p .value < 2 ^ bits → NoBaptism names s p (step arguments) →
+    namesOf (callOn names s p (step arguments) .0 .file) ≡ namesOf (s .file)
+unfolding callOn
+step-names names s p arguments fb nb small (in-step none) =
+    byCase (eqb (stepKeepingGround (s .file) p names (arguments .summary) (arguments .buffer)) 0)
+    (λ t.
+    let g = eqb-true (stepKeepingGround (s .file) p names (arguments .summary) (arguments .buffer)) 0 t in
+    rw (step-keeping-accepted (s .file) p names (arguments .summary) (arguments .buffer) g)
+    (only-baptizing-steps-rename (s .file) p names (arguments .buffer) fb nb small (none g)))
+    (λ f. rw (step-keeping-refused (s .file) p names (arguments .summary) (arguments .buffer) (eqb-false _ _ f)))
+
+frame-names :
+    (names : List ℕ) (s : State) (p : Position) (arguments : FrameArguments) → Bytes (s .file) → Bytes (arguments .bytes) → NoBaptism names s p (frame arguments) →
+    namesOf (callOn names s p (frame arguments) .0 .file) ≡ namesOf (s .file)
+unfolding callOn
+frame-names names s p arguments fb rb (in-frame none) =
+    byCase (eqb (roundKeepingGround (s .file) (arguments .summary) (arguments .bytes) (arguments .buffer)) 0)
+    (λ t.
+    let g = eqb-true (roundKeepingGround (s .file) (arguments .summary) (arguments .bytes) (arguments .buffer)) 0 t in
+    rw (keeping-accepted (s .file) (arguments .summary) (arguments .bytes) (arguments .buffer) g)
+    (only-baptizing-renames (s .file) (arguments .bytes) (arguments .buffer) fb rb (none g)))
+    (λ f. rw (keeping-refused (s .file) (arguments .summary) (arguments .bytes) (arguments .buffer) (eqb-false _ _ f)))
+
 calls-rename :
     (names : List ℕ) (s : State) (p : Position) (calls : List Call) → Bytes (s .file) → Bytes names → p .value < 2 ^ bits → All OfBytes calls → NoneBaptizes names s p calls →
     namesOf (afterCalls names s p calls .0 .file) ≡ namesOf (s .file)
-unfolding afterCalls callOn
+unfolding afterCalls
 calls-rename names s p [] fb nb small allEmpty noCalls = refl
-calls-rename names s p (step arguments ∷ cs) fb nb small (also of-step os) (oneMore (in-step none) rest) =
-    let t : State = callOn names s p (step arguments) .0 in
-    let q : Position = callOn names s p (step arguments) .1 in
-    calls-rename names t q cs (step-bytes (s .file) p names (arguments .buffer) fb nb small) nb (step-value (s .file) p names (arguments .buffer) small) os rest
-    ∙ only-baptizing-steps-rename (s .file) p names (arguments .buffer) fb nb small none
-calls-rename names s p (frame arguments ∷ cs) fb nb small (also (of-frame rb) os) (oneMore (in-frame none) rest) =
-    let t : State = callOn names s p (frame arguments) .0 in
-    calls-rename names t p cs (round-bytes (s .file) (arguments .bytes) (arguments .buffer) fb rb) nb small os rest
-    ∙ only-baptizing-renames (s .file) (arguments .bytes) (arguments .buffer) fb rb none
+calls-rename names s p (step arguments ∷ cs) fb nb small (also of-step os) (oneMore none rest) =
+    calls-rename names (callOn names s p (step arguments) .0) (callOn names s p (step arguments) .1) cs
+    (unfold callOn in keeping-step-bytes (s .file) p names (arguments .summary) (arguments .buffer) fb nb small) nb
+    (unfold callOn in keeping-step-value (s .file) p names (arguments .summary) (arguments .buffer) small) os rest
+    ∙ step-names names s p arguments fb nb small none
+calls-rename names s p (frame arguments ∷ cs) fb nb small (also (of-frame rb) os) (oneMore none rest) =
+    calls-rename names (callOn names s p (frame arguments) .0) (callOn names s p (frame arguments) .1) cs
+    (unfold callOn in keeping-round-bytes (s .file) (arguments .summary) (arguments .bytes) (arguments .buffer) fb rb) nb
+    (unfold callOn in small) os rest
+    ∙ frame-names names s p arguments fb rb none
 
 pub calls-rename-nobody : CallsRenameNobody
 unfolding startOn

@@ -26,6 +26,7 @@ use Rattle.naming.specs.Rules.Account.{Call, frame, Account, accountCall, accou
 use Rattle.naming.specs.Claims.Demand.{State, startOn, halfwayAfter, callOn, permitted, afterCalls, OfBytes, of-frame, Demand}
 use Rattle.naming.specs.Claims.PermittedRounds.{SentBy, noFrames, oneMore}
 use Rattle.naming.proofs.OverBytes.{demand-3, throughout}
+use Rattle.naming.proofs.Unasked.{plainFrame, frame-plain}
 use Rattle.demand.specs.Claims.Traces.{CallOrTrace, AllBytes, in-call, in-trace, halfwayFrom, halfwayAfterTrace, afterTrace, callOrTraceOn, afterAll}
 use Rattle.demand.specs.Claims.Traces.{frameCall, framesSingly, singly, tracesAside, TraceSentInOrder, TraceSentSingly, AllSentSingly, AccountTracesAside, DemandWithTraces}
 
@@ -39,7 +40,9 @@ frames-singly :
     (names : List ℕ) (s : State) (p : Position) (xs : List (List ℕ)) → afterCalls names s p (map frameCall xs) ≡ (afterSingly s xs, p)
 unfolding afterSingly afterCalls callOn frameCall afterFrames halfwayFrom sent
 frames-singly names s p [] = refl
-frames-singly names s p (x ∷ xs) = frames-singly names (callOn names s p (frameCall x) .0) p xs
+frames-singly names s p (x ∷ xs) =
+    frames-singly names (callOn names s p (frameCall x) .0) p xs
+    ∙ ap (λ (w : State × Position). (afterSingly (w .0) xs, p)) (frame-plain names s p x (replicate slots 0))
 
 -- with any buffers of 64 bytes or more
 pub zeros-long : slots ≤ length {A = ℕ} (replicate slots 0)
@@ -48,9 +51,10 @@ zeros-long = omega (arith, length-replicate {A = ℕ} slots 0)
 frames-in-order : (names : List ℕ) (s : State) (p : Position) {xs : List (List ℕ)} {cs : List Call} → SentBy xs cs → afterCalls names s p cs ≡ (afterSingly s xs, p)
 unfolding afterSingly afterCalls callOn frameCall afterFrames halfwayFrom sent
 frames-in-order names s p noFrames = refl
-frames-in-order names s p (oneMore {bytes = x} {buffer = buffer} long rest) =
-    rw (sent-any (s .file) x buffer long .answer, sent-any (s .file) x buffer long .file)
-    (frames-in-order names (callOn names s p (frameCall x) .0) p rest)
+frames-in-order names s p (oneMore {bytes = x} {buffer = buffer} {frames = xs} long rest) =
+    frames-in-order names (callOn names s p (plainFrame x buffer) .0) p rest
+    ∙ ap (λ (w : State × Position). (afterSingly (w .0) xs, p)) (frame-plain names s p x buffer)
+    ∙ rw (sent-any (s .file) x buffer long .answer, sent-any (s .file) x buffer long .file)
 
 -- on a file that is refused they leave all as it was
 module _ (file : List ℕ) (some : fileGround file ≢ 0) where

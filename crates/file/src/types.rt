@@ -104,6 +104,8 @@ impl Refusal {
     pub const LOGICAL_NAMES: Refusal = Refusal(22);
 
     pub const MULTIPLEXED_SEND: Refusal = Refusal(23);
+
+    pub const SUMMARY: Refusal = Refusal(24);
 }
 
 // The slaves that an array has room for.

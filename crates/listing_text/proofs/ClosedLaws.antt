@@ -21,6 +21,7 @@ use Rattle.file.proofs.Edition.{unknown-edition, refused-edition}
 use Rattle.file.proofs.Accepted.{accepted-legal}
 use Rattle.file.proofs.Order.{byCase, clash, both-true, both-false-right}
 use Rattle.cluster.specs.Rules.Grounds.{shortAnswer}
+use Rattle.cluster.specs.Rules.Summary.{without, wrongSummary}
 use Rattle.naming.specs.Inner.View.{SlaveView}
 use Rattle.naming.specs.Rules.Rounds.{sent}
 use Rattle.naming.specs.Rules.Run.{Position, running, fresh, PassPlace, baptize, nextRound, countLimit, lastStep}
@@ -33,7 +34,7 @@ use Rattle.file.specs.Rules.Order.{firstOf}
 use Rattle.naming.specs.Rules.Account.{StepArguments, step, argumentsGround}
 use Rattle.naming.specs.Rules.Account.{Named, Account, namesOf, namesIn, accountOf, accountCall, accountAfter, oneRound, comparisonsOf, highAgain, falling, unnamedAmong, namesHeld, namingComparisons, endingRounds}
 use Rattle.naming.specs.Rules.Figures.{roundsFor, comparisonsFor, namesAfter}
-use Rattle.naming.specs.Claims.Demand.{State, startOn, callOn, permittedCall, of-step}
+use Rattle.naming.specs.Claims.Demand.{State, startOn, callOn, of-step}
 use Rattle.naming.proofs.Places.{LegalPlace, inner, at-baptize, step-lt}
 use Rattle.naming.proofs.Search.{cleared-none}
 use Rattle.naming.proofs.Simulation.{Found, position, At, Tie, going, over, needlessAt, needless-here, inner-short, fresh-at}
@@ -47,8 +48,9 @@ use Rattle.naming.proofs.Demand.{unnamed-most, rounds-whole, tally-start, round
 use Rattle.naming.proofs.FromFile.{names-of-view, legal-slaves, legal-few}
 use Rattle.cluster.proofs.SentRounds.{buffer-long, round-is}
 use Rattle.naming.proofs.StepRound.{may-send}
-use Rattle.naming.proofs.ByteLaws.{Good, viewIn, Allowed, byte-laws, step-ground}
+use Rattle.naming.proofs.ByteLaws.{Good, viewIn, Allowed, byte-laws, arguments-ground}
 use Rattle.naming.proofs.StepLaws.{step-made}
+use Rattle.naming.proofs.Unasked.{step-unasked, step-plain, step-plain-may}
 use Rattle.listing_text.specs.Rules.Text.{nameLine, totalsLine, refusedLine}
 use Rattle.listing_text.specs.Rules.Listing.{allNames, ListState, isMade, givesName, withoutName, withName, listStep, listSteps, mostSteps, startState, endState, withTotals, listing, fileListed}
 use Rattle.listing_text.specs.Claims.Edition.{UnknownEditionListed}
@@ -145,27 +147,29 @@ module _ (slaves : List Named) (few : mostRounds * length slaves + endingRounds 
       (file : List ℕ) (p : Position) (buffer : List ℕ) {a : Account} (h : Tied slaves file p a) (long : shortAnswer buffer ≡ false)
       (m : p .end ≡ running) where
     abbrev arguments : StepArguments
-    arguments = record { buffer = buffer }
+    arguments = record { summary = without; buffer = buffer }
 
     none : (ss : List Named) → argumentsGround ss arguments ≡ 0
-    unfolding argumentsGround firstOf
+    unfolding argumentsGround wrongSummary firstOf
     none ss = rw long
 
     ground : stepGround file p allNames buffer ≡ 0
     unfolding startOn
     ground =
-        step-ground allNames names-accepted (startOn file) p arguments (h .good) (none _)
+        sym (step-unasked file p allNames buffer)
+        ∙ arguments-ground allNames names-accepted (startOn file) p arguments (h .good)
         (stays-fit State allNames viewIn Good (Allowed allNames) (callOn allNames) (byte-laws allNames names-accepted) _ _ _
         (rounds-few slaves allNames names-accepted few) (comparisons-few slaves allNames few) (startOn file, p) a h)
+        ∙ none _
 
     allowed : Allowed allNames (startOn file) p (step arguments)
-    unfolding permittedCall startOn
-    allowed = record { bytes = of-step; may = rw ground }
+    unfolding startOn
+    allowed = record { bytes = of-step; may = step-plain-may allNames (startOn file) p buffer ∙ rw ground }
 
     tied-on : Tied slaves (stepOn file p allNames buffer .3) (stepOn file p allNames buffer .1) (oneRound a)
-    unfolding runCalls accountAfter accountCall callOn startOn
+    unfolding runCalls accountAfter accountCall startOn
     tied-on =
-        rw (none (a .slaves)) at
+        rw (none (a .slaves), step-plain allNames (startOn file) p buffer) at
         (all-calls State allNames viewIn Good (Allowed allNames) (callOn allNames) (byte-laws allNames names-accepted) _ _ _
         (rounds-few slaves allNames names-accepted few) (comparisons-few slaves allNames few) (startOn file, p) a
         (step arguments ∷ []) h (one-more allowed all-made))

@@ -8,15 +8,15 @@ use mathlib.Core.Bool.{Bool, true, false, cond, not}
 use native.Mathlib.Omega.{arith}
 use lib.ListN.{getD}
 use lib.Dec.{eqb}
-use borrow.Author.Tests.{eqb-true, eqb-false, eq-eqb, ne-eqb, ltb-true, ltb-false, not-true}
+use borrow.Author.Tests.{eqb-true, eqb-false, ne-eqb, not-true}
 use Rattle.file.specs.Rules.Results.{done}
 use Rattle.file.specs.Rules.Bytes.{Bytes}
 use Rattle.file.specs.Rules.Order.{firstOf, both}
-use Rattle.file.specs.Rules.Cluster.{Slave, Cluster, bytesIn, configuration, physicalName, logicalName, unnamed, broadcast, fileNumberOf, operationOf, pb2Of, readOperation, writeOperation, executeOperation}
+use Rattle.file.specs.Rules.Cluster.{Slave, Cluster, bytesIn, configuration, physicalName, logicalName, logicalNames, unnamed, broadcast, fileNumberOf, operationOf, pb2Of, readOperation, writeOperation, executeOperation}
 use Rattle.file.specs.Rules.Decode.{decode}
 use Rattle.file.specs.Rules.Grounds.{fileGround}
 use Rattle.file.specs.Inner.Accepted.{Becomes}
-use Rattle.file.proofs.Order.{byCase, clash, both-left, both-right, both-false-left, either-next, first-none}
+use Rattle.file.proofs.Order.{byCase, clash, both-left, both-right, both-false-left, either-next, first-none, first-next, first-end, first-alike}
 use Rattle.file.proofs.Accepted.{encode-bytes}
 use Rattle.frame.specs.Rules.Fireworks.{Round, multipartner, msd, msa, noRound}
 use Rattle.frame.specs.Rules.Frames.{between}
@@ -25,7 +25,10 @@ use Rattle.cluster.specs.Rules.Bus.{slots}
 use Rattle.cluster.specs.Rules.Slaves.{withAddress, epochRaised, Duty, writing, pendingDuty, dutyBy, executionOf, addresses, addressed, takesWrite, slaveAfter, slavesAfter}
 use Rattle.cluster.specs.Rules.Grounds.{shortAnswer, roundBy}
 use Rattle.cluster.specs.Rules.Round.{passedOver, effectOf, frameOn, roundGround, roundOn}
-use Rattle.cluster.proofs.Rounds.{buffer-decides, others-decide, round-refused, round-accepted, round-becomes, round-kept, between-bytes}
+use Rattle.cluster.specs.Rules.Summary.{Summary, wrongSummary, roundKeepingGround}
+use Rattle.cluster.proofs.SummaryLaws.{given-behind}
+use Rattle.cluster.proofs.Keeping.{keeping-round, keeping-refused, keeping-accepted}
+use Rattle.cluster.proofs.Rounds.{round-accepted, round-becomes, round-kept, between-bytes}
 use Rattle.cluster.proofs.Kept.{slaveAfter-kept}
 use Rattle.cluster.proofs.Replaced.{write-left, write-keeps-name}
 use Rattle.cluster.proofs.Untouched.{filesOf, Unstored, Leaves, by-nothing, by-read, by-write, below-other, after-other}
@@ -33,11 +36,14 @@ use Rattle.naming.specs.Inner.View.{SlaveView, viewOf, view, viewUnnamed
 use Rattle.naming.specs.Rules.Rounds.{sent}
 use Rattle.naming.specs.Rules.Run.{Position, running, unfitPosition, namesGrounds, runGrounds, nextRound}
 use Rattle.cluster.specs.Rules.MasterSlave.{roundSent}
-use Rattle.naming.specs.Rules.Step.{stepGround, stepMade, stepOn}
-use Rattle.naming.specs.Rules.Account.{Named, StepArguments, FrameArguments, Call, step, frame, argumentsGround}
+use Rattle.naming.specs.Rules.Step.{stepGround, stepKeepingGround}
+use Rattle.naming.specs.Rules.Account.{Named, namesOf, namesIn, namesHeld, StepArguments, FrameArguments, Call, step, frame, argumentsGround}
 use Rattle.naming.specs.Claims.Demand.{State, halfwayAfter, callOn, changesConfiguration, writesNamed, permittedAddress, permittedFrame, permittedCall, OfBytes, of-frame}
 use Rattle.naming.proofs.Answers.{namedOf, SameSlave, Same, same-refl}
 use Rattle.naming.proofs.Start.{Names}
+use Rattle.naming.proofs.FromFile.{names-of-view}
+use Rattle.naming.proofs.StepLaws.{step-ended, step-made}
+use Rattle.naming.proofs.StepKeeping.{keeping-step, step-keeping-refused, step-keeping-accepted}
 use Rattle.naming.proofs.Abstract.{Laws, Stepped, Left, Sendable}
 use Rattle.naming.proofs.SlaveViews.{view-alike}
 use Rattle.naming.proofs.StepRound.{Made, round-made}
@@ -63,51 +69,69 @@ pub record Allowed (names : List ℕ) (s : State) (p : Position) (c : Call) : Ty
 
 -- ---- steps
 
--- a step's own arguments have no ground but their buffer's
+-- a step's own arguments: their summary's ground, then their buffer's
 long-buffer : (slaves : List Named) (arguments : StepArguments) → argumentsGround slaves arguments ≡ 0 → shortAnswer (arguments .buffer) ≡ false
 unfolding argumentsGround
-long-buffer slaves arguments none = first-none 8 _ _ none .0
+long-buffer slaves arguments none = first-none 8 _ _ (first-none 23 _ _ none .1) .0
 
-short-buffer : (slaves : List Named) (arguments : StepArguments) → argumentsGround slaves arguments ≢ 0 → shortAnswer (arguments .buffer) ≡ true
-unfolding argumentsGround firstOf
-short-buffer slaves arguments some = byCase (shortAnswer (arguments .buffer)) (λ t. t) (λ f. absurd (some (rw f)))
+logical-names : (ss : List Slave) → namesHeld (map namesOf ss) ≡ map logicalName ss
+unfolding namesHeld namesOf
+logical-names [] = refl
+logical-names (s ∷ ss) = ap (λ (l : List ℕ). logicalName s ∷ l) (logical-names ss)
+
+pub names-held : (c : Cluster) → namesHeld (namesIn c) ≡ logicalNames c
+unfolding namesIn logicalNames
+names-held c = logical-names (c .slaves)
+
+-- the file's names are those that the account has
+held-there : (s : State) → logicalNames (decode (s .file)) ≡ namesHeld (map namedOf (viewIn s))
+unfolding viewIn
+held-there s = rw (names-of-view (decode (s .file))) (sym (names-held (decode (s .file))))
 
 module _ (names : List ℕ) (n : Names names) where
-  -- the names are accepted, so a step's grounds are its buffer's and its position's
+  -- the names are accepted, so a step's grounds are its arguments' and its position's
   run-ground : (p : Position) → unfitPosition names p ≡ false → firstOf (runGrounds names p) ≡ 0
   unfolding runGrounds namesGrounds firstOf
   run-ground p fit = rw (n .fit, n .different, fit)
 
-  pub step-ground :
-      (s : State) (p : Position) (arguments : StepArguments) → Good s → argumentsGround (map namedOf (viewIn s)) arguments ≡ 0 →
-      unfitPosition names p ≡ false → stepGround (s .file) p names (arguments .buffer) ≡ 0
-  unfolding stepGround shortAnswer
-  step-ground s p arguments good none fit =
-      let long = long-buffer (map namedOf (viewIn s)) arguments none in
-      others-decide (s .file) (arguments .buffer) (runGrounds names p) (good .accepted) (ltb-false _ _ long) ∙ run-ground p fit
-
   pub arguments-ground :
-      (s : State) (p : Position) (arguments : StepArguments) → Good s → argumentsGround (map namedOf (viewIn s)) arguments ≢ 0 →
-      stepGround (s .file) p names (arguments .buffer) ≡ argumentsGround (map namedOf (viewIn s)) arguments
-  unfolding stepGround argumentsGround firstOf shortAnswer
-  arguments-ground s p arguments good some =
-      let short = short-buffer (map namedOf (viewIn s)) arguments some in
-      buffer-decides (s .file) (arguments .buffer) (runGrounds names p) (good .accepted) (ltb-true _ _ short) ∙ rw short
+      (s : State) (p : Position) (arguments : StepArguments) → Good s → unfitPosition names p ≡ false →
+      stepKeepingGround (s .file) p names (arguments .summary) (arguments .buffer) ≡ argumentsGround (map namedOf (viewIn s)) arguments
+  unfolding stepKeepingGround argumentsGround
+  arguments-ground s p arguments good fit =
+      given-behind (s .file) _ _ (good .accepted)
+      ∙ first-alike 24 _ _ (ap (λ (l : List ℕ). wrongSummary (arguments .summary) l) (held-there s))
+      (λ _. first-alike 9 (runGrounds names p) [] refl (λ _. run-ground p fit ∙ sym first-end))
+
+  own-none :
+      (s : State) (p : Position) (arguments : StepArguments) → Good s →
+      stepKeepingGround (s .file) p names (arguments .summary) (arguments .buffer) ≡ 0 → argumentsGround (map namedOf (viewIn s)) arguments ≡ 0
+  unfolding stepKeepingGround argumentsGround
+  own-none s p arguments good z =
+      let (wrong, rest) = first-none 23 _ _ (sym (given-behind (s .file) _ _ (good .accepted)) ∙ z) in
+      let (short, _) = first-none 8 _ _ rest in
+      first-next _ _ (ap (λ (l : List ℕ). wrongSummary (arguments .summary) l) (sym (held-there s)) ∙ wrong) ∙ first-next _ _ short ∙ first-end
 
   refused-step :
       (s : State) (p : Position) (arguments : StepArguments) → Good s → argumentsGround (map namedOf (viewIn s)) arguments ≢ 0 →
       callOn names s p (step arguments) ≡ (s, p)
-  unfolding callOn stepOn
-  refused-step s p arguments good some = rw (arguments-ground s p arguments good some, ne-eqb _ _ some)
+  unfolding callOn
+  refused-step s p arguments good some =
+      rw (step-keeping-refused (s .file) p names (arguments .summary) (arguments .buffer) (λ z. some (own-none s p arguments good z)))
 
   idle-step :
       (s : State) (p : Position) (arguments : StepArguments) → Good s → argumentsGround (map namedOf (viewIn s)) arguments ≡ 0 →
       unfitPosition names p ≡ false → (p .end ≡ running → ⊥) → callOn names s p (step arguments) ≡ (s, p)
-  unfolding callOn stepOn
-  idle-step s p arguments good none fit over = rw (step-ground s p arguments good none fit, ne-eqb (p .end) running over)
+  unfolding callOn
+  idle-step s p arguments good none fit over =
+      let k = arguments-ground s p arguments good fit ∙ none in
+      rw (
+        step-keeping-accepted (s .file) p names (arguments .summary) (arguments .buffer) k,
+        step-ended (s .file) p names (arguments .buffer) (keeping-step (s .file) p names (arguments .summary) (arguments .buffer) k) over,
+      )
 
   closed-step :
-      (s : State) (p : Position) (arguments : StepArguments) → stepGround (s .file) p names (arguments .buffer) ≡ 0 →
+      (s : State) (p : Position) (arguments : StepArguments) → stepKeepingGround (s .file) p names (arguments .summary) (arguments .buffer) ≡ 0 →
       permittedCall names s p (step arguments) ≡ true → not (s .halfway) ≡ true
   unfolding permittedCall
   closed-step s p arguments g may = rw g at may
@@ -116,15 +140,16 @@ module _ (names : List ℕ) (n : Names names) where
       (s : State) (p : Position) (arguments : StepArguments) → Good s → Allowed names s p (step arguments) →
       argumentsGround (map namedOf (viewIn s)) arguments ≡ 0 → unfitPosition names p ≡ false → p .end ≡ running →
       Sendable (nextRound names p) → Stepped State names viewIn Good s p (callOn names s p (step arguments))
-  unfolding callOn stepOn stepMade viewIn
+  unfolding callOn viewIn
   running-step s p arguments good allowed none fit run send =
       let buffer : List ℕ = arguments .buffer in
-      let g : stepGround (s .file) p names buffer ≡ 0 = step-ground s p arguments good none fit in
+      let k : stepKeepingGround (s .file) p names (arguments .summary) buffer ≡ 0 = arguments-ground s p arguments good fit ∙ none in
+      let g : stepGround (s .file) p names buffer ≡ 0 = keeping-step (s .file) p names (arguments .summary) buffer k in
       let long = long-buffer (map namedOf (viewIn s)) arguments none in
       let m : Made (s .file) (nextRound names p) (roundSent (s .file) (sent (nextRound names p)) buffer) =
       round-made (s .file) buffer (good .bytes) (good .accepted) long send in
-      let closed : s .halfway ≡ false = not-true (s .halfway) (closed-step s p arguments g (allowed .may)) in
-      rw (g, eq-eqb (p .end) running run)
+      let closed : s .halfway ≡ false = not-true (s .halfway) (closed-step s p arguments k (allowed .may)) in
+      rw (step-keeping-accepted (s .file) p names (arguments .summary) buffer k, step-made (s .file) p names buffer g run)
       (record {
         good = record { bytes = m .bytes; accepted = m .accepted; apart = λ h. clash h closed };
         views = m .views;
@@ -260,9 +285,12 @@ module _ (names : List ℕ) (s : State) (p : Position) (arguments : FrameArgumen
   abbrev buffer : List ℕ
   buffer = arguments .buffer
 
-  refused-frame : (roundGround (s .file) bytes buffer ≡ 0 → ⊥) → callOn names s p (frame arguments) ≡ (s, p)
+  abbrev summary : Summary
+  summary = arguments .summary
+
+  refused-frame : (roundKeepingGround (s .file) summary bytes buffer ≡ 0 → ⊥) → callOn names s p (frame arguments) ≡ (s, p)
   unfolding callOn halfwayAfter
-  refused-frame n = rw (round-refused (s .file) bytes buffer n)
+  refused-frame n = rw (keeping-refused (s .file) summary bytes buffer n)
 
   frame-views : Bytes bytes → roundGround (s .file) bytes buffer ≡ 0 → permittedFrame (s .halfway) (roundBy bytes) bytes ≡ true →
       Same (view (decode (s .file))) (view (frameOn (decode (s .file)) bytes .after))
@@ -278,11 +306,14 @@ module _ (names : List ℕ) (s : State) (p : Position) (arguments : FrameArgumen
   frame-pending g may h =
       next-harmless (decode (s .file)) bytes (s .halfway) _ (roundBy bytes) may (rw (round-accepted (s .file) bytes buffer g) at h)
 
-  accepted-frame : Bytes bytes → roundGround (s .file) bytes buffer ≡ 0 → permittedFrame (s .halfway) (roundBy bytes) bytes ≡ true →
+  accepted-frame : Bytes bytes → roundKeepingGround (s .file) summary bytes buffer ≡ 0 → permittedFrame (s .halfway) (roundBy bytes) bytes ≡ true →
       Left State viewIn Good s p (callOn names s p (frame arguments))
   unfolding callOn viewIn
-  accepted-frame b g may =
-      record {
+  accepted-frame b k may =
+      let g : roundGround (s .file) bytes buffer ≡ 0 = keeping-round (s .file) summary bytes buffer k in
+      let after : Becomes (roundOn (s .file) bytes buffer .2) (frameOn (decode (s .file)) bytes .after) = round-becomes (s .file) bytes buffer (good .bytes) b g in
+      rw (keeping-accepted (s .file) summary bytes buffer k)
+      (record {
         good = record {
           bytes = rw (after .encoded) (encode-bytes _ (after .legal));
           accepted = after .accepted;
@@ -290,21 +321,18 @@ module _ (names : List ℕ) (s : State) (p : Position) (arguments : FrameArgumen
         };
         same = rw (after .decoded) (frame-views b g may);
         stays = refl;
-      }
-    where
-      after : Becomes (roundOn (s .file) bytes buffer .2) (frameOn (decode (s .file)) bytes .after)
-      after = round-becomes (s .file) bytes buffer (good .bytes) b g
+      })
 
   any-frame : Allowed names s p (frame arguments) → Left State viewIn Good s p (callOn names s p (frame arguments))
   any-frame allowed =
-      byCase (eqb (roundGround (s .file) bytes buffer) 0)
+      byCase (eqb (roundKeepingGround (s .file) summary bytes buffer) 0)
       (λ t. accepted-frame (frame-of (allowed .bytes)) (eqb-true _ _ t) (accepted-may t (allowed .may)))
       (λ f. rw (refused-frame (eqb-false _ _ f)) (record { good = good; same = same-refl (viewIn s); stays = refl }))
     where
       frame-of : OfBytes (frame arguments) → Bytes bytes
       frame-of (of-frame b) = b
 
-      accepted-may : eqb (roundGround (s .file) bytes buffer) 0 ≡ true → permittedCall names s p (frame arguments) ≡ true → permittedFrame (s .halfway) (roundBy bytes) bytes ≡ true
+      accepted-may : eqb (roundKeepingGround (s .file) summary bytes buffer) 0 ≡ true → permittedCall names s p (frame arguments) ≡ true → permittedFrame (s .halfway) (roundBy bytes) bytes ≡ true
       accepted-may t may = unfold permittedCall in (rw t at may)
 
 -- ---- the laws

@@ -1,9 +1,10 @@
 -- Each claim of specs/Claims, and the theorem that has it as its type.
 use Rattle.naming.specs.Claims.Cases.{MarkedCases}
 use Rattle.naming.specs.Claims.Demand.{DemandThree}
-use Rattle.naming.specs.Claims.Edition.{UnknownEditionStep}
+use Rattle.naming.specs.Claims.Edition.{UnknownEditionStep, UnknownEditionStepKeeping}
 use Rattle.naming.specs.Claims.Passes.{PassesCounted, PassesMade}
 use Rattle.naming.specs.Claims.Renaming.{BaptizingStepRenames, OnlyBaptizingStepsRename, StaysLoadable}
+use Rattle.naming.specs.Claims.Summary.{StepWithout, StepsInOrder, StepRefusedBy24, RefusedStepKeepsSummary, KeepingIsStep, StepKeepsSummary, StepStillMatches, StepStillMatchesBaptized, CallsKeepSummary, FilledAndKept, GivenMakesNoDifference}
 use Rattle.naming.specs.Claims.Throughout.{Throughout}
 use Rattle.naming.specs.Claims.Permitted.{PermittedExactly}
 use Rattle.naming.specs.Claims.PermittedRounds.{RoundsFit, EachMultipartner, MayNotAskExactly, BarredMsa, LoneMsa, LoneMsd}
@@ -14,6 +15,9 @@ use Rattle.naming.proofs.OverBytes.{demand-3, throughout}
 use Rattle.naming.proofs.StepLaws.{step-edition}
 use Rattle.naming.proofs.Passes.{passes-counted}
 use Rattle.naming.proofs.Renaming.{baptizing-step-renames, only-baptizing-steps-rename}
+use Rattle.naming.proofs.Summaries.{step-without, steps-in-order, step-refused-by-24, refused-step-keeps-summary, keeping-is-step, step-keeps-summary, step-still-matches, step-still-matches-baptized, calls-keep-summary, filled-and-kept}
+use Rattle.naming.proofs.StepKeeping.{step-keeping-edition}
+use Rattle.naming.proofs.Unasked.{given-makes-no-difference}
 use Rattle.naming.proofs.HeldOnce.{stays-loadable}
 use Rattle.naming.proofs.PermittedExactly.{permitted-exactly}
 use Rattle.naming.proofs.PermittedRounds.{rounds-fit, each-multipartner, may-not-ask-exactly, barred-msa, lone-msa, lone-msd}
@@ -77,3 +81,39 @@ held-stands = stands
 
 pub held-passes-made : PassesMade
 held-passes-made = passes-made
+
+pub held-step-without : StepWithout
+held-step-without = step-without
+
+pub held-steps-in-order : StepsInOrder
+held-steps-in-order = steps-in-order
+
+pub held-step-refused-by-24 : StepRefusedBy24
+held-step-refused-by-24 = step-refused-by-24
+
+pub held-refused-step-keeps-summary : RefusedStepKeepsSummary
+held-refused-step-keeps-summary = refused-step-keeps-summary
+
+pub held-keeping-is-step : KeepingIsStep
+held-keeping-is-step = keeping-is-step
+
+pub held-step-keeps-summary : StepKeepsSummary
+held-step-keeps-summary = step-keeps-summary
+
+pub held-step-still-matches : StepStillMatches
+held-step-still-matches = step-still-matches
+
+pub held-step-still-matches-baptized : StepStillMatchesBaptized
+held-step-still-matches-baptized = step-still-matches-baptized
+
+pub held-calls-keep-summary : CallsKeepSummary
+held-calls-keep-summary = calls-keep-summary
+
+pub held-filled-and-kept : FilledAndKept
+held-filled-and-kept = filled-and-kept
+
+pub held-unknown-edition-step-keeping : UnknownEditionStepKeeping
+held-unknown-edition-step-keeping = step-keeping-edition
+
+pub held-given-makes-no-difference : GivenMakesNoDifference
+held-given-makes-no-difference = given-makes-no-difference

@@ -15,6 +15,7 @@ use Rattle.cluster.specs.Rules.Slaves.{isNameRecord}
 use Rattle.cluster.specs.Rules.MasterSlave.{Sent}
 use Rattle.naming.specs.Rules.Run.{Position, wrote, atStep, moveOn, onward, passAdvance, advance, roundHere, isNeedless, isFirst, isRepeated, passOver, onto, passRound, nextRound, roundAt, placeOf, askOrGive, questionOf, partOf, giveOf, tried}
 use Rattle.cluster.specs.Rules.Grounds.{shortAnswer}
+use Rattle.cluster.specs.Rules.Summary.{without, wrongSummary}
 use Rattle.naming.specs.Rules.Account.{namesOf, namesIn, Account, Call, Call.step as stepBy, argumentsGround, accountCall, accountAfter, accountOf, comparisonsOf, comparisonsAfter, highAgain, bitClear, namingRounds, passOn, oneRound, pass, freePass, goOn, passDone, give, falling, insert, unnamedAmong, namesHeld, endWith}
 use Rattle.naming.specs.Claims.Files.{m10File}
 use Rattle.naming.specs.Claims.Cases.{answerBuffer, from, slave, figures}
@@ -34,10 +35,10 @@ m10-accepted = refl
 
 -- steps with a buffer of 64 bytes or more make rounds
 abbrev pub stepWith : List ℕ → Call
-stepWith buffer = stepBy (record { buffer = buffer })
+stepWith buffer = stepBy (record { summary = without; buffer = buffer })
 
 step-round : (buffer : List ℕ) → shortAnswer buffer ≡ false → (a : Account) → accountCall a (stepWith buffer) ≡ oneRound a
-unfolding accountCall argumentsGround firstOf
+unfolding accountCall argumentsGround wrongSummary firstOf
 step-round buffer long a = rw long
 
 steps-rounds :

@@ -8,7 +8,7 @@ use mathlib.Core.Bool.{Bool, true, false, cond}
 use lib.Dec.{eqb}
 use borrow.Author.Tests.{eqb-true, eqb-false, ne-eqb}
 use Rattle.file.specs.Rules.Bytes.{Bytes}
-use Rattle.file.specs.Rules.Cluster.{Slave, Cluster, logicalName, logicalNames, unnamed}
+use Rattle.file.specs.Rules.Cluster.{Cluster, logicalNames, unnamed}
 use Rattle.file.specs.Rules.Decode.{decode}
 use Rattle.file.specs.Rules.Legal.{Distinct}
 use Rattle.file.specs.Rules.Grounds.{isAmong, hasRepeat, heldNames, loadGround}
@@ -19,12 +19,13 @@ use Rattle.file.proofs.Accepted.{accepted-legal}
 use Rattle.file.proofs.HeldLaws.{held-first, held-rest}
 use Rattle.file.proofs.Results.{load-file, load-twice, load-once}
 use Rattle.naming.specs.Rules.Run.{Position, startGround}
-use Rattle.naming.specs.Rules.Account.{namingRounds, namingComparisons, endingRounds, Named, namesOf, namesIn, Account, accountOf, give, goOn, passDone, freePass, pass, passOn, oneRound, namesHeld, Call, step, frame, argumentsGround, accountCall, accountAfter}
+use Rattle.naming.specs.Rules.Account.{namingRounds, namingComparisons, endingRounds, Named, namesIn, Account, accountOf, give, goOn, passDone, freePass, pass, passOn, oneRound, namesHeld, Call, step, frame, argumentsGround, accountCall, accountAfter}
 use Rattle.naming.specs.Claims.Demand.{Demand}
 use Rattle.naming.specs.Claims.Renaming.{StaysLoadable}
 use Rattle.naming.proofs.Facts.{Facts, physicals, differs, differ-tail, drop-taken, give-physicals, give-greatest}
 use Rattle.naming.proofs.Start.{Slaves, Names, start-facts}
 use Rattle.naming.proofs.FromFile.{legal-slaves, accepted-names}
+use Rattle.naming.proofs.ByteLaws.{names-held}
 use Rattle.naming.proofs.OverBytes.{demand-3}
 
 -- no name other than 0xFF is held twice
@@ -169,15 +170,6 @@ unfolding accountOf
 account-start ss names s n once = record { facts = start-facts ss names s n; different = s .different; once = once }
 
 -- ---- the file
-
-logical-names : (ss : List Slave) → namesHeld (map namesOf ss) ≡ map logicalName ss
-unfolding namesHeld namesOf
-logical-names [] = refl
-logical-names (s ∷ ss) = ap (λ (l : List ℕ). logicalName s ∷ l) (logical-names ss)
-
-names-held : (c : Cluster) → namesHeld (namesIn c) ≡ logicalNames c
-unfolding namesIn logicalNames
-names-held c = logical-names (c .slaves)
 
 once-by : (c : Cluster) → hasRepeat (heldNames (logicalNames c)) ≡ hasRepeat (heldNames (namesHeld (namesIn c)))
 once-by c = ap (λ (l : List ℕ). hasRepeat (heldNames l)) (sym (names-held c))

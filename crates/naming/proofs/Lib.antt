@@ -13,6 +13,8 @@ pub mod Passes
 pub mod PassRounds
 pub mod Sorted
 pub mod Start
+pub mod StepLaws
+pub mod StepKeeping
 pub mod Abstract
 pub mod Demand
 pub mod FromFile
@@ -25,7 +27,6 @@ pub mod Lists
 pub mod PermittedExactly
 pub mod PermittedRounds
 pub mod HeldOnce
-pub mod StepLaws
 pub mod PositionLaws
 pub mod NameLaws
 pub mod SendLaws
@@ -35,6 +36,9 @@ pub mod Bytes
 pub mod StepFrames
 pub mod RoundsMade
 pub mod Renaming
+pub mod Summaries
+pub mod Unasked
+pub mod SummaryExamples
 pub mod Witnesses
 pub mod WriteWitnesses
 pub mod Cases

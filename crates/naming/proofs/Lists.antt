@@ -15,7 +15,7 @@ use Rattle.cluster.specs.Rules.Grounds.{roundBy}
 use Rattle.cluster.specs.Rules.Round.{roundGround, roundOn}
 use Rattle.cluster.proofs.Rounds.{round-accepted}
 use Rattle.naming.specs.Rules.Run.{Position}
-use Rattle.naming.specs.Rules.Step.{stepGround}
+use Rattle.naming.specs.Rules.Step.{stepKeepingGround}
 use Rattle.naming.specs.Rules.Account.{StepArguments, Call, step}
 use Rattle.naming.specs.Claims.Demand.{State, halfwayAfter, callOn, permittedCall, permitted, afterCalls}
 use Rattle.naming.specs.Claims.PermittedRounds.{IsStep, is-step}
@@ -30,7 +30,7 @@ pub steps-permitted : (names : List ℕ) (s : State) (p : Position) {cs : List C
 unfolding permitted permittedCall
 steps-permitted names s p closed allEmpty = rw closed
 steps-permitted names s p closed (allNext {l = cs} (is-step {arguments}) h) =
-    both-true (may (eqb (stepGround (s .file) p names (arguments .buffer)) 0))
+    both-true (may (eqb (stepKeepingGround (s .file) p names (arguments .summary) (arguments .buffer)) 0))
     (steps-permitted names (callOn names s p (step arguments) .0) (callOn names s p (step arguments) .1) (step-halfway names s p arguments ∙ closed) h)
   where
     may : (t : Bool) → cond t (not (s .halfway)) true ≡ true

@@ -5,16 +5,14 @@ use Prim.Native.Nat.{ℕ}
 use mathlib.Core.Path.{_≡_, refl, sym, ap, _∙_}
 use mathlib.Core.List.{List, [], _∷_, _++_, map, append-nil}
 use mathlib.Core.Bool.{true, false}
-use lib.Dec.{eqb}
-use borrow.Author.Tests.{eqb-true, eqb-false}
 use Rattle.file.specs.Rules.Bytes.{Bytes, All, allEmpty, allNext}
 use Rattle.file.specs.Rules.Decode.{decode}
 use Rattle.file.specs.Rules.Grounds.{fileGround}
 use Rattle.file.specs.Rules.Legal.{Legal}
-use Rattle.file.proofs.Order.{byCase, both-left, both-right, clash}
+use Rattle.file.proofs.Order.{both-left, both-right, clash}
 use Rattle.file.proofs.Accepted.{accepted-legal}
 use Rattle.naming.specs.Rules.Run.{Position, fresh, startGround, unfitPosition}
-use Rattle.naming.specs.Rules.Step.{stepGround}
+use Rattle.naming.specs.Rules.Step.{stepKeepingGround}
 use Rattle.naming.specs.Rules.Account.{Named, StepArguments, Call, argumentsGround, namesIn, accountOf, accountAfter}
 use Rattle.naming.specs.Claims.Demand.{State, startOn, callOn, permittedCall, permitted, afterCalls, OfBytes, Demand, DemandThree}
 use Rattle.naming.specs.Claims.Throughout.{Throughout}
@@ -23,7 +21,7 @@ use Rattle.naming.proofs.Start.{Names}
 use Rattle.naming.proofs.Abstract.{Permitted, all-made, one-more, runCalls}
 use Rattle.naming.proofs.Demand.{Holds, demand}
 use Rattle.naming.proofs.FromFile.{names-of-view, legal-slaves, legal-few, accepted-names}
-use Rattle.naming.proofs.ByteLaws.{Good, viewIn, Allowed, byte-laws, step-ground, arguments-ground}
+use Rattle.naming.proofs.ByteLaws.{Good, viewIn, Allowed, byte-laws, arguments-ground}
 
 -- the walk along file and run is the abstract one
 same-calls : (names : List ℕ) (s : State) (p : Position) (cs : List Call) → runCalls State (callOn names) (s, p) cs ≡ afterCalls names s p cs
@@ -75,13 +73,9 @@ module _ (file names : List ℕ) (b : Bytes file) (g : fileGround file ≡ 0) (n
   -- a step's only ground is that of its own arguments
   own-ground :
       (s : State) (p : Position) → Good s → unfitPosition names p ≡ false → (arguments : StepArguments) →
-      stepGround (s .file) p names (arguments .buffer) ≡ argumentsGround (namesIn (decode (s .file))) arguments
+      stepKeepingGround (s .file) p names (arguments .summary) (arguments .buffer) ≡ argumentsGround (namesIn (decode (s .file))) arguments
   own-ground s p good fit arguments =
-      let same : argumentsGround (map namedOf (viewIn s)) arguments ≡ argumentsGround (namesIn (decode (s .file))) arguments =
-      ap (λ (l : List Named). argumentsGround l arguments) (seen s) in
-      byCase (eqb (argumentsGround (map namedOf (viewIn s)) arguments) 0)
-      (λ t. let none = eqb-true _ _ t in step-ground names n s p arguments good none fit ∙ sym none ∙ same)
-      (λ f. arguments-ground names n s p arguments good (eqb-false _ _ f) ∙ same)
+      arguments-ground names n s p arguments good fit ∙ ap (λ (l : List Named). argumentsGround l arguments) (seen s)
 
   holds-demand :
       (calls : List Call) → Permitted State (Allowed names) (callOn names) (startOn file, fresh names) calls →

@@ -19,14 +19,15 @@ use Rattle.file.proofs.Order.{byCase, clash, both-left, both-right, both-true, 
 use Rattle.frame.specs.Rules.Fireworks.{Round, multipartner, msd, msa, noRound}
 use Rattle.frame.specs.Rules.Reading.{partsOf}
 use Rattle.cluster.specs.Rules.Grounds.{roundBy}
-use Rattle.cluster.specs.Rules.Round.{roundGround, roundOn}
-use Rattle.cluster.proofs.Rounds.{round-refused}
+use Rattle.cluster.specs.Rules.Round.{roundOn}
+use Rattle.cluster.specs.Rules.Summary.{roundKeepingGround}
+use Rattle.cluster.proofs.Keeping.{keeping-round, keeping-refused, keeping-accepted}
 use Rattle.naming.specs.Rules.Run.{Position}
-use Rattle.naming.specs.Rules.Step.{stepGround, stepOn}
+use Rattle.naming.specs.Rules.Step.{stepKeepingGround, stepOn}
 use Rattle.naming.specs.Rules.Account.{StepArguments, FrameArguments, Call, step, frame}
 use Rattle.naming.specs.Claims.Demand.{State, startOn, halfwayAfter, callOn, changesConfiguration, writesNamed, permittedAddress, permittedFrame, permittedCall, permitted, OfBytes, of-step, of-frame}
 use Rattle.naming.specs.Claims.Permitted.{MayAsk, read, otherFile, writeAtName, writeAtAll, Accepted, Refused, in-step, in-frame, PermittedList, noCalls, refusedCall, aStep, multipartnerRound, masterSlaveRound, PermittedExactly}
-use Rattle.naming.proofs.StepLaws.{step-refused}
+use Rattle.naming.proofs.StepKeeping.{step-keeping-refused, step-keeping-accepted}
 use Rattle.naming.proofs.Lists.{accepted-halfway}
 
 -- ---- what an MSA asks for
@@ -82,8 +83,8 @@ on file h = record { file = file; halfway = h }
 module _ (names file : List ℕ) (h : Bool) (p : Position) where
   refused-call : {c : Call} → Refused names file p c → callOn names (on file h) p c ≡ (on file h, p)
   unfolding callOn halfwayAfter
-  refused-call (in-step {arguments} some) = rw (step-refused file p names (arguments .buffer) some)
-  refused-call (in-frame {arguments} some) = rw (round-refused file (arguments .bytes) (arguments .buffer) some)
+  refused-call (in-step {arguments} some) = rw (step-keeping-refused file p names (arguments .summary) (arguments .buffer) some)
+  refused-call (in-frame {arguments} some) = rw (keeping-refused file (arguments .summary) (arguments .bytes) (arguments .buffer) some)
 
   refused-may : {c : Call} → Refused names file p c → permittedCall names (on file h) p c ≡ true
   unfolding permittedCall
@@ -108,18 +109,20 @@ module _ (names file : List ℕ) (p : Position) where
       (permitted names (on (roundOn file (arguments .bytes) (arguments .buffer) .2) (halfwayAfter h (done 0) round)) p cs)
   unfolding permitted permittedCall callOn
   frame-front h {arguments} {round} cs a =
+      let none = keeping-round file (arguments .summary) (arguments .bytes) (arguments .buffer) (a .none) in
       rw (
-        accepted-halfway h file (arguments .bytes) (arguments .buffer) round (a .none) (a .opens),
+        keeping-accepted file (arguments .summary) (arguments .bytes) (arguments .buffer) (a .none),
+        accepted-halfway h file (arguments .bytes) (arguments .buffer) round none (a .opens),
         eq-eqb _ _ (a .none),
         a .opens,
       )
 
   pub step-front :
-      (h : Bool) (arguments : StepArguments) (cs : List Call) → stepGround file p names (arguments .buffer) ≡ 0 →
+      (h : Bool) (arguments : StepArguments) (cs : List Call) → stepKeepingGround file p names (arguments .summary) (arguments .buffer) ≡ 0 →
       permitted names (on file h) p (step arguments ∷ cs) ≡
       both (not h) (permitted names (on (stepOn file p names (arguments .buffer) .3) h) (stepOn file p names (arguments .buffer) .1) cs)
   unfolding permitted permittedCall callOn
-  step-front h arguments cs g = rw (eq-eqb _ _ g)
+  step-front h arguments cs g = rw (step-keeping-accepted file p names (arguments .summary) (arguments .buffer) g, eq-eqb _ _ g)
 
 -- ---- from a permitted list to its description
 
@@ -146,7 +149,7 @@ module _ (names file : List ℕ) where
   refused-described false p c cs r l = refusedCall r l
 
   step-described :
-      (h : Bool) (p : Position) (arguments : StepArguments) (cs : List Call) → stepGround file p names (arguments .buffer) ≡ 0 → not h ≡ true →
+      (h : Bool) (p : Position) (arguments : StepArguments) (cs : List Call) → stepKeepingGround file p names (arguments .summary) (arguments .buffer) ≡ 0 → not h ≡ true →
       Described names cs (stepOn file p names (arguments .buffer) .3) h (stepOn file p names (arguments .buffer) .1) →
       Described names (step arguments ∷ cs) file h p
   step-described true p arguments cs g e l = clash e refl
@@ -177,7 +180,7 @@ module _
 
   after-step : (arguments : StepArguments) → permitted names (on file h) p (step arguments ∷ cs) ≡ true → Described names (step arguments ∷ cs) file h p
   after-step arguments e =
-      byCase (eqb (stepGround file p names (arguments .buffer)) 0)
+      byCase (eqb (stepKeepingGround file p names (arguments .summary) (arguments .buffer)) 0)
       (λ t.
       let g = eqb-true _ _ t in
       let k = sym (step-front names file p h arguments cs g) ∙ e in
@@ -188,7 +191,7 @@ module _
       (arguments : FrameArguments) → Bytes (arguments .bytes) → permitted names (on file h) p (frame arguments ∷ cs) ≡ true →
       Described names (frame arguments ∷ cs) file h p
   after-frame arguments b e =
-      byCase (eqb (roundGround file (arguments .bytes) (arguments .buffer)) 0)
+      byCase (eqb (roundKeepingGround file (arguments .summary) (arguments .bytes) (arguments .buffer)) 0)
       (λ t.
       let a : Accepted file arguments (roundBy (arguments .bytes)) = record { none = eqb-true _ _ t; opens = refl } in
       let k = sym (frame-front names file p h cs a) ∙ e in

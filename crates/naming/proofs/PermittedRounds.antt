@@ -27,7 +27,10 @@ use Rattle.frame.proofs.Written.{address-bytes, data-bytes}
 use Rattle.cluster.specs.Rules.Slaves.{withAddress}
 use Rattle.cluster.specs.Rules.Bus.{slots}
 use Rattle.cluster.specs.Rules.Grounds.{roundBy, writePending}
-use Rattle.cluster.specs.Rules.Round.{effectOf, frameOn, roundOn}
+use Rattle.cluster.specs.Rules.Round.{effectOf, frameOn, roundGround, roundOn}
+use Rattle.cluster.specs.Rules.Summary.{Summary, without, roundKeepingGround}
+use Rattle.cluster.specs.Claims.Summary.{Matches, givenNone}
+use Rattle.cluster.proofs.Keeping.{matched-ground, keeping-round}
 use Rattle.cluster.specs.Inner.Grounds.{noFirework, lengthFor, wrongLengthOn, wrongCheckOn, noOperationOn, broadcastReadOn, frameGround}
 use Rattle.cluster.proofs.Sent as Sent
 use Rattle.cluster.proofs.Rounds.{fits-none, round-becomes, round-bytes}
@@ -129,15 +132,21 @@ module _ {a : Parts} (may : Sendable a) where
   parts-back = rw (file-back, operation-back)
 
 -- on an accepted file
-module _ (file : List ℕ) (g : fileGround file ≡ 0) (buffer : List ℕ) (long : slots ≤ length buffer) where
-  multipartner-accepted : (firework : ℕ) {r : ℕ} → roundOf firework ≡ multipartner r → Accepted file (record { bytes = firework ∷ []; buffer = buffer }) (multipartner r)
-  multipartner-accepted firework is = record { none = Sent.round-fits file _ buffer g long (multipartner-fits (decode file) firework is); opens = unfold roundBy in is }
+module _
+    (file : List ℕ) (g : fileGround file ≡ 0) (summary : Summary) (matches : Matches file summary) (buffer : List ℕ)
+    (long : slots ≤ length buffer) where
+  -- given a summary that matches, or none, it has the round's grounds
+  given : (bytes : List ℕ) → roundGround file bytes buffer ≡ 0 → roundKeepingGround file summary bytes buffer ≡ 0
+  given bytes none = matched-ground file summary bytes buffer matches ∙ none
 
-  address-accepted : {a : Parts} → Sendable a → Accepted file (record { bytes = addressOf a; buffer = buffer }) msa
-  address-accepted {a} may = record { none = Sent.round-fits file _ buffer g long (address-fits may (decode file)); opens = address-round a }
+  multipartner-accepted : (firework : ℕ) {r : ℕ} → roundOf firework ≡ multipartner r → Accepted file (record { summary = summary; bytes = firework ∷ []; buffer = buffer }) (multipartner r)
+  multipartner-accepted firework is = record { none = given _ (Sent.round-fits file _ buffer g long (multipartner-fits (decode file) firework is)); opens = unfold roundBy in is }
 
-  data-accepted : {write : Bool} {content : List ℕ} → DataFor write content → writePending (decode file) ≡ write → Accepted file (record { bytes = content; buffer = buffer }) msd
-  data-accepted d e = record { none = Sent.round-fits file _ buffer g long (data-fits (decode file) d e); opens = data-round d }
+  address-accepted : {a : Parts} → Sendable a → Accepted file (record { summary = summary; bytes = addressOf a; buffer = buffer }) msa
+  address-accepted {a} may = record { none = given _ (Sent.round-fits file _ buffer g long (address-fits may (decode file))); opens = address-round a }
+
+  data-accepted : {write : Bool} {content : List ℕ} → DataFor write content → writePending (decode file) ≡ write → Accepted file (record { summary = summary; bytes = content; buffer = buffer }) msd
+  data-accepted d e = record { none = given _ (Sent.round-fits file _ buffer g long (data-fits (decode file) d e)); opens = data-round d }
 
 -- ---- rounds that fit
 
@@ -146,20 +155,20 @@ rounds-listed :
     PermittedList names file p rs
 rounds-listed names p noRounds noFrames file b g = noCalls
 rounds-listed names p (multipartnerNext {firework} byte is rounds) (oneMore {buffer = buffer} long sent) file b g =
-    let a = multipartner-accepted file g buffer long firework is in
+    let a = multipartner-accepted file g without givenNone buffer long firework is in
     let bytes : Bytes (firework ∷ []) = allNext byte allEmpty in
     multipartnerRound a
-    (rounds-listed names p rounds sent (roundOn file (firework ∷ []) buffer .2) (round-bytes file _ buffer b bytes) (round-becomes file _ buffer b bytes (a .none) .accepted))
+    (rounds-listed names p rounds sent (roundOn file (firework ∷ []) buffer .2) (round-bytes file _ buffer b bytes) (round-becomes file _ buffer b bytes (keeping-round file without _ buffer (a .none)) .accepted))
 rounds-listed names p (masterSlaveNext {a = a} {content} may ask d rounds) (oneMore {buffer = buffer} long (oneMore {buffer = buffer′} long′ sent)) file b g =
-    let first = address-accepted file g buffer long may in
+    let first = address-accepted file g without givenNone buffer long may in
     let middle : List ℕ = roundOn file (addressOf a) buffer .2 in
-    let becomes : Becomes middle (frameOn (decode file) (addressOf a) .after) = round-becomes file _ buffer b (address-of-bytes may) (first .none) in
+    let becomes : Becomes middle (frameOn (decode file) (addressOf a) .after) = round-becomes file _ buffer b (address-of-bytes may) (keeping-round file without _ buffer (first .none)) in
     let b′ : Bytes middle = round-bytes file _ buffer b (address-of-bytes may) in
-    let second = data-accepted middle (becomes .accepted) buffer′ long′ d (rw (becomes .decoded) (address-pending may (decode file))) in
+    let second = data-accepted middle (becomes .accepted) without givenNone buffer′ long′ d (rw (becomes .decoded) (address-pending may (decode file))) in
     let asks : MayAsk (partsOf (addressOf a)) = rw (parts-back may) ask in
     masterSlaveRound first asks allEmpty second
     (rounds-listed names p rounds sent (roundOn middle content buffer′ .2) (round-bytes middle _ buffer′ b′ (data-frame-bytes d))
-    (round-becomes middle _ buffer′ b′ (data-frame-bytes d) (second .none) .accepted))
+    (round-becomes middle _ buffer′ b′ (data-frame-bytes d) (keeping-round middle without _ buffer′ (second .none)) .accepted))
 
 -- where calls left no round half done
 closed-permitted :
@@ -280,22 +289,22 @@ half-done names file p (frameNext {arguments} {round = round} {cs} a other) =
     frame-front names file p true cs a ∙ both-false-left _ (no-frame round (arguments .bytes) other)
 
 pub barred-msa : BarredMsa
-barred-msa file names cs from a may barred buffer long ds =
-    judged-after file names cs from (frame (record { bytes = addressOf a; buffer = buffer }) ∷ ds)
+barred-msa file names cs from a may barred summary matches buffer long ds =
+    judged-after file names cs from (frame (record { summary = summary; bytes = addressOf a; buffer = buffer }) ∷ ds)
     ∙ address-front names (fileAfter file names cs) (runAfter file names cs) ds
-    (address-accepted (fileAfter file names cs) (file-accepted file names cs from) buffer long may)
+    (address-accepted (fileAfter file names cs) (file-accepted file names cs from) summary matches buffer long may)
     ∙ both-false-left _ (address-barred may barred)
 
 pub lone-msa : LoneMsa
-lone-msa file names cs from a may buffer long ds none =
-    judged-after file names cs from (frame (record { bytes = addressOf a; buffer = buffer }) ∷ ds)
+lone-msa file names cs from a may summary matches buffer long ds none =
+    judged-after file names cs from (frame (record { summary = summary; bytes = addressOf a; buffer = buffer }) ∷ ds)
     ∙ address-front names (fileAfter file names cs) (runAfter file names cs) ds
-    (address-accepted (fileAfter file names cs) (file-accepted file names cs from) buffer long may)
+    (address-accepted (fileAfter file names cs) (file-accepted file names cs from) summary matches buffer long may)
     ∙ both-false-right _ (half-done names _ (runAfter file names cs) none)
 
 pub lone-msd : LoneMsd
-lone-msd file names cs from content d buffer long ds =
-    judged-after file names cs from (frame (record { bytes = content; buffer = buffer }) ∷ ds)
+lone-msd file names cs from content d summary matches buffer long ds =
+    judged-after file names cs from (frame (record { summary = summary; bytes = content; buffer = buffer }) ∷ ds)
     ∙ frame-front names (fileAfter file names cs) (runAfter file names cs) false ds
-    (data-accepted (fileAfter file names cs) (file-accepted file names cs from) buffer long d refl)
+    (data-accepted (fileAfter file names cs) (file-accepted file names cs from) summary matches buffer long d refl)
     ∙ both-false-left _ (unfold permittedFrame in refl)

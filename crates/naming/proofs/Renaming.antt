@@ -4,7 +4,7 @@ use Prim.Native.Nat.{ℕ, _^_, _<_}
 use mathlib.Core.Path.{_≡_, refl, sym, ap, _∙_}
 use mathlib.Core.List.{List, [], _∷_, map}
 use lib.Dec.{eqb}
-use lib.ListN.{length}
+use lib.ListN.{length, length-map}
 use borrow.Author.Tests.{eqb-true, eqb-false, le-ltb}
 use Rattle.file.specs.Rules.Bytes.{Bytes, All, allEmpty, allNext}
 use Rattle.file.specs.Rules.Cluster.{Slave, Cluster, logicalName, logicalNames, unnamed}
@@ -136,3 +136,29 @@ step-value file p names buffer small =
     (λ e. rw (step-made file p names buffer g (eqb-true (p .end) running e)) (advanced-small names p _ small))
     (λ e. rw (step-ended file p names buffer g (eqb-false (p .end) running e)) small))
     (λ z. rw (step-refused file p names buffer (eqb-false (stepGround file p names buffer) 0 z)) small)
+
+-- ---- as many slaves as before
+
+logicals-count : (vs : List SlaveView) → length (logicals vs) ≡ length vs
+unfolding logicals
+logicals-count vs = length-map vs (λ (v : SlaveView). v .logical)
+
+changed-count : (o : RunRound) (vs : List SlaveView) → length (logicals (changeAll o vs)) ≡ length (logicals vs)
+unfolding changeAll
+changed-count o vs = logicals-count (map (change o) vs) ∙ length-map vs (change o) ∙ sym (logicals-count vs)
+
+pub step-count :
+    (file : List ℕ) (p : Position) (names buffer : List ℕ) → Bytes file → Bytes names → p .value < 2 ^ bits →
+    length (namesOf (stepOn file p names buffer .3)) ≡ length (namesOf file)
+step-count file p names buffer b n small =
+    byCase (eqb (stepGround file p names buffer) 0)
+    (λ z.
+    let g = eqb-true (stepGround file p names buffer) 0 z in
+    byCase (eqb (p .end) running)
+    (λ e.
+    let going = eqb-true (p .end) running e in
+    ap (λ (l : List ℕ). length l) (after file p names buffer b g going (sendable file p names buffer b g going n small))
+    ∙ changed-count (nextRound names p) (view (decode file))
+    ∙ sym (ap (λ (l : List ℕ). length l) (names-by-views (decode file))))
+    (λ e. rw (step-ended file p names buffer g (eqb-false (p .end) running e))))
+    (λ z. rw (step-refused file p names buffer (eqb-false (stepGround file p names buffer) 0 z)))

@@ -54,7 +54,7 @@ pub enum Stepped {
 }
 
 // Grounds 15 to 17.
-fn run_ground(names: &[u8], run: RunPosition) -> u8
+pub fn run_ground(names: &[u8], run: RunPosition) -> u8
     ensures { λ r. ⌜ r ≡ firstOf (runGrounds (now (names .entry)) (positionOf run)) ⌝ }
 {
     let ground = names_ground(names);

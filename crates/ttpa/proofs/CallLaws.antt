@@ -1,7 +1,7 @@
 -- One law for each way that a C call ends: the answer of the layer below, taken apart.
 -- Assumes nothing.
-use Prim.Native.Nat.{ℕ}
-use mathlib.Core.Path.{_≡_}
+use Prim.Native.Nat.{ℕ, _-_, _^_}
+use mathlib.Core.Path.{_≡_, refl, ap}
 use mathlib.Core.List.{List, [], _∷_}
 use Rattle.file.specs.Rules.Grounds.{loadVerdict}
 use Rattle.file.specs.Inner.Answers.{checkedOf}
@@ -20,7 +20,8 @@ use Rattle.frame.specs.Rules.Reading.{parts, readAddress}
 use Rattle.frame.specs.Rules.Writing.{writeAddress, writeData}
 use Rattle.frame.specs.Inner.Answers.{readingOf, writingOf}
 use Rattle.file.specs.Rules.Results.{Result, refused, done, numberIn}
-use Rattle.cluster.specs.Rules.Round.{roundOn}
+use Rattle.cluster.specs.Rules.Round.{Answer, roundOn}
+use Rattle.cluster.specs.Rules.Summary.{kept, roundKeeping, fillOn, nobody, at, holderIn}
 use Rattle.cluster.specs.Inner.Answers.{answerOf}
 use Rattle.cluster.specs.declared.answer.RoundAnswer.{RoundAnswer}
 use Rattle.cluster.specs.declared.answer.RoundAnswer.the-variants as rounds
@@ -35,15 +36,21 @@ use Rattle.owner.specs.Rules.Writing.{ownerOn}
 use Rattle.owner.specs.Inner.Answers.{writtenOf}
 use Rattle.owner.specs.declared.write.OwnerAnswer.{OwnerAnswer}
 use Rattle.owner.specs.declared.write.OwnerAnswer.the-variants as owners
-use Rattle.naming.specs.Rules.Run.{startOver}
-use Rattle.naming.specs.Rules.Step.{ended, made, stepOn}
+use Rattle.naming.specs.Rules.Run.{Position, startOver}
+use Rattle.naming.specs.Rules.Step.{stepOn, stepKeeping}
 use Rattle.naming.specs.Inner.Answers.{positionOf, startedOf, steppedOf, runAfter}
 use Rattle.naming.specs.declared.position.RunPosition.{RunPosition}
 use Rattle.naming.specs.declared.run.Started.{Started}
 use Rattle.naming.specs.declared.run.Started.the-variants as starts
 use Rattle.naming.specs.declared.run.Stepped.{Stepped}
 use Rattle.naming.specs.declared.run.Stepped.the-variants as steps
-use Rattle.ttpa.specs.Rules.Calls.{lentAfter, checkCall, partBytes, readAddressCall, writeAddressCall, writeDataCall, roundCall, traceCall, ownerCall, wordsOf, positionIn, startCall, stepSenders, stepWords, stepCall}
+use Rattle.summary.specs.Inner.Answers.{filledOf, holderOf}
+use Rattle.summary.specs.declared.fill.Filling.{Filling}
+use Rattle.summary.specs.declared.fill.Filling.the-variants as fillings
+use Rattle.summary.specs.declared.holder.Holder.{Holder}
+use Rattle.summary.specs.declared.holder.Holder.the-variants as holders
+use Rattle.ttpa.specs.Rules.Calls.{lentAfter, checkCall, partBytes, readAddressCall, writeAddressCall, writeDataCall, roundCall, traceCall, ownerCall, wordsOf, positionIn, startCall, stepSenders, stepWords, stepCall, fillCall, nobodyPlace, placeOf, holderCall, sliceOf, roundKeepingCall, stepKeepingCall}
+use Rattle.ttpa.specs.Inner.Told.{roundTold, stepTold}
 
 -- ---- the checker
 
@@ -101,18 +108,27 @@ data-written old bytes is e = rw (← is, e)
 
 -- ---- a frame on a file
 
-module _ (file frame answer : List ℕ) (senders : ℕ) {answer′ file′ : List ℕ} (a : RoundAnswer) (is : (answerOf a, answer′, file′) ≡ roundOn file frame answer) where
-  pub round-refuses : {why : Refusal} → a ≡ rounds.Refused why → (why .0, senders, answer′, file′) ≡ roundCall file frame answer senders
-  unfolding roundCall numberIn lentAfter answerOf
-  round-refuses {why} e =
-      let r : (refused (why .0), answer′, file′) ≡ roundOn file frame answer = rw e at is in
-      rw (← r)
+module _ (senders : ℕ) {a : RoundAnswer} where
+  pub told-refused : {why : Refusal} → a ≡ rounds.Refused why → (why .0, senders) ≡ roundTold (answerOf a) senders
+  unfolding roundTold numberIn lentAfter answerOf
+  told-refused e = rw e
 
-  pub round-carries : {mask : ℕ} → a ≡ rounds.Carried mask → (0, mask, answer′, file′) ≡ roundCall file frame answer senders
-  unfolding roundCall numberIn lentAfter answerOf
-  round-carries {mask} e =
-      let r : (done mask, answer′, file′) ≡ roundOn file frame answer = rw e at is in
-      rw (← r)
+  pub told-carried : {mask : ℕ} → a ≡ rounds.Carried mask → (0, mask) ≡ roundTold (answerOf a) senders
+  unfolding roundTold numberIn lentAfter answerOf
+  told-carried e = rw e
+
+module _ (file frame answer : List ℕ) (senders : ℕ) {r : Answer} {n senders′ : ℕ} (told : (n, senders′) ≡ roundTold r senders) {answer′ file′ : List ℕ} where
+  pub round-told : (r, answer′, file′) ≡ roundOn file frame answer → (n, senders′, answer′, file′) ≡ roundCall file frame answer senders
+  unfolding roundCall roundTold
+  round-told is = rw (← is, ap (λ (t : ℕ × ℕ). t .0) told, ap (λ (t : ℕ × ℕ). t .1) told)
+
+  pub round-keeping-told :
+      (held : List ℕ) (count : ℕ) {held′ : List ℕ} {c : ℕ} → c ≡ count →
+      (r, answer′, file′, kept c held′) ≡ roundKeeping file (kept c held) frame answer →
+      (n, senders′, answer′, file′, held′) ≡ roundKeepingCall file frame answer senders held count
+  unfolding roundKeepingCall roundTold
+  round-keeping-told held count same is =
+      rw (← same, ← is, ap (λ (t : ℕ × ℕ). t .0) told, ap (λ (t : ℕ × ℕ). t .1) told) (unfold sliceOf in refl)
 
 -- ---- a trace on a file
 
@@ -169,26 +185,76 @@ module _ (names run : List ℕ) (a : Started) (is : startedOf a ≡ startOver na
 
 -- ---- a naming step
 
+module _ (p : Position) (senders : ℕ) (run : List ℕ) {a : Stepped} where
+  pub told-turned : {why : Refusal} → a ≡ steps.Refused why → (why .0, senders, run) ≡ stepTold (steppedOf a) (runAfter p a) senders run
+  unfolding stepTold numberIn stepSenders stepWords steppedOf runAfter
+  told-turned e = rw e
+
+  pub told-ended : a ≡ steps.Ended → (0, senders, run) ≡ stepTold (steppedOf a) (runAfter p a) senders run
+  unfolding stepTold numberIn stepSenders stepWords steppedOf runAfter
+  told-ended e = rw e
+
+  pub told-made : {mask : ℕ} {q : RunPosition} {words : List ℕ} → a ≡ steps.Made mask q → words ≡ wordsOf (positionOf q) → (0, mask, words) ≡ stepTold (steppedOf a) (runAfter p a) senders run
+  unfolding stepTold numberIn stepSenders stepWords steppedOf runAfter
+  told-made e same = rw (e, same)
+
+abbrev Told : Type 0
+Told = ℕ × ℕ × List ℕ
+
 module _
-    (file run names answer : List ℕ) (senders : ℕ) {answer′ file′ : List ℕ} (a : Stepped) {position : RunPosition} (from : positionOf position ≡ positionIn run)
-    (by : (steppedOf a, runAfter (positionOf position) a, answer′, file′) ≡ stepOn file (positionOf position) names answer) where
-  is : (steppedOf a, runAfter (positionIn run) a, answer′, file′) ≡ stepOn file (positionIn run) names answer
-  is = rw from at by
+    (file run names answer : List ℕ) (senders : ℕ) (a : Stepped) {n senders′ : ℕ} {run′ : List ℕ}
+    (told : (n, senders′, run′) ≡ stepTold (steppedOf a) (runAfter (positionIn run) a) senders run)
+    {position : RunPosition} (from : positionOf position ≡ positionIn run) {answer′ file′ : List ℕ} where
+  pub step-told :
+      (steppedOf a, runAfter (positionOf position) a, answer′, file′) ≡ stepOn file (positionOf position) names answer →
+      (n, senders′, run′, answer′, file′) ≡ stepCall file run names answer senders
+  unfolding stepCall stepTold
+  step-told by =
+      let is : (steppedOf a, runAfter (positionIn run) a, answer′, file′) ≡ stepOn file (positionIn run) names answer = rw from at by in
+      rw (← is, ap (λ (t : Told). t .0) told, ap (λ (t : Told). t .1) told, ap (λ (t : Told). t .2) told)
 
-  pub step-refuses : {why : Refusal} → a ≡ steps.Refused why → (why .0, senders, run, answer′, file′) ≡ stepCall file run names answer senders
-  unfolding stepCall numberIn stepSenders stepWords steppedOf runAfter
-  step-refuses {why} e =
-      let r : (refused (why .0), positionIn run, answer′, file′) ≡ stepOn file (positionIn run) names answer = rw e at is in
+  pub step-keeping-told :
+      (held : List ℕ) (count : ℕ) {held′ : List ℕ} {c : ℕ} → c ≡ count →
+      (steppedOf a, runAfter (positionOf position) a, answer′, file′, kept c held′) ≡ stepKeeping file (positionOf position) names (kept c held) answer →
+      (n, senders′, run′, answer′, file′, held′) ≡ stepKeepingCall file run names answer senders held count
+  unfolding stepKeepingCall stepTold
+  step-keeping-told held count {held′} {c} same by =
+      let is : (steppedOf a, runAfter (positionIn run) a, answer′, file′, kept c held′) ≡ stepKeeping file (positionIn run) names (kept c held) answer = rw from at by in
+      rw (← same, ← is, ap (λ (t : Told). t .0) told, ap (λ (t : Told). t .1) told, ap (λ (t : Told). t .2) told) (unfold sliceOf in refl)
+
+-- ---- the summary filled, and asked
+
+module _ (file held : List ℕ) (count : ℕ) {held′ : List ℕ} (a : Filling) (is : (filledOf a, held′) ≡ fillOn file held) where
+  pub fill-refuses : {why : Refusal} → a ≡ fillings.Refused why → (why .0, count, held′) ≡ fillCall file held count
+  unfolding fillCall numberIn lentAfter filledOf
+  fill-refuses {why} e =
+      let r : (refused (why .0), held′) ≡ fillOn file held = rw e at is in
       rw (← r)
 
-  pub step-ended : a ≡ steps.Ended → (0, senders, run, answer′, file′) ≡ stepCall file run names answer senders
-  unfolding stepCall numberIn stepSenders stepWords steppedOf runAfter
-  step-ended e =
-      let r : (done ended, positionIn run, answer′, file′) ≡ stepOn file (positionIn run) names answer = rw e at is in
+  pub fill-fills : {names : ℕ} → a ≡ fillings.Filled names → (0, names, held′) ≡ fillCall file held count
+  unfolding fillCall numberIn lentAfter filledOf
+  fill-fills {names} e =
+      let r : (done names, held′) ≡ fillOn file held = rw e at is in
       rw (← r)
 
-  pub step-made : {mask : ℕ} {p : RunPosition} {words : List ℕ} → a ≡ steps.Made mask p → words ≡ wordsOf (positionOf p) → (0, mask, words, answer′, file′) ≡ stepCall file run names answer senders
-  unfolding stepCall numberIn stepSenders stepWords steppedOf runAfter
-  step-made {mask} {p} e same =
-      let r : (done (made mask), positionOf p, answer′, file′) ≡ stepOn file (positionIn run) names answer = rw e at is in
-      rw (← r, same)
+module _ (held : List ℕ) (count name place : ℕ) {c n : ℕ} (counted : c ≡ count) (named : n ≡ name) (a : Holder) (by : holderOf a ≡ holderIn n c held) where
+  is : holderOf a ≡ holderIn name count held
+  is = rw (counted, named) at by
+
+  pub holder-refuses : {why : Refusal} → a ≡ holders.Refused why → (why .0, place) ≡ holderCall held count name place
+  unfolding holderCall numberIn lentAfter holderOf
+  holder-refuses {why} e =
+      let r : refused (why .0) ≡ holderIn name count held = rw e at is in
+      rw (← r)
+
+  pub holder-found : {at′ : ℕ} → a ≡ holders.At at′ → (0, at′) ≡ holderCall held count name place
+  unfolding holderCall numberIn lentAfter holderOf placeOf
+  holder-found {at′} e =
+      let r : done (at at′) ≡ holderIn name count held = rw e at is in
+      rw (← r)
+
+  pub holder-nobody : a ≡ holders.Nobody → (0, 2 ^ 64 - 1) ≡ holderCall held count name place
+  unfolding holderCall numberIn lentAfter holderOf placeOf nobodyPlace
+  holder-nobody e =
+      let r : done nobody ≡ holderIn name count held = rw e at is in
+      rw (← r)

@@ -1,12 +1,13 @@
 -- A C call returns 0 or the number of one of its grounds.
 -- Assumes nothing.
 use Prim.Native.Nat.{ℕ}
-use mathlib.Core.Path.{_≡_, sym}
+use mathlib.Core.Path.{_≡_, refl, sym}
 use mathlib.Core.List.{List, [], _∷_, _++_, map}
-use lib.Dec.{eqb}
+use lib.ListN.{length}
+use lib.Dec.{eqb, ltb}
 use borrow.Author.Tests.{eqb-true}
 use Rattle.file.specs.Rules.Order.{Ground, firstOf}
-use Rattle.file.specs.Rules.Results.{resultOf, numberIn}
+use Rattle.file.specs.Rules.Results.{refused, resultOf, numberIn}
 use Rattle.file.specs.Rules.Cluster.{Cluster}
 use Rattle.file.specs.Rules.Decode.{decode}
 use Rattle.file.specs.Rules.Grounds.{fileGroundsAt, fileGrounds, loadGround, loadVerdict}
@@ -16,11 +17,12 @@ use Rattle.frame.specs.Rules.Reading.{readGround, partsOf, readAddress}
 use Rattle.frame.specs.Rules.Writing.{writeFrame, writeGround, writeAddress, dataGround, writeData}
 use Rattle.cluster.specs.Rules.Grounds.{roundBy, groundsOn}
 use Rattle.cluster.specs.Rules.Round.{roundGround, roundOn}
+use Rattle.cluster.specs.Rules.Summary.{kept, fillGround, fillOn, holderIn, roundKeepingGround, roundKeeping}
 use Rattle.trace.specs.Rules.Run.{traceGrounds, traceGround, traceOn}
 use Rattle.owner.specs.Rules.Writing.{ownerGrounds, ownerGround, ownerOn}
 use Rattle.naming.specs.Rules.Run.{Position, running, namesGrounds, startGround, runGrounds, fresh, startOver}
-use Rattle.naming.specs.Rules.Step.{stepGround, stepMade, stepOn}
-use Rattle.ttpa.specs.Rules.Calls.{checkCall, readAddressCall, writeAddressCall, writeDataCall, roundCall, traceCall, ownerCall, positionIn, startCall, stepCall}
+use Rattle.naming.specs.Rules.Step.{StepDone, stepGround, stepMade, stepOn, stepKeepingGround, stepKeeping}
+use Rattle.ttpa.specs.Rules.Calls.{checkCall, readAddressCall, writeAddressCall, writeDataCall, roundCall, traceCall, ownerCall, positionIn, startCall, stepCall, fillCall, holderCall, roundKeepingCall, stepKeepingCall}
 use Rattle.ttpa.specs.Claims.Numbers.{OneOf, here, later, ZeroOr, fileNumbers, RefusedByNumbers}
 
 -- ---- the first ground that holds
@@ -49,6 +51,10 @@ result-number : {A : Type 0} (ground : ℕ) (value : A) → numberIn (resultOf g
 unfolding resultOf numberIn
 result-number ground value = byCase (eqb ground 0) (λ e. rw e (sym (eqb-true ground 0 e))) (λ e. rw e)
 
+refused-number : (A : Type 0) (n : ℕ) → numberIn {A = A} (refused n) ≡ n
+unfolding numberIn
+refused-number A n = refl
+
 round-number : (file frame answer : List ℕ) (senders : ℕ) → roundCall file frame answer senders .0 ≡ roundGround file frame answer
 unfolding roundCall roundOn numberIn
 round-number file frame answer senders =
@@ -68,6 +74,10 @@ step-number file run names answer senders =
     byCase (eqb (stepGround file (positionIn run) names answer) 0)
     (λ e. byCase (eqb (positionIn run .end) running) (λ u. rw (e, u) (sym (eqb-true _ _ e))) (λ u. rw (e, u) (sym (eqb-true _ _ e))))
     (λ e. rw e)
+
+fill-number : (file held : List ℕ) (count : ℕ) → fillCall file held count .0 ≡ fillGround file held
+unfolding fillCall fillOn numberIn
+fill-number file held count = byCase (eqb (fillGround file held) 0) (λ e. rw e (sym (eqb-true _ _ e))) (λ e. rw e)
 
 -- ---- the numbers of each call's grounds
 
@@ -117,6 +127,22 @@ step-numbers : (file : List ℕ) (p : Position) (names buffer : List ℕ) → Ze
 unfolding stepGround runGrounds namesGrounds fileGrounds fileGroundsAt numbersOf
 step-numbers file p names buffer = first-number _
 
+fill-numbers : (file held : List ℕ) → ZeroOr (fillGround file held) (fileNumbers ++ 24 ∷ [])
+unfolding fillGround fileGrounds fileGroundsAt numbersOf
+fill-numbers file held = first-number _
+
+round-keeping-numbers :
+    (file held : List ℕ) (count : ℕ) (frame buffer : List ℕ) → ZeroOr (roundKeepingGround file (kept count held) frame buffer) (fileNumbers ++ 24 ∷ 9 ∷ 10 ∷ 11 ∷ 12 ∷ 13 ∷ 14 ∷ [])
+unfolding roundKeepingGround fileGrounds fileGroundsAt numbersOf
+round-keeping-numbers file held count frame buffer =
+    behind (0 ∷ fileNumbers ++ 24 ∷ 9 ∷ []) (frame-numbers (decode file) (roundBy frame) frame) (first-number _)
+
+step-keeping-numbers :
+    (file : List ℕ) (p : Position) (names held : List ℕ) (count : ℕ) (buffer : List ℕ) →
+    ZeroOr (stepKeepingGround file p names (kept count held) buffer) (fileNumbers ++ 24 ∷ 9 ∷ 15 ∷ 16 ∷ 17 ∷ [])
+unfolding stepKeepingGround runGrounds namesGrounds fileGrounds fileGroundsAt numbersOf
+step-keeping-numbers file p names held count buffer = first-number _
+
 -- ---- the claim
 
 check-returns : (file : List ℕ) → ZeroOr (checkCall file) (fileNumbers ++ 22 ∷ [])
@@ -140,6 +166,37 @@ start-returns : (names run : List ℕ) → ZeroOr (startCall names run .0) (15 �
 unfolding startCall startOver
 start-returns names run = rw (result-number (startGround names) (fresh names)) (start-numbers names)
 
+round-returns : (file frame answer : List ℕ) (senders : ℕ) → ZeroOr (roundCall file frame answer senders .0) (fileNumbers ++ 9 ∷ 10 ∷ 11 ∷ 12 ∷ 13 ∷ 14 ∷ [])
+round-returns file frame answer senders = rw (round-number file frame answer senders) (round-numbers file frame answer)
+
+step-returns : (file run names answer : List ℕ) (senders : ℕ) → ZeroOr (stepCall file run names answer senders .0) (fileNumbers ++ 9 ∷ 15 ∷ 16 ∷ 17 ∷ [])
+step-returns file run names answer senders = rw (step-number file run names answer senders) (step-numbers file (positionIn run) names answer)
+
+holder-returns : (held : List ℕ) (count name place : ℕ) → ZeroOr (holderCall held count name place .0) (24 ∷ [])
+unfolding holderCall holderIn numberIn
+holder-returns held count name place = byCase (ltb (length held) count) (λ e. rw e (later here)) (λ e. rw e here)
+
+-- given a summary, by a ground of its own, or as the call without it
+round-keeping-returns :
+    (file frame answer : List ℕ) (senders : ℕ) (held : List ℕ) (count : ℕ) →
+    ZeroOr (roundKeepingCall file frame answer senders held count .0) (fileNumbers ++ 24 ∷ 9 ∷ 10 ∷ 11 ∷ 12 ∷ 13 ∷ 14 ∷ [])
+unfolding roundCall roundKeepingCall roundKeeping
+round-keeping-returns file frame answer senders held count =
+    byCase (eqb (roundKeepingGround file (kept count held) frame answer) 0)
+    (λ e. rw e (behind (0 ∷ fileNumbers) later (round-returns file frame answer senders)))
+    (λ e. rw (e, refused-number ℕ (roundKeepingGround file (kept count held) frame answer)) (round-keeping-numbers file held count frame answer))
+
+step-keeping-returns :
+    (file run names answer : List ℕ) (senders : ℕ) (held : List ℕ) (count : ℕ) →
+    ZeroOr (stepKeepingCall file run names answer senders held count .0) (fileNumbers ++ 24 ∷ 9 ∷ 15 ∷ 16 ∷ 17 ∷ [])
+unfolding stepCall stepKeepingCall stepKeeping
+step-keeping-returns file run names answer senders held count =
+    byCase (eqb (stepKeepingGround file (positionIn run) names (kept count held) answer) 0)
+    (λ e. rw e (behind (0 ∷ fileNumbers) later (step-returns file run names answer senders)))
+    (λ e.
+    rw (e, refused-number StepDone (stepKeepingGround file (positionIn run) names (kept count held) answer))
+    (step-keeping-numbers file (positionIn run) names held count answer))
+
 pub refused-by-numbers : RefusedByNumbers
 refused-by-numbers =
     record {
@@ -147,9 +204,13 @@ refused-by-numbers =
       readAddress = read-returns;
       writeAddress = write-returns;
       writeData = data-returns;
-      round = λ file frame answer senders. rw (round-number file frame answer senders) (round-numbers file frame answer);
+      round = round-returns;
       trace = λ file t report. rw (trace-number file t report) (trace-numbers file t);
       owner = λ file master buffer length. rw (owner-number file master buffer length) (owner-numbers file master buffer);
       start = start-returns;
-      step = λ file run names answer senders. rw (step-number file run names answer senders) (step-numbers file (positionIn run) names answer);
+      step = step-returns;
+      fill = λ file held count. rw (fill-number file held count) (fill-numbers file held);
+      holder = holder-returns;
+      roundKeeping = round-keeping-returns;
+      stepKeeping = step-keeping-returns;
     }

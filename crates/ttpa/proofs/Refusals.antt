@@ -5,25 +5,29 @@ use mathlib.Core.Path.{_≡_, sym}
 use mathlib.Core.Logic.{_≢_}
 use mathlib.Core.List.{List}
 use lib.Dec.{eqb}
+use borrow.Author.Tests.{eqb-true}
 use Rattle.file.specs.Rules.Results.{Result, refused, done, resultOf, numberIn}
 use Rattle.file.proofs.Order.{byCase}
 use Rattle.frame.specs.Rules.Reading.{readAddress}
 use Rattle.frame.specs.Rules.Frames.{addressFrame, dataFrame}
 use Rattle.frame.specs.Rules.Writing.{writeFrame, writeGround, writeAddress, dataGround, writeData}
 use Rattle.cluster.specs.Rules.Round.{roundGround, roundOn}
+use Rattle.cluster.specs.Rules.Summary.{kept, fillGround, fillOn, holderIn, roundKeepingGround, roundKeeping}
+use Rattle.cluster.proofs.Keeping.{keeping-round}
 use Rattle.trace.specs.Rules.Run.{traceGround, traceOn}
 use Rattle.owner.specs.Rules.Writing.{ownerGround, ownerOn}
 use Rattle.naming.specs.Rules.Run.{running, startOver}
-use Rattle.naming.specs.Rules.Step.{stepGround, stepMade, stepOn}
-use Rattle.ttpa.specs.Rules.Calls.{lentAfter, partBytes, readAddressCall, writeAddressCall, writeDataCall, roundCall, traceCall, ownerCall, positionIn, wordsOf, startCall, stepSenders, stepWords, stepCall}
+use Rattle.naming.specs.Rules.Step.{stepGround, stepMade, stepOn, stepKeepingGround, stepKeeping}
+use Rattle.naming.proofs.StepKeeping.{keeping-step}
+use Rattle.ttpa.specs.Rules.Calls.{lentAfter, partBytes, readAddressCall, writeAddressCall, writeDataCall, roundCall, traceCall, ownerCall, positionIn, wordsOf, startCall, stepSenders, stepWords, stepCall, fillCall, placeOf, holderCall, sliceOf, roundKeepingCall, stepKeepingCall}
 use Rattle.ttpa.specs.Claims.Refusals.{RefusalsAlterNothing}
 
 -- ---- a frame read or written
 
 -- what is written on 0 alone
 lent-kept :
-    {A : Type 0} (r : Result A) (old : List ℕ) (new : A → List ℕ) (n : ℕ) → n ≢ 0 → numberIn r ≡ n →
-    _≡_ {A = ℕ × List ℕ} (numberIn r, lentAfter r old new) (n, old)
+    {A B : Type 0} (r : Result A) (old : B) (new : A → B) (n : ℕ) → n ≢ 0 → numberIn r ≡ n →
+    _≡_ {A = ℕ × B} (numberIn r, lentAfter r old new) (n, old)
 unfolding numberIn lentAfter
 lent-kept (refused m) old new n some e = rw e
 lent-kept (done a) old new n some e = absurd (some (sym e))
@@ -78,8 +82,41 @@ step-kept file run names answer senders n some e =
     (λ u. absurd (some (sym (rw (t, u) at e)))))
     (λ t. let same : stepGround file (positionIn run) names answer ≡ n = rw t at e in rw (t, same))
 
+-- ---- a summary
+
+fill-kept : (file held : List ℕ) (count n : ℕ) → n ≢ 0 → fillCall file held count .0 ≡ n → fillCall file held count ≡ (n, count, held)
+unfolding fillCall fillOn numberIn lentAfter
+fill-kept file held count n some e =
+    byCase (eqb (fillGround file held) 0)
+    (λ x. absurd (some (sym (rw x at e))))
+    (λ x. let same : fillGround file held ≡ n = rw x at e in rw (x, same))
+
+round-keeping-kept :
+    (file frame answer : List ℕ) (senders : ℕ) (held : List ℕ) (count n : ℕ) → n ≢ 0 → roundKeepingCall file frame answer senders held count .0 ≡ n →
+    roundKeepingCall file frame answer senders held count ≡ (n, senders, answer, file, held)
+unfolding roundKeepingCall roundKeeping roundOn numberIn lentAfter sliceOf
+round-keeping-kept file frame answer senders held count n some e =
+    byCase (eqb (roundKeepingGround file (kept count held) frame answer) 0)
+    (λ t.
+    let none : roundGround file frame answer ≡ 0 = keeping-round file (kept count held) frame answer (eqb-true _ _ t) in
+    absurd (some (sym (rw (t, none) at e))))
+    (λ t. let same : roundKeepingGround file (kept count held) frame answer ≡ n = rw t at e in rw (t, same))
+
+step-keeping-kept :
+    (file run names answer : List ℕ) (senders : ℕ) (held : List ℕ) (count n : ℕ) → n ≢ 0 → stepKeepingCall file run names answer senders held count .0 ≡ n →
+    stepKeepingCall file run names answer senders held count ≡ (n, senders, run, answer, file, held)
+unfolding stepKeepingCall stepKeeping stepOn stepMade numberIn stepSenders stepWords sliceOf
+step-keeping-kept file run names answer senders held count n some e =
+    byCase (eqb (stepKeepingGround file (positionIn run) names (kept count held) answer) 0)
+    (λ t.
+    let none : stepGround file (positionIn run) names answer ≡ 0 = keeping-step file (positionIn run) names (kept count held) answer (eqb-true _ _ t) in
+    byCase (eqb (positionIn run .end) running)
+    (λ v. absurd (some (sym (rw (t, none, v) at e))))
+    (λ v. absurd (some (sym (rw (t, none, v) at e)))))
+    (λ t. let same : stepKeepingGround file (positionIn run) names (kept count held) answer ≡ n = rw t at e in rw (t, same))
+
 pub refusals-alter-nothing : RefusalsAlterNothing
-unfolding readAddressCall writeAddressCall writeAddress writeDataCall writeData startCall
+unfolding readAddressCall writeAddressCall writeAddress writeDataCall writeData startCall holderCall
 refusals-alter-nothing =
     record {
       readAddress = λ frame parts n some e. lent-kept (readAddress frame) parts partBytes n some e;
@@ -92,4 +129,8 @@ refusals-alter-nothing =
       owner = owner-kept;
       start = λ names run n some e. lent-kept (startOver names) run wordsOf n some e;
       step = step-kept;
+      fill = fill-kept;
+      holder = λ held count name place n some e. lent-kept (holderIn name count held) place placeOf n some e;
+      roundKeeping = round-keeping-kept;
+      stepKeeping = step-keeping-kept;
     }

@@ -2,8 +2,10 @@
 // return. Each is the call of the layer below, with the answer as a number.
 ghost use mathlib.Core.Path.{_≡_};
 ghost use mathlib.Core.List.{[], _∷_};
-ghost use Rattle.ttpa.specs.Rules.Calls.{versionCall, checkCall, readAddressCall, writeAddressCall, writeDataCall, roundCall, traceCall, ownerCall, wordsOf, positionIn, startCall, stepCall};
-ghost use Rattle.naming.specs.Inner.Answers.{positionOf};
+ghost use Rattle.ttpa.specs.Rules.Calls.{versionCall, checkCall, readAddressCall, writeAddressCall, writeDataCall, roundCall, traceCall, ownerCall, wordsOf, positionIn, startCall, stepCall, fillCall, holderCall, roundKeepingCall, stepKeepingCall};
+ghost use Rattle.ttpa.specs.Inner.Told.{roundTold, stepTold};
+ghost use Rattle.cluster.specs.Inner.Answers.{answerOf};
+ghost use Rattle.naming.specs.Inner.Answers.{positionOf, steppedOf, runAfter};
 ghost use Rattle.file.specs.Rules.Results.{numberIn};
 ghost use Rattle.frame.specs.Inner.Answers.{writingOf};
 ghost use Rattle.trace.specs.Rules.Run.{reportWords};
@@ -29,12 +31,18 @@ use naming::run::start;
 use naming::run::step;
 use owner::write::OwnerAnswer;
 use owner::write::write_owner;
+use summary::fill::Filling;
+use summary::fill::fill;
+use summary::holder::Holder;
+use summary::holder::find_holder;
+use summary::round::round_keeping;
+use summary::step::step_keeping;
 use trace::report::Report;
 use trace::run::TraceAnswer;
 use trace::run::run_trace;
 
 // The version, as one number: its three numbers stand in specs/Rules/Calls.
-const VERSION: u32 = 800;
+const VERSION: u32 = 900;
 
 // The parts of an address frame.
 pub const PARTS: usize = 5;
@@ -60,6 +68,9 @@ const COMPARISONS: usize = 5;
 const HIGH: usize = 6;
 
 const LOW: usize = 7;
+
+// Told where nobody holds a name: TTPA_NOBODY.
+const NOBODY: u64 = 0xFFFFFFFFFFFFFFFF;
 
 #[no_mangle]
 pub extern "C" fn ttpa_version() -> u32
@@ -138,6 +149,19 @@ pub extern "C" fn ttpa_write_data(frame: &mut [u8], b0: u8, b1: u8, b2: u8, b3: 
     writing_number(written)
 }
 
+// A round's number; its senders are put into the lent word where it is carried out.
+fn round_number(done: RoundAnswer, senders: &mut u64) -> u8
+    ensures { λ r. ⌜ (r, now (senders .exit)) ≡ roundTold (answerOf done) (now (senders .entry)) ⌝ }
+{
+    match done {
+        RoundAnswer::Refused(why) => why.0,
+        RoundAnswer::Carried(mask) => {
+            *senders = mask;
+            0
+        }
+    }
+}
+
 #[no_mangle]
 pub extern "C" fn ttpa_round(
     file: &mut [u8],
@@ -148,13 +172,7 @@ pub extern "C" fn ttpa_round(
     ensures { λ r. ⌜ (r, now (senders .exit), now (answer .exit), now (file .exit)) ≡ roundCall (now (file .entry)) (now (frame .entry)) (now (answer .entry)) (now (senders .entry)) ⌝ }
 {
     let done = round(file, frame, answer);
-    match done {
-        RoundAnswer::Refused(why) => why.0,
-        RoundAnswer::Carried(mask) => {
-            *senders = mask;
-            0
-        }
-    }
+    round_number(done, senders)
 }
 
 fn report_words(report: Report) -> [u64; REPORT_WORDS]
@@ -243,17 +261,10 @@ pub extern "C" fn ttpa_start(names: &[u8], run: &mut [u64; WORDS]) -> u8
     }
 }
 
-#[no_mangle]
-pub extern "C" fn ttpa_step(
-    file: &mut [u8],
-    run: &mut [u64; WORDS],
-    names: &[u8],
-    answer: &mut [u8],
-    senders: &mut u64,
-) -> u8
-    ensures { λ r. ⌜ (r, now (senders .exit), now (run .exit), now (answer .exit), now (file .exit)) ≡ stepCall (now (file .entry)) (now (run .entry)) (now (names .entry)) (now (answer .entry)) (now (senders .entry)) ⌝ }
+// A step's number; its senders and its run are put into lent memory where it made a round.
+fn step_number(stepped: Stepped, senders: &mut u64, run: &mut [u64; WORDS]) -> u8
+    ensures { λ r. ⌜ (r, now (senders .exit), now (run .exit)) ≡ stepTold (steppedOf stepped) (runAfter (positionIn (now (run .entry))) stepped) (now (senders .entry)) (now (run .entry)) ⌝ }
 {
-    let stepped = step(file, position_in(run), names, answer);
     match stepped {
         Stepped::Refused(why) => why.0,
         Stepped::Ended => 0,
@@ -266,4 +277,81 @@ pub extern "C" fn ttpa_step(
             0
         }
     }
+}
+
+#[no_mangle]
+pub extern "C" fn ttpa_step(
+    file: &mut [u8],
+    run: &mut [u64; WORDS],
+    names: &[u8],
+    answer: &mut [u8],
+    senders: &mut u64,
+) -> u8
+    ensures { λ r. ⌜ (r, now (senders .exit), now (run .exit), now (answer .exit), now (file .exit)) ≡ stepCall (now (file .entry)) (now (run .entry)) (now (names .entry)) (now (answer .entry)) (now (senders .entry)) ⌝ }
+{
+    let stepped = step(file, position_in(run), names, answer);
+    step_number(stepped, senders, run)
+}
+
+#[no_mangle]
+pub extern "C" fn ttpa_fill(file: &[u8], held: &mut [u8], count: &mut u64) -> u8
+    ensures { λ r. ⌜ (r, now (count .exit), now (held .exit)) ≡ fillCall (now (file .entry)) (now (held .entry)) (now (count .entry)) ⌝ }
+{
+    let done = fill(file, held);
+    match done {
+        Filling::Refused(why) => why.0,
+        Filling::Filled(names) => {
+            *count = names as u64;
+            0
+        }
+    }
+}
+
+#[no_mangle]
+pub extern "C" fn ttpa_holder(held: &[u8], count: u64, name: u8, place: &mut u64) -> u8
+    ensures { λ r. ⌜ (r, now (place .exit)) ≡ holderCall (now (held .entry)) count name (now (place .entry)) ⌝ }
+{
+    let found = find_holder(held, count as usize, LogicalName::new(name));
+    match found {
+        Holder::Refused(why) => why.0,
+        Holder::At(at) => {
+            *place = at as u64;
+            0
+        }
+        Holder::Nobody => {
+            *place = NOBODY;
+            0
+        }
+    }
+}
+
+#[no_mangle]
+pub extern "C" fn ttpa_round_keeping(
+    file: &mut [u8],
+    frame: &[u8],
+    answer: &mut [u8],
+    senders: &mut u64,
+    held: &mut [u8],
+    count: u64,
+) -> u8
+    ensures { λ r. ⌜ (r, now (senders .exit), now (answer .exit), now (file .exit), now (held .exit)) ≡ roundKeepingCall (now (file .entry)) (now (frame .entry)) (now (answer .entry)) (now (senders .entry)) (now (held .entry)) count ⌝ }
+{
+    let done = round_keeping(file, frame, answer, held, count as usize);
+    round_number(done, senders)
+}
+
+#[no_mangle]
+pub extern "C" fn ttpa_step_keeping(
+    file: &mut [u8],
+    run: &mut [u64; WORDS],
+    names: &[u8],
+    answer: &mut [u8],
+    senders: &mut u64,
+    held: &mut [u8],
+    count: u64,
+) -> u8
+    ensures { λ r. ⌜ (r, now (senders .exit), now (run .exit), now (answer .exit), now (file .exit), now (held .exit)) ≡ stepKeepingCall (now (file .entry)) (now (run .entry)) (now (names .entry)) (now (answer .entry)) (now (senders .entry)) (now (held .entry)) count ⌝ }
+{
+    let stepped = step_keeping(file, position_in(run), names, answer, held, count as usize);
+    step_number(stepped, senders, run)
 }

@@ -3,16 +3,20 @@
 // which has none, is not here.
 ghost use mathlib.Core.Path.{_≡_};
 ghost use mathlib.Core.List.{[], _∷_};
-ghost use Rattle.ttpa.specs.Rules.Calls.{checkCall, readAddressCall, writeAddressCall, writeDataCall, roundCall, traceCall, ownerCall, startCall, stepCall};
+ghost use Rattle.ttpa.specs.Rules.Calls.{checkCall, readAddressCall, writeAddressCall, writeDataCall, roundCall, traceCall, ownerCall, startCall, stepCall, fillCall, holderCall, roundKeepingCall, stepKeepingCall};
 use ttpa::PARTS;
 use ttpa::REPORT_WORDS;
 use ttpa::WORDS;
 use ttpa::ttpa_check;
+use ttpa::ttpa_fill;
+use ttpa::ttpa_holder;
 use ttpa::ttpa_owner;
 use ttpa::ttpa_read_address;
 use ttpa::ttpa_round;
+use ttpa::ttpa_round_keeping;
 use ttpa::ttpa_start;
 use ttpa::ttpa_step;
+use ttpa::ttpa_step_keeping;
 use ttpa::ttpa_trace;
 use ttpa::ttpa_write_address;
 use ttpa::ttpa_write_data;
@@ -82,4 +86,43 @@ pub fn step(
     ensures { λ r. ⌜ (r, now (senders .exit), now (run .exit), now (answer .exit), now (file .exit)) ≡ stepCall (now (file .entry)) (now (run .entry)) (now (names .entry)) (now (answer .entry)) (now (senders .entry)) ⌝ }
 {
     ttpa_step(file, run, names, answer, senders)
+}
+
+pub fn fill(file: &[u8], held: &mut [u8], count: &mut u64) -> u8
+    ensures { λ r. ⌜ (r, now (count .exit), now (held .exit)) ≡ fillCall (now (file .entry)) (now (held .entry)) (now (count .entry)) ⌝ }
+{
+    ttpa_fill(file, held, count)
+}
+
+pub fn holder(held: &[u8], count: u64, name: u8, place: &mut u64) -> u8
+    ensures { λ r. ⌜ (r, now (place .exit)) ≡ holderCall (now (held .entry)) count name (now (place .entry)) ⌝ }
+{
+    ttpa_holder(held, count, name, place)
+}
+
+pub fn round_keeping(
+    file: &mut [u8],
+    frame: &[u8],
+    answer: &mut [u8],
+    senders: &mut u64,
+    held: &mut [u8],
+    count: u64,
+) -> u8
+    ensures { λ r. ⌜ (r, now (senders .exit), now (answer .exit), now (file .exit), now (held .exit)) ≡ roundKeepingCall (now (file .entry)) (now (frame .entry)) (now (answer .entry)) (now (senders .entry)) (now (held .entry)) count ⌝ }
+{
+    ttpa_round_keeping(file, frame, answer, senders, held, count)
+}
+
+pub fn step_keeping(
+    file: &mut [u8],
+    run: &mut [u64; WORDS],
+    names: &[u8],
+    answer: &mut [u8],
+    senders: &mut u64,
+    held: &mut [u8],
+    count: u64,
+) -> u8
+    ensures { λ r. ⌜ (r, now (senders .exit), now (run .exit), now (answer .exit), now (file .exit), now (held .exit)) ≡ stepKeepingCall (now (file .entry)) (now (run .entry)) (now (names .entry)) (now (answer .entry)) (now (senders .entry)) (now (held .entry)) count ⌝ }
+{
+    ttpa_step_keeping(file, run, names, answer, senders, held, count)
 }

@@ -1,13 +1,13 @@
 //! What is measured. Everything is prepared before the first call.
 
 use crate::files;
-use compare::engine::{Engine, ReportWords, RunWords};
+use compare::engine::{Engine, ReportWords, RunWords, Summary};
 use compare::frames::framed;
 use model::{closed_figures, encode_trace, MSA, MSD};
 use std::hint::black_box;
 
 /// The lines of the table.
-pub const TABLE: [&str; 22] = [
+pub const TABLE: [&str; 31] = [
     "check-32-2",
     "check-named-32",
     "check-most",
@@ -30,6 +30,15 @@ pub const TABLE: [&str; 22] = [
     "owner-1",
     "owner-most",
     "owner-none-32",
+    "fill-32",
+    "holder-first-32",
+    "holder-last-32",
+    "holder-none-32",
+    "keeping-address-32",
+    "keeping-read-one-of-32",
+    "keeping-execute-1-all-32",
+    "keeping-partner-32-63",
+    "keeping-naming-32",
 ];
 
 /// How the check grows in slaves, and in files of a slave; how a round grows in slaves and entries.
@@ -91,6 +100,33 @@ pub enum Workload {
     Owner {
         file: Vec<u8>,
     },
+    /// A call with a summary.
+    WithSummary(WithSummary),
+}
+
+pub enum WithSummary {
+    /// One is filled.
+    Fill {
+        file: Vec<u8>,
+        held: Vec<u8>,
+    },
+    /// One is asked who holds a name.
+    Holder {
+        held: Vec<u8>,
+        name: u8,
+    },
+    /// A frame or a naming run is given one.
+    Frame {
+        file: Vec<u8>,
+        frame: Vec<u8>,
+        held: Vec<u8>,
+    },
+    Naming {
+        file: Vec<u8>,
+        names: Vec<u8>,
+        held: Vec<u8>,
+        rounds: u64,
+    },
 }
 
 impl Workload {
@@ -133,6 +169,7 @@ impl Workload {
             ["owner", "most"] => Workload::Owner { file: files::most_owners() },
             ["owner", "none", slaves] => Workload::Owner { file: named(number(slaves)?) },
             ["rounds", reads, slaves] => reads_as_rounds(number(reads)?, number(slaves)?),
+            ["fill" | "holder" | "keeping", ..] => Workload::WithSummary(WithSummary::of(name)?),
             _ => return None,
         })
     }
@@ -165,9 +202,66 @@ impl Workload {
                         accepted(engine.round(black_box(file), black_box(frame), &mut answer, &mut senders));
                     }
                 }
+                Workload::WithSummary(workload) => workload.make(engine, &mut answer, &mut senders),
             }
         }
         black_box(senders);
+    }
+}
+
+impl WithSummary {
+    fn of(name: &str) -> Option<WithSummary> {
+        let words: Vec<&str> = name.split('-').collect();
+        let named_slaves = |word: &str| word.parse().ok().map(named);
+        match words[..] {
+            ["fill", slaves] => {
+                let file = named_slaves(slaves)?;
+                Some(WithSummary::Fill { held: held_in(&file), file })
+            }
+            ["holder", which, slaves] => {
+                let held = held_in(&named_slaves(slaves)?);
+                let name = match which {
+                    "first" => *held.first()?,
+                    "last" => *held.last()?,
+                    _ => 0xFE,
+                };
+                Some(WithSummary::Holder { held, name })
+            }
+            _ => match Workload::of(name.strip_prefix("keeping-")?)? {
+                Workload::Frame { file, frame } => {
+                    Some(WithSummary::Frame { held: held_in(&file), file, frame })
+                }
+                Workload::Naming { file, names, rounds } => {
+                    Some(WithSummary::Naming { held: held_in(&file), file, names, rounds })
+                }
+                _ => None,
+            },
+        }
+    }
+
+    /// Once.
+    fn make(&mut self, engine: &dyn Engine, answer: &mut [u8], senders: &mut u64) {
+        match self {
+            WithSummary::Fill { file, held } => {
+                let mut count = 0;
+                accepted(engine.fill(black_box(file), black_box(held), &mut count));
+                black_box(count);
+            }
+            WithSummary::Holder { held, name } => {
+                let (count, mut place) = (held.len() as u64, 0);
+                accepted(engine.holder(black_box(held), count, black_box(*name), &mut place));
+                black_box(place);
+            }
+            WithSummary::Frame { file, frame, held } => {
+                let summary = Summary { count: held.len() as u64, held: black_box(held) };
+                let (file, frame) = (black_box(file), black_box(frame));
+                accepted(engine.round_keeping(file, frame, answer, senders, summary));
+            }
+            WithSummary::Naming { file, names, held, rounds } => {
+                let made = naming_run_keeping(engine, &mut file.clone(), names, &mut held.clone());
+                assert_eq!(made, *rounds);
+            }
+        }
     }
 }
 
@@ -217,6 +311,26 @@ fn naming_run(engine: &dyn Engine, file: &mut [u8], names: &[u8]) -> u64 {
         accepted(engine.step(black_box(file), &mut run, black_box(names), &mut answer, &mut senders));
     }
     run[4]
+}
+
+/// The same given a summary.
+fn naming_run_keeping(engine: &dyn Engine, file: &mut [u8], names: &[u8], held: &mut [u8]) -> u64 {
+    let mut run: RunWords = [0; 8];
+    let mut answer = [0; 64];
+    let mut senders = 0;
+    accepted(engine.start(names, &mut run));
+    while run[0] == 0 {
+        let summary = Summary { count: held.len() as u64, held };
+        let (file, names) = (black_box(&mut *file), black_box(names));
+        accepted(engine.step_keeping(file, &mut run, names, &mut answer, &mut senders, summary));
+    }
+    run[4]
+}
+
+/// The names of a summary of the file, without room behind them.
+fn held_in(file: &[u8]) -> Vec<u8> {
+    let cluster = model::check(file).expect("an accepted file");
+    cluster.slaves.iter().map(|slave| slave.logical_name().0).collect()
 }
 
 fn accepted(number: u8) {

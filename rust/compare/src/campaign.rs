@@ -2,7 +2,7 @@
 
 use crate::case::{Call, Outcome};
 use crate::draws::random::Random;
-use crate::draws::{clusters, inputs, owners, runs, traces};
+use crate::draws::{clusters, inputs, owners, runs, summaries, traces};
 use crate::engine::{Engine, Model};
 use crate::frames::MULTIPARTNER;
 use crate::sorts::tally::Tally;
@@ -26,6 +26,10 @@ pub struct Amounts {
     pub steps: usize,
     pub traces: usize,
     pub owners: usize,
+    /// Fillings, and questions.
+    pub summaries: usize,
+    /// Rounds that are given a summary, and half as many steps.
+    pub kept: usize,
     pub runs: usize,
 }
 
@@ -39,6 +43,8 @@ impl Amounts {
         steps: 40_000,
         traces: 10_000,
         owners: 10_000,
+        summaries: 10_000,
+        kept: 40_000,
         runs: 60,
     };
 
@@ -52,6 +58,8 @@ impl Amounts {
             steps: self.steps * factor,
             traces: self.traces * factor,
             owners: self.owners * factor,
+            summaries: self.summaries * factor,
+            kept: self.kept * factor,
             runs: self.runs * factor,
         }
     }
@@ -66,6 +74,8 @@ impl Amounts {
             steps: self.steps / divisor,
             traces: self.traces / divisor,
             owners: self.owners / divisor,
+            summaries: self.summaries / divisor,
+            kept: self.kept / divisor,
             runs: self.runs / divisor,
         }
     }
@@ -142,14 +152,11 @@ impl<'a> Campaign<'a> {
         self.traces(amounts.traces, &mut Random::from_seed(seed ^ 8));
         self.owners(amounts.owners, &mut Random::from_seed(seed ^ 9));
         self.record_writes(amounts.rounds / ROUNDS_FOR_A_WRITE, &mut Random::from_seed(seed ^ 11));
-        for run in 0..amounts.runs {
-            // Every number of slaves has its turn; 20 and 33 have no divisor in common.
-            let slaves = 20 * run % (model::MOST_SLAVES + 1);
-            runs::whole_run(self, &mut Random::from_seed(seed ^ 7 ^ (run as u64) << 8), slaves);
-            if run % 4 == 0 {
-                runs::run_in_turn(self, &mut Random::from_seed(seed ^ 10 ^ (run as u64) << 8), slaves);
-            }
-        }
+        summaries::fills(self, amounts.summaries, &mut Random::from_seed(seed ^ 12));
+        summaries::holders(self, amounts.summaries, &mut Random::from_seed(seed ^ 13));
+        summaries::rounds(self, amounts.kept, &mut Random::from_seed(seed ^ 14));
+        summaries::steps(self, amounts.kept / 2, &mut Random::from_seed(seed ^ 15));
+        self.runs(amounts.runs, seed);
         self.sorts_reached(&Sort::REACHED, amounts.rounds);
         self.sorts_reached(&Sort::REACHED_ABOUT_NAMES, amounts.rounds);
         self.each_file_written(amounts.rounds);
@@ -157,8 +164,24 @@ impl<'a> Campaign<'a> {
         self.sorts_reached(&Sort::REACHED_BY_STEPS, amounts.steps);
         self.sorts_reached(&Sort::REACHED_BY_TRACES, amounts.traces);
         self.sorts_reached(&Sort::REACHED_BY_OWNERS, amounts.owners);
+        self.sorts_reached(&Sort::REACHED_BY_SUMMARIES, amounts.kept);
         self.sorts_reached(&Sort::REACHED_BY_RUNS, amounts.runs);
         self.reached();
+    }
+
+    /// Whole naming runs; for every four one more is made in turn, and two more are given a summary.
+    fn runs(&mut self, amount: usize, seed: u64) {
+        for run in 0..amount {
+            let random = |kind: u64| Random::from_seed(seed ^ kind ^ (run as u64) << 8);
+            // Every number of slaves has its turn; 20 and 33 have no divisor in common.
+            let slaves = 20 * run % (model::MOST_SLAVES + 1);
+            runs::whole_run(self, &mut random(7), slaves, runs::Given::NoSummary);
+            if run % 2 == 1 {
+                runs::whole_run(self, &mut random(16), slaves, runs::Given::Summary);
+            } else if run % 4 == 0 {
+                runs::run_in_turn(self, &mut random(10), slaves);
+            }
+        }
     }
 
     fn checks(&mut self, amount: usize, random: &mut Random) {
@@ -401,7 +424,7 @@ pub fn agrees_with_model(engine: &dyn Engine, seed: u64) {
 }
 
 /// Good files twice as often as damaged ones.
-fn any_file(random: &mut Random) -> Vec<u8> {
+pub(crate) fn any_file(random: &mut Random) -> Vec<u8> {
     if random.once_in(3) {
         clusters::damaged(random)
     } else {
@@ -432,6 +455,12 @@ fn difference(call: &Call, expected: &Outcome, got: &Outcome) -> Option<&'static
         Some("report")
     } else if expected.length != got.length {
         Some("length")
+    } else if expected.held != got.held {
+        Some("held")
+    } else if expected.count != got.count {
+        Some("count")
+    } else if expected.place != got.place {
+        Some("place")
     } else {
         None
     }

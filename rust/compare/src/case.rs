@@ -1,10 +1,10 @@
 //! One call as a line of text: `round FILE FRAME answer-length = number mask FILE-after ANSWER-after`.
 //!
 //! Bytes are hexadecimal and `-` is none; other numbers are decimal, masks sixteen hexadecimal digits. The
-//! answer buffer, and that for an owner file, hold EE throughout before the call. A mask, a report or a length that the
-//! call leaves alone is shown as 0.
+//! answer buffer, and that for an owner file, hold EE throughout before the call. A mask, a report, a length or a count that
+//! the call leaves alone is shown as 0, the place of a holder as `-` where nobody holds the name.
 
-use crate::engine::{Engine, ReportWords, RunWords};
+use crate::engine::{Engine, ReportWords, RunWords, Summary, NOBODY};
 use crate::layout::EPOCH;
 use crate::sorts::tally::Tally;
 use std::fmt;
@@ -13,25 +13,72 @@ use std::fmt;
 pub const FILL: u8 = 0xEE;
 const SENDERS_BEFORE: u64 = 0xEEEE_EEEE_EEEE_EEEE;
 const LENGTH_BEFORE: u64 = SENDERS_BEFORE;
+const COUNT_BEFORE: u64 = SENDERS_BEFORE;
+const PLACE_BEFORE: u64 = SENDERS_BEFORE;
 const RUN_BEFORE: RunWords = [SENDERS_BEFORE; 8];
 /// A report's five words between two that are not lent, so that a word too many shows.
 type FencedReport = [u64; 7];
 const REPORT_BEFORE: FencedReport = [SENDERS_BEFORE; 7];
+const ROUND_KEEPING: &str = "round-keeping";
+const STEP_KEEPING: &str = "step-keeping";
 /// The kind of a case that holds what the listing program writes.
 pub const LISTING: &str = "list";
 
 /// The arguments of a call.
 #[derive(Clone, Debug, PartialEq, Eq)]
 pub enum Call {
-    Check { file: Vec<u8> },
-    Read { frame: Vec<u8> },
-    Write { buffer: Vec<u8>, parts: [u8; 5] },
-    Data { buffer: Vec<u8>, data: [u8; 4] },
-    Round { file: Vec<u8>, frame: Vec<u8>, answer_length: usize },
-    Start { names: Vec<u8> },
-    Step { file: Vec<u8>, names: Vec<u8>, run: RunWords, answer_length: usize },
-    Trace { file: Vec<u8>, trace: Vec<u8> },
-    Owner { file: Vec<u8>, master: u8, buffer_length: usize },
+    Check {
+        file: Vec<u8>,
+    },
+    Read {
+        frame: Vec<u8>,
+    },
+    Write {
+        buffer: Vec<u8>,
+        parts: [u8; 5],
+    },
+    Data {
+        buffer: Vec<u8>,
+        data: [u8; 4],
+    },
+    Round {
+        file: Vec<u8>,
+        frame: Vec<u8>,
+        answer_length: usize,
+    },
+    Start {
+        names: Vec<u8>,
+    },
+    Step {
+        file: Vec<u8>,
+        names: Vec<u8>,
+        run: RunWords,
+        answer_length: usize,
+    },
+    Trace {
+        file: Vec<u8>,
+        trace: Vec<u8>,
+    },
+    Owner {
+        file: Vec<u8>,
+        master: u8,
+        buffer_length: usize,
+    },
+    Fill {
+        file: Vec<u8>,
+        held: Vec<u8>,
+    },
+    Holder {
+        held: Vec<u8>,
+        count: u64,
+        name: u8,
+    },
+    /// A round or a step that is given a summary.
+    Keeping {
+        call: Box<Call>,
+        held: Vec<u8>,
+        count: u64,
+    },
 }
 
 /// Everything a call answers and leaves in lent memory; None is memory that was not lent.
@@ -46,6 +93,10 @@ pub struct Outcome {
     pub run: Option<RunWords>,
     pub report: Option<FencedReport>,
     pub length: Option<u64>,
+    /// The slice of a summary, the count that its filling tells, and the place of a holder.
+    pub held: Option<Vec<u8>>,
+    pub count: Option<u64>,
+    pub place: Option<u64>,
 }
 
 impl Outcome {
@@ -71,6 +122,16 @@ impl Outcome {
         self.length.filter(|_| self.number == 0)
     }
 
+    /// How many names a summary was filled with.
+    pub fn filled(&self) -> Option<u64> {
+        self.count.filter(|_| self.number == 0)
+    }
+
+    /// The place of the holder, where there is one.
+    pub fn holder(&self) -> Option<u64> {
+        self.place.filter(|&place| self.number == 0 && place != NOBODY)
+    }
+
     /// Whether the file is another than before, its epoch aside.
     pub fn alters_beyond_epoch(&self, before: &[u8]) -> bool {
         let after = self.file.as_deref().unwrap_or(before);
@@ -90,7 +151,19 @@ impl Call {
             Call::Step { .. } => "step",
             Call::Trace { .. } => "trace",
             Call::Owner { .. } => "owner",
+            Call::Fill { .. } => "fill",
+            Call::Holder { .. } => "holder",
+            Call::Keeping { call, .. } => match **call {
+                Call::Round { .. } => ROUND_KEEPING,
+                _ => STEP_KEEPING,
+            },
         }
+    }
+
+    /// The same round or step, given a summary.
+    pub fn keeping(self, held: &[u8], count: u64) -> Call {
+        assert!(matches!(self, Call::Round { .. } | Call::Step { .. }));
+        Call::Keeping { call: Box::new(self), held: held.to_vec(), count }
     }
 
     pub fn make(&self, engine: &dyn Engine) -> Outcome {
@@ -120,8 +193,32 @@ impl Call {
             Call::Owner { file, master, .. } => {
                 engine.owner(file, *master, lent_bytes(&mut outcome.buffer), lent(&mut outcome.length))
             }
+            Call::Fill { file, .. } => {
+                engine.fill(file, lent_bytes(&mut outcome.held), lent(&mut outcome.count))
+            }
+            Call::Holder { held, count, name } => engine.holder(held, *count, *name, lent(&mut outcome.place)),
+            Call::Keeping { call, count, .. } => call.make_keeping(engine, *count, &mut outcome),
         };
         outcome
+    }
+
+    fn make_keeping(&self, engine: &dyn Engine, count: u64, outcome: &mut Outcome) -> u8 {
+        let Outcome { senders, file, buffer, run, held, .. } = outcome;
+        let summary = Summary { held: lent_bytes(held), count };
+        match self {
+            Call::Step { names, .. } => engine.step_keeping(
+                lent_bytes(file),
+                lent(run),
+                names,
+                lent_bytes(buffer),
+                lent(senders),
+                summary,
+            ),
+            Call::Round { frame, .. } => {
+                engine.round_keeping(lent_bytes(file), frame, lent_bytes(buffer), lent(senders), summary)
+            }
+            _ => unreachable!("a round or a step"),
+        }
     }
 
     /// Lent memory before the call: what a refusal has to leave.
@@ -154,21 +251,28 @@ impl Call {
             Call::Owner { buffer_length, .. } => {
                 Outcome { buffer: answer(*buffer_length), length: Some(LENGTH_BEFORE), ..nothing }
             }
+            Call::Fill { held, .. } => {
+                Outcome { held: Some(held.clone()), count: Some(COUNT_BEFORE), ..nothing }
+            }
+            Call::Holder { .. } => Outcome { place: Some(PLACE_BEFORE), ..nothing },
+            Call::Keeping { call, held, .. } => Outcome { held: Some(held.clone()), ..call.before() },
         }
     }
 
     /// The call with its outcome, as a case that can be kept.
     pub fn line(&self, outcome: &Outcome) -> String {
+        format!("{self} = {}", self.result(outcome))
+    }
+
+    fn result(&self, outcome: &Outcome) -> String {
         let accepted = outcome.number == 0;
         let mask = outcome.mask();
         let number = outcome.number;
         let after = |bytes: &Option<Vec<u8>>| hex(bytes.as_deref().unwrap_or(&[]));
-        let result = match self {
-            Call::Check { .. } => format!("{number}"),
+        match self {
             Call::Read { .. } if accepted => {
                 format!("{number} {}", decimals(&outcome.parts.unwrap_or([0; 5]), " "))
             }
-            Call::Read { .. } => format!("{number}"),
             Call::Write { .. } | Call::Data { .. } => format!("{number} {}", after(&outcome.buffer)),
             Call::Round { .. } => {
                 format!("{number} {mask:016X} {} {}", after(&outcome.file), after(&outcome.buffer))
@@ -176,7 +280,6 @@ impl Call {
             Call::Start { .. } if accepted => {
                 format!("{number} {}", decimals(&outcome.run.unwrap_or([0; 8]), " "))
             }
-            Call::Start { .. } => format!("{number}"),
             Call::Step { .. } => format!(
                 "{number} {mask:016X} {} {} {}",
                 after(&outcome.file),
@@ -190,14 +293,34 @@ impl Call {
             Call::Owner { .. } => {
                 format!("{number} {} {}", outcome.written().unwrap_or(0), after(&outcome.buffer))
             }
-        };
-        format!("{self} = {result}")
+            Call::Fill { .. } => {
+                format!("{number} {} {}", outcome.filled().unwrap_or(0), after(&outcome.held))
+            }
+            Call::Holder { .. } if accepted => match outcome.holder() {
+                Some(place) => format!("{number} {place}"),
+                None => format!("{number} -"),
+            },
+            Call::Check { .. } | Call::Read { .. } | Call::Start { .. } | Call::Holder { .. } => {
+                format!("{number}")
+            }
+            Call::Keeping { call, .. } => format!("{} {}", call.result(outcome), after(&outcome.held)),
+        }
     }
 
     /// Reads the part of a case left of its `=`.
     pub fn parse(text: &str) -> Option<Call> {
         let words: Vec<&str> = text.split_whitespace().collect();
-        match words[..] {
+        Call::of_words(&words)
+    }
+
+    /// The call of this kind and these words, given a summary.
+    fn given(held: &str, count: &str, kind: &str, words: &[&str]) -> Option<Call> {
+        let call = Call::of_words(&[&[kind], words].concat())?;
+        Some(call.keeping(&bytes(held)?, count.parse().ok()?))
+    }
+
+    fn of_words(words: &[&str]) -> Option<Call> {
+        match *words {
             ["check", file] => Some(Call::Check { file: bytes(file)? }),
             ["read", frame] => Some(Call::Read { frame: bytes(frame)? }),
             ["write", buffer, ref parts @ ..] => {
@@ -224,6 +347,12 @@ impl Call {
                 master: master.parse().ok()?,
                 buffer_length: length.parse().ok()?,
             }),
+            ["fill", file, held] => Some(Call::Fill { file: bytes(file)?, held: bytes(held)? }),
+            ["holder", held, count, name] => {
+                Some(Call::Holder { held: bytes(held)?, count: count.parse().ok()?, name: name.parse().ok()? })
+            }
+            [ROUND_KEEPING, ref words @ .., held, count] => Call::given(held, count, "round", words),
+            [STEP_KEEPING, ref words @ .., held, count] => Call::given(held, count, "step", words),
             _ => None,
         }
     }
@@ -231,23 +360,32 @@ impl Call {
 
 impl fmt::Display for Call {
     fn fmt(&self, out: &mut fmt::Formatter) -> fmt::Result {
-        write!(out, "{} ", self.kind())?;
+        write!(out, "{} {}", self.kind(), self.arguments())
+    }
+}
+
+impl Call {
+    /// The words of a case between its kind and its `=`.
+    fn arguments(&self) -> String {
         match self {
-            Call::Check { file } => write!(out, "{}", hex(file)),
-            Call::Read { frame } => write!(out, "{}", hex(frame)),
-            Call::Write { buffer, parts } => write!(out, "{} {}", hex(buffer), decimals(parts, " ")),
-            Call::Data { buffer, data } => write!(out, "{} {}", hex(buffer), decimals(data, " ")),
+            Call::Check { file } => hex(file),
+            Call::Read { frame } => hex(frame),
+            Call::Write { buffer, parts } => format!("{} {}", hex(buffer), decimals(parts, " ")),
+            Call::Data { buffer, data } => format!("{} {}", hex(buffer), decimals(data, " ")),
             Call::Round { file, frame, answer_length } => {
-                write!(out, "{} {} {answer_length}", hex(file), hex(frame))
+                format!("{} {} {answer_length}", hex(file), hex(frame))
             }
-            Call::Start { names } => write!(out, "{}", hex(names)),
+            Call::Start { names } => hex(names),
             Call::Step { file, names, run, answer_length } => {
-                write!(out, "{} {} {} {answer_length}", hex(file), hex(names), decimals(run, ","))
+                format!("{} {} {} {answer_length}", hex(file), hex(names), decimals(run, ","))
             }
-            Call::Trace { file, trace } => write!(out, "{} {}", hex(file), hex(trace)),
+            Call::Trace { file, trace } => format!("{} {}", hex(file), hex(trace)),
             Call::Owner { file, master, buffer_length } => {
-                write!(out, "{} {master} {buffer_length}", hex(file))
+                format!("{} {master} {buffer_length}", hex(file))
             }
+            Call::Fill { file, held } => format!("{} {}", hex(file), hex(held)),
+            Call::Holder { held, count, name } => format!("{} {count} {name}", hex(held)),
+            Call::Keeping { call, held, count } => format!("{} {} {count}", call.arguments(), hex(held)),
         }
     }
 }

@@ -5,7 +5,16 @@ pub type RunWords = [u64; 8];
 /// Of the frames of a trace the numbers of MSA, MSD, multipartner and refused ones, and their sum.
 pub type ReportWords = [u64; 5];
 
-/// One implementation of the nine calls. 0 is "carried out", every other number a refusal.
+/// A summary handed in: the lent slice and the count.
+pub struct Summary<'a> {
+    pub held: &'a mut [u8],
+    pub count: u64,
+}
+
+/// The place of a holder where there is none.
+pub const NOBODY: u64 = u64::MAX;
+
+/// One implementation of the thirteen calls. 0 is "carried out", every other number a refusal.
 pub trait Engine {
     /// What the comparison says it ran against.
     fn name(&self) -> &'static str;
@@ -25,6 +34,25 @@ pub trait Engine {
     ) -> u8;
     fn trace(&self, file: &mut [u8], trace: &[u8], report: &mut ReportWords) -> u8;
     fn owner(&self, file: &[u8], master: u8, buffer: &mut [u8], length: &mut u64) -> u8;
+    fn fill(&self, file: &[u8], held: &mut [u8], count: &mut u64) -> u8;
+    fn holder(&self, held: &[u8], count: u64, name: u8, place: &mut u64) -> u8;
+    fn round_keeping(
+        &self,
+        file: &mut [u8],
+        frame: &[u8],
+        answer: &mut [u8],
+        senders: &mut u64,
+        summary: Summary,
+    ) -> u8;
+    fn step_keeping(
+        &self,
+        file: &mut [u8],
+        run: &mut RunWords,
+        names: &[u8],
+        answer: &mut [u8],
+        senders: &mut u64,
+        summary: Summary,
+    ) -> u8;
 }
 
 /// The documents read as plain Rust.
@@ -90,6 +118,42 @@ impl Engine for Model {
     fn owner(&self, file: &[u8], master: u8, buffer: &mut [u8], length: &mut u64) -> u8 {
         let written = model::owner(file, model::LogicalName(master), buffer);
         number(written.map(|bytes| *length = bytes as u64))
+    }
+
+    fn fill(&self, file: &[u8], held: &mut [u8], count: &mut u64) -> u8 {
+        number(model::fill(file, held).map(|names| *count = names as u64))
+    }
+
+    fn holder(&self, held: &[u8], count: u64, name: u8, place: &mut u64) -> u8 {
+        let found = model::holder(held, count, model::LogicalName(name));
+        number(found.map(|holder| *place = holder.map_or(NOBODY, |holder| holder as u64)))
+    }
+
+    fn round_keeping(
+        &self,
+        file: &mut [u8],
+        frame: &[u8],
+        answer: &mut [u8],
+        senders: &mut u64,
+        Summary { held, count }: Summary,
+    ) -> u8 {
+        number(model::round_keeping(file, frame, answer, held, count).map(|mask| *senders = mask))
+    }
+
+    fn step_keeping(
+        &self,
+        file: &mut [u8],
+        run: &mut RunWords,
+        names: &[u8],
+        answer: &mut [u8],
+        senders: &mut u64,
+        Summary { held, count }: Summary,
+    ) -> u8 {
+        let mut position = run_of(run);
+        let stepped = model::step_keeping(file, &mut position, names, answer, held, count);
+        *run = words_of(&position);
+        // A step of an ended run alters nothing, the mask included.
+        number(stepped.map(|mask| *senders = mask.unwrap_or(*senders)))
     }
 }
 
@@ -168,6 +232,37 @@ impl Engine for Plain {
     fn owner(&self, file: &[u8], master: u8, buffer: &mut [u8], length: &mut u64) -> u8 {
         plain::owner(file, master, buffer, length)
     }
+
+    fn fill(&self, file: &[u8], held: &mut [u8], count: &mut u64) -> u8 {
+        plain::fill(file, held, count)
+    }
+
+    fn holder(&self, held: &[u8], count: u64, name: u8, place: &mut u64) -> u8 {
+        plain::holder(held, count, name, place)
+    }
+
+    fn round_keeping(
+        &self,
+        file: &mut [u8],
+        frame: &[u8],
+        answer: &mut [u8],
+        senders: &mut u64,
+        Summary { held, count }: Summary,
+    ) -> u8 {
+        plain::round_keeping(file, frame, answer, senders, held, count)
+    }
+
+    fn step_keeping(
+        &self,
+        file: &mut [u8],
+        run: &mut RunWords,
+        names: &[u8],
+        answer: &mut [u8],
+        senders: &mut u64,
+        Summary { held, count }: Summary,
+    ) -> u8 {
+        plain::step_keeping(file, run, names, answer, senders, held, count)
+    }
 }
 
 /// The engine as it is linked.
@@ -221,5 +316,36 @@ impl Engine for Library {
 
     fn owner(&self, file: &[u8], master: u8, buffer: &mut [u8], length: &mut u64) -> u8 {
         ttpa::calls::owner(file, master, buffer, length)
+    }
+
+    fn fill(&self, file: &[u8], held: &mut [u8], count: &mut u64) -> u8 {
+        ttpa::calls::fill(file, held, count)
+    }
+
+    fn holder(&self, held: &[u8], count: u64, name: u8, place: &mut u64) -> u8 {
+        ttpa::calls::holder(held, count, name, place)
+    }
+
+    fn round_keeping(
+        &self,
+        file: &mut [u8],
+        frame: &[u8],
+        answer: &mut [u8],
+        senders: &mut u64,
+        Summary { held, count }: Summary,
+    ) -> u8 {
+        ttpa::calls::round_keeping(file, frame, answer, senders, held, count)
+    }
+
+    fn step_keeping(
+        &self,
+        file: &mut [u8],
+        run: &mut RunWords,
+        names: &[u8],
+        answer: &mut [u8],
+        senders: &mut u64,
+        Summary { held, count }: Summary,
+    ) -> u8 {
+        ttpa::calls::step_keeping(file, run, names, answer, senders, held, count)
     }
 }

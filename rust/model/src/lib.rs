@@ -17,6 +17,7 @@ mod naming;
 mod owner;
 mod round;
 mod slaves;
+mod summary;
 mod trace;
 
 pub use account::{closed_figures, naming_pass, naming_rounds, Account, ClosedFigures};
@@ -30,6 +31,7 @@ pub use listing::listing;
 pub use naming::{start, step, End, Run};
 pub use owner::{owner, senders_of};
 pub use round::{round, Answer, ANSWER_BYTES};
+pub use summary::{fill, first_holder, holder, round_keeping, step_keeping};
 pub use trace::{encode_trace, trace, Report, MOST_TRACE_BYTES};
 
 /// A refusal is the document's number and nothing else.

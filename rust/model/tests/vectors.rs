@@ -87,6 +87,13 @@ fn vectors_of_request_7_hold() {
 }
 
 #[test]
+fn vectors_of_request_8_hold() {
+    let about_summaries = ["fill", "holder", "round-keeping", "step-keeping"];
+    let kinds = [&about_summaries[..], &["owner", "step", "trace"]].concat();
+    assert_eq!(kinds_that_hold(include_str!("data/request-08.txt")), with(&kinds));
+}
+
+#[test]
 fn cases_of_our_own_hold() {
     assert!(!kinds_that_hold(include_str!("data/cases.txt")).is_empty());
 }

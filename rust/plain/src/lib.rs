@@ -12,12 +12,14 @@ mod multipartner;
 mod naming;
 mod nested;
 mod owner;
+mod summary;
 mod survey;
 mod trace;
 
 pub use frames::{read_address, write_address, write_data};
 pub use naming::{start, step};
 pub use owner::owner;
+pub use summary::{fill, holder, round_keeping, step_keeping};
 pub use trace::{trace, trace_in_nested_loops};
 
 use frames::{round_of, MSA, MSD};

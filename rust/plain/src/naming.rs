@@ -31,6 +31,19 @@ pub fn step(file: &mut [u8], run: &mut Run, names: &[u8], answer: &mut [u8], sen
     if ground != 0 {
         return ground;
     }
+    step_on(file, &survey, run, names, answer, senders)
+}
+
+/// A step on an accepted file: 0, or 9 or 15 to 17.
+#[inline]
+pub fn step_on(
+    file: &mut [u8],
+    survey: &Survey,
+    run: &mut Run,
+    names: &[u8],
+    answer: &mut [u8],
+    senders: &mut u64,
+) -> u8 {
     let Some(answer) = answer.first_chunk_mut::<ANSWER_BYTES>() else {
         return 9;
     };
@@ -43,7 +56,7 @@ pub fn step(file: &mut [u8], run: &mut Run, names: &[u8], answer: &mut [u8], sen
     }
     if run[0] == RUNNING {
         *answer = silence(MSD);
-        *senders = carry_on(file, &survey, run, names, answer);
+        *senders = carry_on(file, survey, run, names, answer);
     }
     0
 }

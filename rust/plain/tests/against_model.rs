@@ -47,3 +47,8 @@ fn the_edges_of_multiplexed_entries_hold() {
 fn the_edges_of_an_owner_file_hold() {
     edges::owners::hold(&Plain { nested: false });
 }
+
+#[test]
+fn the_edges_of_summaries_hold() {
+    edges::summaries::hold(&Plain { nested: false });
+}

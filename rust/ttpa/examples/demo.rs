@@ -2,14 +2,14 @@
 //!
 //! Sees to it that crate and library are of one version, loads a cluster file, checks it, reads a record of a named
 //! slave, has a foreign master try to name slaves by a write, names the unnamed slaves while other rounds go on in
-//! between, runs a captured trace, plans who sends in which slot, has a slot multiplexed, and prints what happened.
-//! c/demo.c does the same and prints the same.
+//! between, tells before and after it who holds a name, runs a captured trace, plans who sends in which slot, has a slot
+//! multiplexed, and prints what happened. c/demo.c does the same and prints the same.
 
 use std::fs::File;
 use std::io::Read;
 use std::process::ExitCode;
 use ttpa::{
-    Address, End, Owners, Report, Run, Senders, TtpaError, ANSWER_BYTES, FILE_CONFIGURATION,
+    Address, End, Owners, Report, Run, Senders, Summary, TtpaError, ANSWER_BYTES, FILE_CONFIGURATION,
     FILE_DOCUMENTATION, FIREWORK_MSA, FIREWORK_MSD, FIREWORK_ROUND_2, FRAME_BYTES, MOST_FILE_BYTES,
     MOST_OWNER_BYTES, NAME_BROADCAST, NAME_UNNAMED, OPERATION_READ, OPERATION_WRITE,
 };
@@ -57,6 +57,11 @@ fn print_bytes(what: &str, bytes: &[u8]) {
 impl Cluster {
     fn send(&mut self, frame: &[u8]) -> Result<(), TtpaError> {
         self.senders = ttpa::round(&mut self.file, frame, &mut self.answer)?;
+        Ok(())
+    }
+
+    fn send_keeping(&mut self, frame: &[u8], summary: &mut Summary) -> Result<(), TtpaError> {
+        self.senders = ttpa::round_keeping(&mut self.file, frame, &mut self.answer, summary)?;
         Ok(())
     }
 
@@ -120,20 +125,21 @@ impl Cluster {
         print_verdict("a wrong check byte on the bus", self.send(&frame));
     }
 
-    /// Rounds that others make meanwhile: a multipartner round and a read.
-    fn other_traffic(&mut self) -> Result<(), TtpaError> {
-        self.send(&ROUND_2)?;
+    /// Rounds that others make meanwhile: a multipartner round, given the summary, and a read, which may do without: it
+    /// renames nobody.
+    fn other_traffic(&mut self, summary: &mut Summary) -> Result<(), TtpaError> {
+        self.send_keeping(&ROUND_2, summary)?;
         self.read_record(0x01, FILE_DOCUMENTATION, 2)
     }
 
-    fn name_slaves(&mut self, names: &[u8]) -> Result<(), TtpaError> {
+    fn name_slaves(&mut self, names: &[u8], summary: &mut Summary) -> Result<(), TtpaError> {
         let mut run = Run::start(names)?;
         while run.end() == End::Running {
             let before = run;
             if run.rounds() % STEPS_BETWEEN_TRAFFIC == STEPS_BETWEEN_TRAFFIC - 1 {
-                self.other_traffic()?;
+                self.other_traffic(summary)?;
             }
-            run.step(&mut self.file, names, &mut self.answer)?;
+            run.step_keeping(&mut self.file, names, &mut self.answer, summary)?;
             if run.index() != before.index() {
                 let name = names[before.index() as usize];
                 if before.next_round() == 0 {
@@ -146,6 +152,23 @@ impl Cluster {
         let end = if run.end() == End::AllNamed { "all named" } else { "names used up" };
         println!("{end}, rounds {}, comparisons {}", run.rounds(), run.comparisons());
         Ok(())
+    }
+
+    /// The summary of the file, or of no slave where it is refused.
+    fn filled_summary(&self) -> Summary {
+        let filled = Summary::of(&self.file);
+        print_verdict("a summary", filled);
+        let summary = filled.unwrap_or_default();
+        print_bytes("names held", summary.names());
+        summary
+    }
+
+    /// A summary that lacks the last slave's name does not match.
+    fn show_wrong_summary(&mut self, summary: &Summary) {
+        let names = summary.names();
+        let cut = Summary::from_names(&names[..names.len().saturating_sub(1)]);
+        let sent = cut.and_then(|mut cut| self.send_keeping(&ROUND_2, &mut cut));
+        print_verdict("round 2 with a name too few", sent);
     }
 
     fn show_trace(&mut self) {
@@ -180,6 +203,16 @@ impl Cluster {
         for _ in 0..4 {
             print_verdict("round 2", self.send(&ROUND_2));
             self.print_answer();
+        }
+    }
+}
+
+/// Who holds each of some names, asked of the summary alone.
+fn print_holders(summary: &Summary) {
+    for name in [0x01, 0x02, 0x03, NAME_UNNAMED] {
+        match summary.holder(name) {
+            Some(place) => println!("{name:02X} is held by slave {place}"),
+            None => println!("{name:02X} is held by nobody"),
         }
     }
 }
@@ -225,8 +258,12 @@ fn main() -> ExitCode {
     print_verdict("round 2 before naming", cluster.send(&ROUND_2));
     cluster.print_answer();
     cluster.show_foreign_write();
+    let mut summary = cluster.filled_summary();
+    print_holders(&summary);
     print_verdict("names with a repeat", Run::start(&[0x01, 0x02, 0x01]));
-    print_verdict("naming", cluster.name_slaves(&[0x01, 0x02, 0x03, 0x04]));
+    print_verdict("naming", cluster.name_slaves(&[0x01, 0x02, 0x03, 0x04], &mut summary));
+    print_holders(&summary);
+    cluster.show_wrong_summary(&summary);
     for name in 0x02..=0x03 {
         print_verdict("read", cluster.read_record(name, FILE_DOCUMENTATION, 2));
         cluster.print_answer();
@@ -234,7 +271,9 @@ fn main() -> ExitCode {
     print_verdict("round 2 after naming", cluster.send(&ROUND_2));
     cluster.print_answer();
     cluster.show_trace();
-    print_verdict("round 2 after the trace", cluster.send(&ROUND_2));
+    // A trace takes no summary and may have renamed slaves: it is filled again.
+    summary = cluster.filled_summary();
+    print_verdict("round 2 after the trace", cluster.send_keeping(&ROUND_2, &mut summary));
     cluster.print_answer();
     cluster.show_owners();
     print_verdict("round 2 as planned", cluster.send(&ROUND_2));

@@ -59,6 +59,9 @@ pub const OWNER_RECORD_BYTES: usize = 4;
 /// Where the index of an owner file begins.
 pub const OWNER_INDEX: usize = 4;
 
+/// The place that [`holder`] writes where nobody holds the name.
+pub const NOBODY: u64 = u64::MAX;
+
 mod c {
     extern "C" {
         pub fn ttpa_version() -> u32;
@@ -102,6 +105,33 @@ mod c {
             buffer: *mut u8,
             k: usize,
             length: *mut u64,
+        ) -> u8;
+        pub fn ttpa_fill(file: *const u8, n: usize, held: *mut u8, room: usize, count: *mut u64) -> u8;
+        pub fn ttpa_holder(held: *const u8, room: usize, count: u64, name: u8, place: *mut u64) -> u8;
+        pub fn ttpa_round_keeping(
+            file: *mut u8,
+            n: usize,
+            frame: *const u8,
+            m: usize,
+            answer: *mut u8,
+            k: usize,
+            senders: *mut u64,
+            held: *mut u8,
+            room: usize,
+            count: u64,
+        ) -> u8;
+        pub fn ttpa_step_keeping(
+            file: *mut u8,
+            n: usize,
+            run: *mut u64,
+            names: *const u8,
+            m: usize,
+            answer: *mut u8,
+            k: usize,
+            senders: *mut u64,
+            held: *mut u8,
+            room: usize,
+            count: u64,
         ) -> u8;
     }
 }
@@ -186,4 +216,67 @@ pub fn trace(file: &mut [u8], trace: &[u8], report: &mut [u64; REPORT_WORDS]) ->
 /// Writes the owner file of a cluster file: 0, or 1 to 8, 23, 20 or 21.
 pub fn owner(file: &[u8], master: u8, buffer: &mut [u8], length: &mut u64) -> u8 {
     unsafe { c::ttpa_owner(file.as_ptr(), file.len(), master, buffer.as_mut_ptr(), buffer.len(), length) }
+}
+
+/// Fills a summary from a file: 0, or 1 to 8 or 24.
+pub fn fill(file: &[u8], held: &mut [u8], count: &mut u64) -> u8 {
+    unsafe { c::ttpa_fill(file.as_ptr(), file.len(), held.as_mut_ptr(), held.len(), count) }
+}
+
+/// Tells the place of the first slave that holds a name, or [`NOBODY`]: 0, or 24.
+pub fn holder(held: &[u8], count: u64, name: u8, place: &mut u64) -> u8 {
+    unsafe { c::ttpa_holder(held.as_ptr(), held.len(), count, name, place) }
+}
+
+/// Carries out one frame on a file and keeps its summary: 0, or 1 to 8, 24 or 9 to 14.
+pub fn round_keeping(
+    file: &mut [u8],
+    frame: &[u8],
+    answer: &mut [u8],
+    senders: &mut u64,
+    held: &mut [u8],
+    count: u64,
+) -> u8 {
+    unsafe {
+        c::ttpa_round_keeping(
+            file.as_mut_ptr(),
+            file.len(),
+            frame.as_ptr(),
+            frame.len(),
+            answer.as_mut_ptr(),
+            answer.len(),
+            senders,
+            held.as_mut_ptr(),
+            held.len(),
+            count,
+        )
+    }
+}
+
+/// Makes one naming step and keeps the file's summary: 0, or 1 to 8, 24, 9 or 15 to 17. A step of an ended run alters
+/// nothing.
+pub fn step_keeping(
+    file: &mut [u8],
+    run: &mut [u64; RUN_WORDS],
+    names: &[u8],
+    answer: &mut [u8],
+    senders: &mut u64,
+    held: &mut [u8],
+    count: u64,
+) -> u8 {
+    unsafe {
+        c::ttpa_step_keeping(
+            file.as_mut_ptr(),
+            file.len(),
+            run.as_mut_ptr(),
+            names.as_ptr(),
+            names.len(),
+            answer.as_mut_ptr(),
+            answer.len(),
+            senders,
+            held.as_mut_ptr(),
+            held.len(),
+            count,
+        )
+    }
 }

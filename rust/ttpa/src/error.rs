@@ -51,6 +51,8 @@ pub enum TtpaError {
     EqualLogicalNames,
     /// 23: a slave has a multiplexed send before the end of its list for one of the six rounds, able to send or not.
     MultiplexedSend,
+    /// 24: the summary does not match its cluster file, or its count is above its slice's length.
+    Summary,
     // .ci/refusals writes to here
     /// A number that this edition of the crate does not know.
     Other(u8),
@@ -58,7 +60,7 @@ pub enum TtpaError {
 
 /// The variants in the order of their numbers, from 1.
 // .ci/refusals writes from here: numbered
-const NUMBERED: [TtpaError; 23] = [
+const NUMBERED: [TtpaError; 24] = [
     TtpaError::FileSize,
     TtpaError::Mark,
     TtpaError::Edition,
@@ -82,6 +84,7 @@ const NUMBERED: [TtpaError; 23] = [
     TtpaError::OwnerBuffer,
     TtpaError::EqualLogicalNames,
     TtpaError::MultiplexedSend,
+    TtpaError::Summary,
 ];
 // .ci/refusals writes to here
 
@@ -151,6 +154,9 @@ impl TtpaError {
             TtpaError::MultiplexedSend => {
                 "a slave has a multiplexed send in a round, and its slot need not have one owner in all epochs"
             }
+            TtpaError::Summary => {
+                "the summary does not match the cluster file, or has more names than there is room for"
+            }
             TtpaError::Other(_) => "refused on a ground that this version has no text for",
             // .ci/refusals writes to here
         }
@@ -211,7 +217,8 @@ mod tests {
         assert_eq!(TtpaError::OwnerBuffer.number(), 21);
         assert_eq!(TtpaError::EqualLogicalNames.number(), 22);
         assert_eq!(TtpaError::MultiplexedSend.number(), 23);
-        assert_eq!(TtpaError::Other(24).number(), 24);
+        assert_eq!(TtpaError::Summary.number(), 24);
+        assert_eq!(TtpaError::Other(25).number(), 25);
         // .ci/refusals writes to here
     }
 }

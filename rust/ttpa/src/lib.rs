@@ -1,5 +1,5 @@
 //! The TTP/A cluster engine for Rust programs: check a cluster file, read and write frames, carry out
-//! rounds on the file, name its slaves, run captured traces, write the owner file.
+//! rounds on the file, name its slaves, run captured traces, write the owner file, tell who holds a name.
 //!
 //! The engine keeps no state, never allocates and always returns. Everything it works on is lent to it for
 //! the time of one call. A call that refuses alters nothing it was lent.
@@ -27,6 +27,7 @@ mod constants;
 mod error;
 mod owner;
 mod run;
+mod summary;
 mod trace;
 mod version;
 
@@ -34,6 +35,7 @@ pub use constants::*;
 pub use error::TtpaError;
 pub use owner::{owner, Owners, MOST_OWNER_BYTES};
 pub use run::{End, Run};
+pub use summary::{round_keeping, Summary, MOST_SLAVES};
 pub use trace::{trace, Report, MOST_TRACE_BYTES};
 pub use version::{check_version, version, VersionMismatch, VERSION};
 

@@ -1,5 +1,5 @@
 use crate::calls::{self, ALL_NAMED, NAMES_USED_UP, RUNNING, RUN_WORDS};
-use crate::{version, Senders, TtpaError};
+use crate::{version, Senders, Summary, TtpaError};
 
 /// How far a run is.
 #[derive(Clone, Copy, Debug, PartialEq, Eq)]
@@ -37,6 +37,18 @@ impl Run {
         let mut senders = 0;
         TtpaError::of(calls::step(file, &mut self.words, names, answer, &mut senders))?;
         Ok(Senders(senders))
+    }
+
+    /// The same, and keeps the file's summary matching; refused by 24 where it does not match the file, after 8 and before
+    /// 9, also at a step of an ended run.
+    pub fn step_keeping(
+        &mut self,
+        file: &mut [u8],
+        names: &[u8],
+        answer: &mut [u8],
+        summary: &mut Summary,
+    ) -> Result<Senders, TtpaError> {
+        summary.step(file, &mut self.words, names, answer)
     }
 
     /// A stored position.

@@ -4,8 +4,8 @@
 use compare::campaign::agrees_with_model;
 use compare::case::hold_all;
 use compare::edges;
-use compare::engine::{Engine, ReportWords, RunWords};
-use ttpa::{Address, End, Report, Run, Senders, TtpaError};
+use compare::engine::{Engine, ReportWords, RunWords, Summary};
+use ttpa::{calls, Address, End, Report, Run, Senders, TtpaError};
 
 /// The safe functions in the form of the C calls.
 struct Wrapper;
@@ -65,6 +65,67 @@ impl Engine for Wrapper {
     fn owner(&self, file: &[u8], master: u8, buffer: &mut [u8], length: &mut u64) -> u8 {
         number(ttpa::owner(file, master, buffer).map(|owners| *length = owners.bytes().len() as u64))
     }
+
+    fn fill(&self, file: &[u8], held: &mut [u8], count: &mut u64) -> u8 {
+        match ttpa::Summary::of(file) {
+            Ok(summary) if summary.names().len() > held.len() => calls::fill(file, held, count),
+            filled => number(filled.map(|summary| {
+                held[..summary.names().len()].copy_from_slice(summary.names());
+                *count = summary.names().len() as u64;
+            })),
+        }
+    }
+
+    fn holder(&self, held: &[u8], count: u64, name: u8, place: &mut u64) -> u8 {
+        let Some(summary) = summary_of(held, count) else {
+            return calls::holder(held, count, name, place);
+        };
+        *place = summary.holder(name).map_or(calls::NOBODY, |holder| holder as u64);
+        0
+    }
+
+    fn round_keeping(
+        &self,
+        file: &mut [u8],
+        frame: &[u8],
+        answer: &mut [u8],
+        mask: &mut u64,
+        Summary { held, count }: Summary,
+    ) -> u8 {
+        let Some(mut summary) = summary_of(held, count) else {
+            return calls::round_keeping(file, frame, answer, mask, held, count);
+        };
+        let sent = ttpa::round_keeping(file, frame, answer, &mut summary);
+        held[..summary.names().len()].copy_from_slice(summary.names());
+        number(sent.map(|Senders(slots)| *mask = slots))
+    }
+
+    fn step_keeping(
+        &self,
+        file: &mut [u8],
+        run: &mut RunWords,
+        names: &[u8],
+        answer: &mut [u8],
+        mask: &mut u64,
+        Summary { held, count }: Summary,
+    ) -> u8 {
+        let Some(mut summary) = summary_of(held, count) else {
+            return calls::step_keeping(file, run, names, answer, mask, held, count);
+        };
+        let mut position = Run::from_words(*run);
+        let running = position.end() == End::Running;
+        let stepped = position.step_keeping(file, names, answer, &mut summary);
+        *run = position.words();
+        held[..summary.names().len()].copy_from_slice(summary.names());
+        // The C call of an ended run writes no mask.
+        number(stepped.map(|Senders(slots)| *mask = if running { slots } else { *mask }))
+    }
+}
+
+/// The summary that owns these names; none where there are fewer than the count, or more than a file has slaves. Such a
+/// one is only lent, to the C call.
+fn summary_of(held: &[u8], count: u64) -> Option<ttpa::Summary> {
+    ttpa::Summary::from_names(held.get(..usize::try_from(count).ok()?)?).ok()
 }
 
 fn number(answer: Result<(), TtpaError>) -> u8 {
@@ -89,6 +150,7 @@ fn the_safe_functions_give_the_kept_results() {
         include_str!("../../model/tests/data/request-05.txt"),
         include_str!("../../model/tests/data/request-06.txt"),
         include_str!("../../model/tests/data/request-07.txt"),
+        include_str!("../../model/tests/data/request-08.txt"),
     ] {
         let held = hold_all(&Wrapper, text);
         assert!(held.passed > 0);
@@ -124,4 +186,9 @@ fn the_grounds_of_a_step_hold() {
 #[test]
 fn the_edges_of_multiplexed_entries_hold() {
     edges::multiplexed::hold(&Wrapper);
+}
+
+#[test]
+fn the_edges_of_summaries_hold() {
+    edges::summaries::hold(&Wrapper);
 }

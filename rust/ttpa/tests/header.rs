@@ -13,7 +13,7 @@ macro_rules! constants {
 }
 
 const CONSTANTS: &[(&str, u64)] = &constants! {
-    ttpa: ANSWER_BYTES FRAME_BYTES MOST_FILE_BYTES MOST_TRACE_BYTES MOST_OWNER_BYTES
+    ttpa: ANSWER_BYTES FRAME_BYTES MOST_FILE_BYTES MOST_TRACE_BYTES MOST_OWNER_BYTES MOST_SLAVES
         FIREWORK_MSA FIREWORK_MSD FIREWORK_ROUND_0 FIREWORK_ROUND_2 FIREWORK_ROUND_3 FIREWORK_ROUND_4
         FIREWORK_ROUND_6 FIREWORK_ROUND_7
         OPERATION_READ OPERATION_WRITE OPERATION_EXECUTE
@@ -22,7 +22,7 @@ const CONSTANTS: &[(&str, u64)] = &constants! {
         RUN_WORDS RUN_END RUN_INDEX RUN_STEP RUN_VALUE RUN_ROUNDS RUN_COMPARISONS RUN_HIGH RUN_LOW
         RUNNING ALL_NAMED NAMES_USED_UP
         REPORT_WORDS REPORT_MSA REPORT_MSD REPORT_MULTIPARTNER REPORT_REFUSED REPORT_SUM
-        OWNER_RECORD_BYTES OWNER_INDEX;
+        OWNER_RECORD_BYTES OWNER_INDEX NOBODY;
 };
 
 /// Name, without TTPA_, and value of each constant that the header defines.
@@ -37,6 +37,7 @@ fn defined() -> impl Iterator<Item = (&'static str, &'static str)> {
 fn number(value: &str) -> Option<u64> {
     match value.strip_prefix("0x") {
         Some(digits) => u64::from_str_radix(digits, 16).ok(),
+        None if value == "UINT64_MAX" => Some(u64::MAX),
         None => value.parse().ok(),
     }
 }

@@ -1,6 +1,6 @@
 -- Demand 3 (document 01, "The naming run", third paragraph) over the C calls that a program makes: ttpa_check, ttpa_start and then
--- any list of ttpa_step, ttpa_round and ttpa_trace, on the bytes of the file and the eight stored words, judged by the numbers
--- returned. What each call does is `ttpa/specs/Rules/Calls`, which the contracts of the C functions cite.
+-- any list of ttpa_step, ttpa_step_keeping, ttpa_round, ttpa_round_keeping and ttpa_trace, on the bytes of the file and the eight stored
+-- words, judged by the numbers returned. What each call does is `ttpa/specs/Rules/Calls`, which the contracts of the C functions cite.
 use Prim.Native.Nat.{ℕ}
 use mathlib.Core.Path.{_≡_}
 use mathlib.Core.List.{List, [], _∷_, _++_, map}
@@ -11,28 +11,35 @@ use Rattle.file.specs.Rules.Order.{both}
 use Rattle.file.specs.Rules.Results.{done, numberIn}
 use Rattle.file.specs.Rules.Decode.{decode}
 use Rattle.cluster.specs.Rules.Grounds.{roundBy}
+use Rattle.cluster.specs.Rules.Summary.{without, kept}
 use Rattle.trace.specs.Rules.Trace.{framesOf}
 use Rattle.trace.specs.Rules.Run.{sent}
-use Rattle.naming.specs.Rules.Account.{StepArguments, argumentsGround, Call, Call.step as stepBy, Call.frame as frameOf}
+use Rattle.naming.specs.Rules.Account.{argumentsGround, Call, Call.step as stepBy, Call.frame as frameOf}
 use Rattle.naming.specs.Rules.Account.{Named, namesIn, Account, accountOf, accountAfter, comparisonsOf}
 use Rattle.naming.specs.Rules.Figures.{Outcome}
 use Rattle.naming.specs.Rules.Run.{Position}
 use Rattle.naming.specs.Claims.Demand.{State, halfwayAfter, permittedFrame, permitted as permittedByRules}
-use Rattle.ttpa.specs.Rules.Calls.{checkCall, startCall, stepCall, roundCall, traceCall, wordsOf, positionIn}
+use Rattle.ttpa.specs.Rules.Calls.{checkCall, startCall, stepCall, stepKeepingCall, roundCall, roundKeepingCall, traceCall, wordsOf, positionIn}
 use Rattle.demand.specs.Claims.Traces.{CallOrTrace, halfwayFrom, singly}
 
--- a call, by all that it is handed except file, run and names: a step's arguments and the senders' word; a frame, the answer
--- buffer and the senders' word; a trace and the report's words. The other C calls, ttpa_start aside, write neither file nor run:
--- ttpa_owner only reads the file.
+-- a call, by all that it is handed except file, run and names: a step's answer buffer and the senders' word; a frame, the answer
+-- buffer and the senders' word; a trace and the report's words. "Every round and naming step may be given the summary" (document 02,
+-- job 8): then a slice and a count come last, any slice and any count, and a list may have such calls and others in any order. The other
+-- C calls, ttpa_start aside, write neither file nor run: ttpa_fill and ttpa_owner only read the file, ttpa_holder reads the slice alone.
 pub data CCall : Type 0 where
-  ttpaStep : StepArguments → ℕ → CCall
+  ttpaStep : List ℕ → ℕ → CCall
+  ttpaStepKeeping : List ℕ → ℕ → List ℕ → ℕ → CCall
   ttpaRound : List ℕ → List ℕ → ℕ → CCall
+  ttpaRoundKeeping : List ℕ → List ℕ → ℕ → List ℕ → ℕ → CCall
   ttpaTrace : List ℕ → List ℕ → CCall
 
 -- a frame and a trace are bytes
 pub data GivenBytes : CCall → Type 0 where
-  given-step : {arguments : StepArguments} {senders : ℕ} → GivenBytes (ttpaStep arguments senders)
+  given-step : {buffer : List ℕ} {senders : ℕ} → GivenBytes (ttpaStep buffer senders)
+  given-step-keeping : {buffer : List ℕ} {senders : ℕ} {held : List ℕ} {count : ℕ} → GivenBytes (ttpaStepKeeping buffer senders held count)
   given-frame : {bytes buffer : List ℕ} {senders : ℕ} → Bytes bytes → GivenBytes (ttpaRound bytes buffer senders)
+  given-frame-keeping :
+      {bytes buffer : List ℕ} {senders : ℕ} {held : List ℕ} {count : ℕ} → Bytes bytes → GivenBytes (ttpaRoundKeeping bytes buffer senders held count)
   given-trace : {t report : List ℕ} → Bytes t → GivenBytes (ttpaTrace t report)
 
 -- ---- carried out
@@ -44,16 +51,22 @@ pub record Memory : Type 0 where
 
 -- the number that a call returns
 unfoldable pub returned : List ℕ → Memory → CCall → ℕ
-returned names m (ttpaStep arguments senders) = stepCall (m .file) (m .run) names (arguments .buffer) senders .0
+returned names m (ttpaStep buffer senders) = stepCall (m .file) (m .run) names buffer senders .0
+returned names m (ttpaStepKeeping buffer senders held count) = stepKeepingCall (m .file) (m .run) names buffer senders held count .0
 returned names m (ttpaRound bytes buffer senders) = roundCall (m .file) bytes buffer senders .0
+returned names m (ttpaRoundKeeping bytes buffer senders held count) = roundKeepingCall (m .file) bytes buffer senders held count .0
 returned names m (ttpaTrace t report) = traceCall (m .file) t report .0
 
 -- and what it leaves there: "each call gets the file as the last call left it, each step also the run as the last step left it and
 -- the unchanged names, and nobody else writes these meanwhile"
 unfoldable pub memoryAfter : List ℕ → Memory → CCall → Memory
-memoryAfter names m (ttpaStep arguments senders) =
-    let r = stepCall (m .file) (m .run) names (arguments .buffer) senders in record { file = r .4; run = r .2 }
+memoryAfter names m (ttpaStep buffer senders) =
+    let r = stepCall (m .file) (m .run) names buffer senders in record { file = r .4; run = r .2 }
+memoryAfter names m (ttpaStepKeeping buffer senders held count) =
+    let r = stepKeepingCall (m .file) (m .run) names buffer senders held count in record { file = r .4; run = r .2 }
 memoryAfter names m (ttpaRound bytes buffer senders) = record { file = roundCall (m .file) bytes buffer senders .3; run = m .run }
+memoryAfter names m (ttpaRoundKeeping bytes buffer senders held count) =
+    record { file = roundKeepingCall (m .file) bytes buffer senders held count .3; run = m .run }
 memoryAfter names m (ttpaTrace t report) = record { file = traceCall (m .file) t report .2; run = m .run }
 
 unfoldable pub afterCalls : List ℕ → Memory → List CCall → Memory
@@ -72,14 +85,18 @@ permittedFrames h file (x ∷ xs) =
 -- a call that returns 0: "A complete round is an accepted MSA followed directly, refused calls aside, by an accepted MSD, or a
 -- multipartner frame"; a step stands within no such round
 unfoldable pub permittedCall : Bool → Memory → CCall → Bool
-permittedCall h m (ttpaStep arguments senders) = not h
+permittedCall h m (ttpaStep buffer senders) = not h
+permittedCall h m (ttpaStepKeeping buffer senders held count) = not h
 permittedCall h m (ttpaRound bytes buffer senders) = permittedFrame h (roundBy bytes) bytes
+permittedCall h m (ttpaRoundKeeping bytes buffer senders held count) = permittedFrame h (roundBy bytes) bytes
 permittedCall h m (ttpaTrace t report) = permittedFrames h (m .file) (framesOf t)
 
 -- whether a round of others is half done after it
 unfoldable pub halfwayOn : Bool → Memory → CCall → Bool
-halfwayOn h m (ttpaStep arguments senders) = h
+halfwayOn h m (ttpaStep buffer senders) = h
+halfwayOn h m (ttpaStepKeeping buffer senders held count) = h
 halfwayOn h m (ttpaRound bytes buffer senders) = halfwayAfter h (done 0) (roundBy bytes)
+halfwayOn h m (ttpaRoundKeeping bytes buffer senders held count) = halfwayAfter h (done 0) (roundBy bytes)
 halfwayOn h m (ttpaTrace t report) = halfwayFrom h (m .file) (framesOf t)
 
 -- "every list of steps, permitted rounds .. and refused steps and frames": each judged where it comes, one that returns another
@@ -93,12 +110,15 @@ permitted h names m (c ∷ cs) =
 
 -- ---- the account
 
--- the calls that it is fed: "each call's arguments other than file, run and names"; a trace is others' rounds, which "change
--- nothing here"
+-- the calls that it is fed: "each call's arguments other than file, run and names", a summary among them; a trace is others' rounds, which
+-- "change nothing here"
 unfoldable pub callsFed : List CCall → List Call
 callsFed [] = []
-callsFed (ttpaStep arguments senders ∷ cs) = stepBy arguments ∷ callsFed cs
-callsFed (ttpaRound bytes buffer senders ∷ cs) = frameOf (record { bytes = bytes; buffer = buffer }) ∷ callsFed cs
+callsFed (ttpaStep buffer senders ∷ cs) = stepBy (record { summary = without; buffer = buffer }) ∷ callsFed cs
+callsFed (ttpaStepKeeping buffer senders held count ∷ cs) = stepBy (record { summary = kept count held; buffer = buffer }) ∷ callsFed cs
+callsFed (ttpaRound bytes buffer senders ∷ cs) = frameOf (record { summary = without; bytes = bytes; buffer = buffer }) ∷ callsFed cs
+callsFed (ttpaRoundKeeping bytes buffer senders held count ∷ cs) =
+    frameOf (record { summary = kept count held; bytes = bytes; buffer = buffer }) ∷ callsFed cs
 callsFed (ttpaTrace t report ∷ cs) = callsFed cs
 
 -- the slaves' names in a file, and the account after the calls
@@ -117,7 +137,7 @@ pub data TakenByRounds (file : List ℕ) : Type 0 where
 
 -- what the memory then holds: "Demand 3 compares every logical name, the end and both counts carried in the run with this
 -- account"; the file stays accepted, and by ttpa_check if it was; a step that comes next returns the ground of its own arguments, so 0
--- or 9; the closed figures
+-- or 9, and 24 if it is given a summary that is not that of the slaves as they then are; the closed figures
 pub record CallsDemand (file names : List ℕ) (calls : List CCall) (m : Memory) : Type 0 where
   pub logical : slavesIn (m .file) ≡ accounted file names calls .slaves
   pub end : positionIn (m .run) .end ≡ accounted file names calls .end
@@ -126,8 +146,12 @@ pub record CallsDemand (file names : List ℕ) (calls : List CCall) (m : Memory)
   pub accepted : TakenByRounds (m .file)
   pub loaded : checkCall file ≡ 0 → checkCall (m .file) ≡ 0
   pub next :
-      (arguments : StepArguments) (senders : ℕ) →
-      returned names m (ttpaStep arguments senders) ≡ argumentsGround (slavesIn (m .file)) arguments
+      (buffer : List ℕ) (senders : ℕ) →
+      returned names m (ttpaStep buffer senders) ≡ argumentsGround (slavesIn (m .file)) (record { summary = without; buffer = buffer })
+  pub nextKeeping :
+      (buffer : List ℕ) (senders : ℕ) (held : List ℕ) (count : ℕ) →
+      returned names m (ttpaStepKeeping buffer senders held count) ≡
+      argumentsGround (slavesIn (m .file)) (record { summary = kept count held; buffer = buffer })
   pub outcome :
       Outcome (slavesIn file) names (slavesIn (m .file))
       (positionIn (m .run) .end) (positionIn (m .run) .rounds) (positionIn (m .run) .comparisons)
@@ -156,9 +180,10 @@ ThroughoutCalls =
     (calls more : List CCall) → All GivenBytes calls → permitted false names (started file names run) (calls ++ more) ≡ true →
     CallsDemand file names calls (afterCalls names (started file names run) calls)
 
--- The claims are of many lists: every list of steps is permitted.
+-- The claims are of many lists: every list of steps is permitted, given summaries or not.
 pub data IsStep : CCall → Type 0 where
-  is-step : {arguments : StepArguments} {senders : ℕ} → IsStep (ttpaStep arguments senders)
+  is-step : {buffer : List ℕ} {senders : ℕ} → IsStep (ttpaStep buffer senders)
+  is-step-keeping : {buffer : List ℕ} {senders : ℕ} {held : List ℕ} {count : ℕ} → IsStep (ttpaStepKeeping buffer senders held count)
 
 abbrev pub StepsPermitted : Type 0
 StepsPermitted = (names : List ℕ) (m : Memory) (calls : List CCall) → All IsStep calls → permitted false names m calls ≡ true
@@ -169,8 +194,11 @@ abbrev pub memoryOf : State → Position → Memory
 memoryOf s p = record { file = s .file; run = wordsOf p }
 
 unfoldable pub argumentsOf : CCall → CallOrTrace
-argumentsOf (ttpaStep arguments senders) = CallOrTrace.call (stepBy arguments)
-argumentsOf (ttpaRound bytes buffer senders) = CallOrTrace.call (frameOf (record { bytes = bytes; buffer = buffer }))
+argumentsOf (ttpaStep buffer senders) = CallOrTrace.call (stepBy (record { summary = without; buffer = buffer }))
+argumentsOf (ttpaStepKeeping buffer senders held count) = CallOrTrace.call (stepBy (record { summary = kept count held; buffer = buffer }))
+argumentsOf (ttpaRound bytes buffer senders) = CallOrTrace.call (frameOf (record { summary = without; bytes = bytes; buffer = buffer }))
+argumentsOf (ttpaRoundKeeping bytes buffer senders held count) =
+    CallOrTrace.call (frameOf (record { summary = kept count held; bytes = bytes; buffer = buffer }))
 argumentsOf (ttpaTrace t report) = CallOrTrace.trace t
 
 abbrev pub SamePermitted : Type 0

@@ -6,9 +6,10 @@ use mathlib.Core.Path.{_≡_}
 use mathlib.Core.List.{List, [], _∷_}
 use Rattle.file.specs.Rules.Bytes.{Bytes, All}
 use Rattle.file.specs.Rules.Decode.{decode}
+use Rattle.cluster.specs.Rules.Summary.{roundKeepingGround}
 use Rattle.cluster.specs.Claims.Pending.{AcceptedMsa, Pending}
 use Rattle.naming.specs.Rules.Run.{Position, running}
-use Rattle.naming.specs.Rules.Step.{stepGround}
+use Rattle.naming.specs.Rules.Step.{stepKeepingGround}
 use Rattle.naming.specs.Rules.Account.{StepArguments, FrameArguments, Call, step, frame}
 use Rattle.naming.specs.Claims.Demand.{State, startOn, callOn}
 use Rattle.demand.specs.Claims.Traces.{CallOrTrace, AllBytes, singly, afterAll}
@@ -16,9 +17,13 @@ use Rattle.demand.specs.Claims.Traces.{CallOrTrace, AllBytes, singly, af
 -- no MSA is accepted in a call. A step of a running position sends an MSA of its own, so this is a step that is refused, or of an ended
 -- run.
 pub data NoMsa (names : List ℕ) (s : State) (p : Position) : Call → Type 0 where
-  in-step : {arguments : StepArguments} → (stepGround (s .file) p names (arguments .buffer) ≡ 0 → p .end ≡ running → ⊥) → NoMsa names s p (step arguments)
+  in-step :
+      {arguments : StepArguments} →
+      (stepKeepingGround (s .file) p names (arguments .summary) (arguments .buffer) ≡ 0 → p .end ≡ running → ⊥) → NoMsa names s p (step arguments)
   in-frame :
-      {arguments : FrameArguments} → (AcceptedMsa (s .file) (arguments .bytes) (arguments .buffer) → ⊥) → NoMsa names s p (frame arguments)
+      {arguments : FrameArguments} →
+      (roundKeepingGround (s .file) (arguments .summary) (arguments .bytes) (arguments .buffer) ≡ 0 →
+      AcceptedMsa (s .file) (arguments .bytes) (arguments .buffer) → ⊥) → NoMsa names s p (frame arguments)
 
 -- in none of the calls, each on the file and the run as they then are
 pub data NoMsaAmong (names : List ℕ) : State → Position → List Call → Type 0 where

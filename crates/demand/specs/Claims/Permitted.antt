@@ -31,7 +31,8 @@ TraceFits =
     (frames : List (List ℕ)) → Rounds frames → length (encodeTrace frames) ≤ maxTrace → (ds : List Call) → All IsStepByRules ds →
     permittedByRules names (startOn file) (fresh names) (singly (calls ++ CallOrTrace.trace (encodeTrace frames) ∷ map CallOrTrace.call ds)) ≡ true
 
--- and over the C calls: permitted rounds, their frames sent by ttpa_round with buffers that are long enough or by ttpa_trace
+-- and over the C calls: permitted rounds, their frames sent by ttpa_round with buffers that are long enough or by ttpa_trace, among calls
+-- with summaries and without. (`Claims/Summary` has that ttpa_round_keeping with a summary that matches is permitted where these are.)
 abbrev pub RoundsFitCalls : Type 0
 RoundsFitCalls =
     (file : List ℕ) → Bytes file → TakenByRounds file → (names : List ℕ) → Bytes names → (run : List ℕ) → startCall names run .0 ≡ 0 →

@@ -6,18 +6,25 @@ use mathlib.Core.Path.{_≡_}
 use mathlib.Core.List.{List, [], _∷_, map}
 use Rattle.file.specs.Rules.Bytes.{Bytes, All}
 use Rattle.cluster.specs.Claims.Renaming.{Baptizes, namesOf}
+use Rattle.cluster.specs.Rules.Summary.{roundKeepingGround}
 use Rattle.naming.specs.Rules.Run.{Position, bits}
+use Rattle.naming.specs.Rules.Step.{stepKeepingGround}
 use Rattle.naming.specs.Rules.Account.{StepArguments, FrameArguments, Call, step, frame}
 use Rattle.naming.specs.Claims.Demand.{State, startOn, callOn}
 use Rattle.naming.specs.Claims.Renaming.{StepBaptizes}
 use Rattle.demand.specs.Claims.Traces.{CallOrTrace, AllBytes, singly, afterAll}
 use Rattle.demand.specs.Claims.Calls.{CCall, GivenBytes, afterCalls, memoryOf, argumentsOf}
 
--- a call does not baptize: a step, or a frame
+-- a call does not baptize: a step, or a frame. One that is given a summary that does not match is refused, whatever it would do without.
 pub data NoBaptism (names : List ℕ) (s : State) (p : Position) : Call → Type 0 where
-  in-step : {arguments : StepArguments} → (StepBaptizes (s .file) p names (arguments .buffer) → ⊥) → NoBaptism names s p (step arguments)
+  in-step :
+      {arguments : StepArguments} →
+      (stepKeepingGround (s .file) p names (arguments .summary) (arguments .buffer) ≡ 0 → StepBaptizes (s .file) p names (arguments .buffer) → ⊥) →
+      NoBaptism names s p (step arguments)
   in-frame :
-      {arguments : FrameArguments} → ((name : ℕ) → Baptizes (s .file) (arguments .bytes) (arguments .buffer) name → ⊥) → NoBaptism names s p (frame arguments)
+      {arguments : FrameArguments} →
+      (roundKeepingGround (s .file) (arguments .summary) (arguments .bytes) (arguments .buffer) ≡ 0 →
+      (name : ℕ) → Baptizes (s .file) (arguments .bytes) (arguments .buffer) name → ⊥) → NoBaptism names s p (frame arguments)
 
 -- none of the calls does, each on the file and the run as they then are
 pub data NoneBaptizes (names : List ℕ) : State → Position → List Call → Type 0 where
@@ -31,7 +38,8 @@ CallsRenameNobody =
     (file names : List ℕ) (p : Position) (calls : List CallOrTrace) → Bytes file → Bytes names → p .value < 2 ^ bits → All AllBytes calls →
     NoneBaptizes names (startOn file) p (singly calls) → namesOf (afterAll names (startOn file) p calls .0 .file) ≡ namesOf file
 
--- and so over the C calls ttpa_step, ttpa_round and ttpa_trace, on the bytes of the file and the eight stored words
+-- and so over the C calls ttpa_step, ttpa_step_keeping, ttpa_round, ttpa_round_keeping and ttpa_trace, on the bytes of the file and the
+-- eight stored words
 abbrev pub CCallsRenameNobody : Type 0
 CCallsRenameNobody =
     (file names : List ℕ) (p : Position) (calls : List CCall) → Bytes file → Bytes names → p .value < 2 ^ bits → All GivenBytes calls →

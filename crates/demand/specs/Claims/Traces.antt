@@ -10,6 +10,7 @@ use Rattle.file.specs.Rules.Results.{Result, refused, done}
 use Rattle.file.specs.Rules.Grounds.{fileGround}
 use Rattle.cluster.specs.Rules.Bus.{slots}
 use Rattle.cluster.specs.Rules.Grounds.{roundBy}
+use Rattle.cluster.specs.Rules.Summary.{without}
 use Rattle.trace.specs.Rules.Trace.{brokenTrace, framesOf}
 use Rattle.trace.specs.Rules.Run.{sent, Report, traceOn}
 use Rattle.naming.specs.Rules.Run.{Position, fresh, startGround}
@@ -58,9 +59,9 @@ afterAll names s p (c ∷ cs) = afterAll names (callOrTraceOn names s p c .0) (c
 
 -- ---- "the frames sent singly in order"
 
--- a frame sent singly: demand 3's frame call, with an answer buffer of 64 bytes
+-- a frame sent singly: demand 3's frame call, without a summary and with an answer buffer of 64 bytes
 unfoldable pub frameCall : List ℕ → Call
-frameCall x = frame (record { bytes = x; buffer = replicate slots 0 })
+frameCall x = frame (record { summary = without; bytes = x; buffer = replicate slots 0 })
 
 -- what a trace stands for: its frames sent singly; nothing if 19 refuses it
 unfoldable pub framesSingly : List ℕ → List Call

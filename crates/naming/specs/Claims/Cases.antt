@@ -12,6 +12,7 @@ use Rattle.frame.specs.Claims.Cases.{FrameCases}
 use Rattle.cluster.specs.Rules.Bus.{slots}
 use Rattle.cluster.specs.Rules.Round.{roundOn}
 use Rattle.cluster.specs.Claims.Cases.{dataRound, RoundCases}
+use Rattle.cluster.specs.Rules.Summary.{without}
 use Rattle.naming.specs.Rules.Account.{Named, Account, step, accountOf, accountAfter, comparisonsOf, namesIn}
 use Rattle.naming.specs.Claims.Files.{m6File, m7File, m8File, m9File, m10File}
 
@@ -57,7 +58,7 @@ pub record MarkedCases : Type 0 where
   -- line of M10 is worked out again.")
   pub m10-accepted : fileGround m10File ≡ 0
   pub m10 :
-      figures (accountAfter (accountOf (namesIn (decode m10File)) (from 254 1)) (replicate 274 (step (record { buffer = answerBuffer })))) ≡
+      figures (accountAfter (accountOf (namesIn (decode m10File)) (from 254 1)) (replicate 274 (step (record { summary = without; buffer = answerBuffer })))) ≡
       record {
         slaves = slave 0x0000000700000010 2 ∷ slave 0x00000007000000A0 1 ∷ [];
         end = 1;

@@ -14,9 +14,10 @@ use Rattle.file.specs.Rules.Decode.{decode}
 use Rattle.file.specs.Rules.Grounds.{fileGround}
 use Rattle.frame.specs.Rules.Fireworks.{Round, multipartner, msd, msa, noRound}
 use Rattle.cluster.specs.Rules.Grounds.{roundBy}
-use Rattle.cluster.specs.Rules.Round.{Answer, roundGround, roundOn}
+use Rattle.cluster.specs.Rules.Round.{Answer}
+use Rattle.cluster.specs.Rules.Summary.{roundKeepingGround, roundKeeping}
 use Rattle.naming.specs.Rules.Run.{Position, fresh, startGround, unfitPosition}
-use Rattle.naming.specs.Rules.Step.{stepGround, stepOn}
+use Rattle.naming.specs.Rules.Step.{stepKeepingGround, stepKeeping}
 use Rattle.naming.specs.Rules.Account.{StepArguments, FrameArguments, Call, step, frame, argumentsGround}
 use Rattle.naming.specs.Rules.Account.{namesIn, accountOf, accountAfter, comparisonsOf}
 use Rattle.naming.specs.Rules.Figures.{Outcome}
@@ -40,9 +41,9 @@ halfwayAfter h (done mask) noRound = h
 -- "each call gets the file as the last call left it, each step also the run as the last step left it and the unchanged names"
 unfoldable pub callOn : List ℕ → State → Position → Call → State × Position
 callOn names s p (step arguments) =
-    let r = stepOn (s .file) p names (arguments .buffer) in (record { file = r .3; halfway = s .halfway }, r .1)
+    let r = stepKeeping (s .file) p names (arguments .summary) (arguments .buffer) in (record { file = r .3; halfway = s .halfway }, r .1)
 callOn names s p (frame arguments) =
-    let r = roundOn (s .file) (arguments .bytes) (arguments .buffer) in
+    let r = roundKeeping (s .file) (arguments .summary) (arguments .bytes) (arguments .buffer) in
     (record { file = r .2; halfway = halfwayAfter (s .halfway) (r .0) (roundBy (arguments .bytes)) }, p)
 
 -- "no write to or execute of 0x08": PB2 of an MSA
@@ -72,10 +73,10 @@ permittedFrame false noRound bytes = false
 
 -- a call: a refused one always; an accepted step within no round of others
 unfoldable pub permittedCall : List ℕ → State → Position → Call → Bool
-permittedCall names s p (step arguments) = cond (eqb (stepGround (s .file) p names (arguments .buffer)) 0) (not (s .halfway)) true
+permittedCall names s p (step arguments) = cond (eqb (stepKeepingGround (s .file) p names (arguments .summary) (arguments .buffer)) 0) (not (s .halfway)) true
 permittedCall names s p (frame arguments) =
     let bytes = arguments .bytes in
-    cond (eqb (roundGround (s .file) bytes (arguments .buffer)) 0) (permittedFrame (s .halfway) (roundBy bytes) bytes) true
+    cond (eqb (roundKeepingGround (s .file) (arguments .summary) bytes (arguments .buffer)) 0) (permittedFrame (s .halfway) (roundBy bytes) bytes) true
 
 -- "every list of steps, permitted rounds .. and refused steps and frames": each judged where it comes, and no round left half done
 unfoldable pub permitted : List ℕ → State → Position → List Call → Bool
@@ -103,7 +104,7 @@ pub record Demand (file names : List ℕ) (calls : List Call) (now : List ℕ) (
   pub comparisons : p .comparisons ≡ comparisonsOf (accountAfter (accountOf (namesIn (decode file)) names) calls)
   pub fit : unfitPosition names p ≡ false
   pub grounds :
-      (arguments : StepArguments) → stepGround now p names (arguments .buffer) ≡ argumentsGround (namesIn (decode now)) arguments
+      (arguments : StepArguments) → stepKeepingGround now p names (arguments .summary) (arguments .buffer) ≡ argumentsGround (namesIn (decode now)) arguments
   pub outcome : Outcome (namesIn (decode file)) names (namesIn (decode now)) (p .end) (p .rounds) (p .comparisons)
 
 -- Demand 3: "It is one claim about the whole list of calls, not one for each."

@@ -10,9 +10,10 @@ use Rattle.file.specs.Rules.Cluster.{configuration, broadcast, readOperation, w
 use Rattle.frame.specs.Rules.Fireworks.{Round, multipartner, msd, msa}
 use Rattle.frame.specs.Rules.Reading.{Parts, partsOf}
 use Rattle.cluster.specs.Rules.Grounds.{roundBy}
-use Rattle.cluster.specs.Rules.Round.{roundGround, roundOn}
+use Rattle.cluster.specs.Rules.Round.{roundOn}
+use Rattle.cluster.specs.Rules.Summary.{roundKeepingGround}
 use Rattle.naming.specs.Rules.Run.{Position}
-use Rattle.naming.specs.Rules.Step.{stepGround, stepOn}
+use Rattle.naming.specs.Rules.Step.{stepKeepingGround, stepOn}
 use Rattle.naming.specs.Rules.Account.{StepArguments, FrameArguments, Call, step, frame}
 use Rattle.naming.specs.Claims.Demand.{startOn, permitted, OfBytes}
 
@@ -29,14 +30,14 @@ pub data MayAsk (a : Parts) : Type 0 where
 
 -- a frame that no ground refuses, of that round
 pub record Accepted (file : List ℕ) (arguments : FrameArguments) (round : Round) : Type 0 where
-  pub none : roundGround file (arguments .bytes) (arguments .buffer) ≡ 0
+  pub none : roundKeepingGround file (arguments .summary) (arguments .bytes) (arguments .buffer) ≡ 0
   pub opens : roundBy (arguments .bytes) ≡ round
 
 -- "refused steps and frames"
 pub data Refused (names file : List ℕ) (p : Position) : Call → Type 0 where
-  in-step : {arguments : StepArguments} → stepGround file p names (arguments .buffer) ≢ 0 → Refused names file p (step arguments)
+  in-step : {arguments : StepArguments} → stepKeepingGround file p names (arguments .summary) (arguments .buffer) ≢ 0 → Refused names file p (step arguments)
   in-frame :
-      {arguments : FrameArguments} → roundGround file (arguments .bytes) (arguments .buffer) ≢ 0 → Refused names file p (frame arguments)
+      {arguments : FrameArguments} → roundKeepingGround file (arguments .summary) (arguments .bytes) (arguments .buffer) ≢ 0 → Refused names file p (frame arguments)
 
 -- "every list of steps, permitted rounds (complete ones, but no write to or execute of 0x08) and refused steps and frames", each call on
 -- the file and the run as the last one left them
@@ -46,7 +47,7 @@ pub data PermittedList (names : List ℕ) : List ℕ → Position → List Call 
       {file : List ℕ} {p : Position} {c : Call} {cs : List Call} → Refused names file p c → PermittedList names file p cs →
       PermittedList names file p (c ∷ cs)
   aStep :
-      {file : List ℕ} {p : Position} {arguments : StepArguments} {cs : List Call} → stepGround file p names (arguments .buffer) ≡ 0 →
+      {file : List ℕ} {p : Position} {arguments : StepArguments} {cs : List Call} → stepKeepingGround file p names (arguments .summary) (arguments .buffer) ≡ 0 →
       PermittedList names (stepOn file p names (arguments .buffer) .3) (stepOn file p names (arguments .buffer) .1) cs →
       PermittedList names file p (step arguments ∷ cs)
   -- "A complete round is .. a multipartner frame"

@@ -17,8 +17,10 @@ use Rattle.frame.specs.Rules.Reading.{Parts}
 use Rattle.cluster.specs.Rules.Bus.{slots}
 use Rattle.cluster.specs.Rules.Grounds.{writePending}
 use Rattle.cluster.specs.Rules.Round.{roundOn}
+use Rattle.cluster.specs.Rules.Summary.{Summary, without}
+use Rattle.cluster.specs.Claims.Summary.{Matches}
 use Rattle.naming.specs.Rules.Run.{Position, fresh, startGround}
-use Rattle.naming.specs.Rules.Step.{stepGround}
+use Rattle.naming.specs.Rules.Step.{stepKeepingGround}
 use Rattle.naming.specs.Rules.Account.{StepArguments, FrameArguments, Call, step, frame}
 use Rattle.naming.specs.Claims.Demand.{startOn, permitted, afterCalls, OfBytes}
 use Rattle.naming.specs.Claims.Permitted.{MayAsk, Accepted, Refused}
@@ -68,12 +70,12 @@ pub data Rounds : List (List ℕ) → Type 0 where
       {a : Parts} {content : List ℕ} {frames : List (List ℕ)} → Sendable a → MayAsk a → DataFor (eqb (a .operation) writeOperation) content →
       Rounds frames → Rounds (addressOf a ∷ content ∷ frames)
 
--- frames sent one after the other, each with an answer buffer that is long enough
+-- frames sent one after the other, each with an answer buffer that is long enough and without a summary
 pub data SentBy : List (List ℕ) → List Call → Type 0 where
   noFrames : SentBy [] []
   oneMore :
       {bytes buffer : List ℕ} {frames : List (List ℕ)} {calls : List Call} → slots ≤ length buffer → SentBy frames calls →
-      SentBy (bytes ∷ frames) (frame (record { bytes = bytes; buffer = buffer }) ∷ calls)
+      SentBy (bytes ∷ frames) (frame (record { summary = without; bytes = bytes; buffer = buffer }) ∷ calls)
 
 -- ---- rounds that fit
 
@@ -100,18 +102,18 @@ pub data MayNotAsk (a : Parts) : Type 0 where
 abbrev pub MayNotAskExactly : Type 0
 MayNotAskExactly = (a : Parts) → Sendable a → MayNotAsk a ↔ (MayAsk a → ⊥)
 
--- such an MSA fits nowhere, whatever follows
+-- such an MSA fits nowhere, whatever follows: without a summary, or with one that matches (with another it is refused)
 abbrev pub BarredMsa : Type 0
 BarredMsa =
     (file names : List ℕ) (cs : List Call) → PermittedFrom file names cs → (a : Parts) → Sendable a → MayNotAsk a →
-    (buffer : List ℕ) → slots ≤ length buffer → (ds : List Call) →
-    permitted names (startOn file) (fresh names) (cs ++ frame (record { bytes = addressOf a; buffer = buffer }) ∷ ds) ≡ false
+    (summary : Summary) → Matches (fileAfter file names cs) summary → (buffer : List ℕ) → slots ≤ length buffer → (ds : List Call) →
+    permitted names (startOn file) (fresh names) (cs ++ frame (record { summary = summary; bytes = addressOf a; buffer = buffer }) ∷ ds) ≡ false
 
 -- no MSD comes next: refused calls aside, the calls end, or a step or a frame that is no MSD is accepted
 pub data NoMsdNext (names file : List ℕ) (p : Position) : List Call → Type 0 where
   atTheEnd : NoMsdNext names file p []
   refusedNext : {c : Call} {cs : List Call} → Refused names file p c → NoMsdNext names file p cs → NoMsdNext names file p (c ∷ cs)
-  stepNext : {arguments : StepArguments} {cs : List Call} → stepGround file p names (arguments .buffer) ≡ 0 → NoMsdNext names file p (step arguments ∷ cs)
+  stepNext : {arguments : StepArguments} {cs : List Call} → stepKeepingGround file p names (arguments .summary) (arguments .buffer) ≡ 0 → NoMsdNext names file p (step arguments ∷ cs)
   frameNext :
       {arguments : FrameArguments} {round : Round} {cs : List Call} → Accepted file arguments round → round ≢ msd →
       NoMsdNext names file p (frame arguments ∷ cs)
@@ -119,12 +121,14 @@ pub data NoMsdNext (names file : List ℕ) (p : Position) : List Call → Type 0
 -- "a lone MSA or MSD is none": neither fits, an MSA whatever it asks for, an MSD whatever is pending
 abbrev pub LoneMsa : Type 0
 LoneMsa =
-    (file names : List ℕ) (cs : List Call) → PermittedFrom file names cs → (a : Parts) → Sendable a → (buffer : List ℕ) → slots ≤ length buffer →
+    (file names : List ℕ) (cs : List Call) → PermittedFrom file names cs → (a : Parts) → Sendable a →
+    (summary : Summary) → Matches (fileAfter file names cs) summary → (buffer : List ℕ) → slots ≤ length buffer →
     (ds : List Call) → NoMsdNext names (roundOn (fileAfter file names cs) (addressOf a) buffer .2) (runAfter file names cs) ds →
-    permitted names (startOn file) (fresh names) (cs ++ frame (record { bytes = addressOf a; buffer = buffer }) ∷ ds) ≡ false
+    permitted names (startOn file) (fresh names) (cs ++ frame (record { summary = summary; bytes = addressOf a; buffer = buffer }) ∷ ds) ≡ false
 
 abbrev pub LoneMsd : Type 0
 LoneMsd =
     (file names : List ℕ) (cs : List Call) → PermittedFrom file names cs →
-    (content : List ℕ) → DataFor (writePending (decode (fileAfter file names cs))) content → (buffer : List ℕ) → slots ≤ length buffer → (ds : List Call) →
-    permitted names (startOn file) (fresh names) (cs ++ frame (record { bytes = content; buffer = buffer }) ∷ ds) ≡ false
+    (content : List ℕ) → DataFor (writePending (decode (fileAfter file names cs))) content →
+    (summary : Summary) → Matches (fileAfter file names cs) summary → (buffer : List ℕ) → slots ≤ length buffer → (ds : List Call) →
+    permitted names (startOn file) (fresh names) (cs ++ frame (record { summary = summary; bytes = content; buffer = buffer }) ∷ ds) ≡ false

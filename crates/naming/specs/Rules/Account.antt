@@ -8,6 +8,7 @@ use Rattle.file.specs.Rules.Order.{firstOf}
 use Rattle.file.specs.Rules.Cluster.{Slave, Cluster, physicalName, logicalName, unnamed}
 use Rattle.file.specs.Rules.Grounds.{isAmong}
 use Rattle.cluster.specs.Rules.Grounds.{shortAnswer}
+use Rattle.cluster.specs.Rules.Summary.{Summary, wrongSummary}
 
 -- a slave's physical and logical name
 pub record Named : Type 0 where
@@ -130,11 +131,14 @@ oneRound a = passOn a
 
 -- ---- the calls
 
--- "then each call's arguments other than file, run and names": of a step its answer buffer, of a frame its bytes and its answer buffer
+-- "then each call's arguments other than file, run and names": of a step its answer buffer, of a frame its bytes and its answer buffer;
+-- and of both the summary (document 02, job 8: "Every round and naming step may be given the summary")
 pub record StepArguments : Type 0 where
+  pub summary : Summary
   pub buffer : List ℕ
 
 pub record FrameArguments : Type 0 where
+  pub summary : Summary
   pub bytes : List ℕ
   pub buffer : List ℕ
 
@@ -142,10 +146,11 @@ pub data Call : Type 0 where
   step : StepArguments → Call
   frame : FrameArguments → Call
 
--- the ground that refuses a step "for those arguments", the slaves being as the account has them, 0 if there is none: 9 is the one
--- that they can meet
+-- the ground that refuses a step "for those arguments", the slaves being as the account has them, 0 if there is none: 24, a summary that
+-- is not that of the account's slaves, and 9 are those that they can meet
 unfoldable pub argumentsGround : List Named → StepArguments → ℕ
-argumentsGround slaves arguments = firstOf ((9, shortAnswer (arguments .buffer)) ∷ [])
+argumentsGround slaves arguments =
+    firstOf ((24, wrongSummary (arguments .summary) (namesHeld slaves)) ∷ (9, shortAnswer (arguments .buffer)) ∷ [])
 
 -- "Each step that no numbered ground refuses for those arguments"; "Refused calls and others' rounds change nothing here."
 unfoldable pub accountCall : Account → Call → Account

@@ -5,10 +5,13 @@ use mathlib.Core.Bool.{Bool, false, cond}
 use lib.Dec.{eqb}
 use Rattle.file.specs.Rules.Order.{firstOf}
 use Rattle.file.specs.Rules.Results.{Result, refused, done}
+use Rattle.file.specs.Rules.Cluster.{logicalNames}
+use Rattle.file.specs.Rules.Decode.{decode}
 use Rattle.file.specs.Rules.Grounds.{fileGrounds}
 use Rattle.cluster.specs.Rules.Grounds.{shortAnswer}
 use Rattle.cluster.specs.Rules.Round.{Answer}
 use Rattle.cluster.specs.Rules.MasterSlave.{roundSent}
+use Rattle.cluster.specs.Rules.Summary.{Summary, wrongSummary, keptFor}
 use Rattle.naming.specs.Rules.Rounds.{sent}
 use Rattle.naming.specs.Rules.Run.{Position, running, nextRound, advance, runGrounds}
 
@@ -45,3 +48,15 @@ stepOn file p names buffer =
     let ground = stepGround file p names buffer in
     let step = stepMade file p names buffer in
     cond (eqb ground 0) (cond (eqb (p .end) running) step (done ended, p, buffer, file)) (refused ground, p, buffer, file)
+
+-- a step given the summary (document 02, job 8: "Every round and naming step may be given the summary and keeps it true."): the file's
+-- grounds, 24 "after 8", then those of the step
+unfoldable pub stepKeepingGround : List ℕ → Position → List ℕ → Summary → List ℕ → ℕ
+stepKeepingGround file p names summary buffer =
+    firstOf (fileGrounds file ++ (24, wrongSummary summary (logicalNames (decode file))) ∷ (9, shortAnswer buffer) ∷ runGrounds names p)
+
+-- answer, position, buffer, file and summary: "A refusal returns its number and alters nothing lent"
+unfoldable pub stepKeeping : List ℕ → Position → List ℕ → Summary → List ℕ → Result StepDone × Position × List ℕ × List ℕ × Summary
+stepKeeping file p names summary buffer =
+    let ground = stepKeepingGround file p names summary buffer in let r = stepOn file p names buffer in
+    cond (eqb ground 0) (r .0, r .1, r .2, r .3, keptFor summary (logicalNames (decode (r .3)))) (refused ground, p, buffer, file, summary)

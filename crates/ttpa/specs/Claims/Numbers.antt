@@ -2,7 +2,7 @@
 -- numbers (02 adds more)." (the customer's first demand): which numbers each C call returns, whatever it is handed.
 use Prim.Native.Nat.{ℕ}
 use mathlib.Core.List.{List, [], _∷_, _++_}
-use Rattle.ttpa.specs.Rules.Calls.{checkCall, readAddressCall, writeAddressCall, writeDataCall, roundCall, traceCall, ownerCall, startCall, stepCall}
+use Rattle.ttpa.specs.Rules.Calls.{checkCall, readAddressCall, writeAddressCall, writeDataCall, roundCall, traceCall, ownerCall, startCall, stepCall, fillCall, holderCall, roundKeepingCall, stepKeepingCall}
 
 pub data OneOf : ℕ → List ℕ → Type 0 where
   here : {n : ℕ} {ns : List ℕ} → OneOf n (n ∷ ns)
@@ -34,3 +34,12 @@ pub record RefusedByNumbers : Type 0 where
   pub step :
       (file run names answer : List ℕ) (senders : ℕ) →
       ZeroOr (stepCall file run names answer senders .0) (fileNumbers ++ 9 ∷ 15 ∷ 16 ∷ 17 ∷ [])
+  -- 24 "after 8" (document 02, job 8)
+  pub fill : (file held : List ℕ) (count : ℕ) → ZeroOr (fillCall file held count .0) (fileNumbers ++ 24 ∷ [])
+  pub holder : (held : List ℕ) (count name place : ℕ) → ZeroOr (holderCall held count name place .0) (24 ∷ [])
+  pub roundKeeping :
+      (file frame answer : List ℕ) (senders : ℕ) (held : List ℕ) (count : ℕ) →
+      ZeroOr (roundKeepingCall file frame answer senders held count .0) (fileNumbers ++ 24 ∷ 9 ∷ 10 ∷ 11 ∷ 12 ∷ 13 ∷ 14 ∷ [])
+  pub stepKeeping :
+      (file run names answer : List ℕ) (senders : ℕ) (held : List ℕ) (count : ℕ) →
+      ZeroOr (stepKeepingCall file run names answer senders held count .0) (fileNumbers ++ 24 ∷ 9 ∷ 15 ∷ 16 ∷ 17 ∷ [])

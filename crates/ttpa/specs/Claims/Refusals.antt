@@ -5,7 +5,7 @@ use Prim.Native.Nat.{ℕ}
 use mathlib.Core.Path.{_≡_}
 use mathlib.Core.Logic.{_≢_}
 use mathlib.Core.List.{List}
-use Rattle.ttpa.specs.Rules.Calls.{readAddressCall, writeAddressCall, writeDataCall, roundCall, traceCall, ownerCall, startCall, stepCall}
+use Rattle.ttpa.specs.Rules.Calls.{readAddressCall, writeAddressCall, writeDataCall, roundCall, traceCall, ownerCall, startCall, stepCall, fillCall, holderCall, roundKeepingCall, stepKeepingCall}
 
 pub record RefusalsAlterNothing : Type 0 where
   -- the five parts
@@ -31,3 +31,17 @@ pub record RefusalsAlterNothing : Type 0 where
   pub step :
       (file run names answer : List ℕ) (senders n : ℕ) → n ≢ 0 →
       stepCall file run names answer senders .0 ≡ n → stepCall file run names answer senders ≡ (n, senders, run, answer, file)
+  -- count and slice
+  pub fill : (file held : List ℕ) (count n : ℕ) → n ≢ 0 → fillCall file held count .0 ≡ n → fillCall file held count ≡ (n, count, held)
+  -- the place
+  pub holder : (held : List ℕ) (count name place n : ℕ) → n ≢ 0 → holderCall held count name place .0 ≡ n → holderCall held count name place ≡ (n, place)
+  -- senders, answer buffer, file and slice
+  pub roundKeeping :
+      (file frame answer : List ℕ) (senders : ℕ) (held : List ℕ) (count n : ℕ) → n ≢ 0 →
+      roundKeepingCall file frame answer senders held count .0 ≡ n →
+      roundKeepingCall file frame answer senders held count ≡ (n, senders, answer, file, held)
+  -- senders, run, answer buffer, file and slice
+  pub stepKeeping :
+      (file run names answer : List ℕ) (senders : ℕ) (held : List ℕ) (count n : ℕ) → n ≢ 0 →
+      stepKeepingCall file run names answer senders held count .0 ≡ n →
+      stepKeepingCall file run names answer senders held count ≡ (n, senders, run, answer, file, held)

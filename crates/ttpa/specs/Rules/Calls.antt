@@ -1,6 +1,6 @@
 -- The C calls (include/ttpa.h): 0 or the documents' number, and what lent memory holds then. "A refusal returns its number and alters
 -- nothing lent".
-use Prim.Native.Nat.{ℕ, _+_, _*_}
+use Prim.Native.Nat.{ℕ, _+_, _-_, _*_, _^_}
 use mathlib.Core.List.{List, [], _∷_}
 use lib.ListN.{getD}
 use Rattle.file.specs.Rules.Grounds.{loadVerdict}
@@ -8,17 +8,18 @@ use Rattle.file.specs.Rules.Results.{Result, refused, done, numberIn}
 use Rattle.frame.specs.Rules.Reading.{Parts, readAddress}
 use Rattle.frame.specs.Rules.Writing.{writeAddress, writeData}
 use Rattle.cluster.specs.Rules.Round.{roundOn}
+use Rattle.cluster.specs.Rules.Summary.{Summary, without, kept, roundKeeping, fillOn, Held, nobody, at, holderIn}
 use Rattle.trace.specs.Rules.Run.{reportWords, traceOn}
 use Rattle.owner.specs.Rules.Writing.{ownerOn}
 use Rattle.naming.specs.Rules.Run.{Position, startOver}
-use Rattle.naming.specs.Rules.Step.{StepDone, ended, made, stepOn}
+use Rattle.naming.specs.Rules.Step.{StepDone, ended, made, stepOn, stepKeeping}
 
 -- the version of these definitions, which is that of include/ttpa.h: the gate compares the three numbers
 unfoldable pub versionMajor : ℕ
 versionMajor = 0
 
 unfoldable pub versionMinor : ℕ
-versionMinor = 8
+versionMinor = 9
 
 unfoldable pub versionPatch : ℕ
 versionPatch = 0
@@ -92,3 +93,37 @@ unfoldable pub stepCall : List ℕ → List ℕ → List ℕ → List ℕ → �
 stepCall file run names answer senders =
     let r = stepOn file (positionIn run) names answer in
     (numberIn (r .0), stepSenders (r .0) senders, stepWords (r .0) (r .1) run, r .2, r .3)
+
+-- ---- the summary beside a file, lent as a slice and a count (document 02, job 8)
+
+-- fill it from a file: number, count and slice
+unfoldable pub fillCall : List ℕ → List ℕ → ℕ → ℕ × ℕ × List ℕ
+fillCall file held count = let r = fillOn file held in (numberIn (r .0), lentAfter (r .0) count (λ (filled : ℕ). filled), r .1)
+
+-- who holds a name: number and place, "or that nobody holds it", TTPA_NOBODY of the header, which is no place in a slice
+unfoldable pub nobodyPlace : ℕ
+nobodyPlace = 2 ^ 64 - 1
+
+unfoldable pub placeOf : Held → ℕ
+placeOf nobody = nobodyPlace
+placeOf (at place) = place
+
+unfoldable pub holderCall : List ℕ → ℕ → ℕ → ℕ → ℕ × ℕ
+holderCall held count name place = let r = holderIn name count held in (numberIn r, lentAfter r place placeOf)
+
+-- the slice of a summary
+unfoldable pub sliceOf : Summary → List ℕ
+sliceOf without = []
+sliceOf (kept count slice) = slice
+
+-- one frame on a file given its summary: number, senders, answer buffer, file and slice
+unfoldable pub roundKeepingCall : List ℕ → List ℕ → List ℕ → ℕ → List ℕ → ℕ → ℕ × ℕ × List ℕ × List ℕ × List ℕ
+roundKeepingCall file frame answer senders held count =
+    let r = roundKeeping file (kept count held) frame answer in
+    (numberIn (r .0), lentAfter (r .0) senders (λ (mask : ℕ). mask), r .1, r .2, sliceOf (r .3))
+
+-- one naming step given the file's summary: number, senders, run, answer buffer, file and slice
+unfoldable pub stepKeepingCall : List ℕ → List ℕ → List ℕ → List ℕ → ℕ → List ℕ → ℕ → ℕ × ℕ × List ℕ × List ℕ × List ℕ × List ℕ
+stepKeepingCall file run names answer senders held count =
+    let r = stepKeeping file (positionIn run) names (kept count held) answer in
+    (numberIn (r .0), stepSenders (r .0) senders, stepWords (r .0) (r .1) run, r .2, r .3, sliceOf (r .4))

@@ -3,15 +3,25 @@
 
 use super::inputs::{NAMES_RECORD, WRITE_OF_CONFIGURATION};
 use super::random::Random;
+use super::summaries::{is_true, Held};
 use super::{clusters, inputs};
 use crate::campaign::Campaign;
-use crate::case::Call;
+use crate::case::{Call, Outcome};
 use crate::engine::RunWords;
 use crate::frames::{framed, unfolded, MULTIPARTNER};
 use crate::sorts::{turns, Sort};
 use model::{check, closed_figures, Account, Address, Cluster, End, FileNumber, LogicalName, Operation, Slave};
 
 const NO_RUN: RunWords = [0; 8];
+/// Of the calls of a run that is given a summary, one in so many is made without it.
+const CALLS_WITHOUT: usize = 8;
+
+/// Whether the calls of a run are given a summary of the file.
+#[derive(Clone, Copy, PartialEq, Eq)]
+pub enum Given {
+    NoSummary,
+    Summary,
+}
 
 /// One run on one file: the state that the calls hand on.
 struct WholeRun {
@@ -19,10 +29,13 @@ struct WholeRun {
     names: Vec<u8>,
     run: RunWords,
     account: Account,
+    summary: Option<Held>,
+    /// Calls made.
+    made: usize,
 }
 
 /// A run over a cluster of so many slaves; in one of three none has a name yet.
-pub fn whole_run(campaign: &mut Campaign, random: &mut Random, slaves: usize) {
+pub fn whole_run(campaign: &mut Campaign, random: &mut Random, slaves: usize, given: Given) {
     let mut cluster = clusters::cluster_of(random, slaves);
     if random.once_in(3) {
         cluster.slaves.iter_mut().for_each(|slave| slave.set_logical_name(LogicalName::UNNAMED));
@@ -31,7 +44,10 @@ pub fn whole_run(campaign: &mut Campaign, random: &mut Random, slaves: usize) {
     let figures = closed_figures(&cluster, &names);
     let started = campaign.call(&Call::Start { names: names.clone() });
     let account = Account::start(&cluster, &names);
-    let mut whole = WholeRun { file: cluster.encode(), names, run: started.run.unwrap_or(NO_RUN), account };
+    let file = cluster.encode();
+    let summary = (given == Given::Summary).then(|| Held::of(random, &file));
+    let run = started.run.unwrap_or(NO_RUN);
+    let mut whole = WholeRun { file, names, run, account, summary, made: 0 };
     let traffic = random.one_of(&[1, 2, 4, 10, 50]);
     while whole.run[0] == End::Running.number() {
         if random.once_in(traffic) {
@@ -52,6 +68,7 @@ pub fn whole_run(campaign: &mut Campaign, random: &mut Random, slaves: usize) {
     if named as u64 != figures.named {
         whole.report(campaign, "the closed count of slaves named");
     }
+    campaign.note_sorts((given == Given::Summary).then_some(Sort::RunKept));
 }
 
 /// A run over unnamed slaves whose steps the engine and the model make in turn, each on the file and the words that the
@@ -102,11 +119,34 @@ impl WholeRun {
         check(&self.file).expect("a file that the last call left")
     }
 
+    /// Makes a call, given the summary if there is one. Made without it, a step may rename: then it is filled again.
+    fn call(&mut self, campaign: &mut Campaign, call: &Call) -> Outcome {
+        self.made += 1;
+        let given = self.summary.as_ref().filter(|_| !self.made.is_multiple_of(CALLS_WITHOUT));
+        let outcome = match given {
+            Some(Held { held, count }) => campaign.call(&call.clone().keeping(held, *count)),
+            None => campaign.call(call),
+        };
+        self.file = outcome.file.clone().expect("a lent file");
+        match (&mut self.summary, &outcome.held) {
+            (Some(summary), Some(held)) => summary.held.clone_from(held),
+            _ if matches!(call, Call::Step { .. }) => self.fill(campaign),
+            _ => {}
+        }
+        outcome
+    }
+
+    fn fill(&mut self, campaign: &mut Campaign) {
+        if let Some(Held { held, count }) = &mut self.summary {
+            let filled = campaign.call(&Call::Fill { file: self.file.clone(), held: held.clone() });
+            (*held, *count) = (filled.held.expect("a lent slice"), filled.count.expect("a lent count"));
+        }
+    }
+
     fn step(&mut self, campaign: &mut Campaign, answer_length: usize) {
         let call =
             Call::Step { file: self.file.clone(), names: self.names.clone(), run: self.run, answer_length };
-        let outcome = campaign.call(&call);
-        self.file = outcome.file.expect("a lent file");
+        let outcome = self.call(campaign, &call);
         self.run = outcome.run.expect("a lent run");
         self.account.step(answer_length);
         self.hold_against_account(campaign);
@@ -114,10 +154,9 @@ impl WholeRun {
 
     fn frame(&mut self, campaign: &mut Campaign, frame: Vec<u8>, answer_length: usize) {
         let call = Call::Round { file: self.file.clone(), frame, answer_length };
-        let outcome = campaign.call(&call);
+        let outcome = self.call(campaign, &call);
         let acts = turns::sorts(&call, &outcome).iter().any(|sort| matches!(sort, Sort::Multiplexed(_)));
         campaign.note_sorts(acts.then_some(Sort::MultiplexedBetweenSteps));
-        self.file = outcome.file.expect("a lent file");
         self.hold_against_account(campaign);
     }
 
@@ -174,6 +213,7 @@ impl WholeRun {
             .is_some_and(|[msa, _, multipartner, refused, _]| msa + multipartner > 0 && refused > 0);
         campaign.note_sorts(between.then_some(Sort::TraceBetweenSteps));
         self.file = outcome.file.expect("a lent file");
+        self.fill(campaign);
         self.hold_against_account(campaign);
     }
 
@@ -187,6 +227,11 @@ impl WholeRun {
             (end, rounds, comparisons) == (account.end().number(), account.rounds(), account.comparisons());
         if !counts_agree || !names.eq(account.logical_names().iter().copied()) {
             self.report(campaign, "the plain account");
+        }
+        let asked =
+            self.names.get(self.made % (self.names.len() + 1)).map_or(LogicalName::UNNAMED.0, |&name| name);
+        if self.summary.as_ref().is_some_and(|summary| !is_true(&self.file, summary, asked)) {
+            self.report(campaign, "the summary");
         }
     }
 

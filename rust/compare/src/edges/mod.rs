@@ -7,6 +7,7 @@ pub mod multiplexed;
 pub mod naming_steps;
 pub mod owners;
 pub mod step_grounds;
+pub mod summaries;
 pub mod traces;
 
 use crate::case::{Call, Outcome};

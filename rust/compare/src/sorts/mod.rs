@@ -5,6 +5,7 @@ pub mod names;
 pub mod owners;
 pub mod passes;
 mod sort;
+pub mod summaries;
 pub mod tally;
 pub mod traces;
 pub mod turns;
@@ -19,5 +20,6 @@ pub fn of(call: &Call, outcome: &Outcome) -> Vec<Sort> {
     sorts.extend(passes::sorts(call, outcome));
     sorts.extend(grounds::sorts(call, outcome));
     sorts.extend(turns::sorts(call, outcome));
+    sorts.extend(summaries::sorts(call, outcome));
     sorts
 }

@@ -158,6 +158,38 @@ pub enum Sort {
     PlannedFromOwnList,
     /// A trace between the steps of a naming run that was run and has a round and a refused frame in it.
     TraceBetweenSteps,
+    /// A filling refused by 24 where one byte more would do.
+    FilledOneShort,
+    /// A question answered by the first of several holders, which is not the first slave.
+    HolderOfSeveral,
+    /// One for 0xFF and one for 0x00 that finds a slave.
+    HolderUnnamed,
+    HolderNamedZero,
+    /// One that finds nobody, though the name stands in the slice behind the count.
+    HolderBehindCount,
+    /// A round or step refused by 24 for a summary that lacks the last name, or has one more.
+    SummaryOneShort,
+    SummaryOneLong,
+    /// One whose names are right, the slice ending before the last.
+    SummaryWithoutRoom,
+    /// One in which the first name alone is wrong, or the last alone.
+    SummaryFirstWrong,
+    SummaryLastWrong,
+    /// One whose names are right and whose count is right in its lower 32 bits alone, or is 2^64 - 1.
+    SummaryCountWide,
+    SummaryCountMost,
+    /// One whose buffer is too short as well.
+    SummaryBeforeBuffer,
+    /// A step of an ended run refused by 24.
+    SummaryOfEndedRun,
+    /// A round or step refused by 1 to 8, the count being above the slice's length.
+    SummaryAfterFile,
+    /// A round that renames a slave, and so the summary; a step; and either with room left behind the names.
+    RoundRenames,
+    StepRenames,
+    RenamesWithRoomLeft,
+    /// A naming run of which all steps and rounds but a few were given the summary.
+    RunKept,
 }
 
 /// A sort, one in how many calls has to be of it, and what is printed of it.
@@ -303,8 +335,30 @@ impl Sort {
         (Sort::PlannedFromOwnList, 400, "rounds as planned, a byte of the list that is run sent"),
     ];
 
+    /// Sorts of calls with a summary, with one in how many of the rounds asked for that are given one.
+    pub const REACHED_BY_SUMMARIES: [Reached; 18] = [
+        (Sort::FilledOneShort, 80, "fillings refused where one byte more would do"),
+        (Sort::HolderOfSeveral, 80, "questions answered by the first of several holders"),
+        (Sort::HolderUnnamed, 80, "questions for 0xFF that find a slave"),
+        (Sort::HolderNamedZero, 80, "questions for 0x00 that find a slave"),
+        (Sort::HolderBehindCount, 100, "questions that find nobody, the name standing behind the count"),
+        (Sort::SummaryOneShort, 80, "summaries refused, a name too few"),
+        (Sort::SummaryOneLong, 200, "summaries refused, a name too many"),
+        (Sort::SummaryWithoutRoom, 200, "summaries refused, the last name without room"),
+        (Sort::SummaryFirstWrong, 200, "summaries refused, the first name wrong"),
+        (Sort::SummaryLastWrong, 200, "summaries refused, the last name wrong"),
+        (Sort::SummaryCountWide, 400, "summaries refused, the count right in its lower 32 bits alone"),
+        (Sort::SummaryCountMost, 400, "summaries refused, the count 2^64 - 1"),
+        (Sort::SummaryBeforeBuffer, 80, "summaries refused before a short buffer"),
+        (Sort::SummaryOfEndedRun, 400, "summaries refused at a step of an ended run"),
+        (Sort::SummaryAfterFile, 800, "files refused before a summary"),
+        (Sort::RoundRenames, 200, "rounds that rename, given a summary"),
+        (Sort::StepRenames, 1_000, "steps that rename, given a summary"),
+        (Sort::RenamesWithRoomLeft, 200, "rounds and steps that rename, with room left in the summary"),
+    ];
+
     /// Sorts of calls in naming runs, with one in how many of the runs asked for.
-    pub const REACHED_BY_RUNS: [Reached; 4] = [
+    pub const REACHED_BY_RUNS: [Reached; 5] = [
         (Sort::TraceBetweenSteps, 1, "traces run between naming steps, with a round and a refused frame"),
         (
             Sort::NamesWrittenBetweenSteps,
@@ -313,10 +367,11 @@ impl Sort {
         ),
         (Sort::MultiplexedBetweenSteps, 1, "rounds between naming steps in which a multiplexed entry acts"),
         (Sort::RunInTurn, 4, "naming runs made in turn"),
+        (Sort::RunKept, 4, "naming runs given a summary"),
     ];
 
-    /// What a call is an example of; logical names, naming steps, their grounds, multiplexed entries, traces and
-    /// owner files are sorted in `names`, `passes`, `grounds`, `turns`, `traces` and `owners`.
+    /// What a call is an example of; logical names, naming steps, their grounds, multiplexed entries, traces, owner files
+    /// and summaries are sorted in `names`, `passes`, `grounds`, `turns`, `traces`, `owners` and `summaries`.
     pub fn of(call: &Call, outcome: &Outcome) -> Option<Sort> {
         match call {
             Call::Read { frame } if outcome.number == 12 && is_unfolded(frame) => Some(Sort::UnfoldedNotRead),

@@ -8,54 +8,56 @@ use std::collections::BTreeMap;
 
 /// Each kind of call with what it can do when it is carried out, and the numbers that can refuse it. A whole run is a
 /// kind of its own.
-const OUTCOMES: [(&str, &[&str], &[u8]); 10] = [
+const OUTCOMES: [(&str, &[&str], &[u8]); 14] = [
     ("check", &[PLAIN], CHECK_NUMBERS),
     ("read", &["read", "write", "execute"], READ_NUMBERS),
     ("write", &["read", "write", "execute"], WRITE_NUMBERS),
     ("data", &[PLAIN], DATA_NUMBERS),
-    (
-        "round",
-        &[
-            "address",
-            "nothing-pending",
-            "read-answered",
-            "read-silent",
-            "write-stored",
-            "write-left",
-            "comparison-answered",
-            "comparison-silent",
-            "baptism-named",
-            "baptism-left",
-            "other-execute",
-            "multipartner-stored",
-            "multipartner-answered",
-            "multipartner-silent",
-        ],
-        ROUND_NUMBERS,
-    ),
+    ("round", IN_A_ROUND, ROUND_NUMBERS),
     ("start", &["running", "ended"], START_NUMBERS),
-    (
-        "step",
-        &[
-            "ended",
-            "free",
-            "taken",
-            "taken-last",
-            "name-written",
-            "high-written",
-            "low-written",
-            "reply",
-            "silence",
-            "all-named",
-            "named",
-            "named-last",
-            "nobody-named",
-        ],
-        STEP_NUMBERS,
-    ),
+    ("step", IN_A_STEP, STEP_NUMBERS),
     ("trace", &["no-frames", "none-refused", "some-refused", "all-refused"], TRACE_NUMBERS),
     ("owner", &[PLAIN], OWNER_NUMBERS),
+    ("fill", &["no-slave", "no-room-left", "room-left"], FILL_NUMBERS),
+    ("holder", &["first-slave", "later-slave", "nobody"], HOLDER_NUMBERS),
+    ("round-keeping", IN_A_ROUND, ROUND_KEEPING_NUMBERS),
+    ("step-keeping", IN_A_STEP, STEP_KEEPING_NUMBERS),
     (RUN, &[ALL_NAMED, USED_UP], &[]),
+];
+
+/// What a round does, given a summary or not.
+const IN_A_ROUND: &[&str] = &[
+    "address",
+    "nothing-pending",
+    "read-answered",
+    "read-silent",
+    "write-stored",
+    "write-left",
+    "comparison-answered",
+    "comparison-silent",
+    "baptism-named",
+    "baptism-left",
+    "other-execute",
+    "multipartner-stored",
+    "multipartner-answered",
+    "multipartner-silent",
+];
+
+/// What a step does, likewise.
+const IN_A_STEP: &[&str] = &[
+    "ended",
+    "free",
+    "taken",
+    "taken-last",
+    "name-written",
+    "high-written",
+    "low-written",
+    "reply",
+    "silence",
+    "all-named",
+    "named",
+    "named-last",
+    "nobody-named",
 ];
 
 // The numbers of each call in the order in which it checks them.
@@ -69,6 +71,10 @@ const START_NUMBERS: &[u8] = &[15, 16];
 const STEP_NUMBERS: &[u8] = &[1, 2, 3, 4, 5, 6, 7, 8, 9, 15, 16, 17];
 const TRACE_NUMBERS: &[u8] = &[1, 2, 3, 4, 5, 6, 7, 8, 19];
 const OWNER_NUMBERS: &[u8] = &[1, 2, 3, 4, 5, 6, 7, 8, 23, 20, 21];
+const FILL_NUMBERS: &[u8] = &[1, 2, 3, 4, 5, 6, 7, 8, 24];
+const HOLDER_NUMBERS: &[u8] = &[24];
+const ROUND_KEEPING_NUMBERS: &[u8] = &[1, 2, 3, 4, 5, 6, 7, 8, 24, 9, 10, 11, 12, 13, 14];
+const STEP_KEEPING_NUMBERS: &[u8] = &[1, 2, 3, 4, 5, 6, 7, 8, 24, 9, 15, 16, 17];
 // .ci/refusals writes to here
 
 /// A call that does one thing only.
@@ -159,6 +165,20 @@ fn done(call: &Call, outcome: &Outcome) -> &'static str {
         Call::Start { names } => either(names.is_empty(), "ended", "running"),
         Call::Step { file, run, .. } => in_step(file, run, outcome),
         Call::Trace { .. } => in_trace(outcome.report_words()),
+        Call::Fill { held, .. } => in_filling(held.len() as u64, outcome.filled()),
+        Call::Holder { .. } => match outcome.holder() {
+            Some(0) => "first-slave",
+            Some(_) => "later-slave",
+            None => "nobody",
+        },
+        Call::Keeping { call, .. } => done(call, outcome),
+    }
+}
+
+fn in_filling(room: u64, count: Option<u64>) -> &'static str {
+    match count {
+        Some(0) => "no-slave",
+        _ => either(count == Some(room), "no-room-left", "room-left"),
     }
 }
 

@@ -78,3 +78,45 @@ fn the_length_of_an_owner_file_is_written_on_success_only() {
     assert_eq!(calls::owner(M10, 0x80, &mut buffer, &mut length), 0);
     assert_eq!((buffer[calls::OWNER_INDEX], buffer[12], buffer[36], length), (3, 0x80, FILL, 36));
 }
+
+#[test]
+fn the_count_of_a_summary_is_written_on_success_only() {
+    let (mut held, mut count) = ([FILL; 3], MASK_BEFORE);
+    assert_eq!(calls::fill(M10, &mut held[..1], &mut count), 24);
+    assert_eq!(calls::fill(&M10[..15], &mut held, &mut count), 1);
+    assert_eq!((held, count), ([FILL; 3], MASK_BEFORE));
+    assert_eq!(calls::fill(M10, &mut held, &mut count), 0);
+    assert_eq!((held, count), ([0xFF, 0xFF, FILL], 2));
+    assert_eq!(calls::fill(M10, &mut held[..2], &mut count), 0);
+}
+
+#[test]
+fn the_place_of_a_holder_is_written_on_success_only() {
+    let (held, mut place) = ([0x05, 0xFF], MASK_BEFORE);
+    for count in [3, 1 << 32, (1 << 32) + 2, u64::MAX] {
+        assert_eq!(calls::holder(&held, count, 0x05, &mut place), 24);
+    }
+    assert_eq!(place, MASK_BEFORE);
+    let mut holder = |count, name| (calls::holder(&held, count, name, &mut place), place);
+    assert_eq!([holder(2, 0x05), holder(2, 0xFF)], [(0, 0), (0, 1)]);
+    assert_eq!([holder(1, 0xFF), holder(0, 0x05), holder(2, 0x00)], [(0, calls::NOBODY); 3]);
+    assert_eq!((calls::holder(&[], 0, 0x05, &mut place), place), (0, calls::NOBODY));
+}
+
+#[test]
+fn a_summary_is_lent_with_its_room() {
+    let (mut file, mut answer, mut senders) = (M10.to_vec(), ROOMY, MASK_BEFORE);
+    let (mut held, mut run) = ([0xFF, 0xFF, FILL], FRESH);
+    for count in [0, 1, 3, u64::MAX] {
+        let round = calls::round_keeping(&mut file, &[0xBA], &mut answer, &mut senders, &mut held, count);
+        let step = calls::step_keeping(&mut file, &mut run, &[1], &mut answer, &mut senders, &mut held, count);
+        assert_eq!((round, step), (24, 24), "{count}");
+    }
+    assert_eq!(calls::round_keeping(&mut file, &[0xBA], &mut answer, &mut senders, &mut held[..1], 2), 24);
+    assert_eq!((&file[..], answer, senders, run), (M10, ROOMY, MASK_BEFORE, FRESH));
+    assert_eq!(calls::round_keeping(&mut file, &[0xBA], &mut answer, &mut senders, &mut held, 2), 0);
+    assert_eq!((answer[0], senders, held), (0xBA, 0, [0xFF, 0xFF, FILL]));
+    senders = MASK_BEFORE;
+    assert_eq!(calls::step_keeping(&mut file, &mut run, &[1], &mut answer, &mut senders, &mut held, 2), 0);
+    assert_eq!((run, answer[0], senders, held), ([0, 0, 1, 0, 1, 0, 0, 0], 0x49, 0, [0xFF, 0xFF, FILL]));
+}

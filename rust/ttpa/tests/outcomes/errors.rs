@@ -6,7 +6,7 @@ use ttpa::TtpaError;
 
 /// Each ground with its number in the documents and a word that its text cannot do without.
 // .ci/refusals writes from here: grounds
-const GROUNDS: [(TtpaError, u8, &str); 24] = [
+const GROUNDS: [(TtpaError, u8, &str); 25] = [
     (TtpaError::FileSize, 1, "32,768"),
     (TtpaError::Mark, 2, "mark"),
     (TtpaError::Edition, 3, "edition"),
@@ -30,7 +30,8 @@ const GROUNDS: [(TtpaError, u8, &str); 24] = [
     (TtpaError::OwnerBuffer, 21, "owner file"),
     (TtpaError::EqualLogicalNames, 22, "logical name;"),
     (TtpaError::MultiplexedSend, 23, "multiplexed"),
-    (TtpaError::Other(24), 24, "no text"),
+    (TtpaError::Summary, 24, "summary"),
+    (TtpaError::Other(25), 25, "no text"),
 ];
 // .ci/refusals writes to here
 

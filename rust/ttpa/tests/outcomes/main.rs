@@ -7,6 +7,7 @@ mod frames;
 mod owners;
 mod rounds;
 mod runs;
+mod summaries;
 mod traces;
 
 use ttpa::{TtpaError, ANSWER_BYTES};

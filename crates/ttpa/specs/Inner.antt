@@ -1,0 +1,2 @@
+-- Words of the contracts between functions.
+pub mod Told
