@@ -3,7 +3,8 @@
  * Sees to it that header and library are of one version, loads a cluster file, checks it, reads a record of a named
  * slave, has a foreign master try to name slaves by a write, names the unnamed slaves while other rounds go on in
  * between, tells before and after it who holds a name, runs a captured trace, plans who sends in which slot, has a slot
- * multiplexed, and prints what happened. examples/demo.rs of the Rust crate does the same and prints the same. */
+ * multiplexed, puts the cluster to sleep and wakes it, and prints what happened. examples/demo.rs of the Rust crate does
+ * the same and prints the same. */
 #include <inttypes.h>
 #include <stdio.h>
 
@@ -13,7 +14,10 @@
 /* the master's own logical name */
 #define MASTER 0x80
 /* where the demo's file has the logical name of its second slave, which is unnamed */
-#define SECOND_NAME 0x7B
+#define SECOND_NAME 0x7F
+/* where a cluster file tells whether its first slave sleeps, and how far it is to the next slave's byte */
+#define FIRST_SLEEP 19
+#define ENTRY_BYTES 4
 
 /* The cluster file and what the last round answered. One byte more than a file may have, so that a longer
  * one is seen and refused. */
@@ -105,12 +109,12 @@ static uint8_t send_keeping(const uint8_t *frame, size_t bytes)
                               held_count);
 }
 
-/* A complete master-slave round: the address frame, then the data frame, which is one byte for a read. */
-static uint8_t read_record(uint8_t name, uint8_t file, uint8_t record)
+/* A complete master-slave round that writes nothing: the address frame, then the data frame, which is one byte. */
+static uint8_t master_slave(uint8_t name, uint8_t file, uint8_t operation, uint8_t record)
 {
     static const uint8_t data[1] = {TTPA_FIREWORK_MSD};
     uint8_t frame[TTPA_FRAME_BYTES];
-    uint8_t number = ttpa_write_address(frame, sizeof frame, 1, name, file, TTPA_OPERATION_READ, record);
+    uint8_t number = ttpa_write_address(frame, sizeof frame, 1, name, file, operation, record);
     if (number == TTPA_ACCEPTED) {
         number = send(frame, sizeof frame);
     }
@@ -118,6 +122,11 @@ static uint8_t read_record(uint8_t name, uint8_t file, uint8_t record)
         number = send(data, sizeof data);
     }
     return number;
+}
+
+static uint8_t read_record(uint8_t name, uint8_t file, uint8_t record)
+{
+    return master_slave(name, file, TTPA_OPERATION_READ, record);
 }
 
 static void show_frames(void)
@@ -324,6 +333,30 @@ static void show_multiplexed(void)
     }
 }
 
+/* Of each slave in table order 1 where it sleeps, else 0. */
+static void print_sleep(void)
+{
+    printf("asleep:");
+    for (size_t slave = 0; slave < held_count; slave++) {
+        printf(" %u", (unsigned)cluster[FIRST_SLEEP + ENTRY_BYTES * slave]);
+    }
+    printf("\n");
+}
+
+/* The whole cluster is put to sleep: all slaves have names, so 0x00 addresses each, and each has record 4 of 0x08. The
+ * first read finds 01 asleep and wakes all, the second is answered. */
+static void show_sleep(void)
+{
+    print_verdict("sleep at 00", master_slave(TTPA_NAME_BROADCAST, TTPA_FILE_CONFIGURATION,
+                                              TTPA_OPERATION_EXECUTE, TTPA_RECORD_SLEEP));
+    print_sleep();
+    for (int i = 0; i < 2; i++) {
+        print_verdict("read of 01", read_record(0x01, TTPA_FILE_DOCUMENTATION, 2));
+        print_answer("answer");
+        print_sleep();
+    }
+}
+
 int main(int count, char **arguments)
 {
     static const uint8_t names[] = {0x01, 0x02, 0x03, 0x04};
@@ -379,6 +412,7 @@ int main(int count, char **arguments)
     print_verdict("round 2 as planned", number);
     print_answer("answer");
     show_multiplexed();
+    show_sleep();
     print_verdict("a short answer buffer", ttpa_round(cluster, length, round, sizeof round, answer,
                                                       TTPA_ANSWER_BYTES - 1, &senders));
     print_verdict("the file as it is now", ttpa_check(cluster, length));

@@ -86,6 +86,7 @@ VALUE(TTPA_NAME_UNNAMED, 0xFF);
 
 VALUE(TTPA_FILE_CONFIGURATION, 0x08);
 VALUE(TTPA_FILE_DOCUMENTATION, 0x3D);
+VALUE(TTPA_RECORD_SLEEP, 4);
 
 VALUE(TTPA_RUN_END, 0);
 VALUE(TTPA_RUN_INDEX, 1);
@@ -179,8 +180,9 @@ static const uint8_t m10[] = {
     0x00, 0x00, 0x00, 0x00, 0x00, 0x00, 0x00, 0x00, 0x00, 0x00, 0x00, 0x07, 0x00, 0x00, 0x00, 0xA0,
 };
 
-/* Where M10 keeps what the calls change: the epoch, and the logical name of each slave. */
+/* Where M10 keeps what the calls change: the epoch, whether the first slave sleeps, and the logical name of each. */
 #define EPOCH 8
+#define FIRST_SLEEP 19
 #define FIRST_NAME 39
 #define SECOND_NAME 75
 
@@ -308,7 +310,8 @@ static void files(void)
     EXPECT(check_with(2, 9) == TTPA_REFUSED_EDITION);
     EXPECT(ttpa_check(m10, sizeof m10 - 1) == TTPA_REFUSED_LENGTH_FIELD);
     EXPECT(check_with(3, 33) == TTPA_REFUSED_HEADER);
-    EXPECT(check_with(19, 1) == TTPA_REFUSED_LAYOUT);
+    EXPECT(check_with(FIRST_SLEEP, 1) == TTPA_ACCEPTED);
+    EXPECT(check_with(FIRST_SLEEP, 2) == TTPA_REFUSED_LAYOUT);
     EXPECT(check_with(28, 0x3C) == TTPA_REFUSED_NEEDED_FILE);
     EXPECT(check_with(sizeof m10 - 1, 0x10) == TTPA_REFUSED_EQUAL_PHYSICAL_NAMES);
 }
@@ -507,6 +510,42 @@ static void written_names(void)
     EXPECT(memcmp(cluster + FIRST_NAME + 1, m10 + FIRST_NAME + 1, SECOND_NAME - 3 - (FIRST_NAME + 1)) == 0);
 }
 
+/* ---- sleep and wake */
+
+/* One slave, named 05, with record 4 in its 0x08. */
+static const uint8_t named_5[] = {
+    0x54, 0x41, 0x01, 0x01, 0x00, 0x10, 0x00, 0x3C, 0x00, 0x00, 0x00, 0x00, 0x00, 0x00, 0x00, 0x00,
+    0x00, 0x14, 0x02, 0x00, 0x08, 0x04, 0x00, 0x1C, 0x3D, 0x02, 0x00, 0x30, 0x00, 0x00, 0x00, 0x00,
+    0x00, 0x00, 0x00, 0x05, 0x00, 0x00, 0x00, 0x00, 0x00, 0x00, 0x00, 0x00, 0x00, 0x00, 0x00, 0x00,
+    0x00, 0x00, 0x00, 0x00, 0x00, 0x00, 0x00, 0x07, 0x00, 0x00, 0x00, 0x10,
+};
+
+static uint8_t send_to_5(const uint8_t *frame, size_t bytes)
+{
+    return ttpa_round(cluster, sizeof named_5, frame, bytes, answer, sizeof answer, &senders);
+}
+
+/* The execute of record 4 at 0x00 puts it to sleep with its data frame. A read finds it asleep: the address frame and a
+ * refused frame leave it so, the data frame is not answered and wakes it, and the same again is answered. */
+static void sleep_and_wake(void)
+{
+    static const uint8_t sleep[] = {0x55, 0x01, 0x00, 0x22, TTPA_RECORD_SLEEP, 0x72};
+    static const uint8_t read[] = {0x55, 0x05, 0x05, 0xF4, 0x01, 0xA0};
+    static const uint8_t data[] = {TTPA_FIREWORK_MSD, 0x00};
+    static const uint8_t series[] = {0x00, 0x00, 0x00, 0x07, 0x4E};
+    renew();
+    memcpy(cluster, named_5, sizeof named_5);
+    EXPECT(send_to_5(sleep, sizeof sleep) == TTPA_ACCEPTED && cluster[FIRST_SLEEP] == 0);
+    EXPECT(send_to_5(data, 1) == TTPA_ACCEPTED && cluster[FIRST_SLEEP] == 1);
+    EXPECT(senders == 0 && silent_from(TTPA_FIREWORK_MSD, 1));
+    EXPECT(send_to_5(read, sizeof read) == TTPA_ACCEPTED && cluster[FIRST_SLEEP] == 1);
+    EXPECT(send_to_5(data, 2) == TTPA_REFUSED_FRAME_LENGTH && cluster[FIRST_SLEEP] == 1);
+    EXPECT(send_to_5(data, 1) == TTPA_ACCEPTED && cluster[FIRST_SLEEP] == 0);
+    EXPECT(senders == 0 && silent_from(TTPA_FIREWORK_MSD, 1));
+    EXPECT(send_to_5(data, 1) == TTPA_ACCEPTED && senders == 0x3E);
+    EXPECT(memcmp(answer + 1, series, sizeof series) == 0 && silent_from(TTPA_FIREWORK_MSD, 6));
+}
+
 /* ---- naming */
 
 static const uint8_t names[] = {0x21, 0x22, 0x23};
@@ -574,50 +613,63 @@ static uint8_t steps(size_t listed, unsigned most)
     return number;
 }
 
-/* One name: the fourth round is the comparison with 0, at which both answer. The fifth writes the high half of bit
- * 63; the low half is 0 as before, so the place after it is left out. The slave with the greater physical name,
- * whose bit 32 is 1 and bit 0 is 0, takes the name in 135 rounds with 65 comparisons. */
+/* One name. The first round is the extra read, which leaves the step and wakes the slaves. The fourth of the pass is
+ * the comparison with 0, at which both answer; the fifth writes the high half of bit 63; the low half is 0 as before,
+ * so the place after it is left out. The slave with the greater physical name, whose bit 32 is 1 and bit 0 is 0, takes
+ * the name in 135 rounds with 65 comparisons. */
 static void one_name(void)
 {
     renew();
     put_run(9, 9, 9, 9);
+    cluster[FIRST_SLEEP] = 1;
     EXPECT(ttpa_start(names, 1, run) == TTPA_ACCEPTED);
+    EXPECT(steps(1, 1) == TTPA_ACCEPTED);
+    EXPECT(run_is(TTPA_RUNNING, 0, 0, 0) && counts_are(1, 0) && halves_are(0, 0));
+    EXPECT(senders == 0 && silent_from(TTPA_FIREWORK_MSD, 1) && cluster[FIRST_SLEEP] == 0);
     EXPECT(steps(1, 4) == TTPA_ACCEPTED);
-    EXPECT(run_is(TTPA_RUNNING, 0, 4, 0) && counts_are(4, 1) && halves_are(0, 0));
+    EXPECT(run_is(TTPA_RUNNING, 0, 4, 0) && counts_are(5, 1) && halves_are(0, 0));
     EXPECT(senders == 1 << 1 && answer[1] == 0x00 && silent_from(TTPA_FIREWORK_MSD, 2));
     EXPECT(steps(1, 1) == TTPA_ACCEPTED);
-    EXPECT(run_is(TTPA_RUNNING, 0, 6, 0) && counts_are(5, 1) && halves_are(0x80000000, 0));
+    EXPECT(run_is(TTPA_RUNNING, 0, 6, 0) && counts_are(6, 1) && halves_are(0x80000000, 0));
     EXPECT(steps(1, 1000) == TTPA_ACCEPTED);
     EXPECT(run_is(TTPA_NAMES_USED_UP, 1, 0, UINT64_C(0x00000007000000A0)));
-    EXPECT(counts_are(135, 65) && halves_are(0x00000007, 0x000000A0));
+    EXPECT(counts_are(136, 65) && halves_are(0x00000007, 0x000000A0));
     EXPECT(cluster[FIRST_NAME] == TTPA_NAME_UNNAMED && cluster[SECOND_NAME] == names[0]);
-    EXPECT(cluster[EPOCH] == 270 % 256);
+    EXPECT(cluster[EPOCH] == 272 % 256);
 }
 
-/* A run stored at the high half of bit 63: with both halves stored the step asks who replies; with another low half
- * it writes that one; a stored half of more than 32 bits is never the one to be written. */
+/* A run at the high half of bit 63, with these halves stored. */
+static void put_halves(uint64_t rounds, uint64_t high, uint64_t low)
+{
+    put_run(TTPA_RUNNING, 0, 4, 0);
+    run[TTPA_RUN_ROUNDS] = rounds;
+    run[TTPA_RUN_HIGH] = high;
+    run[TTPA_RUN_LOW] = low;
+}
+
+/* With both halves stored the step asks who replies; with another low half it writes that one; a stored half of more
+ * than 32 bits is never the one to be written. With no round counted the step makes the extra read and stays. */
 static void needless_writes(void)
 {
     renew();
-    put_run(TTPA_RUNNING, 0, 4, 0);
-    run[TTPA_RUN_HIGH] = 0x80000000;
+    put_halves(1, 0x80000000, 0);
     EXPECT(steps(1, 1) == TTPA_ACCEPTED);
-    EXPECT(run_is(TTPA_RUNNING, 0, 7, UINT64_C(1) << 63) && counts_are(1, 1) && halves_are(0x80000000, 0));
+    EXPECT(run_is(TTPA_RUNNING, 0, 7, UINT64_C(1) << 63) && counts_are(2, 1) && halves_are(0x80000000, 0));
     EXPECT(senders == 1 << 1);
-    put_run(TTPA_RUNNING, 0, 4, 0);
-    run[TTPA_RUN_HIGH] = 0x80000000;
-    run[TTPA_RUN_LOW] = 5;
+    put_halves(1, 0x80000000, 5);
     EXPECT(steps(1, 1) == TTPA_ACCEPTED);
-    EXPECT(run_is(TTPA_RUNNING, 0, 6, 0) && counts_are(1, 0) && halves_are(0x80000000, 0));
-    put_run(TTPA_RUNNING, 0, 4, 0);
-    run[TTPA_RUN_HIGH] = UINT64_C(0x180000000);
+    EXPECT(run_is(TTPA_RUNNING, 0, 6, 0) && counts_are(2, 0) && halves_are(0x80000000, 0));
+    put_halves(1, UINT64_C(0x180000000), 0);
     EXPECT(steps(1, 1) == TTPA_ACCEPTED);
-    EXPECT(run_is(TTPA_RUNNING, 0, 6, 0) && counts_are(1, 0) && halves_are(0x80000000, 0));
+    EXPECT(run_is(TTPA_RUNNING, 0, 6, 0) && counts_are(2, 0) && halves_are(0x80000000, 0));
     EXPECT(senders == 0);
+    put_halves(0, 0x80000000, 0);
+    EXPECT(steps(1, 1) == TTPA_ACCEPTED);
+    EXPECT(run_is(TTPA_RUNNING, 0, 4, 0) && counts_are(1, 0) && halves_are(0x80000000, 0));
 }
 
-/* Three names for two slaves: the figures of M10, two passes of 135 rounds and one of 4. Then a step alters
- * nothing. */
+/* Three names for two slaves: the figures of M10, the extra read, two passes of 135 rounds and one of 4. Then a step
+ * alters nothing. */
 static void all_names(void)
 {
     uint8_t named[sizeof cluster];
@@ -626,7 +678,7 @@ static void all_names(void)
     EXPECT(ttpa_start(names, sizeof names, run) == TTPA_ACCEPTED);
     EXPECT(steps(sizeof names, 1000) == TTPA_ACCEPTED);
     EXPECT(run_is(TTPA_ALL_NAMED, 2, 3, UINT64_C(0x0000000700000010)));
-    EXPECT(counts_are(274, 131) && halves_are(0, 0));
+    EXPECT(counts_are(275, 131) && halves_are(0, 0));
     EXPECT(cluster[FIRST_NAME] == names[1] && cluster[SECOND_NAME] == names[0]);
     EXPECT(senders == 0 && silent_from(TTPA_FIREWORK_MSD, 1));
     memcpy(named, cluster, sizeof named);
@@ -634,7 +686,7 @@ static void all_names(void)
     senders = OLD_SENDERS;
     EXPECT(step(names, sizeof names, sizeof answer) == TTPA_ACCEPTED);
     EXPECT(run_is(TTPA_ALL_NAMED, 2, 3, UINT64_C(0x0000000700000010)));
-    EXPECT(counts_are(274, 131) && halves_are(0, 0));
+    EXPECT(counts_are(275, 131) && halves_are(0, 0));
     EXPECT(senders == OLD_SENDERS && is_old(answer, sizeof answer));
     EXPECT(memcmp(cluster, named, sizeof named) == 0);
 }
@@ -1023,11 +1075,11 @@ static void kept_steps(void)
         refused |= send_keeping(round, sizeof round, sizeof answer, 2);
     }
     EXPECT(refused == 0 && matching);
-    EXPECT(run_is(TTPA_ALL_NAMED, 2, 3, UINT64_C(0x0000000700000010)) && counts_are(274, 131));
+    EXPECT(run_is(TTPA_ALL_NAMED, 2, 3, UINT64_C(0x0000000700000010)) && counts_are(275, 131));
     EXPECT(held_is(names[1], names[0]) && holder_of(names[0], 2) == 1 && holder_of(names[1], 2) == 0);
     senders = OLD_SENDERS;
     EXPECT(step_keeping(names, sizeof names, sizeof answer) == TTPA_ACCEPTED);
-    EXPECT(senders == OLD_SENDERS && held_is(names[1], names[0]) && counts_are(274, 131));
+    EXPECT(senders == OLD_SENDERS && held_is(names[1], names[0]) && counts_are(275, 131));
     held[1] = names[1];
     EXPECT(step_keeping(names, sizeof names, sizeof answer) == TTPA_REFUSED_SUMMARY);
     EXPECT(held_is(names[1], names[1]) && cluster[SECOND_NAME] == names[0]);
@@ -1070,6 +1122,7 @@ int main(void)
     refused_rounds();
     checks_without_firework();
     written_names();
+    sleep_and_wake();
     starts();
     one_name();
     needless_writes();

@@ -82,7 +82,7 @@ static void put_slave(unsigned slave, size_t data_last)
     size_t place = end + 4 * ENTRY_BYTES;
     place = put_entry(ROUND_FILE, 3, place);
     last_configuration = place;
-    place = put_entry(TTPA_FILE_CONFIGURATION, 3, place);
+    place = put_entry(TTPA_FILE_CONFIGURATION, TTPA_RECORD_SLEEP, place);
     place = put_entry(DATA_FILE, data_last, place);
     put_entry(TTPA_FILE_DOCUMENTATION, 2, place);
     put_record(0, 0, 0, 0);
@@ -91,6 +91,7 @@ static void put_slave(unsigned slave, size_t data_last)
     put_record(DATA_FILE << 2, 60, 0 << 4 | 15, 1);
     put_record(0, 0, 0, 0);
     put_record(0, 0, 0, slave == 0 ? 0x01 : TTPA_NAME_UNNAMED);
+    put_record(0, 0, 0, 0);
     put_record(0, 0, 0, 0);
     put_record(0, 0, 0, 0);
     for (size_t i = 0; i <= data_last; i++) {
@@ -117,7 +118,7 @@ static void make_cluster(void)
         size_t own = records / SLAVES + (slave < records % SLAVES);
         put_place(entry, end);
         cluster[entry + 2] = 4;
-        put_slave(slave, own - (4 + 4 + 4 + 3) - 1);
+        put_slave(slave, own - (4 + 4 + 5 + 3) - 1);
     }
 }
 
@@ -336,7 +337,7 @@ static void check_files(void)
     *last_name = 0x01;
     make(CHECK, TTPA_REFUSED_EQUAL_LOGICAL_NAMES);
     *last_name = TTPA_NAME_UNNAMED;
-    cluster[HEADER_BYTES + 3] = 1;
+    cluster[HEADER_BYTES + 3] = 2;
     make(CHECK, TTPA_REFUSED_LAYOUT);
     cluster[HEADER_BYTES + 3] = 0;
 }
@@ -370,7 +371,7 @@ static void master_slave_rounds(void)
             master_slave(TTPA_NAME_UNNAMED, files[i], TTPA_OPERATION_WRITE, record);
         }
     }
-    for (uint8_t record = 1; record <= 3; record++) {
+    for (uint8_t record = 1; record <= TTPA_RECORD_SLEEP; record++) {
         master_slave(TTPA_NAME_BROADCAST, TTPA_FILE_CONFIGURATION, TTPA_OPERATION_EXECUTE, record);
         master_slave(TTPA_NAME_UNNAMED, TTPA_FILE_CONFIGURATION, TTPA_OPERATION_EXECUTE, record);
     }

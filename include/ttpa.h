@@ -41,13 +41,13 @@ extern "C" {
  * does not link; this is so from 0.8.0 on. Older headers have no ttpa_version, and those before 0.6.0 have fewer words
  * in a run, which a linked program does not notice: what was compiled with them is to be compiled again. */
 #define TTPA_VERSION_MAJOR 0
-#define TTPA_VERSION_MINOR 9
+#define TTPA_VERSION_MINOR 10
 #define TTPA_VERSION_PATCH 0
 #define TTPA_VERSION (10000 * TTPA_VERSION_MAJOR + 100 * TTPA_VERSION_MINOR + TTPA_VERSION_PATCH)
 
 /* What the library takes: code and constants of all calls, and the most stack that a call uses, with its
  * return address and arguments. No other memory. Both are measured, and rounded up. */
-#define TTPA_CODE_BYTES 12288
+#define TTPA_CODE_BYTES 13568
 #define TTPA_STACK_BYTES 2176
 
 /* What the calls return: 0, or the documents' number for the ground on which something was refused. */
@@ -198,6 +198,19 @@ static inline const char *ttpa_refusal_text(uint8_t number)
 #define TTPA_FILE_CONFIGURATION 0x08
 #define TTPA_FILE_DOCUMENTATION 0x3D
 
+/* The record of 0x08 that puts to sleep. An execute of it has the slaves that are addressed and have this record fall
+ * asleep after its data frame. The last byte of a slave's entry in the slave table, byte 19 + 4 s of the file for
+ * slave s, 0 the first, tells it: 0 awake, 1 asleep; 6 refuses a byte above 1. A sleeping slave takes no part in
+ * rounds: it is not addressed, sends nothing and keeps every byte of its files. It is awake after the next data frame
+ * or multipartner round that is carried out, also one of a trace or of a naming step; an address frame, a refused call
+ * and a refused frame of a trace wake nobody.
+ *
+ * At 0x00 all slaves but the unnamed are addressed, at 0xFF the unnamed. So where some slaves have names and some do
+ * not, no number of executes of this record puts the whole cluster to sleep: one at 0x00 leaves the unnamed awake, and
+ * one at 0xFF after it wakes the others. A data frame sent again after an execute of this record wakes whoever slept, and
+ * puts to sleep those addressed that have the record and were awake. */
+#define TTPA_RECORD_SLEEP 4
+
 /* The words of a naming run, by their place in run. A run may be stored, together with its list of names,
  * and taken up later, by another program too: it is eight numbers of 64 bits, and in which byte order they are
  * stored is the caller's matter. 17 refuses an end mark above 2 and words outside their limits; other words are
@@ -207,12 +220,16 @@ static inline const char *ttpa_refusal_text(uint8_t number)
  * with each bit from 63 to 0, each of which writes the high half of its value, writes the low half and asks who
  * replies; 196 to 199 write the new name and both halves of the value, and give the name. After the first
  * comparison a half that equals the one last written is not written again; the step stands at the next place whose
- * round is made. A run stored with the step at a write that is not needed goes on with the next round that is. */
+ * round is made. A run stored with the step at a write that is not needed goes on with the next round that is.
+ *
+ * Before them a run over a list that is not empty makes one extra read, of record 1 of 0x3D at the list's first name,
+ * which has no place among the 200 and whose reply is ignored; it wakes all slaves. It is due at every step of a
+ * running position that counts no round, whatever its index and step, and raises the rounds alone. */
 #define TTPA_RUN_END 0         /* an end mark, see below */
 #define TTPA_RUN_INDEX 1       /* place in the list of the name that is next */
 #define TTPA_RUN_STEP 2        /* place of the next round among those for this name, 0 to 199 */
 #define TTPA_RUN_VALUE 3       /* the physical name looked for, as far as found; whole when a name is given */
-#define TTPA_RUN_ROUNDS 4      /* rounds made in the whole run */
+#define TTPA_RUN_ROUNDS 4      /* rounds made in the whole run, the extra read too */
 #define TTPA_RUN_COMPARISONS 5 /* comparisons made in the whole run */
 #define TTPA_RUN_HIGH 6        /* the high half last written, below 2^32; 0 in a fresh run */
 #define TTPA_RUN_LOW 7         /* the low half last written, likewise */
@@ -299,12 +316,13 @@ uint8_t ttpa_start(const uint8_t *names, size_t n, uint64_t run[TTPA_RUN_WORDS])
 /* Makes the run's next round, an address frame and a data frame, on the cluster file of n bytes, over the
  * same list of m names as at the start; answer has k bytes. Between two steps other rounds may be made on
  * the file, one by one or as traces: multipartner rounds, and address frames each with its data frame, but of
- * file 0x08 only reads, and writes of record 1 at another name than 0xFF.
+ * file 0x08 only reads, and writes of record 1 at another name than 0xFF. So no sleep: after one between two steps a
+ * slave that holds a name is not heard, and its name may be given a second time.
  * Refuses by 1, 2, 3, 4, 5, 6, 7, 8, 9, 15, 16, 17 in this order. On 0 file and run have moved on, and
  * answer and *senders are those of the data frame, as ttpa_round has them. In a run from ttpa_start: if the
  * index has risen, the name before it is done: it was taken already if the step was 0 before the call, else
  * the slave whose physical name is the value has it now. A step of an ended run returns 0 and alters
- * nothing. */
+ * nothing. The extra read of a run is a step of its own: index and step stay. */
 uint8_t ttpa_step(uint8_t *file, size_t n, uint64_t run[TTPA_RUN_WORDS], const uint8_t *names, size_t m,
                   uint8_t *answer, size_t k, uint64_t *senders);
 
@@ -318,10 +336,10 @@ uint8_t ttpa_trace(uint8_t *file, size_t n, const uint8_t *trace, size_t m,
 
 /* Writes the owner file of the cluster file of n bytes into the front of the k bytes at buffer, with the name
  * master, any byte, for slot 0 of each round. A slave sends in a slot if it would put a byte there in the round
- * as ttpa_round carries it out: unnamed slaves and entries that cannot send do not count, though an entry that
- * covers a slot and cannot send there still hides later ones of its list. Multiplexed entries have their turns: a
- * receive is passed over here, so a slave that sends after it has the slot, though it does not send there in the
- * epochs of that receive, and a send is refused. TTPA_OWNER_BYTES are enough for every cluster.
+ * as ttpa_round carries it out with every slave awake: unnamed slaves and entries that cannot send do not count,
+ * though an entry that covers a slot and cannot send there still hides later ones of its list. Multiplexed entries
+ * have their turns: a receive is passed over here, so a slave that sends after it has the slot, though it does not
+ * send there in the epochs of that receive, and a send is refused. TTPA_OWNER_BYTES are enough for every cluster.
  * Refuses by 1, 2, 3, 4, 5, 6, 7, 8, 23, 20, 21 in this order; 23 is for a multiplexed send before the end of a list
  * for one of the six rounds, of a slave not unnamed, also one that could not send; 20 counts slaves, also those of
  * one name, and 21 is for a buffer shorter than this cluster's owner file. On 0 *length is the length of the owner

@@ -5,13 +5,13 @@ use Prim.Native.Nat.{ℕ, _+_}
 use native.Mathlib.Omega.{arith}
 use mathlib.Core.Path.{_≡_, refl, sym, ap, _∙_}
 use mathlib.Core.List.{List, [], _∷_, _++_, append-nil}
-use mathlib.Core.Bool.{true}
+use mathlib.Core.Bool.{true, false}
 use lib.ListN.{getD}
 use lib.Dec.{eqb, leb}
 use borrow.Author.Tests.{eqb-true, eqb-false, le-leb, lt-leb}
 use Rattle.file.specs.Rules.Order.{both}
 use Rattle.file.specs.Rules.Results.{done}
-use Rattle.file.specs.Rules.Cluster.{Slave, Cluster, recordOf, logicalName, physicalName, comparisonValue, unnamed}
+use Rattle.file.specs.Rules.Cluster.{Slave, Cluster, isAwake, recordOf, logicalName, physicalName, comparisonValue, unnamed}
 use Rattle.file.specs.Rules.Decode.{decode}
 use Rattle.file.proofs.Order.{byCase}
 use Rattle.frame.specs.Rules.Check.{checkOf, dataCheck}
@@ -25,6 +25,7 @@ use Rattle.cluster.proofs.Bus.{mask-alike, mask-nobody, answer-alike, s
 use Rattle.cluster.specs.Inner.Carried.{sendersTo}
 use Rattle.cluster.proofs.Hearing.{inSlot-yes, inSlot-no, inSlot-nil}
 use Rattle.cluster.proofs.DataLaws.{sent-nothing}
+use Rattle.cluster.proofs.Asleep.{is-awake}
 use Rattle.cluster.proofs.Rounds.{round-accepted}
 
 -- who sends, by the pending operation
@@ -41,19 +42,27 @@ module _ (file buffer : List ℕ) (fits : roundGround file dataRound buffer ≡ 
 
 -- ---- M6 and M7: an execute of 0x08 record 2 at 0xFF
 
-unnamed-compares : (s : Slave) → isUnnamed s ≡ true → answersCompare unnamed s ≡ leb (comparisonValue s) (physicalName s)
+unnamed-compares : (s : Slave) → isAwake s ≡ true → isUnnamed s ≡ true → answersCompare unnamed s ≡ leb (comparisonValue s) (physicalName s)
 unfolding answersCompare addressed addresses isUnnamed both
-unnamed-compares s e = rw e
+unnamed-compares s awake e = rw (awake, e)
+
+-- a sleeping slave is silent
+asleep-silent : (s : Slave) → isAwake s ≡ false → answersCompare unnamed s ≡ false
+unfolding answersCompare addressed both
+asleep-silent s asleep = rw asleep
 
 -- M6: "physical name equal to IDCV replies"
-pub m6-reply : (s : Slave) → isUnnamed s ≡ true → physicalName s ≡ comparisonValue s → replyTo (comparing unnamed) s ≡ 0x00 ∷ []
+pub m6-reply : (s : Slave) → s .asleep ≡ 0 → isUnnamed s ≡ true → physicalName s ≡ comparisonValue s → replyTo (comparing unnamed) s ≡ 0x00 ∷ []
 unfolding replyTo
-m6-reply s e same = rw (unnamed-compares s e, le-leb (comparisonValue s) (physicalName s) (omega (arith, same)))
+m6-reply s awake e same = rw (unnamed-compares s (is-awake s awake) e, le-leb (comparisonValue s) (physicalName s) (omega (arith, same)))
 
 -- M7: "one less is silent"
 pub m7-reply : (s : Slave) → isUnnamed s ≡ true → physicalName s + 1 ≡ comparisonValue s → replyTo (comparing unnamed) s ≡ []
 unfolding replyTo
-m7-reply s e less = rw (unnamed-compares s e, lt-leb (comparisonValue s) (physicalName s) (omega (arith, less)))
+m7-reply s e less =
+    byCase (isAwake s)
+    (λ a. rw (unnamed-compares s a e, lt-leb (comparisonValue s) (physicalName s) (omega (arith, less))))
+    (λ a. rw (asleep-silent s a))
 
 -- where nobody sends the mask is 0
 pub quiet-mask : (r : Senders) → ((slot : ℕ) → r slot ≡ nobody slot) → senderMask r ≡ 0
@@ -76,10 +85,10 @@ unfolding sentTo nobody
 no-sender o s e slot = rw (e, inSlot-nil slot)
 
 -- the same of a slave alone on the bus, for every physical name: bit 1 and nothing else, or nothing
-pub m6 : (file buffer : List ℕ) → roundGround file dataRound buffer ≡ 0 → pendingDuty (decode file) ≡ comparing unnamed → (s : Slave) → decode file .slaves ≡ s ∷ [] → isUnnamed s ≡ true → physicalName s ≡ comparisonValue s →
+pub m6 : (file buffer : List ℕ) → roundGround file dataRound buffer ≡ 0 → pendingDuty (decode file) ≡ comparing unnamed → (s : Slave) → decode file .slaves ≡ s ∷ [] → s .asleep ≡ 0 → isUnnamed s ≡ true → physicalName s ≡ comparisonValue s →
     roundOn file dataRound buffer .0 ≡ done 2
-m6 file buffer fits p s alone e same =
-    round-mask file buffer fits p ∙ ap (λ (n : ℕ). done n) (ap (λ (ss : List Slave). senderMask (sentTo (comparing unnamed) ss)) alone ∙ one-mask (comparing unnamed) s (m6-reply s e same))
+m6 file buffer fits p s alone awake e same =
+    round-mask file buffer fits p ∙ ap (λ (n : ℕ). done n) (ap (λ (ss : List Slave). senderMask (sentTo (comparing unnamed) ss)) alone ∙ one-mask (comparing unnamed) s (m6-reply s awake e same))
 
 pub m7 : (file buffer : List ℕ) → roundGround file dataRound buffer ≡ 0 → pendingDuty (decode file) ≡ comparing unnamed → (s : Slave) → decode file .slaves ≡ s ∷ [] → isUnnamed s ≡ true → physicalName s + 1 ≡ comparisonValue s →
     roundOn file dataRound buffer .0 ≡ done 0
@@ -125,16 +134,16 @@ mask-among : (name : ℕ) (s : Slave) (before after : List Slave) → replyTo (c
 unfolding senderMask sendersTo maskBelow anyone both
 mask-among name s before after e = mask-alike (sentTo (comparing name) (before ++ s ∷ after)) (sendersTo 1) slots (sender-among name s before after e)
 
-silent-among : (o : Duty) (s : Slave) (before after : List Slave) → replyTo o s ≡ [] → (slot : ℕ) → sentTo o (before ++ s ∷ after) slot ≡ sentTo o (before ++ after) slot
+pub silent-among : (o : Duty) (s : Slave) (before after : List Slave) → replyTo o s ≡ [] → (slot : ℕ) → sentTo o (before ++ s ∷ after) slot ≡ sentTo o (before ++ after) slot
 unfolding sentTo
 silent-among o s [] after e slot = rw (e, inSlot-nil slot)
 silent-among o s (x ∷ xs) after e slot = rw (silent-among o s xs after e slot)
 
 -- M6 beside any other slaves: bit 1 and nothing else
-pub m6-among : (file buffer : List ℕ) → roundGround file dataRound buffer ≡ 0 → pendingDuty (decode file) ≡ comparing unnamed → (s : Slave) (before after : List Slave) → decode file .slaves ≡ before ++ s ∷ after → isUnnamed s ≡ true → physicalName s ≡ comparisonValue s →
+pub m6-among : (file buffer : List ℕ) → roundGround file dataRound buffer ≡ 0 → pendingDuty (decode file) ≡ comparing unnamed → (s : Slave) (before after : List Slave) → decode file .slaves ≡ before ++ s ∷ after → s .asleep ≡ 0 → isUnnamed s ≡ true → physicalName s ≡ comparisonValue s →
     roundOn file dataRound buffer .0 ≡ done 2
-m6-among file buffer fits p s before after among e same =
-    round-mask file buffer fits p ∙ ap (λ (n : ℕ). done n) (ap (λ (ss : List Slave). senderMask (sentTo (comparing unnamed) ss)) among ∙ mask-among unnamed s before after (m6-reply s e same))
+m6-among file buffer fits p s before after among awake e same =
+    round-mask file buffer fits p ∙ ap (λ (n : ℕ). done n) (ap (λ (ss : List Slave). senderMask (sentTo (comparing unnamed) ss)) among ∙ mask-among unnamed s before after (m6-reply s awake e same))
 
 -- M7 beside any other slaves: the slots hold what the others send, as if the slave were not there
 pub m7-among : (s : Slave) (before after : List Slave) → isUnnamed s ≡ true → physicalName s + 1 ≡ comparisonValue s → (slot : ℕ) →
@@ -166,7 +175,8 @@ read-checks file buffer fits name n r p s t two one other here there =
 
 pub m9-reply : (n r : ℕ) (s : Slave) → replyTo (reading unnamed n r) s ≡ []
 unfolding replyTo answersRead addressed addresses isUnnamed both
-m9-reply n r s = byCase (eqb (logicalName s) unnamed) (λ e. rw e) (λ e. rw e)
+m9-reply n r s =
+    byCase (isAwake s) (λ a. byCase (eqb (logicalName s) unnamed) (λ e. rw (a, e)) (λ e. rw (a, e))) (λ a. rw a)
 
 pub m9 : (file buffer : List ℕ) → roundGround file dataRound buffer ≡ 0 → (n r : ℕ) → pendingDuty (decode file) ≡ reading unnamed n r →
     (roundOn file dataRound buffer .0 ≡ done 0) × (roundOn file dataRound buffer .1 ≡ answerIn buffer (answerBytes dataFirework nobody))

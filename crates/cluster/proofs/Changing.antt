@@ -13,6 +13,7 @@ use Rattle.file.specs.Rules.Changes.{withSlaves}
 use Rattle.file.specs.Inner.Accepted.{Becomes, AcceptedFile, slaveCount, Placed}
 use Rattle.file.proofs.Shape.{shape-refl}
 use Rattle.file.proofs.Surveyed.{kept-count, placed-kept}
+use Rattle.file.proofs.ReaderLaws.{becomes-decoded}
 use Rattle.cluster.specs.Inner.Carried.{withSlave}
 use Rattle.cluster.proofs.Kept.{SlaveKept}
 
@@ -76,6 +77,9 @@ module _ {g : Slave → Slave} {f₀ : List ℕ} {i : ℕ} {file : List ℕ} (h 
   pub changing-placed : {places : List ℕ} → Placed f₀ places → Placed file places
   unfolding withSlaves
   changing-placed p = placed-kept p (h .becomes) refl shape
+
+  pub changing-accepted : AcceptedFile file
+  changing-accepted = becomes-decoded (h .becomes)
 
   module _ {count : ℕ} (all : count ≡ slaveCount f₀) where
     module _ (more : i < count) where

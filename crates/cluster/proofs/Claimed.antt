@@ -5,6 +5,7 @@ use Rattle.cluster.specs.Claims.Kept.{RefusedAltersNothing, RoundKeepsFi
 use Rattle.cluster.specs.Claims.Mask.{BitsAreSenders, BitZeroNeverSet}
 use Rattle.cluster.specs.Claims.Pending.{MsaBecomesPending, StaysPending}
 use Rattle.cluster.specs.Claims.Renaming.{BaptizingRenames, OnlyBaptizingRenames, NobodyRenamed}
+use Rattle.cluster.specs.Claims.Sleep.{DataWakes, MultipartnerWakes, AddressWakesNobody, SleepPutsToSleep, SleepSilent, SleeperKeepsFiles, SleepersSilent, AwakeAsAlone}
 use Rattle.cluster.specs.Claims.Summary.{MatchesExactly, RoundWithout, RoundsInOrder, RoundRefusedBy24, RefusedKeepsSummary, KeepingIsRound, RoundKeepsSummary, StillMatchesExactly, StillMatches, StillMatchesBaptized, NoBaptizingExactly, FillingMatches, FillingsRefused, FullReadings, QuestionIsFirst, QuestionIsReading, QuestionRefused}
 use Rattle.cluster.specs.Claims.Writes.{UnnamedTakeWrites, NameRecordWritten, RecordWritten, NothingWritten}
 use Rattle.cluster.specs.Claims.Written.{AddressSentAsWritten, DataSentAsWritten, FireworkAlone}
@@ -16,6 +17,8 @@ use Rattle.cluster.proofs.Renaming.{baptizing-renames, only-baptizing-r
 use Rattle.cluster.proofs.SummaryLaws.{matches-exactly}
 use Rattle.cluster.proofs.Keeping.{keeping-edition, round-without, rounds-in-order, round-refused-by-24, keeping-refused, keeping-is-round, round-keeps-summary, still-matches-exactly, still-matches, still-matches-baptized, no-baptizing-exactly}
 use Rattle.cluster.proofs.Holders.{filling-edition, filling-matches, fillings-refused, full-readings, question-is-first, question-is-reading, question-refused}
+use Rattle.cluster.proofs.Sleep.{data-wakes, multipartner-wakes, address-wakes-nobody, sleep-puts-to-sleep, sleep-silent, sleeper-keeps-files}
+use Rattle.cluster.proofs.AwakeAlone.{sleepers-silent, awake-as-alone}
 use Rattle.cluster.proofs.UnnamedWrites.{unnamed-take-writes}
 use Rattle.cluster.proofs.SentAsWritten.{address-sent-as-written, data-sent-as-written, firework-alone}
 use Rattle.cluster.proofs.RecordWrites.{name-record-written, record-written, nothing-written}
@@ -130,3 +133,27 @@ held-unknown-edition-keeping = keeping-edition
 
 pub held-unknown-edition-filling : UnknownEditionFilling
 held-unknown-edition-filling = filling-edition
+
+pub held-data-wakes : DataWakes
+held-data-wakes = data-wakes
+
+pub held-multipartner-wakes : MultipartnerWakes
+held-multipartner-wakes = multipartner-wakes
+
+pub held-address-wakes-nobody : AddressWakesNobody
+held-address-wakes-nobody = address-wakes-nobody
+
+pub held-sleep-puts-to-sleep : SleepPutsToSleep
+held-sleep-puts-to-sleep = sleep-puts-to-sleep
+
+pub held-sleep-silent : SleepSilent
+held-sleep-silent = sleep-silent
+
+pub held-sleeper-keeps-files : SleeperKeepsFiles
+held-sleeper-keeps-files = sleeper-keeps-files
+
+pub held-sleepers-silent : SleepersSilent
+held-sleepers-silent = sleepers-silent
+
+pub held-awake-as-alone : AwakeAsAlone
+held-awake-as-alone = awake-as-alone

@@ -22,14 +22,14 @@ use Rattle.cluster.specs.declared.types.RecordAddress.{RecordAddress}
 use Rattle.cluster.specs.declared.duty.Duty.{Duty as CodeDuty}
 use Rattle.cluster.specs.declared.duty.Duty.the-variants as duties
 use Rattle.cluster.specs.Rules.Bus.{senderMask, answerBytes, answerIn, nobody}
-use Rattle.cluster.specs.Rules.Slaves.{Duty, nothing, reading, writing, comparing, baptizing, executionOf, dutyBy, pendingDuty, nextEpoch, epochRaised, mayWrite, takesWrite, replyTo, sentTo, slaveAfter, slavesAfter}
+use Rattle.cluster.specs.Rules.Slaves.{Duty, nothing, reading, writing, comparing, baptizing, sleeping, sleepRecord, executionOf, dutyBy, pendingDuty, nextEpoch, epochRaised, mayWrite, takesWrite, replyTo, sentTo, slaveAfter, slavesAfter, fallsAsleep, restsAfter, rested}
 use Rattle.cluster.specs.Rules.Grounds.{writePending}
 use Rattle.cluster.specs.Inner.Effects.{dataEffect}
 use Rattle.cluster.specs.Inner.Carried.{sendersTo, Heard, Carried}
 use Rattle.cluster.specs.Inner.Duties.{readingAt, writingAt, executionAt, dutyAt, dutyFor, dutyEffect}
 use Rattle.cluster.proofs.Bus.{counting-start, counting-done}
 use Rattle.cluster.proofs.Hearing.{heard-nobody, heard-mask, inSlot-nil}
-use Rattle.cluster.proofs.Kept.{kept-raised}
+use Rattle.cluster.proofs.Kept.{kept-raised, after-shape}
 
 -- ---- the duty: one law for each way
 
@@ -74,9 +74,13 @@ module _ (name : ℕ) {n : ℕ} (r : ℕ) where
     unfolding executionOf
     execution-baptize two e = rw (eq-eqb n configuration here, ne-eqb r 2 two, eq-eqb r 1 e)
 
-    pub execution-other : (r ≡ 2 → ⊥) → (r ≡ 1 → ⊥) → nothing ≡ executionOf name n r
+    pub execution-sleep : (r ≡ 2 → ⊥) → (r ≡ 1 → ⊥) → r ≡ sleepRecord → sleeping name ≡ executionOf name n r
     unfolding executionOf
-    execution-other two one = rw (eq-eqb n configuration here, ne-eqb r 2 two, ne-eqb r 1 one)
+    execution-sleep two one e = rw (eq-eqb n configuration here, ne-eqb r 2 two, ne-eqb r 1 one, eq-eqb r sleepRecord e)
+
+    pub execution-other : (r ≡ 2 → ⊥) → (r ≡ 1 → ⊥) → (r ≡ sleepRecord → ⊥) → nothing ≡ executionOf name n r
+    unfolding executionOf
+    execution-other two one four = rw (eq-eqb n configuration here, ne-eqb r 2 two, ne-eqb r 1 one, ne-eqb r sleepRecord four)
 
 -- ---- the epoch
 
@@ -130,12 +134,13 @@ isWriting (reading name n r) = false
 isWriting (writing name n r) = true
 isWriting (comparing name) = false
 isWriting (baptizing name) = false
+isWriting (sleeping name) = false
 
 execution-writes-not : (name n r : ℕ) → isWriting (executionOf name n r) ≡ false
 unfolding executionOf isWriting
 execution-writes-not name n r =
     byCase (eqb n configuration)
-    (λ e. byCase (eqb r 2) (λ t. rw (e, t)) (λ t. byCase (eqb r 1) (λ o. rw (e, t, o)) (λ o. rw (e, t, o))))
+    (λ e. byCase (eqb r 2) (λ t. rw (e, t)) (λ t. byCase (eqb r 1) (λ o. rw (e, t, o)) (λ o. byCase (eqb r sleepRecord) (λ z. rw (e, t, o, z)) (λ z. rw (e, t, o, z)))))
     (λ e. rw e)
 
 duty-writes : (name pb2 pb3 : ℕ) → isWriting (dutyBy name pb2 pb3) ≡ true → eqb (operationOf pb2) writeOperation ≡ true
@@ -210,12 +215,71 @@ module _ (c : Cluster) (d : CodeDuty) (a : RecordAddress) (bytes : List ℕ) {ol
   unfolding dutyAt replyTo slavesAfter slaveAfter
   baptize-done is b after = effect-is is (done-silently (baptizing (nameIn (a .name))) c bytes (λ s. refl) after b)
 
+  pub sleep-done : {f : List ℕ} → d ≡ duties.Sleep → Becomes f c → new ≡ answerIn old (answerBytes dataFirework nobody) → Carried (dutyEffect (dutyAt d a) bytes c) dataFirework old new 0 f
+  unfolding dutyAt slaveAfter replyTo
+  sleep-done {f} is h b =
+      let o : Duty = sleeping (nameIn (a .name)) in
+      effect-is is (done-silently o c bytes (λ s. refl) (subst (λ (x : Cluster). Becomes f x) (sym (after-same o bytes c (λ s. refl))) h) b)
+
+-- ---- who is awake afterwards
+
+-- everyone, but after a sleep
+awake-alike : (o : Duty) (c : Cluster) → ((s : Slave) → fallsAsleep o s ≡ false) → rested nothing c ≡ rested o c
+unfolding rested
+awake-alike o c up = ap (withSlaves c) (map-alike (c .slaves))
+  where
+    idle : (s : Slave) → fallsAsleep nothing s ≡ false
+    idle s = unfold fallsAsleep in refl
+
+    same : (s : Slave) → restsAfter nothing s ≡ restsAfter o s
+    same s = unfold restsAfter in rw (up s, idle s)
+
+    map-alike : (ss : List Slave) → map (restsAfter nothing) ss ≡ map (restsAfter o) ss
+    map-alike [] = refl
+    map-alike (s ∷ ss) = rw (same s, map-alike ss)
+
+pub writing-wakes : (name n r : ℕ) (c : Cluster) → rested nothing c ≡ rested (writing name n r) c
+writing-wakes name n r c = awake-alike (writing name n r) c (λ s. unfold fallsAsleep in refl)
+
+module _ (c : Cluster) (d : CodeDuty) (a : RecordAddress) {file : List ℕ} where
+  woken : {e : CodeDuty} → d ≡ e → ((s : Slave) → fallsAsleep (dutyAt e a) s ≡ false) → Becomes file (rested nothing c) → Becomes file (rested (dutyAt d a) c)
+  woken {e} is up h =
+      subst (λ (x : CodeDuty). Becomes file (rested (dutyAt x a) c)) (sym is)
+      (subst (λ (x : Cluster). Becomes file x) (awake-alike (dutyAt e a) c up) h)
+
+  pub nothing-wakes : d ≡ duties.Nothing → Becomes file (rested nothing c) → Becomes file (rested (dutyAt d a) c)
+  nothing-wakes is h = woken is (λ s. unfold dutyAt fallsAsleep in refl) h
+
+  pub read-wakes : d ≡ duties.Read → Becomes file (rested nothing c) → Becomes file (rested (dutyAt d a) c)
+  read-wakes is h = woken is (λ s. unfold dutyAt fallsAsleep in refl) h
+
+  pub write-wakes : d ≡ duties.Write → Becomes file (rested nothing c) → Becomes file (rested (dutyAt d a) c)
+  write-wakes is h = woken is (λ s. unfold dutyAt fallsAsleep in refl) h
+
+  pub compare-wakes : d ≡ duties.Compare → Becomes file (rested nothing c) → Becomes file (rested (dutyAt d a) c)
+  compare-wakes is h = woken is (λ s. unfold dutyAt fallsAsleep in refl) h
+
+  pub baptize-wakes : d ≡ duties.Baptize → Becomes file (rested nothing c) → Becomes file (rested (dutyAt d a) c)
+  baptize-wakes is h = woken is (λ s. unfold dutyAt fallsAsleep in refl) h
+
+  pub sleep-rests : d ≡ duties.Sleep → Becomes file (rested (sleeping (nameIn (a .name))) c) → Becomes file (rested (dutyAt d a) c)
+  unfolding dutyAt
+  sleep-rests is h = rw is h
+
 -- ---- the file with the epoch raised
 
 pub raised-placed : {f g places : List ℕ} → Placed f places → Becomes g (epochRaised (decode f)) → Placed g places
 raised-placed {f} p h = let kept = kept-raised (decode f) in placed-kept p h (kept .edition) (kept .shape)
 
-pub raised-done : {f : List ℕ} (c : Cluster) {o : Duty} (bytes : List ℕ) {firework : ℕ} {old new : List ℕ} {mask : ℕ} {file : List ℕ} → o ≡ pendingDuty c → Becomes f (epochRaised c) → Carried (dutyEffect o bytes (decode f)) firework old new mask file →
-    Carried (dataEffect c bytes) firework old new mask file
+-- with the duty done
+pub done-placed : {f g places : List ℕ} (o : Duty) (bytes : List ℕ) {firework : ℕ} {old new : List ℕ} {mask : ℕ} → Placed f places → Carried (dutyEffect o bytes (decode f)) firework old new mask g → Placed g places
+unfolding dutyEffect slavesAfter withSlaves
+done-placed {f} o bytes p k = placed-kept p (k .becomes) refl (after-shape o bytes (decode f))
+
+-- and with who falls asleep asleep, everyone else awake
+pub raised-done : {f : List ℕ} (c : Cluster) {o : Duty} (bytes : List ℕ) {firework : ℕ} {old new : List ℕ} {mask : ℕ} {g file : List ℕ} → o ≡ pendingDuty c → Becomes f (epochRaised c) → Carried (dutyEffect o bytes (decode f)) firework old new mask g →
+    Becomes file (rested o (decode g)) → Carried (dataEffect c bytes) firework old new mask file
 unfolding dutyEffect epochRaised withEpoch
-raised-done c bytes is h k = let there = rw (is, h .decoded) at k in record { senders = there .senders; buffer = there .buffer; becomes = there .becomes }
+raised-done c bytes is h k rests =
+    let there = rw (is, h .decoded) at k in
+    record { senders = there .senders; buffer = there .buffer; becomes = rw (is, there .becomes .decoded) at rests }

@@ -18,7 +18,7 @@ use Rattle.file.specs.Inner.Places.{noSlave, slaveOf}
 use Rattle.file.proofs.Order.{byCase, both-right}
 use Rattle.file.proofs.Puts.{hasRecord-fits}
 use Rattle.cluster.specs.Rules.Bus.{Senders, anyone, slots, senderMask, answerBytes, answerIn, nobody}
-use Rattle.cluster.specs.Rules.Slaves.{Duty, nothing, reading, writing, comparing, baptizing, answersRead, readReply, answersCompare, replyTo, inSlot, sentTo}
+use Rattle.cluster.specs.Rules.Slaves.{Duty, nothing, reading, writing, comparing, baptizing, sleeping, answersRead, readReply, answersCompare, replyTo, inSlot, sentTo}
 use Rattle.cluster.specs.Inner.Carried.{sendersTo, said, Heard, reachOf, Replied}
 use Rattle.cluster.proofs.Bus.{answerBytes-length, answer-length, answer-alike, answer-said, sendersTo-yes, sendersTo-no, mask-alike}
 
@@ -41,6 +41,7 @@ sizeOf (reading name n r) = 5
 sizeOf (writing name n r) = 0
 sizeOf (comparing name) = 1
 sizeOf (baptizing name) = 0
+sizeOf (sleeping name) = 0
 
 pub recordOf-length : (s : Slave) (n r : ℕ) → hasRecord s n r ≡ true → length (recordOf s n r) ≡ 4
 unfolding recordOf part
@@ -56,6 +57,7 @@ reply-size (reading name n r) s =
 reply-size (writing name n r) s = inl refl
 reply-size (comparing name) s = byCase (answersCompare name s) (λ e. inr (rw e)) (λ e. inl (rw e))
 reply-size (baptizing name) s = inl refl
+reply-size (sleeping name) s = inl refl
 
 pub size-few : (o : Duty) → sizeOf o < 64
 unfolding sizeOf
@@ -64,6 +66,7 @@ size-few (reading name n r) = omega arith
 size-few (writing name n r) = omega arith
 size-few (comparing name) = omega arith
 size-few (baptizing name) = omega arith
+size-few (sleeping name) = omega arith
 
 -- ---- the slots that someone sent in
 

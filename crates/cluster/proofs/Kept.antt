@@ -5,24 +5,25 @@ use native.Mathlib.Omega.{arith}
 use mathlib.Core.Path.{_≡_, refl, _∙_}
 use mathlib.Core.Logic.{_≢_}
 use mathlib.Core.List.{List, [], _∷_, map}
-use mathlib.Core.Bool.{Bool, true, not}
+use mathlib.Core.Bool.{Bool, true, cond, not}
 use lib.Dec.{eqb}
 use borrow.Author.Tests.{leb-true, not-true, eq-eqb}
 use Rattle.file.specs.Rules.Bytes.{Byte, Bytes, All, allEmpty, allNext}
 use Rattle.file.specs.Rules.Order as Order
 use Rattle.file.specs.Rules.Layout.{recordSize}
 use Rattle.file.specs.Inner.Layout.{newLogicalNamePlace, logicalNamePlace}
-use Rattle.file.specs.Rules.Cluster.{File, Slave, Cluster, bytesAmong, bytesIn, configuration, documentation, physicalName, newLogicalName}
+use Rattle.file.specs.Rules.Cluster.{File, Slave, Cluster, isAwake, bytesAmong, bytesIn, configuration, documentation, physicalName, newLogicalName}
 use Rattle.file.specs.Rules.Legal.{LegalFile, LegalSlave, LegalPending, Legal}
-use Rattle.file.specs.Rules.Changes.{putInSlave, withSlaves, withEpoch, withPending}
+use Rattle.file.specs.Rules.Changes.{putInSlave, withSleep, withSlaves, withEpoch, withPending}
 use Rattle.file.specs.Inner.Places.{SameFiles, SameShape, noSlaves, sameSlave}
 use Rattle.file.proofs.Order.{byCase, clash, both-left, both-right}
 use Rattle.file.proofs.Shape.{files-refl, files-trans, shape-refl, shape-trans, shape-count, shape-fileLength, slave-put}
 use Rattle.file.proofs.Puts.{inSlave-other, inSlave-physicalName}
 use Rattle.file.proofs.Kept.{slave-legal, legal-withEpoch, legal-withPending}
+use Rattle.file.proofs.SleepStores.{slave-slept}
 use Rattle.file.proofs.Bytes.{all-take, byte-at}
 use Rattle.cluster.specs.Rules.Bus.{busByte}
-use Rattle.cluster.specs.Rules.Slaves.{nextEpoch, epochRaised, isUnnamed, Duty, nothing, reading, writing, comparing, baptizing, mayWrite, isNameRecord, written, takesWrite, takesName, named, replaced, slaveAfter, slavesAfter}
+use Rattle.cluster.specs.Rules.Slaves.{nextEpoch, epochRaised, isUnnamed, Duty, nothing, reading, writing, comparing, baptizing, sleeping, mayWrite, isNameRecord, written, takesWrite, takesName, named, replaced, slaveAfter, slavesAfter, fallsAsleep, restsAfter, rested}
 use Rattle.cluster.specs.Rules.Entries.{Entry, Acting, acts, acting, bytePlace, receives}
 use Rattle.cluster.specs.Rules.Multipartner.{SlaveByte, nowhere, byteOf, within, mayStore, storePlace, storesAt, storedThere, receivedIn, sentIn, clusterBelow}
 use Rattle.cluster.proofs.Bus.{busByte-byte}
@@ -104,6 +105,24 @@ slaveAfter-kept (writing name n r) bytes s =
 slaveAfter-kept (comparing name) bytes s = slave-refl s
 slaveAfter-kept (baptizing name) bytes s =
     byCase (takesName name s) (λ e. rw e (named-kept s)) (λ e. rw e (slave-refl s))
+slaveAfter-kept (sleeping name) bytes s = slave-refl s
+
+-- ---- asleep or awake, a slave keeps its files
+
+sleep-few : (falls : Bool) → cond falls 1 0 ≤ 1
+sleep-few falls = byCase falls (λ e. rw e (omega arith)) (λ e. rw e (omega arith))
+
+slept-kept : (s : Slave) (b : ℕ) → b ≤ 1 → SlaveKept s (withSleep s b)
+unfolding withSleep physicalName bytesIn
+slept-kept s b few = record { files = files-refl (s .files); name = refl; legal = λ l. slave-slept s b few l }
+
+pub rests-kept : (o : Duty) (s : Slave) → SlaveKept s (restsAfter o s)
+unfolding restsAfter
+rests-kept o s = slept-kept s (cond (fallsAsleep o s) 1 0) (sleep-few (fallsAsleep o s))
+
+pub rests-bytes : (o : Duty) (s : Slave) (n : ℕ) → bytesIn (restsAfter o s) n ≡ bytesIn s n
+unfolding restsAfter withSleep bytesIn
+rests-bytes o s n = refl
 
 -- ---- where a slave stores in a slot
 
@@ -136,7 +155,9 @@ storePlace-stores s slot (acts e) =
 pub storesAt-stores : (passed : Entry → Bool) (round slot : ℕ) (s : Slave) → Stores (storesAt passed round slot s)
 unfolding storesAt
 storesAt-stores passed round slot s =
-    byCase (isUnnamed s) (λ t. rw t stays) (λ t. rw t (storePlace-stores s slot (acting passed (bytesIn s round) slot)))
+    byCase (isAwake s)
+    (λ a. byCase (isUnnamed s) (λ t. rw (a, t) stays) (λ t. rw (a, t) (storePlace-stores s slot (acting passed (bytesIn s round) slot))))
+    (λ a. rw a stays)
 
 pub stored-kept : (s : Slave) (b : ℕ) {p : SlaveByte} → Byte b → Stores p → SlaveKept s (storedThere s p b)
 unfolding storedThere
@@ -169,10 +190,13 @@ kept-trans p q =
       legal = λ l. q .legal (p .legal l);
     }
 
+shape-map : (f : Slave → Slave) → ((s : Slave) → SameFiles (s .files) (f s .files)) → (ss : List Slave) → SameShape ss (map f ss)
+shape-map f same [] = noSlaves
+shape-map f same (s ∷ ss) = sameSlave (same s) (shape-map f same ss)
+
 module _ (f : Slave → Slave) (keeps : (s : Slave) → SlaveKept s (f s)) where
   map-shape : (ss : List Slave) → SameShape ss (map f ss)
-  map-shape [] = noSlaves
-  map-shape (s ∷ ss) = sameSlave (keeps s .files) (map-shape ss)
+  map-shape ss = shape-map f (λ s. keeps s .files) ss
 
   map-names : (ss : List Slave) → map physicalName (map f ss) ≡ map physicalName ss
   map-names [] = refl
@@ -232,6 +256,30 @@ kept-pending c flag name pb2 pb3 p =
 pub kept-after : (o : Duty) {bs : List ℕ} → Bytes bs → (c : Cluster) → ClusterKept c (slavesAfter o bs c)
 unfolding slavesAfter
 kept-after o {bs} bytes c = kept-map (slaveAfter o bs) (slaveAfter-kept o bytes) c
+
+-- the shape is kept whatever the data
+replaced-files : (s : Slave) (n k : ℕ) (bs : List ℕ) → SameFiles (s .files) (replaced s n k bs .files)
+unfolding replaced
+replaced-files s n k [] = files-refl (s .files)
+replaced-files s n k (b ∷ bs) = files-trans (slave-put s n k b) (replaced-files (putInSlave s n k b) n (suc k) bs)
+
+after-files : (o : Duty) (bs : List ℕ) (s : Slave) → SameFiles (s .files) (slaveAfter o bs s .files)
+unfolding slaveAfter
+after-files nothing bs s = files-refl (s .files)
+after-files (reading name n r) bs s = files-refl (s .files)
+after-files (writing name n r) bs s =
+    byCase (takesWrite name n r s) (λ e. rw e (replaced-files s n (recordSize * r) (written n r bs))) (λ e. rw e (files-refl (s .files)))
+after-files (comparing name) bs s = files-refl (s .files)
+after-files (baptizing name) bs s = byCase (takesName name s) (λ e. rw e (named-kept s .files)) (λ e. rw e (files-refl (s .files)))
+after-files (sleeping name) bs s = files-refl (s .files)
+
+pub after-shape : (o : Duty) (bs : List ℕ) (c : Cluster) → SameShape (c .slaves) (slavesAfter o bs c .slaves)
+unfolding slavesAfter withSlaves
+after-shape o bs c = shape-map (slaveAfter o bs) (after-files o bs) (c .slaves)
+
+pub kept-rested : (o : Duty) (c : Cluster) → ClusterKept c (rested o c)
+unfolding rested
+kept-rested o c = kept-map (restsAfter o) (rests-kept o) c
 
 pub kept-received : (passed : Entry → Bool) (round slot : ℕ) (c : Cluster) (sent : List ℕ) → ClusterKept c (receivedIn passed round slot c sent)
 unfolding receivedIn

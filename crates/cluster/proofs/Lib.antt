@@ -3,9 +3,12 @@
 
 -- the bus: mask and buffer of any sender rule
 pub mod Bus
+pub mod BytesBelow
 pub mod Mask
 -- what a round keeps, what it leaves alone, and the laws of the round definition
 pub mod Kept
+pub mod Asleep
+pub mod AwakeAlone
 pub mod Untouched
 pub mod Rounds
 pub mod Replaced
@@ -39,6 +42,9 @@ pub mod RoundNumbers
 pub mod FrameLaws
 -- the document's cases, frames that the writers wrote, the ways of the round call, and a complete round
 pub mod Cases
+pub mod Sleep
+pub mod SleepExamples
+pub mod SleepWitnesses
 pub mod RoundCall
 pub mod Sent
 pub mod SentAsWritten

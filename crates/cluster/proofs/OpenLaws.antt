@@ -11,7 +11,7 @@ use lib.Seq.{getD-set-same, getD-set-other}
 use lib.Dec.{eqb}
 use borrow.Author.Tests.{eq-eqb, ne-eqb, eqb-true, eqb-false}
 use Rattle.file.specs.Rules.Layout.{recordSize}
-use Rattle.file.specs.Rules.Cluster.{Slave, Cluster, bytesIn, lastRecord}
+use Rattle.file.specs.Rules.Cluster.{Slave, Cluster, isAwake, bytesIn, lastRecord}
 use Rattle.file.specs.Inner.Places.{slavesRoom, slaveOf, filePlace}
 use Rattle.file.specs.Inner.Accepted.{Becomes}
 use Rattle.file.proofs.Order.{byCase}
@@ -19,7 +19,7 @@ use Rattle.file.proofs.ReaderLaws.{byte-there, place-within}
 use Rattle.cluster.specs.Rules.Slaves.{isUnnamed}
 use Rattle.cluster.specs.Rules.Entries.{Entry, entryThere, entryAt, ends, eligible, Acting, noEntry, acts, actingFrom}
 use Rattle.cluster.specs.Inner.EntryForm.{evaluated, isPast}
-use Rattle.cluster.specs.Inner.Slots.{entriesIn, RoundFileIs, RoundFilesAre, EntriesWithin, openFrom}
+use Rattle.cluster.specs.Inner.Slots.{plannedEntries, entriesIn, EntriesLie, RoundFilesAre, EntriesWithin, openFrom}
 use Rattle.cluster.proofs.EntryLaws.{past-goes-on, past-covers, eligible-covers}
 
 -- ---- the first entry before the end that is eligible in the slot, record by record
@@ -45,12 +45,17 @@ acting-none passed rodl slot k n e = rw e
 
 -- ---- the entries that a slave runs lie in its round file
 
-entries-room : (round : ℕ) (s : Slave) (k : ℕ) → 1 ≤ k → k ≤ entriesIn round s → recordSize * k + recordSize ≤ length (bytesIn s round)
-unfolding entriesIn lastRecord
-entries-room round s k some l =
-    byCase (isUnnamed s)
-    (λ t. let nought : k ≤ 0 = rw t at l in absurd (omega arith))
-    (λ t. let here : k ≤ length (bytesIn s round) / 4 - 1 = rw t at l in omega arith)
+pub planned-few : (round : ℕ) (s : Slave) → plannedEntries round s ≤ lastRecord (bytesIn s round)
+unfolding plannedEntries
+planned-few round s = byCase (isUnnamed s) (λ t. rw t (omega arith)) (λ t. rw t (omega arith))
+
+entries-few : (round : ℕ) (s : Slave) → entriesIn round s ≤ lastRecord (bytesIn s round)
+unfolding entriesIn
+entries-few round s = byCase (isAwake s) (λ a. rw a (planned-few round s)) (λ a. rw a (omega arith))
+
+entries-room : (round : ℕ) (s : Slave) (k : ℕ) → 1 ≤ k → k ≤ lastRecord (bytesIn s round) → recordSize * k + recordSize ≤ length (bytesIn s round)
+unfolding lastRecord
+entries-room round s k some l = omega arith
 
 -- the entry that acts, by the entries that the slave runs
 unfoldable pub actor : (Entry → Bool) → ℕ → ℕ → Slave → Acting
@@ -58,36 +63,42 @@ actor passed round slot s = actingFrom passed (bytesIn s round) slot 1 (entriesI
 
 -- ---- the entries from one on
 
--- so many entries of the slave at index s, from record k on, lie from at to end
-pub record Rest (c : Cluster) (round s k left at end : ℕ) : Type 0 where
+-- of so many entries of the slave at index s those from record k on lie from at to end
+pub record RestOf (c : Cluster) (round s many k left at end : ℕ) : Type 0 where
+  pub few : many ≤ lastRecord (bytesIn (slaveOf c s) round)
   pub some : 1 ≤ k
-  pub count : k + left ≡ suc (entriesIn round (slaveOf c s))
+  pub count : k + left ≡ suc many
   pub span : end ≡ at + recordSize * left
-  pub lies : 0 < entriesIn round (slaveOf c s) → at ≡ filePlace c s round + recordSize * k
-  pub runsNone : entriesIn round (slaveOf c s) ≡ 0 → at ≡ 0
+  pub lies : 0 < many → at ≡ filePlace c s round + recordSize * k
+  pub runsNone : many ≡ 0 → at ≡ 0
 
-pub rest-start : {c : Cluster} {round s start end : ℕ} → RoundFileIs c round s start end → Rest c round s 1 (entriesIn round (slaveOf c s)) start end
-rest-start {c} {round} {s} {start} is =
+-- of those that it runs
+abbrev pub Rest : Cluster → ℕ → ℕ → ℕ → ℕ → ℕ → ℕ → Type 0
+Rest c round s k left at end = RestOf c round s (entriesIn round (slaveOf c s)) k left at end
+
+pub rest-start : {c : Cluster} {round s many start end : ℕ} → many ≤ lastRecord (bytesIn (slaveOf c s) round) → EntriesLie c round s many start end → RestOf c round s many 1 many start end
+rest-start {c} {round} {s} {many} {start} few is =
     record {
+      few = few;
       some = omega arith;
       count = omega arith;
       span = is .span;
       lies = λ l.
-          let many : eqb (entriesIn round (slaveOf c s)) 0 ≡ false = ne-eqb (entriesIn round (slaveOf c s)) 0 (λ e. omega arith) in
-          let here : start ≡ filePlace c s round + recordSize = rw many at (is .begins) in
+          let more : eqb many 0 ≡ false = ne-eqb many 0 (λ e. omega arith) in
+          let here : start ≡ filePlace c s round + recordSize = rw more at (is .begins) in
           omega arith;
-      runsNone = λ e. rw (eq-eqb (entriesIn round (slaveOf c s)) 0 e) at (is .begins);
+      runsNone = λ e. rw (eq-eqb many 0 e) at (is .begins);
     }
 
-module _ {f : List ℕ} {c : Cluster} {round s k left at end : ℕ} (h : Becomes f c) (q : Rest c round s k left at end) where
+module _ {f : List ℕ} {c : Cluster} {round s many k left at end : ℕ} (h : Becomes f c) (q : RestOf c round s many k left at end) where
   rest-end : end ≤ length f
   rest-end =
-      byCase (eqb (entriesIn round (slaveOf c s)) 0)
-      (λ e. omega (arith, q .span, q .count, q .some, q .runsNone (eqb-true (entriesIn round (slaveOf c s)) 0 e), eqb-true (entriesIn round (slaveOf c s)) 0 e))
+      byCase (eqb many 0)
+      (λ e. omega (arith, q .span, q .count, q .some, q .runsNone (eqb-true many 0 e), eqb-true many 0 e))
       (λ e.
-      let many = positive (eqb-false (entriesIn round (slaveOf c s)) 0 e) in
-      let room = entries-room round (slaveOf c s) (entriesIn round (slaveOf c s)) many (omega arith) in
-      omega (arith, q .span, q .count, q .lies many, place-within h s round (omega arith)))
+      let more = positive (eqb-false many 0 e) in
+      let room = entries-room round (slaveOf c s) many more (q .few) in
+      omega (arith, q .span, q .count, q .lies more, place-within h s round (omega arith)))
     where
       positive : {m : ℕ} → (m ≡ 0 → ⊥) → 1 ≤ m
       positive {m} other = omega arith
@@ -100,9 +111,10 @@ module _ {f : List ℕ} {c : Cluster} {round s k left at end : ℕ} (h : Becomes
         within = rest-end;
       }
 
-  pub rest-next : {less : ℕ} → left ≡ suc less → Rest c round s (suc k) less (at + 4) end
+  pub rest-next : {less : ℕ} → left ≡ suc less → RestOf c round s many (suc k) less (at + 4) end
   rest-next more =
       record {
+        few = q .few;
         some = omega arith;
         count = omega (arith, q .count);
         span = omega (arith, q .span);
@@ -112,7 +124,7 @@ module _ {f : List ℕ} {c : Cluster} {round s k left at end : ℕ} (h : Becomes
 
   module _ (more : 0 < left) where
     record-room : recordSize * k + recordSize ≤ length (bytesIn (slaveOf c s) round)
-    record-room = entries-room round (slaveOf c s) k (q .some) (omega (arith, q .count))
+    record-room = entries-room round (slaveOf c s) k (q .some) (omega (arith, q .count, q .few))
 
     place-here : at ≡ filePlace c s round + recordSize * k
     place-here = q .lies (omega (arith, q .count, q .some))
@@ -239,7 +251,7 @@ open-start {c} {round} slot are =
           record {
             k = 1;
             left = entriesIn round (slaveOf c s);
-            rest = rest-start (are .file s l);
+            rest = rest-start (entries-few round (slaveOf c s)) (are .file s l);
             same = λ later m. refl;
           };
     }

@@ -14,6 +14,7 @@ use Rattle.file.specs.Rules.Bytes.{Bytes, part}
 use Rattle.file.specs.Rules.Layout.{recordSize}
 use Rattle.file.specs.Rules.Order.{both}
 use Rattle.file.specs.Rules.Cluster.{Slave, hasRecord, bytesIn, recordOf, configuration, documentation}
+use Rattle.file.specs.Rules.Changes.{withSleep}
 use Rattle.file.proofs.Order.{byCase, both-true, both-false-left, both-false-right}
 use Rattle.file.proofs.NumberLaws.{part-length}
 use Rattle.file.proofs.Puts.{hasRecord-fits}
@@ -22,7 +23,7 @@ use Rattle.cluster.specs.Rules.Slaves.{writing, isNameRecord, mayWrite, 
 use Rattle.cluster.specs.Rules.Round.{roundOn}
 use Rattle.cluster.specs.Claims.Writes.{slaveIn, recordAfter, WriteReaches, Holds, NameRecordWritten, RecordWritten, NotReached, NothingWritten}
 use Rattle.cluster.proofs.Replaced.{WriteTaken, write-taken, write-left}
-use Rattle.cluster.proofs.UnnamedWrites.{slave-written}
+use Rattle.cluster.proofs.UnnamedWrites.{slave-written, slept-record}
 
 -- a record has four bytes, of which the last is byte 3
 record-length : (s : Slave) (n r : ℕ) → hasRecord s n r ≡ true → length (recordOf s n r) ≡ 4
@@ -62,14 +63,16 @@ module _ {file frame buffer : List ℕ} {name n r i : ℕ} (fb : Bytes file) (rb
   holds : {bytes : List ℕ} → recordAfter n r (recordOf (slaveIn file i) n r) (between frame) ≡ bytes → Holds file (roundOn file frame buffer .2) i n r bytes
   unfolding recordOf
   holds {bytes} e =
-      let is : slaveIn (roundOn file frame buffer .2) i ≡ slaveAfter (writing name n r) (between frame) (slaveIn file i) =
+      let after : Slave = slaveAfter (writing name n r) (between frame) (slaveIn file i) in
+      let is : slaveIn (roundOn file frame buffer .2) i ≡ withSleep after 0 =
       slave-written file frame buffer name n r i fb rb (w .isMsd) (w .accepted) (w .pending) (w .inTable) in
       let taken : WriteTaken (slaveIn file i) (slaveAfter (writing name n r) (between frame) (slaveIn file i)) n r (between frame) =
       write-taken name n r (between frame) (slaveIn file i) refl (reached w writable some) in
       record {
-        here = ap (λ (t : Slave). recordOf t n r) is ∙ taken .here ∙ e;
+        here = ap (λ (t : Slave). recordOf t n r) is ∙ slept-record after 0 n r ∙ taken .here ∙ e;
         elsewhere = λ n′ r′ differ.
             ap (λ (t : Slave). recordOf t n′ r′) is
+            ∙ slept-record after 0 n′ r′
             ∙ byCase (eqb n′ n)
             (λ t.
             let same : n′ ≡ n = eqb-true n′ n t in
@@ -99,4 +102,4 @@ not-taken (NotReached.lacking e) = both-false-right _ (both-false-left _ e)
 pub nothing-written : NothingWritten
 nothing-written file frame buffer name n r i fb rb isMsd accepted pending inTable not-reached =
     slave-written file frame buffer name n r i fb rb isMsd accepted pending inTable
-    ∙ write-left name n r (between frame) (slaveIn file i) (not-taken not-reached)
+    ∙ ap (λ (t : Slave). withSleep t 0) (write-left name n r (between frame) (slaveIn file i) (not-taken not-reached))

@@ -2,13 +2,11 @@
 -- Assumes nothing.
 use Prim.Native.Nat.{ℕ}
 use native.Mathlib.Omega.{arith}
-use mathlib.Core.Path.{_≡_, refl, sym, ap, _∙_}
-use mathlib.Core.Logic.{_≢_}
+use mathlib.Core.Path.{_≡_, refl, ap, _∙_}
 use mathlib.Core.List.{List, [], _∷_, map}
-use mathlib.Core.Bool.{Bool, true, false, cond}
 use lib.Dec.{eqb}
-use borrow.Author.Tests.{eqb-true, eqb-false, eq-eqb}
-use Rattle.file.specs.Rules.Bytes.{Bytes, All, allEmpty, allNext}
+use borrow.Author.Tests.{eqb-true, eqb-false}
+use Rattle.file.specs.Rules.Bytes.{All, allEmpty, allNext}
 use Rattle.file.specs.Rules.Layout.{pendingFlag}
 use Rattle.file.specs.Rules.Cluster.{Slave, Cluster, bytesIn, configuration, logicalName, logicalNames, newLogicalName, fileNumberOf, operationOf, pb2Of, readOperation, writeOperation, executeOperation}
 use Rattle.file.specs.Rules.Legal.{LegalSlave}
@@ -21,12 +19,14 @@ use Rattle.file.proofs.LogicalNames.{name-held}
 use Rattle.frame.specs.Rules.Fireworks.{Round, multipartner, msd, msa, noRound}
 use Rattle.frame.specs.Rules.Frames.{between}
 use Rattle.cluster.specs.Rules.Bus.{slots}
-use Rattle.cluster.specs.Rules.Slaves.{withAddress, epochRaised, Duty, nothing, reading, writing, comparing, baptizing, executionOf, dutyBy, pendingDuty, takesName, named, slaveAfter, slavesAfter}
+use Rattle.cluster.specs.Rules.Slaves.{withAddress, epochRaised, Duty, nothing, reading, writing, comparing, baptizing, sleeping, sleepRecord, executionOf, dutyBy, pendingDuty, takesName, named, slaveAfter, slavesAfter, restsAfter, rested}
+use Rattle.cluster.specs.Rules.Multipartner.{clusterBelow}
 use Rattle.cluster.specs.Rules.Grounds.{roundBy}
 use Rattle.cluster.specs.Rules.Round.{passedOver, effectOf, frameOn, roundGround, roundOn}
 use Rattle.cluster.specs.Claims.Pending.{fileAfter, Pending}
-use Rattle.cluster.specs.Claims.Renaming.{Baptizes, nameAfter, namesOf, BaptizingRenames, OnlyBaptizingRenames, noCalls, oneMore, NobodyRenamed}
-use Rattle.cluster.proofs.Rounds.{RoundFits, round-facts, round-refused, round-becomes, round-bytes}
+use Rattle.cluster.specs.Claims.Renaming.{nameAfter, BaptizingRenames, OnlyBaptizingRenames, noCalls, oneMore, NobodyRenamed}
+use Rattle.cluster.proofs.Rounds.{round-facts, round-refused, round-becomes, round-bytes}
+use Rattle.cluster.proofs.Kept.{rests-bytes}
 use Rattle.cluster.proofs.Replaced.{write-keeps-name}
 use Rattle.cluster.proofs.Untouched.{filesOf, below-other}
 
@@ -39,6 +39,7 @@ duty-keeps-name (reading name n r) other bytes s = unfold slaveAfter in refl
 duty-keeps-name (writing name n r) other bytes s = write-keeps-name name n r bytes s
 duty-keeps-name (comparing name) other bytes s = unfold slaveAfter in refl
 duty-keeps-name (baptizing name) other bytes s = absurd (other name refl)
+duty-keeps-name (sleeping name) other bytes s = unfold slaveAfter in refl
 
 -- a baptism gives it the name that its rule says
 pub baptized : (name : ℕ) (bytes : List ℕ) {s : Slave} → LegalSlave s → logicalName (slaveAfter (baptizing name) bytes s) ≡ nameAfter name s
@@ -54,6 +55,11 @@ slaves-keep f same (s ∷ ss) = rw (same s, slaves-keep f same ss)
 slaves-baptized : (name : ℕ) (bytes : List ℕ) {ss : List Slave} → All LegalSlave ss → map logicalName (map (slaveAfter (baptizing name) bytes) ss) ≡ map (nameAfter name) ss
 slaves-baptized name bytes allEmpty = refl
 slaves-baptized name bytes (allNext l ls) = rw (baptized name bytes l, slaves-baptized name bytes ls)
+
+-- asleep or awake, they keep their names
+rested-keeps : (o : Duty) (c : Cluster) → logicalNames (rested o c) ≡ logicalNames c
+unfolding logicalNames rested withSlaves logicalName
+rested-keeps o c = slaves-keep (restsAfter o) (λ s. rw (rests-bytes o s configuration)) (c .slaves)
 
 -- the same configurations, the same names
 names-alike : (ss ts : List Slave) → filesOf configuration ts ≡ filesOf configuration ss → map logicalName ts ≡ map logicalName ss
@@ -71,15 +77,18 @@ names-alike (s ∷ ss) (t ∷ ts) e =
 effect-keeps : (c : Cluster) (round : Round) (frame : List ℕ) → (round ≡ msd → (name : ℕ) → pendingDuty c ≡ baptizing name → ⊥) → logicalNames (effectOf c round frame .after) ≡ logicalNames c
 unfolding effectOf logicalNames withAddress withPending epochRaised withEpoch slavesAfter withSlaves
 effect-keeps c (multipartner r) frame other =
-    names-alike (c .slaves) _ (below-other (passedOver c) r (epochRaised c) slots configuration (λ h. omega arith))
+    rested-keeps nothing (clusterBelow (passedOver c) r (epochRaised c) slots)
+    ∙ names-alike (c .slaves) _ (below-other (passedOver c) r (epochRaised c) slots configuration (λ h. omega arith))
 effect-keeps c msd frame other =
-    slaves-keep (slaveAfter (pendingDuty c) (between frame)) (duty-keeps-name (pendingDuty c) (other refl) (between frame)) (c .slaves)
+    rested-keeps (pendingDuty c) (slavesAfter (pendingDuty c) (between frame) (epochRaised c))
+    ∙ slaves-keep (slaveAfter (pendingDuty c) (between frame)) (duty-keeps-name (pendingDuty c) (other refl) (between frame)) (c .slaves)
 effect-keeps c msa frame other = refl
 effect-keeps c noRound frame other = refl
 
 effect-baptizes : (c : Cluster) (frame : List ℕ) {name : ℕ} → All LegalSlave (c .slaves) → pendingDuty c ≡ baptizing name → logicalNames (effectOf c msd frame .after) ≡ map (nameAfter name) (c .slaves)
 unfolding effectOf logicalNames epochRaised withEpoch slavesAfter withSlaves
-effect-baptizes c frame {name} l is = rw is (slaves-baptized name (between frame) l)
+effect-baptizes c frame {name} l is =
+    rw is (rested-keeps (baptizing name) (slavesAfter (baptizing name) (between frame) (epochRaised c)) ∙ slaves-baptized name (between frame) l)
 
 frame-keeps : (c : Cluster) (frame : List ℕ) → (roundBy frame ≡ msd → (name : ℕ) → pendingDuty c ≡ baptizing name → ⊥) → logicalNames (frameOn c frame .after) ≡ logicalNames c
 unfolding frameOn
@@ -105,7 +114,10 @@ executed name n r {own} is =
     (λ b.
     byCase (eqb r 1)
     (λ d. let e = rw (a, b, d) at is in (eqb-true n configuration a, eqb-true r 1 d, cc))
-    (λ d. let e = rw (a, b, d) at is in let z : _≡_ {A = ℕ} 0 1 = cc in absurd (omega arith))))
+    (λ d.
+    byCase (eqb r sleepRecord)
+    (λ z. let e = rw (a, b, d, z) at is in let z : _≡_ {A = ℕ} 0 1 = cc in absurd (omega arith))
+    (λ z. let e = rw (a, b, d, z) at is in let z : _≡_ {A = ℕ} 0 1 = cc in absurd (omega arith)))))
     (λ a. let e = rw a at is in let z : _≡_ {A = ℕ} 0 1 = cc in absurd (omega arith))
 
 duty-executed : (name own pb2 pb3 : ℕ) → dutyBy own pb2 pb3 ≡ baptizing name → (pb2 ≡ pb2Of configuration executeOperation) × (pb3 ≡ 1) × (own ≡ name)

@@ -4,14 +4,14 @@ use Prim.Native.Nat.{ℕ, _+_, _*_, _≤_, _<_}
 use native.Mathlib.Omega.{arith}
 use mathlib.Core.Path.{_≡_, sym, ap, _∙_}
 use mathlib.Core.List.{List}
-use mathlib.Core.Bool.{false}
+use mathlib.Core.Bool.{Bool, true, false, not}
 use lib.ListN.{length, getD, set, length-set}
 use lib.Seq.{getD-set-same, getD-set-other}
 use lib.Dec.{eqb}
-use borrow.Author.Tests.{eq-eqb, ne-eqb, eqb-true, eqb-false}
+use borrow.Author.Tests.{eq-eqb, ne-eqb, eqb-true, eqb-false, not-true, not-false}
 use Rattle.file.specs.Rules.Bytes.{All, allEmpty, allNext}
 use Rattle.file.specs.Rules.Layout.{recordSize}
-use Rattle.file.specs.Rules.Cluster.{File, Cluster, bytesAmong, bytesIn, lastRecord, logicalName, unnamed}
+use Rattle.file.specs.Rules.Cluster.{File, Cluster, isAwake, bytesAmong, bytesIn, lastRecord, logicalName, unnamed}
 use Rattle.file.specs.Rules.Legal.{LegalFile}
 use Rattle.file.specs.Inner.Places.{slavesRoom, slaveOf}
 use Rattle.file.specs.Rules.Decode.{decode}
@@ -25,7 +25,7 @@ use Rattle.file.specs.declared.readers.FilePlace.the-variants.{Bytes, NoFile}
 use Rattle.file.proofs.Order.{byCase}
 use Rattle.file.proofs.ReaderLaws.{slave-legal, length-limit, place-within, becomes-decoded}
 use Rattle.cluster.specs.Rules.Slaves.{isUnnamed}
-use Rattle.cluster.specs.Inner.Slots.{entriesIn, RoundFileIs, RoundFilesAre}
+use Rattle.cluster.specs.Inner.Slots.{plannedEntries, entriesIn, EntriesLie, PlannedFileIs, RoundFileIs, RoundFilesAre}
 use Rattle.cluster.proofs.SlotActLaws.{Found, found-facts, missing-empty}
 
 -- ---- one slave
@@ -47,24 +47,34 @@ file-records : {f : List ℕ} {c : Cluster} (s n : ℕ) → Becomes f c → s < 
 unfolding bytesIn
 file-records s n h l some = among-records n (slave-legal h s l .files) some
 
-no-file : (c : Cluster) (round s : ℕ) → entriesIn round (slaveOf c s) ≡ 0 → RoundFileIs c round s 0 0
-no-file c round s e = record { begins = rw e; span = rw e }
+no-entries : {c : Cluster} {round s many : ℕ} → many ≡ 0 → EntriesLie c round s many 0 0
+no-entries e = record { begins = rw e; span = rw e }
 
 module _ (c : Cluster) (round s : ℕ) where
-  pub round-unnamed : {name : ℕ} → name ≡ logicalName (slaveOf c s) → name ≡ unnamed → RoundFileIs c round s 0 0
-  unfolding entriesIn isUnnamed
-  round-unnamed own is = no-file c round s (rw (eq-eqb (logicalName (slaveOf c s)) unnamed (sym own ∙ is)))
+  pub round-unnamed : {name : ℕ} → name ≡ logicalName (slaveOf c s) → name ≡ unnamed → PlannedFileIs c round s 0 0
+  unfolding plannedEntries isUnnamed
+  round-unnamed own is = no-entries (rw (eq-eqb (logicalName (slaveOf c s)) unnamed (sym own ∙ is)))
 
-  named-runs : {name : ℕ} → name ≡ logicalName (slaveOf c s) → (name ≡ unnamed → ⊥) → entriesIn round (slaveOf c s) ≡ lastRecord (bytesIn (slaveOf c s) round)
-  unfolding entriesIn isUnnamed
+  named-runs : {name : ℕ} → name ≡ logicalName (slaveOf c s) → (name ≡ unnamed → ⊥) → plannedEntries round (slaveOf c s) ≡ lastRecord (bytesIn (slaveOf c s) round)
+  unfolding plannedEntries isUnnamed
   named-runs own named = rw (ne-eqb (logicalName (slaveOf c s)) unnamed (λ e. named (own ∙ e)))
 
+  -- a sleeping slave runs none of them, one that is awake all
+  module _ {t : Bool} (is : t ≡ isAwake (slaveOf c s)) where
+    pub round-asleep : not t ≡ true → RoundFileIs c round s 0 0
+    unfolding entriesIn
+    round-asleep no′ = no-entries (rw (sym is ∙ not-true t no′))
+
+    pub round-awake : {start end : ℕ} → not t ≡ false → PlannedFileIs c round s start end → RoundFileIs c round s start end
+    unfolding entriesIn
+    round-awake yes′ lie = rw (sym is ∙ not-false t yes′) lie
+
   module _ {r : FilePlace} (is : foundFile r ≡ findFile c s round) where
-    pub round-missing : r ≡ NoFile → RoundFileIs c round s 0 0
-    unfolding foundFile entriesIn lastRecord
+    pub round-missing : r ≡ NoFile → PlannedFileIs c round s 0 0
+    unfolding foundFile plannedEntries lastRecord
     round-missing q =
         let empty = missing-empty c s round (rw q at is) in
-        no-file c round s (byCase (isUnnamed (slaveOf c s)) (λ t. rw t) (λ t. rw (t, empty)))
+        no-entries (byCase (isUnnamed (slaveOf c s)) (λ t. rw t) (λ t. rw (t, empty)))
 
     module _ {b : FileBytes} (q : r ≡ Bytes b) where
       round-facts : Found c s round (b .place) (b .size)
@@ -89,12 +99,12 @@ module _ (c : Cluster) (round s : ℕ) where
               let records = round-records in
               omega (arith, records .some, records .whole, round-facts .has, round-within, length-limit (becomes-decoded h))
 
-          pub round-found : {name : ℕ} → name ≡ logicalName (slaveOf c s) → (name ≡ unnamed → ⊥) → RoundFileIs c round s (b .place + recordSize) (b .place + b .size)
+          pub round-found : {name : ℕ} → name ≡ logicalName (slaveOf c s) → (name ≡ unnamed → ⊥) → PlannedFileIs c round s (b .place + recordSize) (b .place + b .size)
           round-found own named =
               let fact = round-facts in
               let records = round-records in
               let runs = named-runs own named in
-              let some : eqb (entriesIn round (slaveOf c s)) 0 ≡ false = ne-eqb (entriesIn round (slaveOf c s)) 0 (λ e. omega (arith, records .some)) in
+              let some : eqb (plannedEntries round (slaveOf c s)) 0 ≡ false = ne-eqb (plannedEntries round (slaveOf c s)) 0 (λ e. omega (arith, records .some)) in
               record {
                 begins = rw some (ap (λ (x : ℕ). x + recordSize) (fact .lies));
                 span = omega (arith, records .whole, fact .has, runs);

@@ -30,14 +30,15 @@ use Rattle.frame.specs.Rules.Fireworks.{Round, multipartner, msd, msa, noRound}
 use Rattle.frame.specs.Rules.Frames.{between}
 use Rattle.frame.specs.Rules.Grounds.{noOperation, broadcastRead}
 use Rattle.cluster.specs.Rules.Bus.{slots}
-use Rattle.cluster.specs.Rules.Slaves.{withAddress, epochRaised, pendingDuty}
+use Rattle.cluster.specs.Rules.Slaves.{withAddress, epochRaised, nothing, pendingDuty, slavesAfter}
+use Rattle.cluster.specs.Rules.Multipartner.{clusterBelow}
 use Rattle.cluster.specs.Rules.Grounds.{shortAnswer, roundBy, groundsOn}
 use Rattle.cluster.specs.Inner.Grounds.{noFirework, lengthFor, wrongLengthOn, wrongCheckOn, noOperationOn, broadcastReadOn, frameGround}
 use Rattle.cluster.specs.Rules.Round.{passedOver, effectOf, frameOn, roundGround, roundOn}
 use Rattle.cluster.specs.Inner.Effects.{dataEffect, multipartnerEffect, carriedBy, bufferBy}
 use Rattle.cluster.specs.Claims.Edition.{UnknownEditionRound}
 use Rattle.cluster.specs.Claims.Kept.{RefusedAltersNothing, RoundKeepsFile}
-use Rattle.cluster.proofs.Kept.{ClusterKept, kept-refl, kept-trans, kept-epoch, kept-raised, kept-pending, kept-after, kept-below}
+use Rattle.cluster.proofs.Kept.{ClusterKept, kept-refl, kept-trans, kept-epoch, kept-raised, kept-pending, kept-after, kept-rested, kept-below}
 
 -- ---- the grounds of a frame that is accepted
 
@@ -94,10 +95,14 @@ address-kept c pb0 pb1 pb2 pb3 b0 b1 b2 b3 op read =
     (kept-pending (withEpoch c pb0) pendingFlag pb1 pb2 pb3 (address-pending c pb0 pb1 pb2 pb3 b0 b1 b2 b3 op read))
 
 pub data-kept : (c : Cluster) {bytes : List ℕ} → Bytes bytes → ClusterKept c (dataEffect c bytes .after)
-data-kept c bs = kept-trans (kept-raised c) (kept-after (pendingDuty c) bs (epochRaised c))
+data-kept c {bytes} bs =
+    kept-trans (kept-trans (kept-raised c) (kept-after (pendingDuty c) bs (epochRaised c)))
+    (kept-rested (pendingDuty c) (slavesAfter (pendingDuty c) bytes (epochRaised c)))
 
 pub multipartner-kept : (c : Cluster) (r : ℕ) → ClusterKept c (multipartnerEffect c r .after)
-multipartner-kept c r = kept-trans (kept-raised c) (kept-below (passedOver c) r (epochRaised c) slots)
+multipartner-kept c r =
+    kept-trans (kept-trans (kept-raised c) (kept-below (passedOver c) r (epochRaised c) slots))
+    (kept-rested nothing (clusterBelow (passedOver c) r (epochRaised c) slots))
 
 pub between-bytes : {frame : List ℕ} → Bytes frame → Bytes (between frame)
 between-bytes bs = All.allNext (byte-at bs 1) (All.allNext (byte-at bs 2) (All.allNext (byte-at bs 3) (All.allNext (byte-at bs 4) All.allEmpty)))

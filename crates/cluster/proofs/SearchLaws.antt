@@ -9,7 +9,7 @@ use lib.ListN.{length, getD}
 use borrow.Author.Tests.{leb-true}
 use Rattle.file.specs.Rules.Order.{both}
 use Rattle.file.specs.Rules.Layout.{recordSize}
-use Rattle.file.specs.Rules.Cluster.{Slave, Cluster, bytesIn}
+use Rattle.file.specs.Rules.Cluster.{Slave, Cluster, isAwake, bytesIn}
 use Rattle.file.specs.Rules.Decode.{decode}
 use Rattle.file.specs.Inner.Places.{slaveOf}
 use Rattle.file.specs.Inner.Accepted.{Becomes}
@@ -20,7 +20,7 @@ use Rattle.cluster.specs.Rules.Slaves.{isUnnamed}
 use Rattle.cluster.specs.Rules.Entries.{Entry, entryOf, entryThere, entryAt, ends, covers, eligible, Acting, noEntry, acts, actingFrom, acting}
 use Rattle.cluster.specs.Rules.Multipartner.{within, mayStore, sendPlace, storePlace, plansFrom, sendsFrom, storesAt, byteThere}
 use Rattle.cluster.specs.Inner.EntryForm.{entryFrom, evaluated, Reaches}
-use Rattle.cluster.specs.Inner.Slots.{entriesIn, placeIn, actSends, actStores, SlotActIs}
+use Rattle.cluster.specs.Inner.Slots.{plannedEntries, entriesIn, placeIn, actSends, actStores, SlotActIs}
 use Rattle.cluster.specs.declared.entry.Entry as Code
 use Rattle.cluster.specs.declared.multipartner.SlotAct.{SlotAct}
 use Rattle.cluster.specs.declared.multipartner.SlotAct.the-variants as Acts
@@ -28,13 +28,18 @@ use Rattle.cluster.proofs.EntryLaws.{ends-idle, Blind, eligible-evaluat
 use Rattle.cluster.proofs.SlotActLaws.{act-evaluated}
 use Rattle.cluster.proofs.OpenLaws.{acting-end, acting-here, acting-next, acting-none, actor, Rest, rest-within, rest-next, rest-entry, OpenAt}
 
-pub actor-sends : (passed : Entry → Bool) (round slot : ℕ) (s : Slave) → sendPlace s slot (actor passed round slot s) ≡ sendsFrom passed round slot s
-unfolding actor entriesIn actingFrom acting sendPlace plansFrom sendsFrom
-actor-sends passed round slot s = byCase (isUnnamed s) (λ t. rw t) (λ t. rw t)
+-- where the entry that acts, of those planned, sends from
+pub planned-sends : (passed : Entry → Bool) (round slot : ℕ) (s : Slave) → sendPlace s slot (actingFrom passed (bytesIn s round) slot 1 (plannedEntries round s)) ≡ plansFrom passed round slot s
+unfolding plannedEntries actingFrom acting sendPlace plansFrom
+planned-sends passed round slot s = byCase (isUnnamed s) (λ t. rw t) (λ t. rw t)
+
+actor-sends : (passed : Entry → Bool) (round slot : ℕ) (s : Slave) → sendPlace s slot (actor passed round slot s) ≡ sendsFrom passed round slot s
+unfolding actor entriesIn actingFrom sendPlace sendsFrom
+actor-sends passed round slot s = byCase (isAwake s) (λ a. rw a (planned-sends passed round slot s)) (λ a. rw a)
 
 actor-stores : (passed : Entry → Bool) (round slot : ℕ) (s : Slave) → storePlace s slot (actor passed round slot s) ≡ storesAt passed round slot s
-unfolding actor entriesIn actingFrom acting storePlace storesAt
-actor-stores passed round slot s = byCase (isUnnamed s) (λ t. rw t) (λ t. rw t)
+unfolding actor entriesIn plannedEntries actingFrom acting storePlace storesAt
+actor-stores passed round slot s = byCase (isAwake s) (λ a. byCase (isUnnamed s) (λ t. rw (a, t)) (λ t. rw (a, t))) (λ a. rw a)
 
 -- what the slave at index s does in a slot
 pub record RoundActIs (passed : Entry → Bool) (c : Cluster) (round slot s : ℕ) (act : SlotAct) : Type 0 where

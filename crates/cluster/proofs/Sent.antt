@@ -26,12 +26,12 @@ use Rattle.frame.specs.Rules.Writing.{writeFrame, dataGround, writeAddress, wri
 use Rattle.frame.proofs.Tests as Tests
 use Rattle.frame.proofs.RoundTrip.{written-reads}
 use Rattle.cluster.specs.Rules.Bus.{slots, senderMask, answerBytes, answerIn, nobody}
-use Rattle.cluster.specs.Rules.Slaves.{withAddress, epochRaised, writing, pendingDuty, sentTo, slavesAfter, replyTo}
+use Rattle.cluster.specs.Rules.Slaves.{withAddress, epochRaised, nothing, writing, pendingDuty, sentTo, slavesAfter, rested, replyTo}
 use Rattle.cluster.specs.Rules.Grounds.{roundBy, writePending}
 use Rattle.cluster.specs.Inner.Grounds.{noFirework, lengthFor, wrongLengthOn, wrongCheckOn, noOperationOn, broadcastReadOn, frameGround}
 use Rattle.cluster.specs.Rules.Round.{effectOf, frameOn, roundGround, roundOn}
 use Rattle.cluster.proofs.Bus.{mask-nobody, answer-alike}
-use Rattle.cluster.proofs.DataLaws.{sent-nothing, pending-writes}
+use Rattle.cluster.proofs.DataLaws.{sent-nothing, pending-writes, writing-wakes}
 use Rattle.cluster.proofs.Cases.{quiet-mask}
 use Rattle.cluster.proofs.Rounds.{fits-none, round-accepted}
 use Rattle.cluster.proofs.RoundCall.{frame-decides}
@@ -108,7 +108,7 @@ module _ (b₀ b₁ b₂ b₃ : ℕ) where
 
   -- the frame that the data writer writes for these bytes, sent with a write pending
   pub data-sent : (file buffer : List ℕ) (name n r : ℕ) → fileGround file ≡ 0 → slots ≤ length buffer → pendingDuty (decode file) ≡ writing name n r →
-      roundOn file (dataFrame bytes) buffer ≡ (done 0, answerIn buffer (answerBytes dataFirework nobody), encode (slavesAfter (writing name n r) bytes (epochRaised (decode file))))
+      roundOn file (dataFrame bytes) buffer ≡ (done 0, answerIn buffer (answerBytes dataFirework nobody), encode (rested nothing (slavesAfter (writing name n r) bytes (epochRaised (decode file)))))
   unfolding frameOn effectOf
   data-sent file buffer name n r accepted long p =
       let quiet : (slot : ℕ) → sentTo (writing name n r) (decode file .slaves) slot ≡ nobody slot = nobody-sends name n r (decode file) in
@@ -116,7 +116,7 @@ module _ (b₀ b₁ b₂ b₃ : ℕ) where
       let mask : senderMask (sentTo (writing name n r) (decode file .slaves)) ≡ 0 = quiet-mask (sentTo (writing name n r) (decode file .slaves)) quiet in
       let heard : answerIn buffer (answerBytes dataFirework (sentTo (writing name n r) (decode file .slaves))) ≡ answerIn buffer (answerBytes dataFirework nobody) = answer-alike buffer dataFirework (sentTo (writing name n r) (decode file .slaves)) nobody quiet in
       round-accepted file (dataFrame bytes) buffer (round-fits file (dataFrame bytes) buffer accepted long fits)
-      ∙ rw (data-round, p, mask, data-first (dataFrame bytes) data-round, heard, between-data)
+      ∙ rw (data-round, p, mask, data-first (dataFrame bytes) data-round, heard, between-data, ← writing-wakes name n r (slavesAfter (writing name n r) bytes (epochRaised (decode file))))
 
   written-frame : (buffer : List ℕ) → writeData buffer bytes .0 ≡ done tt → take frameSize (writeData buffer bytes .1) ≡ dataFrame bytes
   unfolding writeData writeFrame dataFrame frameOf
@@ -124,6 +124,6 @@ module _ (b₀ b₁ b₂ b₃ : ℕ) where
 
   -- the six bytes that the data writer wrote, sent with a write pending
   pub written-data-sent : (file buffer answer : List ℕ) (name n r : ℕ) → fileGround file ≡ 0 → slots ≤ length answer → pendingDuty (decode file) ≡ writing name n r → writeData buffer bytes .0 ≡ done tt →
-      roundOn file (take frameSize (writeData buffer bytes .1)) answer ≡ (done 0, answerIn answer (answerBytes dataFirework nobody), encode (slavesAfter (writing name n r) bytes (epochRaised (decode file))))
+      roundOn file (take frameSize (writeData buffer bytes .1)) answer ≡ (done 0, answerIn answer (answerBytes dataFirework nobody), encode (rested nothing (slavesAfter (writing name n r) bytes (epochRaised (decode file)))))
   written-data-sent file buffer answer name n r accepted long p written =
       ap (λ (frame : List ℕ). roundOn file frame answer) (written-frame buffer written) ∙ data-sent file answer name n r accepted long p

@@ -11,7 +11,7 @@ use Rattle.file.specs.Rules.Decode.{decode}
 use Rattle.file.proofs.Order.{clash}
 use Rattle.frame.specs.Rules.Fireworks.{dataFirework}
 use Rattle.frame.specs.Rules.Frames.{between}
-use Rattle.cluster.specs.Rules.Slaves.{withAddress, epochRaised, Duty, nothing, reading, writing, comparing, baptizing, executionOf, dutyBy, pendingDuty, slaveAfter, slavesAfter}
+use Rattle.cluster.specs.Rules.Slaves.{withAddress, epochRaised, Duty, nothing, reading, writing, comparing, baptizing, sleeping, executionOf, dutyBy, pendingDuty, slaveAfter, slavesAfter}
 use Rattle.cluster.specs.Rules.Grounds.{writePending}
 use Rattle.cluster.specs.Rules.Round.{effectOf, frameOn}
 use Rattle.cluster.specs.Claims.Written.{AddressSentAsWritten, DataSentAsWritten, FireworkAlone}
@@ -69,6 +69,7 @@ alike c none (reading name n r) is xs ys s = refl
 alike c none (writing name n r) is xs ys s = clash (pending-writes c is) none
 alike c none (comparing name) is xs ys s = refl
 alike c none (baptizing name) is xs ys s = refl
+alike c none (sleeping name) is xs ys s = refl
 
 all-alike : (f g : Slave → Slave) → ((s : Slave) → f s ≡ g s) → (ss : List Slave) → map f ss ≡ map g ss
 all-alike f g same [] = refl

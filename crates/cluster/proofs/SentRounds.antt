@@ -28,7 +28,7 @@ use Rattle.frame.specs.Rules.Frames.{frameOf, addressBytes, addressFrame, dataF
 use Rattle.frame.specs.Rules.Grounds.{wrongFrameLength, wrongCheck, noOperation, broadcastRead}
 use Rattle.frame.proofs.Written.{address-bytes, data-bytes}
 use Rattle.cluster.specs.Rules.Bus.{Senders, slots, answerBytes, answerIn}
-use Rattle.cluster.specs.Rules.Slaves.{withAddress, nextEpoch, epochRaised, nothing, executionOf, dutyBy, pendingDuty, slavesAfter, slaveAfter}
+use Rattle.cluster.specs.Rules.Slaves.{withAddress, nextEpoch, epochRaised, sleepRecord, executionOf, dutyBy, pendingDuty, slavesAfter, slaveAfter}
 use Rattle.cluster.specs.Rules.Grounds.{shortAnswer, roundBy, writePending}
 use Rattle.cluster.specs.Rules.Round.{Effect, Answer, effectOf, frameOn, roundGround, roundOn}
 use Rattle.cluster.specs.Rules.MasterSlave.{Sent, addressSent, dataSent, roundSent}
@@ -241,7 +241,8 @@ executed-alike name n r xs ys s =
     rw t
     (byCase (eqb r 2)
     (λ two. rw two (unfold slaveAfter in refl))
-    (λ other. rw other (byCase (eqb r 1) (λ one. rw one (unfold slaveAfter in refl)) (λ none. rw none (unfold slaveAfter in refl))))))
+    (λ other. rw other (byCase (eqb r 1) (λ one. rw one (unfold slaveAfter in refl))
+    (λ none. rw none (byCase (eqb r sleepRecord) (λ four. rw four (unfold slaveAfter in refl)) (λ last. rw last (unfold slaveAfter in refl))))))))
     (λ f. rw f (unfold slaveAfter in refl))
 
 unwritten-alike : (name pb2 pb3 : ℕ) (xs ys : List ℕ) → eqb (operationOf pb2) writeOperation ≡ false → (s : Slave) → slaveAfter (dutyBy name pb2 pb3) xs s ≡ slaveAfter (dutyBy name pb2 pb3) ys s

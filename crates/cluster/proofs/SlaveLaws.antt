@@ -16,8 +16,8 @@ use Rattle.file.specs.Rules.Bytes.{Bytes, allEmpty, allNext, part}
 use Rattle.file.specs.Rules.Order.{both}
 use Rattle.file.specs.Rules.Layout.{recordSize}
 use Rattle.file.specs.Inner.Layout.{logicalNamePlace}
-use Rattle.file.specs.Rules.Cluster.{Slave, Cluster, hasRecord, recordOf, logicalName, physicalName, comparisonValue, newLogicalName, configuration, documentation, unnamed, broadcast}
-use Rattle.file.specs.Inner.Places.{noSlave, slaveOf, filePlace, putByte, putBytes}
+use Rattle.file.specs.Rules.Cluster.{Slave, Cluster, isAwake, hasRecord, recordOf, logicalName, physicalName, comparisonValue, newLogicalName, configuration, documentation, unnamed, broadcast}
+use Rattle.file.specs.Inner.Places.{noSlave, slaveOf, filePlace, putByte, putSleep, putBytes}
 use Rattle.file.specs.Rules.Changes.{putInSlave, withSlaves}
 use Rattle.file.specs.Inner.Accepted.{Becomes, FoundRecord, recordAt, findRecord}
 use Rattle.file.specs.Inner.Answers.{foundRecord}
@@ -27,8 +27,9 @@ use Rattle.file.proofs.Order.{byCase, clash, both-true, both-left, both-next, b
 use Rattle.file.proofs.Puts.{putByte-slave-same, putByte-count, sets-again, hasRecord-fits}
 use Rattle.file.proofs.ReaderLaws.{place-within, part-there}
 use Rattle.file.proofs.StoreLaws.{becomes-record}
-use Rattle.cluster.specs.Rules.Slaves.{addresses, addressed, isUnnamed, reading, writing, comparing, baptizing, answersRead, readReply, answersCompare, replyTo, mayWrite, isNameRecord, written, takesWrite, takesName, named, replaced, slaveAfter}
+use Rattle.cluster.specs.Rules.Slaves.{Duty, nothing, sleeping, sleepRecord, fallsAsleep, restsAfter, addresses, addressed, isUnnamed, reading, writing, comparing, baptizing, answersRead, readReply, answersCompare, replyTo, mayWrite, isNameRecord, written, takesWrite, takesName, named, replaced, slaveAfter}
 use Rattle.cluster.proofs.Kept.{written-bytes}
+use Rattle.cluster.proofs.Asleep.{asleep-quiet, asleep-stays, asleep-wakes}
 use Rattle.cluster.proofs.Replaced.{written-most}
 use Rattle.cluster.proofs.Hearing.{recordOf-length}
 use Rattle.cluster.specs.Inner.Carried.{said, reachOf, Replied, withSlave}
@@ -129,9 +130,9 @@ unfolding both
 both-assoc true b d = refl
 both-assoc false b d = refl
 
-answersRead-as : (name n r : ℕ) (s : Slave) {own : ℕ} → own ≡ logicalName s → answersRead name n r s ≡ both (both (addresses name own) (not (eqb own unnamed))) (hasRecord s n r)
+answersRead-as : (name n r : ℕ) (s : Slave) {own : ℕ} → isAwake s ≡ true → own ≡ logicalName s → answersRead name n r s ≡ both (both (addresses name own) (not (eqb own unnamed))) (hasRecord s n r)
 unfolding answersRead addressed isUnnamed
-answersRead-as name n r s {own} e = rw e (both-assoc (addresses name (logicalName s)) (not (eqb (logicalName s) unnamed)) (hasRecord s n r))
+answersRead-as name n r s {own} awake e = rw (both-next (addresses name (logicalName s)) awake, e) (both-assoc (addresses name (logicalName s)) (not (eqb (logicalName s) unnamed)) (hasRecord s n r))
 
 reply-read : (name n r : ℕ) (s : Slave) → answersRead name n r s ≡ true → replyTo (reading name n r) s ≡ readReply (recordOf s n r)
 unfolding replyTo
@@ -145,27 +146,31 @@ readReply-length : (l : List ℕ) → length l ≡ 4 → length (readReply l) �
 unfolding readReply
 readReply-length l e = rw (length-append, e)
 
--- ---- the ways of a read
+-- a sleeping slave does not reply, to whatever
+pub reply-asleep : (c : Cluster) (s : ℕ) (o : Duty) {up : Bool} (b : List ℕ) (last : ℕ) → up ≡ isAwake (slaveOf c s) → not up ≡ true → Replied (replyTo o (slaveOf c s)) b b last last
+reply-asleep c s o {up} b last is no′ = reply-quiet b last (asleep-quiet (slaveOf c s) (sym is ∙ not-true up no′) o)
 
-module _ {f : List ℕ} {c : Cluster} (h : Becomes f c) (s name n r : ℕ) {own : ℕ} {t : Bool} (named′ : own ≡ logicalName (slaveOf c s)) (test : t ≡ both (addresses name own) (not (eqb own unnamed))) (b : List ℕ) (last : ℕ) where
+-- ---- the ways of a read, of a slave that is awake
+
+module _ {f : List ℕ} {c : Cluster} (h : Becomes f c) (s name n r : ℕ) {own : ℕ} {t up : Bool} (wakes : up ≡ isAwake (slaveOf c s)) (isUp : not up ≡ false) (named′ : own ≡ logicalName (slaveOf c s)) (test : t ≡ both (addresses name own) (not (eqb own unnamed))) (b : List ℕ) (last : ℕ) where
   pub read-unaddressed : not t ≡ true → Replied (replyTo (reading name n r) (slaveOf c s)) b b last last
   read-unaddressed no′ =
       reply-quiet b last
       (reply-unread name n r (slaveOf c s)
-      (answersRead-as name n r (slaveOf c s) named′ ∙ both-false-left (hasRecord (slaveOf c s) n r) (sym test ∙ not-true t no′)))
+      (answersRead-as name n r (slaveOf c s) (sym wakes ∙ not-false up isUp) named′ ∙ both-false-left (hasRecord (slaveOf c s) n r) (sym test ∙ not-true t no′)))
 
   pub read-missing : {x : RecordPlace} → foundRecord x ≡ findRecord c s n r → x ≡ NoRecord → Replied (replyTo (reading name n r) (slaveOf c s)) b b last last
   read-missing e is =
       reply-quiet b last
       (reply-unread name n r (slaveOf c s)
-      (answersRead-as name n r (slaveOf c s) named′ ∙ both-false-right (both (addresses name own) (not (eqb own unnamed))) (missing-facts c s n r e is)))
+      (answersRead-as name n r (slaveOf c s) (sym wakes ∙ not-false up isUp) named′ ∙ both-false-right (both (addresses name own) (not (eqb own unnamed))) (missing-facts c s n r e is)))
 
   pub read-found : not t ≡ false → {x : RecordPlace} {place : ℕ} {new : List ℕ} → foundRecord x ≡ findRecord c s n r → x ≡ At place → new ≡ said b 1 (readReply (part f place 4)) → Replied (replyTo (reading name n r) (slaveOf c s)) b new last 5
   unfolding recordOf
   read-found yes′ {x} {place} e is stored =
       let found : Found c s n r place = found-facts c s n r e is in
       let answers : answersRead name n r (slaveOf c s) ≡ true =
-      answersRead-as name n r (slaveOf c s) named′ ∙ both-true (sym test ∙ not-false t yes′) (found .has)
+      answersRead-as name n r (slaveOf c s) (sym wakes ∙ not-false up isUp) named′ ∙ both-true (sym test ∙ not-false t yes′) (found .has)
       in
       let bytes : part f place 4 ≡ recordOf (slaveOf c s) n r =
       ap (λ (p : ℕ). part f p 4) (found .at) ∙ part-there h s n (recordSize * r) recordSize (hasRecord-fits (slaveOf c s) n r (found .has))
@@ -173,7 +178,7 @@ module _ {f : List ℕ} {c : Cluster} (h : Becomes f c) (s name n r : ℕ) {own 
       let reply : replyTo (reading name n r) (slaveOf c s) ≡ readReply (recordOf (slaveOf c s) n r) = reply-read name n r (slaveOf c s) answers in
       reply-full last (stored ∙ ap (λ (l : List ℕ). said b 1 (readReply l)) bytes ∙ ap (λ (l : List ℕ). said b 1 l) (sym reply)) (ap length reply ∙ readReply-length (recordOf (slaveOf c s) n r) (recordOf-length (slaveOf c s) n r (found .has)))
 
--- ---- the ways of a compare
+-- ---- the ways of a compare, of a slave that is awake
 
 reply-compare : (name : ℕ) (s : Slave) → answersCompare name s ≡ true → replyTo (comparing name) s ≡ 0 ∷ []
 unfolding replyTo
@@ -183,28 +188,28 @@ reply-uncompared : (name : ℕ) (s : Slave) → answersCompare name s ≡ false 
 unfolding replyTo
 reply-uncompared name s e = rw e
 
-answersCompare-as : (name : ℕ) (s : Slave) {own : ℕ} → own ≡ logicalName s → answersCompare name s ≡ both (both (not (eqb name broadcast)) (addresses name own)) (leb (comparisonValue s) (physicalName s))
+answersCompare-as : (name : ℕ) (s : Slave) {own : ℕ} → isAwake s ≡ true → own ≡ logicalName s → answersCompare name s ≡ both (both (not (eqb name broadcast)) (addresses name own)) (leb (comparisonValue s) (physicalName s))
 unfolding answersCompare addressed
-answersCompare-as name s {own} e = rw e (both-assoc (not (eqb name broadcast)) (addresses name (logicalName s)) (leb (comparisonValue s) (physicalName s)))
+answersCompare-as name s {own} awake e = rw (both-next (addresses name (logicalName s)) awake, e) (both-assoc (not (eqb name broadcast)) (addresses name (logicalName s)) (leb (comparisonValue s) (physicalName s)))
 
-module _ (c : Cluster) (s name : ℕ) {own : ℕ} {t : Bool} (named′ : own ≡ logicalName (slaveOf c s)) (test : t ≡ both (not (eqb name broadcast)) (addresses name own)) (b : List ℕ) (last : ℕ) where
+module _ (c : Cluster) (s name : ℕ) {own : ℕ} {t up : Bool} (wakes : up ≡ isAwake (slaveOf c s)) (isUp : not up ≡ false) (named′ : own ≡ logicalName (slaveOf c s)) (test : t ≡ both (not (eqb name broadcast)) (addresses name own)) (b : List ℕ) (last : ℕ) where
   pub compare-unaddressed : not t ≡ true → Replied (replyTo (comparing name) (slaveOf c s)) b b last last
   compare-unaddressed no′ =
       reply-quiet b last
       (reply-uncompared name (slaveOf c s)
-      (answersCompare-as name (slaveOf c s) named′ ∙ both-false-left (leb (comparisonValue (slaveOf c s)) (physicalName (slaveOf c s))) (sym test ∙ not-true t no′)))
+      (answersCompare-as name (slaveOf c s) (sym wakes ∙ not-false up isUp) named′ ∙ both-false-left (leb (comparisonValue (slaveOf c s)) (physicalName (slaveOf c s))) (sym test ∙ not-true t no′)))
 
   pub compare-below : {value physical : ℕ} → value ≡ comparisonValue (slaveOf c s) → physical ≡ physicalName (slaveOf c s) → physical < value → Replied (replyTo (comparing name) (slaveOf c s)) b b last last
   compare-below v p less =
       reply-quiet b last
       (reply-uncompared name (slaveOf c s)
-      (answersCompare-as name (slaveOf c s) named′ ∙ both-false-right (both (not (eqb name broadcast)) (addresses name own)) (lt-leb (comparisonValue (slaveOf c s)) (physicalName (slaveOf c s)) (omega arith))))
+      (answersCompare-as name (slaveOf c s) (sym wakes ∙ not-false up isUp) named′ ∙ both-false-right (both (not (eqb name broadcast)) (addresses name own)) (lt-leb (comparisonValue (slaveOf c s)) (physicalName (slaveOf c s)) (omega arith))))
 
   pub compare-answers : not t ≡ false → {value physical : ℕ} {new : List ℕ} → value ≡ comparisonValue (slaveOf c s) → physical ≡ physicalName (slaveOf c s) → value ≤ physical → new ≡ said b 1 (0 ∷ []) → Replied (replyTo (comparing name) (slaveOf c s)) b new last 1
   compare-answers yes′ v p least stored =
       let reply : replyTo (comparing name) (slaveOf c s) ≡ 0 ∷ [] =
       reply-compare name (slaveOf c s)
-      (answersCompare-as name (slaveOf c s) named′ ∙ both-true (sym test ∙ not-false t yes′) (le-leb (comparisonValue (slaveOf c s)) (physicalName (slaveOf c s)) (omega arith)))
+      (answersCompare-as name (slaveOf c s) (sym wakes ∙ not-false up isUp) named′ ∙ both-true (sym test ∙ not-false t yes′) (le-leb (comparisonValue (slaveOf c s)) (physicalName (slaveOf c s)) (omega arith)))
       in
       reply-full last (stored ∙ ap (λ (l : List ℕ). said b 1 l) (sym reply)) (ap length reply)
 
@@ -216,6 +221,10 @@ unfolding withSlave withSlaves slaveOf
 same-slave {f} {c} s {x} h e =
     let same : set (c .slaves) s x ≡ c .slaves = ap (λ (y : Slave). set (c .slaves) s y) e ∙ set-getD (c .slaves) s noSlave in
     rw same h
+
+-- a sleeping slave stays as it is, whatever the round
+pub after-asleep : {f : List ℕ} {c : Cluster} (s : ℕ) (o : Duty) (bytes : List ℕ) {up : Bool} → Becomes f c → up ≡ isAwake (slaveOf c s) → not up ≡ true → Becomes f (withSlave c s (slaveAfter o bytes (slaveOf c s)))
+after-asleep {c = c} s o bytes {up} h is no′ = same-slave s h (asleep-stays (slaveOf c s) (sym is ∙ not-true up no′) o bytes)
 
 putByte-replaced : (c : Cluster) (s n k b : ℕ) → putByte c s n k b ≡ withSlave c s (putInSlave (slaveOf c s) n k b)
 unfolding putByte withSlave
@@ -283,33 +292,33 @@ after-written : (name n r : ℕ) (bytes : List ℕ) (s : Slave) → takesWrite n
 unfolding slaveAfter
 after-written name n r bytes s e = rw e
 
-takesWrite-as : (name n r : ℕ) (s : Slave) {own : ℕ} → own ≡ logicalName s → takesWrite name n r s ≡ both (addresses name own) (both (hasRecord s n r) (mayWrite n r))
+takesWrite-as : (name n r : ℕ) (s : Slave) {own : ℕ} → isAwake s ≡ true → own ≡ logicalName s → takesWrite name n r s ≡ both (addresses name own) (both (hasRecord s n r) (mayWrite n r))
 unfolding takesWrite addressed
-takesWrite-as name n r s {own} e = rw e
+takesWrite-as name n r s {own} awake e = rw (both-next (addresses name (logicalName s)) awake, e)
 
 pub mayWrite-file : (n r : ℕ) → mayWrite n r ≡ true → n ≢ documentation
 unfolding mayWrite
 mayWrite-file n r e same = clash (eq-eqb n documentation same) (not-true _ (both-left _ _ e))
 
-module _ {f : List ℕ} {c : Cluster} (h : Becomes f c) (s name n r : ℕ) {own : ℕ} {t : Bool} (named′ : own ≡ logicalName (slaveOf c s)) (test : t ≡ addresses name own) (bytes : List ℕ) where
+module _ {f : List ℕ} {c : Cluster} (h : Becomes f c) (s name n r : ℕ) {own : ℕ} {t up : Bool} (wakes : up ≡ isAwake (slaveOf c s)) (isUp : not up ≡ false) (named′ : own ≡ logicalName (slaveOf c s)) (test : t ≡ addresses name own) (bytes : List ℕ) where
   pub write-unaddressed : not t ≡ true → Becomes f (withSlave c s (slaveAfter (writing name n r) bytes (slaveOf c s)))
   write-unaddressed no′ =
       same-slave s h
       (after-unwritten name n r bytes (slaveOf c s)
-      (takesWrite-as name n r (slaveOf c s) named′ ∙ both-false-left (both (hasRecord (slaveOf c s) n r) (mayWrite n r)) (sym test ∙ not-true t no′)))
+      (takesWrite-as name n r (slaveOf c s) (sym wakes ∙ not-false up isUp) named′ ∙ both-false-left (both (hasRecord (slaveOf c s) n r) (mayWrite n r)) (sym test ∙ not-true t no′)))
 
   pub write-missing : {x : RecordPlace} → foundRecord x ≡ findRecord c s n r → x ≡ NoRecord → Becomes f (withSlave c s (slaveAfter (writing name n r) bytes (slaveOf c s)))
   write-missing e is =
       same-slave s h
       (after-unwritten name n r bytes (slaveOf c s)
-      (takesWrite-as name n r (slaveOf c s) named′ ∙ both-false-right (addresses name own) (both-false-left (mayWrite n r) (missing-facts c s n r e is))))
+      (takesWrite-as name n r (slaveOf c s) (sym wakes ∙ not-false up isUp) named′ ∙ both-false-right (addresses name own) (both-false-left (mayWrite n r) (missing-facts c s n r e is))))
 
   pub write-found : not t ≡ false → mayWrite n r ≡ true → length bytes ≡ 4 → s < length (c .slaves) → {x : RecordPlace} {place : ℕ} {new : List ℕ} → foundRecord x ≡ findRecord c s n r → x ≡ At place → DataPut f new place (written n r bytes) →
       Becomes new (withSlave c s (slaveAfter (writing name n r) bytes (slaveOf c s)))
   write-found yes′ may four inside {place = place} {new} e is put =
       let found : Found c s n r place = found-facts c s n r e is in
       let takes : takesWrite name n r (slaveOf c s) ≡ true =
-      takesWrite-as name n r (slaveOf c s) named′ ∙ both-true (sym test ∙ not-false t yes′) (both-true (found .has) may)
+      takesWrite-as name n r (slaveOf c s) (sym wakes ∙ not-false up isUp) named′ ∙ both-true (sym test ∙ not-false t yes′) (both-true (found .has) may)
       in
       let new-bytes : List ℕ = written n r bytes in
       let most : length new-bytes ≤ 4 = omega (arith, written-most n r bytes) in
@@ -330,31 +339,68 @@ after-named : (name : ℕ) (bytes : List ℕ) (s : Slave) → takesName name s �
 unfolding slaveAfter
 after-named name bytes s e = rw e
 
-takesName-as : (name : ℕ) (s : Slave) {own : ℕ} → own ≡ logicalName s → takesName name s ≡ both (addresses name own) (eqb (physicalName s) (comparisonValue s))
+takesName-as : (name : ℕ) (s : Slave) {own : ℕ} → isAwake s ≡ true → own ≡ logicalName s → takesName name s ≡ both (addresses name own) (eqb (physicalName s) (comparisonValue s))
 unfolding takesName addressed
-takesName-as name s {own} e = rw e
+takesName-as name s {own} awake e = rw (both-next (addresses name (logicalName s)) awake, e)
 
-module _ {f : List ℕ} {c : Cluster} (h : Becomes f c) (s name : ℕ) {own : ℕ} {t : Bool} (named′ : own ≡ logicalName (slaveOf c s)) (test : t ≡ addresses name own) (bytes : List ℕ) where
+module _ {f : List ℕ} {c : Cluster} (h : Becomes f c) (s name : ℕ) {own : ℕ} {t up : Bool} (wakes : up ≡ isAwake (slaveOf c s)) (isUp : not up ≡ false) (named′ : own ≡ logicalName (slaveOf c s)) (test : t ≡ addresses name own) (bytes : List ℕ) where
   pub baptize-unaddressed : not t ≡ true → Becomes f (withSlave c s (slaveAfter (baptizing name) bytes (slaveOf c s)))
   baptize-unaddressed no′ =
       same-slave s h
       (after-unnamed name bytes (slaveOf c s)
-      (takesName-as name (slaveOf c s) named′ ∙ both-false-left (eqb (physicalName (slaveOf c s)) (comparisonValue (slaveOf c s))) (sym test ∙ not-true t no′)))
+      (takesName-as name (slaveOf c s) (sym wakes ∙ not-false up isUp) named′ ∙ both-false-left (eqb (physicalName (slaveOf c s)) (comparisonValue (slaveOf c s))) (sym test ∙ not-true t no′)))
 
   pub baptize-other : {value physical : ℕ} → value ≡ comparisonValue (slaveOf c s) → physical ≡ physicalName (slaveOf c s) → (physical ≡ value → ⊥) → Becomes f (withSlave c s (slaveAfter (baptizing name) bytes (slaveOf c s)))
   baptize-other v p differ =
       same-slave s h
       (after-unnamed name bytes (slaveOf c s)
-      (takesName-as name (slaveOf c s) named′ ∙ both-false-right (addresses name own) (ne-eqb (physicalName (slaveOf c s)) (comparisonValue (slaveOf c s)) (λ e. differ (p ∙ e ∙ sym v)))))
+      (takesName-as name (slaveOf c s) (sym wakes ∙ not-false up isUp) named′ ∙ both-false-right (addresses name own) (ne-eqb (physicalName (slaveOf c s)) (comparisonValue (slaveOf c s)) (λ e. differ (p ∙ e ∙ sym v)))))
 
   pub baptize-takes : not t ≡ false → {value physical : ℕ} {new : List ℕ} → value ≡ comparisonValue (slaveOf c s) → physical ≡ physicalName (slaveOf c s) → physical ≡ value → Becomes new (putByte c s configuration (logicalNamePlace) (newLogicalName (slaveOf c s))) →
       Becomes new (withSlave c s (slaveAfter (baptizing name) bytes (slaveOf c s)))
   unfolding named
   baptize-takes yes′ {new = new} v p same becomes =
       let takes : takesName name (slaveOf c s) ≡ true =
-      takesName-as name (slaveOf c s) named′ ∙ both-true (sym test ∙ not-false t yes′) (eq-eqb (physicalName (slaveOf c s)) (comparisonValue (slaveOf c s)) (sym p ∙ same ∙ v))
+      takesName-as name (slaveOf c s) (sym wakes ∙ not-false up isUp) named′ ∙ both-true (sym test ∙ not-false t yes′) (eq-eqb (physicalName (slaveOf c s)) (comparisonValue (slaveOf c s)) (sym p ∙ same ∙ v))
       in
       let after : putByte c s configuration (logicalNamePlace) (newLogicalName (slaveOf c s)) ≡ withSlave c s (slaveAfter (baptizing name) bytes (slaveOf c s)) =
       putByte-replaced c s configuration (logicalNamePlace) (newLogicalName (slaveOf c s)) ∙ ap (λ (y : Slave). withSlave c s y) (sym (after-named name bytes (slaveOf c s) takes))
       in
       subst (λ (d : Cluster). Becomes new d) after becomes
+
+-- ---- who falls asleep
+
+asleep-if : (name : ℕ) (s : Slave) {own : ℕ} → isAwake s ≡ true → own ≡ logicalName s → fallsAsleep (sleeping name) s ≡ both (addresses name own) (hasRecord s configuration sleepRecord)
+unfolding fallsAsleep addressed
+asleep-if name s {own} awake e = rw (both-next (addresses name (logicalName s)) awake, e)
+
+pub sleep-asleep : (c : Cluster) (s name : ℕ) {up : Bool} → up ≡ isAwake (slaveOf c s) → not up ≡ true → false ≡ fallsAsleep (sleeping name) (slaveOf c s)
+sleep-asleep c s name {up} is no′ = sym (asleep-wakes (slaveOf c s) (sym is ∙ not-true up no′) (sleeping name))
+
+module _ (c : Cluster) (s name : ℕ) {own : ℕ} {t up : Bool} (wakes : up ≡ isAwake (slaveOf c s)) (isUp : not up ≡ false) (named′ : own ≡ logicalName (slaveOf c s)) (test : t ≡ addresses name own) where
+  falls : fallsAsleep (sleeping name) (slaveOf c s) ≡ both (addresses name own) (hasRecord (slaveOf c s) configuration sleepRecord)
+  falls = asleep-if name (slaveOf c s) (sym wakes ∙ not-false up isUp) named′
+
+  pub sleep-unaddressed : not t ≡ true → false ≡ fallsAsleep (sleeping name) (slaveOf c s)
+  sleep-unaddressed no′ = sym (falls ∙ both-false-left (hasRecord (slaveOf c s) configuration sleepRecord) (sym test ∙ not-true t no′))
+
+  module _ {x : RecordPlace} (e : foundRecord x ≡ findRecord c s configuration sleepRecord) where
+    pub sleep-missing : x ≡ NoRecord → false ≡ fallsAsleep (sleeping name) (slaveOf c s)
+    sleep-missing is = sym (falls ∙ both-false-right (addresses name own) (missing-facts c s configuration sleepRecord e is))
+
+    pub sleep-falls : not t ≡ false → {place : ℕ} → x ≡ At place → true ≡ fallsAsleep (sleeping name) (slaveOf c s)
+    sleep-falls yes′ is = sym (falls ∙ both-true (sym test ∙ not-false t yes′) (found-facts c s configuration sleepRecord e is .has))
+
+-- the sleep byte set by it
+put-rested : (c : Cluster) (s b : ℕ) (o : Duty) → cond (fallsAsleep o (slaveOf c s)) 1 0 ≡ b → putSleep c s b ≡ withSlave c s (restsAfter o (slaveOf c s))
+unfolding putSleep withSlave restsAfter
+put-rested c s b o e = rw e
+
+pub rests-asleep : {f : List ℕ} (c : Cluster) (s : ℕ) (o : Duty) {t : Bool} → t ≡ fallsAsleep o (slaveOf c s) → t ≡ true → Becomes f (putSleep c s 1) → Becomes f (withSlave c s (restsAfter o (slaveOf c s)))
+rests-asleep {f} c s o is yes′ h = subst (λ (d : Cluster). Becomes f d) (put-rested c s 1 o (rw (sym is ∙ yes′))) h
+
+pub rests-awake : {f : List ℕ} (c : Cluster) (s : ℕ) (o : Duty) {t : Bool} → t ≡ fallsAsleep o (slaveOf c s) → t ≡ false → Becomes f (putSleep c s 0) → Becomes f (withSlave c s (restsAfter o (slaveOf c s)))
+rests-awake {f} c s o is no′ h = subst (λ (d : Cluster). Becomes f d) (put-rested c s 0 o (rw (sym is ∙ no′))) h
+
+pub rests-woken : {f : List ℕ} (c : Cluster) (s : ℕ) → Becomes f (putSleep c s 0) → Becomes f (withSlave c s (restsAfter nothing (slaveOf c s)))
+rests-woken c s h = rests-awake c s nothing {t = false} (unfold fallsAsleep in refl) refl h

@@ -9,27 +9,27 @@ use mathlib.Core.Bool.{Bool, true, false}
 use lib.ListN.{length, getD, set}
 use Rattle.file.specs.Rules.Order.{either}
 use Rattle.file.specs.Rules.Layout.{recordSize}
-use Rattle.file.specs.Rules.Cluster.{Cluster, bytesIn, logicalName, configuration}
+use Rattle.file.specs.Rules.Cluster.{Cluster, isAwake, bytesIn, logicalName, configuration}
 use Rattle.file.specs.Rules.Decode.{decode}
 use Rattle.file.specs.Inner.Places.{slavesRoom, slaveOf, filePlace, SameShape}
-use Rattle.file.specs.Inner.Accepted.{Becomes}
+use Rattle.file.specs.Inner.Accepted.{Becomes, AcceptedFile}
 use Rattle.file.proofs.Shape.{shape-count}
 use Rattle.file.proofs.AtWidth.{shape-filePlace}
 use Rattle.file.proofs.ReaderLaws.{becomes-decoded}
 use Rattle.cluster.specs.Rules.Bus.{Senders, joined, busByte, anyone, maskBelow, slots, senderMask}
-use Rattle.cluster.specs.Rules.Slaves.{isUnnamed, epochRaised}
+use Rattle.cluster.specs.Rules.Slaves.{isUnnamed, epochRaised, nothing, rested}
 use Rattle.cluster.specs.Rules.Entries.{Entry, outOfTurn}
 use Rattle.cluster.specs.Rules.Multipartner.{sentBy, sentIn, receivedIn, clusterBelow, sentDuring}
-use Rattle.cluster.specs.Rules.Round.{passedOver}
+use Rattle.cluster.specs.Rules.Round.{Effect, passedOver}
 use Rattle.cluster.specs.Inner.Effects.{multipartnerEffect}
 use Rattle.cluster.specs.Inner.Carried.{Carried}
-use Rattle.cluster.specs.Inner.Slots.{slotsEffect, entriesIn, RoundFilesAre, EntriesWithin, openFrom, actSends, actStores, isSender, storedBelow, StoresWithin}
+use Rattle.cluster.specs.Inner.Slots.{slotsEffect, plannedEntries, entriesIn, RoundFilesAre, EntriesWithin, openFrom, actSends, actStores, isSender, storedBelow, StoresWithin}
 use Rattle.cluster.specs.declared.multipartner.SlotAct.{SlotAct}
 use Rattle.cluster.specs.declared.multipartner.SlotAct.the-variants as Acts
 use Rattle.cluster.proofs.EntryLaws.{Blind}
 use Rattle.cluster.proofs.Bus.{busByte-byte, mask-below, mask-next, mask-silent, Filled, filled-length, filled-start, filled-next, filled-done}
 use Rattle.cluster.proofs.Kept.{kept-received}
-use Rattle.cluster.proofs.Untouched.{filesOf-slave, received-other}
+use Rattle.cluster.proofs.Untouched.{filesOf-slave, received-other, received-awake, awake-slave}
 use Rattle.cluster.proofs.StoreLaws.{stored-length, receivedBy, received-all, stored-becomes}
 use Rattle.cluster.proofs.OpenLaws.{actor, Rest, OpenAt, OpenAll, open-start, open-within, open-next, open-set, open-later}
 use Rattle.cluster.proofs.SearchLaws.{RoundActIs, Searching, searching-start}
@@ -41,12 +41,13 @@ use Rattle.cluster.proofs.HearLaws.{someone, someone-yes, someone-no, S
 record PartKept (c d : Cluster) (round s : ℕ) : Type 0 where
   files : bytesIn (slaveOf d s) round ≡ bytesIn (slaveOf c s) round
   names : bytesIn (slaveOf d s) configuration ≡ bytesIn (slaveOf c s) configuration
+  awake : isAwake (slaveOf d s) ≡ isAwake (slaveOf c s)
 
 module _ (c d : Cluster) (edition : d .edition ≡ c .edition) (same : SameShape (c .slaves) (d .slaves)) (round : ℕ) where
   module _ (s : ℕ) (kept : PartKept c d round s) where
     entries-kept : entriesIn round (slaveOf d s) ≡ entriesIn round (slaveOf c s)
-    unfolding entriesIn isUnnamed logicalName
-    entries-kept = rw (kept .files, kept .names)
+    unfolding entriesIn plannedEntries isUnnamed logicalName
+    entries-kept = rw (kept .awake, kept .files, kept .names)
 
     place-kept : filePlace d s round ≡ filePlace c s round
     place-kept = sym (shape-filePlace c d (sym edition) same s round)
@@ -54,6 +55,7 @@ module _ (c d : Cluster) (edition : d .edition ≡ c .edition) (same : SameShape
     rest-kept : {k left at end : ℕ} → Rest c round s k left at end → Rest d round s k left at end
     rest-kept q =
         record {
+          few = rw (entries-kept, kept .files) (q .few);
           some = q .some;
           count = rw entries-kept (q .count);
           span = q .span;
@@ -99,7 +101,8 @@ module _ {passed : Entry → Bool} {f : List ℕ} {round count slot : ℕ} {star
       let shape : SameShape (c .slaves) (d .slaves) = kept-received passed round slot c sent .shape in
       let files = filesOf-slave round c d (received-other passed round slot c sent round (λ l. absurd (above (r .low) l))) in
       let names = filesOf-slave configuration c d (received-other passed round slot c sent configuration (λ l. omega (arith, l))) in
-      let are : OpenAll passed d round (slot + 1) starts ends = files-kept c d (kept-received passed round slot c sent .edition) shape round (λ s. record { files = files s; names = names s }) (open-later (r .files)) in
+      let awake = awake-slave c d (received-awake passed round slot c sent) in
+      let are : OpenAll passed d round (slot + 1) starts ends = files-kept c d (kept-received passed round slot c sent .edition) shape round (λ s. record { files = files s; names = names s; awake = awake s }) (open-later (r .files)) in
       record {
         becomes = becomes-decoded h;
         low = r .low;
@@ -276,8 +279,14 @@ running-done old {slot} h left =
       becomes = rw last at (h .after);
     }
 
--- the whole round, from the file whose epoch is raised
-pub raised-carries : (c : Cluster) {f : List ℕ} (round : ℕ) {epoch firework : ℕ} {old new : List ℕ} {mask : ℕ} {file : List ℕ} → Becomes f (epochRaised c) → epoch ≡ decode f .epoch
-    → Carried (slotsEffect (outOfTurn epoch) (decode f) round) firework old new mask file → Carried (multipartnerEffect c round) firework old new mask file
+pub carried-accepted : {effect : Effect} {firework : ℕ} {old new : List ℕ} {mask : ℕ} {g : List ℕ} → Carried effect firework old new mask g → AcceptedFile g
+carried-accepted k = becomes-decoded (k .becomes)
+
+-- the whole round, from the file whose epoch is raised to the one whose slaves are all awake
+pub raised-carries : (c : Cluster) {f : List ℕ} (round : ℕ) {epoch firework : ℕ} {old new : List ℕ} {mask : ℕ} {g file : List ℕ} → Becomes f (epochRaised c) → epoch ≡ decode f .epoch
+    → Carried (slotsEffect (outOfTurn epoch) (decode f) round) firework old new mask g → Becomes file (rested nothing (decode g))
+    → Carried (multipartnerEffect c round) firework old new mask file
 unfolding slotsEffect passedOver
-raised-carries c round h is carried = rw (is, h .decoded) at carried
+raised-carries c {f} round {epoch} {firework} {old} {new} {mask} {g} h is carried awake =
+    let there : Carried (slotsEffect (passedOver c) (epochRaised c) round) firework old new mask g = rw (is, h .decoded) at carried in
+    record { senders = there .senders; buffer = there .buffer; becomes = rw (there .becomes .decoded) at awake }

@@ -7,14 +7,14 @@ use mathlib.Core.List.{List, [], _∷_}
 use mathlib.Core.Bool.{Bool}
 use lib.Dec.{eqb}
 use borrow.Author.Tests.{eqb-true, eqb-false}
-use Rattle.file.specs.Rules.Bytes.{Bytes, All, allEmpty, allNext}
+use Rattle.file.specs.Rules.Bytes.{Bytes, allEmpty, allNext}
 use Rattle.file.specs.Rules.Cluster.{Cluster}
 use Rattle.file.specs.Rules.Decode.{decode}
 use Rattle.file.specs.Rules.Changes.{withSlaves, withEpoch, withPending}
 use Rattle.file.proofs.Order.{byCase}
 use Rattle.frame.specs.Rules.Fireworks.{Round, multipartner, msd, msa, noRound}
 use Rattle.cluster.specs.Rules.Bus.{slots}
-use Rattle.cluster.specs.Rules.Slaves.{withAddress, epochRaised, slavesAfter}
+use Rattle.cluster.specs.Rules.Slaves.{withAddress, epochRaised, Duty, nothing, slavesAfter, rested}
 use Rattle.cluster.specs.Rules.Entries.{Entry}
 use Rattle.cluster.specs.Rules.Multipartner.{receivedIn, sentIn, clusterBelow}
 use Rattle.cluster.specs.Rules.Grounds.{roundBy}
@@ -56,10 +56,16 @@ raised-alike : (c : Cluster) → Alike c (epochRaised c)
 unfolding epochRaised withEpoch
 raised-alike c = record { isFlag = refl; isName = refl; isPB2 = refl; isPB3 = refl }
 
+rested-alike : (o : Duty) (c : Cluster) → Alike c (rested o c)
+unfolding rested withSlaves
+rested-alike o c = record { isFlag = refl; isName = refl; isPB2 = refl; isPB3 = refl }
+
 effect-alike : (c : Cluster) (round : Round) (frame : List ℕ) → round ≢ msa → Alike c (effectOf c round frame .after)
-unfolding effectOf slavesAfter withSlaves epochRaised withEpoch
+unfolding effectOf rested slavesAfter withSlaves epochRaised withEpoch
 effect-alike c (multipartner r) frame other =
-    alike-trans c (epochRaised c) (clusterBelow (passedOver c) r (epochRaised c) slots) (raised-alike c) (below-alike (passedOver c) r (epochRaised c) slots)
+    let below : Cluster = clusterBelow (passedOver c) r (epochRaised c) slots in
+    alike-trans c (epochRaised c) (rested nothing below) (raised-alike c)
+    (alike-trans (epochRaised c) below (rested nothing below) (below-alike (passedOver c) r (epochRaised c) slots) (rested-alike nothing below))
 effect-alike c msd frame other = record { isFlag = refl; isName = refl; isPB2 = refl; isPB3 = refl }
 effect-alike c msa frame other = absurd (other refl)
 effect-alike c noRound frame other = alike-refl c

@@ -1,6 +1,6 @@
 -- The slot's byte stored by the receivers: the loop, and the cluster that the file then holds.
 -- Assumes nothing.
-use Prim.Native.Nat.{ℕ, zero, suc, _+_, _-_, _≤_, _<_}
+use Prim.Native.Nat.{ℕ, zero, suc, _+_, _≤_, _<_}
 use native.Mathlib.Omega.{arith}
 use native.Mathlib.Numerals.{add-one}
 use mathlib.Core.Path.{_≡_, refl, sym, ap, _∙_}
@@ -13,7 +13,7 @@ use borrow.Author.Tests.{eq-eqb, ne-eqb, ltb-true}
 use Rattle.file.specs.Rules.Bytes.{Byte}
 use Rattle.file.specs.Rules.Order as Order
 use Rattle.file.specs.Rules.Layout.{recordSize}
-use Rattle.file.specs.Rules.Cluster.{Slave, Cluster, bytesIn, documentation}
+use Rattle.file.specs.Rules.Cluster.{Slave, Cluster, isAwake, bytesIn, documentation}
 use Rattle.file.specs.Inner.Places.{noSlave, slaveOf, filePlace, putByte, SameShape}
 use Rattle.file.specs.Rules.Changes.{putInSlave, withSlaves}
 use Rattle.file.specs.Inner.Accepted.{Becomes}
@@ -88,7 +88,9 @@ store-lands s slot (acts e) =
 pub storesAt-lands : (passed : Entry → Bool) (round slot : ℕ) (s : Slave) → Lands s (storesAt passed round slot s)
 unfolding storesAt
 storesAt-lands passed round slot s =
-    byCase (isUnnamed s) (λ t. rw t stays) (λ t. rw t (store-lands s slot (acting passed (bytesIn s round) slot)))
+    byCase (isAwake s)
+    (λ a. byCase (isUnnamed s) (λ t. rw (a, t) stays) (λ t. rw (a, t) (store-lands s slot (acting passed (bytesIn s round) slot))))
+    (λ a. rw a stays)
 
 -- ---- the file after the stores
 

@@ -8,7 +8,7 @@ use mathlib.Core.List.{List, [], _∷_, map}
 use mathlib.Core.Bool.{Bool}
 use lib.ListN.{getD, List·getD-map}
 use Rattle.file.specs.Rules.Layout.{recordSize}
-use Rattle.file.specs.Rules.Cluster.{Slave, Cluster, bytesIn, configuration, newLogicalName}
+use Rattle.file.specs.Rules.Cluster.{Slave, Cluster, isAwake, bytesIn, configuration, newLogicalName}
 use Rattle.file.specs.Inner.Places.{noSlave, slaveOf}
 use Rattle.file.specs.Rules.Changes.{putInSlave, withSlaves, withEpoch, withPending}
 use Rattle.file.proofs.Order.{byCase}
@@ -16,12 +16,12 @@ use Rattle.file.proofs.Puts.{inSlave-other}
 use Rattle.frame.specs.Rules.Fireworks.{Round, multipartner, msd, msa, noRound}
 use Rattle.frame.specs.Rules.Frames.{between}
 use Rattle.cluster.specs.Rules.Bus.{busByte, slots}
-use Rattle.cluster.specs.Rules.Slaves.{withAddress, epochRaised, Duty, nothing, reading, writing, comparing, baptizing, pendingDuty, written, takesWrite, takesName, named, replaced, slaveAfter, slavesAfter}
+use Rattle.cluster.specs.Rules.Slaves.{withAddress, epochRaised, Duty, nothing, reading, writing, comparing, baptizing, pendingDuty, written, takesWrite, takesName, named, replaced, slaveAfter, slavesAfter, restsAfter, rested}
 use Rattle.cluster.specs.Rules.Entries.{Entry}
-use Rattle.cluster.specs.Rules.Multipartner.{storesAt, storedThere, receivedIn, sentIn, clusterBelow}
+use Rattle.cluster.specs.Rules.Multipartner.{SlaveByte, nowhere, byteOf, storesAt, storedThere, receivedIn, sentIn, clusterBelow}
 use Rattle.cluster.specs.Rules.Grounds.{roundBy}
 use Rattle.cluster.specs.Rules.Round.{passedOver, effectOf, frameOn}
-use Rattle.cluster.proofs.Kept.{storesAt-stores, stored-other}
+use Rattle.cluster.proofs.Kept.{storesAt-stores, stored-other, rests-bytes}
 
 -- the bytes of file n, slave by slave
 unfoldable pub filesOf : ℕ → List Slave → List (List ℕ)
@@ -59,6 +59,36 @@ below-other passed round c zero n out = refl
 below-other passed round c (suc k) n out =
     received-other passed round k (clusterBelow passed round c k) (sentIn passed round k (clusterBelow passed round c k)) n out ∙ below-other passed round c k n out
 
+-- nobody falls asleep or wakes between the slots
+stored-awake : (s : Slave) (p : SlaveByte) (b : ℕ) → isAwake (storedThere s p b) ≡ isAwake s
+unfolding storedThere putInSlave isAwake
+stored-awake s nowhere b = refl
+stored-awake s (byteOf n k) b = refl
+
+awake-map : (f : Slave → Slave) → ((s : Slave) → isAwake (f s) ≡ isAwake s) → (ss : List Slave) → map isAwake (map f ss) ≡ map isAwake ss
+awake-map f same [] = refl
+awake-map f same (s ∷ ss) = rw (same s, awake-map f same ss)
+
+pub received-awake : (passed : Entry → Bool) (round slot : ℕ) (c : Cluster) (sent : List ℕ) → map isAwake (receivedIn passed round slot c sent .slaves) ≡ map isAwake (c .slaves)
+unfolding receivedIn withSlaves
+received-awake passed round slot c [] = refl
+received-awake passed round slot c (b ∷ bs) =
+    awake-map (λ (s : Slave). storedThere s (storesAt passed round slot s) (busByte (b ∷ bs)))
+    (λ s. stored-awake s (storesAt passed round slot s) (busByte (b ∷ bs))) (c .slaves)
+
+pub below-awake : (passed : Entry → Bool) (round : ℕ) (c : Cluster) (k : ℕ) → map isAwake (clusterBelow passed round c k .slaves) ≡ map isAwake (c .slaves)
+unfolding clusterBelow
+below-awake passed round c zero = refl
+below-awake passed round c (suc k) =
+    received-awake passed round k (clusterBelow passed round c k) (sentIn passed round k (clusterBelow passed round c k)) ∙ below-awake passed round c k
+
+pub awake-slave : (c d : Cluster) → map isAwake (d .slaves) ≡ map isAwake (c .slaves) → (s : ℕ) → isAwake (slaveOf d s) ≡ isAwake (slaveOf c s)
+unfolding slaveOf
+awake-slave c d same s =
+    sym (List·getD-map isAwake (d .slaves) s noSlave)
+    ∙ ap (λ (l : List Bool). getD l s (isAwake noSlave)) same
+    ∙ List·getD-map isAwake (c .slaves) s noSlave
+
 -- ---- the data part of a master-slave round
 
 -- the operation changes no byte of file n
@@ -89,12 +119,20 @@ pub after-other : {n : ℕ} {o : Duty} → Leaves n o → (bytes : List ℕ) (c 
 unfolding slavesAfter withSlaves
 after-other {n} {o} leaves bytes c = filesOf-map n (slaveAfter o bytes) (slaveAfter-other leaves bytes) (c .slaves)
 
+-- ---- asleep or awake afterwards, the slaves keep their files
+
+pub rested-other : (o : Duty) (n : ℕ) (c : Cluster) → filesOf n (rested o c .slaves) ≡ filesOf n (c .slaves)
+unfolding rested withSlaves
+rested-other o n c = filesOf-map n (restsAfter o) (λ s. rests-bytes o s n) (c .slaves)
+
 -- ---- any round
 
 effect-other : (n : ℕ) → Unstored n → (c : Cluster) (round : Round) → (round ≡ msd → Leaves n (pendingDuty c)) → (frame : List ℕ) → filesOf n (effectOf c round frame .after .slaves) ≡ filesOf n (c .slaves)
 unfolding effectOf withAddress withPending epochRaised withEpoch
-effect-other n out c (multipartner r) leaves frame = below-other (passedOver c) r (epochRaised c) slots n out
-effect-other n out c msd leaves frame = after-other (leaves refl) (between frame) (epochRaised c)
+effect-other n out c (multipartner r) leaves frame =
+    rested-other nothing n (clusterBelow (passedOver c) r (epochRaised c) slots) ∙ below-other (passedOver c) r (epochRaised c) slots n out
+effect-other n out c msd leaves frame =
+    rested-other (pendingDuty c) n (slavesAfter (pendingDuty c) (between frame) (epochRaised c)) ∙ after-other (leaves refl) (between frame) (epochRaised c)
 effect-other n out c msa leaves frame = refl
 effect-other n out c noRound leaves frame = refl
 

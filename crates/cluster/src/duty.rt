@@ -8,7 +8,7 @@ ghost use Rattle.file.specs.Rules.Decode.{decode};
 ghost use Rattle.file.specs.Inner.Accepted.{AcceptedFile, Becomes, Placed};
 ghost use Rattle.frame.specs.Rules.Fireworks.{dataFirework};
 ghost use Rattle.cluster.specs.Rules.Bus.{slots};
-ghost use Rattle.cluster.specs.Rules.Slaves.{comparing, baptizing, pendingDuty, mayWrite, sentTo, slavesAfter};
+ghost use Rattle.cluster.specs.Rules.Slaves.{nothing, comparing, baptizing, sleeping, pendingDuty, mayWrite, sentTo, slavesAfter, rested};
 ghost use Rattle.cluster.specs.Inner.Carried.{Heard, Carried};
 ghost use Rattle.cluster.specs.Inner.Duties.{readingAt, writingAt, executionAt, dutyAt, dutyFor, dataIn, dutyEffect};
 use crate::answer::NOBODY;
@@ -18,9 +18,11 @@ use crate::slaves::COMPARE_SLOT;
 use crate::slaves::baptize_slave;
 use crate::slaves::compare_slave;
 use crate::slaves::read_slave;
+use crate::slaves::sleep_slave;
 use crate::slaves::write_slave;
 use crate::types::DataBytes;
 use crate::types::RecordAddress;
+use file::layout::AWAKE;
 use file::layout::PENDING;
 use file::readers::read_pending;
 use file::readers::slave_count;
@@ -29,6 +31,7 @@ use file::types::LogicalName;
 use file::types::Operation;
 use file::types::RecordNumber;
 use file::types::SlavePlaces;
+use file::writers::set_sleep;
 use frame::firework::MSD;
 
 pub enum Duty {
@@ -37,6 +40,7 @@ pub enum Duty {
     Write,
     Compare,
     Baptize,
+    Sleep,
 }
 
 // A duty, and the slaves and the record that it is about.
@@ -45,7 +49,7 @@ pub struct PendingDuty {
     pub address: RecordAddress,
 }
 
-// "Execute 0x08 record 2", "Record 1", "Any other: nothing."
+// "Execute 0x08 record 2", "Record 1", "an execute of record 4 of 0x08", "Any other: nothing."
 fn execution_of(address: RecordAddress) -> Duty
     ensures { λ r. ⌜ dutyAt r address ≡ executionAt address ⌝ }
 {
@@ -57,6 +61,9 @@ fn execution_of(address: RecordAddress) -> Duty
     }
     if address.record.0 == RecordNumber::NAMES.0 {
         return Duty::Baptize;
+    }
+    if address.record.0 == RecordNumber::SLEEP.0 {
+        return Duty::Sleep;
     }
     Duty::Nothing
 }
@@ -207,5 +214,49 @@ pub fn do_duty(
             baptize_round(file, places, address.name);
             NOBODY
         }
+        Duty::Sleep => {
+            silence(buffer, MSD);
+            NOBODY
+        }
+    }
+}
+
+// After any other round than a sleep everyone is awake.
+pub fn wake_slaves(file: &mut [u8])
+    requires { ⌜ AcceptedFile (now file) ⌝ }
+    ensures { λ _. ⌜ Becomes (now (file .exit)) (rested nothing (decode (now (file .entry)))) ⌝ }
+{
+    let count = slave_count(file);
+    let mut slave = 0;
+    while slave < count {
+        set_sleep(file, slave, AWAKE);
+        slave = slave + 1;
+    }
+}
+
+fn sleep_round(file: &mut [u8], places: &SlavePlaces, name: LogicalName)
+    requires { ⌜ Placed (now file) (now places) ⌝ }
+    ensures { λ _. ⌜ Becomes (now (file .exit)) (rested (sleeping (nameIn name)) (decode (now (file .entry)))) ⌝ }
+{
+    let count = slave_count(file);
+    let mut slave = 0;
+    while slave < count {
+        sleep_slave(file, places, slave, name);
+        slave = slave + 1;
+    }
+}
+
+// Who is awake after a round with that duty: all but those that it puts to sleep.
+pub fn rest_slaves(file: &mut [u8], places: &SlavePlaces, duty: Duty, address: RecordAddress)
+    requires { ⌜ Placed (now file) (now places) ⌝ }
+    ensures { λ _. ⌜ Becomes (now (file .exit)) (rested (dutyAt duty address) (decode (now (file .entry)))) ⌝ }
+{
+    match duty {
+        Duty::Nothing => wake_slaves(file),
+        Duty::Read => wake_slaves(file),
+        Duty::Write => wake_slaves(file),
+        Duty::Compare => wake_slaves(file),
+        Duty::Baptize => wake_slaves(file),
+        Duty::Sleep => sleep_round(file, places, address.name),
     }
 }

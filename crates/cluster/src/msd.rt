@@ -17,6 +17,7 @@ ghost use Rattle.cluster.specs.Inner.Answers.{answerOf, dataRead};
 use crate::answer::RoundAnswer;
 use crate::duty::do_duty;
 use crate::duty::pending_duty;
+use crate::duty::rest_slaves;
 use crate::epoch::raise_epoch;
 use crate::types::DataBytes;
 use file::layout::PENDING;
@@ -75,8 +76,8 @@ fn read_data(file: &[u8], frame: &[u8]) -> DataReading
     DataReading::Data(DataBytes { b0, b1, b2, b3 })
 }
 
-// The data part of a round: what is pending is settled, the epoch raised, and the slaves do their duty. The mask of the slots in
-// which someone sent.
+// The data part of a round: what is pending is settled, the epoch raised, the slaves do their duty, and fall asleep or wake. The mask
+// of the slots in which someone sent.
 pub fn carry_data(file: &mut [u8], places: &SlavePlaces, bytes: DataBytes, buffer: &mut [u8]) -> u64
     requires { ⌜ Placed (now file) (now places) × (slots ≤ length (now buffer)) ⌝ }
     ensures { λ r. ⌜ Carried (dataEffect (decode (now (file .entry))) (dataIn bytes)) dataFirework (now (buffer .entry)) (now (buffer .exit)) r (now (file .exit)) ⌝ }
@@ -85,7 +86,9 @@ pub fn carry_data(file: &mut [u8], places: &SlavePlaces, bytes: DataBytes, buffe
     let duty = pending.duty;
     let address = pending.address;
     raise_epoch(file);
-    do_duty(file, places, duty, address, bytes, buffer)
+    let mask = do_duty(file, places, duty, address, bytes, buffer);
+    rest_slaves(file, places, duty, address);
+    mask
 }
 
 // A data frame: the pending operation is carried out.

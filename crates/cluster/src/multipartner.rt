@@ -13,13 +13,14 @@ ghost use Rattle.cluster.specs.Rules.Multipartner.{mayStore};
 ghost use Rattle.cluster.specs.Inner.EntryForm.{entryFrom, Reaches};
 ghost use Rattle.cluster.specs.Inner.Carried.{Carried};
 ghost use Rattle.cluster.specs.Inner.Effects.{multipartnerEffect};
-ghost use Rattle.cluster.specs.Inner.Slots.{slotsEffect, RoundFileIs, RoundFilesAre, EntriesWithin, openFrom, findByte, foundByte, SlotActIs, actSends, actStores, isSender, storedBelow, StoresWithin};
+ghost use Rattle.cluster.specs.Inner.Slots.{slotsEffect, PlannedFileIs, RoundFileIs, RoundFilesAre, EntriesWithin, openFrom, findByte, foundByte, SlotActIs, actSends, actStores, isSender, storedBelow, StoresWithin};
 use crate::answer::FIREWORK_SLOT;
 use crate::answer::FIRST_SLOT;
 use crate::answer::NOBODY;
 use crate::answer::SILENT_BYTE;
 use crate::answer::SLOTS;
 use crate::answer::with_sender;
+use crate::duty::wake_slaves;
 use crate::entry::Entry;
 use crate::entry::EntryAction;
 use crate::entry::action_of;
@@ -31,6 +32,7 @@ use crate::epoch::raise_epoch;
 use file::layout::RECORD_SIZE;
 use file::readers::FilePlace;
 use file::readers::find_file;
+use file::readers::is_awake;
 use file::readers::logical_name;
 use file::readers::read_epoch;
 use file::readers::slave_count;
@@ -39,7 +41,7 @@ use file::types::LogicalName;
 use file::types::SLAVES_ROOM;
 use file::types::SlavePlaces;
 
-// Where the entries that a slave runs begin, and where they end.
+// Where a slave's entries of a round begin, and where they end.
 pub struct RoundFile {
     pub start: usize,
     pub end: usize,
@@ -53,9 +55,10 @@ pub struct RoundFiles {
     pub ends: [usize; SLAVES_ROOM],
 }
 
-pub fn round_file(file: &[u8], places: &SlavePlaces, slave: usize, round: FileNumber) -> RoundFile
+// The entries planned for a slave, awake or asleep.
+pub fn planned_file(file: &[u8], places: &SlavePlaces, slave: usize, round: FileNumber) -> RoundFile
     requires { ⌜ Placed (now file) (now places) × (slave < slaveCount (now file)) ⌝ }
-    ensures { λ r. ⌜ RoundFileIs (decode (now (file .entry))) (fileIn round) slave (r .start) (r .end) ⌝ }
+    ensures { λ r. ⌜ PlannedFileIs (decode (now (file .entry))) (fileIn round) slave (r .start) (r .end) ⌝ }
 {
     let name = logical_name(file, places, slave);
     if name.0 == LogicalName::UNNAMED.0 {
@@ -69,6 +72,17 @@ pub fn round_file(file: &[u8], places: &SlavePlaces, slave: usize, round: FileNu
         start: bytes.place + RECORD_SIZE,
         end: bytes.place + bytes.size,
     }
+}
+
+// Those that it runs.
+fn round_file(file: &[u8], places: &SlavePlaces, slave: usize, round: FileNumber) -> RoundFile
+    requires { ⌜ Placed (now file) (now places) × (slave < slaveCount (now file)) ⌝ }
+    ensures { λ r. ⌜ RoundFileIs (decode (now (file .entry))) (fileIn round) slave (r .start) (r .end) ⌝ }
+{
+    if !is_awake(file, slave) {
+        return NO_ROUND_FILE;
+    }
+    planned_file(file, places, slave, round)
 }
 
 fn round_files(file: &[u8], places: &SlavePlaces, round: FileNumber) -> RoundFiles
@@ -294,7 +308,7 @@ fn run_slots(
     mask
 }
 
-// One multipartner frame: the round of that number. The mask of the slots in which someone sent.
+// One multipartner frame: the round of that number, after which everyone is awake. The mask of the slots in which someone sent.
 pub fn carry_multipartner(
     file: &mut [u8],
     places: &SlavePlaces,
@@ -307,5 +321,7 @@ pub fn carry_multipartner(
 {
     raise_epoch(file);
     let epoch = read_epoch(file);
-    run_slots(file, places, round, epoch, firework, buffer)
+    let mask = run_slots(file, places, round, epoch, firework, buffer);
+    wake_slaves(file);
+    mask
 }

@@ -13,7 +13,7 @@ ghost use Rattle.file.specs.Inner.Places.{slaveOf};
 ghost use Rattle.file.specs.Inner.Typed.{fileIn, recordIn, nameIn};
 ghost use Rattle.file.specs.Inner.Accepted.{slaveCount, Placed, Becomes};
 ghost use Rattle.cluster.specs.Rules.Bus.{slots};
-ghost use Rattle.cluster.specs.Rules.Slaves.{addresses, mayWrite, isNameRecord, written, comparing, baptizing, replyTo, slaveAfter};
+ghost use Rattle.cluster.specs.Rules.Slaves.{addresses, mayWrite, isNameRecord, written, comparing, baptizing, sleeping, replyTo, slaveAfter, fallsAsleep, restsAfter};
 ghost use Rattle.cluster.specs.Inner.Carried.{Replied, withSlave};
 ghost use Rattle.cluster.specs.Inner.Duties.{readingAt, writingAt, dataIn, DataPut};
 use crate::answer::CHECK_SLOT;
@@ -22,8 +22,12 @@ use crate::answer::send_byte;
 use crate::answer::send_record;
 use crate::types::DataBytes;
 use crate::types::RecordAddress;
+use file::layout::ASLEEP;
+use file::layout::AWAKE;
 use file::readers::RecordPlace;
 use file::readers::comparison_value;
+use file::readers::find_record;
+use file::readers::is_awake;
 use file::readers::logical_name;
 use file::readers::physical_name;
 use file::readers::read_place;
@@ -32,6 +36,7 @@ use file::types::FileNumber;
 use file::types::LogicalName;
 use file::types::RecordNumber;
 use file::types::SlavePlaces;
+use file::writers::set_sleep;
 use file::writers::store_record;
 use file::writers::take_new_name;
 
@@ -90,6 +95,9 @@ pub fn read_slave(
     requires { ⌜ Placed (now file) (now places) × (slave < slaveCount (now file)) × (slots ≤ length (now buffer)) ⌝ }
     ensures { λ r. ⌜ Replied (replyTo (readingAt address) (slaveOf (decode (now (file .entry))) slave)) (now (buffer .entry)) (now (buffer .exit)) last r ⌝ }
 {
+    if !is_awake(file, slave) {
+        return last;
+    }
     let own = logical_name(file, places, slave);
     if !is_read(address.name, own) {
         return last;
@@ -114,6 +122,9 @@ pub fn compare_slave(
     requires { ⌜ Placed (now file) (now places) × (slave < slaveCount (now file)) × (slots ≤ length (now buffer)) ⌝ }
     ensures { λ r. ⌜ Replied (replyTo (comparing (nameIn name)) (slaveOf (decode (now (file .entry))) slave)) (now (buffer .entry)) (now (buffer .exit)) last r ⌝ }
 {
+    if !is_awake(file, slave) {
+        return last;
+    }
     let own = logical_name(file, places, slave);
     if !is_compared(name, own) {
         return last;
@@ -170,6 +181,9 @@ pub fn write_slave(
     requires { ⌜ Placed (now file) (now places) × (slave < slaveCount (now file)) × (mayWrite (fileIn (address .number)) (recordIn (address .«record»)) ≡ true) ⌝ }
     ensures { λ _. ⌜ Becomes (now (file .exit)) (withSlave (decode (now (file .entry))) slave (slaveAfter (writingAt address) (dataIn bytes) (slaveOf (decode (now (file .entry))) slave))) ⌝ }
 {
+    if !is_awake(file, slave) {
+        return;
+    }
     let own = logical_name(file, places, slave);
     if !is_addressed(address.name, own) {
         return;
@@ -186,6 +200,9 @@ pub fn baptize_slave(file: &mut [u8], places: &SlavePlaces, slave: usize, name: 
     requires { ⌜ Placed (now file) (now places) × (slave < slaveCount (now file)) ⌝ }
     ensures { λ _. ⌜ Becomes (now (file .exit)) (withSlave (decode (now (file .entry))) slave (slaveAfter (baptizing (nameIn name)) [] (slaveOf (decode (now (file .entry))) slave))) ⌝ }
 {
+    if !is_awake(file, slave) {
+        return;
+    }
     let own = logical_name(file, places, slave);
     if !is_addressed(name, own) {
         return;
@@ -195,4 +212,35 @@ pub fn baptize_slave(file: &mut [u8], places: &SlavePlaces, slave: usize, name: 
         return;
     }
     take_new_name(file, places, slave);
+}
+
+// Execute of record 4: whether an addressed slave that is awake has the record.
+fn falls_asleep(file: &[u8], places: &SlavePlaces, slave: usize, name: LogicalName) -> bool
+    requires { ⌜ Placed (now file) (now places) × (slave < slaveCount (now file)) ⌝ }
+    ensures { λ r. ⌜ r ≡ fallsAsleep (sleeping (nameIn name)) (slaveOf (decode (now (file .entry))) slave) ⌝ }
+{
+    if !is_awake(file, slave) {
+        return false;
+    }
+    let own = logical_name(file, places, slave);
+    if !is_addressed(name, own) {
+        return false;
+    }
+    let found = find_record(file, slave, FileNumber::CONFIGURATION, RecordNumber::SLEEP);
+    match found {
+        RecordPlace::At(_) => true,
+        RecordPlace::NoRecord => false,
+    }
+}
+
+// The same slave after that round: asleep, or awake.
+pub fn sleep_slave(file: &mut [u8], places: &SlavePlaces, slave: usize, name: LogicalName)
+    requires { ⌜ Placed (now file) (now places) × (slave < slaveCount (now file)) ⌝ }
+    ensures { λ _. ⌜ Becomes (now (file .exit)) (withSlave (decode (now (file .entry))) slave (restsAfter (sleeping (nameIn name)) (slaveOf (decode (now (file .entry))) slave))) ⌝ }
+{
+    if falls_asleep(file, places, slave, name) {
+        set_sleep(file, slave, ASLEEP);
+        return;
+    }
+    set_sleep(file, slave, AWAKE);
 }

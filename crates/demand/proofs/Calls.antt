@@ -51,7 +51,7 @@ number-result : {A : Type 0} (ground : ℕ) (value : A) → numberIn (resultOf g
 unfolding numberIn resultOf
 number-result ground value = byCase (eqb ground 0) (λ z. rw z (sym (eqb-true ground 0 z))) (λ z. rw z)
 
-position-back : (p : Position) → positionIn (wordsOf p) ≡ p
+pub position-back : (p : Position) → positionIn (wordsOf p) ≡ p
 unfolding positionIn wordsOf
 position-back p = refl
 
@@ -134,7 +134,7 @@ trace-number file t =
 -- ---- a call
 
 -- the ground of a call
-unfoldable groundOf : List ℕ → State → Position → CCall → ℕ
+unfoldable pub groundOf : List ℕ → State → Position → CCall → ℕ
 groundOf names s p (ttpaStep buffer senders) = stepGround (s .file) p names buffer
 groundOf names s p (ttpaStepKeeping buffer senders held count) = stepKeepingGround (s .file) p names (kept count held) buffer
 groundOf names s p (ttpaRound bytes buffer senders) = roundGround (s .file) bytes buffer
@@ -142,7 +142,7 @@ groundOf names s p (ttpaRoundKeeping bytes buffer senders held count) = roundKee
 groundOf names s p (ttpaTrace t report) = traceGround (s .file) t
 
 module _ (names : List ℕ) (s : State) (p : Position) where
-  call-number : (c : CCall) → returned names (memoryOf s p) c ≡ groundOf names s p c
+  pub call-number : (c : CCall) → returned names (memoryOf s p) c ≡ groundOf names s p c
   unfolding returned groundOf stepCall stepKeepingCall roundCall roundKeepingCall traceCall
   call-number (ttpaStep buffer senders) = rw (position-back p) (step-number (s .file) p names buffer)
   call-number (ttpaStepKeeping buffer senders held count) = rw (position-back p) (keeping-step-number (s .file) p names (kept count held) buffer)
@@ -150,7 +150,7 @@ module _ (names : List ℕ) (s : State) (p : Position) where
   call-number (ttpaRoundKeeping bytes buffer senders held count) = keeping-round-number (s .file) (kept count held) bytes buffer
   call-number (ttpaTrace t report) = trace-number (s .file) t
 
-  call-memory : (c : CCall) → memoryAfter names (memoryOf s p) c ≡ memoryOf (callOrTraceOn names s p (argumentsOf c) .0) (callOrTraceOn names s p (argumentsOf c) .1)
+  pub call-memory : (c : CCall) → memoryAfter names (memoryOf s p) c ≡ memoryOf (callOrTraceOn names s p (argumentsOf c) .0) (callOrTraceOn names s p (argumentsOf c) .1)
   unfolding memoryAfter argumentsOf callOrTraceOn afterTrace stepCall stepKeepingCall roundCall roundKeepingCall traceCall
   call-memory (ttpaStep buffer senders) = rw (step-plain names s p buffer, position-back p, step-words (s .file) p names buffer)
   call-memory (ttpaStepKeeping buffer senders held count) =
@@ -327,7 +327,7 @@ pub start-number : (names run : List ℕ) → startCall names run .0 ≡ startGr
 unfolding startCall startOver
 start-number names run = number-result (startGround names) (fresh names)
 
-start-memory : (file names run : List ℕ) → startGround names ≡ 0 → started file names run ≡ memoryOf (startOn file) (fresh names)
+pub start-memory : (file names run : List ℕ) → startGround names ≡ 0 → started file names run ≡ memoryOf (startOn file) (fresh names)
 unfolding startCall startOver lentAfter startOn
 start-memory file names run none = rw (result-done {value = fresh names} none)
 

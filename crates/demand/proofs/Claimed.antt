@@ -7,6 +7,7 @@ use Rattle.demand.specs.Claims.Permitted.{CallsPermittedExactly, TraceFi
 use Rattle.demand.specs.Claims.Steps.{StepsAreRounds}
 use Rattle.demand.specs.Claims.TraceCalls.{TracesAreRounds}
 use Rattle.demand.specs.Claims.Summary.{KeptByCalls, FilledAndAsked, RoundsWithSummary, StepsWithSummary, GivenMakesNoDifferenceInCalls}
+use Rattle.demand.specs.Claims.Sleep.{CallsStayAwake, CallsCountedAwake, CCallsWake}
 use Rattle.demand.proofs.Calls.{demand-over-calls, throughout-calls, steps-permitted, same-permitted}
 use Rattle.demand.proofs.Pending.{calls-stay-pending}
 use Rattle.demand.proofs.Renaming.{calls-rename-nobody, c-calls-rename-nobody}
@@ -15,6 +16,7 @@ use Rattle.demand.proofs.Permitted.{calls-permitted-exactly, trace-fits
 use Rattle.demand.proofs.Steps.{steps-are-rounds}
 use Rattle.demand.proofs.TraceCalls.{traces-are-rounds}
 use Rattle.demand.proofs.Summary.{kept-by-calls, filled-and-asked, rounds-with-summary, steps-with-summary, given-makes-no-difference-in-calls}
+use Rattle.demand.proofs.Sleep.{calls-stay-awake, calls-counted-awake, c-calls-wake}
 
 pub held-demand-over-calls : DemandOverCalls
 held-demand-over-calls = demand-over-calls
@@ -84,3 +86,12 @@ held-steps-with-summary = steps-with-summary
 
 pub held-given-makes-no-difference-in-calls : GivenMakesNoDifferenceInCalls
 held-given-makes-no-difference-in-calls = given-makes-no-difference-in-calls
+
+pub held-calls-stay-awake : CallsStayAwake
+held-calls-stay-awake = calls-stay-awake
+
+pub held-calls-counted-awake : CallsCountedAwake
+held-calls-counted-awake = calls-counted-awake
+
+pub held-c-calls-wake : CCallsWake
+held-c-calls-wake = c-calls-wake

@@ -8,9 +8,11 @@ pub mod Permitted
 pub mod Steps
 -- a trace is its frames, one call of ttpa_round or ttpa_round_keeping each
 pub mod TraceCalls
--- what stays pending, and who is renamed, over lists of calls
+-- what stays pending, who is renamed, and who is awake, over lists of calls
 pub mod Pending
 pub mod Renaming
+pub mod Sleep
+pub mod SleepExamples
 -- the summary over the C calls
 pub mod Summary
 pub mod SummaryExamples

@@ -206,7 +206,7 @@ unfolding afterFrames sent
 frames-bytes-kept file fb allEmpty = fb
 frames-bytes-kept file fb (also {a = x} b bs) = frames-bytes-kept (roundOn file x (replicate slots 0) .2) (round-bytes file x (replicate slots 0) fb b) bs
 
-trace-bytes : (file t : List ℕ) → Bytes file → Bytes t → Bytes (traceOn file t .1)
+pub trace-bytes : (file t : List ℕ) → Bytes file → Bytes t → Bytes (traceOn file t .1)
 unfolding framesOf
 trace-bytes file t fb tb =
     byCase (eqb (traceGround file t) 0)

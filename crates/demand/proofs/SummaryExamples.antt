@@ -22,7 +22,7 @@ use Rattle.cluster.proofs.Holders.{filling-matches}
 use Rattle.naming.specs.Rules.Run.{fresh, startGround, namesGrounds, unfitName}
 use Rattle.naming.specs.Claims.Files.{m10File}
 use Rattle.naming.specs.Claims.Cases.{answerBuffer}
-use Rattle.naming.proofs.Bytes.{allBelow, bytes-below}
+use Rattle.cluster.proofs.BytesBelow.{allBelow, bytes-below}
 use Rattle.naming.proofs.Examples.{m10-accepted}
 use Rattle.ttpa.specs.Rules.Calls.{fillCall, startCall, wordsOf, positionIn, roundCall, roundKeepingCall}
 use Rattle.demand.specs.Claims.Calls.{CCall, ttpaStepKeeping, ttpaRound, ttpaStep, given-step, given-step-keeping, given-frame, memoryAfter, afterCalls, started, CallsDemand, is-step, is-step-keeping}

@@ -35,7 +35,7 @@ pub record Encoded (w : ℕ) (f : List ℕ) (c : Cluster) : Type 0 where
 
 -- a legal slave: what the layout asks of it, and the files that every slave needs
 pub legal-laid : (s : Slave) → LegalSlave s → LaidOut s
-legal-laid s l = record { rising = l .rising; legal = l .files }
+legal-laid s l = record { sleeps = l .sleeps; rising = l .rising; legal = l .files }
 
 pub legal-needed : (s : Slave) → LegalSlave s → Needed s
 legal-needed s l = record { configured = l .configured; documented = l .documented }
@@ -44,7 +44,7 @@ pub laid-legal : {ss : List Slave} → All LaidOut ss → All Needed ss → All 
 laid-legal All.allEmpty All.allEmpty = All.allEmpty
 laid-legal (All.allNext l ls) (All.allNext n ns) =
     All.allNext
-    (record { rising = l .rising; files = l .legal; configured = n .configured; documented = n .documented })
+    (record { sleeps = l .sleeps; rising = l .rising; files = l .legal; configured = n .configured; documented = n .documented })
     (laid-legal ls ns)
 
 module _ {w : ℕ} (wide : Width w) where

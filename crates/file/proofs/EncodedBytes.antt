@@ -51,7 +51,8 @@ pub tableEntry-is-bytes : (w : ℕ) {place : ℕ} {s : Slave} → LaidOut s → 
 unfolding tableEntry
 tableEntry-is-bytes w l h =
     all-append (bytes-bytesOf w h)
-    (All.allNext (omega (arith, files-few (l .rising) (l .legal) (omega arith))) (zeros-bytes (suc (fillLength w))))
+    (All.allNext (omega (arith, files-few (l .rising) (l .legal) (omega arith)))
+    (All.allNext (omega (arith, l .sleeps)) (zeros-bytes (fillLength w))))
 
 pub slave-is-bytes : (w place : ℕ) {s : Slave} → LaidOut s → place + slaveSize w s < 256 ^ w → Bytes (slaveBytes w place s)
 unfolding slaveBytes slaveSize

@@ -161,18 +161,26 @@ entry-yes w f d low place h =
 -- the facts of a good table entry
 pub record TableEntryFacts (w : ℕ) (f : List ℕ) (t place : ℕ) : Type 0 where
   pub offset : offsetAt w f t ≡ place
-  pub zeros : allZero (part f (t + w + 1) (suc (fillLength w))) ≡ true
+  pub sleeps : getD f (t + w + 1) 0 ≤ 1
+  pub zeros : allZero (part f (t + w + 2) (fillLength w)) ≡ true
   pub within : place + entrySize w * getD f (t + w) 0 ≤ length f
 
 pub table-entry-facts : (w : ℕ) (f : List ℕ) (t place : ℕ) → goodTableEntry w f t place ≡ true → TableEntryFacts w f t place
 unfolding goodTableEntry
 table-entry-facts w f t place e =
     let e₁ = both-right _ _ e in
-    record { offset = eqb-true _ _ (both-left _ _ e); zeros = both-left _ _ e₁; within = leb-true _ _ (both-right _ _ e₁) }
+    let e₂ = both-right _ _ e₁ in
+    record {
+      offset = eqb-true _ _ (both-left _ _ e);
+      sleeps = leb-true _ _ (both-left _ _ e₁);
+      zeros = both-left _ _ e₂;
+      within = leb-true _ _ (both-right _ _ e₂);
+    }
 
 pub table-entry-yes : (w : ℕ) (f : List ℕ) (t place : ℕ) → TableEntryFacts w f t place → goodTableEntry w f t place ≡ true
 unfolding goodTableEntry
-table-entry-yes w f t place h = both-true (eq-eqb _ _ (h .offset)) (both-true (h .zeros) (le-leb _ _ (h .within)))
+table-entry-yes w f t place h =
+    both-true (eq-eqb _ _ (h .offset)) (both-true (le-leb _ _ (h .sleeps)) (both-true (h .zeros) (le-leb _ _ (h .within))))
 
 -- zeros at every index, both ways
 pub zeros-at : (f : List ℕ) (at n k : ℕ) → at + n ≤ length f → k < n → allZero (part f at n) ≡ true → getD f (at + k) 0 ≡ 0

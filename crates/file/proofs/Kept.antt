@@ -22,7 +22,7 @@ all-set zero (allNext q r) p = allNext p r
 all-set (suc k) (allNext q r) p = allNext q (all-set k r p)
 
 -- and of one made from the element that it replaces
-all-change : {A : Type 0} {P : A → Type 0} {l : List A} (f : A → A) (d : A) (k : ℕ) → ((a : A) → P a → P (f a)) → All P l → All P (set l k (f (getD l k d)))
+pub all-change : {A : Type 0} {P : A → Type 0} {l : List A} (f : A → A) (d : A) (k : ℕ) → ((a : A) → P a → P (f a)) → All P l → All P (set l k (f (getD l k d)))
 all-change f d k keeps allEmpty = allEmpty
 all-change f d zero keeps (allNext {a = x} q r) = allNext (keeps x q) r
 all-change f d (suc k) keeps (allNext q r) = allNext q (all-change f d k keeps r)
@@ -63,6 +63,7 @@ module _ (n k b : ℕ) (byte : Byte b) where
       let size : (m : ℕ) → lastRecord (bytesAmong (x .files) m) ≡ lastRecord (bytesAmong (putAmong (x .files) n k b) m) =
       λ m. lastRecord-same (bytesAmong (x .files) m) (bytesAmong (putAmong (x .files) n k b) m) (files-bytes-length m (files-put (x .files) n k b)) in
       record {
+        sleeps = legal .sleeps;
         rising = files-rising (files-put (x .files) n k b) (legal .rising);
         files = files-legal (legal .files);
         configured = rw (← size configuration) (legal .configured);

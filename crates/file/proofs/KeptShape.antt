@@ -19,12 +19,13 @@ use Rattle.file.proofs.Shape.{files-bytes-length, shape-count, shape-fi
 use Rattle.file.proofs.Kept.{lastRecord-same, files-rising}
 use Rattle.file.proofs.Accepted.{legal-becomes}
 
--- the files of a slave are bytes
+-- the files of a slave are bytes, and it is awake or asleep
 pub record HoldsBytes (s : Slave) : Type 0 where
+  pub sleeps : s .asleep ≤ 1
   pub files : All (λ x. Bytes (x .bytes)) (s .files)
 
 pub legal-bytes : (s : Slave) → LegalSlave s → HoldsBytes s
-legal-bytes s l = record { files = all-map (λ (x : File) (h : LegalFile x). h .bytes) (l .files) }
+legal-bytes s l = record { sleeps = l .sleeps; files = all-map (λ (x : File) (h : LegalFile x). h .bytes) (l .files) }
 
 -- files of the same shape, of bytes, are legal where the others are
 pub same-file-legal : (x y : File) → x .number ≡ y .number → length (x .bytes) ≡ length (y .bytes) → Bytes (y .bytes) → LegalFile x → LegalFile y
@@ -51,6 +52,7 @@ same-slave-legal s t same b l =
     λ n. lastRecord-same (bytesIn s n) (bytesIn t n) (files-bytes-length n same)
     in
     record {
+      sleeps = b .sleeps;
       rising = files-rising same (l .rising);
       files = same-files-legal same (b .files) (l .files);
       configured = subst (λ (n : ℕ). 3 ≤ n) (size configuration) (l .configured);

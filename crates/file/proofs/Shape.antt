@@ -82,10 +82,26 @@ unfolding slavesSize
 shape-size w noSlaves = refl
 shape-size w (sameSlave {s = s} {t = t} p r) = rw (slave-size s t w p, shape-size w r)
 
-pub shape-table : {ss ts : List Slave} (w place : ℕ) → SameShape ss ts → table w place ss ≡ table w place ts
+-- the table states the sleep bytes too
+pub data SameSleep : List Slave → List Slave → Type 0 where
+  noSleep : SameSleep [] []
+  sameSleep : {s t : Slave} {ss ts : List Slave} → s .asleep ≡ t .asleep → SameSleep ss ts → SameSleep (s ∷ ss) (t ∷ ts)
+
+pub sleep-refl : (ss : List Slave) → SameSleep ss ss
+sleep-refl [] = noSleep
+sleep-refl (s ∷ ss) = sameSleep refl (sleep-refl ss)
+
+-- a slave of the table replaced by one with the same sleep byte
+pub sleep-set : (ss : List Slave) (s : ℕ) (y : Slave) → getD ss s noSlave .asleep ≡ y .asleep → SameSleep ss (set ss s y)
+sleep-set [] s y p = noSleep
+sleep-set (x ∷ xs) zero y p = sameSleep p (sleep-refl xs)
+sleep-set (x ∷ xs) (suc s) y p = sameSleep refl (sleep-set xs s y p)
+
+pub shape-table : {ss ts : List Slave} (w place : ℕ) → SameShape ss ts → SameSleep ss ts → table w place ss ≡ table w place ts
 unfolding table tableEntry
-shape-table w place noSlaves = refl
-shape-table w place (sameSlave {s = s} {t = t} p r) = rw (slave-size s t w p, files-count p, shape-table w (place + slaveSize w t) r)
+shape-table w place noSlaves noSleep = refl
+shape-table w place (sameSlave {s = s} {t = t} p r) (sameSleep z q) =
+    rw (slave-size s t w p, files-count p, z, shape-table w (place + slaveSize w t) r q)
 
 pub shape-slavesPlace : {ss ts : List Slave} (w : ℕ) → SameShape ss ts → slavesPlace w ss ≡ slavesPlace w ts
 unfolding slavesPlace
@@ -149,6 +165,11 @@ pub shape-putByte : (c : Cluster) (s n k b : ℕ) → SameShape (c .slaves) (put
 unfolding putByte withSlaves slaveOf
 shape-putByte c s n k b =
     shape-set (c .slaves) s (putInSlave (getD (c .slaves) s noSlave) n k b) (slave-put (getD (c .slaves) s noSlave) n k b)
+
+-- nobody wakes or falls asleep by it
+pub sleep-putByte : (c : Cluster) (s n k b : ℕ) → SameSleep (c .slaves) (putByte c s n k b .slaves)
+unfolding putByte withSlaves slaveOf putInSlave
+sleep-putByte c s n k b = sleep-set (c .slaves) s (putInSlave (getD (c .slaves) s noSlave) n k b) refl
 
 pub shape-putBytes : (c : Cluster) (s n k : ℕ) (bs : List ℕ) → SameShape (c .slaves) (putBytes c s n k bs .slaves)
 unfolding putBytes

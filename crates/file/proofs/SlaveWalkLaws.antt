@@ -20,7 +20,7 @@ use Rattle.file.specs.Rules.Grounds.{broken, to, andThen, goodTableEntry
 use Rattle.file.specs.Inner.Places.{placesEach}
 use Rattle.file.specs.Inner.Checked.{EntriesFit, statedPlace, statedIn, statedPlaces, walkOf, DirectoryWalked, FilesWalked, Arrives, SlaveWalked, SlavesWalked}
 use Rattle.file.proofs.Order.{clash}
-use Rattle.file.proofs.Facts.{false-unless, TableEntryFacts, table-entry-facts, table-entry-yes, zeros-first, zeros-rest, zeros-more}
+use Rattle.file.proofs.Facts.{false-unless, TableEntryFacts, table-entry-facts, table-entry-yes}
 
 -- ---- one slave
 
@@ -47,28 +47,19 @@ pub slave-elsewhere : {w : ℕ} {f : List ℕ} {t place n : ℕ} → NumberAt f 
 unfolding offsetAt
 slave-elsewhere k h = refused (λ g. h (k .is ∙ g .offset))
 
--- the first zero behind the file count lies within the bytes
-zero-near : {w : ℕ} {f : List ℕ} {t : ℕ} → EntriesFit w f t 1 → t + w + 1 < length f
-zero-near fit = omega (arith, fit .width .least, fit .within)
+pub slave-sleep : {w : ℕ} {f : List ℕ} {t : ℕ} (place : ℕ) {n : ℕ} → ByteAt f (t + w + 1) n → 1 < n → SlaveWalked w f t place false 0 0 0
+slave-sleep place k h = refused (λ g. omega (arith, g .sleeps, k .is))
 
-pub slave-zero : {w : ℕ} {f : List ℕ} {t : ℕ} (place : ℕ) {n : ℕ} → EntriesFit w f t 1 → ByteAt f (t + w + 1) n → (n ≡ 0 → ⊥) → SlaveWalked w f t place false 0 0 0
-slave-zero {w} {f} {t} place fit k h =
-    refused (λ (g : TableEntryFacts w f t place). h (k .is ∙ zeros-first f (t + w + 1) (w - 2) (zero-near fit) (g .zeros)))
-
-pub slave-unfilled : {w : ℕ} {f : List ℕ} {t : ℕ} (place : ℕ) {filled : Bool} → EntriesFit w f t 1 → filled ≡ allZero (part f (t + w + 2) (w - 2)) → filled ≡ false → SlaveWalked w f t place false 0 0 0
-slave-unfilled {w} {f} {t} place fit is e =
-    let same : suc (t + w + 1) ≡ t + w + 2 = omega arith in
-    refused (λ (g : TableEntryFacts w f t place).
-    let there : allZero (part f (t + w + 2) (w - 2)) ≡ true = rw same at (zeros-rest f (t + w + 1) (w - 2) (zero-near fit) (g .zeros)) in
-    clash there (sym is ∙ e))
+pub slave-unfilled : {w : ℕ} {f : List ℕ} {t : ℕ} (place : ℕ) {filled : Bool} → filled ≡ allZero (part f (t + w + 2) (w - 2)) → filled ≡ false → SlaveWalked w f t place false 0 0 0
+slave-unfilled place is e = refused (λ g. clash (g .zeros) (sym is ∙ e))
 
 pub slave-past : {w : ℕ} {f : List ℕ} {t place n : ℕ} → ByteAt f (t + w) n → length f < place + 2 * w * n → SlaveWalked w f t place false 0 0 0
 slave-past {w} {f} {t} {place} {n} k h =
     let past : length f < place + 2 * w * getD f (t + w) 0 = rw (← (k .is)) h in
     refused (λ g. omega (arith, g .within, past))
 
-module _ {w : ℕ} {f : List ℕ} {t place n offset zero′ : ℕ} {filled good : Bool} {end conf doc : ℕ} (fit : EntriesFit w f t 1) (count : ByteAt f (t + w) n) (o : NumberAt f t w offset) (here : offset ≡ place)
-    (z : ByteAt f (t + w + 1) zero′) (none : zero′ ≡ 0) (is : filled ≡ allZero (part f (t + w + 2) (w - 2))) (all : filled ≡ true)
+module _ {w : ℕ} {f : List ℕ} {t place n offset asleep : ℕ} {filled good : Bool} {end conf doc : ℕ} (count : ByteAt f (t + w) n) (o : NumberAt f t w offset) (here : offset ≡ place)
+    (z : ByteAt f (t + w + 1) asleep) (few : asleep ≤ 1) (is : filled ≡ allZero (part f (t + w + 2) (w - 2))) (all : filled ≡ true)
     (fits : place + 2 * w * n ≤ length f) (h : FilesWalked w f place n good end conf doc) where
   offset-there : offsetAt w f t ≡ place
   unfolding offsetAt
@@ -78,11 +69,10 @@ module _ {w : ℕ} {f : List ℕ} {t place n offset zero′ : ℕ} {filled good 
   unfolding statedIn
   slave-walked =
       let within : place + 2 * w * getD f (t + w) 0 ≤ length f = rw (← (count .is)) fits in
-      let same : suc (t + w + 1) ≡ t + w + 2 = omega arith in
-      let rest : allZero (part f (suc (t + w + 1)) (w - 2)) ≡ true = rw same (sym is ∙ all) in
       let facts : TableEntryFacts w f t place = record {
         offset = offset-there;
-        zeros = zeros-more f (t + w + 1) (w - 2) (zero-near fit) (sym (z .is) ∙ none) rest;
+        sleeps = omega (arith, z .is);
+        zeros = sym is ∙ all;
         within = within;
       } in
       record {

@@ -8,7 +8,6 @@ use mathlib.Core.Path.{_≡_, refl, sym, ap, ap₂, _∙_, subst}
 use mathlib.Core.List.{List, [], _∷_}
 use lib.ListN.{length, getD, replicate}
 use Rattle.file.specs.Rules.Bytes.{All, Bytes, bytesOf}
-use Rattle.file.specs.Rules.Order.{both}
 use Rattle.file.specs.Rules.Layout.{entrySize, fillLength}
 use Rattle.file.specs.Rules.Cluster.{File, Slave}
 use Rattle.file.specs.Rules.Encode.{directory, contents, slaveSize, slaveBytes, slavesBytes, slavesSize, tableEntry, table}
@@ -27,34 +26,39 @@ use Rattle.file.proofs.Files.{FilesStand, files-found, files-walk, file
 pub record TableBytes (w : ℕ) (f : List ℕ) (t place : ℕ) (s : Slave) : Type 0 where
   pub offset : Stands f t (bytesOf w place)
   pub count : getD f (t + w) 0 ≡ length (s .files)
-  pub fill : Stands f (t + w + 1) (replicate (suc (fillLength w)) 0)
+  pub sleep : getD f (t + w + 1) 0 ≡ s .asleep
+  pub fill : Stands f (t + w + 2) (replicate (fillLength w) 0)
 
 module _ {w : ℕ} {f : List ℕ} {t place : ℕ} {s : Slave} where
   pub table-bytes : Stands f t (tableEntry w place s) → TableBytes w f t place s
   unfolding tableEntry
   table-bytes e =
-      let zeros : List ℕ = replicate (suc (fillLength w)) 0 in
-      let behind : Stands f (t + w) (length (s .files) ∷ zeros) =
-      rw (bytesOf-length w place) at (stands-right (bytesOf w place) (length (s .files) ∷ zeros) e)
+      let zeros : List ℕ = replicate (fillLength w) 0 in
+      let behind : Stands f (t + w) (length (s .files) ∷ s .asleep ∷ zeros) =
+      rw (bytesOf-length w place) at (stands-right (bytesOf w place) (length (s .files) ∷ s .asleep ∷ zeros) e)
       in
       record {
-        offset = stands-left (bytesOf w place) (length (s .files) ∷ zeros) e;
+        offset = stands-left (bytesOf w place) (length (s .files) ∷ s .asleep ∷ zeros) e;
         count = stands-byte behind 0 (omega arith) (sym (add-zero (t + w)));
-        fill = stands-right (length (s .files) ∷ []) zeros behind;
+        sleep = stands-byte behind 1 (omega arith) refl;
+        fill = stands-right (length (s .files) ∷ s .asleep ∷ []) zeros behind;
       }
 
   pub bytes-table : TableBytes w f t place s → Stands f t (tableEntry w place s)
   unfolding tableEntry
-  bytes-table b = stands-append (b .offset) (rw (bytesOf-length w place) (stands-next (b .count) refl (b .fill)))
+  bytes-table b =
+      stands-append (b .offset) (rw (bytesOf-length w place) (stands-next (b .count) refl (stands-next (b .sleep) (omega arith) (b .fill))))
 
 -- ---- a slave that stands: its table entry at t, its directory at the place and its files behind it
 
 -- what the layout asks of a slave's files
 pub record LaidOut (s : Slave) : Type 0 where
+  pub sleeps : s .asleep ≤ 1
   pub rising : Rising 0 (s .files)
   pub legal : All LegalFile (s .files)
 
 pub record SlaveStands (w : ℕ) (f : List ℕ) (t place : ℕ) (s : Slave) : Type 0 where
+  pub sleeps : s .asleep ≤ 1
   pub entry : Stands f t (tableEntry w place s)
   pub files : FilesStand w f place 0 (place + entrySize w * length (s .files)) (s .files)
 
@@ -91,7 +95,7 @@ module _ {w : ℕ} (two : 2 ≤ w) {f : List ℕ} where
       stands-append (a .files .entries) (stands-at (sym (directory-end two place s)) (a .files .bytes))
       in
       record {
-        legal = All.allNext (record { rising = a .files .rising; legal = a .files .legal }) (r .legal);
+        legal = All.allNext (record { sleeps = a .sleeps; rising = a .files .rising; legal = a .files .legal }) (r .legal);
         entries = stands-append (a .entry) (stands-at (ap (λ (n : ℕ). t + n) (sym (tableEntry-length two place s))) (r .entries));
         bytes = stands-append own (stands-at (ap (λ (n : ℕ). place + n) (sym (slaveBytes-length two place s))) (r .bytes));
       }
@@ -105,6 +109,7 @@ module _ {w : ℕ} (two : 2 ≤ w) {f : List ℕ} where
       stands-left (slaveBytes w place s) (slavesBytes w (place + slaveSize w s) ss) (a .bytes)
       in
       record {
+        sleeps = legal .sleeps;
         entry = stands-left (tableEntry w place s) (table w (place + slaveSize w s) ss) (a .entries);
         files =
             record {
@@ -133,14 +138,15 @@ module _ {w : ℕ} (two : 2 ≤ w) {f : List ℕ} where
 
 -- ---- found and read
 
--- the slave that an entry with that offset and file count names
-pub slaveFrom : ℕ → List ℕ → ℕ → ℕ → Slave
-slaveFrom w f place k = record { files = filesAt w f place k }
+-- the slave that an entry with that offset, file count and sleep byte names
+pub slaveFrom : ℕ → List ℕ → ℕ → ℕ → ℕ → Slave
+slaveFrom w f place k asleep = record { asleep = asleep; files = filesAt w f place k }
 
 pub slaveAt-entry :
-    (w : ℕ) (f : List ℕ) (t : ℕ) {place k : ℕ} → offsetAt w f t ≡ place → getD f (t + w) 0 ≡ k → slaveAt w f t ≡ slaveFrom w f place k
+    (w : ℕ) (f : List ℕ) (t : ℕ) {place k asleep : ℕ} → offsetAt w f t ≡ place → getD f (t + w) 0 ≡ k → getD f (t + w + 1) 0 ≡ asleep
+    → slaveAt w f t ≡ slaveFrom w f place k asleep
 unfolding slaveAt slaveFrom
-slaveAt-entry w f t p k = rw (p, k)
+slaveAt-entry w f t p k z = rw (p, k, z)
 
 module _ {w : ℕ} (two : 2 ≤ w) {f : List ℕ} (short : length f < 256 ^ w) where
   -- a slave that a walk passes stands, and the walk arrives where its bytes end
@@ -155,24 +161,26 @@ module _ {w : ℕ} (two : 2 ≤ w) {f : List ℕ} (short : length f < 256 ^ w) w
       let came = tested-arrives (goodTableEntry w f t place) _ p in
       let g : TableEntryFacts w f t place = table-entry-facts w f t place (came .0) in
       let k : ℕ = getD f (t + w) 0 in
-      let s : Slave = slaveFrom w f place k in
+      let s : Slave = slaveFrom w f place k (getD f (t + w + 1) 0) in
       let count : length (s .files) ≡ k = length-filesAt w f place k in
       let found = files-found two short place 0 (place + entrySize w * k) k b (g .within) (g .within) (came .1) in
       let stands : SlaveStands w f t place s × (e ≡ place + slaveSize w s) = (
         record {
+          sleeps = g .sleeps;
           entry =
               bytes-table
               (record {
                 offset = stands-number w b (omega arith) (g .offset);
                 count = sym count;
-                fill = stands-zeros (suc (fillLength w)) (omega arith) (g .zeros);
+                sleep = refl;
+                fill = stands-zeros (fillLength w) (omega arith) (g .zeros);
               });
           files = rw count (found .0);
         },
         rw count (omega (arith, found .1)),
       )
       in
-      subst (λ (y : Slave). SlaveStands w f t place y × (e ≡ place + slaveSize w y)) (sym (slaveAt-entry w f t (g .offset) refl)) stands
+      subst (λ (y : Slave). SlaveStands w f t place y × (e ≡ place + slaveSize w y)) (sym (slaveAt-entry w f t (g .offset) refl refl)) stands
 
   pub slaves-found :
       (t place n : ℕ) {e : ℕ}
@@ -199,7 +207,8 @@ module _ {w : ℕ} (two : 2 ≤ w) {f : List ℕ} (short : length f < 256 ^ w) w
       let e : TableBytes w f t place s = table-bytes (a .entry) in
       record {
         offset = number-stands w (omega (arith, a .files .bytes .fits)) (e .offset);
-        zeros = zeros-stand (suc (fillLength w)) (e .fill);
+        sleeps = rw (e .sleep) (a .sleeps);
+        zeros = zeros-stand (fillLength w) (e .fill);
         within = rw (e .count) (omega (arith, a .files .bytes .fits));
       }
 
@@ -212,8 +221,8 @@ module _ {w : ℕ} (two : 2 ≤ w) {f : List ℕ} (short : length f < 256 ^ w) w
   pub slave-read : {t place : ℕ} {s : Slave} → SlaveStands w f t place s → slaveAt w f t ≡ s
   unfolding slaveFrom
   slave-read {t} {place} {s} a =
-      slaveAt-entry w f t (slave-good a .offset) (table-bytes (a .entry) .count)
-      ∙ ap (λ (xs : List File). record { files = xs }) (files-read two short (s .files) (a .files))
+      slaveAt-entry w f t (slave-good a .offset) (table-bytes (a .entry) .count) (table-bytes (a .entry) .sleep)
+      ∙ ap (λ (xs : List File). record { asleep = s .asleep; files = xs }) (files-read two short (s .files) (a .files))
 
   pub slaves-walk :
       {t place : ℕ} (ss : List Slave) → SlavesStand w f t place ss → walkSlaves w f t place (length ss) ≡ Walk.to (place + slavesSize w ss)

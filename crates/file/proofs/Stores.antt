@@ -18,20 +18,20 @@ use Rattle.file.specs.Inner.Places.{noSlave, slaveOf, placeAmong, filePl
 use Rattle.file.specs.Rules.Changes.{putAmong, putInSlave, withSlaves}
 use Rattle.file.proofs.Order.{byCase}
 use Rattle.file.proofs.Sizes.{directory-length, slaveBytes-length, table-length, header-length}
-use Rattle.file.proofs.Shape.{files-put, slave-put, files-count, files-directory, slave-size, shape-table, shape-count, shape-slavesPlace, shape-fileLength, shape-putByte}
+use Rattle.file.proofs.Shape.{files-put, slave-put, files-count, files-directory, slave-size, shape-table, shape-count, shape-slavesPlace, shape-fileLength, shape-putByte, sleep-putByte}
 use Rattle.file.proofs.Puts.{putByte-filePlaceAt, putByte-bytes-length}
 
 -- ---- bytes that stand in a list
 
 -- bs stands in l at a place, where l begins at another, and l′ is l with bs′ instead
-record Stands (l l′ : List ℕ) (begin place : ℕ) (bs bs′ : List ℕ) : Type 0 where
-  front : List ℕ
-  behind : List ℕ
-  old : l ≡ front ++ (bs ++ behind)
-  new : l′ ≡ front ++ (bs′ ++ behind)
-  starts : begin + length front ≡ place
+pub record Stands (l l′ : List ℕ) (begin place : ℕ) (bs bs′ : List ℕ) : Type 0 where
+  pub front : List ℕ
+  pub behind : List ℕ
+  pub old : l ≡ front ++ (bs ++ behind)
+  pub new : l′ ≡ front ++ (bs′ ++ behind)
+  pub starts : begin + length front ≡ place
 
-after : (p : List ℕ) {l l′ : List ℕ} {begin place : ℕ} {bs bs′ : List ℕ} → Stands l l′ (begin + length p) place bs bs′ → Stands (p ++ l) (p ++ l′) begin place bs bs′
+pub after : (p : List ℕ) {l l′ : List ℕ} {begin place : ℕ} {bs bs′ : List ℕ} → Stands l l′ (begin + length p) place bs bs′ → Stands (p ++ l) (p ++ l′) begin place bs bs′
 after p r =
     record {
       front = p ++ r .front;
@@ -41,7 +41,7 @@ after p r =
       starts = simp length-append (omega arith);
     }
 
-before : (q : List ℕ) {l l′ : List ℕ} {begin place : ℕ} {bs bs′ : List ℕ} → Stands l l′ begin place bs bs′ → Stands (l ++ q) (l′ ++ q) begin place bs bs′
+pub before : (q : List ℕ) {l l′ : List ℕ} {begin place : ℕ} {bs bs′ : List ℕ} → Stands l l′ begin place bs bs′ → Stands (l ++ q) (l′ ++ q) begin place bs bs′
 before q r =
     record {
       front = r .front;
@@ -57,7 +57,7 @@ set-append-add [] ys i b = rw zero-add
 set-append-add (x ∷ xs) ys i b = rw (suc-add, set-append-add xs ys i b)
 
 module _ {l l′ : List ℕ} {place : ℕ} {bs bs′ : List ℕ} (r : Stands l l′ 0 place bs bs′) where
-  stands-fits : place + length bs ≤ length l
+  pub stands-fits : place + length bs ≤ length l
   stands-fits = rw (r .old) (simp length-append (omega (arith, r .starts)))
 
   stands-part : (a m : ℕ) → a + m ≤ length bs → part l (place + a) m ≡ part bs a m
@@ -68,18 +68,18 @@ module _ {l l′ : List ℕ} {place : ℕ} {bs bs′ : List ℕ} (r : Stands l l
       let e : place + a ≡ length (r .front) + a = omega (arith, r .starts) in
       rw (e, r .old, drop-append-add (r .front) (bs ++ r .behind) a, drop-append-le a bs (r .behind) below, take-append-le m (drop a bs) (r .behind) inside)
 
-  stands-read : (k : ℕ) → k < length bs → getD l (place + k) 0 ≡ getD bs k 0
+  pub stands-read : (k : ℕ) → k < length bs → getD l (place + k) 0 ≡ getD bs k 0
   stands-read k h =
       let e : place + k ≡ length (r .front) + k = omega (arith, r .starts) in
       rw (e, r .old, getD-append-add (r .front) (bs ++ r .behind) k 0, List·getD-append bs (r .behind) 0 k h)
 
-  stands-store : (k b : ℕ) → k < length bs → bs′ ≡ set bs k b → set l (place + k) b ≡ l′
+  pub stands-store : (k b : ℕ) → k < length bs → bs′ ≡ set bs k b → set l (place + k) b ≡ l′
   stands-store k b h stored =
       let e : place + k ≡ length (r .front) + k = omega (arith, r .starts) in
       rw (e, r .old, r .new, stored, set-append-add (r .front) (bs ++ r .behind) k b, set-append-left bs (r .behind) k b h)
 
 -- the header states the slaves' number and sizes, and no byte of a file
-header-shape : (w : ℕ) (c : Cluster) (ss : List Slave) → SameShape (c .slaves) ss → header w (withSlaves c ss) ≡ header w c
+pub header-shape : (w : ℕ) (c : Cluster) (ss : List Slave) → SameShape (c .slaves) ss → header w (withSlaves c ss) ≡ header w c
 unfolding header withSlaves
 header-shape w c ss same = rw (shape-count same, shape-fileLength w same)
 
@@ -130,7 +130,7 @@ module _ (n k b : ℕ) where
         let ts : List Slave = set ss s (putInSlave (getD ss s noSlave) n k b) in
         let same : SameShape ss ts = shape-putByte c s n k b in
         let begin : ℕ = slavesPlace w ss in
-        rw (header-shape w c ts same, ← shape-slavesPlace w same, ← shape-table w begin same)
+        rw (header-shape w c ts same, ← shape-slavesPlace w same, ← shape-table w begin same (sleep-putByte c s n k b))
         (after (header w c) (after (table w begin ss) (rw (behind-table c) (slaves-stand begin ss s some))))
 
 -- ---- reading and storing a file's bytes

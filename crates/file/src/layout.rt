@@ -55,12 +55,19 @@ pub const LONGEST_BY_WIDTH: usize = 16384;
 pub const PENDING: u8 = 1;
 
 // "A table entry is 4 bytes: directory offset (2), file count (1), zero." Over the width an entry is two offsets. Behind a table entry's
-// offset: the file count, its zero, and the zeros that fill the entry up.
+// offset: the file count, the sleep byte, and the zeros that fill the entry up.
 pub const ENTRY_OFFSETS: usize = 2;
 
-pub const TABLE_ZERO_FIELD: usize = 1;
+pub const SLEEP_FIELD: usize = 1;
 
 pub const TABLE_FILL_FIELD: usize = 2;
+
+// "The zero at the end of a table entry becomes 0 awake or 1 asleep." (document 02, job 9)
+pub const AWAKE: u8 = 0;
+
+pub const ASLEEP: u8 = 1;
+
+pub const MOST_SLEEP: usize = ASLEEP as usize;
 
 // "A directory entry is 4 bytes: file number 0 to 63, strictly rising; record count r, 1 to 255; offset (2)."
 pub const RECORD_COUNT_PLACE: usize = 1;

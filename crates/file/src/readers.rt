@@ -3,13 +3,14 @@ ghost use mathlib.Core.Path.{_≡_};
 ghost use mathlib.Core.List.{_++_};
 ghost use Prim.Native.Nat.{_≤_, _<_};
 ghost use lib.ListN.{length, drop};
-ghost use Rattle.file.specs.Rules.Cluster.{logicalName, logicalNames, physicalName, comparisonValue};
+ghost use Rattle.file.specs.Rules.Cluster.{isAwake, logicalName, logicalNames, physicalName, comparisonValue};
 ghost use Rattle.file.specs.Rules.Decode.{decode};
 ghost use Rattle.file.specs.Inner.Places.{slaveOf};
 ghost use Rattle.file.specs.Inner.Typed.{fileIn, recordIn, nameIn, operationIn};
-ghost use Rattle.file.specs.Inner.Accepted.{AcceptedFile, WidthOf, EpochAt, slaveCount, Placed, PendingIs, findFile, findRecord, isDocumented};
+ghost use Rattle.file.specs.Inner.Accepted.{AcceptedFile, WidthOf, EpochAt, SleepAt, slaveCount, Placed, PendingIs, findFile, findRecord, isDocumented};
 ghost use Rattle.file.specs.Inner.Checked.{EntriesFit, searchDirectory};
 ghost use Rattle.file.specs.Inner.Answers.{foundFile, foundRecord};
+use crate::layout::AWAKE;
 use crate::layout::COMPARISON_VALUE_PLACE;
 use crate::layout::COUNT_PLACE;
 use crate::layout::ENTRY_OFFSETS;
@@ -27,6 +28,7 @@ use crate::layout::PENDING_PB3_FIELD;
 use crate::layout::PHYSICAL_NAME_PLACE;
 use crate::layout::RECORD_COUNT_PLACE;
 use crate::layout::RECORD_SIZE;
+use crate::layout::SLEEP_FIELD;
 use crate::layout::TABLE_PLACE;
 use crate::numbers::byte_at;
 use crate::numbers::offset_at;
@@ -102,6 +104,24 @@ pub fn logical_name(file: &[u8], places: &SlavePlaces, slave: usize) -> LogicalN
     let place = places[PLACES_EACH * slave] as usize;
     let at = place + LOGICAL_NAME_PLACE;
     LogicalName::new(file[at])
+}
+
+// Where the slave table keeps a slave's sleep byte: behind its directory's offset and its file count.
+pub fn sleep_place(file: &[u8], slave: usize) -> usize
+    requires { ⌜ AcceptedFile (now file) × (slave < slaveCount (now file)) ⌝ }
+    ensures { λ r. ⌜ SleepAt (now (file .entry)) slave r ⌝ }
+{
+    let width = width_of(file);
+    let first = HEADER_BYTES + HEADER_OFFSETS * width + width + SLEEP_FIELD;
+    first + ENTRY_OFFSETS * width * slave
+}
+
+// Whether a slave is awake.
+pub fn is_awake(file: &[u8], slave: usize) -> bool
+    requires { ⌜ AcceptedFile (now file) × (slave < slaveCount (now file)) ⌝ }
+    ensures { λ r. ⌜ r ≡ isAwake (slaveOf (decode (now (file .entry))) slave) ⌝ }
+{
+    file[sleep_place(file, slave)] == AWAKE
 }
 
 // Each slave's logical name, in the order of the slave table, put in front of whatever else the lent slice holds.

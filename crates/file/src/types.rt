@@ -17,7 +17,8 @@ impl FileNumber {
 pub struct RecordNumber(pub u8);
 
 // "Records 1 and 2 of 0x3D are the physical name: series number, then serial number"; of 0x08 "record 1 holds the new logical name in
-// byte 2 and the logical name in byte 3; records 2 and 3 hold the comparison value IDCV".
+// byte 2 and the logical name in byte 3; records 2 and 3 hold the comparison value IDCV"; "put the whole cluster to sleep by an execute of
+// record 4 of 0x08, our choice of record" (document 02, job 9).
 impl RecordNumber {
     pub const SERIES: RecordNumber = RecordNumber(1);
 
@@ -26,6 +27,8 @@ impl RecordNumber {
     pub const COMPARISON_HIGH: RecordNumber = RecordNumber(2);
 
     pub const COMPARISON_LOW: RecordNumber = RecordNumber(3);
+
+    pub const SLEEP: RecordNumber = RecordNumber(4);
 }
 
 pub struct LogicalName(pub u8);

@@ -15,13 +15,14 @@ use crate::layout::FILL_PLACE;
 use crate::layout::HEADER_BYTES;
 use crate::layout::HEADER_OFFSETS;
 use crate::layout::LEAST_RECORD;
+use crate::layout::MOST_SLEEP;
 use crate::layout::NEEDED_CONFIGURATION;
 use crate::layout::NEEDED_DOCUMENTATION;
 use crate::layout::OFFSET_WIDTH;
 use crate::layout::RECORD_COUNT_PLACE;
 use crate::layout::RECORD_SIZE;
+use crate::layout::SLEEP_FIELD;
 use crate::layout::TABLE_FILL_FIELD;
-use crate::layout::TABLE_ZERO_FIELD;
 use crate::numbers::byte_at;
 use crate::numbers::offset_at;
 use crate::numbers::u16_at;
@@ -226,7 +227,7 @@ fn walk_slave(file: &[u8], width: usize, entry: usize, place: usize) -> SlaveWal
     if offset_at(file, width, entry) != place {
         return BROKEN;
     }
-    if byte_at(file, after + TABLE_ZERO_FIELD) != 0 {
+    if MOST_SLEEP < byte_at(file, after + SLEEP_FIELD) {
         return BROKEN;
     }
     if !is_filled(file, width, after + TABLE_FILL_FIELD) {

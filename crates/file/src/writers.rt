@@ -10,7 +10,7 @@ ghost use Rattle.file.specs.Inner.Typed.{fileIn, recordIn, nameIn, opera
 ghost use Rattle.file.specs.Rules.Cluster.{configuration, newLogicalName, pb2Of};
 ghost use Rattle.file.specs.Rules.Decode.{decode};
 ghost use Rattle.file.specs.Rules.Legal.{LegalPending};
-ghost use Rattle.file.specs.Inner.Places.{slaveOf, putByte};
+ghost use Rattle.file.specs.Inner.Places.{slaveOf, putByte, putSleep};
 ghost use Rattle.file.specs.Rules.Changes.{withEpoch, withPending};
 ghost use Rattle.file.specs.Inner.Accepted.{AcceptedFile, slaveCount, Becomes, Placed};
 use crate::layout::FLAG_FIELD;
@@ -22,6 +22,7 @@ use crate::layout::PENDING_PB2_FIELD;
 use crate::layout::PENDING_PB3_FIELD;
 use crate::operations::pb2_of;
 use crate::readers::epoch_place;
+use crate::readers::sleep_place;
 use crate::types::FileNumber;
 use crate::types::LogicalName;
 use crate::types::Operation;
@@ -64,6 +65,15 @@ pub fn take_new_name(file: &mut [u8], places: &SlavePlaces, slave: usize)
     let at = places[PLACES_EACH * slave] as usize;
     let name = file[at + NEW_LOGICAL_NAME_PLACE];
     file[at + LOGICAL_NAME_PLACE] = name;
+}
+
+// A slave's sleep byte: 0 awake, 1 asleep.
+pub fn set_sleep(file: &mut [u8], slave: usize, asleep: u8)
+    requires { ⌜ AcceptedFile (now file) × (slave < slaveCount (now file)) × (asleep ≤ 1) ⌝ }
+    ensures { λ _. ⌜ Becomes (now (file .exit)) (putSleep (decode (now (file .entry))) slave asleep) ⌝ }
+{
+    let at = sleep_place(file, slave);
+    file[at] = asleep;
 }
 
 // The four bytes of the record at a place.

@@ -12,7 +12,7 @@ use lib.ListN.{length, getD, drop, length-map}
 use lib.Seq.{getD-drop}
 use lib.Dec.{eqb}
 use borrow.Author.Tests.{eq-eqb, ne-eqb, eqb-true, eqb-false}
-use Rattle.file.specs.Rules.Bytes.{Bytes}
+use Rattle.file.specs.Rules.Bytes.{Bytes, All}
 use Rattle.file.specs.Rules.Decode.{decode}
 use Rattle.file.specs.Rules.Grounds.{fileGround, loadGround}
 use Rattle.file.proofs.Results.{load-first, load-file}
@@ -42,13 +42,14 @@ use Rattle.naming.proofs.Walk.{pastOf, past-last}
 use Rattle.naming.proofs.Tally.{none-compared}
 use Rattle.naming.proofs.Closed.{mostRounds, due-bound}
 use Rattle.naming.proofs.Sorted.{length-falling}
-use Rattle.naming.proofs.Start.{Slaves, start-facts}
+use Rattle.naming.proofs.Facts.{Fit}
+use Rattle.naming.proofs.Start.{Slaves, names-fit, start-facts}
 use Rattle.naming.proofs.Abstract.{Between, all-made, one-more, runCalls, all-calls, stays-fit, tie-agree, tie-sendable, tally-running, tally-ended}
-use Rattle.naming.proofs.Demand.{unnamed-most, rounds-whole, tally-start, rounds-few, comparisons-few}
+use Rattle.naming.proofs.Demand.{unnamed-most, extra-most, rounds-whole, tally-start, rounds-few, comparisons-few}
 use Rattle.naming.proofs.FromFile.{names-of-view, legal-slaves, legal-few}
 use Rattle.cluster.proofs.SentRounds.{buffer-long, round-is}
 use Rattle.naming.proofs.StepRound.{may-send}
-use Rattle.naming.proofs.ByteLaws.{Good, viewIn, Allowed, byte-laws, arguments-ground}
+use Rattle.naming.proofs.ByteLaws.{Good, AwakeIn, viewIn, Allowed, byte-laws, arguments-ground}
 use Rattle.naming.proofs.StepLaws.{step-made}
 use Rattle.naming.proofs.Unasked.{step-unasked, step-plain, step-plain-may}
 use Rattle.listing_text.specs.Rules.Text.{nameLine, totalsLine, refusedLine}
@@ -121,7 +122,7 @@ first-left names index e =
 -- file and run beside an account, over the names of the listing and with the closed figures of the slaves at the start
 abbrev Tied : List Named → List ℕ → Position → Account → Type 0
 Tied slaves file p a =
-    Between State allNames viewIn Good (roundsFor slaves allNames) (comparisonsFor slaves allNames) (namesAfter slaves allNames) (startOn file, p) a
+    Between State allNames viewIn Good AwakeIn (roundsFor slaves allNames) (comparisonsFor slaves allNames) (namesAfter slaves allNames) (startOn file, p) a
 
 -- a run under way beside an account: the lines so far and those of the names still to be given are the lines of all names given
 record Beside (slaves : List Named) (t : ListState) (a : Account) : Type 0 where
@@ -131,6 +132,7 @@ record Beside (slaves : List Named) (t : ListState) (a : Account) : Type 0 where
   after-step : t .lines ++ lines (toGive a) ≡ lines (namesGiven slaves)
   counted : t .given + length (toGive a) ≡ length (namesGiven slaves)
   spent : (a .end ≡ 0 → ⊥) → toGive a ≡ []
+  among : a .k ≤ a .rounds
 
 -- what a step of a run under way leaves
 record Steps (slaves : List Named) (s : Result StepDone × Position × List ℕ × List ℕ) (b : Account) : Type 0 where
@@ -138,11 +140,14 @@ record Steps (slaves : List Named) (s : Result StepDone × Position × List ℕ 
   tied : Tied slaves (s .3) (s .1) b
   long : shortAnswer (s .2) ≡ false
 
+all-fit : All Fit allNames
+all-fit = names-fit (names-accepted .bytes) (names-accepted .fit)
+
 -- the state after a step
 abbrev stateAfter : ListState → Result StepDone × Position × List ℕ × List ℕ → ListState
 stateAfter t s = cond (givesName (s .0) (t .run)) (withName t s) (withoutName t s)
 
-module _ (slaves : List Named) (few : mostRounds * length slaves + endingRounds + 256 < countLimit) where
+module _ (slaves : List Named) (few : mostRounds * length slaves + endingRounds + 257 < countLimit) where
   module _
       (file : List ℕ) (p : Position) (buffer : List ℕ) {a : Account} (h : Tied slaves file p a) (long : shortAnswer buffer ≡ false)
       (m : p .end ≡ running) where
@@ -158,8 +163,8 @@ module _ (slaves : List Named) (few : mostRounds * length slaves + endingRounds 
     ground =
         sym (step-unasked file p allNames buffer)
         ∙ arguments-ground allNames names-accepted (startOn file) p arguments (h .good)
-        (stays-fit State allNames viewIn Good (Allowed allNames) (callOn allNames) (byte-laws allNames names-accepted) _ _ _
-        (rounds-few slaves allNames names-accepted few) (comparisons-few slaves allNames few) (startOn file, p) a h)
+        (stays-fit State allNames viewIn Good AwakeIn (Allowed allNames) (callOn allNames) (byte-laws allNames names-accepted) _ _ _
+        (rounds-few slaves allNames names-accepted few) (comparisons-few slaves allNames few) all-fit (startOn file, p) a h)
         ∙ none _
 
     allowed : Allowed allNames (startOn file) p (step arguments)
@@ -170,19 +175,19 @@ module _ (slaves : List Named) (few : mostRounds * length slaves + endingRounds 
     unfolding runCalls accountAfter accountCall startOn
     tied-on =
         rw (none (a .slaves), step-plain allNames (startOn file) p buffer) at
-        (all-calls State allNames viewIn Good (Allowed allNames) (callOn allNames) (byte-laws allNames names-accepted) _ _ _
-        (rounds-few slaves allNames names-accepted few) (comparisons-few slaves allNames few) (startOn file, p) a
+        (all-calls State allNames viewIn Good AwakeIn (Allowed allNames) (callOn allNames) (byte-laws allNames names-accepted) _ _ _
+        (rounds-few slaves allNames names-accepted few) (comparisons-few slaves allNames few) all-fit (startOn file, p) a
         (step arguments ∷ []) h (one-more allowed all-made))
 
     long-on : shortAnswer (roundSent file (sent (nextRound allNames p)) buffer .1) ≡ false
     unfolding startOn shortAnswer
     long-on =
-        rw (round-is file buffer (h .good .bytes) (h .good .accepted) long (may-send (tie-sendable (h .tie) m)))
+        rw (round-is file buffer (h .good .bytes) (h .good .accepted) long (may-send (tie-sendable all-fit (h .tie) m)))
         (buffer-long _ _ buffer long)
 
     made-on : isMade (done (madeBy (roundSent file (sent (nextRound allNames p)) buffer .0))) ≡ true
     unfolding startOn shortAnswer madeBy isMade
-    made-on = rw (round-is file buffer (h .good .bytes) (h .good .accepted) long (may-send (tie-sendable (h .tie) m)))
+    made-on = rw (round-is file buffer (h .good .bytes) (h .good .accepted) long (may-send (tie-sendable all-fit (h .tie) m)))
 
     steps : Steps slaves (stepOn file p allNames buffer) (oneRound a)
     steps =
@@ -205,6 +210,7 @@ module _ (slaves : List Named) (few : mostRounds * length slaves + endingRounds 
           after-step = rw (g .same) (h .after-step);
           counted = rw (g .same) (h .counted);
           spent = r .spent;
+          among = r .among (h .among);
         })
 
     -- between passes the comparisons are those of the passes done
@@ -231,6 +237,7 @@ module _ (slaves : List Named) (few : mostRounds * length slaves + endingRounds 
           after-step = append-assoc (t .lines) _ (lines (toGive b)) ∙ ap (λ (x : List ℕ). t .lines ++ x) (line g) ∙ h .after-step;
           counted = omega (arith, h .counted, ap length (g .next));
           spent = r .spent;
+          among = r .among (h .among);
         })
 
     after-step-round : Gives a b → Beside slaves (stateAfter t s) b
@@ -253,7 +260,7 @@ record Complete (slaves : List Named) (t : ListState) : Type 0 where
   rounds : t .run .rounds ≡ roundsFor slaves allNames
   named : namesIn (decode (t .file)) ≡ namesAfter slaves allNames
 
-module _ (slaves : List Named) (few : mostRounds * length slaves + endingRounds + 256 < countLimit) where
+module _ (slaves : List Named) (few : mostRounds * length slaves + endingRounds + 257 < countLimit) where
   complete : {t : ListState} {a : Account} → Beside slaves t a → (t .run .end ≡ running → ⊥) → Complete slaves t
   unfolding comparisonsOf viewIn startOn lines
   complete {t} {a} h n =
@@ -279,7 +286,7 @@ module _ (slaves : List Named) (few : mostRounds * length slaves + endingRounds 
       byCase (eqb (t .run .end) running)
       (λ y.
       let m : t .run .end ≡ running = eqb-true _ _ y in
-      let r = account-round (h .tied .tally) (sym (tie-agree (h .tied .tie) .end) ∙ m) in
+      let r = account-round (h .tied .tally) (sym (tie-agree (h .tied .tie) .end) ∙ m) (h .among) in
       rw y (all-steps n (listStep t) (oneRound a) (one-step-beside slaves few h m r) (omega (arith, r .rounds))))
       (λ y. rw y (complete h (eqb-false _ _ y)))
 
@@ -298,6 +305,7 @@ module _ (file : List ℕ) (b : Bytes file) (g : fileGround file ≡ 0) where
       let s : Slaves slaves = legal-slaves (decode file) legal in
       record {
         good = record { bytes = b; accepted = g; apart = λ h. clash h refl };
+        awake = λ some. absurd (some (unfold fresh in refl));
         tie =
             fresh-at (viewIn (startOn file)) allNames (falling (unnamedAmong slaves)) slaves (namesHeld slaves)
             (start-facts slaves allNames s names-accepted) (names-of-view (decode file));
@@ -314,9 +322,10 @@ module _ (file : List ℕ) (b : Bytes file) (g : fileGround file ≡ 0) where
         after-step = refl;
         counted = zero-add _;
         spent = nothing-left (falling (unnamedAmong slaves)) (namesHeld slaves) allNames;
+        among = omega arith;
       }
 
-  -- a file has at most 32 slaves, so 136 rounds for each, 4 that end the run and one for each of 254 names are enough
+  -- a file has at most 32 slaves, so the extra read, 136 rounds for each, 4 that end the run and one for each of 254 names are enough
   rounds-most : roundsFor slaves allNames ≤ mostSteps
   unfolding namesIn
   rounds-most =
@@ -324,6 +333,7 @@ module _ (file : List ℕ) (b : Bytes file) (g : fileGround file ≡ 0) where
       omega (
         arith,
         sym (rounds-whole slaves allNames),
+        extra-most allNames,
         due-bound (namesHeld slaves) allNames (falling (unnamedAmong slaves)),
         length-falling (unnamedAmong slaves),
         unnamed-most slaves,

@@ -10,10 +10,11 @@ use lib.Dec.{eqb}
 use borrow.Author.Tests.{eqb-true, eqb-false, ne-eqb}
 use Rattle.file.specs.Rules.Bytes.{All, All.allEmpty, All.allNext as also}
 use Rattle.file.specs.Rules.Cluster.{unnamed, broadcast}
+use Rattle.file.specs.Rules.Order.{both}
 use Rattle.file.specs.Rules.Grounds.{isAmong, hasRepeat}
-use Rattle.file.proofs.Order.{byCase, clash, either-false}
+use Rattle.file.proofs.Order.{byCase, clash, both-right, either-false}
 use Rattle.naming.specs.Rules.Run.{unfitName}
-use Rattle.naming.specs.Rules.Account.{Named, Account, endWith, give, passOn, oneRound, namingRounds, namingComparisons, endingRounds}
+use Rattle.naming.specs.Rules.Account.{Named, Account, endWith, give, passOn, extra, oneRound, namingRounds, namingComparisons, endingRounds}
 use Rattle.naming.specs.Rules.Figures.{freeNames, givings}
 use Rattle.naming.proofs.Rounds.{account, goes-on, taken-round, giving-round, ending-round}
 use Rattle.naming.proofs.Start.{Names}
@@ -81,9 +82,10 @@ pub data Gives (a b : Account) : Type 0 where
   none-given : NoneGiven a b → Gives a b
   one-given : OneGiven a b → Gives a b
 
--- and what any round does: one more is made, and where it ends the run no name is left to be given
+-- and what any round does: one more is made, those of the pass stay among them, and where it ends the run no name is left to be given
 pub record RoundMade (a b : Account) : Type 0 where
   pub rounds : b .rounds ≡ suc (a .rounds)
+  pub among : a .k ≤ a .rounds → b .k ≤ b .rounds
   pub spent : (b .end ≡ 0 → ⊥) → toGive b ≡ []
   pub gives : Gives a b
 
@@ -97,26 +99,26 @@ module _ (n : ℕ) (ns : List ℕ) (slaves : List Named) (held : List ℕ) (roun
   goes-gives : (ws : List ℕ) → (LastFor ws k → ⊥) →
       RoundMade (account (n ∷ ns) ws slaves held 0 rounds done k) (account (n ∷ ns) ws slaves held 0 (suc rounds) done (suc k))
   unfolding toGive
-  goes-gives ws l = record { rounds = refl; spent = λ f. absurd (f refl); gives = none-given (record { within = λ g. l (g .1); same = refl; compared = refl }) }
+  goes-gives ws l = record { rounds = refl; among = λ h. omega arith; spent = λ f. absurd (f refl); gives = none-given (record { within = λ g. l (g .1); same = refl; compared = refl }) }
 
   taken-gives : (ws : List ℕ) → isAmong n held ≡ true → k < 1 →
       RoundMade (account (n ∷ ns) ws slaves held 0 rounds done k) (account ns ws slaves held (endWith ns) (suc rounds) (done + 0) 0)
   unfolding toGive freeNames
   taken-gives ws t w =
-      record { rounds = refl; spent = nothing-left ws held ns; gives = none-given (record { within = λ g. clash t (g .0); same = rw t; compared = omega arith }) }
+      record { rounds = refl; among = λ h. omega arith; spent = nothing-left ws held ns; gives = none-given (record { within = λ g. clash t (g .0); same = rw t; compared = omega arith }) }
 
   giving-gives : (p : ℕ) (ps : List ℕ) → isAmong n held ≡ false → suc k ≡ namingRounds p →
       RoundMade (account (n ∷ ns) (p ∷ ps) slaves held 0 rounds done k)
       (account ns ps (map (give p n) slaves) held (endWith ns) (suc rounds) (done + namingComparisons) 0)
   unfolding toGive givings freeNames
   giving-gives p ps f e =
-      record { rounds = refl; spent = nothing-left ps held ns; gives = one-given (record { last = (f, e); next = rw f; compared = refl; over = refl }) }
+      record { rounds = refl; among = λ h. omega arith; spent = nothing-left ps held ns; gives = one-given (record { last = (f, e); next = rw f; compared = refl; over = refl }) }
 
   ending-gives : suc k ≡ endingRounds →
       RoundMade (account (n ∷ ns) [] slaves held 0 rounds done k) (account (n ∷ ns) [] slaves held 1 (suc rounds) done (suc k))
   unfolding toGive givings
   ending-gives e =
-      record { rounds = refl; spent = λ f. refl; gives = none-given (record { within = λ g. g .1; same = refl; compared = refl }) }
+      record { rounds = refl; among = λ h. omega arith; spent = λ f. refl; gives = none-given (record { within = λ g. g .1; same = refl; compared = refl }) }
 
   free-gives : (ws : List ℕ) → isAmong n held ≡ false → k < length-of-pass false ws →
       RoundMade (account (n ∷ ns) ws slaves held 0 rounds done k) (passOn (account (n ∷ ns) ws slaves held 0 rounds done k))
@@ -144,6 +146,25 @@ pass-round (in-pass {n = n} {rounds = rounds} {done = done} {k = k} {ns = ns} {w
     (λ f. let w : k < length-of-pass false ws = rw f at (d .within) in free-gives n ns slaves held rounds done k ws f w)
 pass-round (ended d) e = absurd (omega (arith, d .some))
 
-pub account-round : {R C : ℕ} {F : List Named} {a : Account} → Tally R C F a → a .end ≡ 0 → RoundMade a (oneRound a)
+-- the extra read gives no name: no round of the pass is made before it
+none-last : (ws : List ℕ) (k : ℕ) → k ≡ 0 → LastFor ws k → ⊥
+none-last [] k z f = f
+none-last (p ∷ ps) k z f = unfold namingRounds in omega arith
+
+extra-gives : (a : Account) → a .end ≡ 0 → a .rounds ≡ 0 → a .k ≤ a .rounds → RoundMade a (extra a)
+unfolding extra toGive
+extra-gives a e none h =
+    let z : a .k ≡ 0 = omega arith in
+    record {
+      rounds = refl;
+      among = λ h. omega arith;
+      spent = λ f. absurd (f e);
+      gives = none-given (record { within = λ g. none-last (a .waiting) (a .k) z (g .1); same = refl; compared = refl });
+    }
+
+pub account-round : {R C : ℕ} {F : List Named} {a : Account} → Tally R C F a → a .end ≡ 0 → a .k ≤ a .rounds → RoundMade a (oneRound a)
 unfolding oneRound
-account-round t e = pass-round t e
+account-round {a = a} t e h =
+    byCase (both (eqb (a .end) 0) (eqb (a .rounds) 0))
+    (λ y. rw y (extra-gives a e (eqb-true _ _ (both-right _ _ y)) h))
+    (λ y. rw y (pass-round t e))

@@ -15,7 +15,7 @@ use Rattle.file.proofs.Order.{byCase}
 use Rattle.file.specs.Rules.Results.{Result, refused, done}
 use Rattle.cluster.specs.Rules.Bus.{slots}
 use Rattle.cluster.proofs.Rounds.{none-holds}
-use Rattle.naming.specs.Rules.Run.{Position, running, fresh, runGrounds, PassPlace, PassPlace.poll, ask, giveName, giveHigh, giveLow, PassPlace.baptize, least, bit, high, low, reply, placeOf, roundHere, onto, wrote, moveOn, onward, nextName, endAllNamed, passAdvance, advance, lastStep}
+use Rattle.naming.specs.Rules.Run.{Position, running, fresh, runGrounds, PassPlace, PassPlace.poll, ask, giveName, giveHigh, giveLow, PassPlace.baptize, least, bit, high, low, reply, placeOf, roundHere, onto, wrote, moveOn, onward, nextName, endAllNamed, passAdvance, isExtra, countRaised, advance, lastStep}
 use Rattle.naming.specs.Rules.Rounds.{RunRound, RunRound.poll as pollOf, writeName, writeHigh, writeLow, compare, RunRound.baptize as baptizeAll}
 use Rattle.naming.specs.Rules.Step.{StepDone, ended, made, stepGround, stepMade, stepOn}
 use Rattle.naming.specs.Inner.Answers.{positionOf, steppedOf, runAfter}
@@ -30,6 +30,8 @@ use Rattle.naming.specs.declared.run.Stepped.the-variants as steps
 use Rattle.naming.specs.declared.position.RunPosition.{RunPosition}
 use Rattle.naming.proofs.RunLaws.{Runs, runs}
 use Rattle.naming.proofs.PositionLaws.{last-place, last-real, onto-same, stays}
+use Rattle.naming.proofs.RoundsMade.{some-counted, moved-counts}
+use Rattle.naming.proofs.PassRounds.{onto-counts}
 use Rattle.listing_text.specs.Rules.Text.{nameLine, totalsLine, refusedLine}
 use Rattle.listing_text.specs.Inner.Puts.{Puts, PutsAtMost}
 use Rattle.listing_text.specs.Rules.Text.{lineSize, totalsSize}
@@ -69,9 +71,9 @@ wrote-same (writeLow l) p = (refl, refl)
 wrote-same compare p = (refl, refl)
 wrote-same baptizeAll p = (refl, refl)
 
-advance-rises : (names : List ℕ) (p : Position) (b : Bool) → Rises p (advance names p b)
-unfolding advance passAdvance
-advance-rises names p b =
+pass-rises : (names : List ℕ) (p : Position) (b : Bool) → Rises p (passAdvance names p b)
+unfolding passAdvance
+pass-rises names p b =
     let first = onto-same names p in
     let same = wrote-same (roundHere names (onto names p)) (onto names p) in
     let up = rises (placeOf (onto names p .step)) (length names) (wrote (roundHere names (onto names p)) (onto names p)) b in
@@ -87,16 +89,30 @@ advance-rises names p b =
     let z = up .further in
     record { compared = omega arith; slowly = omega arith; further = omega arith }
 
+advance-rises : (names : List ℕ) (p : Position) (b : Bool) → Rises p (advance names p b)
+unfolding advance
+advance-rises names p b = byCase (isExtra p) (λ e. rw e extra-rises) (λ e. rw e (pass-rises names p b))
+  where
+    extra-rises : Rises p (countRaised p)
+    extra-rises = unfold countRaised in record { compared = omega arith; slowly = omega arith; further = omega arith }
+
+-- a round made is counted
+advance-counts : (names : List ℕ) (p : Position) (b : Bool) → 0 < advance names p b .rounds
+unfolding advance passAdvance
+advance-counts names p b =
+    byCase {P = 0 < advance names p b .rounds} (isExtra p) (λ e. rw e (unfold countRaised in omega arith))
+    (λ e. rw e (rw (onto-counts names _ .0) (moved-counts _ _ _ b)))
+
 -- the last round of a pass raises the index
 baptized : {l : PassPlace} (count : ℕ) (p : Position) (b : Bool) → l ≡ baptize → moveOn l count p b .index ≡ suc (p .index)
 unfolding moveOn nextName
 baptized count p b e = rw e
 
-last-names : (names : List ℕ) (p : Position) (b : Bool) → p .step ≡ lastStep → advance names p b .index ≡ suc (p .index)
+last-names : (names : List ℕ) (p : Position) (b : Bool) → 0 < p .rounds → p .step ≡ lastStep → advance names p b .index ≡ suc (p .index)
 unfolding advance passAdvance
-last-names names p b e =
+last-names names p b c e =
     let here : onto names p ≡ p = stays names p (last-real names p e) in
-    rw here
+    rw (some-counted p c, here)
     (onto-same names (moveOn (placeOf (p .step)) (length names) (wrote (roundHere names p) p) b) .1
     ∙ baptized (length names) (wrote (roundHere names p) p) b (last-place e) ∙ ap suc (wrote-same (roundHere names p) p .1))
 
@@ -135,8 +151,9 @@ made-moved f buffer names p {mask} {q} {new} {file} e =
     let z : _≡_ {A = ℕ} 0 1 = cc in absurd (omega arith))
 
 pub moves :
-    (f buffer : List ℕ) (p : Position) {mask : ℕ} {q : Position} {new file : List ℕ} → (done (made mask), q, new, file) ≡ stepOn f p allNames buffer → Moves p q
-moves f buffer p {mask} {q} e =
+    (f buffer : List ℕ) (p : Position) {mask : ℕ} {q : Position} {new file : List ℕ} → (p .rounds ≡ 0 → p .step ≡ 0) →
+    (done (made mask), q, new, file) ≡ stepOn f p allNames buffer → Moves p q
+moves f buffer p {mask} {q} begins e =
     let m = made-moved f buffer allNames p e in
     let up : Rises p q = rw (m .moved) (advance-rises allNames p (m .heard)) in
     record {
@@ -144,7 +161,10 @@ moves f buffer p {mask} {q} e =
       compared = up .compared;
       small = let few = m .runs-on .goes .counts .fewer in let slow = up .slowly in omega arith;
       further = up .further;
-      named = λ l. ap (λ (x : Position). x .index) (m .moved) ∙ last-names allNames p (m .heard) l;
+      named = λ l.
+          let later : p .rounds ≡ 0 → ⊥ = λ z. omega (arith, begins z, l) in
+          ap (λ (x : Position). x .index) (m .moved) ∙ last-names allNames p (m .heard) (omega arith) l;
+      made = rw (m .moved) (advance-counts allNames p (m .heard));
     }
 
 -- ---- the text after what was put
@@ -181,7 +201,14 @@ module _ {state : ListProgress} {next : RunPosition} {old : List ℕ} (room : Ro
               rest = refl;
               onward = omega arith;
               same = refl;
-              room = record { counted = omega arith; few = omega arith; most = room .most; within = room .within; long = room .long };
+              room = record {
+                counted = omega arith;
+                few = omega arith;
+                most = room .most;
+                within = room .within;
+                long = room .long;
+                begins = λ z. absurd (omega (arith, m .made, z));
+              };
             });
       }
 
@@ -212,6 +239,7 @@ module _ {state : ListProgress} {next : RunPosition} {old : List ℕ} (room : Ro
                 most = omega arith;
                 within = omega arith;
                 long = rw (h .puts .room) g;
+                begins = λ z. absurd (omega (arith, m .made, z));
               };
             });
       }
@@ -242,8 +270,8 @@ module _
   unfolding steppedOf runAfter
   made-by = rw (is, all) at e
 
-  pub made-moves : Moves p (positionOf next)
-  made-moves = moves f answer p made-by
+  pub made-moves : (p .rounds ≡ 0 → p .step ≡ 0) → Moves p (positionOf next)
+  made-moves begins = moves f answer p begins made-by
 
 module _
     {state : ListProgress} (f answer text : List ℕ) {names new file : List ℕ} {r : Stepped} (all : names ≡ allNames)
@@ -361,8 +389,19 @@ module _ {wanted : ListState} {old : List ℕ} {at : ℕ} {state : ListProgress}
 
 -- ---- the whole listing
 
-pub start-room : (run : RunPosition) (text : List ℕ) → textSize ≤ length text → Room (record { run = run; begun = 0; given = 0; at = 0 }) (length text)
-start-room run text h = record { counted = omega arith; few = omega arith; most = omega arith; within = omega arith; long = h }
+pub start-room :
+    (run : RunPosition) (names text : List ℕ) → positionOf run ≡ fresh names → textSize ≤ length text →
+    Room (record { run = run; begun = 0; given = 0; at = 0 }) (length text)
+unfolding fresh
+start-room run names text e h =
+    record {
+      counted = omega arith;
+      few = omega arith;
+      most = omega arith;
+      within = omega arith;
+      long = h;
+      begins = λ z. ap (λ (p : Position). p .step) e;
+    }
 
 pub totals-fit : {state : ListProgress} {size : ℕ} → Room state size → state .at + totalsSize ≤ size
 totals-fit r =

@@ -5,19 +5,21 @@ use Prim.Native.Nat.{ℕ, suc, _+_, _/_, _%_, _^_, _≤_, _<_}
 use mathlib.Core.Path.{_≡_, refl, sym, ap, _∙_}
 use mathlib.Core.Logic.{_≢_}
 use mathlib.Core.List.{List, [], _∷_, map}
-use mathlib.Core.Bool.{false}
+use mathlib.Core.Bool.{true, false}
 use native.Mathlib.Omega.{arith}
-use lib.ListN.{length}
+use lib.ListN.{length, getD}
 use lib.Dec.{eqb}
-use borrow.Author.Tests.{ne-eqb, le-ltb, lt-leb, eqb-true, eqb-false}
+use borrow.Author.Tests.{eq-eqb, ne-eqb, le-ltb, lt-leb, eqb-true, eqb-false}
+use Rattle.file.specs.Rules.Bytes.{All, allEmpty, allNext as also}
+use Rattle.file.specs.Rules.Order.{both}
 use Rattle.file.specs.Rules.Grounds.{isAmong}
 use Rattle.file.proofs.Bytes.{all-first}
-use Rattle.file.proofs.Order.{byCase, either-false, both-false-left, both-false-right}
-use Rattle.naming.specs.Inner.View.{SlaveView, changeAll, answers}
+use Rattle.file.proofs.Order.{byCase, both-true, either-false, both-false-left, both-false-right}
+use Rattle.naming.specs.Inner.View.{SlaveView, viewUnnamed, unnamedChange, change, changeAll, answers}
 use Rattle.naming.specs.Rules.Rounds.{RunRound, RunRound.poll as pollOf, writeName, writeHigh, writeLow, compare, RunRound.baptize as baptizeAll, half}
-use Rattle.naming.specs.Rules.Run.{Position, running, namesUsedUp, PassPlace, high, low, reply, roundAt, isNeedless, passRound, nextRound, passAdvance, advance, unfitPosition, countLimit, lastStep, bits, tried}
+use Rattle.naming.specs.Rules.Run.{Position, running, namesUsedUp, PassPlace, high, low, reply, placeOf, roundAt, roundHere, isRepeated, isNeedless, passRound, isExtra, countRaised, passAdvance, nextRound, advance, unfitPosition, countLimit, lastStep, bits, tried}
 use Rattle.naming.specs.Inner.PassPlaces.{stepOf}
-use Rattle.naming.specs.Rules.Account.{namingComparisons, Named, Account, StepArguments, FrameArguments, Call, step, frame, argumentsGround, accountCall, accountAfter, passOn, oneRound, comparisonsOf}
+use Rattle.naming.specs.Rules.Account.{namingComparisons, Named, Account, StepArguments, FrameArguments, Call, step, frame, argumentsGround, accountCall, accountAfter, passOn, extra, oneRound, comparisonsOf}
 use Rattle.naming.proofs.Places.{LegalPlace, inner, at-poll, at-ask, at-name, at-high, at-low, at-baptize, step-lt}
 use Rattle.naming.proofs.Walk.{compared-most, count-past}
 use Rattle.naming.proofs.Search.{tried-small}
@@ -39,21 +41,23 @@ pub data Sendable : RunRound → Type 0 where
   of-baptize : Sendable baptizeAll
 
 -- a state after a step's round, and one after another call
-pub record Stepped (S : Type 0) (names : List ℕ) (view : S → List SlaveView) (Good : S → Type 0) (s : S) (p : Position) (after : S × Position) :
-    Type 0 where
+pub record Stepped
+    (S : Type 0) (names : List ℕ) (view : S → List SlaveView) (Good Awake : S → Type 0) (s : S) (p : Position) (after : S × Position) : Type 0 where
   pub good : Good (after .0)
+  pub awake : Awake (after .0)
   pub views : view (after .0) ≡ changeAll (nextRound names p) (view s)
   pub moved : after .1 ≡ advance names p (answers (nextRound names p) (view s))
 
-pub record Left (S : Type 0) (view : S → List SlaveView) (Good : S → Type 0) (s : S) (p : Position) (after : S × Position) : Type 0 where
+pub record Left (S : Type 0) (view : S → List SlaveView) (Good Awake : S → Type 0) (s : S) (p : Position) (after : S × Position) : Type 0 where
   pub good : Good (after .0)
+  pub awake : Awake s → Awake (after .0)
   pub same : Same (view s) (view (after .0))
   pub stays : after .1 ≡ p
 
--- a state of the file (with what else decides which calls are permitted), the view of it, what holds of it throughout, the calls
--- that are permitted, and what a call makes of file and run, over a list of names
+-- a state of the file (with what else decides which calls are permitted), the view of it, what holds of it throughout, that nobody
+-- sleeps in it, the calls that are permitted, and what a call makes of file and run, over a list of names
 pub record Laws
-    (S : Type 0) (names : List ℕ) (view : S → List SlaveView) (Good : S → Type 0) (Allowed : S → Position → Call → Type 0)
+    (S : Type 0) (names : List ℕ) (view : S → List SlaveView) (Good Awake : S → Type 0) (Allowed : S → Position → Call → Type 0)
     (call : S → Position → Call → S × Position) : Type 0 where
   -- a step that its own arguments refuse, and a step of an ended run, alter nothing
   pub turned :
@@ -62,15 +66,15 @@ pub record Laws
   pub idle :
       (s : S) (p : Position) (arguments : StepArguments) → Good s → argumentsGround (map namedOf (view s)) arguments ≡ 0 →
       unfitPosition names p ≡ false → (p .end ≡ running → ⊥) → call s p (step arguments) ≡ (s, p)
-  -- any other step makes its round and moves on by the answer
+  -- any other step makes its round and moves on by the answer; slaves may sleep before the run's first round, the extra read, alone
   pub steps :
-      (s : S) (p : Position) (arguments : StepArguments) → Good s → Allowed s p (step arguments) →
+      (s : S) (p : Position) (arguments : StepArguments) → Good s → ((p .rounds ≡ 0 → ⊥) → Awake s) → Allowed s p (step arguments) →
       argumentsGround (map namedOf (view s)) arguments ≡ 0 → unfitPosition names p ≡ false → p .end ≡ running →
-      Sendable (nextRound names p) → Stepped S names view Good s p (call s p (step arguments))
-  -- a frame of others, refused or not, leaves each slave's names, and an unnamed slave whole, and the run
+      Sendable (nextRound names p) → Stepped S names view Good Awake s p (call s p (step arguments))
+  -- a frame of others, refused or not, leaves each slave's names, and an unnamed slave whole, and the run, and puts nobody to sleep
   pub others :
       (s : S) (p : Position) (arguments : FrameArguments) → Good s → Allowed s p (frame arguments) →
-      Left S view Good s p (call s p (frame arguments))
+      Left S view Good Awake s p (call s p (frame arguments))
 
 -- ---- the tie, call by call
 
@@ -92,15 +96,72 @@ tie-pass {names} {vs} (going {l = l} {index = index} {step = j} {value = value} 
     (settle (moves names vs l index j value rounds comparisons h l′ n ns ws slaves held done k (i .legal) i (sym (needless-here i) ∙ real)))
 tie-pass (over o) m = absurd (omega (arith, o .some))
 
+-- the extra round: a poll changes no view, and the reply is ignored
+pub polled : (n : ℕ) (vs : List SlaveView) → changeAll (pollOf n) vs ≡ vs
+unfolding changeAll
+polled n [] = refl
+polled n (v ∷ vs) = rw (one v, polled n vs)
+  where
+    one : (v : SlaveView) → change (pollOf n) v ≡ v
+    one v = byCase (viewUnnamed v) (λ e. unfold change unnamedChange in rw e) (λ e. unfold change in rw e)
+
+-- which writes are needless does not depend on the rounds made
+needless-raised : (names : List ℕ) (p : Position) → isNeedless names p ≡ isNeedless names (countRaised p)
+unfolding isNeedless roundHere countRaised
+needless-raised names p = rw (repeats (roundAt (placeOf (p .step)) (getD names (p .index) 0) (p .value)))
+  where
+    repeats : (r : RunRound) → isRepeated r p ≡ isRepeated r (countRaised p)
+    repeats (pollOf n) = unfold isRepeated in refl
+    repeats (writeName n) = unfold isRepeated in refl
+    repeats (writeHigh h) = unfold isRepeated in refl
+    repeats (writeLow l) = unfold isRepeated in refl
+    repeats compare = unfold isRepeated in refl
+    repeats baptizeAll = unfold isRepeated in refl
+
+tie-extra : {names : List ℕ} {vs : List SlaveView} {p : Position} {a : Account} → Tie names vs p a → p .end ≡ running → Tie names vs (countRaised p) (extra a)
+unfolding countRaised extra
+tie-extra {names} {vs} (going {l = l} {index = index} {step = j} {value = value} {rounds = rounds} {comparisons = comparisons} {h = h} {l′ = l′} {n = n} {done = done} {k = k} {ns = ns} {ws = ws} {held = held} {slaves = slaves} i real) m =
+    let g : At names vs l index j value (suc rounds) comparisons h l′ n ns ws slaves held done k = record {
+      legal = i .legal;
+      facts = i .facts;
+      here = i .here;
+      place = i .place;
+      made = i .made;
+      counted = i .counted;
+      views = i .views;
+      known = i .known;
+      halves = i .halves;
+      heard = i .heard;
+      small = i .small;
+    } in
+    going g (sym (needless-raised names (position running index j value rounds comparisons h l′)) ∙ real)
+tie-extra (over o) m = absurd (omega (arith, o .some))
+
 pub tie-step :
     {names : List ℕ} {vs : List SlaveView} {p : Position} {a : Account} → Tie names vs p a → p .end ≡ running →
     Tie names (changeAll (nextRound names p) vs) (advance names p (answers (nextRound names p) vs)) (oneRound a)
-unfolding nextRound advance oneRound
-tie-step t m = tie-pass t m
+unfolding nextRound advance oneRound isExtra
+tie-step {names} {vs} {p} {a} t m =
+    let ends : eqb (a .end) 0 ≡ true = eq-eqb _ _ (sym (same-end t) ∙ m) in
+    byCase (eqb (p .rounds) 0)
+    (λ e.
+    let counts : eqb (a .rounds) 0 ≡ true = eq-eqb _ _ (sym (same-rounds t) ∙ eqb-true _ _ e) in
+    rw (e, both-true ends counts, polled (getD names 0 0) vs) (tie-extra t m))
+    (λ e.
+    let counts : eqb (a .rounds) 0 ≡ false = ne-eqb _ _ (λ z. eqb-false _ _ e (same-rounds t ∙ z)) in
+    rw (e, both-false-right (eqb (a .end) 0) counts) (tie-pass t m))
+  where
+    same-end : {p : Position} {a : Account} → Tie names vs p a → p .end ≡ a .end
+    same-end (going i real) = refl
+    same-end (over o) = refl
+
+    same-rounds : {p : Position} {a : Account} → Tie names vs p a → p .rounds ≡ a .rounds
+    same-rounds (going i real) = refl
+    same-rounds (over o) = refl
 
 -- an ended account makes no more rounds
 tie-idle : {names : List ℕ} {vs : List SlaveView} {p : Position} {a : Account} → Tie names vs p a → (p .end ≡ running → ⊥) → oneRound a ≡ a
-unfolding oneRound passOn
+unfolding oneRound passOn both
 tie-idle (going i real) n = absurd (n refl)
 tie-idle (over {end = end} o) n = let z : end ≡ 0 → ⊥ = omega (arith, o .some) in rw (ne-eqb end 0 z)
 
@@ -164,9 +225,18 @@ pass-sendable : {names : List ℕ} {vs : List SlaveView} {p : Position} {a : Acc
 pass-sendable (going i real) m = rw (operation-here i real) (sendable-at (i .legal) i)
 pass-sendable (over o) m = absurd (omega (arith, o .some))
 
-pub tie-sendable : {names : List ℕ} {vs : List SlaveView} {p : Position} {a : Account} → Tie names vs p a → p .end ≡ running → Sendable (nextRound names p)
+pub tie-sendable : {names : List ℕ} {vs : List SlaveView} {p : Position} {a : Account} → All Fit names → Tie names vs p a → p .end ≡ running → Sendable (nextRound names p)
 unfolding nextRound
-tie-sendable t m = pass-sendable t m
+tie-sendable {names} {vs} {p} {a} fit t m =
+    byCase (isExtra p) (λ e. rw e (of-poll (first-fit fit (nonempty t m)))) (λ e. rw e (pass-sendable t m))
+  where
+    nonempty : {p : Position} {a : Account} → Tie names vs p a → p .end ≡ running → 0 < length names
+    nonempty (going {index = index} {n = n} {ns = ns} i real) m = omega (arith, length-here names index n ns (i .here))
+    nonempty (over o) m = absurd (omega (arith, o .some))
+
+    first-fit : {l : List ℕ} → All Fit l → 0 < length l → Fit (getD l 0 0)
+    first-fit allEmpty some = absurd (omega arith)
+    first-fit (also b bs) some = b
 
 -- ---- the tally, and ground 17
 
@@ -230,39 +300,40 @@ pub data Permitted (S : Type 0) (Allowed : S → Position → Call → Type 0) (
       {w : S × Position} {c : Call} {cs : List Call} → Allowed (w .0) (w .1) c → Permitted S Allowed call (call (w .0) (w .1) c) cs →
       Permitted S Allowed call w (c ∷ cs)
 
--- what holds between calls: the tie and the tally
+-- what holds between calls: the tie and the tally, and once a round of the run is made nobody sleeps
 pub record Between
-    (S : Type 0) (names : List ℕ) (view : S → List SlaveView) (Good : S → Type 0) (R C : ℕ) (F : List Named) (w : S × Position) (a : Account) :
+    (S : Type 0) (names : List ℕ) (view : S → List SlaveView) (Good Awake : S → Type 0) (R C : ℕ) (F : List Named) (w : S × Position) (a : Account) :
     Type 0 where
   pub good : Good (w .0)
+  pub awake : (w .1 .rounds ≡ 0 → ⊥) → Awake (w .0)
   pub tie : Tie names (view (w .0)) (w .1) a
   pub tally : Tally R C F a
 
 module _
-    (S : Type 0) (names : List ℕ) (view : S → List SlaveView) (Good : S → Type 0) (Allowed : S → Position → Call → Type 0)
-    (call : S → Position → Call → S × Position) (laws : Laws S names view Good Allowed call) (R C : ℕ) (F : List Named) (few : R < countLimit)
-    (fewer : C + namingComparisons < countLimit) where
+    (S : Type 0) (names : List ℕ) (view : S → List SlaveView) (Good Awake : S → Type 0) (Allowed : S → Position → Call → Type 0)
+    (call : S → Position → Call → S × Position) (laws : Laws S names view Good Awake Allowed call) (R C : ℕ) (F : List Named) (few : R < countLimit)
+    (fewer : C + namingComparisons < countLimit) (fits : All Fit names) where
   -- ground 17 never holds
-  pub stays-fit : (w : S × Position) (a : Account) → Between S names view Good R C F w a → unfitPosition names (w .1) ≡ false
+  pub stays-fit : (w : S × Position) (a : Account) → Between S names view Good Awake R C F w a → unfitPosition names (w .1) ≡ false
   stays-fit w a h = tie-fit R C (h .tie) (tally-running (h .tally)) few fewer
 
   running-step :
-      (w : S × Position) (a : Account) (arguments : StepArguments) → Between S names view Good R C F w a → Allowed (w .0) (w .1) (step arguments) →
+      (w : S × Position) (a : Account) (arguments : StepArguments) → Between S names view Good Awake R C F w a → Allowed (w .0) (w .1) (step arguments) →
       argumentsGround (map namedOf (view (w .0))) arguments ≡ 0 → w .1 .end ≡ running →
-      Between S names view Good R C F (call (w .0) (w .1) (step arguments)) (oneRound a)
+      Between S names view Good Awake R C F (call (w .0) (w .1) (step arguments)) (oneRound a)
   running-step w a arguments h allowed free m =
-      record { good = st .good; tie = rw (st .views, st .moved) (tie-step (h .tie) m); tally = tally-round R C F (h .tally) }
+      record { good = st .good; awake = λ _. st .awake; tie = rw (st .views, st .moved) (tie-step (h .tie) m); tally = tally-round R C F (h .tally) }
     where
-      st : Stepped S names view Good (w .0) (w .1) (call (w .0) (w .1) (step arguments))
-      st = laws .steps (w .0) (w .1) arguments (h .good) allowed free (stays-fit w a h) m (tie-sendable (h .tie) m)
+      st : Stepped S names view Good Awake (w .0) (w .1) (call (w .0) (w .1) (step arguments))
+      st = laws .steps (w .0) (w .1) arguments (h .good) (h .awake) allowed free (stays-fit w a h) m (tie-sendable fits (h .tie) m)
 
   idle-step :
-      (w : S × Position) (a : Account) (arguments : StepArguments) → Between S names view Good R C F w a →
+      (w : S × Position) (a : Account) (arguments : StepArguments) → Between S names view Good Awake R C F w a →
       argumentsGround (map namedOf (view (w .0))) arguments ≡ 0 → (w .1 .end ≡ running → ⊥) →
-      Between S names view Good R C F (call (w .0) (w .1) (step arguments)) (oneRound a)
+      Between S names view Good Awake R C F (call (w .0) (w .1) (step arguments)) (oneRound a)
   idle-step w a arguments h free n = rw (laws .idle (w .0) (w .1) arguments (h .good) free (stays-fit w a h) n, tie-idle (h .tie) n) h
 
-  one-call : (w : S × Position) (a : Account) (c : Call) → Between S names view Good R C F w a → Allowed (w .0) (w .1) c → Between S names view Good R C F (call (w .0) (w .1) c) (accountCall a c)
+  pub one-call : (w : S × Position) (a : Account) (c : Call) → Between S names view Good Awake R C F w a → Allowed (w .0) (w .1) c → Between S names view Good Awake R C F (call (w .0) (w .1) c) (accountCall a c)
   unfolding accountCall
   one-call w a (step arguments) h allowed =
       let same : argumentsGround (map namedOf (view (w .0))) arguments ≡ argumentsGround (a .slaves) arguments =
@@ -276,12 +347,12 @@ module _
       (λ e. idle-step w a arguments h none (eqb-false _ _ e))))
       (λ f. rw (f, laws .turned (w .0) (w .1) arguments (h .good) (λ z. eqb-false _ _ f (sym same ∙ z))) h)
   one-call w a (frame arguments) h allowed =
-      let o : Left S view Good (w .0) (w .1) (call (w .0) (w .1) (frame arguments)) = laws .others (w .0) (w .1) arguments (h .good) allowed in
-      record { good = o .good; tie = rw (o .stays) (tie-others (o .same) (h .tie)); tally = h .tally }
+      let o : Left S view Good Awake (w .0) (w .1) (call (w .0) (w .1) (frame arguments)) = laws .others (w .0) (w .1) arguments (h .good) allowed in
+      record { good = o .good; awake = λ n. o .awake (h .awake (λ z. n (ap (λ (q : Position). q .rounds) (o .stays) ∙ z))); tie = rw (o .stays) (tie-others (o .same) (h .tie)); tally = h .tally }
 
   pub all-calls :
-      (w : S × Position) (a : Account) (cs : List Call) → Between S names view Good R C F w a → Permitted S Allowed call w cs →
-      Between S names view Good R C F (runCalls S call w cs) (accountAfter a cs)
+      (w : S × Position) (a : Account) (cs : List Call) → Between S names view Good Awake R C F w a → Permitted S Allowed call w cs →
+      Between S names view Good Awake R C F (runCalls S call w cs) (accountAfter a cs)
   unfolding runCalls accountAfter
   all-calls w a [] h all-made = h
   all-calls w a (c ∷ cs) h (one-more allowed rest) =

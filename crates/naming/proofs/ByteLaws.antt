@@ -10,20 +10,21 @@ use lib.ListN.{getD}
 use lib.Dec.{eqb}
 use borrow.Author.Tests.{eqb-true, eqb-false, ne-eqb, not-true}
 use Rattle.file.specs.Rules.Results.{done}
-use Rattle.file.specs.Rules.Bytes.{Bytes}
+use Rattle.file.specs.Rules.Bytes.{Bytes, All}
 use Rattle.file.specs.Rules.Order.{firstOf, both}
 use Rattle.file.specs.Rules.Cluster.{Slave, Cluster, bytesIn, configuration, physicalName, logicalName, logicalNames, unnamed, broadcast, fileNumberOf, operationOf, pb2Of, readOperation, writeOperation, executeOperation}
 use Rattle.file.specs.Rules.Decode.{decode}
 use Rattle.file.specs.Rules.Grounds.{fileGround}
 use Rattle.file.specs.Inner.Accepted.{Becomes}
-use Rattle.file.proofs.Order.{byCase, clash, both-left, both-right, both-false-left, either-next, first-none, first-next, first-end, first-alike}
+use Rattle.file.proofs.Order.{byCase, clash, both-left, both-right, both-false-left, both-false-right, either-next, first-none, first-next, first-end, first-alike}
 use Rattle.file.proofs.Accepted.{encode-bytes}
 use Rattle.frame.specs.Rules.Fireworks.{Round, multipartner, msd, msa, noRound}
 use Rattle.frame.specs.Rules.Frames.{between}
 use Rattle.file.specs.Rules.Changes.{withSlaves, withEpoch, withPending}
 use Rattle.cluster.specs.Rules.Bus.{slots}
-use Rattle.cluster.specs.Rules.Slaves.{withAddress, epochRaised, Duty, writing, pendingDuty, dutyBy, executionOf, addresses, addressed, takesWrite, slaveAfter, slavesAfter}
+use Rattle.cluster.specs.Rules.Slaves.{withAddress, epochRaised, Duty, nothing, writing, pendingDuty, dutyBy, executionOf, addresses, addressed, takesWrite, slaveAfter, slavesAfter, fallsAsleep, rested}
 use Rattle.cluster.specs.Rules.Grounds.{shortAnswer, roundBy}
+use Rattle.cluster.specs.Rules.Multipartner.{clusterBelow}
 use Rattle.cluster.specs.Rules.Round.{passedOver, effectOf, frameOn, roundGround, roundOn}
 use Rattle.cluster.specs.Rules.Summary.{Summary, wrongSummary, roundKeepingGround}
 use Rattle.cluster.proofs.SummaryLaws.{given-behind}
@@ -31,7 +32,9 @@ use Rattle.cluster.proofs.Keeping.{keeping-round, keeping-refused, keeping-acce
 use Rattle.cluster.proofs.Rounds.{round-accepted, round-becomes, round-kept, between-bytes}
 use Rattle.cluster.proofs.Kept.{slaveAfter-kept}
 use Rattle.cluster.proofs.Replaced.{write-left, write-keeps-name}
-use Rattle.cluster.proofs.Untouched.{filesOf, Unstored, Leaves, by-nothing, by-read, by-write, below-other, after-other}
+use Rattle.cluster.proofs.Untouched.{filesOf, Unstored, Leaves, by-nothing, by-read, by-write, by-compare, by-baptize, below-other, after-other, rested-other}
+use Rattle.cluster.proofs.Sleep.{rested-awake}
+use Rattle.cluster.specs.Claims.Sleep.{AllAwake}
 use Rattle.naming.specs.Inner.View.{SlaveView, viewOf, view, viewUnnamed}
 use Rattle.naming.specs.Rules.Rounds.{sent}
 use Rattle.naming.specs.Rules.Run.{Position, running, unfitPosition, namesGrounds, runGrounds, nextRound}
@@ -46,7 +49,8 @@ use Rattle.naming.proofs.StepLaws.{step-ended, step-made}
 use Rattle.naming.proofs.StepKeeping.{keeping-step, step-keeping-refused, step-keeping-accepted}
 use Rattle.naming.proofs.Abstract.{Laws, Stepped, Left, Sendable}
 use Rattle.naming.proofs.SlaveViews.{view-alike}
-use Rattle.naming.proofs.StepRound.{Made, round-made}
+use Rattle.naming.proofs.StepRound.{Made, round-made, round-seen, StepSeen, step-seen}
+use Rattle.naming.proofs.SlaveRounds.{slaves-rest}
 
 -- what a round of others may do: leave the configuration, or write record 1 of named slaves
 pub data Harmless : Duty → Type 0 where
@@ -58,6 +62,10 @@ pub record Good (s : State) : Type 0 where
   pub bytes : Bytes (s .file)
   pub accepted : fileGround (s .file) ≡ 0
   pub apart : s .halfway ≡ true → Harmless (pendingDuty (decode (s .file)))
+
+-- nobody sleeps in it
+abbrev pub AwakeIn : State → Type 0
+AwakeIn s = AllAwake (s .file)
 
 unfoldable pub viewIn : State → List SlaveView
 viewIn s = view (decode (s .file))
@@ -103,7 +111,7 @@ module _ (names : List ℕ) (n : Names names) where
       ∙ first-alike 24 _ _ (ap (λ (l : List ℕ). wrongSummary (arguments .summary) l) (held-there s))
       (λ _. first-alike 9 (runGrounds names p) [] refl (λ _. run-ground p fit ∙ sym first-end))
 
-  own-none :
+  pub own-none :
       (s : State) (p : Position) (arguments : StepArguments) → Good s →
       stepKeepingGround (s .file) p names (arguments .summary) (arguments .buffer) ≡ 0 → argumentsGround (map namedOf (viewIn s)) arguments ≡ 0
   unfolding stepKeepingGround argumentsGround
@@ -137,23 +145,26 @@ module _ (names : List ℕ) (n : Names names) where
   closed-step s p arguments g may = rw g at may
 
   running-step :
-      (s : State) (p : Position) (arguments : StepArguments) → Good s → Allowed names s p (step arguments) →
+      (s : State) (p : Position) (arguments : StepArguments) → Good s → ((p .rounds ≡ 0 → ⊥) → AwakeIn s) → Allowed names s p (step arguments) →
       argumentsGround (map namedOf (viewIn s)) arguments ≡ 0 → unfitPosition names p ≡ false → p .end ≡ running →
-      Sendable (nextRound names p) → Stepped State names viewIn Good s p (callOn names s p (step arguments))
+      Sendable (nextRound names p) → Stepped State names viewIn Good AwakeIn s p (callOn names s p (step arguments))
   unfolding callOn viewIn
-  running-step s p arguments good allowed none fit run send =
+  running-step s p arguments good awake allowed none fit run send =
       let buffer : List ℕ = arguments .buffer in
       let k : stepKeepingGround (s .file) p names (arguments .summary) buffer ≡ 0 = arguments-ground s p arguments good fit ∙ none in
       let g : stepGround (s .file) p names buffer ≡ 0 = keeping-step (s .file) p names (arguments .summary) buffer k in
       let long = long-buffer (map namedOf (viewIn s)) arguments none in
       let m : Made (s .file) (nextRound names p) (roundSent (s .file) (sent (nextRound names p)) buffer) =
       round-made (s .file) buffer (good .bytes) (good .accepted) long send in
+      let seen : StepSeen names (s .file) p (roundSent (s .file) (sent (nextRound names p)) buffer) =
+      step-seen names (s .file) p m (λ some. round-seen (s .file) buffer (good .bytes) (good .accepted) long send (awake some)) in
       let closed : s .halfway ≡ false = not-true (s .halfway) (closed-step s p arguments k (allowed .may)) in
       rw (step-keeping-accepted (s .file) p names (arguments .summary) buffer k, step-made (s .file) p names buffer g run)
       (record {
         good = record { bytes = m .bytes; accepted = m .accepted; apart = λ h. clash h closed };
-        views = m .views;
-        moved = rw (m .heard);
+        awake = m .awake;
+        views = seen .views;
+        moved = seen .moved;
       })
 
 -- ---- frames of others
@@ -205,6 +216,19 @@ address-harmless bytes e =
     (λ t. write-named (getD bytes 2 0) (getD bytes 3 0) (getD bytes 4 0) (sym (either-next _ (ap not t)) ∙ e))
     (λ t. leaves (operation-leaves (getD bytes 2 0) (getD bytes 3 0) (getD bytes 4 0) t))
 
+-- an execute of record 4 of 0x08 is none of them, so nobody falls asleep
+leaves-wakes : {n : ℕ} {o : Duty} → Leaves n o → (x : Slave) → fallsAsleep o x ≡ false
+unfolding fallsAsleep
+leaves-wakes by-nothing x = refl
+leaves-wakes by-read x = refl
+leaves-wakes (by-write other) x = refl
+leaves-wakes by-compare x = refl
+leaves-wakes (by-baptize other) x = refl
+
+harmless-wakes : {o : Duty} → Harmless o → (x : Slave) → fallsAsleep o x ≡ false
+harmless-wakes (leaves l) x = leaves-wakes l x
+harmless-wakes (writesNames other) x = unfold fallsAsleep in refl
+
 unstored : Unstored configuration
 unstored h = omega arith
 
@@ -215,7 +239,7 @@ unfolding takesWrite addressed addresses viewUnnamed viewOf
 unaddressed name s other u =
     let own : logicalName s ≡ unnamed = eqb-true _ _ u in
     let differ : eqb unnamed name ≡ false = ne-eqb unnamed name (λ z. other (sym z)) in
-    both-false-left _ (rw (ne-eqb name unnamed other, own, differ) (neither (eqb name broadcast)))
+    both-false-left _ (both-false-right _ (rw (ne-eqb name unnamed other, own, differ) (neither (eqb name broadcast))))
   where
     neither : (b : Bool) → cond b false false ≡ false
     neither true = refl
@@ -244,9 +268,11 @@ module _ (c : Cluster) (bytes : List ℕ) where
       map physicalName (effectOf c msd bytes .after .slaves) ≡ map physicalName (c .slaves) →
       Same (map viewOf (c .slaves)) (map viewOf (effectOf c msd bytes .after .slaves))
   data-same (leaves l) is b names =
-      all-same (effectOf c msd bytes .after) (unfold effectOf epochRaised withEpoch in rw is (after-other l (between bytes) (epochRaised c))) names
+      all-same (effectOf c msd bytes .after) (unfold effectOf epochRaised withEpoch in rw is (rested-other _ configuration (slavesAfter _ (between bytes) (epochRaised c)) ∙ after-other l (between bytes) (epochRaised c))) names
   data-same (writesNames {name} other) is b names =
-      unfold effectOf slavesAfter withSlaves epochRaised withEpoch in rw is (slaves-same name other b (c .slaves))
+      unfold effectOf rested slavesAfter withSlaves epochRaised withEpoch in
+      rw (is, slaves-rest (writing name configuration 1) (map (slaveAfter (writing name configuration 1) (between bytes)) (c .slaves)))
+      (slaves-same name other b (c .slaves))
 
   frame-same : (h : Bool) (round : Round) → permittedFrame h round bytes ≡ true → (h ≡ true → Harmless (pendingDuty c)) → Bytes (between bytes) →
       map physicalName (effectOf c round bytes .after .slaves) ≡ map physicalName (c .slaves) →
@@ -258,11 +284,26 @@ module _ (c : Cluster) (bytes : List ℕ) where
   frame-same true noRound p l b names = clash p refl
   frame-same false (multipartner r) p l b names =
       all-same (effectOf c (multipartner r) bytes .after)
-      (unfold effectOf epochRaised withEpoch in below-other (passedOver c) r (epochRaised c) slots configuration unstored) names
+      (unfold effectOf epochRaised withEpoch in
+      rested-other nothing configuration (clusterBelow (passedOver c) r (epochRaised c) slots) ∙ below-other (passedOver c) r (epochRaised c) slots configuration unstored)
+      names
   frame-same false msd p l b names = clash p refl
   frame-same false msa p l b names =
       all-same (effectOf c msa bytes .after) (unfold effectOf withAddress withPending withEpoch in refl) names
   frame-same false noRound p l b names = clash p refl
+
+  -- nobody falls asleep by it, and all wake by it unless it is an MSA
+  frame-awake : (h : Bool) (round : Round) → permittedFrame h round bytes ≡ true → (h ≡ true → Harmless (pendingDuty c)) →
+      (round ≡ msa → All (λ (x : Slave). x .asleep ≡ 0) (c .slaves)) → All (λ (x : Slave). x .asleep ≡ 0) (effectOf c round bytes .after .slaves)
+  unfolding permittedFrame effectOf
+  frame-awake true (multipartner r) p l up = clash p refl
+  frame-awake true msd p l up = rested-awake (pendingDuty c) (harmless-wakes (l refl)) _
+  frame-awake true msa p l up = clash p refl
+  frame-awake true noRound p l up = clash p refl
+  frame-awake false (multipartner r) p l up = rested-awake nothing (λ x. unfold fallsAsleep in refl) _
+  frame-awake false msd p l up = clash p refl
+  frame-awake false msa p l up = unfold withAddress withPending withEpoch in up refl
+  frame-awake false noRound p l up = clash p refl
 
   -- and what is pending when its round is half done
   next-harmless : (h : Bool) (mask : ℕ) (round : Round) → permittedFrame h round bytes ≡ true → halfwayAfter h (done mask) round ≡ true →
@@ -299,6 +340,13 @@ module _ (names : List ℕ) (s : State) (p : Position) (arguments : FrameArgumen
       frame-same (decode (s .file)) bytes (s .halfway) (roundBy bytes) may (good .apart) (between-bytes b)
       (unfold frameOn in round-kept (s .file) bytes buffer b g .names)
 
+  awake-after : Bytes bytes → roundGround (s .file) bytes buffer ≡ 0 → permittedFrame (s .halfway) (roundBy bytes) bytes ≡ true → (roundBy bytes ≡ msa → AwakeIn s) →
+      AllAwake (roundOn (s .file) bytes buffer .2)
+  unfolding frameOn
+  awake-after b g may up =
+      rw (round-becomes (s .file) bytes buffer (good .bytes) b g .decoded)
+      (frame-awake (decode (s .file)) bytes (s .halfway) (roundBy bytes) may (good .apart) up)
+
   frame-pending : roundGround (s .file) bytes buffer ≡ 0 → permittedFrame (s .halfway) (roundBy bytes) bytes ≡ true →
       halfwayAfter (s .halfway) (roundOn (s .file) bytes buffer .0) (roundBy bytes) ≡ true →
       Harmless (pendingDuty (frameOn (decode (s .file)) bytes .after))
@@ -307,7 +355,7 @@ module _ (names : List ℕ) (s : State) (p : Position) (arguments : FrameArgumen
       next-harmless (decode (s .file)) bytes (s .halfway) _ (roundBy bytes) may (rw (round-accepted (s .file) bytes buffer g) at h)
 
   accepted-frame : Bytes bytes → roundKeepingGround (s .file) summary bytes buffer ≡ 0 → permittedFrame (s .halfway) (roundBy bytes) bytes ≡ true →
-      Left State viewIn Good s p (callOn names s p (frame arguments))
+      Left State viewIn Good AwakeIn s p (callOn names s p (frame arguments))
   unfolding callOn viewIn
   accepted-frame b k may =
       let g : roundGround (s .file) bytes buffer ≡ 0 = keeping-round (s .file) summary bytes buffer k in
@@ -319,25 +367,35 @@ module _ (names : List ℕ) (s : State) (p : Position) (arguments : FrameArgumen
           accepted = after .accepted;
           apart = λ h. rw (after .decoded) (frame-pending g may h);
         };
+        awake = λ up. awake-after b g may (λ _. up);
         same = rw (after .decoded) (frame-views b g may);
         stays = refl;
       })
 
-  any-frame : Allowed names s p (frame arguments) → Left State viewIn Good s p (callOn names s p (frame arguments))
+  frame-of : OfBytes (frame arguments) → Bytes bytes
+  frame-of (of-frame b) = b
+
+  accepted-may : roundKeepingGround (s .file) summary bytes buffer ≡ 0 → permittedCall names s p (frame arguments) ≡ true → permittedFrame (s .halfway) (roundBy bytes) bytes ≡ true
+  unfolding permittedCall
+  accepted-may k may = rw k at may
+
+  any-frame : Allowed names s p (frame arguments) → Left State viewIn Good AwakeIn s p (callOn names s p (frame arguments))
   any-frame allowed =
       byCase (eqb (roundKeepingGround (s .file) summary bytes buffer) 0)
-      (λ t. accepted-frame (frame-of (allowed .bytes)) (eqb-true _ _ t) (accepted-may t (allowed .may)))
-      (λ f. rw (refused-frame (eqb-false _ _ f)) (record { good = good; same = same-refl (viewIn s); stays = refl }))
-    where
-      frame-of : OfBytes (frame arguments) → Bytes bytes
-      frame-of (of-frame b) = b
+      (λ t. let k = eqb-true _ _ t in accepted-frame (frame-of (allowed .bytes)) k (accepted-may k (allowed .may)))
+      (λ f. rw (refused-frame (eqb-false _ _ f)) (record { good = good; awake = λ up. up; same = same-refl (viewIn s); stays = refl }))
 
-      accepted-may : eqb (roundKeepingGround (s .file) summary bytes buffer) 0 ≡ true → permittedCall names s p (frame arguments) ≡ true → permittedFrame (s .halfway) (roundBy bytes) bytes ≡ true
-      accepted-may t may = unfold permittedCall in (rw t at may)
+  -- one that is accepted and no MSA wakes all
+  pub frame-wakes : Allowed names s p (frame arguments) → roundKeepingGround (s .file) summary bytes buffer ≡ 0 → roundBy bytes ≢ msa →
+      AwakeIn (callOn names s p (frame arguments) .0)
+  unfolding callOn
+  frame-wakes allowed k other =
+      rw (keeping-accepted (s .file) summary bytes buffer k)
+      (awake-after (frame-of (allowed .bytes)) (keeping-round (s .file) summary bytes buffer k) (accepted-may k (allowed .may)) (λ e. absurd (other e)))
 
 -- ---- the laws
 
-pub byte-laws : (names : List ℕ) → Names names → Laws State names viewIn Good (Allowed names) (callOn names)
+pub byte-laws : (names : List ℕ) → Names names → Laws State names viewIn Good AwakeIn (Allowed names) (callOn names)
 byte-laws names n =
     record {
       turned = refused-step names n;

@@ -9,7 +9,8 @@ use Rattle.naming.specs.Claims.Throughout.{Throughout}
 use Rattle.naming.specs.Claims.Permitted.{PermittedExactly}
 use Rattle.naming.specs.Claims.PermittedRounds.{RoundsFit, EachMultipartner, MayNotAskExactly, BarredMsa, LoneMsa, LoneMsd}
 use Rattle.naming.specs.Claims.StepFrames.{StepsAreFrames}
-use Rattle.naming.specs.Claims.RoundsMade.{MovesOn, Stands}
+use Rattle.naming.specs.Claims.RoundsMade.{MakesExtra, MovesOn, Stands}
+use Rattle.naming.specs.Claims.Sleep.{StepWakes, NoRoundWakesNobody, StaysAwake, CountedAwake}
 use Rattle.naming.proofs.Cases.{marked-cases}
 use Rattle.naming.proofs.OverBytes.{demand-3, throughout}
 use Rattle.naming.proofs.StepLaws.{step-edition}
@@ -22,8 +23,9 @@ use Rattle.naming.proofs.HeldOnce.{stays-loadable}
 use Rattle.naming.proofs.PermittedExactly.{permitted-exactly}
 use Rattle.naming.proofs.PermittedRounds.{rounds-fit, each-multipartner, may-not-ask-exactly, barred-msa, lone-msa, lone-msd}
 use Rattle.naming.proofs.StepFrames.{steps-are-frames}
-use Rattle.naming.proofs.RoundsMade.{moves-on, stands}
+use Rattle.naming.proofs.RoundsMade.{makes-extra, moves-on, stands}
 use Rattle.naming.proofs.PassRounds.{passes-made}
+use Rattle.naming.proofs.Sleep.{step-wakes, no-round-wakes-nobody, stays-awake, counted-awake}
 
 pub held-marked-cases : MarkedCases
 held-marked-cases = marked-cases
@@ -73,6 +75,9 @@ held-lone-msd = lone-msd
 pub held-steps-are-frames : StepsAreFrames
 held-steps-are-frames = steps-are-frames
 
+pub held-makes-extra : MakesExtra
+held-makes-extra = makes-extra
+
 pub held-moves-on : MovesOn
 held-moves-on = moves-on
 
@@ -117,3 +122,15 @@ held-unknown-edition-step-keeping = step-keeping-edition
 
 pub held-given-makes-no-difference : GivenMakesNoDifference
 held-given-makes-no-difference = given-makes-no-difference
+
+pub held-step-wakes : StepWakes
+held-step-wakes = step-wakes
+
+pub held-no-round-wakes-nobody : NoRoundWakesNobody
+held-no-round-wakes-nobody = no-round-wakes-nobody
+
+pub held-stays-awake : StaysAwake
+held-stays-awake = stays-awake
+
+pub held-counted-awake : CountedAwake
+held-counted-awake = counted-awake

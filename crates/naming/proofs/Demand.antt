@@ -15,13 +15,13 @@ use Rattle.file.proofs.Order.{byCase}
 use Rattle.naming.specs.Inner.View.{SlaveView}
 use Rattle.naming.specs.Rules.Run.{Position, fresh, running, unfitPosition, countLimit}
 use Rattle.naming.specs.Rules.Account.{Named, Account, Call, accountOf, accountAfter, comparisonsOf, falling, unnamedAmong, namesHeld, namingComparisons, endingRounds}
-use Rattle.naming.specs.Rules.Figures.{Outcome, roundsFor, comparisonsFor, namesAfter, givings}
+use Rattle.naming.specs.Rules.Figures.{Outcome, extraFor, roundsFor, comparisonsFor, namesAfter, givings}
 use Rattle.naming.proofs.Answers.{namedOf}
 use Rattle.naming.proofs.Simulation.{fresh-at}
-use Rattle.naming.proofs.Tally.{Tally, Done, due, dueComparisons, finally, next-pass}
+use Rattle.naming.proofs.Tally.{Tally, Done, extraLeft, extraDue, due, dueComparisons, finally, next-pass}
 use Rattle.naming.proofs.Closed.{mostRounds, due-rounds, due-comparisons, due-bound, due-comparisons-bound}
 use Rattle.naming.proofs.Sorted.{length-falling, distinct-length}
-use Rattle.naming.proofs.Start.{Slaves, Names, start-facts}
+use Rattle.naming.proofs.Start.{Slaves, Names, names-fit, start-facts}
 use Rattle.naming.proofs.Abstract.{Laws, Agree, Permitted, runCalls, Between, all-calls, stays-fit, tie-agree, tally-running, tally-ended}
 
 -- what demand 3 says of views, run and account after some calls, for the slaves and names at the start
@@ -46,13 +46,26 @@ unnamed-most [] = omega arith
 unnamed-most (s ∷ ss) =
     byCase (eqb (s .logical) unnamed) (λ t. rw t (omega (arith, unnamed-most ss))) (λ f. rw f (omega (arith, unnamed-most ss)))
 
+extra-is : (names : List ℕ) → extraDue names 0 ≡ extraFor names
+unfolding extraDue extraLeft extraFor
+extra-is [] = refl
+extra-is (n ∷ ns) = refl
+
+pub extra-most : (names : List ℕ) → extraDue names 0 ≤ 1
+unfolding extraDue extraLeft
+extra-most [] = omega arith
+extra-most (n ∷ ns) = omega arith
+
 -- ---- the account of slaves and names at the start
 
 module _ (slaves : List Named) (names : List ℕ) where
   -- its rounds, its comparisons and the names it comes to
-  pub rounds-whole : due (namesHeld slaves) names (falling (unnamedAmong slaves)) ≡ roundsFor slaves names
+  pub rounds-whole : extraDue names 0 + due (namesHeld slaves) names (falling (unnamedAmong slaves)) ≡ roundsFor slaves names
   unfolding roundsFor
-  rounds-whole = due-rounds (namesHeld slaves) names (falling (unnamedAmong slaves)) ∙ rw (length-falling (unnamedAmong slaves))
+  rounds-whole =
+      let passes = due-rounds (namesHeld slaves) names (falling (unnamedAmong slaves)) in
+      let long = length-falling (unnamedAmong slaves) in
+      omega (arith, rw long at passes, extra-is names)
 
   comparisons-whole :
       dueComparisons (namesHeld slaves) names (falling (unnamedAmong slaves)) ≡ comparisonsFor slaves names
@@ -64,21 +77,22 @@ module _ (slaves : List Named) (names : List ℕ) where
   unfolding accountOf finally namesAfter
   tally-start s n =
       next-pass _ _ _ names (falling (unnamedAmong slaves)) slaves (namesHeld slaves) 0 0
-      (zero-add _ ∙ rounds-whole) (zero-add _ ∙ comparisons-whole) refl (start-facts slaves names s n .falls)
+      (omega (arith, rounds-whole)) (zero-add _ ∙ comparisons-whole) refl (start-facts slaves names s n .falls)
 
-  pub rounds-few : Names names → mostRounds * length slaves + endingRounds + 256 < countLimit →
+  pub rounds-few : Names names → mostRounds * length slaves + endingRounds + 257 < countLimit →
       roundsFor slaves names < countLimit
   rounds-few n few =
       let l : length names ≤ 256 = distinct-length 256 (no-repeat names (n .different)) (n .bytes) in
       omega (
         arith,
         sym rounds-whole,
+        extra-most names,
         due-bound (namesHeld slaves) names (falling (unnamedAmong slaves)),
         length-falling (unnamedAmong slaves),
         unnamed-most slaves,
       )
 
-  pub comparisons-few : mostRounds * length slaves + endingRounds + 256 < countLimit →
+  pub comparisons-few : mostRounds * length slaves + endingRounds + 257 < countLimit →
       comparisonsFor slaves names + namingComparisons < countLimit
   comparisons-few few =
       omega (
@@ -106,21 +120,44 @@ module _ (slaves : List Named) (names : List ℕ) where
 
 -- ---- the theorem
 
+-- a fresh run has made no round
+none-made : (names : List ℕ) → fresh names .rounds ≡ 0
+unfolding fresh
+none-made names = refl
+
+-- what holds between calls holds before the first one, whoever sleeps
+pub between-start :
+    (S : Type 0) (names : List ℕ) (view : S → List SlaveView) (Good Awake : S → Type 0) → Names names → (start : S) → Good start →
+    Slaves (map namedOf (view start)) →
+    Between S names view Good Awake (roundsFor (map namedOf (view start)) names) (comparisonsFor (map namedOf (view start)) names)
+    (namesAfter (map namedOf (view start)) names) (start, fresh names) (accountOf (map namedOf (view start)) names)
+unfolding accountOf
+between-start S names view Good Awake n start good s =
+    record {
+      good = good;
+      awake = λ some. absurd (some (none-made names));
+      tie = fresh-at (view start) names (falling (unnamedAmong slaves)) slaves (namesHeld slaves) (start-facts slaves names s n) refl;
+      tally = tally-start slaves names s n;
+    }
+  where
+    slaves : List Named
+    slaves = map namedOf (view start)
+
 -- For a system that keeps the laws over an accepted list of names, from a good state whose slaves have different physical names of
--- 64 bits and are few enough for the counts, and from a fresh run: after every list of permitted calls demand 3 holds.
+-- 64 bits and are few enough for the counts, whoever sleeps, and from a fresh run: after every list of permitted calls demand 3 holds.
 pub demand :
-    (S : Type 0) (names : List ℕ) (view : S → List SlaveView) (Good : S → Type 0) (Allowed : S → Position → Call → Type 0)
-    (call : S → Position → Call → S × Position) → Laws S names view Good Allowed call → Names names → (start : S) → Good start →
-    Slaves (map namedOf (view start)) → mostRounds * length (map namedOf (view start)) + endingRounds + 256 < countLimit →
+    (S : Type 0) (names : List ℕ) (view : S → List SlaveView) (Good Awake : S → Type 0) (Allowed : S → Position → Call → Type 0)
+    (call : S → Position → Call → S × Position) → Laws S names view Good Awake Allowed call → Names names → (start : S) → Good start →
+    Slaves (map namedOf (view start)) → mostRounds * length (map namedOf (view start)) + endingRounds + 257 < countLimit →
     (calls : List Call) → Permitted S Allowed call (start, fresh names) calls →
     Holds (map namedOf (view start)) names Good view (runCalls S call (start, fresh names) calls)
     (accountAfter (accountOf (map namedOf (view start)) names) calls)
 unfolding accountOf
-demand S names view Good Allowed call laws n start good s few calls permitted =
+demand S names view Good Awake Allowed call laws n start good s few calls permitted =
     record {
       good = after .good;
       agree = tie-agree (after .tie);
-      fit = stays-fit S names view Good Allowed call laws R C F few-rounds few-comparisons w a after;
+      fit = stays-fit S names view Good Awake Allowed call laws R C F few-rounds few-comparisons (names-fit (n .bytes) (n .fit)) w a after;
       outcome = outcome slaves names (view (w .0)) (w .1) a (tie-agree (after .tie)) (after .tally);
     }
   where
@@ -142,20 +179,12 @@ demand S names view Good Allowed call laws n start good s few calls permitted =
     few-comparisons : C + namingComparisons < countLimit
     few-comparisons = comparisons-few slaves names few
 
-    begin : Between S names view Good R C F (start, fresh names) (accountOf slaves names)
-    begin =
-        record {
-          good = good;
-          tie = fresh-at (view start) names (falling (unnamedAmong slaves)) slaves (namesHeld slaves) (start-facts slaves names s n) refl;
-          tally = tally-start slaves names s n;
-        }
-
     w : S × Position
     w = runCalls S call (start, fresh names) calls
 
     a : Account
     a = accountAfter (accountOf slaves names) calls
 
-    after : Between S names view Good R C F w a
+    after : Between S names view Good Awake R C F w a
     after =
-        all-calls S names view Good Allowed call laws R C F few-rounds few-comparisons (start, fresh names) (accountOf slaves names) calls begin permitted
+        all-calls S names view Good Awake Allowed call laws R C F few-rounds few-comparisons (names-fit (n .bytes) (n .fit)) (start, fresh names) (accountOf slaves names) calls (between-start S names view Good Awake n start good s) permitted

@@ -66,7 +66,7 @@ unfolding namesIn
 legal-slaves c l =
     record { different = rw (physicals-of (c .slaves)) (l .names); small = rw (physicals-of (c .slaves)) (physicals-lt (l .slaves)) }
 
-pub legal-few : (c : Cluster) → Legal c → mostRounds * length (namesIn c) + endingRounds + 256 < countLimit
+pub legal-few : (c : Cluster) → Legal c → mostRounds * length (namesIn c) + endingRounds + 257 < countLimit
 unfolding namesIn
 legal-few c l =
     let m : length (c .slaves) ≤ 32 = l .count in

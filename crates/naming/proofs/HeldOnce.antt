@@ -11,6 +11,7 @@ use Rattle.file.specs.Rules.Bytes.{Bytes}
 use Rattle.file.specs.Rules.Cluster.{Cluster, logicalNames, unnamed}
 use Rattle.file.specs.Rules.Decode.{decode}
 use Rattle.file.specs.Rules.Legal.{Distinct}
+use Rattle.file.specs.Rules.Order.{both}
 use Rattle.file.specs.Rules.Grounds.{isAmong, hasRepeat, heldNames, loadGround}
 use Rattle.file.proofs.Order.{byCase, either-false, either-false-left, either-false-right}
 use Rattle.file.proofs.Bytes.{all-first}
@@ -19,7 +20,7 @@ use Rattle.file.proofs.Accepted.{accepted-legal}
 use Rattle.file.proofs.HeldLaws.{held-first, held-rest}
 use Rattle.file.proofs.Results.{load-file, load-twice, load-once}
 use Rattle.naming.specs.Rules.Run.{Position, startGround}
-use Rattle.naming.specs.Rules.Account.{namingRounds, namingComparisons, endingRounds, Named, namesIn, Account, accountOf, give, goOn, passDone, freePass, pass, passOn, oneRound, namesHeld, Call, step, frame, argumentsGround, accountCall, accountAfter}
+use Rattle.naming.specs.Rules.Account.{namingRounds, namingComparisons, endingRounds, Named, namesIn, Account, accountOf, give, goOn, passDone, freePass, pass, passOn, extra, oneRound, namesHeld, Call, step, frame, argumentsGround, accountCall, accountAfter}
 use Rattle.naming.specs.Claims.Demand.{Demand}
 use Rattle.naming.specs.Claims.Renaming.{StaysLoadable}
 use Rattle.naming.proofs.Facts.{Facts, physicals, differs, differ-tail, drop-taken, give-physicals, give-greatest}
@@ -154,10 +155,15 @@ one-pass a [] is h = h
 one-pass a (n ∷ ns) is h =
     byCase (isAmong n (a .held)) (λ t. rw t (name-taken is h)) (λ t. rw t (free-pass a n ns (a .waiting) is refl t h))
 
+one-extra : (a : Account) → Holds a → Holds (extra a)
+unfolding extra
+one-extra a h = record { facts = h .facts; different = h .different; once = h .once }
+
 one-call : (a : Account) (c : Call) → Holds a → Holds (accountCall a c)
 unfolding accountCall oneRound passOn
 one-call a (step arguments) h =
-    either-way (eqb (argumentsGround (a .slaves) arguments) 0) (either-way (eqb (a .end) 0) (one-pass a (a .left) refl h) h) h
+    either-way (eqb (argumentsGround (a .slaves) arguments) 0)
+    (either-way (both (eqb (a .end) 0) (eqb (a .rounds) 0)) (one-extra a h) (either-way (eqb (a .end) 0) (one-pass a (a .left) refl h) h)) h
 one-call a (frame arguments) h = h
 
 all-calls : (a : Account) (calls : List Call) → Holds a → Holds (accountAfter a calls)

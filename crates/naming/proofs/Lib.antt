@@ -32,8 +32,8 @@ pub mod NameLaws
 pub mod SendLaws
 pub mod RunLaws
 pub mod StepCode
-pub mod Bytes
 pub mod StepFrames
+pub mod Sleep
 pub mod RoundsMade
 pub mod Renaming
 pub mod Summaries

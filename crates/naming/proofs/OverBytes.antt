@@ -21,16 +21,16 @@ use Rattle.naming.proofs.Start.{Names}
 use Rattle.naming.proofs.Abstract.{Permitted, all-made, one-more, runCalls}
 use Rattle.naming.proofs.Demand.{Holds, demand}
 use Rattle.naming.proofs.FromFile.{names-of-view, legal-slaves, legal-few, accepted-names}
-use Rattle.naming.proofs.ByteLaws.{Good, viewIn, Allowed, byte-laws, arguments-ground}
+use Rattle.naming.proofs.ByteLaws.{Good, AwakeIn, viewIn, Allowed, byte-laws, arguments-ground}
 
 -- the walk along file and run is the abstract one
-same-calls : (names : List ℕ) (s : State) (p : Position) (cs : List Call) → runCalls State (callOn names) (s, p) cs ≡ afterCalls names s p cs
+pub same-calls : (names : List ℕ) (s : State) (p : Position) (cs : List Call) → runCalls State (callOn names) (s, p) cs ≡ afterCalls names s p cs
 unfolding runCalls afterCalls
 same-calls names s p [] = refl
 same-calls names s p (c ∷ cs) = same-calls names (callOn names s p c .0) (callOn names s p c .1) cs
 
 -- so are the calls at the front of a permitted list: what comes after them says nothing of them
-front-permitted :
+pub front-permitted :
     (names : List ℕ) (s : State) (p : Position) {cs : List Call} (ds : List Call) → All OfBytes cs → permitted names s p (cs ++ ds) ≡ true →
     Permitted State (Allowed names) (callOn names) (s, p) cs
 unfolding permitted
@@ -52,11 +52,11 @@ module _ (file names : List ℕ) (b : Bytes file) (g : fileGround file ≡ 0) (n
   unfolding viewIn
   seen s = names-of-view (decode (s .file))
 
-  start-good : Good (startOn file)
+  pub start-good : Good (startOn file)
   unfolding startOn
   start-good = record { bytes = b; accepted = g; apart = λ h. clash h refl }
 
-  start-seen : map namedOf (viewIn (startOn file)) ≡ namesIn (decode file)
+  pub start-seen : map namedOf (viewIn (startOn file)) ≡ namesIn (decode file)
   unfolding startOn
   start-seen = seen (record { file = file; halfway = false })
 
@@ -66,7 +66,7 @@ module _ (file names : List ℕ) (b : Bytes file) (g : fileGround file ≡ 0) (n
       (accountAfter (accountOf (namesIn (decode file)) names) calls)
   holds calls may =
       let legal : Legal (decode file) = accepted-legal file b g in
-      let all = demand State names viewIn Good (Allowed names) (callOn names) (byte-laws names n) n (startOn file) start-good
+      let all = demand State names viewIn Good AwakeIn (Allowed names) (callOn names) (byte-laws names n) n (startOn file) start-good
       (rw start-seen (legal-slaves (decode file) legal)) (rw start-seen (legal-few (decode file) legal)) calls may in
       rw (start-seen, same-calls names (startOn file) (fresh names) calls) at all
 

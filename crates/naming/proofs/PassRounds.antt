@@ -20,7 +20,7 @@ use Rattle.naming.proofs.Places.{of-least, of-bit, Inner, LegalPlace, i
 use Rattle.naming.proofs.Search.{cleared, cleared-all, cleared-none, answered}
 use Rattle.naming.proofs.Tries.{attempt, lastTry, try-here, upper-low, upper-high, lower-high, lower-low, middle-high, middle-low, given-high, given-low}
 use Rattle.naming.proofs.PositionLaws.{stays}
-use Rattle.naming.proofs.RoundsMade.{onto-again, onto-passed}
+use Rattle.naming.proofs.RoundsMade.{onto-again, onto-passed, some-counted, moved-counts}
 use Rattle.naming.proofs.Simulation.{position, needlessAt, tries}
 use Rattle.naming.proofs.Passes.{all-executed}
 
@@ -34,19 +34,34 @@ pub data Makes (names : List ℕ) (p : ℕ) (P : Position → Type 0) : Position
       Makes names p P (moveOn (placeOf (q .step)) (length names) (wrote (roundHere names q) q) (answerFor p (placeOf (q .step)) (q .value))) ls →
       Makes names p P q (placeOf (q .step) ∷ ls)
 
+-- moving on leaves both counts
+pass-over-counts : (names : List ℕ) (q : Position) → (passOver names q .rounds ≡ q .rounds) × (passOver names q .comparisons ≡ q .comparisons)
+unfolding passOver atStep
+pass-over-counts names q = byCase (isNeedless names q) (λ t. rw t (refl, refl)) (λ f. rw f (refl, refl))
+
+pub onto-counts : (names : List ℕ) (q : Position) → (onto names q .rounds ≡ q .rounds) × (onto names q .comparisons ≡ q .comparisons)
+unfolding onto
+onto-counts names q =
+    let first = pass-over-counts names q in
+    let second = pass-over-counts names (passOver names q) in
+    (second .0 ∙ first .0, second .1 ∙ first .1)
+
+onto-some : (names : List ℕ) (q : Position) → 0 < q .rounds → 0 < onto names q .rounds
+onto-some names q c = omega (arith, onto-counts names q .0)
+
 -- a step depends on the position once it is moved on
-after-settled : (names : List ℕ) (p : ℕ) (q : Position) → afterStep names p (onto names q) ≡ afterStep names p q
+after-settled : (names : List ℕ) (p : ℕ) (q : Position) → 0 < q .rounds → afterStep names p (onto names q) ≡ afterStep names p q
 unfolding afterStep placeMade advance passAdvance
-after-settled names p q = rw (onto-again names q)
+after-settled names p q c = rw (some-counted q c, some-counted (onto names q) (onto-some names q c), onto-again names q)
 
 place-settled : (names : List ℕ) (q : Position) → placeMade names (onto names q) ≡ placeMade names q
 unfolding placeMade
 place-settled names q = rw (onto-again names q)
 
-places-settled : (names : List ℕ) (p n : ℕ) (q : Position) → placesMade names p n (onto names q) ≡ placesMade names p n q
+places-settled : (names : List ℕ) (p n : ℕ) (q : Position) → 0 < q .rounds → placesMade names p n (onto names q) ≡ placesMade names p n q
 unfolding placesMade
-places-settled names p zero q = refl
-places-settled names p (suc n) q = rw (place-settled names q, after-settled names p q)
+places-settled names p zero q c = refl
+places-settled names p (suc n) q c = rw (place-settled names q, after-settled names p q c)
 
 -- the step that makes a round
 place-made : (names : List ℕ) (q : Position) → isNeedless names q ≡ false → placeMade names q ≡ placeOf (q .step)
@@ -57,31 +72,45 @@ place-made names q f = rw (stays names q f)
 abbrev next : List ℕ → ℕ → Position → Position
 next names p q = moveOn (placeOf (q .step)) (length names) (wrote (roundHere names q) q) (answerFor p (placeOf (q .step)) (q .value))
 
-step-makes : (names : List ℕ) (p : ℕ) (q : Position) → isNeedless names q ≡ false → afterStep names p q ≡ onto names (next names p q)
-unfolding afterStep placeMade advance passAdvance
-step-makes names p q f = rw (stays names q f)
+next-some : (names : List ℕ) (p : ℕ) (q : Position) → 0 < next names p q .rounds
+next-some names p q = moved-counts _ _ _ _
 
-one-place : (names : List ℕ) (p n : ℕ) (q : Position) → isNeedless names q ≡ false →
+step-makes : (names : List ℕ) (p : ℕ) (q : Position) → 0 < q .rounds → isNeedless names q ≡ false → afterStep names p q ≡ onto names (next names p q)
+unfolding afterStep placeMade advance passAdvance
+step-makes names p q c f = rw (some-counted q c, stays names q f)
+
+one-place : (names : List ℕ) (p n : ℕ) (q : Position) → 0 < q .rounds → isNeedless names q ≡ false →
     placesMade names p (suc n) q ≡ placeOf (q .step) ∷ placesMade names p n (next names p q)
 unfolding placesMade
-one-place names p n q f = rw (place-made names q f, step-makes names p q f, places-settled names p n (next names p q))
+one-place names p n q c f = rw (place-made names q f, step-makes names p q c f, places-settled names p n (next names p q) (next-some names p q))
 
-one-step : (names : List ℕ) (p n : ℕ) (q : Position) → isNeedless names q ≡ false →
+one-step : (names : List ℕ) (p n : ℕ) (q : Position) → 0 < q .rounds → isNeedless names q ≡ false →
     afterSteps names p (suc n) (onto names q) ≡ afterSteps names p n (onto names (next names p q))
 unfolding afterSteps
-one-step names p n q f = rw (stays names q f, step-makes names p q f)
+one-step names p n q c f = rw (stays names q f, step-makes names p q c f)
 
-pub makes-places : {names : List ℕ} {p : ℕ} {P : Position → Type 0} {q : Position} {ls : List PassPlace} → Makes names p P q ls → placesMade names p (length ls) q ≡ ls
-makes-places (over e) = unfold placesMade in refl
-makes-places {names} {p} {q = q} {ls = ls} (skip t m) =
-    sym (places-settled names p (length ls) q) ∙ ap (placesMade names p (length ls)) (onto-passed names q t)
-    ∙ places-settled names p (length ls) (atStep (suc (q .step)) q) ∙ makes-places m
-makes-places {names} {p} {q = q} (make {ls = ls} f m) = one-place names p (length ls) q f ∙ ap (λ (ls : List PassPlace). placeOf (q .step) ∷ ls) (makes-places m)
+step-some : (k : ℕ) (q : Position) → 0 < q .rounds → 0 < atStep k q .rounds
+unfolding atStep
+step-some k q c = c
 
-pub makes-after : {names : List ℕ} {p : ℕ} {P : Position → Type 0} {q : Position} {ls : List PassPlace} → Makes names p P q ls → P (afterSteps names p (length ls) (onto names q))
-makes-after (over e) = unfold afterSteps in e
-makes-after {names} {p} {P} {q = q} {ls = ls} (skip t m) = subst (λ (r : Position). P (afterSteps names p (length ls) r)) (sym (onto-passed names q t)) (makes-after m)
-makes-after {names} {p} {P} {q = q} (make {ls = ls} f m) = subst P (sym (one-step names p (length ls) q f)) (makes-after m)
+pub makes-places :
+    {names : List ℕ} {p : ℕ} {P : Position → Type 0} {q : Position} {ls : List PassPlace} → 0 < q .rounds → Makes names p P q ls →
+    placesMade names p (length ls) q ≡ ls
+makes-places c (over e) = unfold placesMade in refl
+makes-places {names} {p} {q = q} {ls = ls} c (skip t m) =
+    let d = step-some (suc (q .step)) q c in
+    sym (places-settled names p (length ls) q c) ∙ ap (placesMade names p (length ls)) (onto-passed names q t)
+    ∙ places-settled names p (length ls) (atStep (suc (q .step)) q) d ∙ makes-places d m
+makes-places {names} {p} {q = q} c (make {ls = ls} f m) =
+    one-place names p (length ls) q c f ∙ ap (λ (ls : List PassPlace). placeOf (q .step) ∷ ls) (makes-places (next-some names p q) m)
+
+pub makes-after :
+    {names : List ℕ} {p : ℕ} {P : Position → Type 0} {q : Position} {ls : List PassPlace} → 0 < q .rounds → Makes names p P q ls →
+    P (afterSteps names p (length ls) (onto names q))
+makes-after c (over e) = unfold afterSteps in e
+makes-after {names} {p} {P} {q = q} {ls = ls} c (skip t m) =
+    subst (λ (r : Position). P (afterSteps names p (length ls) r)) (sym (onto-passed names q t)) (makes-after (step-some (suc (q .step)) q c) m)
+makes-after {names} {p} {P} {q = q} c (make {ls = ls} f m) = subst P (sym (one-step names p (length ls) q c f)) (makes-after (next-some names p q) m)
 
 -- ---- places by their steps
 
@@ -346,41 +375,36 @@ wrote-counts (writeLow l) q = (refl, refl)
 wrote-counts compare q = (refl, refl)
 wrote-counts baptizeAll q = (refl, refl)
 
-pass-over-counts : (names : List ℕ) (q : Position) → (passOver names q .rounds ≡ q .rounds) × (passOver names q .comparisons ≡ q .comparisons)
-unfolding passOver atStep
-pass-over-counts names q = byCase (isNeedless names q) (λ t. rw t (refl, refl)) (λ f. rw f (refl, refl))
-
-onto-counts : (names : List ℕ) (q : Position) → (onto names q .rounds ≡ q .rounds) × (onto names q .comparisons ≡ q .comparisons)
-unfolding onto
-onto-counts names q =
-    let first = pass-over-counts names q in
-    let second = pass-over-counts names (passOver names q) in
-    (second .0 ∙ first .0, second .1 ∙ first .1)
-
-step-counted : (names : List ℕ) (p : ℕ) (q : Position) → Counted q (afterStep names p q) (placeMade names q)
+step-counted : (names : List ℕ) (p : ℕ) (q : Position) → 0 < q .rounds → Counted q (afterStep names p q) (placeMade names q)
 unfolding afterStep advance passAdvance placeMade
-step-counted names p q =
+step-counted names p q c =
     let r = onto names q in
     let written = wrote (roundHere names r) r in
     let moved = moved-counted (placeOf (r .step)) (length names) written (answerFor p (placeOf (r .step)) (r .value)) in
     let first = onto-counts names q in
     let second = wrote-counts (roundHere names r) r in
     let third = onto-counts names (moveOn (placeOf (r .step)) (length names) written (answerFor p (placeOf (r .step)) (r .value))) in
-    record {
+    rw (some-counted q c)
+    (record {
       rounds = third .0 ∙ moved .rounds ∙ ap suc (second .0 ∙ first .0);
       comparisons = third .1 ∙ moved .comparisons ∙ ap (λ (n : ℕ). n + executesIn (placeOf (r .step) ∷ [])) (second .1 ∙ first .1);
-    }
+    })
 
-steps-rounds : (names : List ℕ) (p n : ℕ) (q : Position) → afterSteps names p n q .rounds ≡ q .rounds + n
+-- a step leaves a round counted
+step-leaves : (names : List ℕ) (p : ℕ) (q : Position) → 0 < q .rounds → 0 < afterStep names p q .rounds
+step-leaves names p q c = omega (arith, step-counted names p q c .rounds)
+
+steps-rounds : (names : List ℕ) (p n : ℕ) (q : Position) → 0 < q .rounds → afterSteps names p n q .rounds ≡ q .rounds + n
 unfolding afterSteps
-steps-rounds names p zero q = omega arith
-steps-rounds names p (suc n) q = omega (arith, steps-rounds names p n (afterStep names p q), step-counted names p q .rounds)
+steps-rounds names p zero q c = omega arith
+steps-rounds names p (suc n) q c =
+    omega (arith, steps-rounds names p n (afterStep names p q) (step-leaves names p q c), step-counted names p q c .rounds)
 
-steps-comparisons : (names : List ℕ) (p n : ℕ) (q : Position) → afterSteps names p n q .comparisons ≡ q .comparisons + executesIn (placesMade names p n q)
+steps-comparisons : (names : List ℕ) (p n : ℕ) (q : Position) → 0 < q .rounds → afterSteps names p n q .comparisons ≡ q .comparisons + executesIn (placesMade names p n q)
 unfolding afterSteps placesMade
-steps-comparisons names p zero q = unfold executesIn in omega arith
-steps-comparisons names p (suc n) q =
-    omega (arith, steps-comparisons names p n (afterStep names p q), step-counted names p q .comparisons, executes (placeMade names q) (placesMade names p n (afterStep names p q)))
+steps-comparisons names p zero q c = unfold executesIn in omega arith
+steps-comparisons names p (suc n) q c =
+    omega (arith, steps-comparisons names p n (afterStep names p q) (step-leaves names p q c), step-counted names p q c .comparisons, executes (placeMade names q) (placesMade names p n (afterStep names p q)))
 
 -- ---- the pass
 
@@ -398,7 +422,7 @@ same-position : (q : Position) {end index step value rounds comparisons h l : �
 same-position q a b c d e f g h = rw (← a, ← b, ← c, ← d, ← e, ← f, ← g, ← h)
 
 pub passes-made : PassesMade
-passes-made names p q small at = record { places = makes-places all; after = after }
+passes-made names p q small some at = record { places = makes-places some all; after = after }
   where
     start : q ≡ position (q .end) (q .index) 0 (q .value) (q .rounds) (q .comparisons) (q .high) (q .low)
     start = same-position q refl refl at refl refl refl refl refl
@@ -414,12 +438,12 @@ passes-made names p q small at = record { places = makes-places all; after = aft
     settled = stays names q (needless-is names q (ap placeOf at) ∙ unfold placeOf isFirst isRepeated roundAt both in refl)
 
     reached : Reached names p (q .index) (afterSteps names p (length (passFor p)) q)
-    reached = subst (λ (r : Position). Reached names p (q .index) (afterSteps names p (length (passFor p)) r)) settled (makes-after all)
+    reached = subst (λ (r : Position). Reached names p (q .index) (afterSteps names p (length (passFor p)) r)) settled (makes-after some all)
 
     counted : afterSteps names p (length (passFor p)) q .comparisons ≡ q .comparisons + namingComparisons
     counted =
-        steps-comparisons names p (length (passFor p)) q
-        ∙ ap (λ (ls : List PassPlace). q .comparisons + executesIn ls) (makes-places all)
+        steps-comparisons names p (length (passFor p)) q some
+        ∙ ap (λ (ls : List PassPlace). q .comparisons + executesIn ls) (makes-places some all)
         ∙ ap (λ (n : ℕ). q .comparisons + n) (unfold passFor in all-executed (eqb (bitClear 32 p) 1) (eqb (bitClear 0 p) 1))
 
     after :
@@ -427,4 +451,4 @@ passes-made names p q small at = record { places = makes-places all; after = aft
         position (endAt (length names) (suc (q .index))) (suc (q .index)) 0 p (q .rounds + length (passFor p)) (q .comparisons + namingComparisons) (p / half) (p % half)
     after =
         same-position (afterSteps names p (length (passFor p)) q) (reached .end) (reached .next) (reached .first) (reached .value)
-        (steps-rounds names p (length (passFor p)) q) counted (reached .high) (reached .low)
+        (steps-rounds names p (length (passFor p)) q some) counted (reached .high) (reached .low)

@@ -7,72 +7,62 @@ use lib.Dec.{eqb}
 use lib.ListN.{length, length-map}
 use borrow.Author.Tests.{eqb-true, eqb-false, le-ltb}
 use Rattle.file.specs.Rules.Bytes.{Bytes, All, allEmpty, allNext}
-use Rattle.file.specs.Rules.Cluster.{Slave, Cluster, logicalName, logicalNames, unnamed}
+use Rattle.file.specs.Rules.Cluster.{Slave, configuration, logicalName, logicalNames, unnamed}
 use Rattle.file.specs.Rules.Decode.{decode}
 use Rattle.file.specs.Rules.Legal.{LegalSlave}
 use Rattle.file.proofs.Order.{byCase}
-use Rattle.file.proofs.Bytes.{byte-at}
 use Rattle.file.proofs.Accepted.{accepted-legal}
 use Rattle.cluster.specs.Rules.Bus.{slots}
 use Rattle.cluster.specs.Rules.Grounds.{shortAnswer}
 use Rattle.cluster.specs.Claims.Renaming.{nameAfter, namesOf}
+use Rattle.cluster.specs.Rules.Slaves.{Duty, slaveAfter, restsAfter}
+use Rattle.cluster.specs.Rules.Slaves as Slaves
+use Rattle.cluster.proofs.Kept.{rests-bytes}
+use Rattle.cluster.proofs.Replaced.{write-keeps-name}
 use Rattle.cluster.proofs.Renaming.{baptized}
 use Rattle.cluster.proofs.Rounds.{NoGround, none-holds}
-use Rattle.naming.specs.Inner.View.{SlaveView, viewOf, view, changeAll, change}
 use Rattle.naming.specs.Rules.Rounds.{RunRound, poll, writeName, writeHigh, writeLow, compare, baptize, sent, atUnnamed}
 use Rattle.naming.specs.Rules.Run.{Position, running, bits, nextRound, runGrounds}
 use Rattle.cluster.specs.Rules.MasterSlave.{roundSent}
 use Rattle.naming.specs.Rules.Step.{stepGround, stepOn}
-use Rattle.naming.specs.Rules.Account.{Named}
-use Rattle.naming.specs.Claims.Renaming.{StepBaptizes, BaptizingStepRenames, OnlyBaptizingStepsRename}
-use Rattle.naming.proofs.Answers.{namedOf, Quiet, polling, telling-name, telling-high, telling-low, comparing, quiet-names}
+use Rattle.naming.specs.Claims.Renaming.{BaptizingStepRenames, OnlyBaptizingStepsRename}
 use Rattle.naming.proofs.Abstract.{Sendable, of-baptize}
-use Rattle.naming.proofs.SlaveRounds.{carriedOut, slave-changes}
+use Rattle.naming.proofs.SlaveRounds.{carriedOut}
 use Rattle.naming.proofs.StepLaws.{step-refused, step-ended, step-made}
 use Rattle.naming.proofs.StepRound.{Made, round-made}
 use Rattle.naming.proofs.RunLaws.{runs, next-sendable, advanced-small}
 
--- ---- the names by the views
+-- ---- the names after a round of the run
 
-logicals : List SlaveView → List ℕ
-logicals vs = map (λ (v : SlaveView). v .logical) vs
+-- every round but the execute of record 1 leaves a slave's name, awake or asleep afterwards
+rests-name : (o : Duty) (s : Slave) → logicalName (restsAfter o s) ≡ logicalName s
+unfolding logicalName
+rests-name o s = rw (rests-bytes o s configuration)
 
-slaves-by-views : (ss : List Slave) → map logicalName ss ≡ logicals (map viewOf ss)
-unfolding logicals viewOf
-slaves-by-views [] = refl
-slaves-by-views (s ∷ ss) = ap (λ (l : List ℕ). logicalName s ∷ l) (slaves-by-views ss)
+quiet-name : (o : RunRound) → (o ≡ baptize → ⊥) → (s : Slave) → logicalName (slaveAfter (carriedOut o) (sent o .content) s) ≡ logicalName s
+unfolding carriedOut sent atUnnamed
+quiet-name (poll n) other s = unfold slaveAfter in refl
+quiet-name (writeName n) other s = write-keeps-name unnamed configuration 1 _ s
+quiet-name (writeHigh h) other s = write-keeps-name unnamed configuration 2 _ s
+quiet-name (writeLow l) other s = write-keeps-name unnamed configuration 3 _ s
+quiet-name compare other s = unfold slaveAfter in refl
+quiet-name baptize other s = absurd (other refl)
 
-names-by-views : (c : Cluster) → logicalNames c ≡ logicals (view c)
-unfolding logicalNames view
-names-by-views c = slaves-by-views (c .slaves)
+-- what the slaves are called after a round
+abbrev called : RunRound → List Slave → List ℕ
+called o ss = map logicalName (map (restsAfter (carriedOut o)) (map (slaveAfter (carriedOut o) (sent o .content)) ss))
 
-logicals-named : (vs : List SlaveView) → logicals vs ≡ map (λ (s : Named). s .logical) (map namedOf vs)
-unfolding logicals namedOf
-logicals-named [] = refl
-logicals-named (v ∷ vs) = ap (λ (l : List ℕ). v .logical ∷ l) (logicals-named vs)
-
--- every round but the execute of record 1 leaves them
-quiet-unless : (o : RunRound) → (o ≡ baptize → ⊥) → Quiet o
-quiet-unless (poll n) other = polling
-quiet-unless (writeName n) other = telling-name
-quiet-unless (writeHigh h) other = telling-high
-quiet-unless (writeLow l) other = telling-low
-quiet-unless compare other = comparing
-quiet-unless baptize other = absurd (other refl)
-
-quiet-logicals : {o : RunRound} → Quiet o → (vs : List SlaveView) → logicals (changeAll o vs) ≡ logicals vs
-quiet-logicals {o} q vs =
-    logicals-named (changeAll o vs) ∙ ap (λ (ss : List Named). map (λ (s : Named). s .logical) ss) (quiet-names q vs) ∙ sym (logicals-named vs)
+all-quiet : (o : RunRound) → (o ≡ baptize → ⊥) → (ss : List Slave) → called o ss ≡ map logicalName ss
+all-quiet o other [] = refl
+all-quiet o other (s ∷ ss) =
+    rw (rests-name (carriedOut o) (slaveAfter (carriedOut o) (sent o .content) s), quiet-name o other s, all-quiet o other ss)
 
 -- that one changes those that its rule says
-one-baptized : {s : Slave} → LegalSlave s → change baptize (viewOf s) .logical ≡ nameAfter unnamed s
-unfolding carriedOut sent atUnnamed viewOf
-one-baptized {s} l = sym (ap (λ (v : SlaveView). v .logical) (slave-changes of-baptize s l)) ∙ baptized unnamed [] l
-
-all-baptized : {ss : List Slave} → All LegalSlave ss → logicals (changeAll baptize (map viewOf ss)) ≡ map (nameAfter unnamed) ss
-unfolding logicals changeAll
+all-baptized : {ss : List Slave} → All LegalSlave ss → called baptize ss ≡ map (nameAfter unnamed) ss
+unfolding carriedOut sent atUnnamed
 all-baptized allEmpty = refl
-all-baptized (allNext l ls) = rw (one-baptized l, all-baptized ls)
+all-baptized (allNext {a = s} l ls) =
+    rw (rests-name (Slaves.baptizing unnamed) (slaveAfter (Slaves.baptizing unnamed) [] s), baptized unnamed [] l, all-baptized ls)
 
 -- ---- the step's round
 
@@ -85,21 +75,22 @@ module _ (file : List ℕ) (p : Position) (names buffer : List ℕ) (b : Bytes f
   unfolding shortAnswer
   round s = round-made file buffer b (none .accepted) (le-ltb (length buffer) slots (none .long)) s
 
-  after : Sendable (nextRound names p) → namesOf (stepOn file p names buffer .3) ≡ logicals (changeAll (nextRound names p) (view (decode file)))
-  after s = rw (step-made file p names buffer g going) (names-by-views _ ∙ ap logicals (round s .views))
+  after : Sendable (nextRound names p) → namesOf (stepOn file p names buffer .3) ≡ called (nextRound names p) (decode file .slaves)
+  unfolding logicalNames
+  after s = rw (step-made file p names buffer g going) (ap (map logicalName) (round s .slaves))
 
   sendable : Bytes names → p .value < 2 ^ bits → Sendable (nextRound names p)
-  sendable n small = next-sendable (runs (none .rest) going) (byte-at n (p .index)) small
+  sendable n small = next-sendable (runs (none .rest) going) n small
 
 -- ---- the claims
 
 pub baptizing-step-renames : BaptizingStepRenames
-unfolding view
 baptizing-step-renames file p names buffer b h =
     let legal = accepted-legal file b (none file p names buffer b (h .accepted) (h .runs) .accepted) in
     after file p names buffer b (h .accepted) (h .runs) (rw (h .executes) of-baptize) ∙ rw (h .executes) (all-baptized (legal .slaves))
 
 pub only-baptizing-steps-rename : OnlyBaptizingStepsRename
+unfolding logicalNames
 only-baptizing-steps-rename file p names buffer b n small other =
     byCase (eqb (stepGround file p names buffer) 0)
     (λ z.
@@ -107,8 +98,8 @@ only-baptizing-steps-rename file p names buffer b n small other =
     byCase (eqb (p .end) running)
     (λ e.
     let going = eqb-true (p .end) running e in
-    let quiet = quiet-unless (nextRound names p) (λ is. other (record { accepted = g; runs = going; executes = is })) in
-    after file p names buffer b g going (sendable file p names buffer b g going n small) ∙ quiet-logicals quiet (view (decode file)) ∙ sym (names-by-views (decode file)))
+    after file p names buffer b g going (sendable file p names buffer b g going n small)
+    ∙ all-quiet (nextRound names p) (λ is. other (record { accepted = g; runs = going; executes = is })) (decode file .slaves))
     (λ e. rw (step-ended file p names buffer g (eqb-false (p .end) running e))))
     (λ z. rw (step-refused file p names buffer (eqb-false (stepGround file p names buffer) 0 z)))
 
@@ -139,17 +130,17 @@ step-value file p names buffer small =
 
 -- ---- as many slaves as before
 
-logicals-count : (vs : List SlaveView) → length (logicals vs) ≡ length vs
-unfolding logicals
-logicals-count vs = length-map vs (λ (v : SlaveView). v .logical)
-
-changed-count : (o : RunRound) (vs : List SlaveView) → length (logicals (changeAll o vs)) ≡ length (logicals vs)
-unfolding changeAll
-changed-count o vs = logicals-count (map (change o) vs) ∙ length-map vs (change o) ∙ sym (logicals-count vs)
+called-count : (o : RunRound) (ss : List Slave) → length (called o ss) ≡ length (map logicalName ss)
+called-count o ss =
+    length-map (map (restsAfter (carriedOut o)) (map (slaveAfter (carriedOut o) (sent o .content)) ss)) logicalName
+    ∙ length-map (map (slaveAfter (carriedOut o) (sent o .content)) ss) (restsAfter (carriedOut o))
+    ∙ length-map ss (slaveAfter (carriedOut o) (sent o .content))
+    ∙ sym (length-map ss logicalName)
 
 pub step-count :
     (file : List ℕ) (p : Position) (names buffer : List ℕ) → Bytes file → Bytes names → p .value < 2 ^ bits →
     length (namesOf (stepOn file p names buffer .3)) ≡ length (namesOf file)
+unfolding logicalNames
 step-count file p names buffer b n small =
     byCase (eqb (stepGround file p names buffer) 0)
     (λ z.
@@ -158,7 +149,6 @@ step-count file p names buffer b n small =
     (λ e.
     let going = eqb-true (p .end) running e in
     ap (λ (l : List ℕ). length l) (after file p names buffer b g going (sendable file p names buffer b g going n small))
-    ∙ changed-count (nextRound names p) (view (decode file))
-    ∙ sym (ap (λ (l : List ℕ). length l) (names-by-views (decode file))))
+    ∙ called-count (nextRound names p) (decode file .slaves))
     (λ e. rw (step-ended file p names buffer g (eqb-false (p .end) running e))))
     (λ z. rw (step-refused file p names buffer (eqb-false (stepGround file p names buffer) 0 z)))

@@ -1,19 +1,20 @@
--- Every position moves on to a round really made: of three places that follow one another one writes no half.
+-- A position that counts no round makes the extra read; every other moves on to a round really made: of three places that follow one
+-- another one writes no half.
 -- Assumes nothing.
 use Prim.Native.Nat.{ℕ, zero, suc, _-_, _%_, _≤_, _<_}
 use mathlib.Core.Path.{_≡_, refl, sym, ap, _∙_}
 use mathlib.Core.List.{List}
-use mathlib.Core.Bool.{true, false}
+use mathlib.Core.Bool.{Bool, true, false}
 use native.Mathlib.Omega.{arith}
 use lib.Dec.{eqb, ltb}
 use lib.ListN.{length, getD}
-use borrow.Author.Tests.{ltb-true, ltb-false, eqb-true, eqb-false}
+use borrow.Author.Tests.{eq-eqb, ne-eqb, ltb-true, ltb-false, eqb-true, eqb-false}
 use Rattle.file.specs.Rules.Order.{both}
 use Rattle.file.proofs.Order.{byCase, clash}
 use Rattle.naming.specs.Inner.Answers.{partAt}
-use Rattle.naming.specs.Rules.Run.{Position, reply, partOf, placeOf, giveStep, roundHere, isFirst, isNeedless, atStep, passOver, onto, passRound, nextRound, wrote, moveOn, passAdvance, advance}
-use Rattle.naming.specs.Rules.Rounds.{comparisonRounds}
-use Rattle.naming.specs.Claims.RoundsMade.{NextMade, MovesOn, Stands}
+use Rattle.naming.specs.Rules.Run.{Position, PassPlace, poll, ask, giveName, giveHigh, giveLow, baptize, least, bit, high, low, reply, partOf, placeOf, giveStep, roundHere, isFirst, isNeedless, atStep, passOver, onto, passRound, isExtra, nextRound, wrote, onward, nextName, endAllNamed, moveOn, passAdvance, countRaised, advance}
+use Rattle.naming.specs.Rules.Rounds.{comparisonRounds, sent}
+use Rattle.naming.specs.Claims.RoundsMade.{NextMade, MakesExtra, MovesOn, Stands}
 use Rattle.naming.proofs.PositionLaws.{part-poll, part-asked, part-none, third-part, writes-nothing, stays}
 
 -- a round that writes no half is made
@@ -90,30 +91,41 @@ module _ (names : List ℕ) (p : Position) where
 
   passed-over : (k : ℕ) → p .step ≤ k → k < onto names p .step → isNeedless names (atStep k p) ≡ true
   unfolding onto passOver
-  passed-over k low high =
+  passed-over k from below =
       byCase (isNeedless names p)
       (λ t.
       byCase (isNeedless names (atStep (suc (p .step)) p))
       (λ u.
-      let short : k < suc (suc (p .step)) = unfold atStep in rw (t, u) at high in
+      let short : k < suc (suc (p .step)) = unfold atStep in rw (t, u) at below in
       byCase (eqb k (p .step))
       (λ e. let is : k ≡ p .step = eqb-true k (p .step) e in rw is (ap (isNeedless names) at-own ∙ t))
-      (λ n. let other : k ≡ p .step → ⊥ = eqb-false k (p .step) n in let is : k ≡ suc (p .step) = omega (arith, other, short, low) in rw is u))
+      (λ n. let other : k ≡ p .step → ⊥ = eqb-false k (p .step) n in let is : k ≡ suc (p .step) = omega (arith, other, short, from) in rw is u))
       (λ f.
-      let short : k < suc (p .step) = unfold atStep in rw (t, f) at high in
+      let short : k < suc (p .step) = unfold atStep in rw (t, f) at below in
       let is : k ≡ p .step = omega arith in
       rw is (ap (isNeedless names) at-own ∙ t)))
-      (λ f. let short : k < p .step = rw (f, f) at high in absurd (omega arith))
+      (λ f. let short : k < p .step = rw (f, f) at below in absurd (omega arith))
+
+-- no round counted: the extra read
+pub makes-extra : MakesExtra
+unfolding nextRound advance sent countRaised
+makes-extra first others p none =
+    let due : isExtra p ≡ true = unfold isExtra in eq-eqb (p .rounds) 0 none in
+    record { reads = rw due; raised = λ answered. rw (due, none) }
+
+pub some-counted : (p : Position) → 0 < p .rounds → isExtra p ≡ false
+unfolding isExtra
+some-counted p h = ne-eqb (p .rounds) 0 (λ e. omega arith)
 
 pub moves-on : MovesOn
 unfolding nextRound passRound
-moves-on names p =
+moves-on names p counted =
     record {
       step = onto names p .step;
       ahead = ahead-of names p;
       needless = passed-over names p;
       needed = rw (sym (moved-to names p)) (needed-there names p);
-      made = ap (roundHere names) (moved-to names p);
+      made = rw (some-counted p counted) (ap (roundHere names) (moved-to names p));
     }
 
 -- there is one next round
@@ -125,22 +137,39 @@ next-once a b =
     byCase (ltb (b .step) (a .step))
     (λ t. absurd (clash (a .needless (b .step) (b .ahead) (ltb-true _ _ t)) (b .needed)))
     (λ g.
-    let low : b .step ≤ a .step = ltb-false (a .step) (b .step) f in
-    let high : a .step ≤ b .step = ltb-false (b .step) (a .step) g in
-    omega (arith, low, high)))
+    let behind : b .step ≤ a .step = ltb-false (a .step) (b .step) f in
+    let before : a .step ≤ b .step = ltb-false (b .step) (a .step) g in
+    omega (arith, behind, before)))
 
 -- moved on, the position stands there
-there : (names : List ℕ) (p : Position) (here : NextMade names p) → onto names p ≡ atStep (here .step) p
+there : (names : List ℕ) (p : Position) → 0 < p .rounds → (here : NextMade names p) → onto names p ≡ atStep (here .step) p
 unfolding moves-on
-there names p here = moved-to names p ∙ ap (λ (k : ℕ). atStep k p) (next-once (moves-on names p) here)
+there names p counted here = moved-to names p ∙ ap (λ (k : ℕ). atStep k p) (next-once (moves-on names p counted) here)
+
+-- a round made is counted
+pub moved-counts : (l : PassPlace) (count : ℕ) (p : Position) (answered : Bool) → 0 < moveOn l count p answered .rounds
+unfolding moveOn nextName onward endAllNamed
+moved-counts poll count p true = omega arith
+moved-counts poll count p false = omega arith
+moved-counts (ask q high) count p answered = omega arith
+moved-counts (ask q low) count p answered = omega arith
+moved-counts (ask least reply) count p true = omega arith
+moved-counts (ask least reply) count p false = omega arith
+moved-counts (ask (bit b) reply) count p answered = omega arith
+moved-counts giveName count p answered = omega arith
+moved-counts giveHigh count p answered = omega arith
+moved-counts giveLow count p answered = omega arith
+moved-counts baptize count p answered = omega arith
 
 pub stands : Stands
 unfolding advance passAdvance atStep moves-on
-stands names p here answered =
+stands names p counted here answered =
     let go : Position → Position = λ q. moveOn (placeOf (q .step)) (length names) (wrote (roundHere names q) q) answered in
     record {
-      next = moves-on names (go (atStep (here .step) p));
-      stands = ap (λ (q : Position). onto names (go q)) (there names p here) ∙ moved-to names (go (atStep (here .step) p));
+      next = moves-on names (go (atStep (here .step) p)) (moved-counts _ _ _ answered);
+      stands =
+          rw (some-counted p counted)
+          (ap (λ (q : Position). onto names (go q)) (there names p counted here) ∙ moved-to names (go (atStep (here .step) p)));
     }
 
 -- moved on twice is moved on once; a needless write passed over is on the way

@@ -8,13 +8,15 @@ use native.Mathlib.Omega.{arith}
 use borrow.Author.Tests.{eq-eqb, ne-eqb, ltb-true, ltb-false, leb-false, eqb-true, eqb-false}
 use lib.ListN.{length, getD}
 use lib.Dec.{eqb, ltb}
+use Rattle.file.specs.Rules.Bytes.{Bytes}
 use Rattle.file.specs.Rules.Order.{firstOf, either}
 use Rattle.file.specs.Rules.Results.{done}
 use Rattle.file.specs.Rules.Cluster.{broadcast, unnamed}
 use Rattle.file.specs.Inner.Accepted.{Placed}
 use Rattle.file.proofs.Order.{byCase, either-false-left, either-false-right, both-false-next, first-none}
+use Rattle.file.proofs.Bytes.{byte-at}
 use Rattle.naming.specs.Rules.Rounds.{half, comparisonRounds, RunRound, sent}
-use Rattle.naming.specs.Rules.Run.{Position, running, unfitName, namesGrounds, startGround, runGrounds, unfitPosition, Question, questionOf, tried, Part, high, low, reply, partOf, giveOf, ask, bits, giveStep, PassPlace, poll, giveName, giveHigh, giveLow, baptize, least, bit, lastStep, askOrGive, placeOf, roundAt, roundHere, onto, passRound, nextRound, wrote, onward, nextName, endAllNamed, moveOn, passAdvance, advance}
+use Rattle.naming.specs.Rules.Run.{Position, running, unfitName, namesGrounds, startGround, runGrounds, unfitPosition, Question, questionOf, tried, Part, high, low, reply, partOf, giveOf, ask, bits, giveStep, PassPlace, poll, giveName, giveHigh, giveLow, baptize, least, bit, lastStep, askOrGive, placeOf, roundAt, roundHere, onto, passRound, nextRound, wrote, onward, nextName, endAllNamed, moveOn, passAdvance, isExtra, countRaised, advance}
 use Rattle.naming.specs.Rules.Step.{isReply, made, madeBy, stepMade}
 use Rattle.cluster.specs.declared.types.MasterSlaveRound.{MasterSlaveRound}
 use Rattle.naming.specs.declared.position.Reply.{Reply}
@@ -157,9 +159,22 @@ unfolding passRound
 pass-sendable {names} {p} r b v =
     here-sendable names (r .fit) (onto-goes names (r .goes)) (rw (onto-same names p .1) b) (rw (onto-value names p) v)
 
-pub next-sendable : {names : List ℕ} {p : Position} → Runs names p → getD names (p .index) 0 < 256 → p .value < 2 ^ bits → Sendable (nextRound names p)
+-- whether the extra read is due
+counted-none : (p : Position) → p .rounds ≡ 0 → isExtra p ≡ true
+unfolding isExtra
+counted-none p e = eq-eqb (p .rounds) 0 e
+
+counted-some : (p : Position) → 0 < p .rounds → isExtra p ≡ false
+unfolding isExtra
+counted-some p h = ne-eqb (p .rounds) 0 (λ e. omega arith)
+
+first-sendable : {names : List ℕ} {p : Position} → Runs names p → getD names 0 0 < 256 → Sendable (RunRound.poll (getD names 0 0))
+first-sendable {names} {p} r b = of-poll (fit-at names 0 (r .fit) (omega (arith, r .goes .within)) b)
+
+pub next-sendable : {names : List ℕ} {p : Position} → Runs names p → Bytes names → p .value < 2 ^ bits → Sendable (nextRound names p)
 unfolding nextRound
-next-sendable r b v = pass-sendable r b v
+next-sendable {names} {p} r b v =
+    byCase (isExtra p) (λ e. rw e (first-sendable r (byte-at b 0))) (λ e. rw e (pass-sendable r (byte-at b (p .index)) v))
 
 -- ---- the position after the round, by its place and answer
 
@@ -263,17 +278,35 @@ wrote-value (RunRound.writeLow l) p = refl
 wrote-value RunRound.compare p = refl
 wrote-value RunRound.baptize p = refl
 
-pub advanced-small : (names : List ℕ) (p : Position) (b : Bool) → p .value < 2 ^ bits → advance names p b .value < 2 ^ bits
-unfolding advance passAdvance
-advanced-small names p b small =
+passed-small : (names : List ℕ) (p : Position) (b : Bool) → p .value < 2 ^ bits → passAdvance names p b .value < 2 ^ bits
+unfolding passAdvance
+passed-small names p b small =
     let q = onto names p in
     let kept : wrote (roundHere names q) q .value < 2 ^ bits = rw (wrote-value (roundHere names q) q, onto-value names p) small in
     rw (onto-value names (moveOn (placeOf (q .step)) (length names) (wrote (roundHere names q) q) b))
     (moved-small (length names) (wrote (roundHere names q) q) b kept (q .step))
 
+pub advanced-small : (names : List ℕ) (p : Position) (b : Bool) → p .value < 2 ^ bits → advance names p b .value < 2 ^ bits
+unfolding advance
+advanced-small names p b small =
+    byCase {P = advance names p b .value < 2 ^ bits} (isExtra p) (λ e. rw e (unfold countRaised in small)) (λ e. rw e (passed-small names p b small))
+
 -- ---- the whole step
 
--- the round that the code makes of a step that goes, at the position s where it stands
+-- the extra read that the code makes of a step that goes and counts no round
+module _
+    (f : List ℕ) {buffer names : List ℕ} {p : Position} (step : StepGoes names p buffer) {n : ℕ} {r : MasterSlaveRound}
+    (name : n ≡ getD names 0 0) (round : Sends r (sent (RunRound.poll n))) where
+  pub extra-may : getD names 0 0 < 256 → MaySend (sentFor r)
+  extra-may byte = rw (round .parts, name) (may-send (first-sendable (runs (step .accepted) (step .runs)) byte))
+
+  pub extra-is :
+      {new file : List ℕ} {mask : ℕ} {q : Position} → p .rounds ≡ 0 → (done mask, new, file) ≡ roundSent f (sentFor r) buffer → q ≡ countRaised p →
+      (done (made mask), q, new, file) ≡ stepMade f p names buffer
+  unfolding stepMade nextRound advance madeBy
+  extra-is none carry is = rw (counted-none p none, ← name, ← (round .parts), ← carry, is)
+
+-- the round that the code makes of a step that goes and counts some, at the position s where it stands
 module _
     {f places buffer names : List ℕ} {p : Position} (s : Position) (placed : Placed f places)
     (step : StepGoes names p buffer) (settled : Settled p s) where
@@ -287,19 +320,19 @@ module _
     unfolding roundHere
     sends = record { parts = rw name at (round .parts) }
 
-    next-here : nextRound names p ≡ roundHere names s
-    unfolding nextRound passRound
+    next-here : passRound names p ≡ roundHere names s
+    unfolding passRound
     next-here = rw (settled names)
 
     pub send-may : MaySend (sentFor r)
     send-may = rw (sends .parts) (may-send (here-sendable names (runs (step .accepted) (step .runs) .fit) here-goes byte small))
 
     pub step-is :
-        {new file : List ℕ} {mask : ℕ} {w q : Position} {b : Bool} →
+        {new file : List ℕ} {mask : ℕ} {w q : Position} {b : Bool} → 0 < p .rounds →
         (done mask, new, file) ≡ roundSent f (sentFor r) buffer → Wrote s w → b ≡ isReply (done mask) →
         q ≡ onto names (moveOn (placeOf (w .step)) (length names) w b) → (done (made mask), q, new, file) ≡ stepMade f p names buffer
-    unfolding stepMade advance passAdvance madeBy wrote
-    step-is {w = w} {q} {b} carry written replied moved =
+    unfolding stepMade nextRound advance passAdvance madeBy wrote
+    step-is {w = w} {q} {b} some carry written replied moved =
         let is : w ≡ wrote (roundHere names s) s = unfold roundHere in written (getD names (s .index) 0) in
         let on : q ≡ onto names (moveOn (placeOf (s .step)) (length names) (wrote (roundHere names s) s) b) = rw (is, wrote-step (roundHere names s) s) at moved in
-        rw (next-here, ← (sends .parts), ← carry, ← replied, ← settled names, on)
+        rw (counted-some p some, next-here, ← (sends .parts), ← carry, ← replied, ← settled names, on)

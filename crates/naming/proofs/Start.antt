@@ -30,7 +30,7 @@ pub record Names (names : List ℕ) : Type 0 where
   pub fit : unfitName names ≡ false
   pub different : hasRepeat names ≡ false
 
-names-fit : {names : List ℕ} → All (λ n. n < 256) names → unfitName names ≡ false → All Fit names
+pub names-fit : {names : List ℕ} → All (λ n. n < 256) names → unfitName names ≡ false → All Fit names
 unfolding unfitName
 names-fit allEmpty f = allEmpty
 names-fit (also {a = n} {l = ns} b h) f =

@@ -11,7 +11,6 @@ use Rattle.file.specs.Rules.Bytes.{Bytes}
 use Rattle.file.specs.Rules.Order.{firstOf, both, either}
 use Rattle.file.specs.Rules.Grounds.{isAmong, hasRepeat}
 use Rattle.file.specs.Rules.Decode.{decode}
-use Rattle.file.proofs.Bytes.{byte-at}
 use Rattle.cluster.specs.Rules.Bus.{slots, senderMask}
 use Rattle.cluster.specs.Rules.Grounds.{shortAnswer}
 use Rattle.cluster.specs.Rules.Round.{Answer, frameOn}
@@ -29,7 +28,7 @@ use Rattle.naming.proofs.StepLaws.{step-made}
 use Rattle.naming.proofs.StepRound.{may-send}
 use Rattle.naming.proofs.RunLaws.{runs, next-sendable}
 use Rattle.naming.proofs.Examples.{m10-accepted}
-use Rattle.naming.proofs.Bytes.{allBelow, bytes-below}
+use Rattle.cluster.proofs.BytesBelow.{allBelow, bytes-below}
 
 -- the round may be sent
 pub next-sent :
@@ -37,7 +36,7 @@ pub next-sent :
     MaySend (sent (nextRound names p))
 unfolding stepGround
 next-sent file p names buffer n small g going =
-    may-send (next-sendable (runs (none-holds file buffer (runGrounds names p) g .rest) going) (byte-at n (p .index)) small)
+    may-send (next-sendable (runs (none-holds file buffer (runGrounds names p) g .rest) going) n small)
 
 pub steps-are-frames : StepsAreFrames
 unfolding stepGround roundSent isReply madeBy

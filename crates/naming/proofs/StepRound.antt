@@ -2,12 +2,13 @@
 -- of the mask says whether someone answers.
 -- Assumes nothing.
 use Prim.Native.Nat.{ℕ, _/_, _%_, _≤_, _<_}
-use mathlib.Core.Path.{_≡_, refl, _∙_}
+use mathlib.Core.Path.{_≡_, refl, sym, ap, _∙_, subst}
 use mathlib.Core.List.{List, [], _∷_, map}
 use mathlib.Core.Bool.{Bool, true, false, cond}
 use native.Mathlib.Omega.{arith}
 use lib.Dec.{eqb}
-use borrow.Author.Tests.{ne-eqb}
+use lib.ListN.{getD}
+use borrow.Author.Tests.{ne-eqb, eqb-false}
 use Rattle.file.specs.Rules.Bytes.{Byte, Bytes, All, bytesOf}
 use Rattle.file.specs.Rules.Order.{both}
 use Rattle.file.specs.Rules.Results.{done}
@@ -18,23 +19,25 @@ use Rattle.file.specs.Rules.Decode.{decode}
 use Rattle.file.specs.Rules.Grounds.{fileGround}
 use Rattle.file.specs.Rules.Legal.{LegalSlave}
 use Rattle.file.specs.Inner.Accepted.{Becomes}
-use Rattle.file.proofs.Order.{both-false-right}
+use Rattle.file.proofs.Order.{byCase, both-false-right}
 use Rattle.file.proofs.Accepted.{accepted-becomes, encode-bytes}
 use Rattle.frame.specs.Rules.Frames.{between, dataFrame, frameOf}
 use Rattle.frame.specs.Rules.Grounds.{broadcastRead}
 use Rattle.cluster.specs.Rules.Bus.{Senders, slots, anyone, senderMask}
-use Rattle.cluster.specs.Rules.Slaves.{withAddress, epochRaised, pendingDuty, sentTo, slavesAfter, slaveAfter}
+use Rattle.cluster.specs.Rules.Slaves.{withAddress, epochRaised, pendingDuty, sentTo, slavesAfter, slaveAfter, restsAfter, rested}
 use Rattle.cluster.specs.Rules.Grounds.{shortAnswer}
 use Rattle.cluster.specs.Rules.Round.{Answer, frameOn}
 use Rattle.cluster.specs.Rules.MasterSlave.{dataSent, roundSent}
 use Rattle.cluster.specs.Inner.Sending.{DataOf, of-write, of-other, MaySend, asked}
 use Rattle.cluster.proofs.Bus.{mask-bit}
+use Rattle.cluster.proofs.Sleep.{rested-awake}
 use Rattle.cluster.proofs.SentRounds.{asked-duty, data-effect, round-sent-becomes, round-is}
 use Rattle.naming.specs.Rules.Rounds.{RunRound, poll, writeName, writeHigh, writeLow, compare, baptize, sent, atUnnamed, half}
 use Rattle.naming.specs.Inner.View.{viewOf, view, changeAll, answers}
 use Rattle.naming.specs.Rules.Step.{isReply}
-use Rattle.naming.proofs.Abstract.{Sendable, of-poll, of-name, of-high, of-low, of-compare, of-baptize}
-use Rattle.naming.proofs.SlaveRounds.{carriedOut, operation-sent, slaves-send, slaves-change}
+use Rattle.naming.specs.Rules.Run.{Position, isExtra, nextRound, advance}
+use Rattle.naming.proofs.Abstract.{polled, Sendable, of-poll, of-name, of-high, of-low, of-compare, of-baptize}
+use Rattle.naming.proofs.SlaveRounds.{carriedOut, operation-sent, slaves-send, slaves-change, slaves-rest, never-sleeps}
 
 -- ---- the rounds of a run may be sent
 
@@ -104,10 +107,14 @@ module _ (c : Cluster) {o : RunRound} (f : Sendable o) where
   data-senders : frameOn (asked c (sent o)) (dataSent (sent o)) .senders ≡ sentTo (carriedOut o) (c .slaves)
   data-senders = rw (data-effect c (sent o) (may-send f), asked-pending) (unfold asked withAddress withPending withEpoch in refl)
 
-  data-slaves : frameOn (asked c (sent o)) (dataSent (sent o)) .after .slaves ≡ map (slaveAfter (carriedOut o) (sent o .content)) (c .slaves)
+  data-slaves : frameOn (asked c (sent o)) (dataSent (sent o)) .after .slaves ≡ map (restsAfter (carriedOut o)) (map (slaveAfter (carriedOut o) (sent o .content)) (c .slaves))
   data-slaves =
       rw (data-effect c (sent o) (may-send f), asked-pending)
-      (unfold slavesAfter epochRaised withSlaves asked withAddress withPending withEpoch in data-content o (c .slaves))
+      (unfold rested slavesAfter epochRaised withSlaves asked withAddress withPending withEpoch in ap (map (restsAfter (carriedOut o))) (data-content o (c .slaves)))
+
+  -- who are all awake
+  data-awake : All (λ (s : Slave). s .asleep ≡ 0) (frameOn (asked c (sent o)) (dataSent (sent o)) .after .slaves)
+  data-awake = rw (data-effect c (sent o) (may-send f), asked-pending) (rested-awake (carriedOut o) (never-sleeps o) _)
 
 -- bit 1 of the mask
 bit-one : (r : Senders) (b : Bool) → anyone (r 1) ≡ cond b 1 0 → isReply (done (senderMask r)) ≡ b
@@ -118,10 +125,15 @@ bit-one r b e = rw (mask-bit r slots 1 (omega arith), e) (go b)
     go true = refl
     go false = refl
 
--- what a round makes of a file, and its answer
+-- what a round makes of a file: all are awake afterwards, whoever slept
 pub record Made (f : List ℕ) (o : RunRound) (after : Answer × List ℕ × List ℕ) : Type 0 where
   pub bytes : Bytes (after .2)
   pub accepted : fileGround (after .2) ≡ 0
+  pub slaves : decode (after .2) .slaves ≡ map (restsAfter (carriedOut o)) (map (slaveAfter (carriedOut o) (sent o .content)) (decode f .slaves))
+  pub awake : All (λ (s : Slave). s .asleep ≡ 0) (decode (after .2) .slaves)
+
+-- and where nobody slept, what it makes of the views, and its answer
+pub record Seen (f : List ℕ) (o : RunRound) (after : Answer × List ℕ × List ℕ) : Type 0 where
   pub views : view (decode (after .2)) ≡ changeAll o (view (decode f))
   pub heard : isReply (after .0) ≡ answers o (view (decode f))
 
@@ -136,11 +148,66 @@ module _ (f : List ℕ) {o : RunRound} (buffer : List ℕ) (bytes : Bytes f) (go
   legal-slaves = accepted-becomes f bytes good .legal .slaves
 
   pub round-made : Made f o (roundSent f (sent o) buffer)
-  unfolding view
   round-made =
       record {
         bytes = rw (becomes .encoded) (encode-bytes _ (becomes .legal));
         accepted = becomes .accepted;
-        views = rw (becomes .decoded, data-slaves (decode f) s) (slaves-change s legal-slaves);
-        heard = rw replies (bit-one (sentTo (carriedOut o) (decode f .slaves)) (answers o (map viewOf (decode f .slaves))) (slaves-send s legal-slaves));
+        slaves = ap (λ (c : Cluster). c .slaves) (becomes .decoded) ∙ data-slaves (decode f) s;
+        awake = subst (λ (c : Cluster). All (λ (x : Slave). x .asleep ≡ 0) (c .slaves)) (sym (becomes .decoded)) (data-awake (decode f) s);
       }
+
+  pub round-seen : All (λ (x : Slave). x .asleep ≡ 0) (decode f .slaves) → Seen f o (roundSent f (sent o) buffer)
+  unfolding view
+  round-seen awake =
+      record {
+        views =
+            ap (map viewOf) (round-made .slaves)
+            ∙ slaves-rest (carriedOut o) (map (slaveAfter (carriedOut o) (sent o .content)) (decode f .slaves))
+            ∙ slaves-change s awake legal-slaves;
+        heard = rw replies (bit-one (sentTo (carriedOut o) (decode f .slaves)) (answers o (map viewOf (decode f .slaves))) (slaves-send s awake legal-slaves));
+      }
+
+-- ---- the run's first round, the extra read, whoever sleeps
+
+-- a read changes no slave, so no view
+poll-slaves : (n : ℕ) (bs : List ℕ) (ss : List Slave) → map (slaveAfter (carriedOut (poll n)) bs) ss ≡ ss
+unfolding carriedOut slaveAfter
+poll-slaves n bs [] = refl
+poll-slaves n bs (s ∷ ss) = ap (λ (l : List Slave). s ∷ l) (poll-slaves n bs ss)
+
+poll-views : (f : List ℕ) (n : ℕ) (after : Answer × List ℕ × List ℕ) → Made f (poll n) after → view (decode (after .2)) ≡ changeAll (poll n) (view (decode f))
+unfolding view
+poll-views f n after m =
+    ap (map viewOf) (m .slaves)
+    ∙ slaves-rest (carriedOut (poll n)) (map (slaveAfter (carriedOut (poll n)) (sent (poll n) .content)) (decode f .slaves))
+    ∙ ap (map viewOf) (poll-slaves n (sent (poll n) .content) (decode f .slaves))
+    ∙ sym (polled n (map viewOf (decode f .slaves)))
+
+-- what a step's round makes of the views, and how the position moves on
+pub record StepSeen (names f : List ℕ) (p : Position) (after : Answer × List ℕ × List ℕ) : Type 0 where
+  pub views : view (decode (after .2)) ≡ changeAll (nextRound names p) (view (decode f))
+  pub moved : advance names p (isReply (after .0)) ≡ advance names p (answers (nextRound names p) (view (decode f)))
+
+extra-next : (names : List ℕ) (p : Position) → isExtra p ≡ true → nextRound names p ≡ poll (getD names 0 0)
+unfolding nextRound
+extra-next names p e = rw e
+
+extra-ignores : (names : List ℕ) (p : Position) → isExtra p ≡ true → (a b : Bool) → advance names p a ≡ advance names p b
+unfolding advance
+extra-ignores names p e a b = rw e
+
+-- the extra read's reply is ignored; before any other round nobody sleeps
+pub step-seen :
+    (names f : List ℕ) (p : Position) {after : Answer × List ℕ × List ℕ} → Made f (nextRound names p) after →
+    ((p .rounds ≡ 0 → ⊥) → Seen f (nextRound names p) after) → StepSeen names f p after
+step-seen names f p {after} m seen =
+    byCase (isExtra p)
+    (λ e.
+    record {
+      views =
+          subst (λ (o : RunRound). Made f o after → view (decode (after .2)) ≡ changeAll o (view (decode f))) (sym (extra-next names p e))
+          (poll-views f (getD names 0 0) after) m;
+      moved = extra-ignores names p e _ _;
+    })
+    (λ e.
+    let s = seen (unfold isExtra in eqb-false _ _ e) in record { views = s .views; moved = ap (advance names p) (s .heard) })

@@ -11,7 +11,7 @@ use lib.ListN.{length}
 use Rattle.file.specs.Rules.Order.{firstOf, both, either}
 use Rattle.file.specs.Rules.Results.{refused, done}
 use Rattle.file.specs.Rules.Bytes.{All, Bytes, allEmpty, allNext, numberOf, part, allZero}
-use Rattle.file.specs.Rules.Cluster.{bytesAmong, bytesIn, lastRecord, physicalName, newLogicalName, logicalName, logicalNames, comparisonValue, pb2Of, noOperation, broadcastRead}
+use Rattle.file.specs.Rules.Cluster.{isAwake, bytesAmong, bytesIn, lastRecord, physicalName, newLogicalName, logicalName, logicalNames, comparisonValue, pb2Of, noOperation, broadcastRead}
 use Rattle.file.specs.Rules.Decode.{decode, decodeAt, slavesAt, slaveAt, filesAt, fileAt, fileSize, offsetAt}
 use Rattle.file.specs.Rules.Grounds.{isAmong, hasRepeat, fileGrounds, fileGround, fileGroundAt, fileGroundsAt, wrongSize, wrongMark, wrongEdition, wrongLength, wrongHeader, wrongPending, brokenLayout, walkFile, tableEnd, walkSlaves, andThen, walkSlave, goodTableEntry, walkDirectory, goodEntry, endsAt, lacksNeeded, allHaveNeeded, hasNeeded, equalPhysicalNames}
 use Rattle.file.proofs.Bytes.{all-first}
@@ -28,7 +28,7 @@ use Rattle.cluster.proofs.Rounds.{buffer-decides, others-decide}
 use Rattle.cluster.proofs.Sent.{alone-round, alone-fits, round-fits}
 use Rattle.cluster.proofs.Renaming.{baptizing-renames}
 use Rattle.cluster.proofs.Keeping.{rounds-in-order, matched-ground, keeping-refused, keeping-accepted, still-matches-baptized}
-use Rattle.naming.specs.Rules.Run.{Position, fresh, runGrounds, namesGrounds, unfitName, unfitPosition, nextRound, passRound, roundHere, onto, passOver, isNeedless, isFirst, isRepeated, roundAt, placeOf, askOrGive, giveOf, startGround}
+use Rattle.naming.specs.Rules.Run.{Position, fresh, runGrounds, namesGrounds, unfitName, unfitPosition, isExtra, nextRound, passRound, roundHere, onto, passOver, isNeedless, isFirst, isRepeated, roundAt, placeOf, askOrGive, giveOf, startGround}
 use Rattle.naming.specs.Rules.Rounds.{RunRound}
 use Rattle.naming.specs.Rules.Step.{stepGround, stepOn, stepKeepingGround, stepKeeping}
 use Rattle.naming.specs.Rules.Account.{Call, step}
@@ -39,7 +39,7 @@ use Rattle.naming.specs.Claims.Files.{oneSlave, m10File}
 use Rattle.naming.specs.Claims.Cases.{answerBuffer}
 use Rattle.naming.specs.Claims.Summary.{AnyCall, aStep, aFrame, WellTyped, typedStep, typedFrame, ListedCall, given, notGiven, listedCalls, BaptizesNobody, inStep, inFrame, GivenToBaptize, noCalls, nextGiven, nextNotGiven, filledFrom, AnswersAsFile, GivenMatching, noneGiven, stepGiven, frameGiven, asPlain}
 use Rattle.naming.proofs.Examples.{m10-accepted}
-use Rattle.naming.proofs.Bytes.{allBelow, bytes-below}
+use Rattle.cluster.proofs.BytesBelow.{allBelow, bytes-below}
 use Rattle.naming.proofs.Lists.{steps-permitted}
 use Rattle.naming.proofs.PermittedRounds.{rounds-fit, each-multipartner}
 use Rattle.naming.proofs.Unasked.{plainStep, plainFrame, given-makes-no-difference}
@@ -209,7 +209,7 @@ baptizes =
     }
 
 taken : map (nameAfter 0xFF) (decode baptized .slaves) ≡ 0x00 ∷ []
-unfolding baptized oneSlave decode decodeAt slavesAt slaveAt filesAt fileAt fileSize offsetAt part numberOf nameAfter takesName addressed addresses isUnnamed physicalName comparisonValue newLogicalName logicalName bytesIn bytesAmong both either
+unfolding baptized oneSlave decode decodeAt slavesAt slaveAt filesAt fileAt fileSize offsetAt part numberOf nameAfter takesName addressed addresses isAwake isUnnamed physicalName comparisonValue newLogicalName logicalName bytesIn bytesAmong both either
 taken = refl
 
 names-after : namesOf (roundOn baptized dataRound answerBuffer .2) ≡ 0x00 ∷ []
@@ -275,7 +275,7 @@ step-baptizes file is =
     record {
       accepted = others-decide file answerBuffer (runGrounds (1 ∷ []) last-of-pass) is (omega arith) ∙ pass-fits;
       runs = unfold last-of-pass in refl;
-      executes = unfold last-of-pass nextRound passRound roundHere onto passOver isNeedless isFirst isRepeated both roundAt placeOf askOrGive giveOf in refl;
+      executes = unfold last-of-pass nextRound isExtra passRound roundHere onto passOver isNeedless isFirst isRepeated both roundAt placeOf askOrGive giveOf in refl;
     }
 
 -- the step gives the one slave its name, and the summary has it
@@ -315,9 +315,9 @@ typed-round : WellTyped m10-round
 unfolding m10-round
 typed-round = typedFrame (bytes-below (0x78 ∷ []) (unfold allBelow both in refl))
 
--- a fresh run begins with a poll
+-- a fresh run begins with a read
 polls : nextRound (1 ∷ 2 ∷ []) (fresh (1 ∷ 2 ∷ [])) ≡ RunRound.poll 1
-unfolding fresh nextRound passRound roundHere onto passOver isNeedless isFirst isRepeated both roundAt placeOf
+unfolding fresh nextRound isExtra
 polls = refl
 
 no-baptism : (file : List ℕ) → BaptizesNobody file m10-step

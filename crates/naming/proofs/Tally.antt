@@ -1,15 +1,16 @@
 -- The tally of the plain account: what it has made and what it still has to make are always the whole; and the whole in closed form.
 -- Assumes nothing.
-use Prim.Native.Nat.{ℕ, suc, _+_, _<_}
+use Prim.Native.Nat.{ℕ, zero, suc, _+_, _<_}
 use mathlib.Core.Path.{_≡_, refl, sym, ap, _∙_, subst}
 use mathlib.Core.List.{List, [], _∷_, map}
 use mathlib.Core.Bool.{Bool, true, false, cond}
 use native.Mathlib.Omega.{arith}
 use lib.Dec.{eqb}
-use borrow.Author.Tests.{eqb-true, eqb-false, ne-eqb}
+use borrow.Author.Tests.{eqb-true, eqb-false, eq-eqb, ne-eqb}
+use Rattle.file.specs.Rules.Order.{both}
 use Rattle.file.specs.Rules.Grounds.{isAmong}
-use Rattle.file.proofs.Order.{byCase, either-false-left, either-false-right}
-use Rattle.naming.specs.Rules.Account.{Named, Account, endWith, give, passOn, oneRound, comparisonsAfter, highAgain, namingRounds, namingComparisons, endingRounds, endingComparisons}
+use Rattle.file.proofs.Order.{byCase, clash, both-left, both-right, both-true, either-false-left, either-false-right}
+use Rattle.naming.specs.Rules.Account.{Named, Account, endWith, give, passOn, extra, oneRound, comparisonsAfter, highAgain, namingRounds, namingComparisons, endingRounds, endingComparisons}
 use Rattle.naming.specs.Rules.Figures.{freeNames, givings, nameGiven, renamed}
 use Rattle.naming.proofs.Facts.{Falling, fall-first, fall-others, not-among}
 use Rattle.naming.proofs.Rounds.{account, goes-on, taken-round, giving-round, ending-round}
@@ -26,6 +27,15 @@ dueComparisons held (n ∷ ns) [] = cond (isAmong n held) (dueComparisons held n
 dueComparisons held (n ∷ ns) (p ∷ ps) =
     cond (isAmong n held) (dueComparisons held ns (p ∷ ps)) (namingComparisons + dueComparisons held ns ps)
 
+-- the extra round, until it is made
+unfoldable pub extraLeft : ℕ → ℕ
+extraLeft zero = 1
+extraLeft (suc n) = 0
+
+unfoldable pub extraDue : List ℕ → ℕ → ℕ
+extraDue [] rounds = 0
+extraDue (n ∷ ns) rounds = extraLeft rounds
+
 -- the rounds of this pass
 unfoldable pub length-of-pass : Bool → List ℕ → ℕ
 length-of-pass true ws = 1
@@ -37,7 +47,7 @@ unfoldable pub finally : List ℕ → List ℕ → List ℕ → List Named → L
 finally held left ws slaves = map (renamed (givings ws (freeNames held left))) slaves
 
 pub record Due (R C : ℕ) (F : List Named) (n : ℕ) (ns ws : List ℕ) (slaves : List Named) (held : List ℕ) (rounds done k : ℕ) : Type 0 where
-  pub all : rounds + due held (n ∷ ns) ws ≡ R + k
+  pub all : extraLeft rounds + rounds + due held (n ∷ ns) ws ≡ R + k
   pub within : k < length-of-pass (isAmong n held) ws
   pub comparisons : done + dueComparisons held (n ∷ ns) ws ≡ C
   pub names : finally held (n ∷ ns) ws slaves ≡ F
@@ -124,12 +134,22 @@ pass-positive true ws = omega arith
 pass-positive false [] = omega arith
 pass-positive false (p ∷ ps) = unfold namingRounds in omega arith
 
+none-left : (rounds : ℕ) → (rounds ≡ 0 → ⊥) → extraLeft rounds ≡ 0
+unfolding extraLeft
+none-left zero some = absurd (some refl)
+none-left (suc n) some = refl
+
+none-due : (ns : List ℕ) (rounds : ℕ) → extraDue ns (suc rounds) ≡ 0
+unfolding extraDue extraLeft
+none-due [] rounds = refl
+none-due (n ∷ ns) rounds = refl
+
 module _ (R C : ℕ) (F : List Named) where
   pub next-pass :
-      (ns ws : List ℕ) (slaves : List Named) (held : List ℕ) (rounds done : ℕ) → rounds + due held ns ws ≡ R →
+      (ns ws : List ℕ) (slaves : List Named) (held : List ℕ) (rounds done : ℕ) → extraDue ns rounds + rounds + due held ns ws ≡ R →
       done + dueComparisons held ns ws ≡ C → finally held ns ws slaves ≡ F → Falling ws →
       Tally R C F (account ns ws slaves held (endWith ns) rounds done 0)
-  unfolding endWith due dueComparisons finally freeNames
+  unfolding endWith due dueComparisons finally freeNames extraDue
   next-pass [] ws slaves held rounds done r c f w =
       let d : Done R C F ws slaves 2 rounds done 0 =
       record { all = omega arith; some = omega arith; comparisons = omega (arith, none-compared (highAgain ws)); names = sym (rw (no-names ws) (all-stay slaves)) ∙ f } in
@@ -140,85 +160,100 @@ module _ (R C : ℕ) (F : List Named) where
       in-pass d
 
   goes-on-pass :
-      (n : ℕ) (ns ws : List ℕ) (slaves : List Named) (held : List ℕ) (rounds done k : ℕ) → Due R C F n ns ws slaves held rounds done k →
+      (n : ℕ) (ns ws : List ℕ) (slaves : List Named) (held : List ℕ) (rounds done k : ℕ) → extraLeft rounds ≡ 0 → Due R C F n ns ws slaves held rounds done k →
       suc k < length-of-pass (isAmong n held) ws → Tally R C F (account (n ∷ ns) ws slaves held 0 (suc rounds) done (suc k))
-  goes-on-pass n ns ws slaves held rounds done k d l =
+  goes-on-pass n ns ws slaves held rounds done k made d l =
       let e : Due R C F n ns ws slaves held (suc rounds) done (suc k) =
-      record { all = omega (arith, d .all); within = l; comparisons = d .comparisons; names = d .names; falls = d .falls } in
+      record { all = unfold extraLeft in omega (arith, d .all, made); within = l; comparisons = d .comparisons; names = d .names; falls = d .falls } in
       in-pass e
 
   taken-pass :
-      (n : ℕ) (ns ws : List ℕ) (slaves : List Named) (held : List ℕ) (rounds done k : ℕ) → Due R C F n ns ws slaves held rounds done k →
+      (n : ℕ) (ns ws : List ℕ) (slaves : List Named) (held : List ℕ) (rounds done k : ℕ) → extraLeft rounds ≡ 0 → Due R C F n ns ws slaves held rounds done k →
       isAmong n held ≡ true → Tally R C F (account ns ws slaves held (endWith ns) (suc rounds) (done + 0) 0)
   unfolding length-of-pass finally
-  taken-pass n ns ws slaves held rounds done k d t =
+  taken-pass n ns ws slaves held rounds done k made d t =
       let w : k < 1 = rw t at (d .within) in
-      let r : rounds + suc (due held ns ws) ≡ R + k = rw (due-taken n ns held t ws) at (d .all) in
+      let r : extraLeft rounds + rounds + suc (due held ns ws) ≡ R + k = rw (due-taken n ns held t ws) at (d .all) in
+      let none : extraDue ns (suc rounds) ≡ 0 = none-due ns rounds in
       let c : done + dueComparisons held ns ws ≡ C = rw (due-comparisons-taken n ns held t ws) at (d .comparisons) in
       next-pass ns ws slaves held (suc rounds) (done + 0) (omega arith) (omega arith) (rw (free-taken n ns held t) at (d .names)) (d .falls)
 
   naming-pass :
       (n : ℕ) (ns : List ℕ) (p : ℕ) (ps : List ℕ) (slaves : List Named) (held : List ℕ) (rounds done k : ℕ) →
-      Due R C F n ns (p ∷ ps) slaves held rounds done k → isAmong n held ≡ false → suc k ≡ namingRounds p →
+      extraLeft rounds ≡ 0 → Due R C F n ns (p ∷ ps) slaves held rounds done k → isAmong n held ≡ false → suc k ≡ namingRounds p →
       Tally R C F (account ns ps (map (give p n) slaves) held (endWith ns) (suc rounds) (done + namingComparisons) 0)
   unfolding due dueComparisons finally freeNames
-  naming-pass n ns p ps slaves held rounds done k d f e =
-      let r : rounds + (namingRounds p + due held ns ps) ≡ R + k = rw f at (d .all) in
+  naming-pass n ns p ps slaves held rounds done k made d f e =
+      let r : extraLeft rounds + rounds + (namingRounds p + due held ns ps) ≡ R + k = rw f at (d .all) in
+      let none : extraDue ns (suc rounds) ≡ 0 = none-due ns rounds in
       let c : done + (namingComparisons + dueComparisons held ns ps) ≡ C = rw f at (d .comparisons) in
       let m : map (renamed (givings (p ∷ ps) (n ∷ freeNames held ns))) slaves ≡ F = rw f at (d .names) in
       next-pass ns ps (map (give p n) slaves) held (suc rounds) (done + namingComparisons) (omega arith) (omega arith)
       (given-now p n ps (freeNames held ns) (not-among p (fall-first (d .falls))) slaves ∙ m) (fall-others (d .falls))
 
   ending-pass :
-      (n : ℕ) (ns : List ℕ) (slaves : List Named) (held : List ℕ) (rounds done k : ℕ) → Due R C F n ns [] slaves held rounds done k →
+      (n : ℕ) (ns : List ℕ) (slaves : List Named) (held : List ℕ) (rounds done k : ℕ) → extraLeft rounds ≡ 0 → Due R C F n ns [] slaves held rounds done k →
       isAmong n held ≡ false → suc k ≡ endingRounds → Tally R C F (account (n ∷ ns) [] slaves held 1 (suc rounds) done (suc k))
   unfolding due dueComparisons finally givings comparisonsAfter highAgain
-  ending-pass n ns slaves held rounds done k d f e =
-      let r : rounds + endingRounds ≡ R + k = rw f at (d .all) in
+  ending-pass n ns slaves held rounds done k made d f e =
+      let r : extraLeft rounds + rounds + endingRounds ≡ R + k = rw f at (d .all) in
       let c : done + endingComparisons ≡ C = rw f at (d .comparisons) in
       let g : Done R C F [] slaves 1 (suc rounds) done (suc k) =
       record { all = omega arith; some = omega arith; comparisons = rw e c; names = sym (all-stay slaves) ∙ d .names } in
       ended g
 
   free-pass :
-      (n : ℕ) (ns ws : List ℕ) (slaves : List Named) (held : List ℕ) (rounds done k : ℕ) → Due R C F n ns ws slaves held rounds done k →
+      (n : ℕ) (ns ws : List ℕ) (slaves : List Named) (held : List ℕ) (rounds done k : ℕ) → extraLeft rounds ≡ 0 → Due R C F n ns ws slaves held rounds done k →
       isAmong n held ≡ false → Tally R C F (passOn (account (n ∷ ns) ws slaves held 0 rounds done k))
   unfolding length-of-pass
-  free-pass n ns [] slaves held rounds done k d f =
+  free-pass n ns [] slaves held rounds done k made d f =
       let w : k < endingRounds = rw f at (d .within) in
       byCase (eqb (suc k) endingRounds)
       (λ t.
       let e : suc k ≡ endingRounds = eqb-true _ _ t in
-      rw (ending-round n ns slaves held rounds done k f e) (ending-pass n ns slaves held rounds done k d f e))
+      rw (ending-round n ns slaves held rounds done k f e) (ending-pass n ns slaves held rounds done k made d f e))
       (λ g.
       let e : suc k ≡ endingRounds → ⊥ = eqb-false _ _ g in
       let l : suc k < endingRounds = omega arith in
-      rw (goes-on n ns [] slaves held rounds done k f g) (goes-on-pass n ns [] slaves held rounds done k d (rw f l)))
-  free-pass n ns (p ∷ ps) slaves held rounds done k d f =
+      rw (goes-on n ns [] slaves held rounds done k f g) (goes-on-pass n ns [] slaves held rounds done k made d (rw f l)))
+  free-pass n ns (p ∷ ps) slaves held rounds done k made d f =
       let w : k < namingRounds p = rw f at (d .within) in
       byCase (eqb (suc k) (namingRounds p))
       (λ t.
       let e : suc k ≡ namingRounds p = eqb-true _ _ t in
-      rw (giving-round n ns p ps slaves held rounds done k f e) (naming-pass n ns p ps slaves held rounds done k d f e))
+      rw (giving-round n ns p ps slaves held rounds done k f e) (naming-pass n ns p ps slaves held rounds done k made d f e))
       (λ g.
       let e : suc k ≡ namingRounds p → ⊥ = eqb-false _ _ g in
       let l : suc k < namingRounds p = omega arith in
-      rw (goes-on n ns (p ∷ ps) slaves held rounds done k f l) (goes-on-pass n ns (p ∷ ps) slaves held rounds done k d (rw f l)))
+      rw (goes-on n ns (p ∷ ps) slaves held rounds done k f l) (goes-on-pass n ns (p ∷ ps) slaves held rounds done k made d (rw f l)))
 
   ended-stays : (left ws : List ℕ) (slaves : List Named) (held : List ℕ) (end rounds done k : ℕ) → 0 < end →
       passOn (account left ws slaves held end rounds done k) ≡ account left ws slaves held end rounds done k
   unfolding passOn
   ended-stays left ws slaves held end rounds done k h = let n : end ≡ 0 → ⊥ = omega arith in rw (ne-eqb end 0 n)
 
-  -- a round keeps the tally
-  pass-tally : {a : Account} → Tally R C F a → Tally R C F (passOn a)
-  pass-tally (in-pass {n = n} {rounds = rounds} {done = done} {k = k} {ns = ns} {ws = ws} {held = held} {slaves = slaves} d) =
+  -- a round keeps the tally: the extra one, and one of a pass
+  extra-made : {a : Account} → Tally R C F a → a .rounds ≡ 0 → a .end ≡ 0 → Tally R C F (extra a)
+  unfolding extra extraLeft
+  extra-made (in-pass {n = n} {rounds = zero} {done = done} {k = k} {ns = ns} {ws = ws} {held = held} {slaves = slaves} d) z e =
+      let g : Due R C F n ns ws slaves held 1 done k =
+      record { all = omega (arith, d .all); within = d .within; comparisons = d .comparisons; names = d .names; falls = d .falls } in
+      in-pass g
+  extra-made (in-pass {rounds = suc r} d) z e = absurd (omega arith)
+  extra-made (ended d) z e = absurd (omega (arith, d .some))
+
+  pass-made : {a : Account} → Tally R C F a → (a .end ≡ 0 → a .rounds ≡ 0 → ⊥) → Tally R C F (passOn a)
+  pass-made (in-pass {n = n} {rounds = rounds} {done = done} {k = k} {ns = ns} {ws = ws} {held = held} {slaves = slaves} d) some =
+      let made : extraLeft rounds ≡ 0 = none-left rounds (some refl) in
       byCase (isAmong n held)
-      (λ t. rw (taken-round n ns ws slaves held rounds done k t) (taken-pass n ns ws slaves held rounds done k d t))
-      (λ f. free-pass n ns ws slaves held rounds done k d f)
-  pass-tally (ended {end = end} {rounds = rounds} {done = done} {k = k} {left = left} {ws = ws} {held = held} {slaves = slaves} d) =
+      (λ t. rw (taken-round n ns ws slaves held rounds done k t) (taken-pass n ns ws slaves held rounds done k made d t))
+      (λ f. free-pass n ns ws slaves held rounds done k made d f)
+  pass-made (ended {end = end} {rounds = rounds} {done = done} {k = k} {left = left} {ws = ws} {held = held} {slaves = slaves} d) some =
       rw (ended-stays left ws slaves held end rounds done k (d .some)) (ended d)
 
   pub tally-round : {a : Account} → Tally R C F a → Tally R C F (oneRound a)
   unfolding oneRound
-  tally-round t = pass-tally t
+  tally-round {a} t =
+      byCase (both (eqb (a .end) 0) (eqb (a .rounds) 0))
+      (λ e. rw e (extra-made t (eqb-true _ _ (both-right _ _ e)) (eqb-true _ _ (both-left _ _ e))))
+      (λ e. rw e (pass-made t (λ z r. clash (both-true (eq-eqb _ _ z) (eq-eqb _ _ r)) e)))

@@ -10,7 +10,7 @@ use lib.ListN.{take}
 use Rattle.file.specs.Rules.Order.{firstOf, both, either}
 use Rattle.file.specs.Rules.Results.{Result, done}
 use Rattle.file.specs.Rules.Bytes.{Bytes, numberOf, part, allZero}
-use Rattle.file.specs.Rules.Cluster.{noOperation, broadcastRead, bytesAmong, bytesIn, lastRecord, hasRecord, recordOf, physicalName, logicalName, pb2Of, executeOperation}
+use Rattle.file.specs.Rules.Cluster.{isAwake, noOperation, broadcastRead, bytesAmong, bytesIn, lastRecord, hasRecord, recordOf, physicalName, logicalName, pb2Of, executeOperation}
 use Rattle.file.specs.Rules.Decode.{decode, decodeAt, slavesAt, slaveAt, filesAt, fileAt, fileSize, offsetAt}
 use Rattle.file.specs.Rules.Grounds.{isAmong, hasRepeat, fileGround, fileGroundAt, fileGroundsAt, wrongSize, wrongMark, wrongEdition, wrongLength, wrongHeader, wrongPending, brokenLayout, walkFile, tableEnd, walkSlaves, andThen, walkSlave, goodTableEntry, walkDirectory, goodEntry, endsAt, lacksNeeded, allHaveNeeded, hasNeeded, equalPhysicalNames}
 use Rattle.frame.specs.Rules.Check.{dataCheck, checkOf, exclusiveOr}
@@ -28,7 +28,7 @@ use Rattle.cluster.proofs.SentAsWritten.{address-sent-as-written, data-sent-as-
 use Rattle.cluster.proofs.RecordWrites.{name-record-written, record-written}
 use Rattle.naming.specs.Claims.Files.{oneSlave, m6File, m10File}
 use Rattle.naming.specs.Claims.Cases.{answerBuffer}
-use Rattle.naming.proofs.Bytes.{allBelow, bytes-below}
+use Rattle.cluster.proofs.BytesBelow.{allBelow, bytes-below}
 use Rattle.naming.proofs.Examples.{m10-accepted}
 
 -- ---- M1, which the address writer wrote
@@ -76,7 +76,7 @@ m3-bytes = bytes-below m3 (unfold m3 dataFrame frameOf dataCheck checkOf exclusi
 
 -- a frame that is accepted, and the one slave reached, whose logical name is 0xFF
 name-reached : WriteReaches nameWrite m3 answerBuffer 0xFF 0x08 1 0
-unfolding name-accepted m3 pb2Of writePending slaveIn addressed addresses logicalName hasRecord
+unfolding name-accepted m3 pb2Of writePending slaveIn addressed addresses isAwake logicalName hasRecord
 name-reached =
     record {
       isMsd = data-round 0x00 0x00 0x01 0xFF;
@@ -95,7 +95,7 @@ name-held = name-record-written nameWrite m3 answerBuffer 0xFF 0x08 1 0 (bytes-b
 -- ---- 01 02 03 04 for record 2
 
 half-reached : WriteReaches halfWrite (dataFrame (0x01 ∷ 0x02 ∷ 0x03 ∷ 0x04 ∷ [])) answerBuffer 0xFF 0x08 2 0
-unfolding half-accepted pb2Of writePending slaveIn addressed addresses logicalName hasRecord
+unfolding half-accepted pb2Of writePending slaveIn addressed addresses isAwake logicalName hasRecord
 half-reached =
     record {
       isMsd = data-round 0x01 0x02 0x03 0x04;

@@ -1,5 +1,5 @@
 -- Statements of theorems: demand 3, the lists that it permits, a step and its two frames, the rounds really made, a pass written out, who is
--- renamed, the summary of job 8, an unknown edition, and the marked cases.
+-- renamed, who is awake, the summary of job 8, an unknown edition, and the marked cases.
 pub mod Demand
 pub mod Throughout
 pub mod Permitted
@@ -7,6 +7,7 @@ pub mod PermittedRounds
 pub mod StepFrames
 pub mod RoundsMade
 pub mod Renaming
+pub mod Sleep
 pub mod Summary
 pub mod Edition
 pub mod Files

@@ -1,7 +1,7 @@
 // The position of a naming run, and how it moves on.
 ghost use mathlib.Core.Path.{_≡_};
 ghost use Prim.Native.Nat.{_≤_};
-ghost use Rattle.naming.specs.Rules.Run.{endAt, fresh, onward, nextName, endAllNamed, ask, reply, bits, questionOf, partOf, tried, placeOf, moveOn, unfitPosition, lastStep};
+ghost use Rattle.naming.specs.Rules.Run.{endAt, fresh, onward, countRaised, nextName, endAllNamed, ask, reply, bits, questionOf, partOf, tried, placeOf, moveOn, unfitPosition, lastStep};
 ghost use Rattle.naming.specs.Rules.Rounds.{comparisonRounds};
 ghost use Rattle.naming.specs.Inner.Answers.{positionOf, heard, FitCounts, GoesOn, partAt, valueAt, Wrote, NeedlessAt, PassedOver, Settled};
 
@@ -125,6 +125,23 @@ pub fn go_on(run: RunPosition, value: u64, more: u64) -> RunPosition
         value,
         rounds: run.rounds + 1,
         comparisons: run.comparisons + more,
+        high: run.high,
+        low: run.low,
+    }
+}
+
+// The extra read is made.
+pub fn count_raised(run: RunPosition) -> RunPosition
+    requires { ⌜ FitCounts (positionOf run) ⌝ }
+    ensures { λ r. ⌜ positionOf r ≡ countRaised (positionOf run) ⌝ }
+{
+    RunPosition {
+        end: run.end,
+        index: run.index,
+        step: run.step,
+        value: run.value,
+        rounds: run.rounds + 1,
+        comparisons: run.comparisons,
         high: run.high,
         low: run.low,
     }

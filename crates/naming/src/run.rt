@@ -1,5 +1,6 @@
 // The calls of a naming run: a fresh run, and one step of a run.
 ghost use mathlib.Core.Path.{_≡_};
+ghost use Prim.Native.Nat.{_<_};
 ghost use Rattle.file.specs.Rules.Order.{firstOf};
 ghost use Rattle.file.specs.Inner.Accepted.{Placed};
 ghost use Rattle.naming.specs.Rules.Run.{startOver, runGrounds};
@@ -12,6 +13,7 @@ use crate::position::RUNNING;
 use crate::position::Reply;
 use crate::position::RunPosition;
 use crate::position::all_named;
+use crate::position::count_raised;
 use crate::position::first_position;
 use crate::position::go_on;
 use crate::position::is_unfit;
@@ -19,6 +21,7 @@ use crate::position::moved;
 use crate::position::next_name;
 use crate::position::settled;
 use crate::position::wrote;
+use crate::sending::poll_round;
 use crate::sending::reply_in;
 use crate::sending::round_at;
 use cluster::answer::SLOTS;
@@ -67,16 +70,33 @@ pub fn run_ground(names: &[u8], run: RunPosition) -> u8
     0
 }
 
-// A step of a running position, on an accepted file and with the places of its slaves. A name that is taken ends its pass, silence at the
-// comparison with 0 the run.
-pub fn make_step(
+// The extra read that a run begins with, at its first name: its reply is ignored, and only the count of rounds changes.
+fn extra_step(
     file: &mut [u8],
     places: &SlavePlaces,
     run: RunPosition,
     names: &[u8],
     answer: &mut [u8],
 ) -> Stepped
-    requires { ⌜ Placed (now file) (now places) × StepGoes (now names) (positionOf run) (now answer) ⌝ }
+    requires { ⌜ Placed (now file) (now places) × StepGoes (now names) (positionOf run) (now answer) × (run .rounds ≡ 0) ⌝ }
+    ensures { λ r. ⌜ (steppedOf r, runAfter (positionOf run) r, now (answer .exit), now (file .exit)) ≡ stepMade (now (file .entry)) (positionOf run) (now (names .entry)) (now (answer .entry)) ⌝ }
+{
+    let first = LogicalName::new(names[0]);
+    let next = poll_round(first);
+    let senders = send(file, places, next, answer);
+    let run = count_raised(run);
+    Stepped::Made { senders, run }
+}
+
+// A step that makes a round of its pass. A name that is taken ends its pass, silence at the comparison with 0 the run.
+fn pass_step(
+    file: &mut [u8],
+    places: &SlavePlaces,
+    run: RunPosition,
+    names: &[u8],
+    answer: &mut [u8],
+) -> Stepped
+    requires { ⌜ Placed (now file) (now places) × StepGoes (now names) (positionOf run) (now answer) × (0 < run .rounds) ⌝ }
     ensures { λ r. ⌜ (steppedOf r, runAfter (positionOf run) r, now (answer .exit), now (file .exit)) ≡ stepMade (now (file .entry)) (positionOf run) (now (names .entry)) (now (answer .entry)) ⌝ }
 {
     let run = settled(run);
@@ -105,6 +125,23 @@ pub fn make_step(
     }
     let run = settled(moved(run, count, reply));
     Stepped::Made { senders, run }
+}
+
+// A step of a running position, on an accepted file and with the places of its slaves: the extra read while it counts no round.
+pub fn make_step(
+    file: &mut [u8],
+    places: &SlavePlaces,
+    run: RunPosition,
+    names: &[u8],
+    answer: &mut [u8],
+) -> Stepped
+    requires { ⌜ Placed (now file) (now places) × StepGoes (now names) (positionOf run) (now answer) ⌝ }
+    ensures { λ r. ⌜ (steppedOf r, runAfter (positionOf run) r, now (answer .exit), now (file .exit)) ≡ stepMade (now (file .entry)) (positionOf run) (now (names .entry)) (now (answer .entry)) ⌝ }
+{
+    if run.rounds == 0 {
+        return extra_step(file, places, run, names, answer);
+    }
+    pass_step(file, places, run, names, answer)
 }
 
 // One step: the file is checked once, and its round is carried out on it.

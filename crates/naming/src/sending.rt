@@ -32,8 +32,8 @@ use file::types::RecordNumber;
 // "a reply in slot 1".
 const REPLY_SLOT: u64 = FIRST_SLOT as u64;
 
-// The read that finds out whether a name is taken.
-fn poll_round(name: LogicalName) -> MasterSlaveRound
+// The read that finds out whether a name is taken; at the first name also the extra one that a run begins with.
+pub fn poll_round(name: LogicalName) -> MasterSlaveRound
     ensures { λ r. ⌜ Sends r (sent (poll (nameIn name))) ⌝ }
 {
     MasterSlaveRound {

@@ -2,16 +2,15 @@
 -- Assumes nothing.
 use Prim.Native.Nat.{ℕ, _+_, _*_, _/_, _%_, _^_, _<_}
 use native.Mathlib.Omega.{arith}
-use mathlib.Core.Path.{_≡_, refl, sym, ap, _∙_, subst}
+use mathlib.Core.Path.{_≡_, sym, ap, _∙_}
 use mathlib.Core.Logic.{_≢_, _↔_}
-use mathlib.Core.List.{List, [], _++_}
-use mathlib.Core.Bool.{Bool, true, false}
+use mathlib.Core.List.{List, []}
+use mathlib.Core.Bool.{true, false}
 use lib.ListN.{length, getD, drop}
 use lib.Dec.{eqb}
 use borrow.Author.Tests.{eqb-true, eqb-false}
 use Rattle.file.specs.Rules.Layout.{recordSize}
 use Rattle.file.specs.Rules.Results.{Result, refused, done}
-use Rattle.file.specs.Rules.Cluster.{Slave}
 use Rattle.file.specs.Rules.Decode.{decode}
 use Rattle.file.specs.Rules.Changes.{withEpoch}
 use Rattle.file.specs.Rules.Grounds.{fileGround}
@@ -20,11 +19,12 @@ use Rattle.cluster.specs.Rules.Bus.{slots}
 use Rattle.frame.specs.Rules.Fireworks.{multipartner}
 use Rattle.cluster.specs.Rules.Grounds.{roundBy}
 use Rattle.cluster.specs.Rules.Round.{effectOf, frameOn, roundOn}
+use Rattle.cluster.specs.Claims.Sleep.{awakeAmong}
 use Rattle.cluster.proofs.Mask.{bits-are-senders}
 use Rattle.owner.specs.Rules.Plan.{rounds, isOwned, sendersIn, twoSend, multiplexedSend}
 use Rattle.owner.specs.Rules.OwnerFile.{rowOf, ownerOf, ownerFile}
 use Rattle.owner.specs.Rules.Writing.{ownerGround, writtenIn, ownerOn}
-use Rattle.owner.specs.Claims.Rounds.{sentAsRun, OwnerRuns, MaskPlanned, MaskAsPlanned, PlainOwnerRuns, PlainMaskAsPlanned}
+use Rattle.owner.specs.Claims.Rounds.{sentAsRun, MaskAsPlanned, PlainMaskAsPlanned}
 use Rattle.owner.specs.Claims.Call.{BufferRuns, PlainBufferRuns}
 use Rattle.owner.proofs.Calls.{file-decides, multiplexed-decides, clash-decides, owner-refused, owner-written}
 use Rattle.owner.proofs.Runs.{no-length, count-as-planned, someone-sends, owners-run, plain-count-as-planned, plain-owners-run}
@@ -102,7 +102,8 @@ mask-as-planned file frame answer mask round is by few owned free slot l =
     record {
       set = λ set none.
           bit .0 set (no-length (sentAsRun (decode file) round slot) (omega (arith, count-as-planned (decode file) free round few owned slot, ap length none)));
-      planned = λ before after s stands some e alone. bit .1 (someone-sends (decode file) free round few owned slot some l before after s stands e alone);
+      planned = λ before after s stands some awake e alone.
+          bit .1 (someone-sends (decode file) free round few owned slot some l before after s stands awake e alone);
     }
 
 pub plain-mask-as-planned : PlainMaskAsPlanned
@@ -110,5 +111,5 @@ plain-mask-as-planned file frame answer mask round is by few plain slot l =
     let bit = bit-sent file frame answer mask round is by slot l in
     let same = plain-count-as-planned (decode file) round few plain slot in (
       λ set none. bit .0 set (no-length (sentAsRun (decode file) round slot) (same ∙ ap length none)),
-      λ some. bit .1 (λ none. some (no-length (sendersIn round slot (decode file .slaves)) (sym same ∙ ap length none))),
+      λ some. bit .1 (λ none. some (no-length (awakeAmong (sendersIn round slot (decode file .slaves))) (sym same ∙ ap length none))),
     )

@@ -38,7 +38,7 @@ module _ (file : List ℕ) (master : ℕ) (buffer : List ℕ) where
   unfolding ownerGround ownerGrounds
   file-decides some = joined-here (fileGrounds file) _ (file-numbered file) (λ z. some (sym (file-first file) ∙ z)) ∙ file-first file
 
-  after-file : fileGround file ≡ 0
+  pub after-file : fileGround file ≡ 0
       → ownerGround file master buffer
       ≡ firstOf
       ((23, multiplexedSend (decode file .slaves)) ∷ (20, twoSend (decode file .slaves)) ∷ (21, tooShort buffer master (decode file .slaves)) ∷ [])

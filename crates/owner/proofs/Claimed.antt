@@ -1,9 +1,10 @@
 -- Each claim of specs/Claims, and the theorem that has it as its type.
-use Rattle.owner.specs.Claims.Call.{BufferRuns, PlainBufferRuns, UnknownEdition}
+use Rattle.owner.specs.Claims.Call.{BufferRuns, PlainBufferRuns, PlannedAwake, UnknownEdition}
 use Rattle.owner.specs.Claims.Grounds.{GroundsInOrder}
 use Rattle.owner.specs.Claims.Header.{HeaderIsZeros}
 use Rattle.owner.specs.Claims.Rounds.{SendAsPlanned, CountAsPlanned, MaskAsPlanned, SenderOwns, OwnersRun, PlainCountAsPlanned, PlainAsPlanned, PlainOwnersRun, PlainMaskAsPlanned}
 use Rattle.owner.specs.Claims.Sizes.{AtMostLongest, LongestFits, IndexBytes, FoundByIndex, NobodyPastRow}
+use Rattle.owner.proofs.Asleep.{planned-awake}
 use Rattle.owner.proofs.Buffer.{buffer-runs, plain-buffer-runs, mask-as-planned, plain-mask-as-planned}
 use Rattle.owner.proofs.Calls.{owner-edition}
 use Rattle.owner.proofs.Grounds.{grounds-in-order, header-is-zeros}
@@ -15,6 +16,9 @@ held-buffer-runs = buffer-runs
 
 pub held-plain-buffer-runs : PlainBufferRuns
 held-plain-buffer-runs = plain-buffer-runs
+
+pub held-planned-awake : PlannedAwake
+held-planned-awake = planned-awake
 
 pub held-unknown-edition : UnknownEdition
 held-unknown-edition = owner-edition

@@ -10,9 +10,10 @@ pub mod EntryMasks
 pub mod SlavePlan
 pub mod RoundLaws
 pub mod RowLaws
--- the call, by its answers
+-- the call, by its answers, and that it does not ask who sleeps
 pub mod Calls
 pub mod Grounds
+pub mod Asleep
 pub mod Witnesses
 pub mod Distinct
 -- who sends in a round as it runs; the file's size and its index

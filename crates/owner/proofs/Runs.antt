@@ -2,29 +2,30 @@
 -- and where no slave has a multiplexed send, a round passes over an entry that the plan does not, or does not pass over one that the plan
 -- does, only where that entry is a multiplexed receive.
 -- Assumes nothing.
-use Prim.Native.Nat.{ℕ, zero, suc, _+_, _-_, _≤_, _<_}
+use Prim.Native.Nat.{ℕ, zero, suc, _-_, _≤_, _<_}
 use native.Mathlib.Omega.{arith}
 use mathlib.Core.Path.{_≡_, refl, sym, ap, _∙_, subst}
-use mathlib.Core.Logic.{_↔_}
 use mathlib.Core.List.{List, [], _∷_, _++_, map}
 use mathlib.Core.Bool.{Bool, true, false, not, cond}
 use lib.ListN.{length, getD, replicate}
 use lib.Dec.{eqb, leb}
-use borrow.Author.Tests.{leb-false, eqb-true, eqb-false, ne-eqb}
+use borrow.Author.Tests.{leb-false, eqb-true, eqb-false, eq-eqb, ne-eqb}
 use Rattle.file.specs.Rules.Order.{both, either}
-use Rattle.file.specs.Rules.Cluster.{Slave, Cluster, bytesAmong, bytesIn, lastRecord, logicalName, configuration}
+use Rattle.file.specs.Rules.Cluster.{Slave, Cluster, isAwake, bytesIn, lastRecord, logicalName, configuration}
 use Rattle.file.specs.Rules.Changes.{withEpoch}
 use Rattle.file.specs.Inner.Places.{SameFiles, SameShape, noSlaves, sameSlave}
-use Rattle.file.proofs.Order.{byCase, clash, both-true, both-false-left, both-false-right, both-false-next, either-false-left, either-false-right}
+use Rattle.file.proofs.Order.{byCase, clash, both-true, both-right, both-false-left, both-false-right, both-false-next, either-false-left, either-false-right}
 use Rattle.file.proofs.Shape.{files-bytes-length}
 use Rattle.cluster.specs.Rules.Bus.{slots}
 use Rattle.cluster.specs.Rules.Slaves.{isUnnamed, epochRaised}
 use Rattle.cluster.specs.Rules.Entries.{Entry, entryAt, isMultiplexed, sends, ends, covers, outOfTurn, eligible, Acting, noEntry, acts, acting, actingFrom}
 use Rattle.cluster.specs.Rules.Multipartner.{SlaveByte, nowhere, byteOf, within, sendPlace, plansFrom, sendsFrom, byteThere, sentBy, sentIn, clusterBelow, sentDuring}
 use Rattle.cluster.specs.Rules.Round.{passedOver}
+use Rattle.cluster.specs.Claims.Sleep.{awakeAmong}
 use Rattle.cluster.proofs.EntryLaws.{plain-turn, multiplexed-either, eligible-covers}
 use Rattle.cluster.proofs.Kept.{kept-below}
-use Rattle.cluster.proofs.Untouched.{filesOf, below-other}
+use Rattle.cluster.proofs.Asleep.{awake-byte}
+use Rattle.cluster.proofs.Untouched.{filesOf, below-other, below-awake}
 use Rattle.owner.specs.Rules.Plan.{rounds, isOwned, isMultiplexedReceive, isThere, sendsIn, sendersAmong, sendersIn, someBelow, twoSendIn, twoSend, someEntryFrom, someEntry, someEntryOf, isMultiplexedSend, multiplexedSend}
 use Rattle.owner.specs.Rules.OwnerFile.{nameOf, ownerOf, lastOwned}
 use Rattle.owner.specs.Claims.Rounds as claims
@@ -176,20 +177,26 @@ uncovered round slot s =
         (λ m. both-false-right _ (both-false-next _ (receive-there e m unsent .1) past))
         (λ m. both-false-left _ m)
 
+-- a slave sends where it is planned to, if it is awake
+sends-there : (passed : Entry → Bool) (round slot : ℕ) (s : Slave) → isThere (sendsFrom passed round slot s) ≡ both (eqb (s .asleep) 0) (isThere (plansFrom passed round slot s))
+unfolding sendsFrom isThere both
+sends-there passed round slot s = rw (awake-byte s) (byCase (isAwake s) (λ a. rw a) (λ a. rw a))
+
 -- slave by slave, of any list
 module _ (passed : Entry → Bool) (only : OnlyMultiplexed passed) (round slot : ℕ) where
   as-planned : (ss : List Slave) → someEntryOf isMultiplexedSend round ss ≡ false
-      → AsPlanned round slot ss (map (λ (s : Slave). isThere (plansFrom passed round slot s)) ss)
+      → AsPlanned round slot ss (map (λ (s : Slave). isThere (sendsFrom passed round slot s)) ss)
   unfolding someEntryOf
   as-planned [] none = claims.noSlaves
   as-planned (s ∷ ss) none =
       let unsent : someEntry isMultiplexedSend round s ≡ false = either-false-left _ _ none in
-      nextSlave (λ e. send-planned passed only round slot s unsent e) (λ free e. sends-free unsent free e) (as-planned ss (either-false-right _ _ none))
+      nextSlave (λ e. send-planned passed only round slot s unsent (both-right _ _ (sym (sends-there passed round slot s) ∙ e)))
+      (λ awake free e. sends-there passed round slot s ∙ both-true (eq-eqb (s .asleep) 0 awake) (sends-free unsent free e)) (as-planned ss (either-false-right _ _ none))
     where
       sends-free : someEntry isMultiplexedSend round s ≡ false → mayReceive round slot s ≡ false → sendsIn round slot s ≡ true → isThere (plansFrom passed round slot s) ≡ true
       sends-free unsent free e = ap isThere (plans-same passed only round slot s (uncovered round slot s unsent free)) ∙ (unfold sendsIn in e)
 
--- ---- a slave whose 0x08 and round file are the same, with files of the same lengths
+-- ---- a slave whose 0x08 and round file are the same, with files of the same lengths, awake or asleep as it was
 
 place-alike : (s t : Slave) → SameFiles (s .files) (t .files) → (slot : ℕ) (a : Acting) → sendPlace t slot a ≡ sendPlace s slot a
 unfolding sendPlace within bytesIn
@@ -197,9 +204,9 @@ place-alike s t same slot noEntry = refl
 place-alike s t same slot (acts e) = rw (files-bytes-length (e .file) same)
 
 slave-alike : (passed : Entry → Bool) (s t : Slave) → SameFiles (s .files) (t .files) → (round slot : ℕ) → bytesIn t configuration ≡ bytesIn s configuration → bytesIn t round ≡ bytesIn s round
-    → sendsFrom passed round slot t ≡ plansFrom passed round slot s
+    → isAwake t ≡ isAwake s → sendsFrom passed round slot t ≡ sendsFrom passed round slot s
 unfolding sendsFrom plansFrom isUnnamed logicalName
-slave-alike passed s t same round slot config rodl = rw (config, rodl, place-alike s t same slot)
+slave-alike passed s t same round slot config rodl awake = rw (awake, config, rodl, place-alike s t same slot)
 
 -- ---- all slaves
 
@@ -210,11 +217,14 @@ others-same : {A : Type 0} {a b : A} {xs ys : List A} → (a ∷ xs) ≡ (b ∷ 
 others-same e = cc
 
 slaves-alike : (passed : Entry → Bool) {ss ts : List Slave} → SameShape ss ts → (round slot : ℕ) → filesOf configuration ts ≡ filesOf configuration ss → filesOf round ts ≡ filesOf round ss
-    → map (sendsFrom passed round slot) ts ≡ map (plansFrom passed round slot) ss
+    → map isAwake ts ≡ map isAwake ss → map (sendsFrom passed round slot) ts ≡ map (sendsFrom passed round slot) ss
 unfolding filesOf
-slaves-alike passed noSlaves round slot config rodl = refl
-slaves-alike passed (sameSlave {s = s} {t = t} same rest) round slot config rodl =
-    rw (slave-alike passed s t same round slot (first-same config) (first-same rodl), slaves-alike passed rest round slot (others-same config) (others-same rodl))
+slaves-alike passed noSlaves round slot config rodl awake = refl
+slaves-alike passed (sameSlave {s = s} {t = t} same rest) round slot config rodl awake =
+    rw (
+      slave-alike passed s t same round slot (first-same config) (first-same rodl) (first-same awake),
+      slaves-alike passed rest round slot (others-same config) (others-same rodl) (others-same awake),
+    )
 
 map-after : {A B C : Type 0} (g : B → C) (f : A → B) (l : List A) → map (λ (a : A). g (f a)) l ≡ map g (map f l)
 map-after g f [] = refl
@@ -248,6 +258,20 @@ unfolding sendersAmong trues
 plan-count round slot [] = refl
 plan-count round slot (s ∷ ss) = plan-one s (sendsIn round slot s) (sendersAmong round slot ss) (map (sendsIn round slot) ss) (plan-count round slot ss)
 
+-- those of them that are awake
+awake-count : (round slot : ℕ) (ss : List Slave) → length (awakeAmong (sendersAmong round slot ss)) ≡ trues (map (λ (s : Slave). both (eqb (s .asleep) 0) (sendsIn round slot s)) ss)
+unfolding sendersAmong awakeAmong trues
+awake-count round slot [] = refl
+awake-count round slot (s ∷ ss) =
+    byCase (sendsIn round slot s)
+    (λ p.
+    byCase (eqb (s .asleep) 0)
+    (λ a.
+    let here : both (eqb (s .asleep) 0) (sendsIn round slot s) ≡ true = both-true a p in
+    rw (here, p, a) (ap suc (awake-count round slot ss)))
+    (λ a. let none : both (eqb (s .asleep) 0) (sendsIn round slot s) ≡ false = both-false-left _ a in rw (none, p, a) (awake-count round slot ss)))
+    (λ p. let none : both (eqb (s .asleep) 0) (sendsIn round slot s) ≡ false = both-false-right _ p in rw (none, p) (awake-count round slot ss))
+
 -- no more send than are planned
 fewer-one : (p q : Bool) (ps qs : List Bool) → (p ≡ true → q ≡ true) → trues ps ≤ trues qs → trues (p ∷ ps) ≤ trues (q ∷ qs)
 unfolding trues
@@ -268,18 +292,19 @@ module _ (c : Cluster) (round : ℕ) (few : round < rounds) (slot : ℕ) where
   abbrev running : Cluster
   running = clusterBelow (passedOver c) round (epochRaised c) slot
 
-  alike : map (sendsFrom (passedOver c) round slot) (running .slaves) ≡ map (plansFrom (passedOver c) round slot) (c .slaves)
+  alike : map (sendsFrom (passedOver c) round slot) (running .slaves) ≡ map (sendsFrom (passedOver c) round slot) (c .slaves)
   unfolding epochRaised withEpoch
   alike =
       slaves-alike (passedOver c) (kept-below (passedOver c) round (epochRaised c) slot .shape) round slot
       (below-other (passedOver c) round (epochRaised c) slot configuration (λ l. absurd (omega arith)))
       (below-other (passedOver c) round (epochRaised c) slot round (λ l. absurd (omega arith)))
+      (below-awake (passedOver c) round (epochRaised c) slot)
 
-  runs-alike : sendsAsRun c round slot ≡ map (λ (s : Slave). isThere (plansFrom (passedOver c) round slot s)) (c .slaves)
+  runs-alike : sendsAsRun c round slot ≡ map (λ (s : Slave). isThere (sendsFrom (passedOver c) round slot s)) (c .slaves)
   unfolding sendsAsRun
   runs-alike =
       map-after isThere (sendsFrom (passedOver c) round slot) (running .slaves)
-      ∙ (ap (map isThere) alike ∙ sym (map-after isThere (plansFrom (passedOver c) round slot) (c .slaves)))
+      ∙ (ap (map isThere) alike ∙ sym (map-after isThere (sendsFrom (passedOver c) round slot) (c .slaves)))
 
   runs-as-planned : someEntryOf isMultiplexedSend round (c .slaves) ≡ false → AsPlanned round slot (c .slaves) (sendsAsRun c round slot)
   runs-as-planned none = rw runs-alike (as-planned (passedOver c) (round-only c) round slot (c .slaves) none)
@@ -382,12 +407,12 @@ heads-same p q = cc
 record OneMay (round slot : ℕ) (before after : List Slave) (s : Slave) (bs : List Bool) : Type 0 where
   pub sends : Bool
   pub others : bs ≡ replicate (length before) false ++ sends ∷ replicate (length after) false
-  pub does : mayReceive round slot s ≡ false → sends ≡ true
+  pub does : s .asleep ≡ 0 → mayReceive round slot s ≡ false → sends ≡ true
 
 one-may : {round slot : ℕ} (before after : List Slave) (s : Slave) {bs : List Bool} → AsPlanned round slot (before ++ s ∷ after) bs
     → map (sendsIn round slot) (before ++ s ∷ after) ≡ replicate (length before) false ++ true ∷ replicate (length after) false → OneMay round slot before after s bs
 one-may [] after s (nextSlave {sends = b} p q rest) e =
-    record { sends = b; others = ap (λ (l : List Bool). b ∷ l) (silent-all rest (others-same e)); does = λ free. q free (first-same e) }
+    record { sends = b; others = ap (λ (l : List Bool). b ∷ l) (silent-all rest (others-same e)); does = λ awake free. q awake free (first-same e) }
 one-may (x ∷ before) after s (nextSlave {sends = b} p q rest) e =
     let o = one-may before after s rest (others-same e) in
     record { sends = o .sends; others = heads-same (silent-one b p (first-same e)) (o .others); does = o .does }
@@ -428,7 +453,7 @@ unfolding sentAsRun sentDuring sentIn sendersIn
 count-as-planned c none round few owned zero = omega arith
 count-as-planned c none round few owned (suc slot) = runs-few c round few (none-multiplexed (c .slaves) none round few owned) slot
 
--- one that is planned, and of which no multiplexed receive covers the slot, is counted
+-- one that is planned and awake, and of which no multiplexed receive covers the slot, is counted
 first-counts : (b : Bool) (bs : List Bool) → b ≡ true → 1 ≤ trues (b ∷ bs)
 unfolding trues
 first-counts true bs e = omega arith
@@ -440,19 +465,19 @@ next-counts true bs l = omega arith
 next-counts false bs l = l
 
 planned-counts : {round slot : ℕ} (before after : List Slave) (s : Slave) {bs : List Bool} → AsPlanned round slot (before ++ s ∷ after) bs
-    → mayReceive round slot s ≡ false → sendsIn round slot s ≡ true → 1 ≤ trues bs
-planned-counts [] after s (nextSlave {sends = b} {others = bs} p q rest) free e = first-counts b bs (q free e)
-planned-counts (x ∷ before) after s (nextSlave {sends = b} {others = bs} p q rest) free e = next-counts b bs (planned-counts before after s rest free e)
+    → s .asleep ≡ 0 → mayReceive round slot s ≡ false → sendsIn round slot s ≡ true → 1 ≤ trues bs
+planned-counts [] after s (nextSlave {sends = b} {others = bs} p q rest) awake free e = first-counts b bs (q awake free e)
+planned-counts (x ∷ before) after s (nextSlave {sends = b} {others = bs} p q rest) awake free e = next-counts b bs (planned-counts before after s rest awake free e)
 
 pub someone-sends : (c : Cluster) → multiplexedSend (c .slaves) ≡ false → (round : ℕ) → round < rounds → isOwned round ≡ true → (slot : ℕ) → 0 < slot → slot < slots
-    → (before after : List Slave) (s : Slave) → c .slaves ≡ before ++ s ∷ after → sendsIn round slot s ≡ true → mayReceive round slot s ≡ false
+    → (before after : List Slave) (s : Slave) → c .slaves ≡ before ++ s ∷ after → s .asleep ≡ 0 → sendsIn round slot s ≡ true → mayReceive round slot s ≡ false
     → sentAsRun c round slot ≡ [] → ⊥
-someone-sends c none round few owned zero some l before after s stands e free silent = omega arith
-someone-sends c none round few owned (suc slot) some l before after s stands e free silent =
+someone-sends c none round few owned zero some l before after s stands awake e free silent = omega arith
+someone-sends c none round few owned (suc slot) some l before after s stands awake e free silent =
     let planned : AsPlanned round (suc slot) (before ++ s ∷ after) (sendsAsRun c round (suc slot)) =
     subst (λ (l : List Slave). AsPlanned round (suc slot) l (sendsAsRun c round (suc slot))) stands (send-as-planned c none round few owned (suc slot) some l)
     in
-    omega (arith, runs-count c round slot, planned-counts before after s planned free e, ap length silent)
+    omega (arith, runs-count c round slot, planned-counts before after s planned awake free e, ap length silent)
 
 -- a slot with a sender is not past the last
 last-listed : (round : ℕ) (ss : List Slave) (slot : ℕ) → (length (sendersIn round slot ss) ≡ 0 → ⊥) → (n : ℕ) → slot ≤ n → slot ≤ lastOwned round ss n
@@ -547,37 +572,50 @@ module _ (round : ℕ) where
   plain-free slot (b ∷ before) after s e = plain-free slot before after s (either-false-right _ _ e)
 
   plain-plans : (passed : Entry → Bool) → OnlyMultiplexed passed → (slot : ℕ) (ss : List Slave) → someEntryOf multiplexed round ss ≡ false
-      → map (λ (s : Slave). isThere (plansFrom passed round slot s)) ss ≡ map (sendsIn round slot) ss
+      → map (λ (s : Slave). isThere (sendsFrom passed round slot s)) ss ≡ map (λ (s : Slave). both (eqb (s .asleep) 0) (sendsIn round slot s)) ss
   unfolding someEntryOf sendsIn
   plain-plans passed only slot [] e = refl
-  plain-plans passed only slot (s ∷ ss) e = rw (plans-same passed only round slot s out, plain-plans passed only slot ss (either-false-right _ _ e))
+  plain-plans passed only slot (s ∷ ss) e = rw (sends-there passed round slot s, plans-same passed only round slot s out, plain-plans passed only slot ss (either-false-right _ _ e))
     where
       out : someEntry (λ (x : Entry). both (isMultiplexed (x .operation)) (covers x slot)) round s ≡ false
       out =
           none-entry multiplexed multiplexed (λ (x : Entry). both (isMultiplexed (x .operation)) (covers x slot)) (λ x p q. both-false-left _ p) round s
           (either-false-left _ _ e) (either-false-left _ _ e)
 
-plain-alike : (c : Cluster) (round : ℕ) → round < rounds → Plain c round → (slot : ℕ) → sendsAsRun c round slot ≡ map (sendsIn round slot) (c .slaves)
+plain-alike : (c : Cluster) (round : ℕ) → round < rounds → Plain c round → (slot : ℕ) → sendsAsRun c round slot ≡ map (λ (s : Slave). both (eqb (s .asleep) 0) (sendsIn round slot s)) (c .slaves)
 plain-alike c round few plain slot = runs-alike c round few slot ∙ plain-plans round (passedOver c) (round-only c) slot (c .slaves) plain
 
 pub plain-as-planned : PlainAsPlanned
 plain-as-planned c round few plain slot some l = plain-alike c round few plain slot
 
 pub plain-count-as-planned : PlainCountAsPlanned
-unfolding sentAsRun sentDuring sentIn sendersIn
+unfolding sentAsRun sentDuring sentIn sendersIn awakeAmong
 plain-count-as-planned c round few plain zero = refl
 plain-count-as-planned c round few plain (suc slot) =
-    runs-count c round slot ∙ (ap trues (plain-alike c round few plain (suc slot)) ∙ sym (plan-count round (suc slot) (c .slaves)))
+    runs-count c round slot ∙ (ap trues (plain-alike c round few plain (suc slot)) ∙ sym (awake-count round (suc slot) (c .slaves)))
 
--- request 4's theorem, by the one above: the owner sends, since no multiplexed receive of its covers the slot
-plain-owner : (c : Cluster) (round : ℕ) → Plain c round → (slot : ℕ) {owner : ℕ} → OwnerRuns c round (suc slot) owner → PlainOwnerRuns c round (suc slot) owner
-plain-owner c round plain slot (nobodySends e) = noneSends e
-plain-owner c round plain slot (oneMaySend before after s sends stands most is does) =
-    let own : sends ≡ true = does (plain-free round (suc slot) before after s (rw stands at plain)) in
-    let one : sendsAsRun c round (suc slot) ≡ replicate (length before) false ++ true ∷ replicate (length after) false = rw own at is in
+-- what stands behind so many of a list
+at-length : (f : Slave → Bool) (before after : List Slave) (s : Slave) (b : Bool) (rest : List Bool) → replicate (length before) false ++ b ∷ rest ≡ map f (before ++ s ∷ after) → b ≡ f s
+at-length f [] after s b rest e = first-same e
+at-length f (x ∷ before) after s b rest e = at-length f before after s b rest (others-same e)
+
+-- request 4's theorem, by the one above: the owner sends if it is awake, since no multiplexed receive of its covers the slot
+plain-owner : (c : Cluster) (round : ℕ) → round < rounds → Plain c round → (slot : ℕ) {owner : ℕ} → OwnerRuns c round (suc slot) owner → PlainOwnerRuns c round (suc slot) owner
+plain-owner c round few plain slot (nobodySends e) = noneSends e
+plain-owner c round few plain slot (oneMaySend before after s sends stands most is does) =
+    let does-as : Slave → Bool = λ (x : Slave). both (eqb (x .asleep) 0) (sendsIn round (suc slot) x) in
+    let here : sends ≡ both (eqb (s .asleep) 0) (sendsIn round (suc slot) s) =
+    at-length does-as before after s sends (replicate (length after) false) (sym is ∙ plain-alike c round few plain (suc slot) ∙ ap (map does-as) stands)
+    in
+    let own : sends ≡ eqb (s .asleep) 0 =
+    byCase (eqb (s .asleep) 0)
+    (λ a. does (eqb-true (s .asleep) 0 a) (plain-free round (suc slot) before after s (rw stands at plain)) ∙ sym a)
+    (λ a. here ∙ (both-false-left _ a ∙ sym a))
+    in
+    let one : sendsAsRun c round (suc slot) ≡ replicate (length before) false ++ eqb (s .asleep) 0 ∷ replicate (length after) false = rw own at is in
     oneSends before after s stands (rw own at most) one
 
 pub plain-owners-run : PlainOwnersRun
 plain-owners-run c one master round few owned plain zero some l = absurd (omega arith)
 plain-owners-run c one master round few owned plain (suc slot) some l =
-    plain-owner c round plain slot (owner-in-round c one master round few owned (plain-none round (c .slaves) plain) (suc slot) some l)
+    plain-owner c round few plain slot (owner-in-round c one master round few owned (plain-none round (c .slaves) plain) (suc slot) some l)

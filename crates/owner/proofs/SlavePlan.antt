@@ -21,12 +21,12 @@ use Rattle.file.proofs.ReaderLaws.{length-limit}
 use Rattle.cluster.specs.Rules.Bus.{slots}
 use Rattle.cluster.specs.Rules.Slaves.{isUnnamed}
 use Rattle.cluster.specs.Rules.Entries.{Entry, entryThere, entryAt, isMultiplexed, ends, covers, sends, eligible, bytePlace, Acting, noEntry, acts, actingFrom}
-use Rattle.cluster.specs.Rules.Multipartner.{within, sendPlace, sendsFrom}
+use Rattle.cluster.specs.Rules.Multipartner.{within, sendPlace}
 use Rattle.cluster.specs.Inner.EntryForm.{evaluated}
-use Rattle.cluster.specs.Inner.Slots.{RoundFileIs, entriesIn}
+use Rattle.cluster.specs.Inner.Slots.{PlannedFileIs, plannedEntries}
 use Rattle.cluster.proofs.EntryLaws.{sends-deaf, Blind, eligible-evaluated}
-use Rattle.cluster.proofs.OpenLaws.{acting-end, acting-none, actor, Rest, rest-start, rest-within, rest-next, rest-entry}
-use Rattle.cluster.proofs.SearchLaws.{actor-sends}
+use Rattle.cluster.proofs.OpenLaws.{acting-end, acting-none, planned-few, RestOf, rest-start, rest-within, rest-next, rest-entry}
+use Rattle.cluster.proofs.SearchLaws.{planned-sends}
 use Rattle.owner.specs.Rules.Plan.{isMultiplexedReceive, isThere, sendsIn, someEntryFrom, someEntry, isMultiplexedSend}
 use Rattle.owner.specs.Inner.Masks.{isSet, Marks}
 use Rattle.owner.specs.Inner.Planned.{EntryPlanned, wouldSend, sendsFree, plannedIn, SlavePlanned, OwnerPut}
@@ -78,8 +78,8 @@ module _ (test : Entry → Bool) (rodl : List ℕ) (k : ℕ) where
   some-next more e = rw (more, e)
 
 -- an unnamed slave runs no entries
-some-runs : (test : Entry → Bool) (round : ℕ) (s : Slave) → someEntry test round s ≡ someEntryFrom test (bytesIn s round) 1 (entriesIn round s)
-unfolding someEntry entriesIn someEntryFrom both
+some-runs : (test : Entry → Bool) (round : ℕ) (s : Slave) → someEntry test round s ≡ someEntryFrom test (bytesIn s round) 1 (plannedEntries round s)
+unfolding someEntry plannedEntries someEntryFrom both
 some-runs test round s = byCase (isUnnamed s) (λ t. rw t) (λ t. rw t)
 
 either-more : (a b c : Bool) → either a (either b c) ≡ either (either a b) c
@@ -116,26 +116,26 @@ pub record Planning (f : List ℕ) (round s covered planned : ℕ) (multiplexed 
   pub becomes : AcceptedFile f
   pub k : ℕ
   pub left : ℕ
-  pub rest : Rest (decode f) round s k left at end
+  pub rest : RestOf (decode f) round s (plannedEntries round (slaveOf (decode f) s)) k left at end
   pub same : (slot : ℕ) → slot < slots
       → plannedIn round (slaveOf (decode f) s) slot
       ≡ either (isSet planned slot)
       (both (not (isSet covered slot)) (isThere (sendPlace (slaveOf (decode f) s) slot (actingFrom isMultiplexedReceive (bytesIn (slaveOf (decode f) s) round) slot k left))))
   pub sought : someEntry isMultiplexedSend round (slaveOf (decode f) s) ≡ either multiplexed (someEntryFrom isMultiplexedSend (bytesIn (slaveOf (decode f) s) round) k left)
 
-pub planning-start : {f : List ℕ} {round s start end : ℕ} → AcceptedFile f → RoundFileIs (decode f) round s start end → Planning f round s 1 0 false start end
+pub planning-start : {f : List ℕ} {round s start end : ℕ} → AcceptedFile f → PlannedFileIs (decode f) round s start end → Planning f round s 1 0 false start end
 planning-start {f} {round} {s} h is =
-    record { becomes = h; k = 1; left = entriesIn round (slaveOf (decode f) s); rest = rest-start is; same = first; sought = unfold either in some-runs isMultiplexedSend round (slaveOf (decode f) s) }
+    record { becomes = h; k = 1; left = plannedEntries round (slaveOf (decode f) s); rest = rest-start (planned-few round (slaveOf (decode f) s)) is; same = first; sought = unfold either in some-runs isMultiplexedSend round (slaveOf (decode f) s) }
   where
     first : (slot : ℕ) → slot < slots
         → plannedIn round (slaveOf (decode f) s) slot
         ≡ either (isSet 0 slot)
-        (both (not (isSet 1 slot)) (isThere (sendPlace (slaveOf (decode f) s) slot (actingFrom isMultiplexedReceive (bytesIn (slaveOf (decode f) s) round) slot 1 (entriesIn round (slaveOf (decode f) s))))))
+        (both (not (isSet 1 slot)) (isThere (sendPlace (slaveOf (decode f) s) slot (actingFrom isMultiplexedReceive (bytesIn (slaveOf (decode f) s) round) slot 1 (plannedEntries round (slaveOf (decode f) s))))))
     first zero l = unfold plannedIn either both in rw (set-none 0, set-first)
     first (suc slot) l =
         unfold plannedIn sendsIn either both in
         rw (set-none (suc slot), set-later (suc slot) (omega arith))
-        (ap isThere (unfold sendsFrom actor in sym (actor-sends isMultiplexedReceive round (suc slot) (slaveOf (decode f) s))))
+        (ap isThere (sym (planned-sends isMultiplexedReceive round (suc slot) (slaveOf (decode f) s))))
 
 module _ {f : List ℕ} {round s covered planned : ℕ} {multiplexed : Bool} {at end : ℕ} (h : Planning f round s covered planned multiplexed at end) where
   abbrev rodl : List ℕ

@@ -17,7 +17,7 @@ use crate::masks::NO_SLOTS;
 use cluster::answer::FIREWORK_SLOT;
 use cluster::entry::entry_at;
 use cluster::entry::is_end;
-use cluster::multipartner::round_file;
+use cluster::multipartner::planned_file;
 use file::layout::RECORD_SIZE;
 use file::readers::logical_name;
 use file::readers::slave_count;
@@ -37,7 +37,7 @@ fn plan_slave(file: &[u8], places: &SlavePlaces, slave: usize, round: FileNumber
     requires { ⌜ Placed (now file) (now places) × (slave < slaveCount (now file)) ⌝ }
     ensures { λ r. ⌜ SlavePlanned (fileIn round) (slaveOf (decode (now (file .entry))) slave) (r .sends) (r .multiplexed) ⌝ }
 {
-    let found = round_file(file, places, slave, round);
+    let found = planned_file(file, places, slave, round);
     let end = found.end;
     let mut covered = FIREWORK_SLOTS;
     let mut sends = NO_SLOTS;

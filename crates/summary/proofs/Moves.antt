@@ -11,7 +11,6 @@ use Rattle.file.specs.Rules.Decode.{decode}
 use Rattle.file.specs.Rules.Results.{Result}
 use Rattle.file.specs.Inner.Accepted.{Placed, slaveCount}
 use Rattle.file.proofs.Order.{byCase}
-use Rattle.file.proofs.Bytes.{byte-at}
 use Rattle.file.proofs.Accepted.{encode-bytes}
 use Rattle.file.proofs.Surveyed.{placed-kept, kept-count}
 use Rattle.frame.proofs.Written.{address-bytes}
@@ -64,6 +63,6 @@ pub step-moved :
     Moved file places file′
 unfolding stepMade
 step-moved {file} {places} {names} {buffer} {p} placed goes n small is =
-    let may : MaySend (sent (nextRound names p)) = may-send (next-sendable (runs (goes .accepted) (goes .runs)) (byte-at n (p .index)) small) in
+    let may : MaySend (sent (nextRound names p)) = may-send (next-sendable (runs (goes .accepted) (goes .runs)) n small) in
     let left = ap (λ (r : Result StepDone × Position × List ℕ × List ℕ). r .3) is in
     subst (λ (f : List ℕ). Moved file places f) (sym left) (sent-moved placed may buffer)

@@ -3,10 +3,12 @@ use Rattle.trace.specs.Claims.Encoding.{AcceptedIsEncoded, EncodedIsAcce
 use Rattle.trace.specs.Claims.Grounds.{GroundsInOrder}
 use Rattle.trace.specs.Claims.Refused.{RefusedIsCounted}
 use Rattle.trace.specs.Claims.Run.{SumIsCount, CarriedHasRound, RunKeepsFile, UnknownEdition}
+use Rattle.trace.specs.Claims.Sleep.{TraceWakes, TraceStaysAwake, AddressesWakeNobody}
 use Rattle.trace.proofs.Encoded.{accepted-exactly, encoded-accepted}
 use Rattle.trace.proofs.Grounds.{grounds-in-order, refused-is-counted}
 use Rattle.trace.proofs.Calls.{sum-is-count, run-keeps-file, trace-edition}
 use Rattle.trace.proofs.Runs.{carried-has-round}
+use Rattle.trace.proofs.Sleep.{trace-wakes, trace-stays-awake, addresses-wake-nobody}
 
 pub held-accepted-is-encoded : AcceptedIsEncoded
 held-accepted-is-encoded = accepted-exactly
@@ -31,3 +33,12 @@ held-run-keeps-file = run-keeps-file
 
 pub held-unknown-edition : UnknownEdition
 held-unknown-edition = trace-edition
+
+pub held-trace-wakes : TraceWakes
+held-trace-wakes = trace-wakes
+
+pub held-trace-stays-awake : TraceStaysAwake
+held-trace-stays-awake = trace-stays-awake
+
+pub held-addresses-wake-nobody : AddressesWakeNobody
+held-addresses-wake-nobody = addresses-wake-nobody

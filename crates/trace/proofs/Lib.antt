@@ -12,6 +12,8 @@ pub mod RunExamples
 pub mod Runs
 pub mod Calls
 pub mod Grounds
+-- who is awake after a trace
+pub mod Sleep
 -- one frame more in a report, and the loop along the frames
 pub mod ReportLaws
 pub mod RunLaws

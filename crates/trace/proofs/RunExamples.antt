@@ -16,7 +16,7 @@ use Rattle.frame.specs.Rules.Fireworks.{roundOf, roundIn}
 use Rattle.frame.specs.Rules.Check.{exclusiveOr, checkOf, addressCheck}
 use Rattle.frame.specs.Rules.Grounds as frames
 use Rattle.cluster.specs.Rules.Bus.{anyone, maskBelow, senderMask, nobody}
-use Rattle.cluster.specs.Rules.Slaves.{withAddress, nextEpoch, epochRaised, executionOf, dutyBy, pendingDuty, sentTo, slavesAfter}
+use Rattle.cluster.specs.Rules.Slaves.{withAddress, nextEpoch, epochRaised, executionOf, dutyBy, pendingDuty, sentTo, slavesAfter, rested}
 use Rattle.cluster.specs.Rules.Multipartner.{sentBy, sentDuring, sentIn, receivedIn, clusterBelow}
 use Rattle.cluster.specs.Rules.Grounds.{shortAnswer, roundBy, writePending, groundsOn}
 use Rattle.cluster.specs.Inner.Grounds.{noFirework, lengthFor, wrongLengthOn, wrongCheckOn, noOperationOn, broadcastReadOn}
@@ -74,7 +74,7 @@ address-carried = refl
 
 -- an MSD with nothing pending, a multipartner frame
 data-carried : sent least (0x49 ∷ []) .0 ≡ done 0
-unfolding address-carried writePending sentTo pendingDuty dutyBy executionOf slavesAfter epochRaised nextEpoch withSlaves
+unfolding address-carried writePending sentTo pendingDuty dutyBy executionOf slavesAfter rested epochRaised nextEpoch withSlaves
 data-carried = refl
 
 multipartner-carried : sent least (0x78 ∷ []) .0 ≡ done 0

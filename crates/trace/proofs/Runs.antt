@@ -1,13 +1,13 @@
 -- What running frames keeps, whatever they are: the sum of the report, the file's acceptance and length. That any two buffers of
 -- 64 bytes or more give the same answer and file, and that what is carried out has a firework.
 -- Assumes nothing.
-use Prim.Native.Nat.{ℕ, zero, suc, _+_, _≤_, _<_}
+use Prim.Native.Nat.{ℕ, zero, suc, _+_, _≤_}
 use native.Mathlib.Omega.{arith}
-use mathlib.Core.Path.{_≡_, refl, sym, ap, _∙_, subst}
+use mathlib.Core.Path.{_≡_, refl, sym, ap, _∙_}
 use mathlib.Core.Logic.{_≢_}
 use mathlib.Core.List.{List, [], _∷_}
 use mathlib.Core.Bool.{false}
-use lib.ListN.{length, getD, take, replicate, length-replicate}
+use lib.ListN.{length, replicate, length-replicate}
 use lib.Dec.{eqb}
 use borrow.Author.Tests.{le-ltb, eqb-true, eqb-false}
 use Rattle.file.specs.Rules.Bytes.{All, Bytes}
@@ -16,10 +16,8 @@ use Rattle.file.specs.Rules.Results.{Result, refused, done}
 use Rattle.file.specs.Rules.Cluster.{Cluster}
 use Rattle.file.specs.Rules.Decode.{decode}
 use Rattle.file.specs.Rules.Grounds.{fileGround}
-use Rattle.file.specs.Inner.Accepted.{Becomes}
 use Rattle.file.proofs.Order.{byCase, clash}
 use Rattle.file.proofs.Bytes.{bytes-part}
-use Rattle.file.proofs.Accepted.{accepted-becomes}
 use Rattle.cluster.specs.Rules.Bus.{slots}
 use Rattle.cluster.specs.Rules.Grounds.{shortAnswer, roundBy, groundsOn}
 use Rattle.cluster.specs.Inner.Grounds.{noFirework, frameGround}
@@ -90,7 +88,7 @@ sent-any file frame b long = any-buffer file frame b (replicate slots 0) long (o
 
 -- ---- what is carried out has a firework
 
-none-fits : (c : Cluster) (round : Round) (frame : List ℕ) → firstOf (groundsOn c round frame) ≡ 0 → round ≢ noRound
+pub none-fits : (c : Cluster) (round : Round) (frame : List ℕ) → firstOf (groundsOn c round frame) ≡ 0 → round ≢ noRound
 unfolding noFirework
 none-fits c round frame fits e =
     let lacking : noFirework noRound ≡ false = rw e at (fits-facts c round frame fits .firework) in

@@ -42,7 +42,7 @@ use trace::run::TraceAnswer;
 use trace::run::run_trace;
 
 // The version, as one number: its three numbers stand in specs/Rules/Calls.
-const VERSION: u32 = 900;
+const VERSION: u32 = 1000;
 
 // The parts of an address frame.
 pub const PARTS: usize = 5;

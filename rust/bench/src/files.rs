@@ -14,7 +14,8 @@ const MULTIPLEXED: u8 = 0x80;
 /// Slaves with files 0x08 and 0x3D and so many more as to have `files` each, all of the least size.
 pub fn small(slaves: usize, files: usize, logical_name: impl Fn(usize) -> u8) -> Vec<u8> {
     let slave = |number: usize| {
-        let mut slave = Slave { files: vec![configuration(logical_name(number)), documentation(number)] };
+        let needed = vec![configuration(logical_name(number)), documentation(number)];
+        let mut slave = Slave { asleep: false, files: needed };
         let others = (0..64).filter(|&number| slave.file(FileNumber(number)).is_none());
         let others: Vec<u8> = others.take(files - 2).collect();
         slave
@@ -22,6 +23,16 @@ pub fn small(slaves: usize, files: usize, logical_name: impl Fn(usize) -> u8) ->
             .extend(others.into_iter().map(|number| File { number: FileNumber(number), bytes: vec![0; 8] }));
         slave.files.sort_by_key(|file| file.number);
         slave
+    };
+    encode((0..slaves).map(slave).collect())
+}
+
+/// Slaves at 0xFF whose file 0x08 has record 4, which puts to sleep.
+pub fn tired(slaves: usize) -> Vec<u8> {
+    let slave = |number: usize| {
+        let mut configuration = configuration(LogicalName::UNNAMED.0);
+        configuration.bytes.extend([0; 4]);
+        Slave { asleep: false, files: vec![configuration, documentation(number)] }
     };
     encode((0..slaves).map(slave).collect())
 }
@@ -55,6 +66,7 @@ pub fn partners(slaves: usize, entries: usize) -> Vec<u8> {
 fn partner(number: usize, list: Vec<u8>) -> Slave {
     let data = vec![number as u8 | 0x40; 4 * (DATA_RECORDS + 1)];
     Slave {
+        asleep: false,
         files: vec![
             File { number: FileNumber(ROUND_FILE), bytes: [vec![0; 4], list].concat() },
             configuration(number as u8 + 1),
@@ -109,7 +121,7 @@ fn with_lists(number: usize, lists: &[(u8, Vec<u8>)]) -> Slave {
     };
     let mut files: Vec<File> = lists.iter().map(round_file).collect();
     files.extend([configuration(number as u8 + 1), documentation(number)]);
-    Slave { files }
+    Slave { asleep: false, files }
 }
 
 /// The slot of each entry of a list that covers all slots.

@@ -7,7 +7,7 @@ use model::{closed_figures, encode_trace, MSA, MSD};
 use std::hint::black_box;
 
 /// The lines of the table.
-pub const TABLE: [&str; 31] = [
+pub const TABLE: [&str; 32] = [
     "check-32-2",
     "check-named-32",
     "check-most",
@@ -17,6 +17,7 @@ pub const TABLE: [&str; 31] = [
     "write-all-32",
     "execute-2-all-32",
     "execute-1-all-32",
+    "sleep-all-32",
     "partner-1-255",
     "partner-32-220",
     "partner-32-63",
@@ -154,6 +155,7 @@ impl Workload {
                 let record = number(record)? as u8;
                 pending(number(slaves)?, |_| 0xFF, [0xFF, 0x08 << 2 | 2, record], &[MSD])
             }
+            ["sleep", "all", slaves] => sleeping(number(slaves)?),
             ["partner", slaves, entries] => {
                 Workload::Frame { file: files::partners(number(slaves)?, number(entries)?), frame: vec![0xBA] }
             }
@@ -268,10 +270,18 @@ impl WithSummary {
 /// The data frame of an operation that its address frame has put into the header. It stays pending, so the
 /// same call can be made many times. The comparison value is 0 for all, no physical name is equal to it.
 fn pending(slaves: usize, logical_name: impl Fn(usize) -> u8, operation: [u8; 3], frame: &[u8]) -> Workload {
-    let mut file = files::small(slaves, 2, logical_name);
+    pending_on(files::small(slaves, 2, logical_name), operation, frame)
+}
+
+fn pending_on(mut file: Vec<u8>, operation: [u8; 3], frame: &[u8]) -> Workload {
     file[9] = 1;
     file[10..13].copy_from_slice(&operation);
     Workload::Frame { file, frame: frame.to_vec() }
+}
+
+/// The data frame of an execute of record 4 of 0x08: all fall asleep, and by the next call all wake.
+fn sleeping(slaves: usize) -> Workload {
+    pending_on(files::tired(slaves), [0xFF, 0x08 << 2 | 2, 4], &[MSD])
 }
 
 fn reads_as_trace(reads: usize, slaves: usize) -> Workload {

@@ -2,9 +2,10 @@
 
 use crate::case::{Call, Outcome};
 use crate::draws::random::Random;
-use crate::draws::{clusters, inputs, owners, runs, summaries, traces};
+use crate::draws::{clusters, inputs, owners, runs, sleepers, summaries, traces};
 use crate::engine::{Engine, Model};
 use crate::frames::MULTIPARTNER;
+use crate::sorts::owners::Planned;
 use crate::sorts::tally::Tally;
 use crate::sorts::{self, Reached, Sort};
 use std::collections::BTreeMap;
@@ -15,6 +16,8 @@ const MOST_SAMPLED_CHARACTERS: usize = 2_000;
 /// For so many of the rounds asked for there is one more write of a record, and one for each file that alters it.
 const ROUNDS_FOR_A_WRITE: usize = 40;
 const ROUNDS_FOR_EACH_FILE: usize = 8_000;
+/// For so many of them there is one more cluster of sleepers.
+const ROUNDS_FOR_A_SLEEPER: usize = 40;
 
 /// How many calls of each kind.
 pub struct Amounts {
@@ -156,6 +159,7 @@ impl<'a> Campaign<'a> {
         summaries::holders(self, amounts.summaries, &mut Random::from_seed(seed ^ 13));
         summaries::rounds(self, amounts.kept, &mut Random::from_seed(seed ^ 14));
         summaries::steps(self, amounts.kept / 2, &mut Random::from_seed(seed ^ 15));
+        sleepers::rounds(self, amounts.rounds / ROUNDS_FOR_A_SLEEPER, &mut Random::from_seed(seed ^ 17));
         self.runs(amounts.runs, seed);
         self.sorts_reached(&Sort::REACHED, amounts.rounds);
         self.sorts_reached(&Sort::REACHED_ABOUT_NAMES, amounts.rounds);
@@ -165,6 +169,7 @@ impl<'a> Campaign<'a> {
         self.sorts_reached(&Sort::REACHED_BY_TRACES, amounts.traces);
         self.sorts_reached(&Sort::REACHED_BY_OWNERS, amounts.owners);
         self.sorts_reached(&Sort::REACHED_BY_SUMMARIES, amounts.kept);
+        self.sorts_reached(&Sort::REACHED_BY_SLEEPERS, amounts.rounds);
         self.sorts_reached(&Sort::REACHED_BY_RUNS, amounts.runs);
         self.reached();
     }
@@ -293,6 +298,7 @@ impl<'a> Campaign<'a> {
             let trace = traces::trace(random, &cluster);
             let outcome = self.call(&Call::Trace { file: file.clone(), trace: trace.clone() });
             self.note_sorts(sorts::traces::sorts(&file, &trace, &outcome));
+            self.note_sorts(sorts::sleepers::in_trace(&file, &outcome));
         }
     }
 
@@ -318,21 +324,23 @@ impl<'a> Campaign<'a> {
     }
 
     /// In a round as it runs, in whatever epoch, who sends in a slot has it in the plan; and who has a slot in the plan
-    /// sends there, unless a multiplexed receive of that slave covers it.
+    /// sends there, unless it sleeps or a multiplexed receive of that slave covers it.
     fn planned_round(&mut self, random: &mut Random, file: Vec<u8>) {
         let frame = vec![random.one_of(&MULTIPARTNER)];
-        let (planned, hideable) = sorts::owners::planned_masks(&file, frame[0]);
+        let Planned { all, awake, hideable } = Planned::of(&file, frame[0]);
         let own_list = sorts::owners::own_list_mask(&file, frame[0]);
         let call = Call::Round { file, frame, answer_length: 64 };
         let outcome = self.call(&call);
         let sent = outcome.mask();
-        if sent & !planned != 0 || planned & !hideable & !sent != 0 {
-            let plan = format!("the plan has {planned:016X}, of which {hideable:016X} may be hidden");
+        if sent & !all != 0 || awake & !hideable & !sent != 0 {
+            let plan =
+                format!("the plan has {all:016X}, awake {awake:016X}, which may be hidden {hideable:016X}");
             self.differ(&format!("{plan}\n{}", call.line(&outcome)), "see the case");
         }
         self.note_sorts((hideable & !sent != 0).then_some(Sort::PlannedAndHidden));
         self.note_sorts((hideable & sent != 0).then_some(Sort::PlannedAndNotHidden));
         self.note_sorts((own_list & sent != 0).then_some(Sort::PlannedFromOwnList));
+        self.note_sorts((all & !awake & !sent != 0).then_some(Sort::PlannedAndAsleep));
     }
 
     pub(crate) fn note_sorts(&mut self, sorts: impl IntoIterator<Item = Sort>) {

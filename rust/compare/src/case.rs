@@ -5,7 +5,7 @@
 //! the call leaves alone is shown as 0, the place of a holder as `-` where nobody holds the name.
 
 use crate::engine::{Engine, ReportWords, RunWords, Summary, NOBODY};
-use crate::layout::EPOCH;
+use crate::layout::{sleepers_of, ENTRY_BYTES, SLAVES};
 use crate::sorts::tally::Tally;
 use std::fmt;
 
@@ -132,10 +132,15 @@ impl Outcome {
         self.place.filter(|&place| self.number == 0 && place != NOBODY)
     }
 
-    /// Whether the file is another than before, its epoch aside.
-    pub fn alters_beyond_epoch(&self, before: &[u8]) -> bool {
-        let after = self.file.as_deref().unwrap_or(before);
-        before.iter().zip(after).enumerate().any(|(place, (old, new))| place != EPOCH && old != new)
+    /// Whether a byte of a slave's files is another than before: what lies behind the table, whose bytes tell who sleeps.
+    pub fn alters_slaves(&self, before: &[u8]) -> bool {
+        let files = SLAVES + ENTRY_BYTES * before.get(3).map_or(0, |&count| usize::from(count));
+        self.file.as_deref().is_some_and(|after| after.get(files..) != before.get(files..))
+    }
+
+    /// Who sleeps in the file that was left, if it is an accepted one.
+    pub fn sleepers(&self) -> Vec<bool> {
+        self.file.as_deref().map(sleepers_of).unwrap_or_default()
     }
 }
 

@@ -4,6 +4,8 @@
 
 use crate::{Cluster, End, LogicalName, Slave, ANSWER_BYTES};
 
+/// "the run is one round longer" (document 02, request 9), where the list is not empty
+const EXTRA_READS: u64 = 1;
 const ROUNDS_OF_A_TAKEN_NAME: u64 = 1;
 const COMPARISONS_OF_A_NAMING: u64 = 65;
 const ROUNDS_OF_THE_LAST_QUESTION: u64 = 4;
@@ -80,6 +82,10 @@ impl Account {
             return;
         }
         self.rounds += 1;
+        // The extra read is no round of a pass.
+        if self.rounds <= EXTRA_READS {
+            return;
+        }
         self.k += 1;
         if self.k < self.rounds_of_this_pass() {
             return;
@@ -188,6 +194,7 @@ pub fn closed_figures(cluster: &Cluster, names: &[u8]) -> ClosedFigures {
     ClosedFigures {
         named,
         rounds: naming_sum
+            + if names.is_empty() { 0 } else { EXTRA_READS }
             + ROUNDS_OF_A_TAKEN_NAME * taken_tried
             + if asks_in_vain { ROUNDS_OF_THE_LAST_QUESTION } else { 0 },
         comparisons: COMPARISONS_OF_A_NAMING * named + u64::from(asks_in_vain),

@@ -21,6 +21,8 @@ pub struct Pending {
 
 #[derive(Clone, Debug, PartialEq, Eq)]
 pub struct Slave {
+    /// "The zero at the end of a table entry becomes 0 awake or 1 asleep." (document 02, request 9)
+    pub asleep: bool,
     /// In rising order of their numbers.
     pub files: Vec<File>,
 }

@@ -8,6 +8,9 @@ const HEADER_BYTES: usize = 16;
 const ENTRY_BYTES: usize = 4;
 const MARK: [u8; 2] = [0x54, 0x41];
 const EDITION: u8 = 1;
+/// What the last byte of a table entry may be.
+const AWAKE: u8 = 0;
+const ASLEEP: u8 = 1;
 
 /// The cluster that a file holds, or the first ground that turns it away.
 pub fn check(file: &[u8]) -> Result<Cluster, Refusal> {
@@ -82,11 +85,17 @@ fn slaves_of(file: &[u8]) -> Option<Vec<Slave>> {
     let mut slaves = Vec::new();
     for entry in table.chunks(ENTRY_BYTES) {
         let directory_stands_here = number_of(&entry[0..2]) == place as u64;
-        if !directory_stands_here || entry[3] != 0 {
+        // "Number 6 now refuses a sleep byte above 1." (document 02, request 9)
+        let asleep = match entry[3] {
+            AWAKE => false,
+            ASLEEP => true,
+            _ => return None,
+        };
+        if !directory_stands_here {
             return None;
         }
         let file_count = usize::from(entry[2]);
-        slaves.push(Slave { files: files_of(file, &mut place, file_count)? });
+        slaves.push(Slave { asleep, files: files_of(file, &mut place, file_count)? });
     }
     (place == file.len()).then_some(slaves)
 }
@@ -136,7 +145,9 @@ impl Cluster {
         let table_end = HEADER_BYTES + ENTRY_BYTES * self.slaves.len();
         for slave in &self.slaves {
             let directory_place = table_end + rest.len();
-            table.extend([(directory_place >> 8) as u8, directory_place as u8, slave.files.len() as u8, 0]);
+            let sleep_byte = if slave.asleep { ASLEEP } else { AWAKE };
+            table.extend([(directory_place >> 8) as u8, directory_place as u8]);
+            table.extend([slave.files.len() as u8, sleep_byte]);
             let mut place = directory_place + ENTRY_BYTES * slave.files.len();
             for file in &slave.files {
                 rest.extend([file.number.0, file.last_record() as u8, (place >> 8) as u8, place as u8]);

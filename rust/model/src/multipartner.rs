@@ -99,11 +99,11 @@ fn list_of(slave: &Slave, round: u8) -> Vec<Entry> {
     slave.file(FileNumber(round)).map(round_descriptor_list).unwrap_or_default()
 }
 
-/// "Round r runs file r of each slave not unnamed; others take no part." The epoch is the one "already raised for this
-/// round".
+/// "Round r runs file r of each slave not unnamed; others take no part." Nor does "a sleeping slave" (document 02, request
+/// 9). The epoch is the one "already raised for this round".
 pub fn run(slaves: &mut [Slave], round: u8, epoch: u8, bus: &mut Bus) {
     let mut partners: Vec<(&mut Slave, Vec<Entry>)> = Vec::new();
-    for slave in slaves.iter_mut().filter(|slave| !slave.is_unnamed()) {
+    for slave in slaves.iter_mut().filter(|slave| !slave.is_unnamed() && !slave.asleep) {
         // "A multiplexed entry out of turn is passed over, and the next one covering the slot is tried"
         let mut list = list_of(slave, round);
         list.retain(|entry| !entry.out_of_turn(epoch));
@@ -139,7 +139,7 @@ fn sent(slave: &Slave, list: &[Entry], slot: usize) -> Option<u8> {
 }
 
 /// Whether a slave has a byte to send in a slot of a round, as the owner writer has it: it "passes over every
-/// multiplexed receive". "Slots 1 to 63 run"
+/// multiplexed receive", and the file "is planned as if every slave were awake". "Slots 1 to 63 run"
 pub fn would_send(slave: &Slave, round: u8, slot: usize) -> bool {
     let mut list = list_of(slave, round);
     list.retain(|entry| !entry.is_multiplexed(EntryOperation::Receive));

@@ -84,17 +84,34 @@ pub fn step(file: &mut [u8], run: &mut Run, names: &[u8], buffer: &mut [u8]) -> 
     if run.end != End::Running.number() {
         return Ok(None);
     }
+    let answer = if run.rounds == 0 {
+        extra_read(&mut cluster, run, names)
+    } else {
+        round_of_pass(&mut cluster, run, names)
+    };
+    file.copy_from_slice(&cluster.encode());
+    buffer[..ANSWER_BYTES].copy_from_slice(&answer.bytes);
+    Ok(Some(answer.senders))
+}
+
+/// "A naming run with a non-empty list begins with one extra read of 0x3D record 1 at its first name, its reply ignored.
+/// It is due exactly while a running position counts no round, and raises that count alone" (document 02, request 9)
+fn extra_read(cluster: &mut Cluster, run: &mut Run, names: &[u8]) -> Answer {
+    let answer = make_round(cluster, &MasterSlaveRound::poll(LogicalName(names[0])));
+    run.rounds += 1;
+    answer
+}
+
+fn round_of_pass(cluster: &mut Cluster, run: &mut Run, names: &[u8]) -> Answer {
     run.pass_over_needless_writes();
     let name = LogicalName(names[run.index as usize]);
     let place = Place::of(run.step);
-    let answer = make_round(&mut cluster, &place.round(name, run.value));
+    let answer = make_round(cluster, &place.round(name, run.value));
     let replied = answer.senders >> 1 & 1 == 1;
     run.keep_half_written(place);
     run.move_on(place, replied, names.len() as u64);
     run.pass_over_needless_writes();
-    file.copy_from_slice(&cluster.encode());
-    buffer[..ANSWER_BYTES].copy_from_slice(&answer.bytes);
-    Ok(Some(answer.senders))
+    answer
 }
 
 /// The part of a comparison that a round makes.
@@ -142,7 +159,7 @@ impl Place {
         match (self, self.half_to_write(value)) {
             (_, Some(Half::High(bytes))) => MasterSlaveRound::write(2, bytes),
             (_, Some(Half::Low(bytes))) => MasterSlaveRound::write(3, bytes),
-            (Place::Poll, _) => MasterSlaveRound::read(name, FileNumber::DOCUMENTATION, RecordNumber(1)),
+            (Place::Poll, _) => MasterSlaveRound::poll(name),
             (Place::GiveName, _) => MasterSlaveRound::write(1, [0, 0, name.0, LogicalName::UNNAMED.0]),
             (Place::Baptize, _) => MasterSlaveRound::execute(1),
             (_, None) => MasterSlaveRound::execute(2),
@@ -244,8 +261,10 @@ struct MasterSlaveRound {
 }
 
 impl MasterSlaveRound {
-    fn read(name: LogicalName, file: FileNumber, record: RecordNumber) -> MasterSlaveRound {
-        MasterSlaveRound { name, file, operation: Operation::Read, record, data: None }
+    /// "read 0x3D record 1 there"
+    fn poll(name: LogicalName) -> MasterSlaveRound {
+        let file = FileNumber::DOCUMENTATION;
+        MasterSlaveRound { name, file, operation: Operation::Read, record: RecordNumber(1), data: None }
     }
 
     fn write(record: u8, data: [u8; 4]) -> MasterSlaveRound {

@@ -1,7 +1,9 @@
 //! One frame on a cluster file: the bus, and which rule a frame calls for.
 
 use crate::frame::{file_of_pb2, read_frame};
-use crate::{check, multipartner, slaves, Address, Cluster, Frame, Operation, Pending, RecordNumber, Refusal};
+use crate::{
+    check, multipartner, slaves, Address, Cluster, Frame, Operation, Pending, RecordNumber, Refusal, Slave,
+};
 
 pub const ANSWER_BYTES: usize = 64;
 
@@ -67,11 +69,14 @@ impl Cluster {
             Frame::Address(address) => self.hold(&address),
             Frame::Data(data) => {
                 self.epoch = self.epoch.wrapping_add(1);
+                let asleep = self.slaves.iter().map(|slave| self.falls_asleep(slave)).collect();
                 self.carry_out(data, &mut bus);
+                self.rest(asleep);
             }
             Frame::Multipartner(round) => {
                 self.epoch = self.epoch.wrapping_add(1);
                 multipartner::run(&mut self.slaves, round, self.epoch, &mut bus);
+                self.rest(vec![false; self.slaves.len()]);
             }
         }
         Ok(Answer::of(frame[0], &bus))
@@ -95,6 +100,23 @@ impl Cluster {
             (Operation::Write, Some(data)) => slaves::write(&mut self.slaves, name, file, record, data),
             (Operation::Write, None) => unreachable!("the frame of a pending write has data"),
             (Operation::Execute, _) => slaves::execute(&mut self.slaves, name, file, record, bus),
+        }
+    }
+}
+
+impl Cluster {
+    /// Whether the pending operation puts this slave to sleep, settled before any change.
+    fn falls_asleep(&self, slave: &Slave) -> bool {
+        let (name, file) = (self.pending.name, file_of_pb2(self.pending.pb2));
+        self.pending.operation() == Some(Operation::Execute)
+            && slaves::falls_asleep(slave, name, file, RecordNumber(self.pending.pb3))
+    }
+
+    /// After an MSD or a multipartner round: who fell asleep in it sleeps, and a slave that slept "is awake after the
+    /// next accepted MSD or multipartner round" (document 02, request 9).
+    fn rest(&mut self, asleep: Vec<bool>) {
+        for (slave, asleep) in self.slaves.iter_mut().zip(asleep) {
+            slave.asleep = asleep;
         }
     }
 }

@@ -8,10 +8,15 @@ use crate::{FileNumber, LogicalName, RecordNumber, Slave};
 const NAMES_RECORD: RecordNumber = RecordNumber(1);
 const BAPTIZE: RecordNumber = RecordNumber(1);
 const COMPARE: RecordNumber = RecordNumber(2);
+/// "an execute of record 4 of 0x08, our choice of record" (document 02, request 9)
+const SLEEP: RecordNumber = RecordNumber(4);
 
-/// "at 0xFF the unnamed, at 0x00 all others, else those of that logical name"
+/// "at 0xFF the unnamed, at 0x00 all others, else those of that logical name"; but "A sleeping slave takes no part in
+/// rounds" (document 02, request 9)
 fn is_addressed(slave: &Slave, name: LogicalName) -> bool {
-    if name == LogicalName::BROADCAST {
+    if slave.asleep {
+        false
+    } else if name == LogicalName::BROADCAST {
         !slave.is_unnamed()
     } else {
         slave.logical_name() == name
@@ -62,4 +67,10 @@ pub fn execute(slaves: &mut [Slave], name: LogicalName, file: FileNumber, record
             .for_each(|slave| slave.set_logical_name(slave.new_logical_name())),
         _ => {}
     }
+}
+
+/// Whether an execute puts this slave to sleep: "addressed slaves that have it fall asleep after that round".
+pub fn falls_asleep(slave: &Slave, name: LogicalName, file: FileNumber, record: RecordNumber) -> bool {
+    let is_sleep = file == FileNumber::CONFIGURATION && record == SLEEP;
+    is_sleep && is_addressed(slave, name) && slave.record(file, record).is_some()
 }

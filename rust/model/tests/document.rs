@@ -45,7 +45,7 @@ fn slave(logical_name: u8, physical_name: u64, comparison_value: u64, others: &[
         files.push(File { number: FileNumber(number), bytes: bytes(content) });
     }
     files.sort_by_key(|file| file.number);
-    Slave { files }
+    Slave { asleep: false, files }
 }
 
 fn file_of(slaves: Vec<Slave>) -> Vec<u8> {
@@ -155,7 +155,7 @@ fn m9_a_read_at_ff_is_silent() {
 
 #[test]
 fn m10_listing() {
-    let text = "01 00000007000000A0 65\n02 0000000700000010 65\nnamed 2 compares 131 rounds 274\n";
+    let text = "01 00000007000000A0 65\n02 0000000700000010 65\nnamed 2 compares 131 rounds 275\n";
     assert_eq!(listing(&bytes(M10)), text);
     let mut wrong = bytes(M10);
     wrong[0] = 0;

@@ -3,7 +3,8 @@
 use compare::case::{bytes, hold_all, kind_of, LISTING};
 use compare::engine::Model;
 
-/// The kinds of every file but `base.txt`. Steps of files before request 6 had positions of six words and are not kept.
+/// The kinds of every file but `base.txt`. Steps of files before request 6 had positions of six words, and listings of
+/// files before request 9 counted a round less: those lines are not kept.
 const EVERY_FILE: [&str; 6] = ["check", "data", "read", "round", "start", "write"];
 
 /// The kinds of a file that has these beside those of every file.
@@ -43,7 +44,7 @@ fn listing_holds(line: &str) -> Result<(), String> {
 #[test]
 fn base_vectors_hold() {
     let kinds = kinds_that_hold(include_str!("data/base.txt"));
-    assert_eq!(kinds, ["check", "read", "round", "write", LISTING]);
+    assert_eq!(kinds, ["check", "read", "round", "write"]);
 }
 
 #[test]
@@ -91,6 +92,13 @@ fn vectors_of_request_8_hold() {
     let about_summaries = ["fill", "holder", "round-keeping", "step-keeping"];
     let kinds = [&about_summaries[..], &["owner", "step", "trace"]].concat();
     assert_eq!(kinds_that_hold(include_str!("data/request-08.txt")), with(&kinds));
+}
+
+#[test]
+fn vectors_of_request_9_hold() {
+    let about_summaries = ["fill", "holder", "round-keeping", "step-keeping"];
+    let kinds = [&about_summaries[..], &["owner", "step", "trace"]].concat();
+    assert_eq!(kinds_that_hold(include_str!("data/request-09.txt")), with(&kinds));
 }
 
 #[test]

@@ -67,7 +67,7 @@ fn round_with(
     let Some(answer) = answer.first_chunk_mut::<ANSWER_BYTES>() else {
         return 9;
     };
-    carry_out(run_partners, file, &survey, frame, answer, senders)
+    carry_out(run_partners, file, &mut survey, frame, answer, senders)
 }
 
 /// One frame on an accepted file: 0, or its ground of 10 to 14.
@@ -75,7 +75,7 @@ fn round_with(
 fn carry_out(
     run_partners: impl Fn(&mut [u8], &Survey, u8, &mut [u8; ANSWER_BYTES]) -> u64,
     file: &mut [u8],
-    survey: &Survey,
+    survey: &mut Survey,
     frame: &[u8],
     answer: &mut [u8; ANSWER_BYTES],
     senders: &mut u64,
@@ -92,6 +92,7 @@ fn carry_out(
                 file[EPOCH] = file[EPOCH].wrapping_add(1);
                 *answer = silence(firework);
                 *senders = run_partners(file, survey, round_of(firework).unwrap_or(0), answer);
+                survey.rest(file, 0);
             }
             ground
         }
@@ -123,7 +124,7 @@ fn address_round(file: &mut [u8], frame: &[u8], answer: &mut [u8; ANSWER_BYTES],
 
 fn data_round(
     file: &mut [u8],
-    survey: &Survey,
+    survey: &mut Survey,
     frame: &[u8],
     answer: &mut [u8; ANSWER_BYTES],
     senders: &mut u64,
@@ -142,10 +143,14 @@ fn data_round(
     };
     file[EPOCH] = file[EPOCH].wrapping_add(1);
     *answer = silence(MSD);
-    *senders = match pending {
-        Some(pending) => pending.carry_out(file, survey, data, answer),
-        None => 0,
+    let sleepers;
+    (*senders, sleepers) = match pending {
+        Some(pending) => {
+            (pending.carry_out(file, survey, data, answer), pending.who_falls_asleep(file, survey))
+        }
+        None => (0, 0),
     };
+    survey.rest(file, sleepers);
     0
 }
 

@@ -43,11 +43,31 @@ impl Pending {
             _ => 0,
         }
     }
+
+    /// The slaves that an execute of record 4 of 0x08 puts to sleep, a bit a slave; it changes nothing else.
+    #[inline]
+    pub fn who_falls_asleep(self, file: &[u8], survey: &Survey) -> u32 {
+        const SLEEP: u8 = CONFIGURATION << 2 | EXECUTE;
+        match self {
+            Pending { name, pb2: SLEEP, record: 4 } => sleep(file, survey, name),
+            _ => 0,
+        }
+    }
 }
 
+/// Who sleeps is not addressed.
 #[inline]
-fn is_addressed(logical_name: u8, name: u8) -> bool {
-    logical_name == name || (name == 0 && logical_name != UNNAMED)
+fn is_addressed(file: &[u8], survey: &Survey, slave: usize, name: u8) -> bool {
+    let logical_name = survey.logical_name(file, slave);
+    (logical_name == name || (name == 0 && logical_name != UNNAMED)) && survey.is_awake(file, slave)
+}
+
+/// Those addressed that have the record.
+fn sleep(file: &[u8], survey: &Survey, name: u8) -> u32 {
+    let falls_asleep = |&slave: &usize| {
+        is_addressed(file, survey, slave, name) && survey.record(file, slave, CONFIGURATION, 4).is_some()
+    };
+    survey.slaves().filter(falls_asleep).map(|slave| 1 << slave).sum()
 }
 
 /// Unnamed slaves never answer, and no accepted read is addressed to 0x00. The records that every slave has
@@ -85,7 +105,7 @@ fn read_at(
     let mut bytes = u32::MAX;
     let mut checks = u8::MAX;
     for slave in survey.slaves() {
-        if survey.logical_name(file, slave) == name {
+        if survey.logical_name(file, slave) == name && survey.is_awake(file, slave) {
             if let Some(place) = place_of(slave) {
                 let sent = u32_at(file, place);
                 bytes &= sent;
@@ -100,7 +120,7 @@ fn read_at(
 }
 
 /// Record 1 of 0x08 keeps its last byte, the logical name.
-pub fn write(file: &mut [u8], survey: &Survey, name: u8, number: u8, record: u8, data: [u8; 4]) -> u64 {
+fn write(file: &mut [u8], survey: &Survey, name: u8, number: u8, record: u8, data: [u8; 4]) -> u64 {
     let offset = 4 * usize::from(record);
     match (number, record) {
         (DOCUMENTATION, _) | (_, 0) => {}
@@ -116,6 +136,20 @@ pub fn write(file: &mut [u8], survey: &Survey, name: u8, number: u8, record: u8,
     0
 }
 
+/// Writes a record of 0x08 that every slave has, or its first bytes. Naming steps write nothing else, and call this so that
+/// it is inlined there.
+#[inline]
+pub fn write_configuration<const BYTES: usize>(
+    file: &mut [u8],
+    survey: &Survey,
+    name: u8,
+    record: u8,
+    data: [u8; BYTES],
+) {
+    let offset = 4 * usize::from(record);
+    write_at(file, survey, name, data, |_, slave| Some(survey.configuration(slave) + offset))
+}
+
 #[inline]
 fn write_at<const BYTES: usize>(
     file: &mut [u8],
@@ -125,7 +159,7 @@ fn write_at<const BYTES: usize>(
     place_of: impl Fn(&[u8], usize) -> Option<usize>,
 ) {
     for slave in survey.slaves() {
-        if is_addressed(survey.logical_name(file, slave), name) {
+        if is_addressed(file, survey, slave, name) {
             if let Some(place) = place_of(file, slave) {
                 file[place..place + BYTES].copy_from_slice(&data);
             }
@@ -137,7 +171,7 @@ fn write_at<const BYTES: usize>(
 #[inline]
 pub fn baptize(file: &mut [u8], survey: &Survey, name: u8) -> u64 {
     for slave in survey.slaves() {
-        if is_addressed(survey.logical_name(file, slave), name)
+        if is_addressed(file, survey, slave, name)
             && survey.physical_name(file, slave) == survey.comparison_value(file, slave)
         {
             let configuration = survey.configuration(slave);
@@ -147,17 +181,21 @@ pub fn baptize(file: &mut [u8], survey: &Survey, name: u8) -> u64 {
     0
 }
 
-/// Execute of record 2 of 0x08. All who reply send 0x00, so one of them settles the answer.
-#[inline]
+/// Execute of record 2 of 0x08. All who reply send 0x00, so one of them settles the answer. About half of
+/// the steps of a naming run are this, so it is inlined there.
+#[inline(always)]
 pub fn compare(file: &[u8], survey: &Survey, name: u8, answer: &mut [u8; ANSWER_BYTES]) -> u64 {
-    let replies = |slave| {
-        survey.logical_name(file, slave) == name
-            && survey.physical_name(file, slave) >= survey.comparison_value(file, slave)
-    };
-    if name != 0 && survey.slaves().any(replies) {
-        answer[1] = 0;
-        0b10
-    } else {
-        0
+    if name == 0 {
+        return 0;
     }
+    for slave in survey.slaves() {
+        if survey.logical_name(file, slave) == name
+            && survey.is_awake(file, slave)
+            && survey.physical_name(file, slave) >= survey.comparison_value(file, slave)
+        {
+            answer[1] = 0;
+            return 0b10;
+        }
+    }
+    0
 }

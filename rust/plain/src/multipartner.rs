@@ -26,7 +26,7 @@ pub fn run(file: &mut [u8], survey: &Survey, round: u8, answer: &mut [u8; ANSWER
     let mut plan =
         Plan { senders: [0; ANSWER_BYTES], receivers: [0; ANSWER_BYTES], places: [[0; ANSWER_BYTES]; SLAVES] };
     for slave in survey.slaves() {
-        if survey.logical_name(file, slave) != UNNAMED {
+        if survey.logical_name(file, slave) != UNNAMED && survey.is_awake(file, slave) {
             if let Some((place, size)) = survey.find(file, slave, round) {
                 plan.read_list(file, survey, slave, &file[place + 4..place + size], turns);
             }

@@ -2,7 +2,7 @@
 //! would say it are whole by themselves.
 
 use crate::frames::MSD;
-use crate::master_slave::{baptize, compare, read, write, Pending, EXECUTE, READ, WRITE};
+use crate::master_slave::{baptize, compare, read, write_configuration, Pending, EXECUTE, READ, WRITE};
 use crate::survey::Survey;
 use crate::{silence, ANSWER_BYTES, CONFIGURATION, DOCUMENTATION, EPOCH, UNNAMED};
 
@@ -31,14 +31,14 @@ pub fn step(file: &mut [u8], run: &mut Run, names: &[u8], answer: &mut [u8], sen
     if ground != 0 {
         return ground;
     }
-    step_on(file, &survey, run, names, answer, senders)
+    step_on(file, &mut survey, run, names, answer, senders)
 }
 
 /// A step on an accepted file: 0, or 9 or 15 to 17.
 #[inline]
 pub fn step_on(
     file: &mut [u8],
-    survey: &Survey,
+    survey: &mut Survey,
     run: &mut Run,
     names: &[u8],
     answer: &mut [u8],
@@ -57,6 +57,8 @@ pub fn step_on(
     if run[0] == RUNNING {
         *answer = silence(MSD);
         *senders = carry_on(file, survey, run, names, answer);
+        // Each round ends with an MSD, and none of them puts anyone to sleep.
+        survey.rest(file, 0);
     }
     0
 }
@@ -101,10 +103,13 @@ fn carry_on(
     // The address frame puts the epoch to one more, the data frame adds one.
     file[EPOCH] = file[EPOCH].wrapping_add(2);
     *rounds += 1;
+    if *rounds == 1 {
+        // The extra read, whose reply is ignored.
+        return poll(file, survey, names[0], answer);
+    }
     match *step {
         0 => {
-            Pending { name, pb2: DOCUMENTATION << 2 | READ, record: 1 }.store(file);
-            let senders = read(file, survey, name, DOCUMENTATION, 1, answer);
+            let senders = poll(file, survey, name, answer);
             *step = 1;
             if senders != 0 {
                 finish_name(end, index, step, names.len());
@@ -114,10 +119,17 @@ fn carry_on(
         1..=195 => compare_on(file, survey, run, answer),
         196 => {
             *step = next_made(197, 197, *value, *high, *low);
-            write_unnamed(file, survey, 1, u32::from_be_bytes([0, 0, name, UNNAMED]))
+            write_unnamed(file, survey, 1, [0, 0, name])
         }
         _ => give(file, survey, run, names.len()),
     }
+}
+
+/// Reads the first half of the physical name of whoever holds a name.
+#[inline]
+fn poll(file: &mut [u8], survey: &Survey, name: u8, answer: &mut [u8; ANSWER_BYTES]) -> u64 {
+    Pending { name, pb2: DOCUMENTATION << 2 | READ, record: 1 }.store(file);
+    read(file, survey, name, DOCUMENTATION, 1, answer)
 }
 
 /// Places 1 to 195: comparisons of three places each, with 0 and then with each bit from 63 down.
@@ -213,13 +225,16 @@ fn execute_unnamed(file: &mut [u8], record: u8) {
 }
 
 /// Writes a half of a comparison value and keeps it.
+#[inline]
 fn write_half(file: &mut [u8], survey: &Survey, record: u8, kept: &mut u64, half: u64) -> u64 {
     *kept = half;
-    write_unnamed(file, survey, record, half as u32)
+    write_unnamed(file, survey, record, (half as u32).to_be_bytes())
 }
 
-/// Nobody sends at a write.
-fn write_unnamed(file: &mut [u8], survey: &Survey, record: u8, data: u32) -> u64 {
+/// Nobody sends at a write. Of record 1 the last byte, the logical name, is not written.
+#[inline]
+fn write_unnamed<const BYTES: usize>(file: &mut [u8], survey: &Survey, record: u8, data: [u8; BYTES]) -> u64 {
     Pending { name: UNNAMED, pb2: CONFIGURATION << 2 | WRITE, record }.store(file);
-    write(file, survey, UNNAMED, CONFIGURATION, record, data.to_be_bytes())
+    write_configuration(file, survey, UNNAMED, record, data);
+    0
 }

@@ -7,7 +7,8 @@ use crate::{ANSWER_BYTES, EPOCH, UNNAMED};
 
 const SLAVES: usize = 32;
 
-/// A slave that takes part: its number in the table, and where its round descriptor list begins and ends.
+/// A slave that takes part, awake and not unnamed: its number in the table, and where its round descriptor list begins
+/// and ends.
 #[derive(Clone, Copy)]
 struct Partner {
     slave: usize,
@@ -19,7 +20,7 @@ pub fn run(file: &mut [u8], survey: &Survey, round: u8, answer: &mut [u8; ANSWER
     let mut partners = [Partner { slave: 0, list: (0, 0) }; SLAVES];
     let mut count = 0;
     for slave in survey.slaves() {
-        if survey.logical_name(file, slave) != UNNAMED {
+        if survey.logical_name(file, slave) != UNNAMED && survey.is_awake(file, slave) {
             if let Some((place, size)) = survey.find(file, slave, round) {
                 partners[count] = Partner { slave, list: (place as u16 + 4, (place + size) as u16) };
                 count += 1;

@@ -50,7 +50,7 @@ pub fn round_keeping(
     let Some(answer) = answer.first_chunk_mut::<ANSWER_BYTES>() else {
         return 9;
     };
-    let ground = carry_out(multipartner::run, file, &survey, frame, answer, senders);
+    let ground = carry_out(multipartner::run, file, &mut survey, frame, answer, senders);
     keep(ground, file, &survey, held)
 }
 
@@ -71,7 +71,7 @@ pub fn step_keeping(
     if !is_true(file, &survey, held, count) {
         return NO_SUMMARY;
     }
-    let ground = naming::step_on(file, &survey, run, names, answer, senders);
+    let ground = naming::step_on(file, &mut survey, run, names, answer, senders);
     keep(ground, file, &survey, held)
 }
 

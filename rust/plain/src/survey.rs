@@ -10,13 +10,20 @@ const MOST_SLAVES: usize = 32;
 /// What the walk over an accepted file found.
 pub struct Survey {
     count: usize,
+    /// Whether anyone sleeps; who does stands in the table.
+    someone_sleeps: bool,
     configuration: [u16; MOST_SLAVES],
     documentation: [u16; MOST_SLAVES],
 }
 
 impl Survey {
     pub fn new() -> Survey {
-        Survey { count: 0, configuration: [0; MOST_SLAVES], documentation: [0; MOST_SLAVES] }
+        Survey {
+            count: 0,
+            someone_sleeps: false,
+            configuration: [0; MOST_SLAVES],
+            documentation: [0; MOST_SLAVES],
+        }
     }
 
     /// Fills the survey: 0, or the ground that turns the file away.
@@ -47,12 +54,18 @@ impl Survey {
     /// None where the layout is broken, else whether a slave lacks one of its two files.
     fn walk_slaves(&mut self, file: &[u8]) -> Option<bool> {
         let table = file.get(HEADER_BYTES..HEADER_BYTES + 4 * self.count)?;
+        // One byte above 1 shows in the or of all.
+        let sleep_bytes = table.as_chunks::<4>().0.iter().fold(0, |seen, entry| seen | entry[3]);
+        if sleep_bytes > 1 {
+            return None;
+        }
+        self.someone_sleeps = sleep_bytes != 0;
         let mut place = HEADER_BYTES + 4 * self.count;
         let mut lacks_a_file = false;
         let places = self.configuration.iter_mut().zip(&mut self.documentation);
         for (entry, (configuration, documentation)) in table.as_chunks().0.iter().zip(places) {
             let entry = u32::from_be_bytes(*entry);
-            if entry & 0xFF != 0 || (entry >> 16) as usize != place {
+            if (entry >> 16) as usize != place {
                 return None;
             }
             let after = place + directory_bytes(entry);
@@ -99,6 +112,29 @@ impl Survey {
 
     pub fn slaves(&self) -> Range<usize> {
         0..self.count.min(MOST_SLAVES)
+    }
+
+    /// Whether a slave takes part in rounds.
+    pub fn is_awake(&self, file: &[u8], slave: usize) -> bool {
+        !self.someone_sleeps || file[sleep_place(slave)] == 0
+    }
+
+    /// After a round: these sleep, a bit a slave, and everyone else is awake. Mostly nobody slept and nobody does, so
+    /// that nothing is stored.
+    #[inline]
+    pub fn rest(&mut self, file: &mut [u8], sleepers: u32) {
+        if self.someone_sleeps || sleepers != 0 {
+            self.store_sleepers(file, sleepers);
+        }
+    }
+
+    #[cold]
+    #[inline(never)]
+    fn store_sleepers(&mut self, file: &mut [u8], sleepers: u32) {
+        for slave in self.slaves() {
+            file[sleep_place(slave)] = (sleepers >> slave & 1) as u8;
+        }
+        self.someone_sleeps = sleepers != 0;
     }
 
     /// Where the bytes of file 0x08 begin.
@@ -203,6 +239,11 @@ fn documentation_in(directory: &[[u8; 4]]) -> u16 {
         Some(entry) if entry[0] == DOCUMENTATION && entry[1] >= 2 => place_in(entry) as u16,
         _ => 0,
     }
+}
+
+/// The last byte of a table entry: 0 awake, 1 asleep.
+fn sleep_place(slave: usize) -> usize {
+    HEADER_BYTES + 4 * slave + 3
 }
 
 /// The directory entries of a slave.

@@ -44,7 +44,7 @@ fn trace_with(
     for &[_, _, length] in table {
         let (frame, rest) = data.split_at(usize::from(length));
         data = rest;
-        let ground = carry_out(&run_partners, file, &survey, frame, &mut answer, &mut senders);
+        let ground = carry_out(&run_partners, file, &mut survey, frame, &mut answer, &mut senders);
         let kind = match frame {
             _ if ground != 0 => REFUSED_FRAMES,
             [MSA, ..] => MSA_FRAMES,

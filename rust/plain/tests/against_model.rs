@@ -52,3 +52,9 @@ fn the_edges_of_an_owner_file_hold() {
 fn the_edges_of_summaries_hold() {
     edges::summaries::hold(&Plain { nested: false });
 }
+
+#[test]
+fn the_edges_of_sleepers_hold() {
+    edges::sleepers::hold(&Plain { nested: false });
+    edges::sleepers::hold(&Plain { nested: true });
+}

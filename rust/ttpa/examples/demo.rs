@@ -3,7 +3,8 @@
 //! Sees to it that crate and library are of one version, loads a cluster file, checks it, reads a record of a named
 //! slave, has a foreign master try to name slaves by a write, names the unnamed slaves while other rounds go on in
 //! between, tells before and after it who holds a name, runs a captured trace, plans who sends in which slot, has a slot
-//! multiplexed, and prints what happened. c/demo.c does the same and prints the same.
+//! multiplexed, puts the cluster to sleep and wakes it, and prints what happened. c/demo.c does the same and prints the
+//! same.
 
 use std::fs::File;
 use std::io::Read;
@@ -11,16 +12,20 @@ use std::process::ExitCode;
 use ttpa::{
     Address, End, Owners, Report, Run, Senders, Summary, TtpaError, ANSWER_BYTES, FILE_CONFIGURATION,
     FILE_DOCUMENTATION, FIREWORK_MSA, FIREWORK_MSD, FIREWORK_ROUND_2, FRAME_BYTES, MOST_FILE_BYTES,
-    MOST_OWNER_BYTES, NAME_BROADCAST, NAME_UNNAMED, OPERATION_READ, OPERATION_WRITE,
+    MOST_OWNER_BYTES, NAME_BROADCAST, NAME_UNNAMED, OPERATION_EXECUTE, OPERATION_READ, OPERATION_WRITE,
+    RECORD_SLEEP,
 };
 
 const ROUND_2: [u8; 1] = [FIREWORK_ROUND_2];
-const DATA_OF_A_READ: [u8; 1] = [FIREWORK_MSD];
+const DATA_ALONE: [u8; 1] = [FIREWORK_MSD];
 const STEPS_BETWEEN_TRAFFIC: u64 = 50;
 /// The master's own logical name.
 const MASTER: u8 = 0x80;
 /// Where the demo's file has the logical name of its second slave, which is unnamed.
-const SECOND_NAME: usize = 0x7B;
+const SECOND_NAME: usize = 0x7F;
+/// Where a cluster file tells whether its first slave sleeps, and how far it is to the next slave's byte.
+const FIRST_SLEEP: usize = 19;
+const ENTRY_BYTES: usize = 4;
 /// Five frames captured on site: round 2; a write of E7 7F 00 00 to record 1 of file 0x10 of slave 01, its data
 /// broken at first (the check byte is D1); and round 2 again. First frame count and data length, then for each
 /// frame offset and length.
@@ -65,12 +70,16 @@ impl Cluster {
         Ok(())
     }
 
-    /// A complete master-slave round: the address frame, then the data frame, one byte for a read.
-    fn read_record(&mut self, name: u8, file: u8, record: u8) -> Result<(), TtpaError> {
+    /// A complete master-slave round that writes nothing: the address frame, then the data frame, one byte.
+    fn master_slave(&mut self, name: u8, file: u8, operation: u8, record: u8) -> Result<(), TtpaError> {
         let mut frame = [0; FRAME_BYTES];
-        ttpa::write_address(&mut frame, &Address { epoch: 1, name, file, operation: OPERATION_READ, record })?;
+        ttpa::write_address(&mut frame, &Address { epoch: 1, name, file, operation, record })?;
         self.send(&frame)?;
-        self.send(&DATA_OF_A_READ)
+        self.send(&DATA_ALONE)
+    }
+
+    fn read_record(&mut self, name: u8, file: u8, record: u8) -> Result<(), TtpaError> {
+        self.master_slave(name, file, OPERATION_READ, record)
     }
 
     /// A complete master-slave round that writes a record: the data frame has its four bytes.
@@ -205,6 +214,26 @@ impl Cluster {
             self.print_answer();
         }
     }
+
+    /// Of each slave in table order 1 where it sleeps, else 0.
+    fn print_sleep(&self, slaves: usize) {
+        let bytes = self.file.iter().skip(FIRST_SLEEP).step_by(ENTRY_BYTES).take(slaves);
+        let shown: String = bytes.map(|byte| format!(" {byte}")).collect();
+        println!("asleep:{shown}");
+    }
+
+    /// The whole cluster is put to sleep: all slaves have names, so 0x00 addresses each, and each has record 4 of 0x08.
+    /// The first read finds 01 asleep and wakes all, the second is answered.
+    fn show_sleep(&mut self, slaves: usize) {
+        let slept = self.master_slave(NAME_BROADCAST, FILE_CONFIGURATION, OPERATION_EXECUTE, RECORD_SLEEP);
+        print_verdict("sleep at 00", slept);
+        self.print_sleep(slaves);
+        for _ in 0..2 {
+            print_verdict("read of 01", self.read_record(0x01, FILE_DOCUMENTATION, 2));
+            self.print_answer();
+            self.print_sleep(slaves);
+        }
+    }
 }
 
 /// Who holds each of some names, asked of the summary alone.
@@ -279,6 +308,7 @@ fn main() -> ExitCode {
     print_verdict("round 2 as planned", cluster.send(&ROUND_2));
     cluster.print_answer();
     cluster.show_multiplexed();
+    cluster.show_sleep(summary.names().len());
     let mut short = [0; ANSWER_BYTES - 1];
     print_verdict("a short answer buffer", ttpa::round(&mut cluster.file, &ROUND_2, &mut short));
     print_verdict("the file as it is now", ttpa::check(&cluster.file));

@@ -42,3 +42,7 @@ pub const NAME_UNNAMED: u8 = 0xFF;
 pub const FILE_CONFIGURATION: u8 = 0x08;
 /// The documentation file, which every slave has. Its records 1 and 2 are the physical name.
 pub const FILE_DOCUMENTATION: u8 = 0x3D;
+/// The record of [`FILE_CONFIGURATION`] whose execute puts addressed slaves that have it to sleep, after its data frame. A
+/// sleeping slave takes no part in rounds and is awake after the next data frame or multipartner round that is carried
+/// out; the last byte of its entry in the slave table tells it, 0 awake and 1 asleep.
+pub const RECORD_SLEEP: u8 = 4;

@@ -31,7 +31,9 @@ impl Run {
     }
 
     /// One complete master-slave round; refused by 1 to 9 and 15 to 17. The answer becomes that to its data
-    /// frame. A step of an ended run alters nothing, and nobody sends.
+    /// frame. A step of an ended run alters nothing, and nobody sends. A run over a list that is not empty begins with an
+    /// extra read at its first name, which wakes all slaves and whose reply is ignored: it is due while no round is
+    /// counted, and raises that count alone.
     pub fn step(&mut self, file: &mut [u8], names: &[u8], answer: &mut [u8]) -> Result<Senders, TtpaError> {
         version::hold();
         let mut senders = 0;
@@ -86,7 +88,7 @@ impl Run {
         self.words[calls::RUN_VALUE]
     }
 
-    /// Rounds made.
+    /// Rounds made, the extra read too.
     pub fn rounds(&self) -> u64 {
         self.words[calls::RUN_ROUNDS]
     }

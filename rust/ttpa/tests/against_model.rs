@@ -151,6 +151,7 @@ fn the_safe_functions_give_the_kept_results() {
         include_str!("../../model/tests/data/request-06.txt"),
         include_str!("../../model/tests/data/request-07.txt"),
         include_str!("../../model/tests/data/request-08.txt"),
+        include_str!("../../model/tests/data/request-09.txt"),
     ] {
         let held = hold_all(&Wrapper, text);
         assert!(held.passed > 0);
@@ -191,4 +192,9 @@ fn the_edges_of_multiplexed_entries_hold() {
 #[test]
 fn the_edges_of_summaries_hold() {
     edges::summaries::hold(&Wrapper);
+}
+
+#[test]
+fn the_edges_of_sleepers_hold() {
+    edges::sleepers::hold(&Wrapper);
 }

@@ -19,10 +19,11 @@ abbrev pub dataRound : List ℕ
 dataRound = dataFirework ∷ []
 
 pub record RoundCases : Type 0 where
-  -- "M6: physical name equal to IDCV replies."
+  -- "M6: physical name equal to IDCV replies.", awake
   pub m6 :
       (file buffer : List ℕ) → roundGround file dataRound buffer ≡ 0 → pendingDuty (decode file) ≡ comparing unnamed → (s : Slave) →
-      decode file .slaves ≡ s ∷ [] → isUnnamed s ≡ true → physicalName s ≡ comparisonValue s → roundOn file dataRound buffer .0 ≡ done 2
+      decode file .slaves ≡ s ∷ [] → s .asleep ≡ 0 → isUnnamed s ≡ true → physicalName s ≡ comparisonValue s →
+      roundOn file dataRound buffer .0 ≡ done 2
   -- "M7: one less is silent."
   pub m7 :
       (file buffer : List ℕ) → roundGround file dataRound buffer ≡ 0 → pendingDuty (decode file) ≡ comparing unnamed → (s : Slave) →

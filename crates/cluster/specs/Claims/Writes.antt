@@ -10,6 +10,7 @@ use Rattle.file.specs.Rules.Bytes.{Bytes}
 use Rattle.file.specs.Rules.Layout.{pendingFlag}
 use Rattle.file.specs.Rules.Cluster.{Slave, noSlave, hasRecord, recordOf, logicalName, unnamed, documentation, pb2Of, writeOperation}
 use Rattle.file.specs.Rules.Decode.{decode}
+use Rattle.file.specs.Rules.Changes.{withSleep}
 use Rattle.frame.specs.Rules.Fireworks.{msd}
 use Rattle.frame.specs.Rules.Frames.{between}
 use Rattle.cluster.specs.Rules.Slaves.{addressed, isNameRecord}
@@ -34,17 +35,18 @@ pub record WriteAtUnnamed (file frame buffer : List ℕ) (n r : ℕ) : Type 0 wh
 unfoldable pub recordAfter : ℕ → ℕ → List ℕ → List ℕ → List ℕ
 recordAfter n r old bytes = cond (isNameRecord n r) (take 3 bytes ++ drop 3 old) bytes
 
--- afterwards every unnamed slave that has the record holds this in it
+-- afterwards every unnamed slave that is awake and has the record holds this in it
 abbrev pub UnnamedTakeWrites : Type 0
 UnnamedTakeWrites =
     (file frame buffer : List ℕ) (n r : ℕ) → Bytes file → Bytes frame → WriteAtUnnamed file frame buffer n r →
-    (i : ℕ) → i < length (decode file .slaves) → logicalName (slaveIn file i) ≡ unnamed → hasRecord (slaveIn file i) n r ≡ true →
+    (i : ℕ) → i < length (decode file .slaves) → slaveIn file i .asleep ≡ 0 → logicalName (slaveIn file i) ≡ unnamed →
+    hasRecord (slaveIn file i) n r ≡ true →
     recordOf (slaveIn (roundOn file frame buffer .2) i) n r ≡ recordAfter n r (recordOf (slaveIn file i) n r) (between frame)
 
 -- ---- every write, by the numbers of file and record
 
--- an accepted MSD on a file with a write of record r of file n pending at a logical name, and a slave of its table that is addressed and
--- has the record
+-- an accepted MSD on a file with a write of record r of file n pending at a logical name, and a slave of its table that is awake,
+-- addressed and has the record
 pub record WriteReaches (file frame buffer : List ℕ) (name n r i : ℕ) : Type 0 where
   pub isMsd : roundBy frame ≡ msd
   pub accepted : roundGround file frame buffer ≡ 0
@@ -72,7 +74,8 @@ RecordWritten =
     (n ≡ 0x08 → r ≡ 1 → ⊥) → n ≢ 0x3D → r ≢ 0x00 →
     Holds file (roundOn file frame buffer .2) i n r (getD frame 1 0 ∷ getD frame 2 0 ∷ getD frame 3 0 ∷ getD frame 4 0 ∷ [])
 
--- "except in 0x3D and in any record 0x00"; and a slave that is not addressed, or does not have the record, keeps all that it holds
+-- "except in 0x3D and in any record 0x00"; and a slave that is not addressed, a sleeping one among them, or does not have the record,
+-- keeps all that it holds, and is awake
 pub data NotReached (file : List ℕ) (name n r i : ℕ) : Type 0 where
   inDocumentation : n ≡ 0x3D → NotReached file name n r i
   inHeader : r ≡ 0x00 → NotReached file name n r i
@@ -83,4 +86,4 @@ abbrev pub NothingWritten : Type 0
 NothingWritten =
     (file frame buffer : List ℕ) (name n r i : ℕ) → Bytes file → Bytes frame → roundBy frame ≡ msd → roundGround file frame buffer ≡ 0 →
     Pending (decode file) pendingFlag name (pb2Of n writeOperation) r → i < length (decode file .slaves) → NotReached file name n r i →
-    slaveIn (roundOn file frame buffer .2) i ≡ slaveIn file i
+    slaveIn (roundOn file frame buffer .2) i ≡ withSleep (slaveIn file i) 0

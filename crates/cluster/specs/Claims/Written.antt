@@ -14,7 +14,7 @@ use Rattle.frame.specs.Rules.Fireworks.{dataFirework, addressFirework}
 use Rattle.frame.specs.Rules.Frames.{frameSize}
 use Rattle.frame.specs.Rules.Writing.{writeAddress, writeData}
 use Rattle.cluster.specs.Rules.Bus.{slots, senderMask, answerBytes, answerIn, nobody}
-use Rattle.cluster.specs.Rules.Slaves.{withAddress, epochRaised, reading, writing, executionOf, pendingDuty, sentTo, slavesAfter}
+use Rattle.cluster.specs.Rules.Slaves.{withAddress, epochRaised, nothing, reading, writing, executionOf, pendingDuty, sentTo, slavesAfter, rested}
 use Rattle.cluster.specs.Rules.Grounds.{writePending}
 use Rattle.cluster.specs.Rules.Round.{roundOn}
 
@@ -43,21 +43,21 @@ AddressSentAsWritten =
     SameAddress file (take frameSize (writeAddress buffer epoch name number operation «record» .1)) answer epoch name number operation «record»
 
 -- the six bytes that the data writer wrote, sent with a write pending: just these bytes are put, as the rule of a write says, the epoch is
--- raised, and nobody sends
+-- raised, everyone is awake, and nobody sends
 abbrev pub DataSentAsWritten : Type 0
 DataSentAsWritten =
     (file buffer answer : List ℕ) (b₀ b₁ b₂ b₃ name n r : ℕ) → fileGround file ≡ 0 → slots ≤ length answer →
     pendingDuty (decode file) ≡ writing name n r → writeData buffer (b₀ ∷ b₁ ∷ b₂ ∷ b₃ ∷ []) .0 ≡ done tt →
     SilentlyBecomes file (take frameSize (writeData buffer (b₀ ∷ b₁ ∷ b₂ ∷ b₃ ∷ []) .1)) answer dataFirework
-    (slavesAfter (writing name n r) (b₀ ∷ b₁ ∷ b₂ ∷ b₃ ∷ []) (epochRaised (decode file)))
+    (rested nothing (slavesAfter (writing name n r) (b₀ ∷ b₁ ∷ b₂ ∷ b₃ ∷ []) (epochRaised (decode file))))
 
--- with no write pending the data frame is its firework alone: who has something to send for what is pending sends it, and the slaves become
--- what it makes of them
+-- with no write pending the data frame is its firework alone: who has something to send for what is pending sends it, the slaves become
+-- what it makes of them, and those that it puts to sleep are asleep, all others awake
 abbrev pub FireworkAlone : Type 0
 FireworkAlone =
     (file answer : List ℕ) → fileGround file ≡ 0 → slots ≤ length answer → writePending (decode file) ≡ false →
     roundOn file (dataFirework ∷ []) answer ≡ (
       done (senderMask (sentTo (pendingDuty (decode file)) (decode file .slaves))),
       answerIn answer (answerBytes dataFirework (sentTo (pendingDuty (decode file)) (decode file .slaves))),
-      encode (slavesAfter (pendingDuty (decode file)) [] (epochRaised (decode file))),
+      encode (rested (pendingDuty (decode file)) (slavesAfter (pendingDuty (decode file)) [] (epochRaised (decode file)))),
     )

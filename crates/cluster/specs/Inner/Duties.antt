@@ -13,7 +13,7 @@ use Rattle.cluster.specs.declared.types.DataBytes.{DataBytes}
 use Rattle.cluster.specs.declared.types.MasterSlaveRound.{MasterSlaveRound}
 use Rattle.cluster.specs.declared.duty.Duty.{Duty as CodeDuty}
 use Rattle.cluster.specs.declared.duty.Duty.the-variants as duties
-use Rattle.cluster.specs.Rules.Slaves.{withAddress, Duty, nothing, reading, writing, comparing, baptizing, executionOf, sentTo, slavesAfter}
+use Rattle.cluster.specs.Rules.Slaves.{withAddress, Duty, nothing, reading, writing, comparing, baptizing, sleeping, executionOf, sentTo, slavesAfter}
 use Rattle.cluster.specs.Rules.Round.{Effect}
 
 abbrev pub readingAt : RecordAddress → Duty
@@ -32,6 +32,7 @@ dutyAt duties.Read a = readingAt a
 dutyAt duties.Write a = writingAt a
 dutyAt duties.Compare a = comparing (nameIn (a .name))
 dutyAt duties.Baptize a = baptizing (nameIn (a .name))
+dutyAt duties.Sleep a = sleeping (nameIn (a .name))
 
 -- that of an operation by its number
 unfoldable pub dutyFor : ℕ → RecordAddress → Duty

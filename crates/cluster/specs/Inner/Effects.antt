@@ -5,7 +5,7 @@ use lib.ListN.{getD}
 use Rattle.file.specs.Rules.Cluster.{Cluster}
 use Rattle.file.specs.Rules.Results.{done}
 use Rattle.cluster.specs.Rules.Bus.{slots, senderMask, answerBytes, answerIn, nobody}
-use Rattle.cluster.specs.Rules.Slaves.{withAddress, epochRaised, pendingDuty, sentTo, slavesAfter}
+use Rattle.cluster.specs.Rules.Slaves.{withAddress, epochRaised, nothing, pendingDuty, sentTo, slavesAfter, rested}
 use Rattle.cluster.specs.Rules.Multipartner.{clusterBelow, sentDuring}
 use Rattle.cluster.specs.Rules.Round.{Effect, passedOver, Answer}
 
@@ -15,11 +15,11 @@ addressEffect c frame =
 
 abbrev pub dataEffect : Cluster → List ℕ → Effect
 dataEffect c bytes =
-    record { senders = sentTo (pendingDuty c) (c .slaves); after = slavesAfter (pendingDuty c) bytes (epochRaised c) }
+    record { senders = sentTo (pendingDuty c) (c .slaves); after = rested (pendingDuty c) (slavesAfter (pendingDuty c) bytes (epochRaised c)) }
 
 abbrev pub multipartnerEffect : Cluster → ℕ → Effect
 multipartnerEffect c round =
-    record { senders = sentDuring (passedOver c) round (epochRaised c); after = clusterBelow (passedOver c) round (epochRaised c) slots }
+    record { senders = sentDuring (passedOver c) round (epochRaised c); after = rested nothing (clusterBelow (passedOver c) round (epochRaised c) slots) }
 
 abbrev pub carriedBy : Effect → Answer
 carriedBy e = done (senderMask (e .senders))

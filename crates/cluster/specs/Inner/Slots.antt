@@ -6,7 +6,7 @@ use mathlib.Core.Bool.{Bool, true, false, cond}
 use lib.ListN.{length, getD, set}
 use lib.Dec.{eqb}
 use Rattle.file.specs.Rules.Layout.{recordSize}
-use Rattle.file.specs.Rules.Cluster.{Slave, Cluster, bytesIn, lastRecord}
+use Rattle.file.specs.Rules.Cluster.{Slave, Cluster, isAwake, bytesIn, lastRecord}
 use Rattle.file.specs.Inner.Places.{slavesRoom, slaveOf, filePlace}
 use Rattle.cluster.specs.Rules.Bus.{slots}
 use Rattle.cluster.specs.Rules.Slaves.{isUnnamed}
@@ -23,16 +23,26 @@ use Rattle.cluster.specs.declared.multipartner.SlotAct.the-variants.{Sen
 unfoldable pub slotsEffect : (Entry → Bool) → Cluster → ℕ → Effect
 slotsEffect passed c round = record { senders = sentDuring passed round c; after = clusterBelow passed round c slots }
 
--- ---- each slave's round file: "Round r runs file r of each slave not unnamed; others take no part."
+-- ---- each slave's round file: "Round r runs file r of each slave not unnamed; others take no part."; "A sleeping slave takes no part in
+-- rounds" (document 02, job 9)
 
--- the entries that a slave runs
+-- the entries that are planned for a slave, and those that it runs
+unfoldable pub plannedEntries : ℕ → Slave → ℕ
+plannedEntries round s = cond (isUnnamed s) 0 (lastRecord (bytesIn s round))
+
 unfoldable pub entriesIn : ℕ → Slave → ℕ
-entriesIn round s = cond (isUnnamed s) 0 (lastRecord (bytesIn s round))
+entriesIn round s = cond (isAwake s) (plannedEntries round s) 0
 
--- where those of the slave at index s begin and where they end: after record 0x00, both 0 where it runs none
-pub record RoundFileIs (c : Cluster) (round s start end : ℕ) : Type 0 where
-  pub begins : start ≡ cond (eqb (entriesIn round (slaveOf c s)) 0) 0 (filePlace c s round + recordSize)
-  pub span : end ≡ start + recordSize * entriesIn round (slaveOf c s)
+-- where so many entries of the slave at index s begin and where they end: after record 0x00, both 0 where there are none
+pub record EntriesLie (c : Cluster) (round s many start end : ℕ) : Type 0 where
+  pub begins : start ≡ cond (eqb many 0) 0 (filePlace c s round + recordSize)
+  pub span : end ≡ start + recordSize * many
+
+abbrev pub PlannedFileIs : Cluster → ℕ → ℕ → ℕ → ℕ → Type 0
+PlannedFileIs c round s start end = EntriesLie c round s (plannedEntries round (slaveOf c s)) start end
+
+abbrev pub RoundFileIs : Cluster → ℕ → ℕ → ℕ → ℕ → Type 0
+RoundFileIs c round s start end = EntriesLie c round s (entriesIn round (slaveOf c s)) start end
 
 -- the same of every slave, in front of whatever else the arrays hold
 pub record RoundFilesAre (c : Cluster) (round : ℕ) (starts ends : List ℕ) : Type 0 where

@@ -6,7 +6,7 @@ use lib.ListN.{length, getD}
 use lib.Dec.{leb, ltb}
 use Rattle.file.specs.Rules.Order.{both}
 use Rattle.file.specs.Rules.Layout.{recordSize}
-use Rattle.file.specs.Rules.Cluster.{Slave, Cluster, bytesIn}
+use Rattle.file.specs.Rules.Cluster.{Slave, Cluster, isAwake, bytesIn}
 use Rattle.file.specs.Rules.Changes.{putInSlave, withSlaves}
 use Rattle.cluster.specs.Rules.Bus.{Senders, busByte}
 use Rattle.cluster.specs.Rules.Slaves.{isUnnamed}
@@ -41,13 +41,15 @@ storePlace s slot (acts e) =
 unfoldable pub plansFrom : (Entry → Bool) → ℕ → ℕ → Slave → SlaveByte
 plansFrom passed round slot s = cond (isUnnamed s) nowhere (sendPlace s slot (acting passed (bytesIn s round) slot))
 
--- which is where it sends from, in a round that passes over these
+-- which is where it sends from, in a round that passes over these, if it is awake: "A sleeping slave takes no part in rounds" (document
+-- 02, job 9)
 unfoldable pub sendsFrom : (Entry → Bool) → ℕ → ℕ → Slave → SlaveByte
-sendsFrom passed round slot s = plansFrom passed round slot s
+sendsFrom passed round slot s = cond (isAwake s) (plansFrom passed round slot s) nowhere
 
 -- and where it stores
 unfoldable pub storesAt : (Entry → Bool) → ℕ → ℕ → Slave → SlaveByte
-storesAt passed round slot s = cond (isUnnamed s) nowhere (storePlace s slot (acting passed (bytesIn s round) slot))
+storesAt passed round slot s =
+    cond (isAwake s) (cond (isUnnamed s) nowhere (storePlace s slot (acting passed (bytesIn s round) slot))) nowhere
 
 -- the byte that stands there
 unfoldable pub byteThere : Slave → SlaveByte → List ℕ

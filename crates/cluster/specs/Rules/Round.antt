@@ -14,7 +14,7 @@ use Rattle.file.specs.Rules.Grounds.{fileGrounds}
 use Rattle.frame.specs.Rules.Fireworks.{Round, multipartner, msd, msa, noRound}
 use Rattle.frame.specs.Rules.Frames.{between}
 use Rattle.cluster.specs.Rules.Bus.{Senders, slots, senderMask, answerBytes, answerIn, nobody}
-use Rattle.cluster.specs.Rules.Slaves.{withAddress, epochRaised, pendingDuty, sentTo, slavesAfter}
+use Rattle.cluster.specs.Rules.Slaves.{withAddress, epochRaised, nothing, pendingDuty, sentTo, slavesAfter, rested}
 use Rattle.cluster.specs.Rules.Entries.{Entry, outOfTurn}
 use Rattle.cluster.specs.Rules.Multipartner.{clusterBelow, sentDuring}
 use Rattle.cluster.specs.Rules.Grounds.{shortAnswer, roundBy, groundsOn}
@@ -30,13 +30,16 @@ passedOver c = outOfTurn (epochRaised c .epoch)
 
 -- MSA: "An accepted MSA sets the epoch to PB0 and becomes pending until the next one; nobody sends."
 -- MSD: "MSD carries out the pending operation, or nothing." Multipartner: "Slots 1 to 63 run in order"
+-- Both: addressed slaves "fall asleep after that round", a sleeping one "is awake after the next accepted MSD or multipartner round"
+-- (document 02, job 9)
 unfoldable pub effectOf : Cluster → Round → List ℕ → Effect
 effectOf c msa frame =
     record { senders = nobody; after = withAddress c (getD frame 1 0) (getD frame 2 0) (getD frame 3 0) (getD frame 4 0) }
 effectOf c msd frame =
-    let duty = pendingDuty c in record { senders = sentTo duty (c .slaves); after = slavesAfter duty (between frame) (epochRaised c) }
+    let duty = pendingDuty c in
+    record { senders = sentTo duty (c .slaves); after = rested duty (slavesAfter duty (between frame) (epochRaised c)) }
 effectOf c (multipartner r) frame =
-    record { senders = sentDuring (passedOver c) r (epochRaised c); after = clusterBelow (passedOver c) r (epochRaised c) slots }
+    record { senders = sentDuring (passedOver c) r (epochRaised c); after = rested nothing (clusterBelow (passedOver c) r (epochRaised c) slots) }
 effectOf c noRound frame = record { senders = nobody; after = c }
 
 unfoldable pub frameOn : Cluster → List ℕ → Effect

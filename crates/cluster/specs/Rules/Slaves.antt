@@ -1,13 +1,13 @@
 -- What slaves do in master-slave rounds (document 01, "What slaves do").
 use Prim.Native.Nat.{ℕ, zero, suc, _+_, _*_, _%_}
 use mathlib.Core.List.{List, [], _∷_, _++_, map}
-use mathlib.Core.Bool.{Bool, cond, not}
+use mathlib.Core.Bool.{Bool, false, cond, not}
 use lib.ListN.{take, drop}
 use lib.Dec.{eqb, leb}
 use Rattle.file.specs.Rules.Order.{both}
 use Rattle.file.specs.Rules.Layout.{pendingFlag, recordSize}
-use Rattle.file.specs.Rules.Cluster.{Slave, Cluster, configuration, documentation, hasRecord, recordOf, physicalName, newLogicalName, logicalName, comparisonValue, unnamed, broadcast, fileNumberOf, operationOf, readOperation, writeOperation, executeOperation}
-use Rattle.file.specs.Rules.Changes.{putInSlave, withSlaves, withEpoch, withPending}
+use Rattle.file.specs.Rules.Cluster.{Slave, Cluster, isAwake, configuration, documentation, hasRecord, recordOf, physicalName, newLogicalName, logicalName, comparisonValue, unnamed, broadcast, fileNumberOf, operationOf, readOperation, writeOperation, executeOperation}
+use Rattle.file.specs.Rules.Changes.{putInSlave, withSleep, withSlaves, withEpoch, withPending}
 use Rattle.frame.specs.Rules.Check.{dataCheck}
 
 -- ---- the epoch and the pending operation
@@ -23,17 +23,23 @@ nextEpoch epoch = (epoch + 1) % 256
 unfoldable pub epochRaised : Cluster → Cluster
 epochRaised c = withEpoch c (nextEpoch (c .epoch))
 
--- what is pending: a read or a write of a record, the execute of 0x08 record 2 or of 0x08 record 1, each at a logical name, or
--- nothing that a slave does something for
+-- what is pending: a read or a write of a record, the execute of 0x08 record 2, of 0x08 record 1 or of 0x08 record 4, each at a logical
+-- name, or nothing that a slave does something for
 pub data Duty : Type 0 where
   nothing : Duty
   reading writing : ℕ → ℕ → ℕ → Duty
-  comparing baptizing : ℕ → Duty
+  comparing baptizing sleeping : ℕ → Duty
 
--- "Execute 0x08 record 2", "Record 1", "Any other: nothing."
+-- "put the whole cluster to sleep by an execute of record 4 of 0x08, our choice of record" (document 02, job 9)
+abbrev pub sleepRecord : ℕ
+sleepRecord = 4
+
+-- "Execute 0x08 record 2", "Record 1", "Any other: nothing.", but the sleep's
 unfoldable pub executionOf : ℕ → ℕ → ℕ → Duty
 executionOf name n r =
-    cond (eqb n configuration) (cond (eqb r 2) (comparing name) (cond (eqb r 1) (baptizing name) nothing)) nothing
+    cond (eqb n configuration)
+    (cond (eqb r 2) (comparing name) (cond (eqb r 1) (baptizing name) (cond (eqb r sleepRecord) (sleeping name) nothing)))
+    nothing
 
 -- the operation of a logical name, PB2 and PB3
 unfoldable pub dutyBy : ℕ → ℕ → ℕ → Duty
@@ -55,8 +61,9 @@ isUnnamed s = eqb (logicalName s) unnamed
 unfoldable pub addresses : ℕ → ℕ → Bool
 addresses name own = cond (eqb name unnamed) (eqb own unnamed) (cond (eqb name broadcast) (not (eqb own unnamed)) (eqb own name))
 
+-- "A sleeping slave takes no part in rounds" (document 02, job 9)
 unfoldable pub addressed : ℕ → Slave → Bool
-addressed name s = addresses name (logicalName s)
+addressed name s = both (isAwake s) (addresses name (logicalName s))
 
 -- ---- what an addressed slave sends: its bytes from slot 1 on
 
@@ -78,6 +85,7 @@ replyTo (reading name n r) s = cond (answersRead name n r s) (readReply (recordO
 replyTo (writing name n r) s = []
 replyTo (comparing name) s = cond (answersCompare name s) (0x00 ∷ []) []
 replyTo (baptizing name) s = []
+replyTo (sleeping name) s = []
 
 -- the byte of such a reply in a slot
 unfoldable pub inSlot : List ℕ → ℕ → List ℕ
@@ -128,7 +136,26 @@ slaveAfter (reading name n r) bytes s = s
 slaveAfter (writing name n r) bytes s = cond (takesWrite name n r s) (replaced s n (recordSize * r) (written n r bytes)) s
 slaveAfter (comparing name) bytes s = s
 slaveAfter (baptizing name) bytes s = cond (takesName name s) (named s) s
+slaveAfter (sleeping name) bytes s = s
 
 -- "settled before any change": each slave by what it was
 unfoldable pub slavesAfter : Duty → List ℕ → Cluster → Cluster
 slavesAfter o bytes c = withSlaves c (map (slaveAfter o bytes) (c .slaves))
+
+-- ---- sleep (document 02, job 9)
+
+-- "addressed slaves that have it fall asleep after that round": one that sleeps is not addressed
+unfoldable pub fallsAsleep : Duty → Slave → Bool
+fallsAsleep nothing s = false
+fallsAsleep (reading name n r) s = false
+fallsAsleep (writing name n r) s = false
+fallsAsleep (comparing name) s = false
+fallsAsleep (baptizing name) s = false
+fallsAsleep (sleeping name) s = both (addressed name s) (hasRecord s configuration sleepRecord)
+
+-- "A sleeping slave .. is awake after the next accepted MSD or multipartner round.": so is everyone else, but who falls asleep
+unfoldable pub restsAfter : Duty → Slave → Slave
+restsAfter o s = withSleep s (cond (fallsAsleep o s) 1 0)
+
+unfoldable pub rested : Duty → Cluster → Cluster
+rested o c = withSlaves c (map (restsAfter o) (c .slaves))

@@ -163,7 +163,7 @@ started file names run = record { file = file; run = startCall names run .1 }
 -- Demand 3 over the C calls: "It is one claim about the whole list of calls, not one for each."
 abbrev pub DemandOverCalls : Type 0
 DemandOverCalls =
-    -- "It starts from an accepted file"
+    -- "It starts from an accepted file"; its slaves may sleep at the start (document 02, job 9)
     (file : List ℕ) → Bytes file → TakenByRounds file →
     -- "and list of names and a fresh run": ttpa_start returns 0
     (names : List ℕ) → Bytes names → (run : List ℕ) → startCall names run .0 ≡ 0 →

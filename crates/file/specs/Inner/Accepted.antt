@@ -13,7 +13,7 @@ use Rattle.file.specs.Rules.Encode.{encode}
 use Rattle.file.specs.Rules.Decode.{decode}
 use Rattle.file.specs.Rules.Legal.{Legal}
 use Rattle.file.specs.Rules.Grounds.{fileGround}
-use Rattle.file.specs.Inner.Places.{slaveOf, widthIn, filePlace, configurationIndex, documentationIndex}
+use Rattle.file.specs.Inner.Places.{slaveOf, widthIn, filePlace, sleepPlace, configurationIndex, documentationIndex}
 
 -- the file is accepted, and it is that cluster's one encoding
 pub record Becomes (f : List ℕ) (c : Cluster) : Type 0 where
@@ -36,6 +36,11 @@ pub record EpochAt (f : List ℕ) (at : ℕ) : Type 0 where
   pub is : at ≡ epochPlace (widthIn (decode f .edition))
   pub room : at + 8 ≤ length f
   pub low : at ≤ 12
+
+-- where its slave table keeps the sleep byte of slave s
+pub record SleepAt (f : List ℕ) (s at : ℕ) : Type 0 where
+  pub is : at ≡ sleepPlace (widthIn (decode f .edition)) s
+  pub within : at < length f
 
 -- how many slaves it has
 abbrev pub slaveCount : List ℕ → ℕ

@@ -6,11 +6,11 @@ use mathlib.Core.List.{List, [], _∷_}
 use mathlib.Core.Bool.{cond}
 use lib.ListN.{length, getD, set}
 use lib.Dec.{eqb}
-use Rattle.file.specs.Rules.Layout.{entrySize}
+use Rattle.file.specs.Rules.Layout.{headerSize, entrySize}
 use Rattle.file.specs.Rules.Cluster.{File, Slave, Cluster}
 pub use Rattle.file.specs.Rules.Cluster.{noSlave}
 use Rattle.file.specs.Rules.Encode.{slaveSize, slavesPlace}
-use Rattle.file.specs.Rules.Changes.{putInSlave, withSlaves}
+use Rattle.file.specs.Rules.Changes.{putInSlave, withSleep, withSlaves}
 
 -- the slave at an index of the slave table
 unfoldable pub slaveOf : Cluster → ℕ → Slave
@@ -56,6 +56,14 @@ documentationIndex s = placesEach * s + 1
 unfoldable pub putByte : Cluster → ℕ → ℕ → ℕ → ℕ → Cluster
 putByte c s n k b = withSlaves c (set (c .slaves) s (putInSlave (slaveOf c s) n k b))
 
+-- where an encoding keeps the sleep byte of slave s: behind its directory's offset and its file count
+abbrev pub sleepPlace : ℕ → ℕ → ℕ
+sleepPlace w s = headerSize w + entrySize w * s + w + 1
+
+-- the sleep byte of slave s replaced
+unfoldable pub putSleep : Cluster → ℕ → ℕ → Cluster
+putSleep c s b = withSlaves c (set (c .slaves) s (withSleep (slaveOf c s) b))
+
 -- the bytes of file n of slave s from k on replaced by those of the list, first to last
 unfoldable pub putBytes : Cluster → ℕ → ℕ → ℕ → List ℕ → Cluster
 putBytes c s n k [] = c
@@ -66,7 +74,7 @@ pub data SameFiles : List File → List File → Type 0 where
   noFiles : SameFiles [] []
   sameFile : {x y : File} {xs ys : List File} → x .number ≡ y .number → length (x .bytes) ≡ length (y .bytes) → SameFiles xs ys → SameFiles (x ∷ xs) (y ∷ ys)
 
--- as many slaves, each with such files
+-- as many slaves, each with such files: asleep or not
 pub data SameShape : List Slave → List Slave → Type 0 where
   noSlaves : SameShape [] []
   sameSlave : {s t : Slave} {ss ts : List Slave} → SameFiles (s .files) (t .files) → SameShape ss ts → SameShape (s ∷ ss) (t ∷ ts)

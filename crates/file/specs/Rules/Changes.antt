@@ -13,7 +13,11 @@ putAmong (x ∷ xs) n k b =
     cond (eqb (x .number) n) (record { number = x .number; bytes = set (x .bytes) k b } ∷ xs) (x ∷ putAmong xs n k b)
 
 unfoldable pub putInSlave : Slave → ℕ → ℕ → ℕ → Slave
-putInSlave s n k b = record { files = putAmong (s .files) n k b }
+putInSlave s n k b = record { asleep = s .asleep; files = putAmong (s .files) n k b }
+
+-- its sleep byte replaced
+unfoldable pub withSleep : Slave → ℕ → Slave
+withSleep s b = record { asleep = b; files = s .files }
 
 unfoldable pub withSlaves : Cluster → List Slave → Cluster
 withSlaves c ss = record { edition = c .edition; epoch = c .epoch; flag = c .flag; pendingName = c .pendingName; pendingPB2 = c .pendingPB2; pendingPB3 = c .pendingPB3; slaves = ss }

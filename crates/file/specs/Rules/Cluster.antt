@@ -14,12 +14,17 @@ pub record File : Type 0 where
   pub number : ℕ
   pub bytes : List ℕ
 
+-- "The zero at the end of a table entry becomes 0 awake or 1 asleep." (document 02, job 9)
 pub record Slave : Type 0 where
+  pub asleep : ℕ
   pub files : List File
 
 -- a slave with no files, for an index beyond the slave table
 abbrev pub noSlave : Slave
-noSlave = record { files = [] }
+noSlave = record { asleep = 0; files = [] }
+
+unfoldable pub isAwake : Slave → Bool
+isAwake s = eqb (s .asleep) 0
 
 -- the edition of the file that holds it, the epoch, the pending flag, the pending logical name, PB2 and PB3, and the slaves in table
 -- order

@@ -24,9 +24,9 @@ unfoldable pub filesAt : ℕ → List ℕ → ℕ → ℕ → List File
 filesAt w f d zero = []
 filesAt w f d (suc k) = fileAt w f d ∷ filesAt w f (d + entrySize w) k
 
--- the slave of the table entry at t: its directory's offset, its file count behind that
+-- the slave of the table entry at t: its directory's offset, its file count behind that, then its sleep byte
 unfoldable pub slaveAt : ℕ → List ℕ → ℕ → Slave
-slaveAt w f t = record { files = filesAt w f (offsetAt w f t) (getD f (t + w) 0) }
+slaveAt w f t = record { asleep = getD f (t + w + 1) 0; files = filesAt w f (offsetAt w f t) (getD f (t + w) 0) }
 
 -- the slaves of the n table entries from t on
 unfoldable pub slavesAt : ℕ → List ℕ → ℕ → ℕ → List Slave

@@ -39,9 +39,10 @@ unfoldable pub slavesSize : ℕ → List Slave → ℕ
 slavesSize w [] = 0
 slavesSize w (s ∷ ss) = slaveSize w s + slavesSize w ss
 
--- "A table entry is 4 bytes: directory offset (2), file count (1), zero."
+-- "A table entry is 4 bytes: directory offset (2), file count (1), zero."; "The zero at the end of a table entry becomes 0 awake or 1
+-- asleep." (document 02, job 9)
 unfoldable pub tableEntry : ℕ → ℕ → Slave → List ℕ
-tableEntry w place s = bytesOf w place ++ (length (s .files) ∷ 0 ∷ replicate (fillLength w) 0)
+tableEntry w place s = bytesOf w place ++ (length (s .files) ∷ s .asleep ∷ replicate (fillLength w) 0)
 
 unfoldable pub table : ℕ → ℕ → List Slave → List ℕ
 table w place [] = []

@@ -75,12 +75,14 @@ walkDirectory w f d low place (suc k) =
     let rest = walkDirectory w f (d + entrySize w) (suc (getD f d 0)) (place + fileSize (getD f (d + 1) 0)) k in
     cond (goodEntry w f d low place) rest broken
 
--- the table entry at t is good: its offset is the place, its zeros are zero, and its directory ends within the bytes
+-- the table entry at t is good: its offset is the place, its sleep byte is 0 or 1, its zeros are zero, and its directory ends within
+-- the bytes
 unfoldable pub goodTableEntry : ℕ → List ℕ → ℕ → ℕ → Bool
 goodTableEntry w f t place =
     both (eqb (offsetAt w f t) place)
-    (both (allZero (part f (t + w + 1) (suc (fillLength w))))
-    (leb (place + entrySize w * getD f (t + w) 0) (length f)))
+    (both (leb (getD f (t + w + 1) 0) 1)
+    (both (allZero (part f (t + w + 2) (fillLength w)))
+    (leb (place + entrySize w * getD f (t + w) 0) (length f))))
 
 -- the slave of the table entry at t, its directory at the place
 unfoldable pub walkSlave : ℕ → List ℕ → ℕ → ℕ → Walk
@@ -106,7 +108,8 @@ unfoldable pub endsAt : Walk → ℕ → Bool
 endsAt broken n = false
 endsAt (to place) n = eqb place n
 
--- 6. "An entry's zero, an offset, a file number, a record count or the end breaks the layout."
+-- 6. "An entry's zero, an offset, a file number, a record count or the end breaks the layout."; "Number 6 now refuses a sleep byte above
+-- 1." (document 02, job 9)
 unfoldable pub brokenLayout : ℕ → List ℕ → Bool
 brokenLayout w f = not (endsAt (walkFile w f) (length f))
 

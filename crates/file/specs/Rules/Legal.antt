@@ -22,7 +22,9 @@ pub data Rising : ℕ → List File → Type 0 where
   next : {low : ℕ} {x : File} {xs : List File} → low ≤ x .number → Rising (suc (x .number)) xs → Rising low (x ∷ xs)
 
 -- "Every slave has file 0x08 (configuration) with r at least 3 and file 0x3D (documentation, 000) with r at least 2."
+-- "0 awake or 1 asleep" (document 02, job 9)
 pub record LegalSlave (s : Slave) : Type 0 where
+  pub sleeps : s .asleep ≤ 1
   pub rising : Rising 0 (s .files)
   pub files : All LegalFile (s .files)
   pub configured : 3 ≤ lastRecord (bytesIn s configuration)

@@ -25,13 +25,14 @@ stateOf r file answer text =
       lines = take (r .at) text;
     }
 
--- the lines so far leave room for the others
+-- the lines so far leave room for the others; and a run that counts no round is at its begin, so the extra read is no last round of a pass
 pub record Room (r : ListProgress) (size : ℕ) : Type 0 where
   pub counted : r .begun ≤ r .run .comparisons
   pub few : r .given ≤ r .run .index
   pub most : r .given ≤ nameCount
   pub within : r .at ≤ r .given * lineSize
   pub long : textSize ≤ size
+  pub begins : r .run .rounds ≡ 0 → r .run .step ≡ 0
 
 -- from one run under way to another, with that much of the text written
 pub record StateIs (wanted : ListState) (old : List ℕ) (at : ℕ) (r : ListProgress) (file answer text : List ℕ) : Type 0 where
@@ -48,6 +49,7 @@ pub record Moves (p q : Position) : Type 0 where
   pub small : q .comparisons ≤ countLimit
   pub further : p .index ≤ q .index
   pub named : p .step ≡ lastStep → q .index ≡ suc (p .index)
+  pub made : 0 < q .rounds
 
 -- the state after such a round, whatever file and answer it left
 pub record StepListed (state : ListProgress) (next : Position) (old : List ℕ) (r : ListProgress) (new : List ℕ) : Type 0 where

@@ -111,7 +111,7 @@ pub record Demand (file names : List ℕ) (calls : List Call) (now : List ℕ) (
 -- "Demand 3 shuts out: a master that says "all named" before polling; .. counts not made."
 abbrev pub DemandThree : Type 0
 DemandThree =
-    -- "It starts from an accepted file"
+    -- "It starts from an accepted file"; its slaves may sleep at the start (document 02, job 9)
     (file : List ℕ) → Bytes file → fileGround file ≡ 0 →
     -- "and list of names"
     (names : List ℕ) → Bytes names → startGround names ≡ 0 →

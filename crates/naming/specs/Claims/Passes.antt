@@ -65,7 +65,8 @@ answerFor p giveHigh value = false
 answerFor p giveLow value = false
 answerFor p baptize value = false
 
--- the place of the round that a step makes (`nextRound` is the round there), and the position after it
+-- the place of the round that a step makes once a round is counted (`nextRound` is the round there), and the position after it; the step
+-- that makes the extra read makes none of the pass (`Claims/RoundsMade` MakesExtra)
 unfoldable pub placeMade : List ℕ → Position → PassPlace
 placeMade names q = placeOf (onto names q .step)
 
@@ -97,6 +98,6 @@ pub record PassMade (names : List ℕ) (p : ℕ) (q : Position) : Type 0 where
         low = p % half;
       }
 
--- from step 0 of any name, whatever else the position holds, for every physical name
+-- from step 0 of any name, some round counted and whatever else the position holds, for every physical name
 abbrev pub PassesMade : Type 0
-PassesMade = (names : List ℕ) (p : ℕ) (q : Position) → p < 2 ^ bits → q .step ≡ 0 → PassMade names p q
+PassesMade = (names : List ℕ) (p : ℕ) (q : Position) → p < 2 ^ bits → 0 < q .rounds → q .step ≡ 0 → PassMade names p q

@@ -1,10 +1,10 @@
--- The plain account (document 01's term; "The naming run", second paragraph; document 02, request 6) that the naming run is measured
+-- The plain account (document 01's term; "The naming run", second paragraph; document 02, requests 6 and 9) that the naming run is measured
 -- against. It knows nothing of frames, positions and comparison values.
 use Prim.Native.Nat.{ℕ, suc, _+_, _-_, _/_, _%_, _^_, min}
 use mathlib.Core.List.{List, [], _∷_, map}
 use mathlib.Core.Bool.{cond}
 use lib.Dec.{eqb, ltb}
-use Rattle.file.specs.Rules.Order.{firstOf}
+use Rattle.file.specs.Rules.Order.{firstOf, both}
 use Rattle.file.specs.Rules.Cluster.{Slave, Cluster, physicalName, logicalName, unnamed}
 use Rattle.file.specs.Rules.Grounds.{isAmong}
 use Rattle.cluster.specs.Rules.Grounds.{shortAnswer}
@@ -125,9 +125,14 @@ pass a (n ∷ ns) = cond (isAmong n (a .held)) (passDone a ns (a .waiting) (a .s
 unfoldable pub passOn : Account → Account
 passOn a = cond (eqb (a .end) 0) (pass a (a .left)) a
 
--- "Each step that no numbered ground refuses for those arguments, until the end, adds 1 to the rounds and to k."
+-- request 9: "A naming run with a non-empty list begins with one extra read"; it "raises that count alone": k stays, it is no round of the pass
+unfoldable pub extra : Account → Account
+extra a = record { left = a .left; waiting = a .waiting; slaves = a .slaves; held = a .held; end = a .end; rounds = suc (a .rounds); done = a .done; k = a .k }
+
+-- "Each step that no numbered ground refuses for those arguments, until the end, adds 1 to the rounds and to k."; request 9: "due exactly
+-- while a running position counts no round", "the run is one round longer, and the account .. say so"
 unfoldable pub oneRound : Account → Account
-oneRound a = passOn a
+oneRound a = cond (both (eqb (a .end) 0) (eqb (a .rounds) 0)) (extra a) (passOn a)
 
 -- ---- the calls
 

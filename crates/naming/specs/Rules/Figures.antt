@@ -52,11 +52,17 @@ unfoldable pub namingSum : List Named → ℕ
 namingSum [] = 0
 namingSum (g ∷ gs) = namingRounds (g .physical) + namingSum gs
 
--- the rounds of the whole run: that sum over the min(u, f) slaves named, plus 4 if u < f, plus one for each taken name tried
+-- request 9: "A naming run with a non-empty list begins with one extra read"
+unfoldable pub extraFor : List ℕ → ℕ
+extraFor [] = 0
+extraFor (n ∷ ns) = 1
+
+-- the rounds of the whole run: that sum over the min(u, f) slaves named, plus 4 if u < f, plus one for each taken name tried; request 9: "the
+-- run is one round longer"
 unfoldable pub roundsFor : List Named → List ℕ → ℕ
 roundsFor slaves names =
     let held = namesHeld slaves in let u = length (unnamedAmong slaves) in let f = length (freeNames held names) in
-    namingSum (givings (falling (unnamedAmong slaves)) (freeNames held names)) + cond (ltb u f) endingRounds 0 + takenTried held u names
+    namingSum (givings (falling (unnamedAmong slaves)) (freeNames held names)) + cond (ltb u f) endingRounds 0 + takenTried held u names + extraFor names
 
 -- and its comparisons: 65 min(u, f), plus 1 if u < f
 unfoldable pub comparisonsFor : List Named → List ℕ → ℕ

@@ -1,4 +1,4 @@
--- The naming run (document 01, "The naming run", first paragraph; document 02, request 6): its position, the places of a pass, the
+-- The naming run (document 01, "The naming run", first paragraph; document 02, requests 6 and 9): its position, the places of a pass, the
 -- writes that are needless, the round that is next and how the position moves on. All of any position's content; a position that no
 -- run reaches is carried on as it is.
 use Prim.Native.Nat.{ℕ, zero, suc, _+_, _*_, _-_, _/_, _%_, _^_}
@@ -176,9 +176,14 @@ onto names p = passOver names (passOver names p)
 unfoldable pub passRound : List ℕ → Position → RunRound
 passRound names p = roundHere names (onto names p)
 
--- the next round of a running position: its pass's
+-- request 9: "A naming run with a non-empty list begins with one extra read of 0x3D record 1 at its first name, its reply ignored. It is due
+-- exactly while a running position counts no round": in a stored position too, whatever its index and step
+unfoldable pub isExtra : Position → Bool
+isExtra p = eqb (p .rounds) 0
+
+-- the next round of a running position: the extra read, then its pass's
 unfoldable pub nextRound : List ℕ → Position → RunRound
-nextRound names p = passRound names p
+nextRound names p = cond (isExtra p) (pollOf (getD names 0 0)) (passRound names p)
 
 -- ---- how the position moves on, by the answer: someone sent in slot 1
 
@@ -214,9 +219,13 @@ unfoldable pub passAdvance : List ℕ → Position → Bool → Position
 passAdvance names p answered =
     let q = onto names p in onto names (moveOn (placeOf (q .step)) (length names) (wrote (roundHere names q) q) answered)
 
+-- request 9: the extra read, "its reply ignored", "raises that count alone": it passes over no needless write either
+unfoldable pub countRaised : Position → Position
+countRaised p = record { end = p .end; index = p .index; step = p .step; value = p .value; rounds = suc (p .rounds); comparisons = p .comparisons; high = p .high; low = p .low }
+
 -- from the next round of a running position on
 unfoldable pub advance : List ℕ → Position → Bool → Position
-advance names p answered = passAdvance names p answered
+advance names p answered = cond (isExtra p) (countRaised p) (passAdvance names p answered)
 
 -- ---- grounds 15 to 17
 

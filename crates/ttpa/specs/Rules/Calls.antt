@@ -19,7 +19,7 @@ unfoldable pub versionMajor : ℕ
 versionMajor = 0
 
 unfoldable pub versionMinor : ℕ
-versionMinor = 9
+versionMinor = 10
 
 unfoldable pub versionPatch : ℕ
 versionPatch = 0

@@ -9,6 +9,9 @@ use model::{Cluster, File, FileNumber, LogicalName, Pending, Slave, MOST_BYTES, 
 const RECEIVES: [u8; 13] = [0, 2, 4, 0, 2, 4, 0, 2, 4, 8, 10, 12, 14];
 const SENDS: [u8; 10] = [1, 5, 1, 5, 1, 5, 9, 11, 13, 15];
 const HEADER_BYTES: usize = 16;
+const ENTRY_BYTES: usize = 4;
+/// In one of so many clusters half of the slaves sleep.
+const CLUSTERS_FOR_SLEEPERS: usize = 4;
 
 /// A legal cluster of 0 to 32 slaves.
 pub fn cluster(random: &mut Random) -> Cluster {
@@ -40,6 +43,9 @@ pub fn cluster_of(random: &mut Random, count: usize) -> Cluster {
         if random.once_in(4) {
             share_a_slot(random, &mut slaves, round);
         }
+    }
+    if random.once_in(CLUSTERS_FOR_SLEEPERS) {
+        slaves.iter_mut().for_each(|slave| slave.asleep = random.once_in(2));
     }
     let any_epoch = random.byte();
     let epoch = random.one_of(&[0, 1, 127, 254, 255, any_epoch, any_epoch, any_epoch]);
@@ -103,7 +109,7 @@ fn slave(random: &mut Random, physical_name: u64, richness: usize) -> Slave {
     numbers.sort_unstable();
     numbers.dedup();
     let files = numbers.iter().map(|&number| file(random, number, physical_name, &numbers)).collect();
-    Slave { files }
+    Slave { asleep: false, files }
 }
 
 fn file(random: &mut Random, number: u8, physical_name: u64, numbers: &[u8]) -> File {
@@ -257,11 +263,16 @@ pub fn with_record(random: &mut Random, number: u8, record: u8) -> (Cluster, u8)
     let count = random.between(1, 6);
     let mut cluster = cluster_of(random, count);
     let slave = &mut cluster.slaves[random.below(count)];
+    give_record(random, slave, number, record);
+    let name = slave.logical_name().0;
+    (cluster, name)
+}
+
+/// Lengthens the slave's file of this number, added if it is not there, up to this record.
+pub fn give_record(random: &mut Random, slave: &mut Slave, number: u8, record: u8) {
     let file = file_in(random, slave, number);
     let missing = (4 * (usize::from(record) + 1)).saturating_sub(file.bytes.len());
     file.bytes.extend(random.bytes(missing));
-    let name = slave.logical_name().0;
-    (cluster, name)
 }
 
 /// A file of this many bytes, its last slave's files grown to reach it; 32 slaves of 64 files each if asked.
@@ -317,6 +328,7 @@ pub fn damaged(random: &mut Random) -> Vec<u8> {
         5 => grow(random, &mut file),
         6 => file[9..13].copy_from_slice(&[1, random.below(2) as u8, random.byte(), 0]),
         7 => file[3] = random.one_of(&[0, 31, 32, 33, 255]),
+        8 => damage_sleep_byte(random, &mut file),
         _ => {}
     }
     if random.once_in(40) {
@@ -348,6 +360,14 @@ fn repeat_a_physical_name(random: &mut Random, cluster: &mut Cluster) {
     let name = cluster.slaves[from].physical_name();
     if let Some(file) = cluster.slaves[to].file_mut(FileNumber::DOCUMENTATION) {
         file.bytes[4..12].copy_from_slice(&name.to_be_bytes());
+    }
+}
+
+/// Puts the last byte of a table entry above 1.
+fn damage_sleep_byte(random: &mut Random, file: &mut [u8]) {
+    let count = usize::from(file[3]);
+    if count > 0 {
+        file[HEADER_BYTES + ENTRY_BYTES * random.below(count) + 3] = random.one_of(&[2, 3, 128, 255]);
     }
 }
 

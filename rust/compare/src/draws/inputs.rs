@@ -9,17 +9,23 @@ use model::{firework_of, Cluster, FileNumber, MSA, MSD};
 /// PB2 and PB3 of a write of record 1 of 0x08.
 pub const WRITE_OF_CONFIGURATION: u8 = 0x21;
 pub const NAMES_RECORD: u8 = 1;
+/// Those of an execute of record 4, which puts to sleep.
+const EXECUTE_OF_CONFIGURATION: u8 = 0x22;
+const SLEEP_RECORD: u8 = 4;
 
 pub fn answer_length(random: &mut Random) -> usize {
     random.one_of(&[64, 64, 64, 64, 64, 64, 65, 70, 70, 0, 63])
 }
 
 /// An address frame that speaks of the cluster, with any operation; now and then the write of record 1 of 0x08, where
-/// slaves keep their names.
+/// slaves keep their names, or the execute of its record 4, which puts to sleep.
 pub fn address(random: &mut Random, cluster: &Cluster) -> Vec<u8> {
     let (name, file) = address_target(random, cluster);
     if random.once_in(12) {
         return framed(MSA, [random.byte(), name, WRITE_OF_CONFIGURATION, NAMES_RECORD]);
+    }
+    if random.once_in(12) {
+        return framed(MSA, [random.byte(), name, EXECUTE_OF_CONFIGURATION, SLEEP_RECORD]);
     }
     let record = if random.once_in(8) { random.byte() } else { random.below(6) as u8 };
     framed(MSA, [random.byte(), name, file << 2 | random.below(4) as u8, record])
@@ -149,6 +155,8 @@ pub fn position(random: &mut Random, names: &[u8]) -> RunWords {
         0 => 999_999,
         1 => 1_000_000,
         2 => random.number(),
+        // No round counted: the extra read is due.
+        3 => 0,
         _ => random.number() % 1000,
     };
     let (rounds, comparisons) = (count(), count());
@@ -170,7 +178,9 @@ pub fn poll_of_held_name(random: &mut Random, cluster: &Cluster) -> Option<(Vec<
     names.retain(|&other| other != name);
     let index = if random.once_in(2) { names.len() } else { 0 };
     names.insert(index, name);
-    Some((names, [0, index as u64, 0, random.number(), random.number() % 1000, 0, random.number(), 0]))
+    // Now and then the extra read comes first.
+    let rounds = if random.once_in(4) { 0 } else { random.number() % 1000 };
+    Some((names, [0, index as u64, 0, random.number(), rounds, 0, random.number(), 0]))
 }
 
 /// The halves last written: often those that stand at this step, so that a write of them is needless, now and then more

@@ -69,6 +69,8 @@ pub fn whole_run(campaign: &mut Campaign, random: &mut Random, slaves: usize, gi
         whole.report(campaign, "the closed count of slaves named");
     }
     campaign.note_sorts((given == Given::Summary).then_some(Sort::RunKept));
+    let slept = cluster.slaves.iter().any(|slave| slave.asleep && slave.is_unnamed());
+    campaign.note_sorts((slept && named > 0).then_some(Sort::RunOverSleepers));
 }
 
 /// A run over unnamed slaves whose steps the engine and the model make in turn, each on the file and the words that the

@@ -8,8 +8,8 @@ const DATA_FILE: u8 = 0x10;
 const DOCUMENTATION: u8 = 0x3D;
 
 /// A slave's logical name, and its lists: the round, and the entries from record 1 on; a file of another number may be
-/// among them. Beside files 0x08 and 0x3D, it has a file 0x10 of records 0x00 and 1, so of the places 0 to 7, which hold
-/// 0xD0 to 0xD7.
+/// among them, and of 0x08 the records from 4 on. Beside files 0x08 and 0x3D, it has a file 0x10 of records 0x00 and 1,
+/// so of the places 0 to 7, which hold 0xD0 to 0xD7.
 #[derive(Clone)]
 pub struct Slave {
     pub name: u8,
@@ -29,9 +29,12 @@ pub fn slave(name: u8, round: u8, entries: &str) -> Slave {
 
 /// The slave's files in rising order of their numbers, the physical name being 7 and its place in the table.
 fn files_of(slave: &Slave, place: u8) -> Vec<(u8, Vec<u8>)> {
+    let (more, lists): (Vec<_>, Vec<_>) = slave.lists.iter().partition(|(number, _)| *number == CONFIGURATION);
     let mut files: Vec<(u8, Vec<u8>)> =
-        slave.lists.iter().map(|(round, entries)| (*round, hex(&format!("00000000 {entries}")))).collect();
-    files.push((CONFIGURATION, vec![0, 0, 0, 0, 0, 0, 0, slave.name, 0, 0, 0, 0, 0, 0, 0, 0]));
+        lists.into_iter().map(|(round, entries)| (*round, hex(&format!("00000000 {entries}")))).collect();
+    let mut configuration = vec![0, 0, 0, 0, 0, 0, 0, slave.name, 0, 0, 0, 0, 0, 0, 0, 0];
+    more.into_iter().for_each(|(_, records)| configuration.extend(hex(records)));
+    files.push((CONFIGURATION, configuration));
     files.push((DATA_FILE, vec![0xD0, 0xD1, 0xD2, 0xD3, 0xD4, 0xD5, 0xD6, 0xD7]));
     files.push((DOCUMENTATION, vec![0, 0, 0, 0, 0, 0, 0, 7, 0, 0, 0, place]));
     files.sort_by_key(|&(number, _)| number);
@@ -87,7 +90,7 @@ pub fn refused_files(names: [u8; 2]) -> [(&'static str, Vec<u8>, u8); 8] {
         ("a wrong edition", changed(&file, &[(2, "02")]), 3),
         ("a wrong length", changed(&file, &[(7, "00")]), 4),
         ("a header zero", changed(&file, &[(13, "01")]), 5),
-        ("a table entry's zero", changed(&file, &[(0x13, "01")]), 6),
+        ("a sleep byte of 2", changed(&file, &[(0x13, "02")]), 6),
         ("a slave without 0x3D", changed(&file, &[(documentation, "3E")]), 7),
         ("equal physical names", changed(&file, &[(serial, "00")]), 8),
     ]

@@ -215,8 +215,10 @@ fn on_equal_names() -> Vec<Edge> {
         Edge::new(what, call, expected)
     };
     let polled = changed(&file, &[(EPOCH, "02"), (PENDING, "01 05 F4 01")]);
-    let step = Call::Step { file: file.clone(), names: vec![0x05], run: [0; 8], answer_length: 64 };
-    let taken: RunWords = [2, 1, 0, 0, 1, 0, 0, 0];
+    // After the extra read.
+    let run: RunWords = [0, 0, 0, 0, 1, 0, 0, 0];
+    let step = Call::Step { file: file.clone(), names: vec![0x05], run, answer_length: 64 };
+    let taken: RunWords = [2, 1, 0, 0, 2, 0, 0, 0];
     let stepped = Outcome {
         senders: Some(0b11_1110),
         file: Some(polled),
@@ -258,8 +260,8 @@ fn writes_between_steps(engine: &dyn Engine) {
             file = round.file.expect("a lent file");
         }
     }
-    // One round for the taken name; 134 and 65 comparisons for the other, whose bits 32 and 0 are 1.
-    assert_eq!(run, [2, 2, 0, 0x7_0000_0001, 135, 65, 7, 1]);
+    // The extra read and one round for the taken name; 134 and 65 comparisons for the other, whose bits 32 and 0 are 1.
+    assert_eq!(run, [2, 2, 0, 0x7_0000_0001, 136, 65, 7, 1]);
     let record_1 = |slave| slave_place(2, slave) + 12 + 4;
     assert_eq!(file[record_1(0)..record_1(0) + 4], [0, 0, 7, 0x09]);
     assert_eq!(file[record_1(1)..record_1(1) + 4], [0, 0, 7, 0x07]);

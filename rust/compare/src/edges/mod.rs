@@ -6,6 +6,7 @@ pub mod logical_names;
 pub mod multiplexed;
 pub mod naming_steps;
 pub mod owners;
+pub mod sleepers;
 pub mod step_grounds;
 pub mod summaries;
 pub mod traces;

@@ -323,8 +323,9 @@ fn rounds_between_steps(engine: &dyn Engine) {
         let in_slot_2 = masks.iter().filter(|&mask| mask & 0b100 != 0).count();
         assert!(masks.iter().all(|mask| mask & 0b10 != 0) && in_slot_2 > 0 && in_slot_2 < masks.len());
     }
-    // 1 for the taken name, 134 for the fourth slave, 7_00000003, 135 for the third, 7_00000002, and 4 to find nobody.
-    assert_eq!(alone, [1, 3, 3, 0x7_0000_0002, 1 + 134 + 135 + 4, 131, 0, 0]);
+    // The extra read, 1 for the taken name, 134 for the fourth slave, 7_00000003, 135 for the third, 7_00000002, and 4 to
+    // find nobody.
+    assert_eq!(alone, [1, 3, 3, 0x7_0000_0002, 1 + 1 + 134 + 135 + 4, 131, 0, 0]);
 }
 
 /// The run's end, and the masks of the rounds made before its steps.

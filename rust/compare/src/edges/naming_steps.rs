@@ -49,6 +49,8 @@ pub fn hold(engine: &dyn Engine) {
 
 const NAME: u8 = 0x21;
 const PHYSICAL: u64 = 0x7_0000_0000;
+/// The round with which a run begins.
+const EXTRA_READ: u64 = 1;
 
 /// Where the slave's 0x08 has record 1, and records 2 and 3.
 fn names_record() -> usize {
@@ -341,8 +343,9 @@ fn passes_of_one_slave(engine: &dyn Engine) {
     for (physical_name, rounds) in passes {
         let (stood, run, file) = run_over(engine, one_slave(physical_name), &[NAME], |file| file);
         let halves = (physical_name >> 32, physical_name & 0xFFFF_FFFF);
-        let ended = [2, 1, 0, physical_name, rounds, 65, halves.0, halves.1];
-        assert_eq!((stood.len() as u64, run), (rounds, ended), "{physical_name:016X}");
+        let made = EXTRA_READ + rounds;
+        let ended = [2, 1, 0, physical_name, made, 65, halves.0, halves.1];
+        assert_eq!((stood.len() as u64, run), (made, ended), "{physical_name:016X}");
         assert_eq!(file[names_record()..names_record() + 4], [0, 0, NAME, NAME]);
     }
 }
@@ -353,7 +356,8 @@ fn places_of_a_pass(engine: &dyn Engine) {
     for (physical_name, bit_32, bit_0) in
         [(0x7_0000_00A1, 1, 1), (0x7_0000_00A0, 1, 0), (0x6_0000_00A1, 0, 1), (0x6_0000_00A0, 0, 0)]
     {
-        let mut places = vec![0, 1, 2, 3];
+        // The extra read leaves the step.
+        let mut places = vec![0, 0, 1, 2, 3];
         places.extend((0..32).flat_map(|bit| [4 + 3 * bit, 6 + 3 * bit]));
         if bit_32 == 0 {
             places.push(100);
@@ -397,8 +401,9 @@ fn rounds_between(engine: &dyn Engine) {
     let (stood_alone, alone, _) = run_over(engine, file.clone(), &names, |file| file);
     let (stood, run, left) = run_over(engine, file, &names, &mut send);
     assert_eq!((stood, run), (stood_alone, alone));
-    // 1 for the taken name, 135 for 2, whose bit 0 is 0, 134 for 1, and 4 to find nobody; the last wrote 0.
-    assert_eq!(run, [1, 3, 3, 0x7_0000_0001, 1 + 135 + 134 + 4, 131, 0, 0]);
+    // The extra read, 1 for the taken name, 135 for 2, whose bit 0 is 0, 134 for 1, and 4 to find nobody; the last
+    // wrote 0.
+    assert_eq!(run, [1, 3, 3, 0x7_0000_0001, EXTRA_READ + 1 + 135 + 134 + 4, 131, 0, 0]);
     let name_of = |slave| left[slave_place(3, slave) + 12 + 7];
     assert_eq!([0, 1, 2].map(name_of), [0x09, 0x22, 0x21]);
 }
@@ -407,9 +412,9 @@ fn rounds_between(engine: &dyn Engine) {
 /// half of an earlier one for written.
 fn runs_in_turn_on_one_file(engine: &dyn Engine) {
     let (_, first, left) = run_over(engine, named(&[UNNAMED, UNNAMED]), &[0x21], |file| file);
-    assert_eq!(first, [2, 1, 0, 0x7_0000_0001, 134, 65, 7, 1]);
+    assert_eq!(first, [2, 1, 0, 0x7_0000_0001, EXTRA_READ + 134, 65, 7, 1]);
     let (_, second, named_both) = run_over(engine, left.clone(), &[0x22], |file| file);
-    assert_eq!(second, [2, 1, 0, 0x7_0000_0000, 135, 65, 7, 0]);
+    assert_eq!(second, [2, 1, 0, 0x7_0000_0000, EXTRA_READ + 135, 65, 7, 0]);
     // The halves of the first run in a position at the begin of the second.
     let mut run: RunWords = [0, 0, 0, 0, 0, 0, 7, 1];
     let mut file = left;

@@ -597,7 +597,7 @@ fn refused_files() -> Vec<Edge> {
         (3, with(2, 2)),
         (4, with(7, 0)),
         (5, with(13, 1)),
-        (6, with(0x13, 1)),
+        (6, with(0x13, 2)),
         (7, with(documentation, 0x3E)),
         (8, with(whole.len() - 1, 0)),
     ];

@@ -160,7 +160,8 @@ fn round(file: &[u8], held: Held, answer_length: usize) -> Call {
 const NAMES: [u8; 1] = [0x21];
 
 fn step(file: &[u8], held: Held, answer_length: usize) -> Call {
-    let call = Call::Step { file: file.to_vec(), names: NAMES.to_vec(), run: [0; 8], answer_length };
+    let call =
+        Call::Step { file: file.to_vec(), names: NAMES.to_vec(), run: [0, 0, 0, 0, 1, 0, 0, 0], answer_length };
     call.keeping(&hex(held.names), held.count)
 }
 
@@ -179,7 +180,7 @@ fn carried_out(what: &'static str, names: &[u8], held: &str) -> Edge {
         senders: Some(0),
         file: Some(changed(&file, &[(EPOCH, "02"), (PENDING, "01 21 F4 01")])),
         buffer: Some(answer(MSD, &[])),
-        run: Some([0, 0, 1, 0, 1, 0, 0, 0]),
+        run: Some([0, 0, 1, 0, 2, 0, 0, 0]),
         ..step.before()
     };
     Edge { what, calls: vec![(round, after_round), (step, after_step)] }
@@ -494,8 +495,8 @@ fn whole_run(engine: &dyn Engine) {
         }
         given.extend((held != before).then(|| held.clone()));
     }
-    // 134 rounds for 0x0000000700000001, 135 for ..00, whose bit 0 is 0, and 4 to find nobody.
-    assert_eq!(run, [1, 2, 3, 0x7_0000_0000, 134 + 135 + 4, 131, 0, 0]);
+    // The extra read, 134 rounds for 0x0000000700000001, 135 for ..00, whose bit 0 is 0, and 4 to find nobody.
+    assert_eq!(run, [1, 2, 3, 0x7_0000_0000, 1 + 134 + 135 + 4, 131, 0, 0]);
     // The greater physical name gets the first name.
     assert_eq!(given, [hex("FF 22 A5"), hex("21 22 A5")]);
     let asked = [0x21, 0x22, 0x23, UNNAMED].map(|name| holder(engine, &held, name));

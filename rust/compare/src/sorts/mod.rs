@@ -4,6 +4,7 @@ pub mod grounds;
 pub mod names;
 pub mod owners;
 pub mod passes;
+pub mod sleepers;
 mod sort;
 pub mod summaries;
 pub mod tally;
@@ -21,5 +22,6 @@ pub fn of(call: &Call, outcome: &Outcome) -> Vec<Sort> {
     sorts.extend(grounds::sorts(call, outcome));
     sorts.extend(turns::sorts(call, outcome));
     sorts.extend(summaries::sorts(call, outcome));
+    sorts.extend(sleepers::sorts(call, outcome));
     sorts
 }

@@ -81,14 +81,14 @@ fn write_of_last_byte(file: &[u8], frame: &[u8], outcome: &Outcome) -> Vec<Sort>
             LogicalName::BROADCAST => !slave.is_unnamed(),
             name => slave.logical_name() == name,
         };
-        addressed && slave.record(number, record).is_some_and(|bytes| bytes[3] != last)
+        addressed && !slave.asleep && slave.record(number, record).is_some_and(|bytes| bytes[3] != last)
     };
     let altered = |slave: usize| {
         let after = outcome.file.as_deref().and_then(|file| check(file).ok());
         let bytes = after.as_ref().and_then(|after| after.slaves[slave].record(number, record));
         bytes.is_some_and(|bytes| bytes[3] == last)
     };
-    let told = before.slaves.iter().any(would_alter) && outcome.alters_beyond_epoch(file);
+    let told = before.slaves.iter().any(would_alter) && outcome.alters_slaves(file);
     let takes_it = (0..).zip(&before.slaves).any(|(place, slave)| would_alter(slave) && altered(place));
     match (number, record, pending.name) {
         (FileNumber::CONFIGURATION, NAMES_RECORD, _) if !told => Vec::new(),

@@ -6,12 +6,24 @@ use crate::case::{Call, Outcome};
 use crate::layout::{LAST_ROUND, LAST_SLOT, MOST_OWNER_BYTES, NOT_OWNED, ROUNDS};
 use model::{check, owner, round_of, senders_of, Cluster, FileNumber, LogicalName, Slave};
 
-/// The slots that have a sender in the round of this firework, as a mask, and those of them that a multiplexed
-/// receive of the sender covers before the end of its list.
-pub fn planned_masks(file: &[u8], firework: u8) -> (u64, u64) {
-    let cluster = check(file).expect("an accepted file");
-    let round = round_of(firework).expect("a firework");
-    (sending_mask(&cluster.slaves, round), hideable_mask(&cluster, round))
+/// The slots of a round that have a sender by the plan, as masks.
+pub struct Planned {
+    pub all: u64,
+    /// Those whose sender is awake, and of them those that a multiplexed receive of the sender covers before the end of
+    /// its list.
+    pub awake: u64,
+    pub hideable: u64,
+}
+
+impl Planned {
+    /// Of the round of this firework.
+    pub fn of(file: &[u8], firework: u8) -> Planned {
+        let mut cluster = check(file).expect("an accepted file");
+        let round = round_of(firework).expect("a firework");
+        let all = sending_mask(&cluster.slaves, round);
+        cluster.slaves.retain(|slave| !slave.asleep);
+        Planned { all, awake: sending_mask(&cluster.slaves, round), hideable: hideable_mask(&cluster, round) }
+    }
 }
 
 fn sending_mask(slaves: &[Slave], round: u8) -> u64 {

@@ -7,7 +7,7 @@ use model::{check, Cluster, FileNumber, Pending, RecordNumber, MSA, MSD};
 /// What a call is an example of.
 #[derive(Clone, Copy, PartialEq, Eq, PartialOrd, Ord)]
 pub enum Sort {
-    /// A multipartner round that alters the file beyond its epoch.
+    /// A multipartner round that alters a slave's file.
     Stores,
     /// An address frame whose check is that of its four bytes alone, and which is therefore not read.
     UnfoldedNotRead,
@@ -22,7 +22,7 @@ pub enum Sort {
     TraceWithMsd,
     TraceWithMultipartner,
     TraceWithRefused,
-    /// One that was run and alters the file beyond its header.
+    /// One that was run and alters a slave's file.
     TraceAltersSlaves,
     /// One that was run and has an empty frame.
     TraceWithEmptyFrame,
@@ -188,6 +188,50 @@ pub enum Sort {
     RoundRenames,
     StepRenames,
     RenamesWithRoomLeft,
+    /// A data frame after which slaves sleep, the sleep having been addressed to 0xFF, to 0x00, or to another name.
+    SleepOfUnnamed,
+    SleepOfOthers,
+    SleepOfOne,
+    /// One in which an addressed slave has no record 4 and another falls asleep.
+    SleepWithoutRecord,
+    /// One in which a slave that slept wakes and another that is addressed falls asleep.
+    SleepAndWake,
+    /// A data frame with nothing pending, another data frame, and a multipartner round, after which a slave that slept is
+    /// awake.
+    WokenByNothing,
+    WokenByData,
+    WokenByMultipartner,
+    /// An address frame and a refused frame on a file with a sleeper.
+    SleptThroughAddress,
+    SleptThroughRefusal,
+    /// A round that would have come to something else if a sleeper had been awake: a read, a write, a comparison, a
+    /// baptism, and a multipartner round that would have had another answer or stored something else.
+    ReadAsleep,
+    WriteAsleep,
+    ComparisonAsleep,
+    BaptismAsleep,
+    SendAsleep,
+    ReceiveAsleep,
+    /// The extra read of a naming run: from a position in mid-pass, of another index than 0, at a needless write, and one
+    /// that only a sleeper would have answered.
+    ExtraReadInPass,
+    ExtraReadOfLaterName,
+    ExtraReadAtNeedlessWrite,
+    ExtraReadAsleep,
+    /// A step with a round counted whose poll only a sleeper would have answered.
+    PollAsleep,
+    /// A trace that wakes a slave, one that puts one to sleep, and one without MSD and multipartner frame on a file with a
+    /// sleeper.
+    TraceWakes,
+    TracePutsToSleep,
+    TraceLeavesAsleep,
+    /// An owner file written in which a sleeper has a slot, and a round in which it does not send there.
+    OwnerOfSleepers,
+    PlannedAndAsleep,
+    /// A file refused by 6 for a sleep byte alone.
+    SleepByteAbove,
+    /// A naming run that named a slave, begun on a file with an unnamed sleeper.
+    RunOverSleepers,
     /// A naming run of which all steps and rounds but a few were given the summary.
     RunKept,
 }
@@ -357,8 +401,39 @@ impl Sort {
         (Sort::RenamesWithRoomLeft, 200, "rounds and steps that rename, with room left in the summary"),
     ];
 
+    /// Sorts of calls on clusters with sleepers, with one in how many of the rounds asked for; naming runs count too.
+    pub const REACHED_BY_SLEEPERS: [Reached; 27] = [
+        (Sort::SleepOfUnnamed, 800, "data frames that put unnamed slaves to sleep"),
+        (Sort::SleepOfOthers, 2_000, "data frames that put all others to sleep"),
+        (Sort::SleepOfOne, 800, "data frames that put slaves of a name to sleep"),
+        (Sort::SleepWithoutRecord, 800, "sleeps in which an addressed slave has no record 4"),
+        (Sort::SleepAndWake, 800, "sleeps in which a slave wakes and another falls asleep"),
+        (Sort::WokenByNothing, 800, "data frames with nothing pending that wake"),
+        (Sort::WokenByData, 200, "other data frames that wake"),
+        (Sort::WokenByMultipartner, 200, "multipartner rounds that wake"),
+        (Sort::SleptThroughAddress, 200, "address frames that leave sleepers"),
+        (Sort::SleptThroughRefusal, 200, "refused frames that leave sleepers"),
+        (Sort::ReadAsleep, 800, "reads that a sleeper would have answered"),
+        (Sort::WriteAsleep, 800, "writes that a sleeper would have taken"),
+        (Sort::ComparisonAsleep, 800, "comparisons that a sleeper would have answered"),
+        (Sort::BaptismAsleep, 800, "baptisms that would have renamed a sleeper"),
+        (Sort::SendAsleep, 800, "multipartner rounds that a sleeper would have answered otherwise"),
+        (Sort::ReceiveAsleep, 2_000, "multipartner rounds in which a sleeper would have stored"),
+        (Sort::ExtraReadInPass, 800, "extra reads in mid-pass"),
+        (Sort::ExtraReadOfLaterName, 800, "extra reads at a later index"),
+        (Sort::ExtraReadAtNeedlessWrite, 2_000, "extra reads at a needless write"),
+        (Sort::ExtraReadAsleep, 10_000, "extra reads that a sleeper would have answered"),
+        (Sort::PollAsleep, 8_000, "polls that a sleeper would have answered"),
+        (Sort::TraceWakes, 800, "traces that wake"),
+        (Sort::TracePutsToSleep, 2_000, "traces that put to sleep"),
+        (Sort::TraceLeavesAsleep, 2_000, "traces that leave sleepers"),
+        (Sort::OwnerOfSleepers, 400, "owner files with a sleeper's slot"),
+        (Sort::PlannedAndAsleep, 800, "rounds as planned, a sleeper silent in its slot"),
+        (Sort::SleepByteAbove, 800, "files refused for a sleep byte above 1"),
+    ];
+
     /// Sorts of calls in naming runs, with one in how many of the runs asked for.
-    pub const REACHED_BY_RUNS: [Reached; 5] = [
+    pub const REACHED_BY_RUNS: [Reached; 6] = [
         (Sort::TraceBetweenSteps, 1, "traces run between naming steps, with a round and a refused frame"),
         (
             Sort::NamesWrittenBetweenSteps,
@@ -368,10 +443,12 @@ impl Sort {
         (Sort::MultiplexedBetweenSteps, 1, "rounds between naming steps in which a multiplexed entry acts"),
         (Sort::RunInTurn, 4, "naming runs made in turn"),
         (Sort::RunKept, 4, "naming runs given a summary"),
+        (Sort::RunOverSleepers, 10, "naming runs begun over unnamed sleepers"),
     ];
 
-    /// What a call is an example of; logical names, naming steps, their grounds, multiplexed entries, traces, owner files
-    /// and summaries are sorted in `names`, `passes`, `grounds`, `turns`, `traces`, `owners` and `summaries`.
+    /// What a call is an example of; logical names, naming steps, their grounds, multiplexed entries, traces, owner files,
+    /// summaries and sleepers are sorted in `names`, `passes`, `grounds`, `turns`, `traces`, `owners`, `summaries` and
+    /// `sleepers`.
     pub fn of(call: &Call, outcome: &Outcome) -> Option<Sort> {
         match call {
             Call::Read { frame } if outcome.number == 12 && is_unfolded(frame) => Some(Sort::UnfoldedNotRead),
@@ -379,7 +456,7 @@ impl Sort {
                 Some(if frame[0] == MSA { Sort::UnfoldedAddress } else { Sort::UnfoldedData })
             }
             Call::Round { file, frame, .. } if is_multipartner(frame) => {
-                outcome.alters_beyond_epoch(file).then_some(Sort::Stores)
+                outcome.alters_slaves(file).then_some(Sort::Stores)
             }
             Call::Round { file, frame, .. } if frame == &[MSD] && outcome.mask() == SLOTS_OF_A_READ => {
                 check(file).is_ok_and(|cluster| checks_differ(&cluster)).then_some(Sort::ChecksDiffer)
@@ -399,7 +476,7 @@ fn checks_differ(cluster: &Cluster) -> bool {
     let records = cluster
         .slaves
         .iter()
-        .filter(|slave| slave.logical_name() == name)
+        .filter(|slave| !slave.asleep && slave.logical_name() == name)
         .filter_map(|slave| slave.record(FileNumber(pb2 / 4), RecordNumber(pb3)));
     let (each, all) = records.fold((0xFF, 0xFF), |(each, all), record| {
         let folded = record.iter().fold(0, |folded, byte| folded ^ byte);

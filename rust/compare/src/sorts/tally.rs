@@ -2,7 +2,6 @@
 
 use crate::case::{Call, Outcome};
 use crate::engine::{ReportWords, RunWords};
-use crate::layout::SLAVES;
 use model::{check, End, FileNumber, Pending, MSA, MSD};
 use std::collections::BTreeMap;
 
@@ -37,6 +36,8 @@ const IN_A_ROUND: &[&str] = &[
     "comparison-silent",
     "baptism-named",
     "baptism-left",
+    "sleep-fell",
+    "sleep-nobody",
     "other-execute",
     "multipartner-stored",
     "multipartner-answered",
@@ -46,6 +47,8 @@ const IN_A_ROUND: &[&str] = &[
 /// What a step does, likewise.
 const IN_A_STEP: &[&str] = &[
     "ended",
+    "extra-answered",
+    "extra-silent",
     "free",
     "taken",
     "taken-last",
@@ -199,10 +202,11 @@ fn operation(number: u8) -> &'static str {
 }
 
 fn in_round(file: &[u8], frame: &[u8], outcome: &Outcome) -> &'static str {
-    let (answered, altered) = (outcome.mask() != 0, alters_slaves(file, outcome));
+    let (answered, altered) = (outcome.mask() != 0, outcome.alters_slaves(file));
+    let fell = outcome.sleepers().contains(&true);
     match frame.first() {
         Some(&MSA) => "address",
-        Some(&MSD) => check(file).map_or(PLAIN, |cluster| in_data(&cluster.pending, answered, altered)),
+        Some(&MSD) => check(file).map_or(PLAIN, |cluster| in_data(&cluster.pending, answered, altered, fell)),
         _ if altered => "multipartner-stored",
         _ => either(answered, "multipartner-answered", "multipartner-silent"),
     }
@@ -210,7 +214,7 @@ fn in_round(file: &[u8], frame: &[u8], outcome: &Outcome) -> &'static str {
 
 /// What the pending operation came to. A write of the bytes that stand there leaves the slaves as they are, and so
 /// does a new name that is the old one.
-fn in_data(pending: &Pending, answered: bool, altered: bool) -> &'static str {
+fn in_data(pending: &Pending, answered: bool, altered: bool, fell: bool) -> &'static str {
     if !pending.flag {
         return "nothing-pending";
     }
@@ -219,12 +223,13 @@ fn in_data(pending: &Pending, answered: bool, altered: bool) -> &'static str {
         ("write", ..) => either(altered, "write-stored", "write-left"),
         (_, FileNumber::CONFIGURATION, 1) => either(altered, "baptism-named", "baptism-left"),
         (_, FileNumber::CONFIGURATION, 2) => either(answered, "comparison-answered", "comparison-silent"),
+        (_, FileNumber::CONFIGURATION, 4) => either(fell, "sleep-fell", "sleep-nobody"),
         _ => "other-execute",
     }
 }
 
 /// By the round that was made, which the header still holds: operation and record at 0xFF, or the read.
-fn in_step(file: &[u8], &[end, ..]: &RunWords, outcome: &Outcome) -> &'static str {
+fn in_step(file: &[u8], &[end, _, _, _, rounds, ..]: &RunWords, outcome: &Outcome) -> &'static str {
     let end_after = outcome.run.map_or(end, |run| run[0]);
     let answered = outcome.mask() >> 1 & 1 == 1;
     let last = end_after == End::NamesUsedUp.number();
@@ -232,12 +237,13 @@ fn in_step(file: &[u8], &[end, ..]: &RunWords, outcome: &Outcome) -> &'static st
     let (operation, record) = pending.map_or(("", 0), |made| (operation(made.pb2 % 4), made.pb3));
     match (operation, record) {
         _ if end != End::Running.number() => "ended",
+        _ if rounds == 0 => either(answered, "extra-answered", "extra-silent"),
         ("read", _) if answered => either(last, "taken-last", "taken"),
         ("read", _) => "free",
         ("write", 1) => "name-written",
         ("write", 2) => "high-written",
         ("write", _) => "low-written",
-        (_, 1) if alters_slaves(file, outcome) => either(last, "named-last", "named"),
+        (_, 1) if outcome.alters_slaves(file) => either(last, "named-last", "named"),
         (_, 1) => "nobody-named",
         _ if end_after == End::AllNamed.number() => "all-named",
         _ => either(answered, "reply", "silence"),
@@ -251,10 +257,6 @@ fn in_trace(report: Option<ReportWords>) -> &'static str {
         Some([.., refused, sum]) if refused == sum => "all-refused",
         _ => "some-refused",
     }
-}
-
-fn alters_slaves(before: &[u8], outcome: &Outcome) -> bool {
-    outcome.file.as_deref().is_some_and(|after| after[SLAVES..] != before[SLAVES..])
 }
 
 #[cfg(test)]
@@ -277,31 +279,33 @@ mod tests {
         tally.counts.iter().filter(|((_, _, came), _)| *came == done).map(|(_, count)| count).sum()
     }
 
-    /// A pass that gives a name polls once and compares 65 times: with 0 and for each bit, where those of the bits that
-    /// are 1 are replied to. It writes the high half for 0 and the upper 32 bits, the low half for 0, the lower 32 bits
-    /// and, since bit 0 of both names is 0, once more before the name is given; bit 32 of both is 1.
+    /// The run begins with the extra read, at a name that nobody has. A pass that gives a name polls once and compares 65
+    /// times: with 0 and for each bit, where those of the bits that are 1 are replied to. It writes the high half for 0
+    /// and the upper 32 bits, the low half for 0, the lower 32 bits and, since bit 0 of both names is 0, once more before
+    /// the name is given; bit 32 of both is 1.
     #[test]
     fn the_steps_of_m10() {
         let mut tally = Tally::default();
         let (mut file, mut run) = (m10(), [0; 8]);
-        for _ in 0..275 {
+        for _ in 0..276 {
             let call = Call::Step { file, names: vec![1, 2, 3], run, answer_length: 64 };
             let outcome = call.make(&Model);
             tally.note(&call, &outcome);
             (file, run) = (outcome.file.expect("a lent file"), outcome.run.expect("a lent run"));
         }
-        let counted = ["free", "reply", "silence", "named", "all-named", "ended"];
-        assert_eq!(counted.map(|done| count(&tally, done)), [3, 6 + 5, 59 + 60, 2, 1, 1]);
+        let counted = ["extra-silent", "free", "reply", "silence", "named", "all-named", "ended"];
+        assert_eq!(counted.map(|done| count(&tally, done)), [1, 3, 6 + 5, 59 + 60, 2, 1, 1]);
         let written = ["name-written", "high-written", "low-written"];
         assert_eq!(written.map(|done| count(&tally, done)), [2, 2 * 33 + 1, 2 * 34 + 1]);
-        assert_eq!(tally.kinds(), BTreeMap::from([("step", 275)]));
+        assert_eq!(tally.kinds(), BTreeMap::from([("step", 276)]));
         assert_eq!(tally.impossible(), [""; 0]);
     }
 
     #[test]
     fn rounds_by_what_was_pending() {
         let (mut tally, mut file) = (Tally::default(), m10());
-        // Nothing, then at 0xFF: a comparison with 0, a write of record 1, a read, a baptism of nobody, round 2.
+        // Nothing, then at 0xFF: a comparison with 0, a write of record 1, a read, a baptism of nobody, a sleep of those
+        // that have record 4, which nobody has, round 2.
         let frames = [
             "49",
             "5505FF22028F",
@@ -311,6 +315,8 @@ mod tests {
             "5501FF20018A",
             "49",
             "5501FF220188",
+            "49",
+            "5501FF22048D",
             "49",
             "BA",
         ];
@@ -329,8 +335,9 @@ mod tests {
             "write-stored",
             "read-silent",
             "baptism-left",
+            "sleep-nobody",
             "multipartner-silent",
         ];
-        assert_eq!(counted.map(|done| count(&tally, done)), [1, 4, 1, 1, 1, 1, 1]);
+        assert_eq!(counted.map(|done| count(&tally, done)), [1, 5, 1, 1, 1, 1, 1, 1]);
     }
 }

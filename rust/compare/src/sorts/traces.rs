@@ -2,20 +2,19 @@
 
 use super::Sort;
 use crate::case::Outcome;
-use crate::layout::{ROW_BYTES, SLAVES, TRACE_HEADER_BYTES};
+use crate::layout::{ROW_BYTES, TRACE_HEADER_BYTES};
 use model::MOST_TRACE_BYTES;
 
 /// What a call with this trace is an example of.
 pub fn sorts(file: &[u8], trace: &[u8], outcome: &Outcome) -> Vec<Sort> {
     match outcome.report_words() {
         Some([msa, msd, multipartner, refused, _]) => {
-            let after = outcome.file.as_deref().unwrap_or(file);
             let occurs = [
                 (msa > 0, Sort::TraceWithMsa),
                 (msd > 0, Sort::TraceWithMsd),
                 (multipartner > 0, Sort::TraceWithMultipartner),
                 (refused > 0, Sort::TraceWithRefused),
-                (after[SLAVES..] != file[SLAVES..], Sort::TraceAltersSlaves),
+                (outcome.alters_slaves(file), Sort::TraceAltersSlaves),
                 (lengths(trace).contains(&0), Sort::TraceWithEmptyFrame),
                 (trace.len() == MOST_TRACE_BYTES, Sort::TraceOfMostBytes),
             ];

@@ -89,7 +89,7 @@ pub fn sorts(call: &Call, outcome: &Outcome) -> Vec<Sort> {
     };
     let number = FileNumber(round_of(frame[0]).expect("a firework"));
     let mut sorts = Vec::new();
-    for slave in cluster.slaves.iter().filter(|slave| !slave.is_unnamed()) {
+    for slave in cluster.slaves.iter().filter(|slave| !slave.is_unnamed() && !slave.asleep) {
         let list = slave.file(number).map(list_of).unwrap_or_default();
         if list.iter().any(Entry::is_multiplexed) {
             let in_slot = |slot| in_slot(slave, &list, slot, file[EPOCH].wrapping_add(1), outcome.mask());

@@ -56,7 +56,7 @@ fn the_mask_of_a_step_is_written_by_a_running_run_only() {
     assert_eq!(calls::step(&mut file, &mut ended, &[1], &mut answer, &mut senders), 0);
     assert_eq!((&file[..], ended, answer, senders), (M10, [2, 1, 0, 0, 1, 0, 7, 8], ROOMY, MASK_BEFORE));
     assert_eq!(calls::step(&mut file, &mut run, &[1], &mut answer, &mut senders), 0);
-    assert_eq!((run, answer[0], senders), ([0, 0, 1, 0, 1, 0, 0, 0], 0x49, 0));
+    assert_eq!((run, answer[0], senders), ([0, 0, 0, 0, 1, 0, 0, 0], 0x49, 0));
 }
 
 #[test]
@@ -118,5 +118,5 @@ fn a_summary_is_lent_with_its_room() {
     assert_eq!((answer[0], senders, held), (0xBA, 0, [0xFF, 0xFF, FILL]));
     senders = MASK_BEFORE;
     assert_eq!(calls::step_keeping(&mut file, &mut run, &[1], &mut answer, &mut senders, &mut held, 2), 0);
-    assert_eq!((run, answer[0], senders, held), ([0, 0, 1, 0, 1, 0, 0, 0], 0x49, 0, [0xFF, 0xFF, FILL]));
+    assert_eq!((run, answer[0], senders, held), ([0, 0, 0, 0, 1, 0, 0, 0], 0x49, 0, [0xFF, 0xFF, FILL]));
 }

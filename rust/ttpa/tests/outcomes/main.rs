@@ -20,7 +20,7 @@ const EDITION: usize = 2;
 const LENGTH_LOW: usize = 7;
 const EPOCH: usize = 8;
 const HEADER_ZERO: usize = 13;
-const TABLE_ZERO: usize = 0x13;
+const SLEEP_BYTE: usize = 0x13;
 const DOCUMENTATION_NUMBER: usize = 0x1C;
 const FIRST_LOGICAL_NAME: usize = 0x27;
 const SECOND_LOGICAL_NAME: usize = 0x4B;
@@ -45,7 +45,7 @@ fn refused_files() -> [(Vec<u8>, TtpaError); 8] {
         (m10_with(EDITION, 2), TtpaError::Edition),
         (m10_with(LENGTH_LOW, 0x61), TtpaError::LengthField),
         (m10_with(HEADER_ZERO, 1), TtpaError::Header),
-        (m10_with(TABLE_ZERO, 1), TtpaError::Layout),
+        (m10_with(SLEEP_BYTE, 2), TtpaError::Layout),
         (m10_with(DOCUMENTATION_NUMBER, 0x3E), TtpaError::NeededFile),
         (m10_with(LAST_SERIAL, 0x10), TtpaError::EqualPhysicalNames),
     ]

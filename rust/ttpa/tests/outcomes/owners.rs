@@ -7,10 +7,10 @@ use ttpa::{owner, TtpaError, MOST_OWNER_BYTES};
 /// 2.
 const DEMO: &[u8] = include_bytes!("../../../../c/demo.cluster");
 /// Where it keeps the logical names of these two, and the start slot of the last one's entry.
-const SECOND_NAME: usize = 0x7B;
-const THIRD_NAME: usize = 0xB7;
-const THIRD_SLOT: usize = 0xAF;
-const THIRD_OPERATION: usize = 0xAE;
+const SECOND_NAME: usize = 0x7F;
+const THIRD_NAME: usize = 0xBF;
+const THIRD_SLOT: usize = 0xB7;
+const THIRD_OPERATION: usize = 0xB6;
 const MASTER: u8 = 0x80;
 
 /// Rows of one record each: nobody sends.

@@ -2,6 +2,7 @@
 
 use crate::{
     answered, m10_with, refused_files, EPOCH, FIRST_LOGICAL_NAME, LAST_SERIAL, M10, ROOMY, SECOND_LOGICAL_NAME,
+    SLEEP_BYTE,
 };
 use ttpa::{check, round, Senders, TtpaError, ANSWER_BYTES};
 
@@ -91,7 +92,7 @@ fn a_multipartner_round_is_answered() {
 fn a_multiplexed_entry_has_its_turns() {
     for (operation, turns) in [(0x90, &[1, 5][..]), (0xF0, &[5][..])] {
         let mut file = include_bytes!("../../../../c/demo.cluster").to_vec();
-        (file[0xB7], file[0xAE], file[0xAF]) = (0x02, operation, 1 << 6 | 2);
+        (file[0xBF], file[0xB6], file[0xB7]) = (0x02, operation, 1 << 6 | 2);
         for epoch in 1..=8 {
             let mut answer = ROOMY;
             assert_eq!(round(&mut file, &ROUND_2, &mut answer), Ok(Senders(0b110)));
@@ -99,6 +100,25 @@ fn a_multiplexed_entry_has_its_turns() {
             assert_eq!(answer, answered(0xBA, &[0xA1, byte]), "epoch {epoch}");
         }
     }
+}
+
+/// The example's slave 01 is put to sleep: a read is not answered and wakes it, the next one is answered.
+#[test]
+fn a_slave_sleeps_for_one_round() {
+    let mut file = include_bytes!("../../../../c/demo.cluster").to_vec();
+    let sleep = [0x55, 0x01, 0x01, 0x22, 0x04, 0x73];
+    let read = [0x55, 0x01, 0x01, 0xF4, 0x02, 0xA3];
+    let mut sent = |frame: &[u8]| {
+        let mut answer = ROOMY;
+        let senders = round(&mut file, frame, &mut answer);
+        (senders, answer, file[SLEEP_BYTE])
+    };
+    assert_eq!(sent(&sleep), (Ok(Senders(0)), answered(0x55, &[]), 0));
+    assert_eq!(sent(&MSD), (Ok(Senders(0)), answered(0x49, &[]), 1));
+    assert_eq!(sent(&read), (Ok(Senders(0)), answered(0x55, &[]), 1));
+    assert_eq!(sent(&MSD), (Ok(Senders(0)), answered(0x49, &[]), 0));
+    let serial = [0x00, 0x00, 0x00, 0x42, 0x0B];
+    assert_eq!(sent(&MSD), (Ok(Senders(0b11_1110)), answered(0x49, &serial), 0));
 }
 
 /// The call refuses on this ground and leaves file and answer.

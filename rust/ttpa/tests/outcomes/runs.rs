@@ -1,6 +1,8 @@
 //! Naming runs.
 
-use crate::{answered, m10_with, refused_files, EPOCH, FIRST_LOGICAL_NAME, M10, ROOMY, SECOND_LOGICAL_NAME};
+use crate::{
+    answered, m10_with, refused_files, EPOCH, FIRST_LOGICAL_NAME, M10, ROOMY, SECOND_LOGICAL_NAME, SLEEP_BYTE,
+};
 use ttpa::{End, Run, Senders, TtpaError, ANSWER_BYTES};
 
 /// Steps to the end; the masks of the steps.
@@ -39,21 +41,21 @@ fn a_run_ends_when_all_are_named() {
     let mut file = M10.to_vec();
     let mut run = Run::start(&[1, 2, 3]).expect("a good list");
     let masks = run_to_end(&mut run, &mut file, &[1, 2, 3]);
-    // The totals of M10: bit 32 of both physical names is 1 and bit 0 is 0, so 135 rounds each, and 4. The search of
-    // the third name ended at its comparison with 0, the round at place 3, and the value is still that of the second:
-    // the lesser physical name.
+    // The totals of M10: the extra read; bit 32 of both physical names is 1 and bit 0 is 0, so 135 rounds each; and 4.
+    // The search of the third name ended at its comparison with 0, the round at place 3, and the value is still that of
+    // the second: the lesser physical name.
     assert_eq!(run.end(), End::AllNamed);
     assert_eq!(run.index(), 2);
     assert_eq!(run.next_round(), 3);
     assert_eq!(run.value(), 0x7_0000_0010);
-    assert_eq!(run.rounds(), 274);
+    assert_eq!(run.rounds(), 275);
     assert_eq!(run.comparisons(), 131);
     assert_eq!(run.last_written(), (0, 0));
-    assert_eq!(run.words(), [1, 2, 3, 0x7_0000_0010, 274, 131, 0, 0]);
+    assert_eq!(run.words(), [1, 2, 3, 0x7_0000_0010, 275, 131, 0, 0]);
     assert_eq!((file[FIRST_LOGICAL_NAME], file[SECOND_LOGICAL_NAME]), (2, 1));
-    // Nobody has the first name, two writes, and then both answer the comparison with 0.
-    assert_eq!(masks[..4], [Senders(0), Senders(0), Senders(0), Senders(0b10)]);
-    assert_eq!(masks.len(), 274);
+    // Nobody has the first name, which is asked for twice, two writes, and then both answer the comparison with 0.
+    assert_eq!(masks[..5], [Senders(0), Senders(0), Senders(0), Senders(0), Senders(0b10)]);
+    assert_eq!(masks.len(), 275);
 }
 
 #[test]
@@ -62,7 +64,7 @@ fn a_run_ends_when_its_names_are_used_up() {
     let mut run = Run::start(&[7]).expect("a good list");
     run_to_end(&mut run, &mut file, &[7]);
     assert_eq!(run.end(), End::NamesUsedUp);
-    assert_eq!(run.words(), [2, 1, 0, 0x7_0000_00A0, 135, 65, 0x7, 0xA0]);
+    assert_eq!(run.words(), [2, 1, 0, 0x7_0000_00A0, 136, 65, 0x7, 0xA0]);
     assert_eq!(run.last_written(), (0x7, 0xA0));
     assert_eq!((file[FIRST_LOGICAL_NAME], file[SECOND_LOGICAL_NAME]), (0xFF, 7));
 }
@@ -71,10 +73,24 @@ fn a_run_ends_when_its_names_are_used_up() {
 fn a_taken_name_answers_with_its_series_number() {
     let (mut file, mut answer) = (m10_with(FIRST_LOGICAL_NAME, 9), ROOMY);
     let mut run = Run::start(&[9, 8]).expect("a good list");
-    assert_eq!(run.step(&mut file, &[9, 8], &mut answer), Ok(Senders(0b11_1110)));
-    assert_eq!(answer, answered(0x49, &[0x00, 0x00, 0x00, 0x07, 0x4E]));
-    assert_eq!(run.words(), [0, 1, 0, 0, 1, 0, 0, 0]);
-    assert_eq!(file[EPOCH], 2);
+    // The extra read, which leaves index and step; then the read of the pass.
+    for (words, epoch) in [([0, 0, 0, 0, 1, 0, 0, 0], 2), ([0, 1, 0, 0, 2, 0, 0, 0], 4)] {
+        assert_eq!(run.step(&mut file, &[9, 8], &mut answer), Ok(Senders(0b11_1110)));
+        assert_eq!(answer, answered(0x49, &[0x00, 0x00, 0x00, 0x07, 0x4E]));
+        assert_eq!((run.words(), file[EPOCH]), (words, epoch));
+    }
+}
+
+/// The holder of a listed name sleeps: the extra read wakes it, and the name is taken.
+#[test]
+fn a_sleeping_holder_is_woken_by_the_extra_read() {
+    let mut file = m10_with(FIRST_LOGICAL_NAME, 9);
+    file[SLEEP_BYTE] = 1;
+    let mut run = Run::start(&[9]).expect("a good list");
+    assert_eq!(run.step(&mut file, &[9], &mut ROOMY.clone()), Ok(Senders(0)));
+    assert_eq!((file[SLEEP_BYTE], run.words()), (0, [0, 0, 0, 0, 1, 0, 0, 0]));
+    assert_eq!(run.step(&mut file, &[9], &mut ROOMY.clone()), Ok(Senders(0b11_1110)));
+    assert_eq!(run.words(), [2, 1, 0, 0, 2, 0, 0, 0]);
 }
 
 #[test]
@@ -98,7 +114,7 @@ fn a_stored_run_goes_on() {
         run = Run::from_words(run.words());
         run.step(&mut file, &[1, 2, 3], &mut ROOMY.clone()).expect("a step of a running run");
     }
-    assert_eq!(run.words(), [1, 2, 3, 0x7_0000_0010, 274, 131, 0, 0]);
+    assert_eq!(run.words(), [1, 2, 3, 0x7_0000_0010, 275, 131, 0, 0]);
 }
 
 /// At the high half of bit 63: what is stored tells which round the step makes, and where it then stands.

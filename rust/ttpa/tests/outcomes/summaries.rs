@@ -77,7 +77,7 @@ fn a_run_keeps_its_summary() {
         round_keeping(&mut file, &ROUND_2, &mut ROOMY.clone(), &mut held).expect("a round");
     }
     // as without a summary
-    assert_eq!(run.words(), [1, 2, 3, 0x7_0000_0010, 274, 131, 0, 0]);
+    assert_eq!(run.words(), [1, 2, 3, 0x7_0000_0010, 275, 131, 0, 0]);
     assert_eq!((held.names(), held.holder(1), held.holder(2)), (&[2, 1][..], Some(1), Some(0)));
     let (ended, mut answer) = (run, ROOMY);
     assert_eq!(run.step_keeping(&mut file, &names, &mut answer, &mut held), Ok(Senders(0)));

@@ -1,6 +1,6 @@
 -- `cluster::duty::do_duty` meets its contract: a law for each duty.
 -- Assumes nothing.
-use Rattle.cluster.proofs.DataLaws.{nothing-done, read-done, compare-done, write-done, baptize-done}
+use Rattle.cluster.proofs.DataLaws.{nothing-done, read-done, compare-done, write-done, baptize-done, sleep-done}
 use borrow.Author.Needs.{needs}
 use Rattle.cluster.proofs.duty.do_duty.Statement.{statement}
 use Rattle.cluster.proofs.duty.do_duty.Tie as tie
@@ -107,6 +107,8 @@ do-duty-spec =
     enum-told-5
     silence-requires-3
     baptize-round-requires
+    (λ c. search needs)
+    (λ c κs. search needs)
     same-length
     returns
     same-length-2
@@ -120,4 +122,6 @@ do-duty-spec =
     returns-4
     same-length-8
     same-length-9
-    returns-5)
+    returns-5
+    (λ c. search needs)
+    (λ c. search (needs, sleep-done)))

@@ -1,7 +1,7 @@
 -- `cluster::duty::execution_of` meets its contract: a law for each way.
 -- Assumes nothing.
 use Rattle.cluster.specs.Inner.Duties.{dutyAt}
-use Rattle.cluster.proofs.DataLaws.{execution-elsewhere, execution-compare, execution-baptize, execution-other}
+use Rattle.cluster.proofs.DataLaws.{execution-elsewhere, execution-compare, execution-baptize, execution-sleep, execution-other}
 use borrow.Author.Needs.{needs}
 use Rattle.cluster.proofs.duty.execution_of.Statement.{statement}
 use Rattle.cluster.proofs.duty.execution_of.Tie as tie
@@ -20,7 +20,11 @@ returns-3 c = search (needs, execution-baptize)
 
 returns-4 : tie.Need-returns-4
 unfolding dutyAt
-returns-4 c = search (needs, execution-other)
+returns-4 c = search (needs, execution-sleep)
+
+returns-5 : tie.Need-returns-5
+unfolding dutyAt
+returns-5 c = search (needs, execution-other)
 
 pub execution-of-spec : {M : Type 1} → statement M
-execution-of-spec = tie.close (tie.spec returns returns-2 returns-3 returns-4)
+execution-of-spec = tie.close (tie.spec returns returns-2 returns-3 returns-4 returns-5)

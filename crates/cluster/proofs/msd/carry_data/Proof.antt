@@ -1,6 +1,6 @@
 -- `cluster::msd::carry_data` meets its contract: what is pending, the epoch raised, and the duty done.
 -- Assumes nothing.
-use Rattle.cluster.proofs.DataLaws.{raised-placed, raised-done}
+use Rattle.cluster.proofs.DataLaws.{raised-placed, done-placed, raised-done}
 use borrow.Author.Needs.{needs}
 use Rattle.cluster.proofs.msd.carry_data.Statement.{statement}
 use Rattle.cluster.proofs.msd.carry_data.Tie as tie
@@ -13,6 +13,11 @@ raise-epoch-requires c κs = search needs
 
 do-duty-requires : tie.Need-do-duty-requires
 do-duty-requires c κs = search (needs, raised-placed)
+
+rest-slaves-requires : tie.Need-rest-slaves-requires
+rest-slaves-requires c κs =
+    done-placed _ _ (search (needs, raised-placed))
+    (c .before .before .before .before .before .do-duty .ensures)
 
 same-length : tie.Need-same-length
 same-length c = search needs
@@ -30,6 +35,7 @@ carry-data-spec =
     pending-duty-requires
     raise-epoch-requires
     do-duty-requires
+    rest-slaves-requires
     same-length
     same-length-2
     returns)

@@ -2,7 +2,7 @@
 -- Assumes nothing.
 use Rattle.file.proofs.ReaderLaws.{becomes-decoded}
 use Rattle.cluster.proofs.DataLaws.{raised-placed}
-use Rattle.cluster.proofs.SlotLaws.{raised-carries}
+use Rattle.cluster.proofs.SlotLaws.{carried-accepted, raised-carries}
 use borrow.Author.Needs.{needs}
 use Rattle.cluster.proofs.multipartner.carry_multipartner.Statement.{statement}
 use Rattle.cluster.proofs.multipartner.carry_multipartner.Tie as tie
@@ -16,6 +16,9 @@ read-epoch-requires c κs = search (needs, becomes-decoded)
 run-slots-requires : tie.Need-run-slots-requires
 run-slots-requires c κs = search (needs, raised-placed)
 
+wake-slaves-requires : tie.Need-wake-slaves-requires
+wake-slaves-requires c κs = carried-accepted (c .before .before .before .before .before .run-slots .ensures)
+
 same-length : tie.Need-same-length
 same-length c = search needs
 
@@ -27,4 +30,4 @@ returns c = search (needs, raised-carries)
 
 pub carry-multipartner-spec : {M : Type 1} → statement M
 carry-multipartner-spec =
-    tie.close (tie.spec raise-epoch-requires read-epoch-requires run-slots-requires same-length same-length-2 returns)
+    tie.close (tie.spec raise-epoch-requires read-epoch-requires run-slots-requires wake-slaves-requires same-length same-length-2 returns)

@@ -1,47 +1,15 @@
 -- `cluster::multipartner::round_file` meets its contract: a law for each way.
 -- Assumes nothing.
-use Rattle.cluster.proofs.RoundFileLaws.{round-unnamed, round-missing, start-fits, end-fits, round-found}
+use Rattle.cluster.proofs.RoundFileLaws.{round-asleep, round-awake}
 use borrow.Author.Needs.{needs}
 use Rattle.cluster.proofs.multipartner.round_file.Statement.{statement}
 use Rattle.cluster.proofs.multipartner.round_file.Tie as tie
-
-logical-name-requires : tie.Need-logical-name-requires
-logical-name-requires c κs = search needs
-
-returns : tie.Need-returns
-returns c = search (needs, round-unnamed)
-
-find-file-requires : tie.Need-find-file-requires
-find-file-requires c κs = search needs
-
-enum-known-found : tie.Need-enum-known-found
-enum-known-found c = search needs
-
-enum-told : tie.Need-enum-told
-enum-told c = search needs
-
-returns-2 : tie.Need-returns-2
-returns-2 c = search (needs, round-missing)
-
-add-t10 : tie.Need-add-t10
-add-t10 c = search (needs, start-fits)
-
-add-t11 : tie.Need-add-t11
-add-t11 c = search (needs, end-fits)
-
-returns-3 : tie.Need-returns-3
-returns-3 c = search (needs, round-found)
 
 pub round-file-spec : {M : Type 1} → statement M
 round-file-spec =
     tie.close
     (tie.spec
-    logical-name-requires
-    returns
-    find-file-requires
-    enum-known-found
-    enum-told
-    returns-2
-    add-t10
-    add-t11
-    returns-3)
+    (λ c κs. search needs)
+    (λ c. search (needs, round-asleep))
+    (λ c κs. search needs)
+    (λ c. search (needs, round-awake)))

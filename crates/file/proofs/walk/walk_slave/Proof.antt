@@ -2,7 +2,7 @@
 -- Assumes nothing.
 use borrow.Author.Tests.{not-true, not-false}
 use native.Mathlib.Omega.{arith}
-use Rattle.file.proofs.SlaveWalkLaws.{slave-elsewhere, slave-zero, slave-unfilled, slave-past, slave-walked, directory-fits, directory-size-fits, directory-end-fits}
+use Rattle.file.proofs.SlaveWalkLaws.{slave-elsewhere, slave-sleep, slave-unfilled, slave-past, slave-walked, directory-fits, directory-size-fits, directory-end-fits}
 use borrow.Author.Needs.{needs}
 use Rattle.file.proofs.walk.walk_slave.Statement.{statement}
 use Rattle.file.proofs.walk.walk_slave.Tie as tie
@@ -26,7 +26,7 @@ byte-at-requires-2 : tie.Need-byte-at-requires-2
 byte-at-requires-2 c κs = omega arith
 
 returns-2 : tie.Need-returns-2
-returns-2 c = search (needs, slave-zero)
+returns-2 c = search (needs, slave-sleep)
 
 add-is-filled : tie.Need-add-is-filled
 add-is-filled c = omega arith

@@ -1,6 +1,6 @@
 -- `listing_text::run::list` meets its contract: the refused line, or the lines and the totals.
 -- Assumes nothing.
-use Rattle.listing_text.proofs.ListLaws.{listed-refused, listed-accepted}
+use Rattle.listing_text.proofs.ListLaws.{start-room, listed-refused, listed-accepted}
 use borrow.Author.Needs.{needs}
 use Rattle.listing_text.proofs.run.list.Statement.{statement}
 use Rattle.listing_text.proofs.run.list.Tie as tie
@@ -42,7 +42,7 @@ slice-aggregate-all-steps-2 : tie.Need-slice-aggregate-all-steps-2
 slice-aggregate-all-steps-2 c = search needs
 
 all-steps-requires : tie.Need-all-steps-requires
-all-steps-requires c κs = search needs
+all-steps-requires c κs = search start-room
 
 put-totals-requires : tie.Need-put-totals-requires
 put-totals-requires c κs = search needs

@@ -18,7 +18,7 @@ enum-known-stepped : tie.Need-enum-known-stepped
 enum-known-stepped c = search needs
 
 after-step-requires : tie.Need-after-step-requires
-after-step-requires c κs = search made-moves
+after-step-requires c κs = let start : tie.Start = search in let begins = start .pre .1 .begins in search made-moves
 
 same-length : tie.Need-same-length
 same-length c = search needs

@@ -5,17 +5,11 @@ use Rattle.owner.proofs.EntryMasks.{free-none, free-some}
 use Rattle.owner.proofs.entries.free_slots.Statement.{statement}
 use Rattle.owner.proofs.entries.free_slots.Tie as tie
 
-covered-slots-requires : tie.Need-covered-slots-requires
-covered-slots-requires c κs = search needs
-
 returns : tie.Need-returns
 returns c = search (needs, free-none)
-
-sending-slots-requires : tie.Need-sending-slots-requires
-sending-slots-requires c κs = search needs
 
 returns-2 : tie.Need-returns-2
 returns-2 c = search (needs, free-some)
 
 pub free-slots-spec : {M : Type 1} → statement M
-free-slots-spec = tie.close (tie.spec covered-slots-requires returns sending-slots-requires returns-2)
+free-slots-spec = tie.close (tie.spec (λ c κs. search needs) returns (λ c κs. search needs) returns-2)

@@ -4,7 +4,7 @@ use Prim.Native.Nat.{ℕ, _-_}
 use native.Mathlib.Omega.{arith}
 use borrow.Author.Needs.{needs}
 use Rattle.file.specs.Rules.Decode.{decode}
-use Rattle.cluster.specs.Inner.Slots.{RoundFileIs}
+use Rattle.cluster.specs.Inner.Slots.{PlannedFileIs}
 use Rattle.owner.proofs.SlavePlan.{Planning, planning-start, planning-done, entry-within, entry-low, planning-end, planning-next}
 use Rattle.owner.proofs.EntryMasks.{short-entry}
 use Rattle.owner.proofs.plan.plan_slave.Statement.{statement}
@@ -12,13 +12,13 @@ use Rattle.owner.proofs.plan.plan_slave.Tie as tie
 
 abbrev Inv-loop : tie.InvT-loop
 Inv-loop file places slave end covered₀ sends₀ multiplexed₀ at₀ covered sends multiplexed at =
-    (round : ℕ) → RoundFileIs (decode file) round slave at₀ end → Planning file round slave covered sends multiplexed at end
+    (round : ℕ) → PlannedFileIs (decode file) round slave at₀ end → Planning file round slave covered sends multiplexed at end
 
 abbrev μ-loop : tie.MeasureT-loop
 μ-loop file places slave end covered₀ sends₀ multiplexed₀ at₀ covered sends multiplexed at = end - at
 
-round-file-requires : tie.Need-round-file-requires Inv-loop μ-loop
-round-file-requires c κs = search needs
+planned-file-requires : tie.Need-planned-file-requires Inv-loop μ-loop
+planned-file-requires c κs = search needs
 
 loop-holds : tie.Need-loop-holds Inv-loop μ-loop
 loop-holds c = λ round is. planning-start (c .before .before .pre .0 .file) is
@@ -26,7 +26,7 @@ loop-holds c = λ round is. planning-start (c .before .before .pre .0 .file) is
 entry-at-requires : tie.Need-entry-at-requires Inv-loop μ-loop
 entry-at-requires c κs =
     let found = c .before .before in
-    entry-within (c .before .loop .inv (found .before .before .args .round .0) (found .round-file .ensures)) (c .loop-test .taken)
+    entry-within (c .before .loop .inv (found .before .before .args .round .0) (found .planned-file .ensures)) (c .loop-test .taken)
 
 is-end-requires : tie.Need-is-end-requires Inv-loop μ-loop
 is-end-requires c κs = search needs
@@ -36,7 +36,7 @@ returns c =
     let read = c .before .before in
     let turn = read .before in
     let found = turn .before .before in
-    planning-end (turn .before .loop .inv (found .before .before .args .round .0) (found .round-file .ensures)) (turn .loop-test .taken) (read .entry-at .ensures)
+    planning-end (turn .before .loop .inv (found .before .before .args .round .0) (found .planned-file .ensures)) (turn .loop-test .taken) (read .entry-at .ensures)
     (c .before .is-end .ensures) (c .if1 .taken)
 
 free-slots-requires : tie.Need-free-slots-requires Inv-loop μ-loop
@@ -57,7 +57,7 @@ add-at : tie.Need-add-at Inv-loop μ-loop
 add-at c =
     let turn = c .before .before .before .before .before .before .before in
     let found = turn .before .before in
-    omega (arith, entry-low (turn .before .loop .inv (found .before .before .args .round .0) (found .round-file .ensures)) (turn .loop-test .taken))
+    omega (arith, entry-low (turn .before .loop .inv (found .before .before .args .round .0) (found .planned-file .ensures)) (turn .loop-test .taken))
 
 loop-less : tie.Need-loop-less Inv-loop μ-loop
 loop-less c = omega arith
@@ -75,7 +75,7 @@ loop-again c = λ round is.
 returns-2 : tie.Need-returns-2 Inv-loop μ-loop
 returns-2 c =
     let found = c .before .before in
-    planning-done (c .before .loop .inv (found .before .before .args .round .0) (found .round-file .ensures)) (c .loop-test .left)
+    planning-done (c .before .loop .inv (found .before .before .args .round .0) (found .planned-file .ensures)) (c .loop-test .left)
 
 pub plan-slave-spec : {M : Type 1} → statement M
 plan-slave-spec =
@@ -83,7 +83,7 @@ plan-slave-spec =
     (tie.spec
     Inv-loop
     μ-loop
-    round-file-requires
+    planned-file-requires
     loop-holds
     entry-at-requires
     is-end-requires

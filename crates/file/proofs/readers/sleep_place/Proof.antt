@@ -1,0 +1,22 @@
+-- `file::readers::sleep_place` meets its contract: the sleep byte stands behind the offset and the file count of a table entry.
+-- Assumes nothing.
+use Rattle.file.proofs.ReaderLaws.{entry-size-fits}
+use Rattle.file.proofs.SleepLaws.{sleep-fits, sleep-at}
+use borrow.Author.Needs.{needs}
+use native.Mathlib.Omega.{arith}
+use Rattle.file.proofs.readers.sleep_place.Statement.{statement}
+use Rattle.file.proofs.readers.sleep_place.Tie as tie
+
+pub sleep-place-spec : {M : Type 1} → statement M
+sleep-place-spec =
+    tie.close
+    (tie.spec
+    (λ c κs. search needs)
+    (λ c. omega arith)
+    (λ c. omega arith)
+    (λ c. omega arith)
+    (λ c. omega arith)
+    (λ c. omega arith)
+    (λ c. search (needs, entry-size-fits))
+    (λ c. search (needs, sleep-fits))
+    (λ c. search (needs, sleep-at)))
