@@ -34,7 +34,7 @@ FNR == NR && /^    (part|ground|text|word): ./ {
     next
 }
 
-FNR == NR && /^call [a-z-]+ ttpa_[a-z_]+( [0-9]+)+$/ {
+FNR == NR && /^call [a-z0-9-]+ ttpa_[a-z0-9_]+( [0-9]+)+$/ {
     kind[++calls] = $2
     called[calls] = $3
     for (i = 4; i <= NF; i++) {

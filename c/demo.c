@@ -3,10 +3,11 @@
  * Sees to it that header and library are of one version, loads a cluster file, checks it, reads a record of a named
  * slave, has a foreign master try to name slaves by a write, names the unnamed slaves while other rounds go on in
  * between, tells before and after it who holds a name, runs a captured trace, plans who sends in which slot, has a slot
- * multiplexed, puts the cluster to sleep and wakes it, and prints what happened. examples/demo.rs of the Rust crate does
- * the same and prints the same. */
+ * multiplexed, puts the cluster to sleep and wakes it, converts the file to edition 2 and back, and prints what happened.
+ * examples/demo.rs of the Rust crate does the same and prints the same. */
 #include <inttypes.h>
 #include <stdio.h>
+#include <string.h>
 
 #include "ttpa.h"
 
@@ -15,9 +16,12 @@
 #define MASTER 0x80
 /* where the demo's file has the logical name of its second slave, which is unnamed */
 #define SECOND_NAME 0x7F
-/* where a cluster file tells whether its first slave sleeps, and how far it is to the next slave's byte */
+/* where a cluster file of edition 1 tells whether its first slave sleeps, and how far it is to the next slave's byte */
 #define FIRST_SLEEP 19
 #define ENTRY_BYTES 4
+/* the bytes of a header of edition 1 and of edition 2 */
+#define HEADER_BYTES 16
+#define WIDE_HEADER_BYTES 24
 
 /* The cluster file and what the last round answered. One byte more than a file may have, so that a longer
  * one is seen and refused. */
@@ -357,6 +361,39 @@ static void show_sleep(void)
     }
 }
 
+/* What a tester that knows edition 1 alone says of a file with the right mark: 1 by its length, or 3 by byte 2. */
+static uint8_t older_ground(const uint8_t *file, size_t bytes)
+{
+    if (bytes < HEADER_BYTES || bytes > TTPA_EDITION_1_FILE_BYTES) {
+        return TTPA_REFUSED_FILE_SIZE;
+    }
+    return file[2] == 1 ? TTPA_ACCEPTED : TTPA_REFUSED_EDITION;
+}
+
+/* A neighbouring tool works on the file in edition 2: a round on it has the same answer as on the file, and what it leaves
+ * is, in edition 1 again, what the round leaves of the file. */
+static void show_editions(void)
+{
+    static const uint8_t round[1] = {TTPA_FIREWORK_ROUND_2};
+    static uint8_t wide[TTPA_WIDENED_BYTES];
+    static uint8_t narrow[TTPA_EDITION_1_FILE_BYTES];
+    uint64_t wide_length = 0, narrow_length = 0;
+    print_verdict("edition 2 in 291 bytes", ttpa_to_edition_2(cluster, length, wide, 291, &wide_length));
+    print_verdict("edition 2", ttpa_to_edition_2(cluster, length, wide, sizeof wide, &wide_length));
+    print_bytes("header", wide, WIDE_HEADER_BYTES);
+    printf("a tester before version 0.11.0 refuses it by %u\n", (unsigned)older_ground(wide, (size_t)wide_length));
+    print_verdict("round 2 on it",
+                  ttpa_round(wide, (size_t)wide_length, round, sizeof round, answer, sizeof answer, &senders));
+    print_answer("answer");
+    print_verdict("edition 1 again",
+                  ttpa_to_edition_1(wide, (size_t)wide_length, narrow, sizeof narrow, &narrow_length));
+    print_bytes("header", narrow, HEADER_BYTES);
+    print_verdict("round 2 on the file", send(round, sizeof round));
+    print_answer("answer");
+    printf("both are %s\n",
+           narrow_length == length && memcmp(narrow, cluster, length) == 0 ? "the same" : "not the same");
+}
+
 int main(int count, char **arguments)
 {
     static const uint8_t names[] = {0x01, 0x02, 0x03, 0x04};
@@ -413,6 +450,7 @@ int main(int count, char **arguments)
     print_answer("answer");
     show_multiplexed();
     show_sleep();
+    show_editions();
     print_verdict("a short answer buffer", ttpa_round(cluster, length, round, sizeof round, answer,
                                                       TTPA_ANSWER_BYTES - 1, &senders));
     print_verdict("the file as it is now", ttpa_check(cluster, length));

@@ -55,9 +55,15 @@ VALUE(TTPA_REFUSED_OWNER_BUFFER, 21);
 VALUE(TTPA_REFUSED_EQUAL_LOGICAL_NAMES, 22);
 VALUE(TTPA_REFUSED_MULTIPLEXED_SEND, 23);
 VALUE(TTPA_REFUSED_SUMMARY, 24);
+VALUE(TTPA_REFUSED_EDITION_LIMITS, 25);
+VALUE(TTPA_REFUSED_CONVERSION_BUFFER, 26);
 /* .ci/refusals writes to here */
 
-VALUE(TTPA_FILE_BYTES, 32768);
+VALUE(TTPA_FILE_BYTES, 65536);
+VALUE(TTPA_EDITION_1_FILE_BYTES, 32768);
+VALUE(TTPA_MOST_SLAVES, 64);
+VALUE(TTPA_EDITION_1_SLAVES, 32);
+VALUE(TTPA_WIDENED_BYTES, 41096);
 VALUE(TTPA_FRAME_BYTES, 6);
 VALUE(TTPA_ANSWER_BYTES, 64);
 
@@ -114,7 +120,6 @@ VALUE(TTPA_OWNER_BYTES, 396);
 VALUE(TTPA_OWNER_RECORD_BYTES, 4);
 VALUE(TTPA_OWNER_INDEX, 4);
 
-VALUE(TTPA_MOST_SLAVES, 32);
 VALUE(TTPA_NOBODY, UINT64_C(0xFFFFFFFFFFFFFFFF));
 
 /* ---- the prototypes */
@@ -137,6 +142,7 @@ typedef uint8_t round_keeping_type(uint8_t *, size_t, const uint8_t *, size_t, u
                                    uint8_t *, size_t, uint64_t);
 typedef uint8_t step_keeping_type(uint8_t *, size_t, uint64_t *, const uint8_t *, size_t, uint8_t *, size_t,
                                   uint64_t *, uint8_t *, size_t, uint64_t);
+typedef uint8_t to_edition_type(const uint8_t *, size_t, uint8_t *, size_t, uint64_t *);
 
 PROTOTYPE(ttpa_refusal_text, text_type);
 PROTOTYPE(ttpa_version, version_type);
@@ -153,6 +159,8 @@ PROTOTYPE(ttpa_fill, fill_type);
 PROTOTYPE(ttpa_holder, holder_type);
 PROTOTYPE(ttpa_round_keeping, round_keeping_type);
 PROTOTYPE(ttpa_step_keeping, step_keeping_type);
+PROTOTYPE(ttpa_to_edition_1, to_edition_type);
+PROTOTYPE(ttpa_to_edition_2, to_edition_type);
 
 /* ---- the comparisons */
 
@@ -247,7 +255,7 @@ static const struct {
 } words[] = {
     /* .ci/refusals writes from here: words */
     {TTPA_ACCEPTED, "accepted"},
-    {TTPA_REFUSED_FILE_SIZE, "32,768"},
+    {TTPA_REFUSED_FILE_SIZE, "65,536"},
     {TTPA_REFUSED_MARK, "mark"},
     {TTPA_REFUSED_EDITION, "edition"},
     {TTPA_REFUSED_LENGTH_FIELD, "as long as its header"},
@@ -271,6 +279,8 @@ static const struct {
     {TTPA_REFUSED_EQUAL_LOGICAL_NAMES, "logical name;"},
     {TTPA_REFUSED_MULTIPLEXED_SEND, "multiplexed"},
     {TTPA_REFUSED_SUMMARY, "summary"},
+    {TTPA_REFUSED_EDITION_LIMITS, "edition 1"},
+    {TTPA_REFUSED_CONVERSION_BUFFER, "converted"},
     /* .ci/refusals writes to here */
 };
 
@@ -304,10 +314,16 @@ static void files(void)
     static uint8_t longest[TTPA_FILE_BYTES + 1];
     EXPECT(ttpa_check(m10, sizeof m10) == TTPA_ACCEPTED);
     EXPECT(ttpa_check(NULL, 0) == TTPA_REFUSED_FILE_SIZE);
+    EXPECT(ttpa_check(longest, TTPA_EDITION_1_FILE_BYTES + 1) == TTPA_REFUSED_FILE_SIZE);
+    EXPECT(ttpa_check(longest, TTPA_EDITION_1_FILE_BYTES) == TTPA_REFUSED_MARK);
+    longest[2] = 2;
     EXPECT(ttpa_check(longest, TTPA_FILE_BYTES + 1) == TTPA_REFUSED_FILE_SIZE);
     EXPECT(ttpa_check(longest, TTPA_FILE_BYTES) == TTPA_REFUSED_MARK);
+    EXPECT(ttpa_check(longest, 24) == TTPA_REFUSED_MARK && ttpa_check(longest, 23) == TTPA_REFUSED_FILE_SIZE);
+    EXPECT(ttpa_check(longest, 3) == TTPA_REFUSED_FILE_SIZE && ttpa_check(longest, 2) == TTPA_REFUSED_FILE_SIZE);
     EXPECT(check_with(1, 0x42) == TTPA_REFUSED_MARK);
     EXPECT(check_with(2, 9) == TTPA_REFUSED_EDITION);
+    EXPECT(check_with(2, 2) == TTPA_REFUSED_LENGTH_FIELD);
     EXPECT(ttpa_check(m10, sizeof m10 - 1) == TTPA_REFUSED_LENGTH_FIELD);
     EXPECT(check_with(3, 33) == TTPA_REFUSED_HEADER);
     EXPECT(check_with(FIRST_SLEEP, 1) == TTPA_ACCEPTED);
@@ -1107,6 +1123,169 @@ static void refused_kept_steps(void)
     EXPECT(held_is(TTPA_NAME_UNNAMED, TTPA_NAME_UNNAMED) && memcmp(cluster, m10, sizeof m10) == 0);
 }
 
+/* ---- conversions */
+
+/* M10 in edition 2. */
+static const uint8_t wide_m10[] = {
+    0x54, 0x41, 0x02, 0x02, 0x00, 0x00, 0x00, 0x18, 0x00, 0x00, 0x00, 0x80, 0x00, 0x00, 0x00, 0x00,
+    0x00, 0x00, 0x00, 0x00, 0x00, 0x00, 0x00, 0x00, 0x00, 0x00, 0x00, 0x28, 0x02, 0x00, 0x00, 0x00,
+    0x00, 0x00, 0x00, 0x54, 0x02, 0x00, 0x00, 0x00, 0x08, 0x03, 0x00, 0x00, 0x00, 0x00, 0x00, 0x38,
+    0x3D, 0x02, 0x00, 0x00, 0x00, 0x00, 0x00, 0x48, 0x00, 0x00, 0x00, 0x00, 0x00, 0x00, 0x00, 0xFF,
+    0x00, 0x00, 0x00, 0x00, 0x00, 0x00, 0x00, 0x00, 0x00, 0x00, 0x00, 0x00, 0x00, 0x00, 0x00, 0x07,
+    0x00, 0x00, 0x00, 0x10, 0x08, 0x03, 0x00, 0x00, 0x00, 0x00, 0x00, 0x64, 0x3D, 0x02, 0x00, 0x00,
+    0x00, 0x00, 0x00, 0x74, 0x00, 0x00, 0x00, 0x00, 0x00, 0x00, 0x00, 0xFF, 0x00, 0x00, 0x00, 0x00,
+    0x00, 0x00, 0x00, 0x00, 0x00, 0x00, 0x00, 0x00, 0x00, 0x00, 0x00, 0x07, 0x00, 0x00, 0x00, 0xA0,
+};
+
+/* Where edition 2 has the epoch, the flag and pending bytes behind it, and the sleep byte of the first slave. */
+#define WIDE_EPOCH 12
+#define WIDE_FIRST_SLEEP 29
+
+static uint8_t converted[TTPA_FILE_BYTES];
+static uint64_t converted_length;
+
+static uint8_t convert(to_edition_type *to_edition, const uint8_t *file, size_t bytes, size_t room)
+{
+    memset(converted, OLD, sizeof converted);
+    converted_length = OLD_SENDERS;
+    return to_edition(file, bytes, converted, room, &converted_length);
+}
+
+/* The file written, and past it old bytes. */
+static int converted_is(const uint8_t *file, size_t bytes)
+{
+    return converted_length == bytes && memcmp(converted, file, bytes) == 0 &&
+           is_old(converted + bytes, sizeof converted - bytes);
+}
+
+static int not_converted(void)
+{
+    return converted_length == OLD_SENDERS && is_old(converted, sizeof converted);
+}
+
+/* Into the edition, in a buffer just long enough and in a longer one; and refused in one a byte shorter, and in none. */
+static void becomes(to_edition_type *to_edition, const uint8_t *file, size_t bytes, const uint8_t *into, size_t needed)
+{
+    EXPECT(convert(to_edition, file, bytes, needed) == TTPA_ACCEPTED);
+    EXPECT(converted_is(into, needed));
+    EXPECT(convert(to_edition, file, bytes, needed + 1) == TTPA_ACCEPTED);
+    EXPECT(converted_is(into, needed));
+    EXPECT(convert(to_edition, file, bytes, needed - 1) == TTPA_REFUSED_CONVERSION_BUFFER);
+    EXPECT(not_converted());
+    EXPECT(convert(to_edition, file, bytes, 0) == TTPA_REFUSED_CONVERSION_BUFFER);
+    EXPECT(to_edition(file, bytes, NULL, 0, &converted_length) == TTPA_REFUSED_CONVERSION_BUFFER);
+    EXPECT(not_converted());
+}
+
+static void both_ways(const uint8_t *narrow, const uint8_t *wide)
+{
+    becomes(ttpa_to_edition_2, narrow, sizeof m10, wide, sizeof wide_m10);
+    becomes(ttpa_to_edition_1, wide, sizeof wide_m10, narrow, sizeof m10);
+    becomes(ttpa_to_edition_1, narrow, sizeof m10, narrow, sizeof m10);
+    becomes(ttpa_to_edition_2, wide, sizeof wide_m10, wide, sizeof wide_m10);
+}
+
+/* Free pending bytes, an epoch and a sleep byte are carried over. */
+static void conversions(void)
+{
+    static const uint8_t state[] = {0xFE, 0x00, 0x03, 0xFF, 0x04};
+    uint8_t wide[sizeof wide_m10];
+    EXPECT(ttpa_check(wide_m10, sizeof wide_m10) == TTPA_ACCEPTED);
+    both_ways(m10, wide_m10);
+    renew();
+    memcpy(wide, wide_m10, sizeof wide);
+    memcpy(cluster + EPOCH, state, sizeof state);
+    memcpy(wide + WIDE_EPOCH, state, sizeof state);
+    cluster[FIRST_SLEEP] = 1;
+    wide[WIDE_FIRST_SLEEP] = 1;
+    both_ways(cluster, wide);
+}
+
+/* The file's number comes before that of the buffer. */
+static void refused_conversions(void)
+{
+    uint8_t wide[sizeof wide_m10];
+    memcpy(wide, wide_m10, sizeof wide);
+    wide[23] = 1;
+    EXPECT(convert(ttpa_to_edition_1, wide, sizeof wide, 0) == TTPA_REFUSED_HEADER);
+    EXPECT(convert(ttpa_to_edition_2, wide, sizeof wide, sizeof converted) == TTPA_REFUSED_HEADER);
+    wide[23] = 0;
+    wide[WIDE_FIRST_SLEEP + 1] = 1;
+    EXPECT(convert(ttpa_to_edition_2, wide, sizeof wide, 0) == TTPA_REFUSED_LAYOUT);
+    wide[WIDE_FIRST_SLEEP + 1] = 0;
+    EXPECT(convert(ttpa_to_edition_1, m10, sizeof m10 - 1, 0) == TTPA_REFUSED_LENGTH_FIELD);
+    EXPECT(convert(ttpa_to_edition_1, NULL, 0, sizeof converted) == TTPA_REFUSED_FILE_SIZE);
+    EXPECT(convert(ttpa_to_edition_2, wide, 23, sizeof converted) == TTPA_REFUSED_FILE_SIZE);
+    EXPECT(not_converted());
+}
+
+/* A file of edition 2 whose slaves are the first of M10 but for their serial numbers: 52 bytes a slave, 8 of them in the table. */
+static uint8_t many[24 + 52 * (TTPA_MOST_SLAVES + 1)];
+
+static void put_four(size_t at, size_t number)
+{
+    for (size_t i = 0; i < 4; i++) {
+        many[at + i] = (uint8_t)(number >> 8 * (3 - i));
+    }
+}
+
+static size_t put_many(size_t slaves)
+{
+    size_t bytes = 24 + 52 * slaves;
+    memcpy(many, wide_m10, 24);
+    many[3] = (uint8_t)slaves;
+    put_four(8, bytes);
+    for (size_t slave = 0; slave < slaves; slave++) {
+        size_t entry = 24 + 8 * slave, directory = 24 + 8 * slaves + 44 * slave;
+        memcpy(many + entry, wide_m10 + 24, 8);
+        memcpy(many + directory, wide_m10 + 0x28, 44);
+        put_four(entry, directory);
+        put_four(directory + 4, directory + 16);
+        put_four(directory + 12, directory + 32);
+        put_four(directory + 40, slave);
+    }
+    return bytes;
+}
+
+/* 25 by the slave count, before 26; and what edition 2 holds. */
+static void most_slaves(void)
+{
+    size_t bytes = put_many(TTPA_EDITION_1_SLAVES);
+    EXPECT(convert(ttpa_to_edition_1, many, bytes, sizeof converted) == TTPA_ACCEPTED);
+    EXPECT(converted_length == 16 + 40 * TTPA_EDITION_1_SLAVES && converted[3] == TTPA_EDITION_1_SLAVES);
+    bytes = put_many(TTPA_EDITION_1_SLAVES + 1);
+    EXPECT(convert(ttpa_to_edition_1, many, bytes, sizeof converted) == TTPA_REFUSED_EDITION_LIMITS);
+    EXPECT(convert(ttpa_to_edition_1, many, bytes, 0) == TTPA_REFUSED_EDITION_LIMITS);
+    EXPECT(not_converted());
+    bytes = put_many(TTPA_MOST_SLAVES);
+    EXPECT(ttpa_check(many, bytes) == TTPA_ACCEPTED);
+    EXPECT(convert(ttpa_to_edition_2, many, bytes, sizeof converted) == TTPA_ACCEPTED && converted_is(many, bytes));
+    bytes = put_many(TTPA_MOST_SLAVES + 1);
+    EXPECT(ttpa_check(many, bytes) == TTPA_REFUSED_HEADER);
+}
+
+/* Rounds on both forms: equal answers, and the files left are each other's conversion. */
+static void rounds_on_both_forms(void)
+{
+    static const uint8_t compare_with_0[] = {TTPA_FIREWORK_MSA, 0x05, 0xFF, 0x22, 0x02, 0x8F};
+    static const uint8_t data[] = {TTPA_FIREWORK_MSD};
+    uint8_t wide[sizeof wide_m10], wide_answer[sizeof answer];
+    uint64_t wide_senders;
+    memcpy(wide, wide_m10, sizeof wide);
+    renew();
+    for (int i = 0; i < 2; i++) {
+        const uint8_t *frame = i == 0 ? compare_with_0 : data;
+        size_t bytes = i == 0 ? sizeof compare_with_0 : sizeof data;
+        memset(wide_answer, OLD, sizeof wide_answer);
+        EXPECT(ttpa_round(wide, sizeof wide, frame, bytes, wide_answer, sizeof wide_answer, &wide_senders) ==
+               TTPA_ACCEPTED);
+        EXPECT(ttpa_round(cluster, sizeof cluster, frame, bytes, answer, sizeof answer, &senders) == TTPA_ACCEPTED);
+        EXPECT(senders == wide_senders && memcmp(answer, wide_answer, sizeof answer) == 0);
+        both_ways(cluster, wide);
+    }
+    EXPECT(senders == 2 && answer[1] == 0x00 && cluster[EPOCH] == 6 && wide[WIDE_EPOCH] == 6);
+}
+
 int main(void)
 {
     EXPECT(ttpa_version() == TTPA_VERSION);
@@ -1141,6 +1320,10 @@ int main(void)
     refused_summaries();
     kept_steps();
     refused_kept_steps();
+    conversions();
+    refused_conversions();
+    most_slaves();
+    rounds_on_both_forms();
     printf("%d comparisons, %d failed\n", comparisons, failures);
     return failures == 0 ? 0 : 1;
 }

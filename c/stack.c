@@ -2,9 +2,10 @@
  *
  * Each call is made on a stack of its own that was filled with one byte value; the deepest byte that has
  * another value afterwards is the deepest that was used. The calls are made on a cluster file of the
- * greatest length with the most slaves: every kind of frame, a whole naming run over all names, both without and
- * with a summary, the frames again as a trace, owner files, and refusals. All of it runs three times: first to have
- * the linker's work done, then with two different fillings, since a byte may be written with the value that it has. */
+ * greatest length with the most slaves in each edition: every kind of frame, a whole naming run over all names, both
+ * without and with a summary, the frames again as a trace, owner files, conversions, and refusals. All of it runs three
+ * times: first to have the linker's work done, then with two different fillings, since a byte may be written with the
+ * value that it has. */
 #define _XOPEN_SOURCE 700
 #include <stdio.h>
 #include <string.h>
@@ -12,10 +13,8 @@
 
 #include "ttpa.h"
 
-#define SLAVES 32
-#define HEADER_BYTES 16
-#define ENTRY_BYTES 4
 #define RECORD_BYTES 4
+#define SLOTS 63
 #define ROUND_FILE 0x02
 #define DATA_FILE 0x10
 #define NAMES 254
@@ -23,6 +22,7 @@
 #define STACK_BYTES 32768
 
 static uint8_t cluster[TTPA_FILE_BYTES];
+static size_t cluster_bytes;
 static uint8_t frame[TTPA_FRAME_BYTES];
 static size_t frame_bytes;
 static uint8_t parts[TTPA_ADDRESS_PARTS];
@@ -39,11 +39,18 @@ static uint64_t owner_length;
 static uint8_t held[TTPA_MOST_SLAVES];
 static uint64_t held_count;
 static uint64_t place;
+static uint8_t converted[TTPA_FILE_BYTES];
+static size_t converted_room;
+static uint64_t converted_length;
 static uint8_t number;
 static uint32_t version;
 
-/* ---- a cluster file of TTPA_FILE_BYTES bytes with SLAVES slaves */
+/* ---- a cluster file of the most bytes and slaves that its edition has */
 
+static uint8_t edition;
+static size_t slaves;
+/* the bytes of an offset, from which follow those of the header and of an entry */
+static size_t width;
 static size_t end;
 /* where file 0x08 of the last slave begins */
 static size_t last_configuration;
@@ -61,16 +68,30 @@ static void put_record(unsigned b0, unsigned b1, unsigned b2, unsigned b3)
     put(b3);
 }
 
+static size_t header_bytes(void)
+{
+    return 8 + 4 * width;
+}
+
+static size_t entry_bytes(void)
+{
+    return 2 * width;
+}
+
 static void put_place(size_t at, size_t place)
 {
-    cluster[at] = (uint8_t)(place >> 8);
-    cluster[at + 1] = (uint8_t)place;
+    for (size_t i = 0; i < width; i++) {
+        cluster[at + i] = (uint8_t)(place >> 8 * (width - 1 - i));
+    }
 }
 
 /* An entry of a directory: a file of records 0x00 to last at the place; and the place after it. */
 static size_t put_entry(unsigned file, size_t last, size_t place)
 {
-    put_record(file, (unsigned)last, (unsigned)(place >> 8), (unsigned)place & 0xFF);
+    cluster[end] = (uint8_t)file;
+    cluster[end + 1] = (uint8_t)last;
+    put_place(end + width, place);
+    end += entry_bytes();
     return place + RECORD_BYTES * (last + 1);
 }
 
@@ -79,7 +100,7 @@ static size_t put_entry(unsigned file, size_t last, size_t place)
  * the others are unnamed. */
 static void put_slave(unsigned slave, size_t data_last)
 {
-    size_t place = end + 4 * ENTRY_BYTES;
+    size_t place = end + 4 * entry_bytes();
     place = put_entry(ROUND_FILE, 3, place);
     last_configuration = place;
     place = put_entry(TTPA_FILE_CONFIGURATION, TTPA_RECORD_SLEEP, place);
@@ -87,7 +108,7 @@ static void put_slave(unsigned slave, size_t data_last)
     put_entry(TTPA_FILE_DOCUMENTATION, 2, place);
     put_record(0, 0, 0, 0);
     put_record(DATA_FILE << 2, 2, 8 << 4 | 15, 0 << 6 | 1);
-    put_record(DATA_FILE << 2, 1, 1 << 4 | 15, slave + 1);
+    put_record(DATA_FILE << 2, 1, 1 << 4 | 15, 1 + slave % SLOTS);
     put_record(DATA_FILE << 2, 60, 0 << 4 | 15, 1);
     put_record(0, 0, 0, 0);
     put_record(0, 0, 0, slave == 0 ? 0x01 : TTPA_NAME_UNNAMED);
@@ -105,20 +126,24 @@ static void put_slave(unsigned slave, size_t data_last)
 /* The data files fill what is left, the first ones by a record more where it does not divide. */
 static void make_cluster(void)
 {
-    static const uint8_t mark[4] = {0x54, 0x41, 1, SLAVES};
-    size_t first = HEADER_BYTES + SLAVES * ENTRY_BYTES;
-    size_t records = (TTPA_FILE_BYTES - first) / RECORD_BYTES;
+    slaves = edition == 1 ? TTPA_EDITION_1_SLAVES : TTPA_MOST_SLAVES;
+    cluster_bytes = edition == 1 ? TTPA_EDITION_1_FILE_BYTES : TTPA_FILE_BYTES;
+    width = 2 * (size_t)edition;
+    const uint8_t front[4] = {0x54, 0x41, edition, (uint8_t)slaves};
+    size_t first = header_bytes() + slaves * entry_bytes();
+    size_t records = (cluster_bytes - first) / RECORD_BYTES;
+    size_t directory = 4 * entry_bytes() / RECORD_BYTES;
     memset(cluster, 0, sizeof cluster);
-    memcpy(cluster, mark, sizeof mark);
-    put_place(4, HEADER_BYTES);
-    put_place(6, TTPA_FILE_BYTES);
+    memcpy(cluster, front, sizeof front);
+    put_place(4, header_bytes());
+    put_place(4 + width, cluster_bytes);
     end = first;
-    for (unsigned slave = 0; slave < SLAVES; slave++) {
-        size_t entry = HEADER_BYTES + slave * ENTRY_BYTES;
-        size_t own = records / SLAVES + (slave < records % SLAVES);
+    for (unsigned slave = 0; slave < slaves; slave++) {
+        size_t entry = header_bytes() + slave * entry_bytes();
+        size_t own = records / slaves + (slave < records % slaves);
         put_place(entry, end);
-        cluster[entry + 2] = 4;
-        put_slave(slave, own - (4 + 4 + 5 + 3) - 1);
+        cluster[entry + width] = 4;
+        put_slave(slave, own - (directory + 4 + 5 + 3) - 1);
     }
 }
 
@@ -135,7 +160,7 @@ static void version_call(void)
 
 static void check_call(void)
 {
-    number = ttpa_check(cluster, sizeof cluster);
+    number = ttpa_check(cluster, cluster_bytes);
 }
 
 static void read_address_call(void)
@@ -156,7 +181,7 @@ static void write_data_call(void)
 
 static void round_call(void)
 {
-    number = ttpa_round(cluster, sizeof cluster, frame, frame_bytes, answer, sizeof answer, &senders);
+    number = ttpa_round(cluster, cluster_bytes, frame, frame_bytes, answer, sizeof answer, &senders);
 }
 
 static void start_call(void)
@@ -166,39 +191,53 @@ static void start_call(void)
 
 static void step_call(void)
 {
-    number = ttpa_step(cluster, sizeof cluster, run, names, sizeof names, answer, sizeof answer, &senders);
+    number = ttpa_step(cluster, cluster_bytes, run, names, sizeof names, answer, sizeof answer, &senders);
 }
 
 static void trace_call(void)
 {
-    number = ttpa_trace(cluster, sizeof cluster, trace, trace_bytes, report);
+    number = ttpa_trace(cluster, cluster_bytes, trace, trace_bytes, report);
 }
 
 static void owner_call(void)
 {
-    number = ttpa_owner(cluster, sizeof cluster, 0xFE, owner, owner_bytes, &owner_length);
+    number = ttpa_owner(cluster, cluster_bytes, 0xFE, owner, owner_bytes, &owner_length);
 }
 
 static void fill_call(void)
 {
-    number = ttpa_fill(cluster, sizeof cluster, held, sizeof held, &held_count);
+    number = ttpa_fill(cluster, cluster_bytes, held, sizeof held, &held_count);
 }
 
 static void holder_call(void)
 {
-    number = ttpa_holder(held, sizeof held, held_count, held[SLAVES - 1], &place);
+    number = ttpa_holder(held, sizeof held, held_count, held[slaves - 1], &place);
 }
 
 static void round_keeping_call(void)
 {
-    number = ttpa_round_keeping(cluster, sizeof cluster, frame, frame_bytes, answer, sizeof answer, &senders, held,
+    number = ttpa_round_keeping(cluster, cluster_bytes, frame, frame_bytes, answer, sizeof answer, &senders, held,
                                 sizeof held, held_count);
 }
 
 static void step_keeping_call(void)
 {
-    number = ttpa_step_keeping(cluster, sizeof cluster, run, names, sizeof names, answer, sizeof answer, &senders,
+    number = ttpa_step_keeping(cluster, cluster_bytes, run, names, sizeof names, answer, sizeof answer, &senders,
                                held, sizeof held, held_count);
+}
+
+/* Into the two editions, from the file or from what was last converted. */
+static const uint8_t *source;
+static size_t source_bytes;
+
+static void to_edition_1_call(void)
+{
+    number = ttpa_to_edition_1(source, source_bytes, converted, converted_room, &converted_length);
+}
+
+static void to_edition_2_call(void)
+{
+    number = ttpa_to_edition_2(source, source_bytes, converted, converted_room, &converted_length);
 }
 
 enum kind {
@@ -217,6 +256,8 @@ enum kind {
     HOLDER,
     ROUND_KEEPING,
     STEP_KEEPING,
+    TO_EDITION_1,
+    TO_EDITION_2,
     KINDS
 };
 
@@ -241,6 +282,8 @@ static const struct call calls[KINDS] = {
     [HOLDER] = {"ttpa_holder", holder_call},
     [ROUND_KEEPING] = {"ttpa_round_keeping", round_keeping_call},
     [STEP_KEEPING] = {"ttpa_step_keeping", step_keeping_call},
+    [TO_EDITION_1] = {"ttpa_to_edition_1", to_edition_1_call},
+    [TO_EDITION_2] = {"ttpa_to_edition_2", to_edition_2_call},
 };
 
 /* The most stack that a call of each kind has used. */
@@ -328,18 +371,19 @@ static void make_trace(void)
 
 static void check_files(void)
 {
-    uint8_t *serial = &cluster[sizeof cluster - 1];
+    uint8_t *serial = &cluster[cluster_bytes - 1];
+    uint8_t *sleep = &cluster[header_bytes() + width + 1];
     uint8_t *last_name = &cluster[last_configuration + 7];
     make(CHECK, TTPA_ACCEPTED);
     *serial = 0;
     make(CHECK, TTPA_REFUSED_EQUAL_PHYSICAL_NAMES);
-    *serial = SLAVES - 1;
+    *serial = (uint8_t)(slaves - 1);
     *last_name = 0x01;
     make(CHECK, TTPA_REFUSED_EQUAL_LOGICAL_NAMES);
     *last_name = TTPA_NAME_UNNAMED;
-    cluster[HEADER_BYTES + 3] = 2;
+    *sleep = 2;
     make(CHECK, TTPA_REFUSED_LAYOUT);
-    cluster[HEADER_BYTES + 3] = 0;
+    *sleep = 0;
 }
 
 /* A complete master-slave round: its address frame written, read and carried out, then its data frame. */
@@ -425,8 +469,8 @@ static void name_all_keeping(void)
     make(FILL, TTPA_ACCEPTED);
     name_all(STEP_KEEPING);
     make(HOLDER, TTPA_ACCEPTED);
-    failed |= place != SLAVES - 1;
-    held_count++;
+    failed |= place != slaves - 1;
+    held_count = sizeof held + 1;
     make(HOLDER, TTPA_REFUSED_SUMMARY);
     make(STEP_KEEPING, TTPA_REFUSED_SUMMARY);
     memcpy(cluster, before, sizeof cluster);
@@ -461,15 +505,37 @@ static void refuse_multiplexed(void)
     *operation ^= 1 << 4;
 }
 
-static void all_calls(void)
+/* The file copied, and where edition 1 holds it widened and narrowed again; and in a buffer that is a byte too short. */
+static void convert(void)
 {
+    enum kind copy = edition == 1 ? TO_EDITION_1 : TO_EDITION_2;
+    enum kind turn = edition == 1 ? TO_EDITION_2 : TO_EDITION_1;
+    source = cluster;
+    source_bytes = cluster_bytes;
+    converted_room = cluster_bytes;
+    make(copy, TTPA_ACCEPTED);
+    failed |= converted_length != cluster_bytes || memcmp(converted, cluster, cluster_bytes) != 0;
+    converted_room = cluster_bytes - 1;
+    make(copy, TTPA_REFUSED_CONVERSION_BUFFER);
+    converted_room = sizeof converted;
+    make(turn, edition == 1 ? TTPA_ACCEPTED : TTPA_REFUSED_EDITION_LIMITS);
+    if (edition == 1) {
+        memcpy(before, converted, sizeof converted);
+        source = before;
+        source_bytes = (size_t)converted_length;
+        make(copy, TTPA_ACCEPTED);
+        failed |= converted_length != cluster_bytes || memcmp(converted, cluster, cluster_bytes) != 0;
+    }
+}
+
+static void all_calls_on(uint8_t of_edition)
+{
+    edition = of_edition;
     frames = 0;
     data_bytes = 0;
     make_cluster();
-    make(NOTHING, TTPA_ACCEPTED);
-    make(VERSION, TTPA_ACCEPTED);
-    failed |= version != TTPA_VERSION;
     check_files();
+    convert();
     multipartner_rounds();
     write_owner(TTPA_ACCEPTED);
     name_all_keeping();
@@ -480,6 +546,15 @@ static void all_calls(void)
     master_slave_rounds();
     refused_frames();
     run_trace();
+}
+
+static void all_calls(void)
+{
+    make(NOTHING, TTPA_ACCEPTED);
+    make(VERSION, TTPA_ACCEPTED);
+    failed |= version != TTPA_VERSION;
+    all_calls_on(1);
+    all_calls_on(2);
 }
 
 int main(void)

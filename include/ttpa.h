@@ -1,6 +1,7 @@
 /* The TTP/A cluster engine for C and C++: check a cluster file, read and write frames, carry out rounds on
- * the file, name its slaves, run captured traces, write the owner file and tell who holds a logical name. The
- * words and rules are those of document 01, the scope document, and of document 02, the change requests.
+ * the file, name its slaves, run captured traces, write the owner file, tell who holds a logical name and convert
+ * a file between its two editions. The words and rules are those of document 01, the scope document, and of
+ * document 02, the change requests.
  *
  * Numbers. Every call but ttpa_version returns 0 or the number of the ground on which it refused, see enum
  * ttpa_refusal. The comment of a call gives its numbers in the order in which it checks them; the first that
@@ -41,14 +42,14 @@ extern "C" {
  * does not link; this is so from 0.8.0 on. Older headers have no ttpa_version, and those before 0.6.0 have fewer words
  * in a run, which a linked program does not notice: what was compiled with them is to be compiled again. */
 #define TTPA_VERSION_MAJOR 0
-#define TTPA_VERSION_MINOR 10
+#define TTPA_VERSION_MINOR 11
 #define TTPA_VERSION_PATCH 0
 #define TTPA_VERSION (10000 * TTPA_VERSION_MAJOR + 100 * TTPA_VERSION_MINOR + TTPA_VERSION_PATCH)
 
 /* What the library takes: code and constants of all calls, and the most stack that a call uses, with its
  * return address and arguments. No other memory. Both are measured, and rounded up. */
-#define TTPA_CODE_BYTES 13568
-#define TTPA_STACK_BYTES 2176
+#define TTPA_CODE_BYTES 22528
+#define TTPA_STACK_BYTES 4096
 
 /* What the calls return: 0, or the documents' number for the ground on which something was refused. */
 enum ttpa_refusal {
@@ -87,7 +88,10 @@ enum ttpa_refusal {
     /* an owner file, before 20 */
     TTPA_REFUSED_MULTIPLEXED_SEND = 23,
     /* a summary of the logical names, after 8 */
-    TTPA_REFUSED_SUMMARY = 24
+    TTPA_REFUSED_SUMMARY = 24,
+    /* a conversion to another edition, after 8 */
+    TTPA_REFUSED_EDITION_LIMITS = 25,
+    TTPA_REFUSED_CONVERSION_BUFFER = 26
     /* .ci/refusals writes to here */
 };
 
@@ -100,11 +104,11 @@ static inline const char *ttpa_refusal_text(uint8_t number)
     case TTPA_ACCEPTED:
         return "accepted";
     case TTPA_REFUSED_FILE_SIZE:
-        return "the cluster file is shorter than 16 or longer than 32,768 bytes";
+        return "the cluster file is shorter than its header or longer than 32,768 bytes, 65,536 in edition 2";
     case TTPA_REFUSED_MARK:
         return "the file is no cluster file: it does not begin with the mark 0x54 0x41";
     case TTPA_REFUSED_EDITION:
-        return "the cluster file's edition, byte 2 of its header, is not 1";
+        return "the cluster file's edition, byte 2 of its header, is neither 1 nor 2";
     case TTPA_REFUSED_LENGTH_FIELD:
         return "the cluster file is not as long as its header says";
     case TTPA_REFUSED_HEADER:
@@ -147,14 +151,72 @@ static inline const char *ttpa_refusal_text(uint8_t number)
         return "a slave has a multiplexed send in a round, and its slot need not have one owner in all epochs";
     case TTPA_REFUSED_SUMMARY:
         return "the summary does not match the cluster file, or has more names than there is room for";
+    case TTPA_REFUSED_EDITION_LIMITS:
+        return "the cluster file does not fit into edition 1, which has at most 32 slaves and 32,768 bytes";
+    case TTPA_REFUSED_CONVERSION_BUFFER:
+        return "the buffer is too short for the converted cluster file";
     default:
         return "refused on a ground that this version has no text for";
     /* .ci/refusals writes to here */
     }
 }
 
-/* The most bytes that a cluster file has. */
-#define TTPA_FILE_BYTES 32768
+/* The cluster file, in its two editions. A number of several bytes has the most significant byte first. In edition 1
+ * offsets and the file's length have 2 bytes, in edition 2 they have 4; the rest follows, with other limits:
+ *
+ *     header, from byte 0       edition 1      edition 2
+ *     mark 0x54 0x41            0 and 1        0 and 1
+ *     edition                   2, it is 1     2, it is 2
+ *     slave count               3, 0 to 32     3, 0 to 64
+ *     offset of the table       4 to 5, 16     4 to 7, 24
+ *     length of the file        6 to 7         8 to 11
+ *     epoch                     8              12
+ *     pending flag, 0 or 1      9              13
+ *     pending logical name      10             14
+ *     pending PB2               11             15
+ *     pending PB3               12             16
+ *     zeros                     13 to 15       17 to 23
+ *
+ *     entry of the slave table, from its first byte
+ *     offset of the directory   0 to 1         0 to 3
+ *     file count                2              4
+ *     sleep byte, 0 or 1        3              5
+ *     zeros                     none           6 and 7
+ *
+ *     entry of a directory, from its first byte
+ *     file number, 0 to 63      0              0
+ *     record count r, 1 to 255  1              1
+ *     zeros                     none           2 and 3
+ *     offset of the file        2 to 3         4 to 7
+ *
+ *     bytes of a header         16             24
+ *     bytes of an entry         4              8
+ *     bytes of a file, at most  32,768         65,536
+ *
+ * Behind the header comes the slave table, an entry for each slave; then, slave by slave, its directory, an entry for
+ * each of its files, and these files in the order of their entries; all without gap, up to the last byte. So each
+ * offset, counted from byte 0 of the cluster file, has one value that fits. File numbers rise strictly in a directory.
+ * A slave's file has 4 (r + 1) bytes, records 0x00 to r of 4 bytes each; record 0x00 is free.
+ *
+ * Every slave has file 0x08 with r at least 3 and file 0x3D with r at least 2. Of 0x08, record 1 has the new logical name
+ * in byte 2 and the logical name in byte 3, 0xFF for a slave that has none; records 2 and 3 are the comparison value.
+ * Records 1 and 2 of 0x3D are the physical name, series and serial number, 32 bits each; no two slaves have the same.
+ * The pending bytes are free while the flag is 0. With flag 1 the two low bits of PB2, the operation, are not 3, and not
+ * 0 if the pending logical name is 0x00; its six high bits are a file number.
+ *
+ * Every call takes both editions, and gives equal answers on a file and on the same file converted. Which limits of
+ * length hold is told by byte 2 before anything else is looked at: those of edition 2 if there is a byte 2 and it is 2,
+ * else those of edition 1. A tester with a library before 0.11.0 refuses a file of edition 2 by 3, or by 1 where it has
+ * more than 32,768 bytes. */
+#define TTPA_FILE_BYTES 65536
+#define TTPA_EDITION_1_FILE_BYTES 32768
+
+/* The most slaves that a cluster file has, and of those of edition 1. */
+#define TTPA_MOST_SLAVES 64
+#define TTPA_EDITION_1_SLAVES 32
+
+/* No file of edition 1 has more bytes than this when it is converted to edition 2. */
+#define TTPA_WIDENED_BYTES 41096
 
 /* The bytes of an address frame and of a data frame with data, and those of the answer to a frame. */
 #define TTPA_FRAME_BYTES 6
@@ -199,11 +261,11 @@ static inline const char *ttpa_refusal_text(uint8_t number)
 #define TTPA_FILE_DOCUMENTATION 0x3D
 
 /* The record of 0x08 that puts to sleep. An execute of it has the slaves that are addressed and have this record fall
- * asleep after its data frame. The last byte of a slave's entry in the slave table, byte 19 + 4 s of the file for
- * slave s, 0 the first, tells it: 0 awake, 1 asleep; 6 refuses a byte above 1. A sleeping slave takes no part in
- * rounds: it is not addressed, sends nothing and keeps every byte of its files. It is awake after the next data frame
- * or multipartner round that is carried out, also one of a trace or of a naming step; an address frame, a refused call
- * and a refused frame of a trace wake nobody.
+ * asleep after its data frame. The sleep byte of a slave's entry in the slave table tells it, which for slave s, 0 the
+ * first, is byte 19 + 4 s of the file in edition 1 and byte 29 + 8 s in edition 2: 0 awake, 1 asleep; 6 refuses a byte
+ * above 1. A sleeping slave takes no part in rounds: it is not addressed, sends nothing and keeps every byte of its
+ * files. It is awake after the next data frame or multipartner round that is carried out, also one of a trace or of a
+ * naming step; an address frame, a refused call and a refused frame of a trace wake nobody.
  *
  * At 0x00 all slaves but the unnamed are addressed, at 0xFF the unnamed. So where some slaves have names and some do
  * not, no number of executes of this record puts the whole cluster to sleep: one at 0x00 leaves the unnamed awake, and
@@ -273,8 +335,8 @@ static inline const char *ttpa_refusal_text(uint8_t number)
  * ttpa_fill fills it. ttpa_round_keeping and ttpa_step_keeping are given it and leave it matching the file that they
  * leave; refused, they leave both. It has to be filled again where the file was changed without it: after a file is
  * loaded, always; after ttpa_trace, which takes no summary, ttpa_round and ttpa_step where a data frame had record 1 of
- * 0x08 executed, which a step does when it gives a name. Every other call leaves it matching. */
-#define TTPA_MOST_SLAVES 32
+ * 0x08 executed, which a step does when it gives a name. Every other call leaves it matching, and it matches the same
+ * file converted. */
 /* What ttpa_holder tells in the place of a slave where nobody holds the name. */
 #define TTPA_NOBODY UINT64_MAX
 
@@ -304,7 +366,7 @@ uint8_t ttpa_write_data(uint8_t *frame, size_t n, uint8_t b0, uint8_t b1, uint8_
  * Refuses by 1, 2, 3, 4, 5, 6, 7, 8, 9, 10, 11, 12, 13, 14 in this order. On 0 the file is as the round
  * leaves it, the first 64 bytes of answer, and no other, are the firework and then the byte of each slot 1
  * to 63 (0xFF where nobody sent), and bit s of *senders is set exactly when a slave sent in slot s. A multipartner
- * round adds 1 to the epoch, byte 8 of the file, before anyone sends; by this epoch multiplexed entries have their
+ * round adds 1 to the epoch before anyone sends; by this epoch multiplexed entries have their
  * turns, and one out of turn is passed over. */
 uint8_t ttpa_round(uint8_t *file, size_t n, const uint8_t *frame, size_t m, uint8_t *answer, size_t k,
                    uint64_t *senders);
@@ -372,6 +434,23 @@ uint8_t ttpa_round_keeping(uint8_t *file, size_t n, const uint8_t *frame, size_t
 uint8_t ttpa_step_keeping(uint8_t *file, size_t n, uint64_t run[TTPA_RUN_WORDS], const uint8_t *names, size_t m,
                           uint8_t *answer, size_t k, uint64_t *senders, uint8_t *held, size_t room,
                           uint64_t count);
+
+/* Writes the cluster file of n bytes as one of edition 1 into the front of the room bytes at out: a file of edition 2 is
+ * narrowed, one of edition 1 copied. It is the same cluster: epoch, pending flag and bytes, also free ones, sleep bytes
+ * and every record are carried over. What ttpa_to_edition_2 made of a file of edition 1 becomes that file again, byte
+ * for byte.
+ * Refuses by 1, 2, 3, 4, 5, 6, 7, 8, 25, 26 in this order; 25 is for a file of edition 2 with more than 32 slaves, or
+ * which would have more than 32,768 bytes in edition 1, and 26 is for less room than the file written needs, for which
+ * TTPA_EDITION_1_FILE_BYTES are always enough. On 0 *length is the length of the file written, and the first *length
+ * bytes of out, and no other, are written. */
+uint8_t ttpa_to_edition_1(const uint8_t *file, size_t n, uint8_t *out, size_t room, uint64_t *length);
+
+/* Writes the cluster file of n bytes as one of edition 2 likewise: a file of edition 1 is widened, one of edition 2
+ * copied. What ttpa_to_edition_1 made of a file of edition 2 becomes that file again.
+ * Refuses by 1, 2, 3, 4, 5, 6, 7, 8, 26 in this order; 26 is for less room than the file written needs, for which
+ * TTPA_FILE_BYTES are always enough and TTPA_WIDENED_BYTES for one of edition 1. On 0 *length and out are as
+ * ttpa_to_edition_1 has them. */
+uint8_t ttpa_to_edition_2(const uint8_t *file, size_t n, uint8_t *out, size_t room, uint64_t *length);
 
 #ifdef __cplusplus
 }

@@ -40,7 +40,7 @@ instructions() {
 # Instructions of one workload.
 cost() {
     local times=20 once twice
-    case $2 in naming-* | keeping-naming-* | trace-* | rounds-*) times=1 ;; esac
+    case $2 in *naming-* | trace-* | rounds-*) times=1 ;; esac
     once=$(instructions "$1" "$2" "$times")
     twice=$(instructions "$1" "$2" $((2 * times)))
     echo $(((twice - once) / times))
@@ -51,7 +51,7 @@ printf '%-26s %12s %12s' workload plain nested
 for workload in $("$bench" $list); do
     plain=$(cost plain "$workload")
     nested=$plain
-    case $workload in partner-* | multiplexed-*) nested=$(cost nested "$workload") ;; esac
+    case $workload in partner-* | wide-partner-* | multiplexed-*) nested=$(cost nested "$workload") ;; esac
     printf '%-26s %12d %12d' "$workload" "$plain" "$nested"
     if [ "$engines" = plain ]; then
         echo

@@ -71,7 +71,7 @@ hex() {
     for ((at = 0; at < ${#1}; at += 2)); do printf '%b' "\\x${1:at:2}"; done
 }
 
-# M10 with 32 more files in slave 1, 0x10 to 0x2F, so that it has 32,768 bytes. Its listing is that of M10.
+# M10 with 32 more files in slave 1, 0x10 to 0x2F, so that it has 32,768 bytes, edition 1's most. Its listing is that of M10.
 longest_cluster() {
     local directory=080300C4 place=$((0xD4)) number last
     for number in {16..47}; do
@@ -89,6 +89,33 @@ longest_cluster() {
     m10_part 84 96
 }
 
+# A slave of M10 in edition 2 with 32 more files, 0x10 to 0x2F. Told are where M10 has its 0x08, its 0x3D and the end of that, the place of
+# its directory, and the last record of the last of these files; the others have 256 records.
+wide_slave() {
+    local configuration=$1 documentation=$2 end=$3 place=$(($4 + 34 * 8)) directory first number last
+    directory=$(printf '08030000%08X' "$place")
+    place=$((place + 16))
+    first=$place
+    for number in {16..47}; do
+        last=$((number < 47 ? 255 : $5))
+        directory+=$(printf '%02X%02X0000%08X' "$number" "$last" "$place")
+        place=$((place + 4 * (last + 1)))
+    done
+    hex "$directory$(printf '3D020000%08X' "$place")"
+    m10_part "$configuration" "$documentation"
+    head -c $((place - first)) /dev/zero
+    m10_part "$documentation" "$end"
+}
+
+# Both slaves of M10 so in 65,536 bytes. Their listing is that of M10.
+longest_wide_cluster() {
+    local first=$((24 + 2 * 8)) second=$((24 + 2 * 8 + 34 * 8 + 16 + 32 * 1024 + 12))
+    hex 544102020000001800010000000000000000000000000000
+    hex "$(printf '%08X22000000%08X22000000' "$first" "$second")"
+    wide_slave 32 48 60 "$first" 255
+    wide_slave 68 84 96 "$second" 95
+}
+
 # A file's bytes, seven at a time; the pause lets the reader take each piece by itself.
 in_pieces() {
     local piece
@@ -99,18 +126,24 @@ in_pieces() {
 }
 
 # The listing program's main, which only reads and writes: input in pieces, and lengths around a file's limits.
-# 32,769 and 200,000 bytes begin with the good file of 32,768, so a program that drops the rest would list it.
+# 32,769 and 200,000 bytes begin with the good file of 32,768, so a program that drops the rest would list it; so in edition 2 above 65,536.
 listing_program() {
-    local listed=crates/listing/stdout refused=$work/refused input=$work/input
+    local listed=crates/listing/stdout refused=$work/refused input=$work/input wide=$work/wide
     echo "refused 1" >"$refused"
     longest_cluster >"$input"
     head -c 200000 /dev/zero >>"$input"
+    longest_wide_cluster >"$wide"
+    head -c 200000 /dev/zero >>"$wide"
     expect_output "listing: input in pieces" "$listed" "$listing" < <(in_pieces crates/listing/stdin)
     expect_output "listing: 0 bytes" "$refused" "$listing" </dev/null
     expect_output "listing: 15 bytes" "$refused" "$listing" < <(head -c 15 "$input")
     expect_output "listing: 32,768 bytes" "$listed" "$listing" < <(head -c 32768 "$input")
     expect_output "listing: 32,769 bytes" "$refused" "$listing" < <(head -c 32769 "$input")
     expect_output "listing: 200,000 bytes" "$refused" "$listing" < <(head -c 200000 "$input")
+    expect_output "listing: 23 bytes of edition 2" "$refused" "$listing" < <(head -c 23 "$wide")
+    expect_output "listing: 65,536 bytes of edition 2" "$listed" "$listing" < <(head -c 65536 "$wide")
+    expect_output "listing: 65,537 bytes of edition 2" "$refused" "$listing" < <(head -c 65537 "$wide")
+    expect_output "listing: 200,000 bytes of edition 2" "$refused" "$listing" < <(head -c 200000 "$wide")
 }
 
 # The 'list' lines of the vectors through the listing program; ' / ' stands for the end of a line.
@@ -215,7 +248,7 @@ header_whole() {
         printf '%s\n' TTPA_H TTPA_{CODE,STACK}_BYTES TTPA_VERSION{,_MAJOR,_MINOR,_PATCH}
     } | sort >"$held"
     { nm -g --defined-only "$TTPA_LIB_DIR/libttpa.a" | awk '$2 == "T" { print $3 }' && echo ttpa_refusal_text; } | sort >"$calls"
-    if diff "$held" <(grep -oE 'TTPA_[A-Z0-9_]+|ttpa_[a-z_]+\(' include/ttpa.h | tr -d '(' | sort -u) &&
+    if diff "$held" <(grep -oE 'TTPA_[A-Z0-9_]+|ttpa_[a-z0-9_]+\(' include/ttpa.h | tr -d '(' | sort -u) &&
         diff "$calls" <(grep ttpa "$held"); then
         pass 1
     else
@@ -332,7 +365,7 @@ comparison() {
         fail "comparison: does not build"
         return
     fi
-    counted calls library/linked "$(grep -aow 'ttpa_[a-z_]*' "$compare" | sort -u | wc -l)"
+    counted calls library/linked "$(grep -aow 'ttpa_[a-z0-9_]*' "$compare" | sort -u | wc -l)"
     compared random "$@"
     for file in "${vectors[@]}"; do compared "${file##*/}" --cases "$file"; done
 }

@@ -1,9 +1,10 @@
 -- Each claim of specs/Claims, and the theorem that has it as its type.
 use Rattle.cluster.specs.Claims.Cases.{RoundCases}
 use Rattle.cluster.specs.Claims.Edition.{UnknownEditionRound, UnknownEditionKeeping, UnknownEditionFilling}
+use Rattle.cluster.specs.Claims.Editions.{RoundsAtWidth, EditionOneWidens, RoundsConverted, SummaryConverted, KeepingConverted, FillingConverted}
 use Rattle.cluster.specs.Claims.Kept.{RefusedAltersNothing, RoundKeepsFile}
 use Rattle.cluster.specs.Claims.Mask.{BitsAreSenders, BitZeroNeverSet}
-use Rattle.cluster.specs.Claims.Pending.{MsaBecomesPending, StaysPending}
+use Rattle.cluster.specs.Claims.Pending.{MsaBecomesPending, StaysPending, EpochRaised}
 use Rattle.cluster.specs.Claims.Renaming.{BaptizingRenames, OnlyBaptizingRenames, NobodyRenamed}
 use Rattle.cluster.specs.Claims.Sleep.{DataWakes, MultipartnerWakes, AddressWakesNobody, SleepPutsToSleep, SleepSilent, SleeperKeepsFiles, SleepersSilent, AwakeAsAlone}
 use Rattle.cluster.specs.Claims.Summary.{MatchesExactly, RoundWithout, RoundsInOrder, RoundRefusedBy24, RefusedKeepsSummary, KeepingIsRound, RoundKeepsSummary, StillMatchesExactly, StillMatches, StillMatchesBaptized, NoBaptizingExactly, FillingMatches, FillingsRefused, FullReadings, QuestionIsFirst, QuestionIsReading, QuestionRefused}
@@ -11,8 +12,9 @@ use Rattle.cluster.specs.Claims.Writes.{UnnamedTakeWrites, NameRecordWri
 use Rattle.cluster.specs.Claims.Written.{AddressSentAsWritten, DataSentAsWritten, FireworkAlone}
 use Rattle.cluster.proofs.Cases.{round-cases}
 use Rattle.cluster.proofs.Rounds.{round-edition, round-refused, round-keeps-file}
+use Rattle.cluster.proofs.Editions.{rounds-at-width, edition-one-widens, rounds-converted, summary-converted, keeping-converted, filling-converted}
 use Rattle.cluster.proofs.Mask.{bits-are-senders, bit-zero-never-set}
-use Rattle.cluster.proofs.StaysPending.{msa-becomes-pending, stays-pending}
+use Rattle.cluster.proofs.StaysPending.{msa-becomes-pending, stays-pending, epoch-raised}
 use Rattle.cluster.proofs.Renaming.{baptizing-renames, only-baptizing-renames, nobody-renamed}
 use Rattle.cluster.proofs.SummaryLaws.{matches-exactly}
 use Rattle.cluster.proofs.Keeping.{keeping-edition, round-without, rounds-in-order, round-refused-by-24, keeping-refused, keeping-is-round, round-keeps-summary, still-matches-exactly, still-matches, still-matches-baptized, no-baptizing-exactly}
@@ -46,6 +48,9 @@ held-msa-becomes-pending = msa-becomes-pending
 
 pub held-stays-pending : StaysPending
 held-stays-pending = stays-pending
+
+pub held-epoch-raised : EpochRaised
+held-epoch-raised = epoch-raised
 
 pub held-baptizing-renames : BaptizingRenames
 held-baptizing-renames = baptizing-renames
@@ -157,3 +162,21 @@ held-sleepers-silent = sleepers-silent
 
 pub held-awake-as-alone : AwakeAsAlone
 held-awake-as-alone = awake-as-alone
+
+pub held-rounds-at-width : RoundsAtWidth
+held-rounds-at-width = rounds-at-width
+
+pub held-edition-one-widens : EditionOneWidens
+held-edition-one-widens = edition-one-widens
+
+pub held-rounds-converted : RoundsConverted
+held-rounds-converted = rounds-converted
+
+pub held-summary-converted : SummaryConverted
+held-summary-converted = summary-converted
+
+pub held-keeping-converted : KeepingConverted
+held-keeping-converted = keeping-converted
+
+pub held-filling-converted : FillingConverted
+held-filling-converted = filling-converted

@@ -214,6 +214,7 @@ module _ (f : Slave → Slave) (keeps : (s : Slave) → SlaveKept s (f s)) where
         shape = map-shape (c .slaves);
         names = map-names (c .slaves);
         legal = λ l. record {
+          width = l .width;
           edition = l .edition;
           count = rw (← shape-count (map-shape (c .slaves))) (l .count);
           pending = pending-slaves c (map f (c .slaves)) (l .pending);

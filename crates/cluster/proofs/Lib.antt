@@ -3,7 +3,6 @@
 
 -- the bus: mask and buffer of any sender rule
 pub mod Bus
-pub mod BytesBelow
 pub mod Mask
 -- what a round keeps, what it leaves alone, and the laws of the round definition
 pub mod Kept
@@ -50,6 +49,8 @@ pub mod Sent
 pub mod SentAsWritten
 pub mod SentRounds
 pub mod FrameCall
+-- both editions
+pub mod Editions
 -- the answers are told apart
 pub mod Distinct
 -- each claim with its theorem

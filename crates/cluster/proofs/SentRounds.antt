@@ -161,7 +161,7 @@ module _ (c : Cluster) (s : Sent) (may : MaySend s) where
   unfolding frameOn asked
   address-after = rw address-round (unfold effectOf addressSent addressFrame addressBytes frameOf in refl)
 
-  address-sent-bytes : Bytes (addressSent c s)
+  pub address-sent-bytes : Bytes (addressSent c s)
   unfolding addressSent
   address-sent-bytes =
       let o = may .operation in

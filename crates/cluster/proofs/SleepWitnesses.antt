@@ -5,6 +5,7 @@ use native.Mathlib.Omega.{arith}
 use mathlib.Core.Path.{_≡_, refl}
 use mathlib.Core.List.{List, [], _∷_}
 use lib.ListN.{replicate}
+use Rattle.file.specs.Rules.Layout.{widthOf}
 use Rattle.file.specs.Rules.Order.{firstOf, both, either}
 use Rattle.file.specs.Rules.Results.{done}
 use Rattle.file.specs.Rules.Bytes.{numberOf, bytesOf, part, allZero, Bytes}
@@ -22,7 +23,7 @@ use Rattle.cluster.specs.Rules.Round.{effectOf, frameOn, roundGround, ro
 use Rattle.cluster.specs.Claims.Cases.{dataRound}
 use Rattle.cluster.specs.Claims.Writes.{slaveIn}
 use Rattle.cluster.specs.Claims.Sleep.{AllAwake, PutsToSleep, MayFallAsleep, awakeAlone, AnswersFor, whereAwake}
-use Rattle.cluster.proofs.BytesBelow.{allBelow, bytes-below}
+use Rattle.file.proofs.BytesBelow.{allBelow, bytes-below}
 use Rattle.cluster.proofs.Sleep.{sleep-puts-to-sleep, sleep-silent, sleeper-keeps-files, data-wakes, multipartner-wakes, address-wakes-nobody}
 use Rattle.cluster.proofs.AwakeAlone.{sleepers-silent, awake-as-alone}
 
@@ -55,7 +56,7 @@ data-bytes = bytes-below dataRound (unfold allBelow both in refl)
 
 -- `unfolding sleeps` below unfolds what stands here: a file's, buffer's and frame's grounds, and what the file holds
 sleeps : PutsToSleep before dataRound buffer 0x00
-unfolding before buffer twoSlaves fileGroundsAt firstOf both either wrongSize wrongMark wrongEdition wrongLength wrongHeader wrongPending noOperation broadcastRead allZero part numberOf offsetAt brokenLayout walkFile tableEnd walkSlaves andThen walkSlave goodTableEntry walkDirectory goodEntry fileSize endsAt lacksNeeded allHaveNeeded hasNeeded lastRecord decode decodeAt slavesAt slaveAt filesAt fileAt equalPhysicalNames hasRepeat isAmong physicalName bytesIn bytesAmong roundGround fileGrounds shortAnswer groundsOn roundBy roundOf roundIn wrongFrameLength writePending pb2Of
+unfolding widthOf before buffer twoSlaves fileGroundsAt firstOf both either wrongSize wrongMark wrongEdition wrongLength wrongHeader wrongPending noOperation broadcastRead allZero part numberOf offsetAt brokenLayout walkFile tableEnd walkSlaves andThen walkSlave goodTableEntry walkDirectory goodEntry fileSize endsAt lacksNeeded allHaveNeeded hasNeeded lastRecord decode decodeAt slavesAt slaveAt filesAt fileAt equalPhysicalNames hasRepeat isAmong physicalName bytesIn bytesAmong roundGround fileGrounds shortAnswer groundsOn roundBy roundOf roundIn wrongFrameLength writePending pb2Of
 sleeps = record { isMsd = refl; accepted = refl; pending = record { isFlag = refl; isName = refl; isPB2 = refl; isPB3 = refl } }
 
 -- the first falls asleep

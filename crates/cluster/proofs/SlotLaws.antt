@@ -13,6 +13,7 @@ use Rattle.file.specs.Rules.Cluster.{Cluster, isAwake, bytesIn, logicalName, co
 use Rattle.file.specs.Rules.Decode.{decode}
 use Rattle.file.specs.Inner.Places.{slavesRoom, slaveOf, filePlace, SameShape}
 use Rattle.file.specs.Inner.Accepted.{Becomes, AcceptedFile}
+use Rattle.file.proofs.Width.{few-slaves}
 use Rattle.file.proofs.Shape.{shape-count}
 use Rattle.file.proofs.AtWidth.{shape-filePlace}
 use Rattle.file.proofs.ReaderLaws.{becomes-decoded}
@@ -148,7 +149,7 @@ module _ {passed : Entry → Bool} {f : List ℕ} {round count slot n bus : ℕ}
           let r = h .ready in
           record {
             ready = record { becomes = r .becomes; low = r .low; all = r .all; files = open-set (r .files) n (omega (arith, there, r .becomes .legal .count)) open-from-there };
-            hearing = slot-hearing-next (h .hearing) there does (r .becomes .legal .count) byte any aim;
+            hearing = slot-hearing-next (h .hearing) there does (few-slaves (decode f) (r .becomes .legal)) byte any aim;
           }
 
   -- what `store` asks

@@ -1,6 +1,6 @@
 -- What is pending: an accepted MSA sets it, and nothing else does.
 -- Assumes nothing.
-use Prim.Native.Nat.{ℕ, zero, suc}
+use Prim.Native.Nat.{ℕ, zero, suc, _+_, _%_}
 use mathlib.Core.Path.{_≡_, refl, sym, _∙_, subst}
 use mathlib.Core.Logic.{_≢_}
 use mathlib.Core.List.{List, [], _∷_}
@@ -14,12 +14,12 @@ use Rattle.file.specs.Rules.Changes.{withSlaves, withEpoch, withPending}
 use Rattle.file.proofs.Order.{byCase}
 use Rattle.frame.specs.Rules.Fireworks.{Round, multipartner, msd, msa, noRound}
 use Rattle.cluster.specs.Rules.Bus.{slots}
-use Rattle.cluster.specs.Rules.Slaves.{withAddress, epochRaised, Duty, nothing, slavesAfter, rested}
+use Rattle.cluster.specs.Rules.Slaves.{withAddress, nextEpoch, epochRaised, Duty, nothing, slavesAfter, rested}
 use Rattle.cluster.specs.Rules.Entries.{Entry}
 use Rattle.cluster.specs.Rules.Multipartner.{receivedIn, sentIn, clusterBelow}
 use Rattle.cluster.specs.Rules.Grounds.{roundBy}
 use Rattle.cluster.specs.Rules.Round.{passedOver, effectOf, frameOn, roundGround, roundOn}
-use Rattle.cluster.specs.Claims.Pending.{fileAfter, AcceptedMsa, noCalls, oneMore, Pending, Addressed, MsaBecomesPending, StaysPending}
+use Rattle.cluster.specs.Claims.Pending.{fileAfter, AcceptedMsa, noCalls, oneMore, Pending, Addressed, MsaBecomesPending, StaysPending, RaisesEpoch, byMsd, byMultipartner, EpochRaised}
 use Rattle.cluster.proofs.Rounds.{round-refused, round-becomes, round-bytes}
 
 -- the same is pending in both
@@ -105,3 +105,27 @@ stays-pending file (c ∷ cs) fb (allNext rb rest) (oneMore none later) =
     alike-trans (decode file) (decode now) (decode (fileAfter now cs))
     (call-alike file (c .frame) (c .buffer) fb rb none)
     (stays-pending now cs (round-bytes file (c .frame) (c .buffer) fb rb) rest later)
+
+-- ---- the epoch
+
+received-epoch : (passed : Entry → Bool) (round slot : ℕ) (c : Cluster) (sent : List ℕ) → receivedIn passed round slot c sent .epoch ≡ c .epoch
+unfolding receivedIn withSlaves
+received-epoch passed round slot c [] = refl
+received-epoch passed round slot c (b ∷ bs) = refl
+
+below-epoch : (passed : Entry → Bool) (round : ℕ) (c : Cluster) (n : ℕ) → clusterBelow passed round c n .epoch ≡ c .epoch
+unfolding clusterBelow
+below-epoch passed round c zero = refl
+below-epoch passed round c (suc n) =
+    received-epoch passed round n (clusterBelow passed round c n) (sentIn passed round n (clusterBelow passed round c n)) ∙ below-epoch passed round c n
+
+effect-epoch : (c : Cluster) (round : Round) (frame : List ℕ) → RaisesEpoch round → effectOf c round frame .after .epoch ≡ (c .epoch + 1) % 256
+unfolding effectOf rested slavesAfter withSlaves epochRaised withEpoch nextEpoch
+effect-epoch c msd frame byMsd = refl
+effect-epoch c (multipartner r) frame byMultipartner = below-epoch (passedOver c) r (epochRaised c) slots
+
+pub epoch-raised : EpochRaised
+unfolding frameOn
+epoch-raised file frame buffer fb rb accepted raises =
+    let new = round-becomes file frame buffer fb rb accepted in
+    subst (λ (d : Cluster). d .epoch ≡ (decode file .epoch + 1) % 256) (sym (new .decoded)) (effect-epoch (decode file) (roundBy frame) frame raises)

@@ -1,5 +1,5 @@
 -- Statements of theorems: the sender mask, what stays pending, frames sent as they were written, which bytes a write puts, who is renamed,
--- the summary of job 8, who sleeps and wakes, what a frame leaves, an unknown edition, and the cases M6 to M9.
+-- the summary of job 8, who sleeps and wakes, what a frame leaves, an unknown edition, both editions, and the cases M6 to M9.
 pub mod Mask
 pub mod Pending
 pub mod Written
@@ -9,4 +9,5 @@ pub mod Summary
 pub mod Sleep
 pub mod Kept
 pub mod Edition
+pub mod Editions
 pub mod Cases

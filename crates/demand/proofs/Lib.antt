@@ -16,5 +16,8 @@ pub mod SleepExamples
 -- the summary over the C calls
 pub mod Summary
 pub mod SummaryExamples
+-- both editions over the C calls
+pub mod Editions
+pub mod EditionExamples
 -- each claim with its theorem
 pub mod Claimed

@@ -8,6 +8,7 @@ use mathlib.Core.Path.{_≡_, refl, sym, ap, _∙_, subst}
 use mathlib.Core.List.{List, [], _∷_, map}
 use mathlib.Core.Bool.{true, false}
 use lib.ListN.{replicate}
+use Rattle.file.specs.Rules.Layout.{widthOf}
 use Rattle.file.specs.Rules.Bytes.{Bytes, All, allEmpty, allNext, numberOf, part, allZero}
 use Rattle.file.specs.Rules.Order.{firstOf, both, either}
 use Rattle.file.specs.Rules.Cluster.{Slave, noOperation, broadcastRead, bytesAmong, bytesIn, lastRecord, physicalName, logicalName}
@@ -34,7 +35,7 @@ use Rattle.naming.specs.Claims.Demand.{startOn}
 use Rattle.naming.specs.Claims.PermittedRounds.{noRounds, multipartnerNext, SentBy, noFrames, oneMore}
 use Rattle.naming.specs.Claims.Sleep.{wakesByFrame}
 use Rattle.naming.specs.Claims.Cases.{answerBuffer}
-use Rattle.cluster.proofs.BytesBelow.{allBelow, bytes-below}
+use Rattle.file.proofs.BytesBelow.{allBelow, bytes-below}
 use Rattle.naming.proofs.Sleep.{no-round-wakes-nobody}
 use Rattle.naming.proofs.Unasked.{step-unasked, frame-unasked}
 use Rattle.naming.proofs.Witnesses.{sleeper, sleeper-bytes, sleeper-accepted, sleeper-sleeps, one-name, one-name-accepted, first-accepted}
@@ -59,7 +60,7 @@ unfolding oneData brokenTrace wholeRows dataPlace frameCount dataLength offsetIn
 trace-runs = none-holds sleeper oneData sleeper-accepted refl
 
 data-taken : sentGround sleeper (0x49 ∷ []) ≡ 0
-unfolding sleeper fileGround fileGroundAt fileGroundsAt firstOf both either wrongSize wrongMark wrongEdition wrongLength wrongHeader wrongPending noOperation broadcastRead allZero part numberOf offsetAt brokenLayout walkFile tableEnd walkSlaves andThen walkSlave goodTableEntry walkDirectory goodEntry fileSize endsAt lacksNeeded allHaveNeeded hasNeeded lastRecord decode decodeAt slavesAt slaveAt filesAt fileAt equalPhysicalNames hasRepeat isAmong physicalName bytesIn bytesAmong roundGround fileGrounds shortAnswer frameGround groundsOn roundBy roundOf roundIn noFirework wrongLengthOn lengthFor writePending frames.wrongFrameLength wrongCheckOn noOperationOn broadcastReadOn pendingDuty dutyBy executionOf
+unfolding widthOf sleeper fileGround fileGroundAt fileGroundsAt firstOf both either wrongSize wrongMark wrongEdition wrongLength wrongHeader wrongPending noOperation broadcastRead allZero part numberOf offsetAt brokenLayout walkFile tableEnd walkSlaves andThen walkSlave goodTableEntry walkDirectory goodEntry fileSize endsAt lacksNeeded allHaveNeeded hasNeeded lastRecord decode decodeAt slavesAt slaveAt filesAt fileAt equalPhysicalNames hasRepeat isAmong physicalName bytesIn bytesAmong roundGround fileGrounds shortAnswer frameGround groundsOn roundBy roundOf roundIn noFirework wrongLengthOn lengthFor writePending frames.wrongFrameLength wrongCheckOn noOperationOn broadcastReadOn pendingDuty dutyBy executionOf
 data-taken = refl
 
 nothing-pending : NoSleep sleeper (0x49 ∷ [])

@@ -16,6 +16,7 @@ use Rattle.file.specs.Rules.Results.{numberIn}
 use Rattle.file.specs.Rules.Cluster.{Cluster, logicalName, logicalNames}
 use Rattle.file.specs.Rules.Decode.{decode}
 use Rattle.file.specs.Rules.Grounds.{fileGround}
+use Rattle.file.proofs.Width.{few-slaves}
 use Rattle.file.proofs.Accepted.{accepted-legal}
 use Rattle.file.proofs.Order.{byCase, clash}
 use Rattle.file.proofs.Results.{file-most}
@@ -322,7 +323,7 @@ filled-and-asked file held count fb returns calls ks name place =
     let n = fillCall file held count .1 in
     let m = kept-by-calls file (fillCall file held count .2) n calls fb ks (filled .matches) .0 in
     let after = allMade n file (fillCall file held count .2) calls in
-    let most = accepted-legal file fb (filled .accepted) .count in
+    let most = few-slaves (decode file) (accepted-legal file fb (filled .accepted)) in
     let few : length (decode (after .0) .slaves) ≤ nobodyPlace =
     unfold nobodyPlace in omega (arith, most, matched-size file (filled .matches), matched-size (after .0) m) in
     asked (after .0) (after .1) n name place m few

@@ -6,6 +6,7 @@ use native.Mathlib.Omega.{arith}
 use mathlib.Core.Path.{_≡_, refl, sym, _∙_}
 use mathlib.Core.List.{List, [], _∷_}
 use lib.ListN.{length}
+use Rattle.file.specs.Rules.Layout.{widthOf}
 use Rattle.file.specs.Rules.Bytes.{Bytes, All.allEmpty, All.allNext as also, numberOf, part}
 use Rattle.file.specs.Rules.Order.{firstOf, both, either}
 use Rattle.file.specs.Rules.Results.{numberIn}
@@ -22,7 +23,7 @@ use Rattle.cluster.proofs.Holders.{filling-matches}
 use Rattle.naming.specs.Rules.Run.{fresh, startGround, namesGrounds, unfitName}
 use Rattle.naming.specs.Claims.Files.{m10File}
 use Rattle.naming.specs.Claims.Cases.{answerBuffer}
-use Rattle.cluster.proofs.BytesBelow.{allBelow, bytes-below}
+use Rattle.file.proofs.BytesBelow.{allBelow, bytes-below}
 use Rattle.naming.proofs.Examples.{m10-accepted}
 use Rattle.ttpa.specs.Rules.Calls.{fillCall, startCall, wordsOf, positionIn, roundCall, roundKeepingCall}
 use Rattle.demand.specs.Claims.Calls.{CCall, ttpaStepKeeping, ttpaRound, ttpaStep, given-step, given-step-keeping, given-frame, memoryAfter, afterCalls, started, CallsDemand, is-step, is-step-keeping}
@@ -34,7 +35,7 @@ use Rattle.demand.proofs.Summary.{filled-and-asked, rounds-with-summary
 -- ---- the file of M10, whose two slaves have no name
 
 m10-names : namesOf m10File ≡ 0xFF ∷ 0xFF ∷ []
-unfolding m10File logicalNames decode decodeAt slavesAt slaveAt filesAt fileAt fileSize offsetAt part numberOf logicalName bytesIn bytesAmong
+unfolding m10File logicalNames decode widthOf decodeAt slavesAt slaveAt filesAt fileAt fileSize offsetAt part numberOf logicalName bytesIn bytesAmong
 m10-names = refl
 
 m10-count : length (decode m10File .slaves) ≡ 2

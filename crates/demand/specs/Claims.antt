@@ -1,5 +1,6 @@
 -- Statements of theorems: demand 3 over lists with traces and over the C calls, the lists that it permits there, a step and a trace as
--- calls of ttpa_round, what stays pending, who is renamed and who is awake over lists of calls, and the summary over the C calls.
+-- calls of ttpa_round, what stays pending, who is renamed and who is awake over lists of calls, the summary and both editions over the C
+-- calls.
 pub mod Traces
 pub mod Calls
 pub mod Permitted
@@ -9,3 +10,4 @@ pub mod Pending
 pub mod Renaming
 pub mod Sleep
 pub mod Summary
+pub mod Editions

@@ -1,5 +1,5 @@
--- What the cluster file's checker accepts, in edition 1: exactly the encodings of legal clusters. Encoding and decoding are inverse to
--- each other between legal clusters and accepted files.
+-- What the cluster file's checker accepts, in either edition: exactly the encodings of legal clusters. Encoding and decoding are inverse
+-- to each other between legal clusters and accepted files.
 -- Assumes nothing.
 use Prim.Native.Nat.{ℕ}
 use native.Mathlib.Omega.{arith}
@@ -8,46 +8,52 @@ use mathlib.Core.Logic.{_↔_}
 use mathlib.Core.Bool.{false}
 use borrow.Author.Tests.{eqb-true, eqb-false}
 use lib.Dec.{eqb}
-use Rattle.file.specs.Rules.Layout.{offsetWidth}
+use Rattle.file.specs.Rules.Layout.{widthIn, widthOf}
 use mathlib.Core.List.{List}
 use Rattle.file.specs.Rules.Bytes.{Bytes}
 use Rattle.file.specs.Rules.Cluster.{Cluster, logicalNames}
-use Rattle.file.specs.Rules.Encode.{encode}
-use Rattle.file.specs.Rules.Decode.{decode}
-use Rattle.file.specs.Rules.Legal.{Legal, Distinct}
+use Rattle.file.specs.Rules.Encode.{encodeAt, encode}
+use Rattle.file.specs.Rules.Decode.{decodeAt, decode}
+use Rattle.file.specs.Rules.Legal.{LegalAt, Legal, Distinct}
 use Rattle.file.specs.Rules.Grounds.{fileGround, heldNames, equalLogicalNames, loadGround, loadVerdict}
 use Rattle.file.specs.Claims.Accepted.{AcceptedExactly, LoadedExactly, FileGroundsFirst, ClusterComesBack, FileComesBack}
 use Rattle.file.specs.Inner.Accepted.{Becomes}
 use Rattle.file.proofs.Order.{byCase}
 use Rattle.file.proofs.Results.{load-first, load-last, load-file, load-names, file-most, result-done, result-refused, no-ground, that-ground}
 use Rattle.file.proofs.AcceptedFacts.{no-repeat, distinct-no-repeat}
-use Rattle.file.proofs.Width.{edition1}
+use Rattle.file.proofs.Width.{file-width, width-back}
 use Rattle.file.proofs.RoundTrip
 
 -- a legal cluster comes back from its encoding
 pub decode-encode : ClusterComesBack
 unfolding decode encode
-decode-encode c l = RoundTrip.decode-encode edition1 c l
+decode-encode c l = rw (RoundTrip.width-encoded (l .width) c) (RoundTrip.decode-encode c l)
 
 -- the encoding of a legal cluster is accepted
 pub encode-accepted : (c : Cluster) → Legal c → fileGround (encode c) ≡ 0
 unfolding fileGround encode
-encode-accepted c l = RoundTrip.encode-accepted edition1 c l
+encode-accepted c l = rw (RoundTrip.width-encoded (l .width) c) (RoundTrip.encode-accepted c l)
 
 -- and it is bytes
 pub encode-bytes : (c : Cluster) → Legal c → Bytes (encode c)
 unfolding encode
-encode-bytes c l = RoundTrip.encode-bytes edition1 c l
+encode-bytes c l = RoundTrip.encode-bytes c l
+
+-- the edition of what a file holds is that of its width
+pub decoded-width : (f : List ℕ) → widthIn (decode f .edition) ≡ widthOf f
+unfolding decode decodeAt
+decoded-width f = width-back (file-width f)
 
 -- an accepted file comes back from its cluster
 pub encode-decode : FileComesBack
 unfolding fileGround encode decode
-encode-decode f b g = RoundTrip.encode-decode edition1 f b g
+encode-decode f b g =
+    subst (λ (w : ℕ). encodeAt w (decode f) ≡ f) (sym (decoded-width f)) (RoundTrip.encode-decode (file-width f) f b g)
 
 -- and its cluster is legal
 pub accepted-legal : (f : List ℕ) → Bytes f → fileGround f ≡ 0 → Legal (decode f)
 unfolding fileGround decode
-accepted-legal f b g = RoundTrip.accepted-legal edition1 f b g
+accepted-legal f b g = subst (λ (w : ℕ). LegalAt w (decode f)) (sym (decoded-width f)) (RoundTrip.accepted-legal (file-width f) f b g)
 
 -- bytes are accepted exactly where they are the encoding of a legal cluster
 pub accepted-exactly : AcceptedExactly
@@ -67,7 +73,7 @@ accepted-becomes f b g =
 -- ---- on loading
 
 -- ground 22 of an accepted file, by its cluster
-held-once : (f : List ℕ) → (equalLogicalNames offsetWidth f ≡ false) ↔ Distinct (heldNames (logicalNames (decode f)))
+held-once : (f : List ℕ) → (equalLogicalNames (widthOf f) f ≡ false) ↔ Distinct (heldNames (logicalNames (decode f)))
 unfolding equalLogicalNames decode
 held-once f = (no-repeat _, distinct-no-repeat)
 
@@ -81,7 +87,7 @@ load-accepts f b = (
   λ (c, l, once, e).
       let g : fileGround f ≡ 0 = accepted-exactly f b .1 (c, l, e) in
       let is : decode f ≡ c = rw e (decode-encode c l) in
-      let names : equalLogicalNames offsetWidth f ≡ false = held-once f .1 (subst (λ (d : Cluster). Distinct (heldNames (logicalNames d))) (sym is) once) in
+      let names : equalLogicalNames (widthOf f) f ≡ false = held-once f .1 (subst (λ (d : Cluster). Distinct (heldNames (logicalNames d))) (sym is) once) in
       result-done (load-last f g ∙ rw names),
 )
 
@@ -101,7 +107,7 @@ file-grounds-first f =
   where
     held-twice : fileGround f ≡ 0 → (Distinct (heldNames (logicalNames (decode f))) → ⊥) → loadGround f ≡ 22
     held-twice g twice =
-        byCase (equalLogicalNames offsetWidth f)
+        byCase (equalLogicalNames (widthOf f) f)
         (λ t. load-last f g ∙ rw t)
         (λ t. absurd (twice (held-once f .0 t)))
 

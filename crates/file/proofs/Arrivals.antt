@@ -1,15 +1,16 @@
 -- A walk that arrives: it broke nowhere, took each step, and came upon as many entries as it walked. Whoever goes by a walk of the
 -- file cites these laws.
 -- Assumes nothing.
-use Prim.Native.Nat.{ℕ, zero, suc, _+_, _*_}
+use Prim.Native.Nat.{ℕ, zero, suc, _+_, _*_, _<_}
 use mathlib.Core.Path.{_≡_, refl, ap}
 use mathlib.Core.List.{List}
 use mathlib.Core.Bool.{Bool, true, false, cond}
 use native.Mathlib.Omega.{arith}
 use lib.ListN.{length, getD}
-use Rattle.file.specs.Rules.Layout.{entrySize}
+use lib.Dec.{leb}
+use Rattle.file.specs.Rules.Layout.{headerSize, entrySize}
 use Rattle.file.specs.Rules.Decode.{fileSize, filesAt, slavesAt}
-use Rattle.file.specs.Rules.Grounds.{Walk, andThen, goodEntry, walkDirectory, goodTableEntry, walkSlave, walkSlaves}
+use Rattle.file.specs.Rules.Grounds.{Walk, andThen, goodEntry, walkDirectory, goodTableEntry, walkSlave, walkSlaves, tableEnd, walkFile}
 use Rattle.file.proofs.Facts.{EntryFacts, entry-facts, TableEntryFacts, table-entry-facts}
 
 pub broken-arrives : {P : Type 0} {e : ℕ} → Walk.broken ≡ Walk.to e → P
@@ -62,6 +63,49 @@ unfolding walkSlaves
 slaves-took w f t place k e h =
     let (next, came, rest) = then-arrives (walkSlave w f t place) (λ (q : ℕ). walkSlaves w f (t + entrySize w) q k) h in
     record { middle = next; first = came; rest = rest }
+
+-- ---- each entry of a table and of a directory that was walked is good
+
+pub record PassedSlave (w : ℕ) (f : List ℕ) (t : ℕ) : Type 0 where
+  pub place : ℕ
+  pub end : ℕ
+  pub step : SlaveStep w f t place end
+
+pub record PassedFile (w : ℕ) (f : List ℕ) (d : ℕ) : Type 0 where
+  pub low : ℕ
+  pub place : ℕ
+  pub facts : EntryFacts w f d low place
+
+module _ (w : ℕ) (f : List ℕ) where
+  pub slave-passed : (t place n e : ℕ) → walkSlaves w f t place n ≡ Walk.to e → (i : ℕ) → i < n → PassedSlave w f (t + entrySize w * i)
+  slave-passed t place (suc n) e h zero l =
+      let step = slaves-took w f t place n e h in
+      let here : t + entrySize w * 0 ≡ t = omega arith in
+      rw here (record { place = place; end = step .middle; step = slave-took w f t place (step .middle) (step .first) })
+  slave-passed t place (suc n) e h (suc i) l =
+      let step = slaves-took w f t place n e h in
+      let there : t + entrySize w * suc i ≡ t + entrySize w + entrySize w * i = omega arith in
+      rw there (slave-passed (t + entrySize w) (step .middle) n e (step .rest) i (omega arith))
+
+  pub file-passed :
+      (d low place k e : ℕ)
+      → walkDirectory w f d low place k ≡ Walk.to e
+      → (j : ℕ)
+      → j < k
+      → PassedFile w f (d + entrySize w * j)
+  file-passed d low place (suc k) e h zero l =
+      let here : d + entrySize w * 0 ≡ d = omega arith in
+      rw here (record { low = low; place = place; facts = walk-took w f d low place k e h .facts })
+  file-passed d low place (suc k) e h (suc j) l =
+      let there : d + entrySize w * suc j ≡ d + entrySize w + entrySize w * j = omega arith in
+      rw there (file-passed (d + entrySize w) _ _ k e (walk-took w f d low place k e h .rest) j (omega arith))
+
+  -- of the whole file
+  pub table-passed : (e : ℕ) → walkFile w f ≡ Walk.to e → (i : ℕ) → i < getD f 3 0 → PassedSlave w f (headerSize w + entrySize w * i)
+  unfolding walkFile
+  table-passed e h =
+      let came = tested-arrives (leb (tableEnd w f) (length f)) (walkSlaves w f (headerSize w) (tableEnd w f) (getD f 3 0)) h in
+      slave-passed (headerSize w) (tableEnd w f) (getD f 3 0) e (came .1)
 
 -- ---- as many files and slaves as entries
 

@@ -1,86 +1,100 @@
 -- An accepted file at the offset width of its edition: what the laws over a width take, and what they give back.
 -- Assumes nothing.
-use Prim.Native.Nat.{ℕ, suc, _+_, _*_, _≤_}
+use Prim.Native.Nat.{ℕ, _+_, _*_, _≤_}
 use native.Mathlib.Omega.{arith}
-use mathlib.Core.Path.{_≡_, refl, sym, _∙_, ap}
-use mathlib.Core.List.{List, [], _∷_}
-use lib.ListN.{length}
-use Rattle.file.specs.Rules.Layout.{headerSize, maxLength}
-use Rattle.file.specs.Inner.Layout.{OffsetWidth, epochPlace}
+use mathlib.Core.Path.{_≡_, sym, _∙_, ap, subst}
+use mathlib.Core.Logic.{_≢_}
+use mathlib.Core.List.{List}
+use lib.ListN.{length, getD, List·getD-eq-default}
+use Rattle.file.specs.Rules.Layout.{widthIn, widthOf, headerSize, maxLength}
+use Rattle.file.specs.Inner.Layout.{epochPlace}
 use Rattle.file.specs.Rules.Cluster.{Cluster}
 use Rattle.file.specs.Rules.Encode.{encodeAt, encode}
 use Rattle.file.specs.Rules.Decode.{decodeAt, decode}
-use Rattle.file.specs.Rules.Legal.{LegalAt, Legal}
+use Rattle.file.specs.Rules.Legal.{LegalAt}
 use Rattle.file.specs.Rules.Grounds.{fileGroundAt, fileGround}
-use Rattle.file.specs.Rules.Changes.{withSlaves}
-use Rattle.file.specs.Inner.Places.{widthIn, filePlaceAt, filePlace, putByte, putBytes, SameShape}
+use Rattle.file.specs.Inner.Places.{filePlaceAt, filePlace, SameShape}
 use Rattle.file.specs.Inner.Accepted.{Becomes, AcceptedFile, WidthOf, EpochAt}
 use Rattle.file.proofs.AcceptedFacts.{accepted}
-use Rattle.file.proofs.Accepted.{legal-becomes}
+use Rattle.file.proofs.Width.{width-two, width-four, file-width, width-back}
+use Rattle.file.proofs.Accepted.{decoded-width, legal-becomes}
 use Rattle.file.proofs.Shape.{shape-filePlaceAt, shape-fileLength}
 use Rattle.file.proofs.Sizes.{encodeAt-length}
 
 -- the file is accepted at that width, and it is that cluster's one encoding
 pub record BecomesAt (w : ℕ) (f : List ℕ) (c : Cluster) : Type 0 where
-  pub width : OffsetWidth w
   pub accepted : fileGroundAt w f ≡ 0
   pub decoded : decodeAt w f ≡ c
   pub encoded : f ≡ encodeAt w c
   pub legal : LegalAt w c
 
--- ---- edition 1 is the only one, so the width is 2
+-- ---- the width of a file
 
--- the width of the edition of a legal cluster
-legal-two : (c : Cluster) → Legal c → widthIn (c .edition) ≡ 2
-legal-two c l = omega (arith, l .edition)
+pub edition-width : (f : List ℕ) → WidthOf f (widthOf f)
+edition-width f = record { is = sym (decoded-width f); width = file-width f }
 
-pub edition-width : (f : List ℕ) → WidthOf f 2
-unfolding decode decodeAt
-edition-width f = record { is = refl; width = record { least = omega arith; most = omega arith; even = refl } }
+-- as a reader finds it: there is no byte 2, it is not 2, or it is
+module _ {f : List ℕ} where
+  pub other-width : getD f 2 0 ≢ 2 → WidthOf f 2
+  other-width other = subst (WidthOf f) (width-two f other) (edition-width f)
 
-at-two : {f : List ℕ} {c : Cluster} → Becomes f c → BecomesAt 2 f c
-unfolding fileGround decode encode
-at-two {f} h =
-    record { width = edition-width f .width; accepted = h .accepted; decoded = h .decoded; encoded = h .encoded; legal = h .legal }
+  pub short-width : length f ≤ 2 → WidthOf f 2
+  short-width short = other-width (λ is. omega (arith, is, List·getD-eq-default f 0 short))
 
-file-two : {f : List ℕ} {w : ℕ} → WidthOf f w → w ≡ 2
-unfolding decode decodeAt
-file-two v = v .is
+  pub wide-width : getD f 2 0 ≡ 2 → WidthOf f 4
+  wide-width is = subst (WidthOf f) (width-four f is) (edition-width f)
 
 -- what a file is refused by and what it holds, at its width
-pub ground-at : {f : List ℕ} {w : ℕ} → WidthOf f w → fileGround f ≡ fileGroundAt w f
-unfolding fileGround
-ground-at v = rw (file-two v)
+module _ {f : List ℕ} {w : ℕ} (v : WidthOf f w) where
+  its-width : widthOf f ≡ w
+  its-width = sym (v .is ∙ decoded-width f)
 
-pub decode-at : {f : List ℕ} {w : ℕ} → WidthOf f w → decode f ≡ decodeAt w f
-unfolding decode
-decode-at v = rw (file-two v)
+  pub ground-at : fileGround f ≡ fileGroundAt w f
+  unfolding fileGround
+  ground-at = ap (λ (n : ℕ). fileGroundAt n f) its-width
+
+  pub decode-at : decode f ≡ decodeAt w f
+  unfolding decode
+  decode-at = ap (λ (n : ℕ). decodeAt n f) its-width
 
 -- ---- by the width of the edition
 
 -- an accepted file is so at the width of its cluster's edition
-pub becomes-in : {w : ℕ} {f : List ℕ} {c : Cluster} → w ≡ widthIn (c .edition) → Becomes f c → BecomesAt w f c
-becomes-in {c = c} is h = rw (is ∙ legal-two c (h .legal)) (at-two h)
-
 pub at-edition : {f : List ℕ} {c : Cluster} → Becomes f c → BecomesAt (widthIn (c .edition)) f c
-at-edition h = becomes-in refl h
+unfolding fileGround decode encode
+at-edition {f} {c} h =
+    let is : widthOf f ≡ widthIn (c .edition) = sym (decoded-width f) ∙ ap (λ (d : Cluster). widthIn (d .edition)) (h .decoded) in
+    record {
+      accepted = subst (λ (w : ℕ). fileGroundAt w f ≡ 0) is (h .accepted);
+      decoded = subst (λ (w : ℕ). decodeAt w f ≡ c) is (h .decoded);
+      encoded = h .encoded;
+      legal = h .legal;
+    }
+
+pub becomes-in : {w : ℕ} {f : List ℕ} {c : Cluster} → w ≡ widthIn (c .edition) → Becomes f c → BecomesAt w f c
+becomes-in {f = f} {c = c} is h = subst (λ (w : ℕ). BecomesAt w f c) (sym is) (at-edition h)
 
 -- which is that of the file
 pub becomes-at : {w : ℕ} {f : List ℕ} {c : Cluster} → WidthOf f w → Becomes f c → BecomesAt w f c
 becomes-at {c = c} v h = becomes-in (v .is ∙ ap (λ (d : Cluster). widthIn (d .edition)) (h .decoded)) h
 
--- the encoding of a legal cluster at its edition's width
-pub becomes-as : {w : ℕ} {f : List ℕ} {c : Cluster} → w ≡ widthIn (c .edition) → f ≡ encodeAt w c → Legal c → Becomes f c
+-- a legal cluster's edition is that of the width
+legal-width : {w : ℕ} {c : Cluster} → LegalAt w c → w ≡ widthIn (c .edition)
+legal-width l = sym (ap widthIn (l .edition) ∙ width-back (l .width))
+
+-- the encoding of a cluster that is legal at that width
+pub becomes-as : {w : ℕ} {f : List ℕ} {c : Cluster} → f ≡ encodeAt w c → LegalAt w c → Becomes f c
 unfolding encode
-becomes-as {w} {f} {c} is e l =
-    let two : w ≡ 2 = is ∙ legal-two c l in
-    rw (rw two at e) (legal-becomes c l)
+becomes-as {w} {f} {c} e l =
+    let is : w ≡ widthIn (c .edition) = legal-width l in
+    let here : f ≡ encode c = e ∙ ap (λ (v : ℕ). encodeAt v c) is in
+    subst (λ (g : List ℕ). Becomes g c) (sym here) (legal-becomes c (subst (λ (v : ℕ). LegalAt v c) is l))
 
 -- ---- what the header says
 
 module _ {w : ℕ} {f : List ℕ} {c : Cluster} (h : BecomesAt w f c) where
   pub width-in : w ≡ widthIn (c .edition)
-  width-in = omega (arith, h .legal .edition, h .width .even)
+  width-in = legal-width (h .legal)
 
   pub header-room-at : headerSize w ≤ length f
   header-room-at = accepted w f .0 (h .accepted) .size .low
@@ -96,24 +110,9 @@ epoch-at h v =
       low = omega (arith, v .width .most);
     }
 
--- ---- bytes put into files leave the edition
+-- ---- clusters of one edition and the same shape
 
-putByte-edition : (c : Cluster) (s n k b : ℕ) → putByte c s n k b .edition ≡ c .edition
-unfolding putByte withSlaves
-putByte-edition c s n k b = refl
-
-putBytes-edition : (c : Cluster) (s n k : ℕ) (bs : List ℕ) → putBytes c s n k bs .edition ≡ c .edition
-unfolding putBytes
-putBytes-edition c s n k [] = refl
-putBytes-edition c s n k (b ∷ bs) = putBytes-edition (putByte c s n k b) s n (suc k) bs ∙ putByte-edition c s n k b
-
-pub putByte-width : (c : Cluster) (s n k b : ℕ) → widthIn (c .edition) ≡ widthIn (putByte c s n k b .edition)
-putByte-width c s n k b = ap widthIn (sym (putByte-edition c s n k b))
-
-pub putBytes-width : (c : Cluster) (s n k : ℕ) (bs : List ℕ) → widthIn (c .edition) ≡ widthIn (putBytes c s n k bs .edition)
-putBytes-width c s n k bs = ap widthIn (sym (putBytes-edition c s n k bs))
-
--- the places of clusters of one edition and the same shape are the same
+-- their places are the same
 pub shape-filePlace : (c d : Cluster) → c .edition ≡ d .edition → SameShape (c .slaves) (d .slaves) → (s n : ℕ) → filePlace c s n ≡ filePlace d s n
 unfolding filePlace
 shape-filePlace c d edition same s n =
@@ -126,6 +125,6 @@ length-kept {f} {g} {c} {d} old new edition same =
     let before : BecomesAt w f c = at-edition old in
     let after : BecomesAt w g d = becomes-in (ap widthIn (sym edition)) new in
     ap length (after .encoded)
-    ∙ encodeAt-length (before .width .least) d
+    ∙ encodeAt-length (before .legal .width .least) d
     ∙ sym (shape-fileLength w same)
-    ∙ sym (ap length (before .encoded) ∙ encodeAt-length (before .width .least) c)
+    ∙ sym (ap length (before .encoded) ∙ encodeAt-length (before .legal .width .least) c)

@@ -119,3 +119,9 @@ replicate-allZero (b ∷ bs) z =
     byCase (eqb b 0)
     (λ e. let rest : allZero bs ≡ true = rw e at z in ap₂ (λ (x : ℕ) (y : List ℕ). x ∷ y) (eqb-true b 0 e) (replicate-allZero bs rest))
     (λ e. let none : false ≡ true = rw e at z in clash none refl)
+
+pub zero-at : (l : List ℕ) (k : ℕ) → allZero l ≡ true → getD l k 0 ≡ 0
+unfolding allZero
+zero-at [] k z = refl
+zero-at (b ∷ bs) zero z = byCase (eqb b 0) (λ e. eqb-true b 0 e) (λ e. clash (rw e at z) refl)
+zero-at (b ∷ bs) (suc k) z = byCase (eqb b 0) (λ e. zero-at bs k (rw e at z)) (λ e. clash (rw e at z) refl)

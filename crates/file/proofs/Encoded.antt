@@ -11,7 +11,7 @@ use lib.ListN.{length, getD}
 use lib.Dec.{leb}
 use borrow.Author.Tests.{leb-true, le-leb}
 use Rattle.file.specs.Rules.Bytes.{All, Bytes}
-use Rattle.file.specs.Rules.Layout.{editionOf, zerosLength, headerSize, entrySize, maxSlaves, maxLength}
+use Rattle.file.specs.Rules.Layout.{OffsetWidth, editionOf, zerosLength, headerSize, entrySize, maxSlaves, maxLength}
 use Rattle.file.specs.Inner.Layout.{epochPlace, flagPlace, pendingNamePlace, pendingPB2Place, pendingPB3Place}
 use Rattle.file.specs.Rules.Cluster.{Slave, Cluster}
 use Rattle.file.specs.Rules.Encode.{slavesBytes, table, slavesPlace, fileLength, header, encodeAt}
@@ -119,14 +119,15 @@ module _ {w : ℕ} (wide : Width w) where
           whole = whole;
         }
 
-    pub accepted-legal : Bytes f → Accepted w f → LegalAt w (decodeAt w f)
+    pub accepted-legal : OffsetWidth w → Bytes f → Accepted w f → LegalAt w (decodeAt w f)
     unfolding decodeAt
-    accepted-legal b a =
+    accepted-legal width b a =
         let e : Encoded w f (decodeAt w f) = accepted-encoded b a in
         let pending : PendingFits (getD f (flagPlace w) 0) (getD f (pendingNamePlace w) 0) (getD f (pendingPB2Place w) 0) =
         pending-fits _ _ _ .0 (a .header .pending)
         in
         record {
+          width = width;
           edition = refl;
           count = subst (λ (n : ℕ). n ≤ maxSlaves w) (e .header .count) (a .header .count);
           pending =

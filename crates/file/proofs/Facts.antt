@@ -1,7 +1,7 @@
 -- What each test of the grounds says of the bytes, both ways: a test that passes gives its facts, and its facts make it pass.
 -- Assumes nothing.
 use Prim.Native.Nat.{ℕ, zero, suc, _+_, _*_, _≤_, _<_}
-use mathlib.Core.Path.{_≡_, refl}
+use mathlib.Core.Path.{_≡_, refl, sym, _∙_}
 use mathlib.Core.List.{List, _∷_}
 use mathlib.Core.Bool.{Bool, true, false, not}
 use borrow.Author.Tests.{ltb-false, le-ltb, eqb-true, eq-eqb, not-false, leb-true, le-leb, lt-leb}
@@ -19,6 +19,7 @@ use Rattle.file.specs.Inner.Layout.{pendingPB2Place, zerosPlace}
 use Rattle.file.specs.Rules.Cluster.{noOperation}
 use Rattle.file.specs.Rules.Decode.{offsetAt, fileSize}
 use Rattle.file.specs.Rules.Grounds.{wrongSize, wrongMark, wrongEdition, wrongLength, wrongHeader, wrongPending, goodEntry, goodTableEntry}
+use Rattle.file.proofs.Bytes.{getD-part, zero-at}
 use Rattle.file.proofs.Order.{byCase, clash, both-left, both-right, both-true, either-false, either-false-left, either-false-right}
 
 -- a test that cannot be false is true, and the other way round
@@ -105,12 +106,6 @@ header-yes w f h =
     (either-false (not-yes (eq-eqb _ _ (h .table))) (either-false (not-yes (h .zeros)) (h .pending)))
 
 -- zeros, byte by byte
-pub zeros-first : (f : List ℕ) (at n : ℕ) → at < length f → allZero (part f at (suc n)) ≡ true → getD f at 0 ≡ 0
-unfolding part allZero
-zeros-first f at n h e =
-    let g : allZero (getD f at 0 ∷ part f (suc at) n) ≡ true = rw (drop-cons f at 0 h) at e in
-    byCase (eqb (getD f at 0) 0) (λ t. eqb-true _ _ t) (λ t. clash (rw t at g) refl)
-
 pub zeros-rest : (f : List ℕ) (at n : ℕ) → at < length f → allZero (part f at (suc n)) ≡ true → allZero (part f (suc at) n) ≡ true
 unfolding part allZero
 zeros-rest f at n h e =
@@ -183,12 +178,8 @@ table-entry-yes w f t place h =
     both-true (eq-eqb _ _ (h .offset)) (both-true (le-leb _ _ (h .sleeps)) (both-true (h .zeros) (le-leb _ _ (h .within))))
 
 -- zeros at every index, both ways
-pub zeros-at : (f : List ℕ) (at n k : ℕ) → at + n ≤ length f → k < n → allZero (part f at n) ≡ true → getD f (at + k) 0 ≡ 0
-zeros-at f at (suc n) zero h l e = rw (add-zero at) (zeros-first f at n (omega arith) e)
-zeros-at f at (suc n) (suc k) h l e =
-    let next : getD f (suc at + k) 0 ≡ 0 = zeros-at f (suc at) n k (omega arith) (omega arith) (zeros-rest f at n (omega arith) e) in
-    let same : at + suc k ≡ suc at + k = omega arith in
-    rw same next
+pub zeros-at : (f : List ℕ) (at n k : ℕ) → k < n → allZero (part f at n) ≡ true → getD f (at + k) 0 ≡ 0
+zeros-at f at n k few z = sym (getD-part f at n k few) ∙ zero-at (part f at n) k z
 
 pub zeros-from : (f : List ℕ) (at n : ℕ) → at + n ≤ length f → ((k : ℕ) → k < n → getD f (at + k) 0 ≡ 0) → allZero (part f at n) ≡ true
 zeros-from f at zero h z = zeros-none f at

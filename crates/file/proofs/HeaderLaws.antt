@@ -9,8 +9,7 @@ use borrow.Author.Tests.{lt-ltb, le-ltb, eq-eqb, ne-eqb, eqb-true, eqb-false}
 use lib.ListN.{length, getD}
 use lib.Dec.{eqb}
 use Rattle.file.specs.Rules.Order.{firstOf, either}
-use Rattle.file.specs.Rules.Layout.{pendingFlag}
-use Rattle.file.specs.Inner.Layout.{OffsetWidth}
+use Rattle.file.specs.Rules.Layout.{OffsetWidth, pendingFlag}
 use Rattle.file.specs.Rules.Cluster.{operationOf, noOperation, broadcastRead}
 use Rattle.file.specs.Rules.Bytes.{part, allZero}
 use Rattle.file.specs.Inner.Numbers.{ByteAt, NumberAt}
@@ -110,8 +109,7 @@ pub header-zero : (k : ℕ) {w : ℕ} {f : List ℕ} {b : ℕ} → k < 3 → Hea
 header-zero k {w} {f} {b} l long is h =
     let there : 9 + 2 * w + k ≡ 4 + 2 * w + (5 + k) = omega arith in
     let few : k < 2 * w - 1 = omega (arith, long .width .least) in
-    let room : 9 + 2 * w + (2 * w - 1) ≤ length f = omega (arith, long .room, long .width .least) in
-    sym (true-unless (λ e. h (is .is ∙ rw there at (zeros-at f (9 + 2 * w) (2 * w - 1) k room few (header-facts w f e .zeros)))))
+    sym (true-unless (λ e. h (is .is ∙ rw there at (zeros-at f (9 + 2 * w) (2 * w - 1) k few (header-facts w f e .zeros)))))
 
 -- the zeros beyond the first three
 zeros-behind : (w : ℕ) (f : List ℕ) → 2 ≤ w → 8 + 4 * w ≤ length f → allZero (part f (9 + 2 * w) (2 * w - 1)) ≡ true → allZero (part f (4 + 2 * w + 8) (2 * w - 4)) ≡ true

@@ -92,6 +92,7 @@ module _ {w : ℕ} where
   unfolding putByte withSlaves slaveOf withEpoch
   legal-putByte c s n k b differ byte legal =
       record {
+        width = legal .width;
         edition = legal .edition;
         count = rw (← shape-count (shape-putByte c s n k b)) (legal .count);
         pending = pending-same c (putByte c s n k b .slaves) (c .epoch) (legal .pending .epoch) (legal .pending);
@@ -110,12 +111,13 @@ module _ {w : ℕ} where
   pub legal-withPending : (c : Cluster) (flag name pb2 pb3 : ℕ) → LegalPending (withPending c flag name pb2 pb3) → LegalAt w c → LegalAt w (withPending c flag name pb2 pb3)
   unfolding withPending
   legal-withPending c flag name pb2 pb3 pending legal =
-      record { edition = legal .edition; count = legal .count; pending = pending; slaves = legal .slaves; names = legal .names; size = legal .size }
+      record { width = legal .width; edition = legal .edition; count = legal .count; pending = pending; slaves = legal .slaves; names = legal .names; size = legal .size }
 
   pub legal-withEpoch : (c : Cluster) (epoch : ℕ) → Byte epoch → LegalAt w c → LegalAt w (withEpoch c epoch)
   unfolding withEpoch withSlaves
   legal-withEpoch c epoch byte legal =
       record {
+        width = legal .width;
         edition = legal .edition;
         count = legal .count;
         pending = pending-same c (c .slaves) epoch byte (legal .pending);

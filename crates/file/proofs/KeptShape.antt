@@ -1,6 +1,6 @@
 -- What keeps a cluster legal: an update that leaves the slaves' shape, the header's legality and the physical names alone and puts
 -- bytes in its files. A layer above proves these of what it changes, and need not look at the layout again. Over the offset width w,
--- then in edition 1.
+-- then in the cluster's edition.
 -- Assumes nothing.
 use Prim.Native.Nat.{ℕ, _≤_}
 use native.Mathlib.Omega.{arith}
@@ -8,7 +8,7 @@ use mathlib.Core.Path.{_≡_, sym, _∙_, subst}
 use mathlib.Core.List.{List, map}
 use lib.ListN.{length}
 use Rattle.file.specs.Rules.Bytes.{All, Bytes}
-use Rattle.file.specs.Rules.Layout.{offsetWidth, maxSlaves, maxLength}
+use Rattle.file.specs.Rules.Layout.{widthIn, maxSlaves, maxLength}
 use Rattle.file.specs.Rules.Cluster.{File, Slave, Cluster, lastRecord, bytesIn, configuration, documentation, physicalName}
 use Rattle.file.specs.Rules.Encode.{encode}
 use Rattle.file.specs.Rules.Legal.{LegalFile, LegalSlave, LegalPending, LegalAt, Legal, Distinct}
@@ -77,6 +77,7 @@ pub record Keeps (c d : Cluster) : Type 0 where
 pub kept-legal-at : (w : ℕ) (c d : Cluster) → LegalAt w c → Keeps c d → LegalAt w d
 kept-legal-at w c d l k =
     record {
+      width = l .width;
       edition = k .edition ∙ l .edition;
       count = subst (λ (n : ℕ). n ≤ maxSlaves w) (shape-count (k .shape)) (l .count);
       pending = k .pending;
@@ -85,6 +86,6 @@ kept-legal-at w c d l k =
       size = subst (λ (n : ℕ). n ≤ maxLength w) (shape-fileLength w (k .shape)) (l .size);
     }
 
--- edition 1: the cluster stays legal, and its encoding is accepted and holds it
+-- in its edition: the cluster stays legal, and its encoding is accepted and holds it
 pub kept-legal : (c d : Cluster) → Legal c → Keeps c d → Becomes (encode d) d
-kept-legal c d l k = legal-becomes d (kept-legal-at offsetWidth c d l k)
+kept-legal c d l k = legal-becomes d (subst (λ (e : ℕ). LegalAt (widthIn e) d) (sym (k .edition)) (kept-legal-at (widthIn (c .edition)) c d l k))

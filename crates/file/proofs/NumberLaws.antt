@@ -13,7 +13,7 @@ use lib.Bits.{bitOr, or-shifted}
 use lib.Pow.{pow-add, shl-exact, shl-lt}
 use lib.ListN.{length, getD, drop, length-append, length-take, length-drop}
 use lib.Seq.{take-add, drop-drop, drop-cons}
-use Rattle.file.specs.Inner.Layout.{OffsetWidth}
+use Rattle.file.specs.Rules.Layout.{OffsetWidth}
 use Rattle.file.specs.Rules.Bytes.{numberOf, part, allZero}
 use Rattle.file.specs.Inner.Numbers.{ByteAt, NumberAt}
 use Rattle.file.proofs.Order.{byCase, clash}

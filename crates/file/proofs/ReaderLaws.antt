@@ -10,7 +10,7 @@ use lib.ListN.{length, getD}
 use lib.Dec.{eqb, leb}
 use Rattle.file.specs.Rules.Bytes.{numberOf, part}
 use Rattle.file.specs.Inner.Numbers.{ByteAt, NumberAt}
-use Rattle.file.specs.Rules.Layout.{headerSize, entrySize}
+use Rattle.file.specs.Rules.Layout.{widthIn, headerSize, entrySize}
 use mir.Syntax.{w64}
 use mir.Val.{Fits}
 use Rattle.file.specs.Rules.Cluster.{File, Cluster, lastRecord, bytesAmong, bytesIn, hasRecord, configuration, documentation, logicalName, physicalName, comparisonValue}
@@ -19,7 +19,7 @@ use Rattle.file.specs.Rules.Decode.{offsetAt, fileSize, filesAt, slaveAt
 use Rattle.file.specs.Rules.Decode
 use Rattle.file.specs.Rules.Legal.{LegalSlave}
 use Rattle.file.specs.Rules.Grounds.{to, walkDirectory, walkSlave, walkSlaves, walkFile, tableEnd}
-use Rattle.file.specs.Inner.Places.{noSlave, slaveOf, widthIn, placeAmong, filePlaceFrom, filePlaceAt, filePlace, configurationIndex, documentationIndex}
+use Rattle.file.specs.Inner.Places.{noSlave, slaveOf, placeAmong, filePlaceFrom, filePlaceAt, filePlace, configurationIndex, documentationIndex}
 use Rattle.file.specs.Inner.Accepted.{Becomes, WidthOf, slaveCount, Placed, FoundFile, fileFound, FoundRecord, recordAt, findFile, findRecord}
 use Rattle.file.specs.Inner.Checked.{EntriesFit, searchDirectory}
 use Rattle.file.proofs.Order.{byCase}
@@ -60,7 +60,7 @@ module _ {f : List ℕ} {c : Cluster} (h : Becomes f c) (s : ℕ) where
   documentation-room l = last-room 2 _ (omega arith) (slave-legal l .documented)
 
   wide : 2 ≤ widthIn (c .edition)
-  wide = at-edition h .width .least
+  wide = at-edition h .legal .width .least
 
   -- a file's bytes lie within the accepted file, and are read at its place
   pub place-within : (n : ℕ) → 0 < length (bytesIn (slaveOf c s) n) → filePlace c s n + length (bytesIn (slaveOf c s) n) ≤ length f
@@ -256,7 +256,7 @@ slave-there w f t place (suc k) e (suc s) h l =
 
 -- the most bytes of either width: enough for places to be numbers of the machine
 pub length-limit : {f : List ℕ} → Becomes f (decode f) → length f ≤ 65536
-length-limit h = let b = at-edition h in omega (arith, length-at b, b .width .most)
+length-limit h = let b = at-edition h in omega (arith, length-at b, b .legal .width .most)
 
 pub header-within : {f : List ℕ} → Becomes f (decode f) → 3 < length f
 header-within h = omega (arith, header-room-at (at-edition h))
@@ -304,7 +304,7 @@ module _ {w : ℕ} {f : List ℕ} {c : Cluster} (h : BecomesAt w f c) where
       entries-fit : EntriesFit w f d k
       entries-fit =
           let took = slave-took w f (headerSize w + 2 * w * s) (there .at) (there .end) (there .walk) in
-          record { width = h .width; within = room-moved w (length f) directory-is (count .is) (took .facts .within); short = length-at h }
+          record { width = h .legal .width; within = room-moved w (length f) directory-is (count .is) (took .facts .within); short = length-at h }
 
       files-there : slaveOf c s .files ≡ filesAt w f d k
       unfolding slaveOf slaveAt

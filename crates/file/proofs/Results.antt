@@ -10,7 +10,7 @@ use lib.Dec.{eqb}
 use borrow.Author.Tests.{eqb-true, eqb-false, eq-eqb, ne-eqb}
 use Rattle.file.specs.Rules.Bytes.{All, allEmpty, allNext}
 use Rattle.file.specs.Rules.Order.{firstOf}
-use Rattle.file.specs.Rules.Layout.{offsetWidth}
+use Rattle.file.specs.Rules.Layout.{widthOf}
 use Rattle.file.specs.Rules.Cluster.{logicalNames}
 use Rattle.file.specs.Rules.Decode.{decode}
 use Rattle.file.specs.Rules.Grounds.{fileGroundsAt, fileGroundAt, fileGrounds, fileGround, hasRepeat, heldNames, equalLogicalNames, loadGround}
@@ -40,7 +40,7 @@ module _ (f : List ℕ) where
   unfolding loadGround
   load-first some = joined-here (fileGrounds f) _ (file-numbered f) (λ z. some (sym (file-first f) ∙ z)) ∙ file-first f
 
-  pub load-last : fileGround f ≡ 0 → loadGround f ≡ cond (equalLogicalNames offsetWidth f) 22 0
+  pub load-last : fileGround f ≡ 0 → loadGround f ≡ cond (equalLogicalNames (widthOf f) f) 22 0
   unfolding loadGround firstOf
   load-last none = joined-next (fileGrounds f) _ (file-numbered f) (file-first f ∙ none)
 
@@ -48,9 +48,9 @@ module _ (f : List ℕ) where
   unfolding loadGround
   load-file none = sym (file-first f) ∙ joined-left (fileGrounds f) _ (file-numbered f) none
 
-  pub load-names : loadGround f ≡ 0 → equalLogicalNames offsetWidth f ≡ false
+  pub load-names : loadGround f ≡ 0 → equalLogicalNames (widthOf f) f ≡ false
   unfolding loadGround
-  load-names none = first-none 21 (equalLogicalNames offsetWidth f) [] (joined-right (fileGrounds f) _ (file-numbered f) none) .0
+  load-names none = first-none 21 (equalLogicalNames (widthOf f) f) [] (joined-right (fileGrounds f) _ (file-numbered f) none) .0
 
   -- the same by the names of the decoded cluster, for the layers above: 22 exactly where a name other than 0xFF is held twice
   pub load-twice : fileGround f ≡ 0 → loadGround f ≡ cond (hasRepeat (heldNames (logicalNames (decode f)))) 22 0

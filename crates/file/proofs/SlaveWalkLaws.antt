@@ -1,7 +1,7 @@
 -- The walk of the slaves, step by step: what a loop along the table keeps, and one law for each way through a turn.
 -- Assumes nothing.
 use Prim.Native.Nat.{ℕ, zero, suc, _+_, _*_, _-_, _≤_, _<_}
-use mathlib.Core.Path.{_≡_, refl, sym, _∙_}
+use mathlib.Core.Path.{_≡_, refl, sym, _∙_, subst}
 use mathlib.Core.List.{List, [], _∷_, _++_, append-nil, append-assoc}
 use mathlib.Core.Bool.{Bool, true, false}
 use native.Mathlib.Omega.{arith}
@@ -102,7 +102,25 @@ pub directory-arrives : {w : ℕ} {f : List ℕ} {d k : ℕ} {good : Bool} {end 
 unfolding walkOf
 directory-arrives {end = end} h e = record { end = end; walk = sym (rw e at (h .walk)) }
 
--- and its entries fit
+-- the width as a literal: it is 2, or 4
+module _ {w : ℕ} {f : List ℕ} {d k : ℕ} (fit : EntriesFit w f d k) where
+  other-is : (w ≡ 2 → ⊥) → w ≡ 4
+  other-is other = omega (arith, fit .width .least, fit .width .most, fit .width .even)
+
+  pub narrow-fits : w ≡ 2 → EntriesFit 2 f d k
+  narrow-fits two = subst (λ (v : ℕ). EntriesFit v f d k) two fit
+
+  pub wide-fits : (w ≡ 2 → ⊥) → EntriesFit 4 f d k
+  wide-fits other = subst (λ (v : ℕ). EntriesFit v f d k) (other-is other) fit
+
+  module _ {good : Bool} {end conf doc : ℕ} where
+    pub narrow-walked : w ≡ 2 → FilesWalked 2 f d k good end conf doc → FilesWalked w f d k good end conf doc
+    narrow-walked two h = subst (λ (v : ℕ). FilesWalked v f d k good end conf doc) (sym two) h
+
+    pub wide-walked : (w ≡ 2 → ⊥) → FilesWalked 4 f d k good end conf doc → FilesWalked w f d k good end conf doc
+    wide-walked other h = subst (λ (v : ℕ). FilesWalked v f d k good end conf doc) (sym (other-is other)) h
+
+-- the entries of a slave's directory fit
 pub directory-fits : {w : ℕ} {f : List ℕ} {t : ℕ} (place n : ℕ) → EntriesFit w f t 1 → place + 2 * w * n ≤ length f → EntriesFit w f place n
 directory-fits place n fit h = record { width = fit .width; within = h; short = fit .short }
 

@@ -113,6 +113,7 @@ legal-putSleep {w} c s b few legal =
       broadcastRead = legal .pending .broadcastRead;
     } in
     record {
+      width = legal .width;
       edition = legal .edition;
       count = rw (← shape-count (shape-putSleep c s b)) (legal .count);
       pending = pending;

@@ -2,7 +2,7 @@
 -- Assumes nothing.
 use Prim.Native.Nat.{ℕ, _+_, _*_, _≤_, _<_}
 use native.Mathlib.Omega.{arith}
-use mathlib.Core.Path.{_≡_, refl, ap, _∙_}
+use mathlib.Core.Path.{_≡_, ap, _∙_}
 use mathlib.Core.Logic.{_≢_}
 use mathlib.Core.Bool.{true}
 use mathlib.Core.List.{List}
@@ -11,17 +11,17 @@ use lib.Seq.{sets}
 use Rattle.file.specs.Rules.Bytes.{Byte, Bytes}
 use mir.Syntax.{w64}
 use mir.Val.{Fits}
-use Rattle.file.specs.Rules.Layout.{recordSize}
+use Rattle.file.specs.Rules.Layout.{widthIn, recordSize}
 use Rattle.file.specs.Inner.Layout.{logicalNamePlace, epochPlace, flagPlace, pendingNamePlace, pendingPB2Place, pendingPB3Place}
 use Rattle.file.specs.Rules.Cluster.{Cluster, fileNumberOf, operationOf, bytesIn, configuration, documentation, newLogicalName, hasRecord}
 use Rattle.file.specs.Rules.Decode.{decode, decodeAt}
 use Rattle.file.specs.Rules.Legal.{LegalPending}
-use Rattle.file.specs.Inner.Places.{slaveOf, widthIn, filePlace, configurationIndex, putByte, putBytes}
+use Rattle.file.specs.Inner.Places.{slaveOf, filePlace, configurationIndex, putByte, putBytes}
 use Rattle.file.specs.Rules.Changes.{withEpoch, withPending}
 use Rattle.file.specs.Inner.Accepted.{Becomes, AcceptedFile, EpochAt, slaveCount, Placed, PendingIs}
 use Rattle.file.proofs.Stores.{store-byte, store-bytes}
 use Rattle.file.proofs.Puts.{hasRecord-fits}
-use Rattle.file.proofs.AtWidth.{BecomesAt, at-edition, becomes-as, putByte-width, putBytes-width}
+use Rattle.file.proofs.AtWidth.{BecomesAt, at-edition, becomes-as}
 use Rattle.file.proofs.HeaderStores.{store-epoch, store-pending}
 use Rattle.file.proofs.Kept.{legal-putByte, legal-putBytes, legal-withEpoch, legal-withPending}
 use Rattle.file.proofs.Accepted.{encode-bytes}
@@ -88,14 +88,14 @@ module _ {f : List ℕ} {at : ℕ} (h : AcceptedFile f) (e : EpochAt f at) where
   unfolding withEpoch
   becomes-epoch {b} byte =
       rw (e .is)
-      (becomes-as refl (ap (λ (l : List ℕ). set l (epochPlace w) b) (here .encoded) ∙ store-epoch w (decode f) b) (legal-withEpoch (decode f) b byte (h .legal)))
+      (becomes-as (ap (λ (l : List ℕ). set l (epochPlace w) b) (here .encoded) ∙ store-epoch w (decode f) b) (legal-withEpoch (decode f) b byte (h .legal)))
 
   pub becomes-pending : (flag name pb2 pb3 : ℕ) {byte : ℕ} → byte ≡ pb2 → LegalPending (withPending (decode f) flag name pb2 pb3) →
       Becomes (set (set (set (set f (at + 1) flag) (at + 2) name) (at + 3) byte) (at + 4) pb3) (withPending (decode f) flag name pb2 pb3)
   unfolding withPending
   becomes-pending flag name pb2 pb3 same p =
       rw (flag-at, name-at, pb2-at, pb3-at, same)
-      (becomes-as refl
+      (becomes-as
       (ap (λ (l : List ℕ). set (set (set (set l (flagPlace w) flag) (pendingNamePlace w) name) (pendingPB2Place w) pb2) (pendingPB3Place w) pb3) (here .encoded)
       ∙ store-pending w (decode f) flag name pb2 pb3)
       (legal-withPending (decode f) flag name pb2 pb3 p (h .legal)))
@@ -104,19 +104,19 @@ module _ {f : List ℕ} {at : ℕ} (h : AcceptedFile f) (e : EpochAt f at) where
 
 module _ {f : List ℕ} {c : Cluster} (h : Becomes f c) where
   wide : 2 ≤ widthIn (c .edition)
-  wide = at-edition h .width .least
+  wide = at-edition h .legal .width .least
 
   pub becomes-byte : (s n k b : ℕ) → n ≢ documentation → Byte b → k < length (bytesIn (slaveOf c s) n) → Becomes (set f (filePlace c s n + k) b) (putByte c s n k b)
   unfolding filePlace
   becomes-byte s n k b differ byte inside =
-      becomes-as (putByte-width c s n k b)
+      becomes-as
       (ap (λ (l : List ℕ). set l (filePlace c s n + k) b) (at-edition h .encoded) ∙ store-byte wide s n c k b inside) (legal-putByte c s n k b differ byte (h .legal))
 
   pub becomes-record : (s n r : ℕ) {bs : List ℕ} → n ≢ documentation → Bytes bs → length bs ≤ recordSize → hasRecord (slaveOf c s) n r ≡ true →
       Becomes (sets f (filePlace c s n + recordSize * r) bs) (putBytes c s n (recordSize * r) bs)
   unfolding filePlace
   becomes-record s n r {bs} differ bytes most has =
-      becomes-as (putBytes-width c s n (recordSize * r) bs)
+      becomes-as
       (ap (λ (l : List ℕ). sets l (filePlace c s n + recordSize * r) bs) (at-edition h .encoded)
       ∙ store-bytes wide s n c (recordSize * r) bs (omega (arith, hasRecord-fits (slaveOf c s) n r has)))
       (legal-putBytes c s n (recordSize * r) differ bytes (h .legal))

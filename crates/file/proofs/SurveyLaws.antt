@@ -10,8 +10,7 @@ use lib.Dec.{leb, eqb}
 use lib.ListN.{length, getD, take}
 use lib.Seq.{getD-take}
 use Rattle.file.specs.Rules.Order.{firstOf}
-use Rattle.file.specs.Rules.Layout.{editionOf, headerSize, entrySize, maxSlaves, maxLength}
-use Rattle.file.specs.Inner.Layout.{OffsetWidth}
+use Rattle.file.specs.Rules.Layout.{widthIn, OffsetWidth, editionOf, headerSize, entrySize, maxSlaves, maxLength}
 use Rattle.file.specs.Rules.Bytes.{All, Bytes}
 use mir.Syntax.{w64}
 use mir.Val.{Fits}
@@ -21,7 +20,7 @@ use Rattle.file.specs.Rules.Decode.{slavesAt, decodeAt}
 use Rattle.file.specs.Rules.Results.{refused, done, resultOf}
 use Rattle.file.specs.Rules.Grounds.{to, walkSlaves, tableEnd, walkFile, brokenLayout, lacksNeeded, equalPhysicalNames, isAmong, hasRepeat, fileGroundAt, fileGround}
 use Rattle.file.specs.Rules.Encode.{slavesPlace}
-use Rattle.file.specs.Inner.Places.{widthIn, filePlaceAt, filePlace, placesEach}
+use Rattle.file.specs.Inner.Places.{filePlaceAt, filePlace, placesEach}
 use Rattle.file.specs.Inner.Accepted.{PlacesOf, WidthOf}
 use Rattle.file.specs.Inner.Checked.{EntriesFit, GoodHeader, HeaderChecked, PlacesFit, statedPlaces, documentationPlaces, walkOf, SlavesWalked, WholeWalk, BodyWalked, slavesGround, NameStands, namesAt, NamesStand}
 use Rattle.file.specs.Inner.Surveyed.{Surveyed}

@@ -1,6 +1,6 @@
-// The numbers of the layout (document 01, "The cluster file"): those of edition 1, and what they are over the width of an offset. The
-// layers above take what they need of them by name: the size of a record, how many bytes a file may have, the flag of a pending
-// operation.
+// The numbers of the layout (document 01, "The cluster file"; document 02, job 10), over the width of an offset: 2 bytes in edition 1, 4 in
+// edition 2. The layers above take what they need of them by name: the size of a record, how many bytes a file may have, the flag of a
+// pending operation.
 use crate::types::RecordNumber;
 
 // "Header, 16 bytes: 0 to 1 the mark 0x54 0x41; 2 the edition, 1; 3 the slave count, 0 to 32; 4 to 5 the offset of the slave table, 16;
@@ -22,8 +22,13 @@ pub const TABLE_PLACE: usize = 4;
 // The bytes of an offset in edition 1: an edition's number is its width by this one.
 pub const OFFSET_WIDTH: usize = 2;
 
+// "In edition 2 offsets and length have 4 bytes"
+pub const WIDE_EDITION: u8 = 2;
+
+pub const WIDE_OFFSET_WIDTH: usize = 4;
+
 // The header over the width: 8 bytes and four offsets. The table's offset and the file's length stand behind the slave count, then the
-// epoch; the fields behind that, counted from it. Edition 1 has three zeros.
+// epoch; the fields behind that, counted from it. Edition 1 has three zeros, edition 2 seven.
 pub const HEADER_BYTES: usize = 8;
 
 pub const HEADER_OFFSETS: usize = 4;
@@ -46,7 +51,8 @@ pub const ZERO_FIELD_2: usize = 7;
 
 pub const MORE_ZEROS_FIELD: usize = 8;
 
-// "the slave count, 0 to 32", "longer than 32,768 bytes": 16 slaves and 16,384 bytes for each byte of an offset.
+// "the slave count, 0 to 32", "longer than 32,768 bytes"; "the limits are 64 slaves and 65,536 bytes": 16 slaves and 16,384 bytes for each
+// byte of an offset.
 pub const MOST_SLAVES_BY_WIDTH: usize = 16;
 
 pub const LONGEST_BY_WIDTH: usize = 16384;
@@ -61,6 +67,22 @@ pub const ENTRY_OFFSETS: usize = 2;
 pub const SLEEP_FIELD: usize = 1;
 
 pub const TABLE_FILL_FIELD: usize = 2;
+
+// An entry in each edition.
+pub const ENTRY_SIZE: usize = ENTRY_OFFSETS * OFFSET_WIDTH;
+
+pub const WIDE_ENTRY_SIZE: usize = ENTRY_OFFSETS * WIDE_OFFSET_WIDTH;
+
+// The first slave's sleep byte in each edition: behind the header, an offset and a file count.
+pub const SLEEP_PLACE: usize = HEADER_BYTES
+    + HEADER_OFFSETS * OFFSET_WIDTH
+    + OFFSET_WIDTH
+    + SLEEP_FIELD;
+
+pub const WIDE_SLEEP_PLACE: usize = HEADER_BYTES
+    + HEADER_OFFSETS * WIDE_OFFSET_WIDTH
+    + WIDE_OFFSET_WIDTH
+    + SLEEP_FIELD;
 
 // "The zero at the end of a table entry becomes 0 awake or 1 asleep." (document 02, job 9)
 pub const AWAKE: u8 = 0;
@@ -79,8 +101,8 @@ pub const FILE_NUMBERS: usize = 64;
 
 pub const LEAST_RECORD: usize = 1;
 
-// "longer than 32,768 bytes"
-pub const LONGEST: usize = LONGEST_BY_WIDTH * OFFSET_WIDTH;
+// The longest file of either edition: 65,536 bytes.
+pub const LONGEST: usize = LONGEST_BY_WIDTH * WIDE_OFFSET_WIDTH;
 
 // "A file is 4(r + 1) bytes, records 0x00 to r"
 pub const RECORD_SIZE: usize = 4;

@@ -1,8 +1,9 @@
 // Bytes and several-byte numbers of a file or a trace, most significant byte first.
 ghost use Prim.Native.Nat.{_+_, _≤_, _<_};
 ghost use lib.ListN.{length};
+ghost use Rattle.file.specs.Rules.Layout.{OffsetWidth};
 ghost use Rattle.file.specs.Inner.Numbers.{ByteAt, NumberAt};
-ghost use Rattle.file.specs.Inner.Layout.{OffsetWidth, shortWidth, longWidth};
+ghost use Rattle.file.specs.Inner.Layout.{shortWidth, longWidth};
 use crate::layout::OFFSET_WIDTH;
 
 // The byte at a place, as an index.

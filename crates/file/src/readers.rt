@@ -13,7 +13,9 @@ ghost use Rattle.file.specs.Inner.Answers.{foundFile, foundRecord};
 use crate::layout::AWAKE;
 use crate::layout::COMPARISON_VALUE_PLACE;
 use crate::layout::COUNT_PLACE;
+use crate::layout::EDITION_PLACE;
 use crate::layout::ENTRY_OFFSETS;
+use crate::layout::ENTRY_SIZE;
 use crate::layout::EPOCH_OFFSETS;
 use crate::layout::FLAG_FIELD;
 use crate::layout::HEADER_BYTES;
@@ -28,8 +30,12 @@ use crate::layout::PENDING_PB3_FIELD;
 use crate::layout::PHYSICAL_NAME_PLACE;
 use crate::layout::RECORD_COUNT_PLACE;
 use crate::layout::RECORD_SIZE;
-use crate::layout::SLEEP_FIELD;
+use crate::layout::SLEEP_PLACE;
 use crate::layout::TABLE_PLACE;
+use crate::layout::WIDE_EDITION;
+use crate::layout::WIDE_ENTRY_SIZE;
+use crate::layout::WIDE_OFFSET_WIDTH;
+use crate::layout::WIDE_SLEEP_PLACE;
 use crate::numbers::byte_at;
 use crate::numbers::offset_at;
 use crate::numbers::u64_at;
@@ -42,11 +48,17 @@ use crate::types::PLACES_EACH;
 use crate::types::RecordNumber;
 use crate::types::SlavePlaces;
 
-// The bytes of an offset in a file, by its edition: there is one, edition 1.
+// The bytes of an offset in a file, by its edition: "edition 2's .. if byte 2 is present and is 2, otherwise those of edition 1".
 pub fn width_of(file: &[u8]) -> usize
     ensures { λ r. ⌜ WidthOf (now (file .entry)) r ⌝ }
 {
-    OFFSET_WIDTH
+    if file.len() <= EDITION_PLACE {
+        return OFFSET_WIDTH;
+    }
+    if file[EDITION_PLACE] != WIDE_EDITION {
+        return OFFSET_WIDTH;
+    }
+    WIDE_OFFSET_WIDTH
 }
 
 // Where the header keeps the epoch. The pending operation stands behind it.
@@ -106,14 +118,16 @@ pub fn logical_name(file: &[u8], places: &SlavePlaces, slave: usize) -> LogicalN
     LogicalName::new(file[at])
 }
 
-// Where the slave table keeps a slave's sleep byte: behind its directory's offset and its file count.
+// Where the slave table keeps a slave's sleep byte: behind its directory's offset and its file count. Each width as a literal, since a round
+// asks it of every slave: an accepted file has a third byte, and the place is a sum.
 pub fn sleep_place(file: &[u8], slave: usize) -> usize
     requires { ⌜ AcceptedFile (now file) × (slave < slaveCount (now file)) ⌝ }
     ensures { λ r. ⌜ SleepAt (now (file .entry)) slave r ⌝ }
 {
-    let width = width_of(file);
-    let first = HEADER_BYTES + HEADER_OFFSETS * width + width + SLEEP_FIELD;
-    first + ENTRY_OFFSETS * width * slave
+    if file[EDITION_PLACE] == WIDE_EDITION {
+        return WIDE_SLEEP_PLACE + WIDE_ENTRY_SIZE * slave;
+    }
+    SLEEP_PLACE + ENTRY_SIZE * slave
 }
 
 // Whether a slave is awake.
@@ -199,18 +213,28 @@ fn search_directory(
     FilePlace::NoFile
 }
 
-// Where a slave keeps a file, or that it has none.
-pub fn find_file(file: &[u8], slave: usize, number: FileNumber) -> FilePlace
-    requires { ⌜ AcceptedFile (now file) × (slave < slaveCount (now file)) ⌝ }
+// Where a slave keeps a file, or that it has none, at the file's width.
+fn find_file_at(file: &[u8], width: usize, slave: usize, number: FileNumber) -> FilePlace
+    requires { ⌜ AcceptedFile (now file) × WidthOf (now file) width × (slave < slaveCount (now file)) ⌝ }
     ensures { λ r. ⌜ foundFile r ≡ findFile (decode (now (file .entry))) slave (fileIn number) ⌝ }
 {
-    let width = width_of(file);
     let table = HEADER_BYTES + HEADER_OFFSETS * width;
     let size = ENTRY_OFFSETS * width;
     let entry = table + size * slave;
     let directory = offset_at(file, width, entry);
     let count = byte_at(file, entry + width);
     search_directory(file, width, directory, count, number.0 as usize)
+}
+
+// The same, each width as a literal, since a round asks it of every slave.
+pub fn find_file(file: &[u8], slave: usize, number: FileNumber) -> FilePlace
+    requires { ⌜ AcceptedFile (now file) × (slave < slaveCount (now file)) ⌝ }
+    ensures { λ r. ⌜ foundFile r ≡ findFile (decode (now (file .entry))) slave (fileIn number) ⌝ }
+{
+    if file[EDITION_PLACE] == WIDE_EDITION {
+        return find_file_at(file, WIDE_OFFSET_WIDTH, slave, number);
+    }
+    find_file_at(file, OFFSET_WIDTH, slave, number)
 }
 
 // Where a slave keeps a record of a file, or that it has none.

@@ -1,8 +1,8 @@
 // The checker: grounds 1 to 8, with where each slave keeps 0x08 and 0x3D; and 22, on loading.
 ghost use mathlib.Core.Path.{_≡_};
+ghost use Rattle.file.specs.Rules.Layout.{OffsetWidth};
 ghost use Rattle.file.specs.Rules.Cluster.{logicalNames};
 ghost use Rattle.file.specs.Rules.Decode.{decode};
-ghost use Rattle.file.specs.Inner.Layout.{OffsetWidth};
 ghost use Rattle.file.specs.Rules.Grounds.{isAmong, hasRepeat, heldNames, loadVerdict};
 ghost use Rattle.file.specs.Inner.Checked.{GoodHeader, BodyWalked, PlacesFit, WholeWalk, slavesGround};
 ghost use Rattle.file.specs.Inner.Accepted.{Placed};
@@ -14,11 +14,11 @@ use crate::layout::COUNT_PLACE;
 use crate::layout::ENTRY_OFFSETS;
 use crate::layout::HEADER_BYTES;
 use crate::layout::HEADER_OFFSETS;
-use crate::layout::OFFSET_WIDTH;
 use crate::names::equal_names;
 use crate::numbers::byte_at;
 use crate::readers::logical_names;
 use crate::readers::slave_count;
+use crate::readers::width_of;
 use crate::types::PLACES;
 use crate::types::PLACES_EACH;
 use crate::types::Refusal;
@@ -85,14 +85,15 @@ pub fn survey(file: &[u8], places: &mut SlavePlaces) -> FileAnswer
 {
     // The whole file as a slice of its own: then its place and its length are handed over in registers.
     let bytes = &file[..];
-    let ground = header_ground(bytes, OFFSET_WIDTH);
+    let width = width_of(bytes);
+    let ground = header_ground(bytes, width);
     if ground != 0 {
         return FileAnswer::Refused(Refusal(ground));
     }
-    if !walk_body(bytes, OFFSET_WIDTH, places) {
+    if !walk_body(bytes, width, places) {
         return FileAnswer::Refused(Refusal::LAYOUT);
     }
-    let last = slaves_ground(bytes, OFFSET_WIDTH, places);
+    let last = slaves_ground(bytes, width, places);
     if last != 0 {
         return FileAnswer::Refused(Refusal(last));
     }

@@ -109,10 +109,14 @@ impl Refusal {
     pub const MULTIPLEXED_SEND: Refusal = Refusal(23);
 
     pub const SUMMARY: Refusal = Refusal(24);
+
+    pub const EDITION_LIMITS: Refusal = Refusal(25);
+
+    pub const CONVERSION_BUFFER: Refusal = Refusal(26);
 }
 
-// The slaves that an array has room for.
-pub const SLAVES_ROOM: usize = 32;
+// The slaves that an array has room for: the most of either edition.
+pub const SLAVES_ROOM: usize = 64;
 
 // Where the slaves keep 0x08 and 0x3D, in the order of the slave table: a slave's two places together, that of 0x08 first.
 pub const PLACES_EACH: usize = 2;

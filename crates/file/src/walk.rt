@@ -4,8 +4,7 @@ ghost use Prim.Native.Nat.{_+_, _*_, _-_, _≤_};
 ghost use lib.ListN.{length};
 ghost use Rattle.file.specs.Inner.Numbers.{ByteAt};
 ghost use Rattle.file.specs.Rules.Bytes.{part, allZero};
-ghost use Rattle.file.specs.Rules.Layout.{headerSize, maxLength};
-ghost use Rattle.file.specs.Inner.Layout.{OffsetWidth};
+ghost use Rattle.file.specs.Rules.Layout.{OffsetWidth, headerSize, maxLength};
 ghost use Rattle.file.specs.Inner.Typed.{fileIn};
 ghost use Rattle.file.specs.Inner.Places.{placesEach};
 ghost use Rattle.file.specs.Inner.Checked.{EntriesFit, nextEntry, fitsSoFar, states, statedPlace, Arrives, DirectoryWalked, FilesWalked, SlaveWalked, SlavesWalked};
@@ -23,6 +22,7 @@ use crate::layout::RECORD_COUNT_PLACE;
 use crate::layout::RECORD_SIZE;
 use crate::layout::SLEEP_FIELD;
 use crate::layout::TABLE_FILL_FIELD;
+use crate::layout::WIDE_OFFSET_WIDTH;
 use crate::numbers::byte_at;
 use crate::numbers::offset_at;
 use crate::numbers::u16_at;
@@ -187,7 +187,7 @@ const BROKEN: SlaveWalk = SlaveWalk {
 };
 
 // The files of the directory at a place that the running place has come to, and where it states 0x08 and 0x3D.
-fn walk_files(file: &[u8], width: usize, directory: usize, count: usize) -> SlaveWalk
+fn walk_files_at(file: &[u8], width: usize, directory: usize, count: usize) -> SlaveWalk
     requires { ⌜ EntriesFit width (now file) directory count ⌝ }
     ensures { λ r. ⌜ FilesWalked width (now (file .entry)) directory count (r .good) (r .end) (r .configuration) (r .documentation) ⌝ }
 {
@@ -215,6 +215,17 @@ fn walk_files(file: &[u8], width: usize, directory: usize, count: usize) -> Slav
             NEEDED_DOCUMENTATION,
         ),
     }
+}
+
+// The same with the width as a literal in each call: the compiler then writes the walk once for each edition, with its numbers.
+fn walk_files(file: &[u8], width: usize, directory: usize, count: usize) -> SlaveWalk
+    requires { ⌜ EntriesFit width (now file) directory count ⌝ }
+    ensures { λ r. ⌜ FilesWalked width (now (file .entry)) directory count (r .good) (r .end) (r .configuration) (r .documentation) ⌝ }
+{
+    if width == OFFSET_WIDTH {
+        return walk_files_at(file, OFFSET_WIDTH, directory, count);
+    }
+    walk_files_at(file, WIDE_OFFSET_WIDTH, directory, count)
 }
 
 // The slave of a table entry, its directory at the running place.

@@ -1,4 +1,4 @@
-// Document 01's cluster file against the checker and the readers: the edges of each ground, their order, and vectors of an
+// The cluster file in both editions against the checker and the readers: the edges of each ground, their order, and vectors of an
 // independent model. A line of the input is `check FILE` or `readers FILE`, each with a LENGTH where zeros follow up to it.
 // After the first stands the number of the answer, 0 where the file is accepted; after the second how many slaves there are and
 // what the readers say, slave by slave.
@@ -15,8 +15,8 @@ use describe::describe;
 use file::survey::FileAnswer;
 use file::survey::check;
 
-// One byte more than the longest file.
-const FILE: usize = 32769;
+// One byte more than the longest file of either edition.
+const FILE: usize = 65537;
 
 fn checked(file: &[u8]) {
     let answer = check(file);

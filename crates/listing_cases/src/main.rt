@@ -10,7 +10,7 @@ use case_input::show::text;
 use listing_text::run::list;
 
 fn listing(case: &[u8]) {
-    let mut file = [0u8; 32769];
+    let mut file = [0u8; 65537];
     let mut listed = [0u8; 10499];
     let size = filled(case, &mut file);
     let written = list(&mut file[..size], &mut listed);

@@ -17,6 +17,8 @@ use Rattle.file.specs.Rules.Decode.{decode}
 use Rattle.file.specs.Rules.Grounds.{fileGround, loadGround}
 use Rattle.file.proofs.Results.{load-first, load-file}
 use Rattle.file.specs.Rules.Legal.{Legal}
+use Rattle.file.specs.Inner.Places.{slavesRoom}
+use Rattle.file.proofs.Width.{few-slaves}
 use Rattle.file.proofs.Edition.{unknown-edition, refused-edition}
 use Rattle.file.proofs.Accepted.{accepted-legal}
 use Rattle.file.proofs.Order.{byCase, clash, both-true, both-false-right}
@@ -325,11 +327,11 @@ module _ (file : List ℕ) (b : Bytes file) (g : fileGround file ≡ 0) where
         among = omega arith;
       }
 
-  -- a file has at most 32 slaves, so the extra read, 136 rounds for each, 4 that end the run and one for each of 254 names are enough
+  -- a file has at most 64 slaves, so the extra read, 136 rounds for each, 4 that end the run and one for each of 254 names are enough
   rounds-most : roundsFor slaves allNames ≤ mostSteps
   unfolding namesIn
   rounds-most =
-      let m : length (decode file .slaves) ≤ 32 = legal .count in
+      let m : length (decode file .slaves) ≤ slavesRoom = few-slaves (decode file) legal in
       omega (
         arith,
         sym (rounds-whole slaves allNames),

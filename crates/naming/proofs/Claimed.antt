@@ -2,13 +2,14 @@
 use Rattle.naming.specs.Claims.Cases.{MarkedCases}
 use Rattle.naming.specs.Claims.Demand.{DemandThree}
 use Rattle.naming.specs.Claims.Edition.{UnknownEditionStep, UnknownEditionStepKeeping}
+use Rattle.naming.specs.Claims.Editions.{StepsConverted, StepsKeepingConverted, AllCallsConverted, AllTurnsConverted, DemandConverted}
 use Rattle.naming.specs.Claims.Passes.{PassesCounted, PassesMade}
 use Rattle.naming.specs.Claims.Renaming.{BaptizingStepRenames, OnlyBaptizingStepsRename, StaysLoadable}
 use Rattle.naming.specs.Claims.Summary.{StepWithout, StepsInOrder, StepRefusedBy24, RefusedStepKeepsSummary, KeepingIsStep, StepKeepsSummary, StepStillMatches, StepStillMatchesBaptized, CallsKeepSummary, FilledAndKept, GivenMakesNoDifference}
 use Rattle.naming.specs.Claims.Throughout.{Throughout}
 use Rattle.naming.specs.Claims.Permitted.{PermittedExactly}
 use Rattle.naming.specs.Claims.PermittedRounds.{RoundsFit, EachMultipartner, MayNotAskExactly, BarredMsa, LoneMsa, LoneMsd}
-use Rattle.naming.specs.Claims.StepFrames.{StepsAreFrames}
+use Rattle.naming.specs.Claims.StepFrames.{StepsAreFrames, EndedAltersNothing}
 use Rattle.naming.specs.Claims.RoundsMade.{MakesExtra, MovesOn, Stands}
 use Rattle.naming.specs.Claims.Sleep.{StepWakes, NoRoundWakesNobody, StaysAwake, CountedAwake}
 use Rattle.naming.proofs.Cases.{marked-cases}
@@ -18,11 +19,13 @@ use Rattle.naming.proofs.Passes.{passes-counted}
 use Rattle.naming.proofs.Renaming.{baptizing-step-renames, only-baptizing-steps-rename}
 use Rattle.naming.proofs.Summaries.{step-without, steps-in-order, step-refused-by-24, refused-step-keeps-summary, keeping-is-step, step-keeps-summary, step-still-matches, step-still-matches-baptized, calls-keep-summary, filled-and-kept}
 use Rattle.naming.proofs.StepKeeping.{step-keeping-edition}
+use Rattle.naming.proofs.Editions.{steps-converted, steps-keeping-converted, all-calls-converted, all-turns-converted, demand-converted}
 use Rattle.naming.proofs.Unasked.{given-makes-no-difference}
 use Rattle.naming.proofs.HeldOnce.{stays-loadable}
 use Rattle.naming.proofs.PermittedExactly.{permitted-exactly}
 use Rattle.naming.proofs.PermittedRounds.{rounds-fit, each-multipartner, may-not-ask-exactly, barred-msa, lone-msa, lone-msd}
 use Rattle.naming.proofs.StepFrames.{steps-are-frames}
+use Rattle.naming.proofs.StepLaws.{ended-alters-nothing}
 use Rattle.naming.proofs.RoundsMade.{makes-extra, moves-on, stands}
 use Rattle.naming.proofs.PassRounds.{passes-made}
 use Rattle.naming.proofs.Sleep.{step-wakes, no-round-wakes-nobody, stays-awake, counted-awake}
@@ -74,6 +77,9 @@ held-lone-msd = lone-msd
 
 pub held-steps-are-frames : StepsAreFrames
 held-steps-are-frames = steps-are-frames
+
+pub held-ended-alters-nothing : EndedAltersNothing
+held-ended-alters-nothing = ended-alters-nothing
 
 pub held-makes-extra : MakesExtra
 held-makes-extra = makes-extra
@@ -134,3 +140,18 @@ held-stays-awake = stays-awake
 
 pub held-counted-awake : CountedAwake
 held-counted-awake = counted-awake
+
+pub held-steps-converted : StepsConverted
+held-steps-converted = steps-converted
+
+pub held-steps-keeping-converted : StepsKeepingConverted
+held-steps-keeping-converted = steps-keeping-converted
+
+pub held-all-calls-converted : AllCallsConverted
+held-all-calls-converted = all-calls-converted
+
+pub held-all-turns-converted : AllTurnsConverted
+held-all-turns-converted = all-turns-converted
+
+pub held-demand-converted : DemandConverted
+held-demand-converted = demand-converted

@@ -5,6 +5,7 @@ use mathlib.Core.Path.{_≡_, refl, ap, _∙_}
 use mathlib.Core.Bool.{true, false}
 use mathlib.Core.List.{List, [], _∷_}
 use lib.ListN.{length, replicate}
+use Rattle.file.specs.Rules.Layout.{widthOf}
 use Rattle.file.specs.Rules.Grounds.{isAmong, hasRepeat, fileGround, fileGroundAt, fileGroundsAt, wrongSize, wrongMark, wrongEdition, wrongLength, wrongHeader, wrongPending, brokenLayout, walkFile, tableEnd, walkSlaves, andThen, walkSlave, goodTableEntry, walkDirectory, goodEntry, endsAt, lacksNeeded, allHaveNeeded, hasNeeded, equalPhysicalNames, heldNames}
 use Rattle.file.specs.Rules.Order.{firstOf, both, either}
 use Rattle.file.specs.Rules.Bytes.{numberOf, bytesOf, part, allZero}
@@ -13,7 +14,7 @@ use Rattle.file.specs.Rules.Decode.{decode, decodeAt, slavesAt, slaveAt, filesA
 use Rattle.naming.specs.Rules.Rounds.{sent, atUnnamed}
 use Rattle.cluster.specs.Rules.Slaves.{isNameRecord}
 use Rattle.cluster.specs.Rules.MasterSlave.{Sent}
-use Rattle.naming.specs.Rules.Run.{Position, wrote, atStep, moveOn, onward, passAdvance, isExtra, countRaised, advance, roundHere, isNeedless, isFirst, isRepeated, passOver, onto, passRound, nextRound, roundAt, placeOf, askOrGive, questionOf, partOf, giveOf, tried}
+use Rattle.naming.specs.Rules.Run.{Position, wrote, atStep, moveOn, onward, passAdvance, isExtra, countRaised, advance, roundHere, isNeedless, isFirst, isRepeated, passOver, onto, passRound, nextRound, roundAt, placeOf, askOrGive, questionOf, partOf, giveOf, tried, unfitPosition}
 use Rattle.cluster.specs.Rules.Grounds.{shortAnswer}
 use Rattle.cluster.specs.Rules.Summary.{without, wrongSummary}
 use Rattle.naming.specs.Rules.Account.{namesOf, namesIn, Account, Call, Call.step as stepBy, argumentsGround, accountCall, accountAfter, accountOf, comparisonsOf, comparisonsAfter, highAgain, bitClear, namingRounds, passOn, extra, oneRound, pass, freePass, goOn, passDone, give, falling, insert, unnamedAmong, namesHeld, endWith}
@@ -30,7 +31,7 @@ unfolding m10File
 m10-length = refl
 
 pub m10-accepted : fileGround m10File ≡ 0
-unfolding m10File fileGround fileGroundAt fileGroundsAt firstOf both either wrongSize wrongMark wrongEdition wrongLength wrongHeader wrongPending allZero part numberOf offsetAt brokenLayout walkFile tableEnd walkSlaves andThen walkSlave goodTableEntry walkDirectory goodEntry fileSize endsAt lacksNeeded allHaveNeeded hasNeeded lastRecord decodeAt slavesAt slaveAt filesAt fileAt equalPhysicalNames hasRepeat isAmong physicalName bytesIn bytesAmong
+unfolding m10File fileGround fileGroundAt fileGroundsAt firstOf both either wrongSize wrongMark wrongEdition wrongLength wrongHeader wrongPending allZero part numberOf offsetAt brokenLayout walkFile tableEnd walkSlaves andThen walkSlave goodTableEntry walkDirectory goodEntry fileSize endsAt lacksNeeded allHaveNeeded hasNeeded lastRecord widthOf decodeAt slavesAt slaveAt filesAt fileAt equalPhysicalNames hasRepeat isAmong physicalName bytesIn bytesAmong
 m10-accepted = refl
 
 -- steps with a buffer of 64 bytes or more make rounds
@@ -56,7 +57,7 @@ m10-rounds :
       rounds = 275;
       comparisons = 131;
     }
-unfolding m10File decode decodeAt slavesAt slaveAt filesAt fileAt fileSize offsetAt part numberOf namesIn namesOf physicalName logicalName bytesIn bytesAmong figures rounds from slave comparisonsOf comparisonsAfter highAgain bitClear namingRounds oneRound both extra passOn pass freePass goOn passDone give accountOf falling insert unnamedAmong namesHeld endWith isAmong either
+unfolding m10File decode widthOf decodeAt slavesAt slaveAt filesAt fileAt fileSize offsetAt part numberOf namesIn namesOf physicalName logicalName bytesIn bytesAmong figures rounds from slave comparisonsOf comparisonsAfter highAgain bitClear namingRounds oneRound both extra passOn pass freePass goOn passDone give accountOf falling insert unnamedAmong namesHeld endWith isAmong either
 m10-rounds = refl
 
 long-buffer : shortAnswer answerBuffer ≡ false
@@ -129,6 +130,11 @@ needless-stands = refl
 -- it "raises that count alone", and the next round is the pass's
 no-round : Position
 no-round = record { end = 0; index = 1; step = 4; value = 0; rounds = 0; comparisons = 2; high = 0x80000000; low = 0 }
+
+-- 17 does not hold of it
+no-round-fits : unfitPosition (5 ∷ 7 ∷ []) no-round ≡ false
+unfolding no-round unfitPosition both either
+no-round-fits = refl
 
 extra-sends : sent (nextRound (5 ∷ 7 ∷ []) no-round) ≡ record { name = 5; file = 0x3D; operation = 0; «record» = 1; content = [] }
 unfolding no-round sent nextRound isExtra

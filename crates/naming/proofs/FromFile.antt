@@ -11,6 +11,8 @@ use lib.Dec.{eqb}
 use Rattle.file.specs.Rules.Bytes.{Bytes, All, All.allEmpty, All.allNext as also, numberOf, part}
 use Rattle.file.specs.Rules.Legal.{LegalFile, LegalSlave, Legal}
 use Rattle.file.specs.Rules.Cluster.{File, Slave, Cluster, bytesAmong, bytesIn, physicalName}
+use Rattle.file.specs.Inner.Places.{slavesRoom}
+use Rattle.file.proofs.Width.{few-slaves}
 use Rattle.file.proofs.Bytes.{numberOf-below, bytes-part}
 use Rattle.file.proofs.Order.{byCase, first-none}
 use Rattle.naming.specs.Inner.View.{viewOf, view}
@@ -69,7 +71,7 @@ legal-slaves c l =
 pub legal-few : (c : Cluster) → Legal c → mostRounds * length (namesIn c) + endingRounds + 257 < countLimit
 unfolding namesIn
 legal-few c l =
-    let m : length (c .slaves) ≤ 32 = l .count in
+    let m : length (c .slaves) ≤ slavesRoom = few-slaves c l in
     rw (length-map (c .slaves) namesOf) (omega arith)
 
 -- a list of bytes that a fresh run does not refuse

@@ -37,10 +37,12 @@ pub mod Sleep
 pub mod RoundsMade
 pub mod Renaming
 pub mod Summaries
+pub mod Editions
 pub mod Unasked
 pub mod SummaryExamples
 pub mod Witnesses
 pub mod WriteWitnesses
+pub mod EditionWitnesses
 pub mod Cases
 -- the answers are told apart
 pub mod Distinct

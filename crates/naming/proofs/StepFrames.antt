@@ -28,7 +28,7 @@ use Rattle.naming.proofs.StepLaws.{step-made}
 use Rattle.naming.proofs.StepRound.{may-send}
 use Rattle.naming.proofs.RunLaws.{runs, next-sendable}
 use Rattle.naming.proofs.Examples.{m10-accepted}
-use Rattle.cluster.proofs.BytesBelow.{allBelow, bytes-below}
+use Rattle.file.proofs.BytesBelow.{allBelow, bytes-below}
 
 -- the round may be sent
 pub next-sent :

@@ -15,6 +15,7 @@ use Rattle.naming.specs.Rules.Rounds.{sent}
 use Rattle.naming.specs.Rules.Run.{Position, running, nextRound, advance}
 use Rattle.naming.specs.Rules.Step.{ended, madeBy, stepGround, stepMade, stepOn, isReply}
 use Rattle.cluster.specs.Rules.MasterSlave.{roundSent}
+use Rattle.naming.specs.Claims.StepFrames.{EndedAltersNothing}
 use Rattle.naming.specs.Claims.Edition.{UnknownEditionStep}
 
 module _ (file : List ℕ) (p : Position) (names buffer : List ℕ) where
@@ -35,6 +36,9 @@ module _ (file : List ℕ) (p : Position) (names buffer : List ℕ) where
       )
   unfolding stepOn stepMade
   step-made g m = rw (g, eq-eqb (p .end) running m)
+
+pub ended-alters-nothing : EndedAltersNothing
+ended-alters-nothing = step-ended
 
 -- a file of unknown edition
 pub step-edition : UnknownEditionStep

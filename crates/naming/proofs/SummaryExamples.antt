@@ -8,6 +8,7 @@ use mathlib.Core.Logic.{_≢_}
 use mathlib.Core.List.{List, [], _∷_, map}
 use mathlib.Core.Bool.{true, false}
 use lib.ListN.{length}
+use Rattle.file.specs.Rules.Layout.{widthOf}
 use Rattle.file.specs.Rules.Order.{firstOf, both, either}
 use Rattle.file.specs.Rules.Results.{refused, done}
 use Rattle.file.specs.Rules.Bytes.{All, Bytes, allEmpty, allNext, numberOf, part, allZero}
@@ -39,7 +40,7 @@ use Rattle.naming.specs.Claims.Files.{oneSlave, m10File}
 use Rattle.naming.specs.Claims.Cases.{answerBuffer}
 use Rattle.naming.specs.Claims.Summary.{AnyCall, aStep, aFrame, WellTyped, typedStep, typedFrame, ListedCall, given, notGiven, listedCalls, BaptizesNobody, inStep, inFrame, GivenToBaptize, noCalls, nextGiven, nextNotGiven, filledFrom, AnswersAsFile, GivenMatching, noneGiven, stepGiven, frameGiven, asPlain}
 use Rattle.naming.proofs.Examples.{m10-accepted}
-use Rattle.cluster.proofs.BytesBelow.{allBelow, bytes-below}
+use Rattle.file.proofs.BytesBelow.{allBelow, bytes-below}
 use Rattle.naming.proofs.Lists.{steps-permitted}
 use Rattle.naming.proofs.PermittedRounds.{rounds-fit, each-multipartner}
 use Rattle.naming.proofs.Unasked.{plainStep, plainFrame, given-makes-no-difference}
@@ -127,13 +128,13 @@ baptized = oneSlave 0x22 1 0x10
 
 -- `unfolding baptized-accepted` below unfolds what stands here: a file's grounds
 baptized-accepted : fileGround baptized ≡ 0
-unfolding baptized oneSlave fileGround fileGroundAt fileGroundsAt firstOf both either wrongSize wrongMark wrongEdition wrongLength wrongHeader wrongPending noOperation broadcastRead allZero part numberOf offsetAt brokenLayout walkFile tableEnd walkSlaves andThen walkSlave goodTableEntry walkDirectory goodEntry fileSize endsAt lacksNeeded allHaveNeeded hasNeeded lastRecord decode decodeAt slavesAt slaveAt filesAt fileAt equalPhysicalNames hasRepeat isAmong physicalName bytesIn bytesAmong
+unfolding baptized oneSlave fileGround fileGroundAt fileGroundsAt firstOf both either wrongSize wrongMark wrongEdition wrongLength wrongHeader wrongPending noOperation broadcastRead allZero part numberOf offsetAt brokenLayout walkFile tableEnd walkSlaves andThen walkSlave goodTableEntry walkDirectory goodEntry fileSize endsAt lacksNeeded allHaveNeeded hasNeeded lastRecord decode widthOf decodeAt slavesAt slaveAt filesAt fileAt equalPhysicalNames hasRepeat isAmong physicalName bytesIn bytesAmong
 baptized-accepted = refl
 
 -- ---- the filling from the file of M10, whose two slaves have no name: room for two and a byte more, for two, and for one
 
 m10-names : namesOf m10File ≡ 0xFF ∷ 0xFF ∷ []
-unfolding m10File logicalNames decode decodeAt slavesAt slaveAt filesAt fileAt fileSize offsetAt part numberOf logicalName bytesIn bytesAmong
+unfolding m10File logicalNames decode widthOf decodeAt slavesAt slaveAt filesAt fileAt fileSize offsetAt part numberOf logicalName bytesIn bytesAmong
 m10-names = refl
 
 m10-count : length (decode m10File .slaves) ≡ 2
@@ -154,7 +155,7 @@ room-for-one = refl
 
 -- a file that is none, before the slice is looked at
 no-file : fillOn [] [] ≡ (refused 1, [])
-unfolding fillOn fillGround fileGrounds fileGroundsAt firstOf wrongSize either
+unfolding fillOn fillGround fileGrounds widthOf fileGroundsAt firstOf wrongSize either
 no-file = refl
 
 -- ---- 24 after the file's grounds, before 9 and 10
@@ -179,7 +180,7 @@ frame-wrong =
     rounds-in-order m10File (kept 2 (0xFF ∷ 0xFF ∷ 9 ∷ [])) [] [] .ofRound m10-matches ∙ buffer-decides m10File [] _ m10-accepted (omega arith)
 
 all-wrong : roundKeepingGround [] (kept 1 []) [] [] ≡ 1
-unfolding roundKeepingGround fileGrounds fileGroundsAt firstOf wrongSize either
+unfolding roundKeepingGround fileGrounds widthOf fileGroundsAt firstOf wrongSize either
 all-wrong = refl
 
 -- 24 of a step too, also where the run has ended
@@ -200,7 +201,7 @@ msd-bytes : Bytes dataRound
 msd-bytes = bytes-below dataRound (unfold allBelow both in refl)
 
 baptizes : Baptizes baptized dataRound answerBuffer 0xFF
-unfolding baptized oneSlave decode decodeAt pb2Of writePending both
+unfolding baptized oneSlave decode widthOf decodeAt pb2Of writePending both
 baptizes =
     record {
       isMsd = alone-round;
@@ -209,7 +210,7 @@ baptizes =
     }
 
 taken : map (nameAfter 0xFF) (decode baptized .slaves) ≡ 0x00 ∷ []
-unfolding baptized oneSlave decode decodeAt slavesAt slaveAt filesAt fileAt fileSize offsetAt part numberOf nameAfter takesName addressed addresses isAwake isUnnamed physicalName comparisonValue newLogicalName logicalName bytesIn bytesAmong both either
+unfolding baptized oneSlave decode widthOf decodeAt slavesAt slaveAt filesAt fileAt fileSize offsetAt part numberOf nameAfter takesName addressed addresses isAwake isUnnamed physicalName comparisonValue newLogicalName logicalName bytesIn bytesAmong both either
 taken = refl
 
 names-after : namesOf (roundOn baptized dataRound answerBuffer .2) ≡ 0x00 ∷ []
@@ -239,7 +240,7 @@ unfolding unfound baptized-accepted
 unfound-accepted = refl
 
 unfound-baptizes : Baptizes unfound dataRound answerBuffer 0xFF
-unfolding unfound oneSlave decode decodeAt pb2Of writePending both
+unfolding unfound oneSlave decode widthOf decodeAt pb2Of writePending both
 unfound-baptizes =
     record {
       isMsd = alone-round;

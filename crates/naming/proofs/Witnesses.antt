@@ -7,6 +7,7 @@ use mathlib.Core.Path.{_≡_, refl, _∙_}
 use mathlib.Core.List.{List, [], _∷_}
 use mathlib.Core.Bool.{true}
 use lib.ListN.{replicate, getD}
+use Rattle.file.specs.Rules.Layout.{widthOf}
 use Rattle.file.specs.Rules.Order.{firstOf, both, either}
 use Rattle.file.specs.Rules.Results.{done}
 use Rattle.file.specs.Rules.Bytes.{Bytes, All, allEmpty, allNext, numberOf, part, allZero}
@@ -34,7 +35,7 @@ use Rattle.naming.specs.Claims.PermittedRounds.{is-step}
 use Rattle.naming.specs.Claims.Sleep.{wakesByStep, byFirst}
 use Rattle.naming.specs.Claims.Files.{oneSlave, m6File, m7File, m8File, m9File}
 use Rattle.naming.specs.Claims.Cases.{answerBuffer}
-use Rattle.cluster.proofs.BytesBelow.{allBelow, bytes-below}
+use Rattle.file.proofs.BytesBelow.{allBelow, bytes-below}
 use Rattle.naming.proofs.Lists.{steps-permitted}
 use Rattle.naming.proofs.OverBytes.{demand-3}
 use Rattle.naming.proofs.Unasked.{plainStep, step-unasked}
@@ -42,7 +43,7 @@ use Rattle.naming.proofs.Sleep.{step-wakes, stays-awake, counted-awake}
 
 -- `unfolding m6` below unfolds what stands here: a file's, buffer's and frame's grounds, and what the file holds
 pub m6 : roundOn m6File dataRound answerBuffer .0 ≡ done 2
-unfolding m6File oneSlave fileGround fileGroundAt fileGroundsAt firstOf both either wrongSize wrongMark wrongEdition wrongLength wrongHeader wrongPending noOperation broadcastRead allZero part numberOf offsetAt brokenLayout walkFile tableEnd walkSlaves andThen walkSlave goodTableEntry walkDirectory goodEntry fileSize endsAt lacksNeeded allHaveNeeded hasNeeded lastRecord decode decodeAt slavesAt slaveAt filesAt fileAt equalPhysicalNames hasRepeat isAmong physicalName bytesIn bytesAmong roundGround fileGrounds shortAnswer frameGround groundsOn roundBy roundOf roundIn noFirework wrongLengthOn lengthFor writePending frames.wrongFrameLength wrongCheckOn noOperationOn broadcastReadOn pendingDuty dutyBy executionOf isAwake isUnnamed logicalName comparisonValue
+unfolding m6File oneSlave fileGround fileGroundAt fileGroundsAt firstOf both either wrongSize wrongMark wrongEdition wrongLength wrongHeader wrongPending noOperation broadcastRead allZero part numberOf offsetAt brokenLayout walkFile tableEnd walkSlaves andThen walkSlave goodTableEntry walkDirectory goodEntry fileSize endsAt lacksNeeded allHaveNeeded hasNeeded lastRecord decode widthOf decodeAt slavesAt slaveAt filesAt fileAt equalPhysicalNames hasRepeat isAmong physicalName bytesIn bytesAmong roundGround fileGrounds shortAnswer frameGround groundsOn roundBy roundOf roundIn noFirework wrongLengthOn lengthFor writePending frames.wrongFrameLength wrongCheckOn noOperationOn broadcastReadOn pendingDuty dutyBy executionOf isAwake isUnnamed logicalName comparisonValue
 m6 = rounds.m6 m6File answerBuffer refl refl (slaveAt 2 m6File 16) refl refl refl refl
 
 pub m7 : roundOn m7File dataRound answerBuffer .0 ≡ done 0
@@ -82,7 +83,7 @@ unfolding m6 sleeper
 sleeper-sleeps (allNext none rest) = omega (arith, none)
 
 -- the extra read, and the poll after it
-two-steps : List Call
+unfoldable pub two-steps : List Call
 two-steps = plainStep answerBuffer ∷ plainStep answerBuffer ∷ []
 
 pub sleeper-bytes : Bytes sleeper
@@ -95,7 +96,7 @@ pub one-name-accepted : startGround (5 ∷ []) ≡ 0
 unfolding startGround namesGrounds firstOf unfitName hasRepeat isAmong both either
 one-name-accepted = refl
 
-steps-may : permitted (5 ∷ []) (startOn sleeper) (fresh (5 ∷ [])) two-steps ≡ true
+pub steps-may : permitted (5 ∷ []) (startOn sleeper) (fresh (5 ∷ [])) two-steps ≡ true
 unfolding two-steps
 steps-may = steps-permitted (5 ∷ []) (startOn sleeper) (fresh (5 ∷ [])) (unfold startOn in refl) (allNext is-step (allNext is-step allEmpty))
 
@@ -127,7 +128,7 @@ sleeper-stays-awake =
     (byFirst (wakesByStep first-accepted (unfold fresh endAt in refl)))
 
 -- the run then counts two rounds
-two-counted : afterCalls (5 ∷ []) (startOn sleeper) (fresh (5 ∷ [])) two-steps .1 .rounds ≡ 2
+pub two-counted : afterCalls (5 ∷ []) (startOn sleeper) (fresh (5 ∷ [])) two-steps .1 .rounds ≡ 2
 unfolding m6 sleeper two-steps namesIn namesOf accountOf unnamedAmong namesHeld falling insert endWith accountAfter accountCall argumentsGround wrongSummary oneRound extra passOn pass freePass namingRounds bitClear goOn
 two-counted = sleeper-demand .rounds
 

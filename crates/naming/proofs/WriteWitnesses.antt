@@ -7,6 +7,7 @@ use mathlib.Core.Path.{_≡_, refl, ap}
 use mathlib.Core.List.{List, [], _∷_}
 use mathlib.Core.Bool.{false}
 use lib.ListN.{take}
+use Rattle.file.specs.Rules.Layout.{widthOf}
 use Rattle.file.specs.Rules.Order.{firstOf, both, either}
 use Rattle.file.specs.Rules.Results.{Result, done}
 use Rattle.file.specs.Rules.Bytes.{Bytes, numberOf, part, allZero}
@@ -28,7 +29,7 @@ use Rattle.cluster.proofs.SentAsWritten.{address-sent-as-written, data-sent-as-
 use Rattle.cluster.proofs.RecordWrites.{name-record-written, record-written}
 use Rattle.naming.specs.Claims.Files.{oneSlave, m6File, m10File}
 use Rattle.naming.specs.Claims.Cases.{answerBuffer}
-use Rattle.cluster.proofs.BytesBelow.{allBelow, bytes-below}
+use Rattle.file.proofs.BytesBelow.{allBelow, bytes-below}
 use Rattle.naming.proofs.Examples.{m10-accepted}
 
 -- ---- M1, which the address writer wrote
@@ -47,7 +48,7 @@ halfWrite : List ℕ
 halfWrite = oneSlave 0x21 2 0x10
 
 name-accepted : fileGround nameWrite ≡ 0
-unfolding nameWrite oneSlave fileGround fileGroundAt fileGroundsAt firstOf both either wrongSize wrongMark wrongEdition wrongLength wrongHeader wrongPending noOperation broadcastRead allZero part numberOf offsetAt brokenLayout walkFile tableEnd walkSlaves andThen walkSlave goodTableEntry walkDirectory goodEntry fileSize endsAt lacksNeeded allHaveNeeded hasNeeded lastRecord decode decodeAt slavesAt slaveAt filesAt fileAt equalPhysicalNames hasRepeat isAmong physicalName bytesIn bytesAmong
+unfolding nameWrite oneSlave fileGround fileGroundAt fileGroundsAt firstOf both either wrongSize wrongMark wrongEdition wrongLength wrongHeader wrongPending noOperation broadcastRead allZero part numberOf offsetAt brokenLayout walkFile tableEnd walkSlaves andThen walkSlave goodTableEntry walkDirectory goodEntry fileSize endsAt lacksNeeded allHaveNeeded hasNeeded lastRecord decode widthOf decodeAt slavesAt slaveAt filesAt fileAt equalPhysicalNames hasRepeat isAmong physicalName bytesIn bytesAmong
 name-accepted = refl
 
 half-accepted : fileGround halfWrite ≡ 0

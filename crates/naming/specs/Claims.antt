@@ -1,5 +1,5 @@
 -- Statements of theorems: demand 3, the lists that it permits, a step and its two frames, the rounds really made, a pass written out, who is
--- renamed, who is awake, the summary of job 8, an unknown edition, and the marked cases.
+-- renamed, who is awake, the summary of job 8, an unknown edition, both editions, and the marked cases.
 pub mod Demand
 pub mod Throughout
 pub mod Permitted
@@ -10,6 +10,7 @@ pub mod Renaming
 pub mod Sleep
 pub mod Summary
 pub mod Edition
+pub mod Editions
 pub mod Files
 pub mod Passes
 pub mod Cases

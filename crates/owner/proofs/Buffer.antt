@@ -10,7 +10,7 @@ use lib.ListN.{length, getD, drop}
 use lib.Dec.{eqb}
 use borrow.Author.Tests.{eqb-true, eqb-false}
 use Rattle.file.specs.Rules.Layout.{recordSize}
-use Rattle.file.specs.Rules.Results.{Result, refused, done}
+use Rattle.file.specs.Rules.Results.{Result, refused, done, writtenIn}
 use Rattle.file.specs.Rules.Decode.{decode}
 use Rattle.file.specs.Rules.Changes.{withEpoch}
 use Rattle.file.specs.Rules.Grounds.{fileGround}
@@ -23,7 +23,7 @@ use Rattle.cluster.specs.Claims.Sleep.{awakeAmong}
 use Rattle.cluster.proofs.Mask.{bits-are-senders}
 use Rattle.owner.specs.Rules.Plan.{rounds, isOwned, sendersIn, twoSend, multiplexedSend}
 use Rattle.owner.specs.Rules.OwnerFile.{rowOf, ownerOf, ownerFile}
-use Rattle.owner.specs.Rules.Writing.{ownerGround, writtenIn, ownerOn}
+use Rattle.owner.specs.Rules.Writing.{ownerGround, ownerOn}
 use Rattle.owner.specs.Claims.Rounds.{sentAsRun, MaskAsPlanned, PlainMaskAsPlanned}
 use Rattle.owner.specs.Claims.Call.{BufferRuns, PlainBufferRuns}
 use Rattle.owner.proofs.Calls.{file-decides, multiplexed-decides, clash-decides, owner-refused, owner-written}

@@ -11,7 +11,7 @@ use lib.Seq.{take-length, take-at, drop-at, take-all, drop-drop}
 use borrow.Author.Tests.{eq-eqb, ne-eqb, lt-ltb, le-ltb}
 use borrow.Rule.Slice.PartMut.{putMid}
 use Rattle.file.specs.Rules.Order.{firstOf}
-use Rattle.file.specs.Rules.Results.{refused, done}
+use Rattle.file.specs.Rules.Results.{refused, done, writtenIn}
 use Rattle.file.specs.Rules.Layout.{recordSize}
 use Rattle.file.specs.Rules.Cluster.{Slave}
 use Rattle.file.specs.Rules.Decode.{decode}
@@ -27,7 +27,7 @@ use Rattle.file.proofs.Surveyed.{survey-accepted, survey-refused}
 use Rattle.file.proofs.Edition.{unknown-edition, refused-edition}
 use Rattle.owner.specs.Rules.Plan.{rounds, twoSend, multiplexedSend}
 use Rattle.owner.specs.Rules.OwnerFile.{noOwner, rowsBelow, indexBelow, ownerFile}
-use Rattle.owner.specs.Rules.Writing.{tooShort, ownerGrounds, ownerGround, writtenIn, ownerOn}
+use Rattle.owner.specs.Rules.Writing.{tooShort, ownerGrounds, ownerGround, ownerOn}
 use Rattle.owner.specs.Claims.Call.{UnknownEdition}
 use Rattle.owner.specs.Inner.Planned.{RoundsWritten}
 use Rattle.owner.proofs.RowLaws.{head-room, rows-written}

@@ -7,6 +7,7 @@ use mathlib.Core.Path.{_≡_, refl}
 use mathlib.Core.List.{List, [], _∷_, _++_, map}
 use mathlib.Core.Bool.{true, false}
 use lib.ListN.{set}
+use Rattle.file.specs.Rules.Layout.{widthOf}
 use Rattle.file.specs.Rules.Order.{both, either}
 use Rattle.file.specs.Rules.Bytes.{numberOf, part}
 use Rattle.file.specs.Rules.Cluster.{bytesAmong, bytesIn, lastRecord, logicalName}
@@ -151,7 +152,7 @@ pub record Examples : Type 0 where
 
 -- the slave's logical name
 eight-named : map logicalName (decode eight .slaves) ≡ 2 ∷ []
-unfolding both either numberOf part bytesAmong bytesIn lastRecord logicalName offsetAt fileSize fileAt filesAt slaveAt slavesAt decodeAt decode
+unfolding both either numberOf part bytesAmong bytesIn lastRecord logicalName offsetAt fileSize fileAt filesAt slaveAt slavesAt widthOf decodeAt decode
 eight-named = refl
 
 -- its one entry sends in slot 8 of round 0

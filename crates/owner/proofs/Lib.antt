@@ -14,6 +14,7 @@ pub mod RowLaws
 pub mod Calls
 pub mod Grounds
 pub mod Asleep
+pub mod Editions
 pub mod Witnesses
 pub mod Distinct
 -- who sends in a round as it runs; the file's size and its index

@@ -1,6 +1,7 @@
--- Statements of theorems: who sends as planned, the owner file's bytes, and the call.
+-- Statements of theorems: who sends as planned, the owner file's bytes, the call, and both editions.
 pub mod Rounds
 pub mod Sizes
 pub mod Header
 pub mod Grounds
 pub mod Call
+pub mod Editions

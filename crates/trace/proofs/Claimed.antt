@@ -1,10 +1,12 @@
 -- Each claim of specs/Claims, and the theorem that has it as its type.
+use Rattle.trace.specs.Claims.Editions.{TracesConverted}
 use Rattle.trace.specs.Claims.Encoding.{AcceptedIsEncoded, EncodedIsAccepted}
 use Rattle.trace.specs.Claims.Grounds.{GroundsInOrder}
 use Rattle.trace.specs.Claims.Refused.{RefusedIsCounted}
 use Rattle.trace.specs.Claims.Run.{SumIsCount, CarriedHasRound, RunKeepsFile, UnknownEdition}
 use Rattle.trace.specs.Claims.Sleep.{TraceWakes, TraceStaysAwake, AddressesWakeNobody}
 use Rattle.trace.proofs.Encoded.{accepted-exactly, encoded-accepted}
+use Rattle.trace.proofs.Editions.{traces-converted}
 use Rattle.trace.proofs.Grounds.{grounds-in-order, refused-is-counted}
 use Rattle.trace.proofs.Calls.{sum-is-count, run-keeps-file, trace-edition}
 use Rattle.trace.proofs.Runs.{carried-has-round}
@@ -42,3 +44,6 @@ held-trace-stays-awake = trace-stays-awake
 
 pub held-addresses-wake-nobody : AddressesWakeNobody
 held-addresses-wake-nobody = addresses-wake-nobody
+
+pub held-traces-converted : TracesConverted
+held-traces-converted = traces-converted

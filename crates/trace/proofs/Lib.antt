@@ -14,6 +14,7 @@ pub mod Calls
 pub mod Grounds
 -- who is awake after a trace
 pub mod Sleep
+pub mod Editions
 -- one frame more in a report, and the loop along the frames
 pub mod ReportLaws
 pub mod RunLaws

@@ -3,6 +3,7 @@
 use Prim.Native.Nat.{ℕ}
 use mathlib.Core.Path.{_≡_, refl}
 use mathlib.Core.List.{List, [], _∷_}
+use Rattle.file.specs.Rules.Layout.{widthOf}
 use Rattle.file.specs.Rules.Order.{firstOf, both, either}
 use Rattle.file.specs.Rules.Results.{Result, refused, done}
 use Rattle.file.specs.Rules.Bytes.{numberOf, bytesOf, part, allZero}
@@ -55,7 +56,7 @@ pub record RunExamples : Type 0 where
 -- The definitions are unfolded in steps: what a step names, and what it unfolds, the next unfolds with it.
 
 least-accepted : firstOf (fileGrounds least) ≡ 0
-unfolding fileGrounds fileGroundsAt firstOf both either wrongSize wrongMark wrongEdition wrongLength wrongHeader wrongPending allZero brokenLayout walkFile tableEnd walkSlaves andThen endsAt part numberOf offsetAt lacksNeeded allHaveNeeded decodeAt slavesAt equalPhysicalNames hasRepeat
+unfolding fileGrounds fileGroundsAt firstOf both either wrongSize wrongMark wrongEdition wrongLength wrongHeader wrongPending allZero brokenLayout walkFile tableEnd walkSlaves andThen endsAt part numberOf offsetAt lacksNeeded allHaveNeeded widthOf decodeAt slavesAt equalPhysicalNames hasRepeat
 least-accepted = refl
 
 encoded-again : encode (decode least) ≡ least

@@ -32,6 +32,11 @@ use Rattle.trace.specs.declared.report.Report.{Report}
 use Rattle.trace.specs.declared.run.TraceAnswer.{TraceAnswer}
 use Rattle.trace.specs.declared.run.TraceAnswer.the-variants as traces
 use Rattle.trace.proofs.Calls.{ran-few}
+use Rattle.convert.specs.Rules.Convert.{convertOn}
+use Rattle.convert.specs.Inner.Answers.{editionIn, convertedOf}
+use Rattle.convert.specs.declared.editions.Edition.the-variants as editions
+use Rattle.convert.specs.declared.convert.Conversion.{Conversion}
+use Rattle.convert.specs.declared.convert.Conversion.the-variants as conversions
 use Rattle.owner.specs.Rules.Writing.{ownerOn}
 use Rattle.owner.specs.Inner.Answers.{writtenOf}
 use Rattle.owner.specs.declared.write.OwnerAnswer.{OwnerAnswer}
@@ -49,7 +54,7 @@ use Rattle.summary.specs.declared.fill.Filling.{Filling}
 use Rattle.summary.specs.declared.fill.Filling.the-variants as fillings
 use Rattle.summary.specs.declared.holder.Holder.{Holder}
 use Rattle.summary.specs.declared.holder.Holder.the-variants as holders
-use Rattle.ttpa.specs.Rules.Calls.{lentAfter, checkCall, partBytes, readAddressCall, writeAddressCall, writeDataCall, roundCall, traceCall, ownerCall, wordsOf, positionIn, startCall, stepSenders, stepWords, stepCall, fillCall, nobodyPlace, placeOf, holderCall, sliceOf, roundKeepingCall, stepKeepingCall}
+use Rattle.ttpa.specs.Rules.Calls.{lentAfter, checkCall, partBytes, readAddressCall, writeAddressCall, writeDataCall, roundCall, traceCall, ownerCall, convertCall, wordsOf, positionIn, startCall, stepSenders, stepWords, stepCall, fillCall, nobodyPlace, placeOf, holderCall, sliceOf, roundKeepingCall, stepKeepingCall}
 use Rattle.ttpa.specs.Inner.Told.{roundTold, stepTold}
 
 -- ---- the checker
@@ -167,6 +172,31 @@ module _ (file : List ℕ) (master : ℕ) (buffer : List ℕ) (length : ℕ) {na
   owner-writes {written} e =
       let r : (done written, buffer′) ≡ ownerOn file master buffer = rw (e, same) at is in
       rw (← r)
+
+-- ---- a file in an edition
+
+module _ (edition : ℕ) (file out : List ℕ) (length : ℕ) {out′ : List ℕ} (a : Conversion) (is : (convertedOf a, out′) ≡ convertOn file edition out) where
+  pub convert-refuses : {why : Refusal} → a ≡ conversions.Refused why → (why .0, length, out′) ≡ convertCall edition file out length
+  unfolding convertCall numberIn lentAfter convertedOf
+  convert-refuses {why} e =
+      let r : (refused (why .0), out′) ≡ convertOn file edition out = rw e at is in
+      rw (← r)
+
+  pub convert-writes : {written : ℕ} → a ≡ conversions.Written written → (0, written, out′) ≡ convertCall edition file out length
+  unfolding convertCall numberIn lentAfter convertedOf
+  convert-writes {written} e =
+      let r : (done written, out′) ≡ convertOn file edition out = rw e at is in
+      rw (← r)
+
+-- the editions of the two calls
+module _ (file out : List ℕ) (length : ℕ) {x : ℕ × ℕ × List ℕ} where
+  pub edition-one : x ≡ convertCall (editionIn editions.One) file out length → x ≡ convertCall 1 file out length
+  unfolding editionIn
+  edition-one is = is
+
+  pub edition-two : x ≡ convertCall (editionIn editions.Two) file out length → x ≡ convertCall 2 file out length
+  unfolding editionIn
+  edition-two is = is
 
 -- ---- a fresh run
 

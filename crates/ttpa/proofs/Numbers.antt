@@ -1,17 +1,21 @@
 -- A C call returns 0 or the number of one of its grounds.
 -- Assumes nothing.
 use Prim.Native.Nat.{ℕ}
+use native.Mathlib.Omega.{arith}
 use mathlib.Core.Path.{_≡_, refl, sym}
+use mathlib.Core.Logic.{_≢_}
 use mathlib.Core.List.{List, [], _∷_, _++_, map}
 use lib.ListN.{length}
 use lib.Dec.{eqb, ltb}
 use borrow.Author.Tests.{eqb-true}
+use Rattle.file.specs.Rules.Bytes.{Bytes}
 use Rattle.file.specs.Rules.Order.{Ground, firstOf}
 use Rattle.file.specs.Rules.Results.{refused, resultOf, numberIn}
 use Rattle.file.specs.Rules.Cluster.{Cluster}
 use Rattle.file.specs.Rules.Decode.{decode}
 use Rattle.file.specs.Rules.Grounds.{fileGroundsAt, fileGrounds, loadGround, loadVerdict}
 use Rattle.file.proofs.Order.{byCase}
+use Rattle.file.proofs.Width.{two-widths}
 use Rattle.frame.specs.Rules.Fireworks.{Round, multipartner, msd, msa, noRound}
 use Rattle.frame.specs.Rules.Reading.{readGround, partsOf, readAddress}
 use Rattle.frame.specs.Rules.Writing.{writeFrame, writeGround, writeAddress, dataGround, writeData}
@@ -20,9 +24,11 @@ use Rattle.cluster.specs.Rules.Round.{roundGround, roundOn}
 use Rattle.cluster.specs.Rules.Summary.{kept, fillGround, fillOn, holderIn, roundKeepingGround, roundKeeping}
 use Rattle.trace.specs.Rules.Run.{traceGrounds, traceGround, traceOn}
 use Rattle.owner.specs.Rules.Writing.{ownerGrounds, ownerGround, ownerOn}
+use Rattle.convert.specs.Rules.Convert.{convertGrounds, convertGround, convertOn}
+use Rattle.convert.proofs.Grounds.{only-narrowing}
 use Rattle.naming.specs.Rules.Run.{Position, running, namesGrounds, startGround, runGrounds, fresh, startOver}
 use Rattle.naming.specs.Rules.Step.{StepDone, stepGround, stepMade, stepOn, stepKeepingGround, stepKeeping}
-use Rattle.ttpa.specs.Rules.Calls.{checkCall, readAddressCall, writeAddressCall, writeDataCall, roundCall, traceCall, ownerCall, positionIn, startCall, stepCall, fillCall, holderCall, roundKeepingCall, stepKeepingCall}
+use Rattle.ttpa.specs.Rules.Calls.{checkCall, readAddressCall, writeAddressCall, writeDataCall, roundCall, traceCall, ownerCall, convertCall, positionIn, startCall, stepCall, fillCall, holderCall, roundKeepingCall, stepKeepingCall}
 use Rattle.ttpa.specs.Claims.Numbers.{OneOf, here, later, ZeroOr, fileNumbers, RefusedByNumbers}
 
 -- ---- the first ground that holds
@@ -44,6 +50,11 @@ behind : (front : List ℕ) {n : ℕ} {ns ms : List ℕ} → (OneOf n ns → One
 behind [] f x = f x
 behind (m ∷ front) f here = here
 behind (m ∷ front) f (later x) = later (behind front f x)
+
+-- not by the first of them
+but-first : {n m : ℕ} {ns : List ℕ} → n ≢ m → OneOf n (m ∷ ns) → OneOf n ns
+but-first other here = absurd (other refl)
+but-first other (later x) = x
 
 -- ---- a call returns its ground
 
@@ -67,6 +78,10 @@ trace-number file t report = byCase (eqb (traceGround file t) 0) (λ e. rw e (sy
 owner-number : (file : List ℕ) (master : ℕ) (buffer : List ℕ) (length : ℕ) → ownerCall file master buffer length .0 ≡ ownerGround file master buffer
 unfolding ownerCall ownerOn numberIn
 owner-number file master buffer length = byCase (eqb (ownerGround file master buffer) 0) (λ e. rw e (sym (eqb-true _ _ e))) (λ e. rw e)
+
+pub convert-number : (edition : ℕ) (file out : List ℕ) (length : ℕ) → convertCall edition file out length .0 ≡ convertGround file edition out
+unfolding convertCall convertOn numberIn
+convert-number edition file out length = byCase (eqb (convertGround file edition out) 0) (λ e. rw e (sym (eqb-true _ _ e))) (λ e. rw e)
 
 step-number : (file run names answer : List ℕ) (senders : ℕ) → stepCall file run names answer senders .0 ≡ stepGround file (positionIn run) names answer
 unfolding stepCall stepOn stepMade numberIn
@@ -118,6 +133,16 @@ trace-numbers file t = first-number _
 owner-numbers : (file : List ℕ) (master : ℕ) (buffer : List ℕ) → ZeroOr (ownerGround file master buffer) (fileNumbers ++ 23 ∷ 20 ∷ 21 ∷ [])
 unfolding ownerGround ownerGrounds fileGrounds fileGroundsAt numbersOf
 owner-numbers file master buffer = first-number _
+
+convert-numbers : (edition : ℕ) (file out : List ℕ) → ZeroOr (convertGround file edition out) (fileNumbers ++ 25 ∷ 26 ∷ [])
+unfolding convertGround convertGrounds fileGrounds fileGroundsAt numbersOf
+convert-numbers edition file out = first-number _
+
+-- no file exceeds the limits of edition 2
+widen-numbers : (file out : List ℕ) → Bytes file → ZeroOr (convertGround file 2 out) (fileNumbers ++ 26 ∷ [])
+widen-numbers file out b =
+    behind (0 ∷ fileNumbers) (but-first (λ over. omega (arith, only-narrowing file 2 out b (two-widths .1) over .to)))
+    (convert-numbers 2 file out)
 
 start-numbers : (names : List ℕ) → ZeroOr (startGround names) (15 ∷ 16 ∷ [])
 unfolding startGround namesGrounds numbersOf
@@ -206,6 +231,8 @@ refused-by-numbers =
       writeData = data-returns;
       round = round-returns;
       trace = λ file t report. rw (trace-number file t report) (trace-numbers file t);
+      toOne = λ file out length. rw (convert-number 1 file out length) (convert-numbers 1 file out);
+      toTwo = λ file out length b. rw (convert-number 2 file out length) (widen-numbers file out b);
       owner = λ file master buffer length. rw (owner-number file master buffer length) (owner-numbers file master buffer);
       start = start-returns;
       step = step-returns;

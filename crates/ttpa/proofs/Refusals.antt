@@ -16,10 +16,11 @@ use Rattle.cluster.specs.Rules.Summary.{kept, fillGround, fillOn, holderIn, rou
 use Rattle.cluster.proofs.Keeping.{keeping-round}
 use Rattle.trace.specs.Rules.Run.{traceGround, traceOn}
 use Rattle.owner.specs.Rules.Writing.{ownerGround, ownerOn}
+use Rattle.convert.specs.Rules.Convert.{convertGround, convertOn}
 use Rattle.naming.specs.Rules.Run.{running, startOver}
 use Rattle.naming.specs.Rules.Step.{stepGround, stepMade, stepOn, stepKeepingGround, stepKeeping}
 use Rattle.naming.proofs.StepKeeping.{keeping-step}
-use Rattle.ttpa.specs.Rules.Calls.{lentAfter, partBytes, readAddressCall, writeAddressCall, writeDataCall, roundCall, traceCall, ownerCall, positionIn, wordsOf, startCall, stepSenders, stepWords, stepCall, fillCall, placeOf, holderCall, sliceOf, roundKeepingCall, stepKeepingCall}
+use Rattle.ttpa.specs.Rules.Calls.{lentAfter, partBytes, readAddressCall, writeAddressCall, writeDataCall, roundCall, traceCall, ownerCall, convertCall, positionIn, wordsOf, startCall, stepSenders, stepWords, stepCall, fillCall, placeOf, holderCall, sliceOf, roundKeepingCall, stepKeepingCall}
 use Rattle.ttpa.specs.Claims.Refusals.{RefusalsAlterNothing}
 
 -- ---- a frame read or written
@@ -67,6 +68,15 @@ owner-kept file master buffer length n some e =
     byCase (eqb (ownerGround file master buffer) 0)
     (λ x. absurd (some (sym (rw x at e))))
     (λ x. let same : ownerGround file master buffer ≡ n = rw x at e in rw (x, same))
+
+convert-kept :
+    (edition : ℕ) (file out : List ℕ) (length n : ℕ) → n ≢ 0 → convertCall edition file out length .0 ≡ n →
+    convertCall edition file out length ≡ (n, length, out)
+unfolding convertCall convertOn numberIn lentAfter
+convert-kept edition file out length n some e =
+    byCase (eqb (convertGround file edition out) 0)
+    (λ x. absurd (some (sym (rw x at e))))
+    (λ x. let same : convertGround file edition out ≡ n = rw x at e in rw (x, same))
 
 -- ---- a run
 
@@ -127,6 +137,7 @@ refusals-alter-nothing =
       round = round-kept;
       trace = trace-kept;
       owner = owner-kept;
+      convert = convert-kept;
       start = λ names run n some e. lent-kept (startOver names) run wordsOf n some e;
       step = step-kept;
       fill = fill-kept;

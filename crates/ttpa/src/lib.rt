@@ -2,9 +2,10 @@
 // return. Each is the call of the layer below, with the answer as a number.
 ghost use mathlib.Core.Path.{_≡_};
 ghost use mathlib.Core.List.{[], _∷_};
-ghost use Rattle.ttpa.specs.Rules.Calls.{versionCall, checkCall, readAddressCall, writeAddressCall, writeDataCall, roundCall, traceCall, ownerCall, wordsOf, positionIn, startCall, stepCall, fillCall, holderCall, roundKeepingCall, stepKeepingCall};
+ghost use Rattle.ttpa.specs.Rules.Calls.{versionCall, checkCall, readAddressCall, writeAddressCall, writeDataCall, roundCall, traceCall, ownerCall, convertCall, wordsOf, positionIn, startCall, stepCall, fillCall, holderCall, roundKeepingCall, stepKeepingCall};
 ghost use Rattle.ttpa.specs.Inner.Told.{roundTold, stepTold};
 ghost use Rattle.cluster.specs.Inner.Answers.{answerOf};
+ghost use Rattle.convert.specs.Inner.Answers.{editionIn};
 ghost use Rattle.naming.specs.Inner.Answers.{positionOf, steppedOf, runAfter};
 ghost use Rattle.file.specs.Rules.Results.{numberIn};
 ghost use Rattle.frame.specs.Inner.Answers.{writingOf};
@@ -13,6 +14,9 @@ ghost use Rattle.trace.specs.Inner.Answers.{reportIn};
 ghost use Rattle.trace.specs.Inner.Sent.{FewFrames};
 use cluster::answer::RoundAnswer;
 use cluster::round::round;
+use convert::convert::Conversion;
+use convert::convert::convert;
+use convert::editions::Edition;
 use file::survey::FileAnswer;
 use file::survey::check;
 use file::types::FileNumber;
@@ -42,7 +46,7 @@ use trace::run::TraceAnswer;
 use trace::run::run_trace;
 
 // The version, as one number: its three numbers stand in specs/Rules/Calls.
-const VERSION: u32 = 1000;
+const VERSION: u32 = 1100;
 
 // The parts of an address frame.
 pub const PARTS: usize = 5;
@@ -215,6 +219,34 @@ pub extern "C" fn ttpa_owner(file: &[u8], master: u8, buffer: &mut [u8], length:
             0
         }
     }
+}
+
+// A file's form in an edition: the number, and the form's length in the lent word.
+fn to_edition(file: &[u8], edition: Edition, out: &mut [u8], length: &mut u64) -> u8
+    ensures { λ r. ⌜ (r, now (length .exit), now (out .exit)) ≡ convertCall (editionIn edition) (now (file .entry)) (now (out .entry)) (now (length .entry)) ⌝ }
+{
+    let done = convert(file, edition, out);
+    match done {
+        Conversion::Refused(why) => why.0,
+        Conversion::Written(size) => {
+            *length = size as u64;
+            0
+        }
+    }
+}
+
+#[no_mangle]
+pub extern "C" fn ttpa_to_edition_1(file: &[u8], out: &mut [u8], length: &mut u64) -> u8
+    ensures { λ r. ⌜ (r, now (length .exit), now (out .exit)) ≡ convertCall 1 (now (file .entry)) (now (out .entry)) (now (length .entry)) ⌝ }
+{
+    to_edition(file, Edition::One, out, length)
+}
+
+#[no_mangle]
+pub extern "C" fn ttpa_to_edition_2(file: &[u8], out: &mut [u8], length: &mut u64) -> u8
+    ensures { λ r. ⌜ (r, now (length .exit), now (out .exit)) ≡ convertCall 2 (now (file .entry)) (now (out .entry)) (now (length .entry)) ⌝ }
+{
+    to_edition(file, Edition::Two, out, length)
 }
 
 fn words_of(position: RunPosition) -> [u64; WORDS]

@@ -3,7 +3,7 @@
 // which has none, is not here.
 ghost use mathlib.Core.Path.{_≡_};
 ghost use mathlib.Core.List.{[], _∷_};
-ghost use Rattle.ttpa.specs.Rules.Calls.{checkCall, readAddressCall, writeAddressCall, writeDataCall, roundCall, traceCall, ownerCall, startCall, stepCall, fillCall, holderCall, roundKeepingCall, stepKeepingCall};
+ghost use Rattle.ttpa.specs.Rules.Calls.{checkCall, readAddressCall, writeAddressCall, writeDataCall, roundCall, traceCall, ownerCall, convertCall, startCall, stepCall, fillCall, holderCall, roundKeepingCall, stepKeepingCall};
 use ttpa::PARTS;
 use ttpa::REPORT_WORDS;
 use ttpa::WORDS;
@@ -17,6 +17,8 @@ use ttpa::ttpa_round_keeping;
 use ttpa::ttpa_start;
 use ttpa::ttpa_step;
 use ttpa::ttpa_step_keeping;
+use ttpa::ttpa_to_edition_1;
+use ttpa::ttpa_to_edition_2;
 use ttpa::ttpa_trace;
 use ttpa::ttpa_write_address;
 use ttpa::ttpa_write_data;
@@ -68,6 +70,18 @@ pub fn owner(file: &[u8], master: u8, buffer: &mut [u8], length: &mut u64) -> u8
     ensures { λ r. ⌜ (r, now (length .exit), now (buffer .exit)) ≡ ownerCall (now (file .entry)) master (now (buffer .entry)) (now (length .entry)) ⌝ }
 {
     ttpa_owner(file, master, buffer, length)
+}
+
+pub fn to_edition_1(file: &[u8], out: &mut [u8], length: &mut u64) -> u8
+    ensures { λ r. ⌜ (r, now (length .exit), now (out .exit)) ≡ convertCall 1 (now (file .entry)) (now (out .entry)) (now (length .entry)) ⌝ }
+{
+    ttpa_to_edition_1(file, out, length)
+}
+
+pub fn to_edition_2(file: &[u8], out: &mut [u8], length: &mut u64) -> u8
+    ensures { λ r. ⌜ (r, now (length .exit), now (out .exit)) ≡ convertCall 2 (now (file .entry)) (now (out .entry)) (now (length .entry)) ⌝ }
+{
+    ttpa_to_edition_2(file, out, length)
 }
 
 pub fn start(names: &[u8], run: &mut [u64; WORDS]) -> u8

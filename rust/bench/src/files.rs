@@ -1,6 +1,10 @@
 //! The cluster files of the workloads.
 
-use model::{Cluster, File, FileNumber, LogicalName, Pending, Slave, MOST_BYTES, MOST_SLAVES};
+use model::{Cluster, Edition, File, FileNumber, LogicalName, Pending, Slave};
+
+/// The limits of edition 1.
+const MOST_BYTES: usize = 32_768;
+const MOST_SLAVES: usize = 32;
 
 const ROUND_FILE: u8 = 2;
 const ROUND_FILES: [u8; 6] = [0, 2, 3, 4, 6, 7];
@@ -37,17 +41,19 @@ pub fn tired(slaves: usize) -> Vec<u8> {
     encode((0..slaves).map(slave).collect())
 }
 
-/// 32 slaves of 64 files, the most directory entries there can be, grown to 32,768 bytes.
-pub fn most_entries() -> Vec<u8> {
-    let mut cluster = model::check(&small(32, 64, |_| 0xFF)).expect("a legal file");
-    let mut missing = MOST_BYTES - cluster.encode().len();
+/// Slaves of 64 files, as many as an edition holds, grown to its most bytes: 32 in edition 1, 62 in edition 2.
+pub fn most_entries(edition: Edition) -> Vec<u8> {
+    let slaves = if edition == Edition::One { MOST_SLAVES } else { 62 };
+    let mut cluster = model::check(&small(slaves, 64, |_| 0xFF)).expect("a legal file");
+    cluster.edition = edition;
+    let mut missing = edition.most_bytes() - cluster.length();
     for file in cluster.slaves.iter_mut().flat_map(|slave| &mut slave.files) {
         let grown = missing.min(4 * (255 - file.last_record()));
         file.bytes.resize(file.bytes.len() + grown, 0);
         missing -= grown;
     }
     let file = cluster.encode();
-    assert_eq!(file.len(), MOST_BYTES);
+    assert_eq!(file.len(), edition.most_bytes());
     file
 }
 
@@ -169,9 +175,11 @@ fn documentation(slave: usize) -> File {
     File { number: FileNumber::DOCUMENTATION, bytes }
 }
 
+/// In edition 1, or in edition 2 where there are too many slaves for it.
 fn encode(slaves: Vec<Slave>) -> Vec<u8> {
     let pending = Pending { flag: false, name: LogicalName(0), pb2: 0, pb3: 0 };
-    let file = Cluster { epoch: 0, pending, slaves }.encode();
+    let edition = if slaves.len() > MOST_SLAVES { Edition::Two } else { Edition::One };
+    let file = Cluster { edition, epoch: 0, pending, slaves }.encode();
     assert!(model::check(&file).is_ok());
     file
 }

@@ -3,11 +3,11 @@
 use crate::files;
 use compare::engine::{Engine, ReportWords, RunWords, Summary};
 use compare::frames::framed;
-use model::{closed_figures, encode_trace, MSA, MSD};
+use model::{closed_figures, encode_trace, to_edition, Edition, MSA, MSD};
 use std::hint::black_box;
 
 /// The lines of the table.
-pub const TABLE: [&str; 32] = [
+pub const TABLE: [&str; 43] = [
     "check-32-2",
     "check-named-32",
     "check-most",
@@ -40,6 +40,17 @@ pub const TABLE: [&str; 32] = [
     "keeping-execute-1-all-32",
     "keeping-partner-32-63",
     "keeping-naming-32",
+    "wide-check-32-2",
+    "wide-check-64-2",
+    "wide-check-most",
+    "wide-read-one-of-32",
+    "wide-read-one-of-64",
+    "wide-partner-32-63",
+    "wide-partner-64-63",
+    "wide-naming-32",
+    "widen-most",
+    "narrow-most",
+    "copy-most",
 ];
 
 /// How the check grows in slaves, and in files of a slave; how a round grows in slaves and entries.
@@ -101,6 +112,12 @@ pub enum Workload {
     Owner {
         file: Vec<u8>,
     },
+    /// A conversion into an edition.
+    Convert {
+        file: Vec<u8>,
+        edition: Edition,
+        buffer: Vec<u8>,
+    },
     /// A call with a summary.
     WithSummary(WithSummary),
 }
@@ -135,7 +152,12 @@ impl Workload {
         let words: Vec<&str> = name.split('-').collect();
         let number = |word: &str| word.parse::<usize>().ok();
         Some(match words[..] {
-            ["check", "most"] => Workload::Check { file: files::most_entries() },
+            ["check", "most"] => Workload::Check { file: files::most_entries(Edition::One) },
+            ["wide", "check", "most"] => Workload::Check { file: files::most_entries(Edition::Two) },
+            ["wide", ..] => Workload::of(name.strip_prefix("wide-")?)?.in_edition_2()?,
+            ["widen", "most"] => convert(files::most_entries(Edition::One), Edition::Two),
+            ["narrow", "most"] => convert(widened(&files::most_entries(Edition::One)), Edition::One),
+            ["copy", "most"] => convert(files::most_entries(Edition::Two), Edition::Two),
             ["check", "named", slaves] => Workload::Check { file: named(number(slaves)?) },
             ["check", slaves, files] => {
                 Workload::Check { file: files::small(number(slaves)?, number(files)?, |_| 0xFF) }
@@ -176,6 +198,18 @@ impl Workload {
         })
     }
 
+    /// The same on a file of edition 2.
+    fn in_edition_2(self) -> Option<Workload> {
+        match self {
+            Workload::Check { file } => Some(Workload::Check { file: widened(&file) }),
+            Workload::Frame { file, frame } => Some(Workload::Frame { file: widened(&file), frame }),
+            Workload::Naming { file, names, rounds } => {
+                Some(Workload::Naming { file: widened(&file), names, rounds })
+            }
+            _ => None,
+        }
+    }
+
     pub fn make(&mut self, engine: &dyn Engine, times: u64) {
         let mut answer = [0; 64];
         let mut senders = 0;
@@ -197,6 +231,11 @@ impl Workload {
                     let mut buffer = [0; MOST_OWNER_BYTES];
                     let mut length = 0;
                     accepted(engine.owner(black_box(file), 0x63, &mut buffer, &mut length));
+                    black_box((buffer, length));
+                }
+                Workload::Convert { file, edition, buffer } => {
+                    let mut length = 0;
+                    accepted(engine.to_edition(black_box(file), *edition, buffer, &mut length));
                     black_box((buffer, length));
                 }
                 Workload::Frames { file, frames } => {
@@ -274,9 +313,22 @@ fn pending(slaves: usize, logical_name: impl Fn(usize) -> u8, operation: [u8; 3]
 }
 
 fn pending_on(mut file: Vec<u8>, operation: [u8; 3], frame: &[u8]) -> Workload {
-    file[9] = 1;
-    file[10..13].copy_from_slice(&operation);
+    let flag = Edition::of(&file).epoch_place() + 1;
+    file[flag] = 1;
+    file[flag + 1..flag + 4].copy_from_slice(&operation);
     Workload::Frame { file, frame: frame.to_vec() }
+}
+
+/// The file in edition 2; one that has it is copied.
+fn widened(file: &[u8]) -> Vec<u8> {
+    let mut buffer = vec![0; Edition::Two.most_bytes()];
+    let length = to_edition(file, Edition::Two, &mut buffer).expect("an accepted file");
+    buffer.truncate(length);
+    buffer
+}
+
+fn convert(file: Vec<u8>, edition: Edition) -> Workload {
+    Workload::Convert { file, edition, buffer: vec![0; Edition::Two.most_bytes()] }
 }
 
 /// The data frame of an execute of record 4 of 0x08: all fall asleep, and by the next call all wake.

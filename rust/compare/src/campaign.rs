@@ -2,12 +2,13 @@
 
 use crate::case::{Call, Outcome};
 use crate::draws::random::Random;
-use crate::draws::{clusters, inputs, owners, runs, sleepers, summaries, traces};
+use crate::draws::{clusters, conversions, inputs, owners, runs, sleepers, summaries, traces};
 use crate::engine::{Engine, Model};
 use crate::frames::MULTIPARTNER;
 use crate::sorts::owners::Planned;
 use crate::sorts::tally::Tally;
 use crate::sorts::{self, Reached, Sort};
+use model::Edition;
 use std::collections::BTreeMap;
 
 /// Cases that are printed before the rest is only counted.
@@ -33,6 +34,7 @@ pub struct Amounts {
     pub summaries: usize,
     /// Rounds that are given a summary, and half as many steps.
     pub kept: usize,
+    pub conversions: usize,
     pub runs: usize,
 }
 
@@ -48,7 +50,8 @@ impl Amounts {
         owners: 10_000,
         summaries: 10_000,
         kept: 40_000,
-        runs: 60,
+        conversions: 10_000,
+        runs: 65,
     };
 
     pub fn times(&self, factor: usize) -> Amounts {
@@ -63,6 +66,7 @@ impl Amounts {
             owners: self.owners * factor,
             summaries: self.summaries * factor,
             kept: self.kept * factor,
+            conversions: self.conversions * factor,
             runs: self.runs * factor,
         }
     }
@@ -79,6 +83,7 @@ impl Amounts {
             owners: self.owners / divisor,
             summaries: self.summaries / divisor,
             kept: self.kept / divisor,
+            conversions: self.conversions / divisor,
             runs: self.runs / divisor,
         }
     }
@@ -160,6 +165,7 @@ impl<'a> Campaign<'a> {
         summaries::rounds(self, amounts.kept, &mut Random::from_seed(seed ^ 14));
         summaries::steps(self, amounts.kept / 2, &mut Random::from_seed(seed ^ 15));
         sleepers::rounds(self, amounts.rounds / ROUNDS_FOR_A_SLEEPER, &mut Random::from_seed(seed ^ 17));
+        conversions::conversions(self, amounts.conversions, &mut Random::from_seed(seed ^ 18));
         self.runs(amounts.runs, seed);
         self.sorts_reached(&Sort::REACHED, amounts.rounds);
         self.sorts_reached(&Sort::REACHED_ABOUT_NAMES, amounts.rounds);
@@ -170,6 +176,7 @@ impl<'a> Campaign<'a> {
         self.sorts_reached(&Sort::REACHED_BY_OWNERS, amounts.owners);
         self.sorts_reached(&Sort::REACHED_BY_SUMMARIES, amounts.kept);
         self.sorts_reached(&Sort::REACHED_BY_SLEEPERS, amounts.rounds);
+        self.sorts_reached(&Sort::REACHED_BY_CONVERSIONS, amounts.conversions);
         self.sorts_reached(&Sort::REACHED_BY_RUNS, amounts.runs);
         self.reached();
     }
@@ -178,8 +185,8 @@ impl<'a> Campaign<'a> {
     fn runs(&mut self, amount: usize, seed: u64) {
         for run in 0..amount {
             let random = |kind: u64| Random::from_seed(seed ^ kind ^ (run as u64) << 8);
-            // Every number of slaves has its turn; 20 and 33 have no divisor in common.
-            let slaves = 20 * run % (model::MOST_SLAVES + 1);
+            // Every number of slaves has its turn; 21 and 65 have no divisor in common.
+            let slaves = 21 * run % (Edition::Two.most_slaves() + 1);
             runs::whole_run(self, &mut random(7), slaves, runs::Given::NoSummary);
             if run % 2 == 1 {
                 runs::whole_run(self, &mut random(16), slaves, runs::Given::Summary);

@@ -1,12 +1,14 @@
 //! One call as a line of text: `round FILE FRAME answer-length = number mask FILE-after ANSWER-after`.
 //!
 //! Bytes are hexadecimal and `-` is none; other numbers are decimal, masks sixteen hexadecimal digits. The
-//! answer buffer, and that for an owner file, hold EE throughout before the call. A mask, a report, a length or a count that
-//! the call leaves alone is shown as 0, the place of a holder as `-` where nobody holds the name.
+//! answer buffer, and that for an owner file or a converted file, hold EE throughout before the call. A mask, a report, a
+//! length or a count that the call leaves alone is shown as 0, the place of a holder as `-` where nobody holds the name.
 
+use crate::editions::{holds_in_other_edition, in_other_edition};
 use crate::engine::{Engine, ReportWords, RunWords, Summary, NOBODY};
-use crate::layout::{sleepers_of, ENTRY_BYTES, SLAVES};
+use crate::layout::{slaves_place, sleepers_of};
 use crate::sorts::tally::Tally;
+use model::Edition;
 use std::fmt;
 
 /// What lent memory holds before a call, so that a byte too many shows.
@@ -21,6 +23,8 @@ type FencedReport = [u64; 7];
 const REPORT_BEFORE: FencedReport = [SENDERS_BEFORE; 7];
 const ROUND_KEEPING: &str = "round-keeping";
 const STEP_KEEPING: &str = "step-keeping";
+const TO_EDITION_1: &str = "to-edition-1";
+const TO_EDITION_2: &str = "to-edition-2";
 /// The kind of a case that holds what the listing program writes.
 pub const LISTING: &str = "list";
 
@@ -64,6 +68,11 @@ pub enum Call {
         master: u8,
         buffer_length: usize,
     },
+    Convert {
+        file: Vec<u8>,
+        edition: Edition,
+        buffer_length: usize,
+    },
     Fill {
         file: Vec<u8>,
         held: Vec<u8>,
@@ -87,7 +96,7 @@ pub struct Outcome {
     pub number: u8,
     pub senders: Option<u64>,
     pub file: Option<Vec<u8>>,
-    /// The frame buffer of a writer, the answer buffer, or the buffer for an owner file.
+    /// The frame buffer of a writer, the answer buffer, or the buffer for an owner file or a converted file.
     pub buffer: Option<Vec<u8>>,
     pub parts: Option<[u8; 5]>,
     pub run: Option<RunWords>,
@@ -117,7 +126,7 @@ impl Outcome {
         self
     }
 
-    /// How many bytes of an owner file were written.
+    /// How many bytes of an owner file or a converted file were written.
     pub fn written(&self) -> Option<u64> {
         self.length.filter(|_| self.number == 0)
     }
@@ -134,7 +143,7 @@ impl Outcome {
 
     /// Whether a byte of a slave's files is another than before: what lies behind the table, whose bytes tell who sleeps.
     pub fn alters_slaves(&self, before: &[u8]) -> bool {
-        let files = SLAVES + ENTRY_BYTES * before.get(3).map_or(0, |&count| usize::from(count));
+        let files = slaves_place(before);
         self.file.as_deref().is_some_and(|after| after.get(files..) != before.get(files..))
     }
 
@@ -156,6 +165,8 @@ impl Call {
             Call::Step { .. } => "step",
             Call::Trace { .. } => "trace",
             Call::Owner { .. } => "owner",
+            Call::Convert { edition: Edition::One, .. } => TO_EDITION_1,
+            Call::Convert { edition: Edition::Two, .. } => TO_EDITION_2,
             Call::Fill { .. } => "fill",
             Call::Holder { .. } => "holder",
             Call::Keeping { call, .. } => match **call {
@@ -163,6 +174,42 @@ impl Call {
                 _ => STEP_KEEPING,
             },
         }
+    }
+
+    /// The cluster file that is handed in.
+    pub fn file(&self) -> Option<&[u8]> {
+        match self {
+            Call::Check { file }
+            | Call::Round { file, .. }
+            | Call::Step { file, .. }
+            | Call::Trace { file, .. }
+            | Call::Owner { file, .. }
+            | Call::Convert { file, .. }
+            | Call::Fill { file, .. } => Some(file),
+            Call::Keeping { call, .. } => call.file(),
+            Call::Read { .. }
+            | Call::Write { .. }
+            | Call::Data { .. }
+            | Call::Start { .. }
+            | Call::Holder { .. } => None,
+        }
+    }
+
+    /// The same call on this file in place of its own; None for one that has none.
+    pub fn on(&self, other: Vec<u8>) -> Option<Call> {
+        let mut call = self.clone();
+        match &mut call {
+            Call::Check { file }
+            | Call::Round { file, .. }
+            | Call::Step { file, .. }
+            | Call::Trace { file, .. }
+            | Call::Owner { file, .. }
+            | Call::Convert { file, .. }
+            | Call::Fill { file, .. } => *file = other,
+            Call::Keeping { call, .. } => **call = call.on(other)?,
+            _ => return None,
+        }
+        Some(call)
     }
 
     /// The same round or step, given a summary.
@@ -197,6 +244,9 @@ impl Call {
             }
             Call::Owner { file, master, .. } => {
                 engine.owner(file, *master, lent_bytes(&mut outcome.buffer), lent(&mut outcome.length))
+            }
+            Call::Convert { file, edition, .. } => {
+                engine.to_edition(file, *edition, lent_bytes(&mut outcome.buffer), lent(&mut outcome.length))
             }
             Call::Fill { file, .. } => {
                 engine.fill(file, lent_bytes(&mut outcome.held), lent(&mut outcome.count))
@@ -253,7 +303,7 @@ impl Call {
             Call::Trace { file, .. } => {
                 Outcome { file: Some(file.clone()), report: Some(REPORT_BEFORE), ..nothing }
             }
-            Call::Owner { buffer_length, .. } => {
+            Call::Owner { buffer_length, .. } | Call::Convert { buffer_length, .. } => {
                 Outcome { buffer: answer(*buffer_length), length: Some(LENGTH_BEFORE), ..nothing }
             }
             Call::Fill { held, .. } => {
@@ -295,7 +345,7 @@ impl Call {
                 let report = outcome.report_words().unwrap_or([0; 5]);
                 format!("{number} {} {}", decimals(&report, " "), after(&outcome.file))
             }
-            Call::Owner { .. } => {
+            Call::Owner { .. } | Call::Convert { .. } => {
                 format!("{number} {} {}", outcome.written().unwrap_or(0), after(&outcome.buffer))
             }
             Call::Fill { .. } => {
@@ -322,6 +372,10 @@ impl Call {
     fn given(held: &str, count: &str, kind: &str, words: &[&str]) -> Option<Call> {
         let call = Call::of_words(&[&[kind], words].concat())?;
         Some(call.keeping(&bytes(held)?, count.parse().ok()?))
+    }
+
+    fn converting(file: &str, edition: Edition, length: &str) -> Option<Call> {
+        Some(Call::Convert { file: bytes(file)?, edition, buffer_length: length.parse().ok()? })
     }
 
     fn of_words(words: &[&str]) -> Option<Call> {
@@ -352,6 +406,8 @@ impl Call {
                 master: master.parse().ok()?,
                 buffer_length: length.parse().ok()?,
             }),
+            [TO_EDITION_1, file, length] => Call::converting(file, Edition::One, length),
+            [TO_EDITION_2, file, length] => Call::converting(file, Edition::Two, length),
             ["fill", file, held] => Some(Call::Fill { file: bytes(file)?, held: bytes(held)? }),
             ["holder", held, count, name] => {
                 Some(Call::Holder { held: bytes(held)?, count: count.parse().ok()?, name: name.parse().ok()? })
@@ -388,6 +444,7 @@ impl Call {
             Call::Owner { file, master, buffer_length } => {
                 format!("{} {master} {buffer_length}", hex(file))
             }
+            Call::Convert { file, buffer_length, .. } => format!("{} {buffer_length}", hex(file)),
             Call::Fill { file, held } => format!("{} {}", hex(file), hex(held)),
             Call::Holder { held, count, name } => format!("{} {count} {name}", hex(held)),
             Call::Keeping { call, held, count } => format!("{} {} {count}", call.arguments(), hex(held)),
@@ -401,11 +458,14 @@ pub struct Held {
     /// The calls of the cases that hold.
     pub tally: Tally,
     pub passed: u64,
+    /// Those of them that hold on the file in the other edition too.
+    pub turned: u64,
     /// What differs, one text a case.
     pub wrong: Vec<String>,
 }
 
-/// Makes the call of every kept case. Listings are no call of an engine and are left out.
+/// Makes the call of every kept case, where its file is accepted and the other edition can hold it also on the file in
+/// that edition. Listings are no call of an engine and are left out.
 pub fn hold_all(engine: &dyn Engine, text: &str) -> Held {
     let mut held = Held::default();
     for line in text.lines().filter(|line| kind_of(line) != LISTING) {
@@ -413,6 +473,13 @@ pub fn hold_all(engine: &dyn Engine, text: &str) -> Held {
             Ok((call, outcome)) => {
                 held.tally.note(&call, &outcome);
                 held.passed += 1;
+                if in_other_edition(&call, &outcome).is_none() {
+                    continue;
+                }
+                held.turned += 1;
+                if !holds_in_other_edition(engine, &call, &outcome) {
+                    held.wrong.push(format!("in the other edition it does not hold: {line}"));
+                }
             }
             Err(what) => held.wrong.push(what),
         }

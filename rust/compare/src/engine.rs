@@ -1,5 +1,7 @@
 //! The calls that outside code makes, each with the lent buffers of the C call and its number as answer.
 
+pub use model::Edition;
+
 /// End, index, step, value, rounds, comparisons, and the high and the low half last written.
 pub type RunWords = [u64; 8];
 /// Of the frames of a trace the numbers of MSA, MSD, multipartner and refused ones, and their sum.
@@ -14,7 +16,7 @@ pub struct Summary<'a> {
 /// The place of a holder where there is none.
 pub const NOBODY: u64 = u64::MAX;
 
-/// One implementation of the thirteen calls. 0 is "carried out", every other number a refusal.
+/// One implementation of the fifteen calls. 0 is "carried out", every other number a refusal.
 pub trait Engine {
     /// What the comparison says it ran against.
     fn name(&self) -> &'static str;
@@ -34,6 +36,7 @@ pub trait Engine {
     ) -> u8;
     fn trace(&self, file: &mut [u8], trace: &[u8], report: &mut ReportWords) -> u8;
     fn owner(&self, file: &[u8], master: u8, buffer: &mut [u8], length: &mut u64) -> u8;
+    fn to_edition(&self, file: &[u8], edition: Edition, buffer: &mut [u8], length: &mut u64) -> u8;
     fn fill(&self, file: &[u8], held: &mut [u8], count: &mut u64) -> u8;
     fn holder(&self, held: &[u8], count: u64, name: u8, place: &mut u64) -> u8;
     fn round_keeping(
@@ -118,6 +121,10 @@ impl Engine for Model {
     fn owner(&self, file: &[u8], master: u8, buffer: &mut [u8], length: &mut u64) -> u8 {
         let written = model::owner(file, model::LogicalName(master), buffer);
         number(written.map(|bytes| *length = bytes as u64))
+    }
+
+    fn to_edition(&self, file: &[u8], edition: Edition, buffer: &mut [u8], length: &mut u64) -> u8 {
+        number(model::to_edition(file, edition, buffer).map(|bytes| *length = bytes as u64))
     }
 
     fn fill(&self, file: &[u8], held: &mut [u8], count: &mut u64) -> u8 {
@@ -233,6 +240,13 @@ impl Engine for Plain {
         plain::owner(file, master, buffer, length)
     }
 
+    fn to_edition(&self, file: &[u8], edition: Edition, buffer: &mut [u8], length: &mut u64) -> u8 {
+        match edition {
+            Edition::One => plain::to_edition_1(file, buffer, length),
+            Edition::Two => plain::to_edition_2(file, buffer, length),
+        }
+    }
+
     fn fill(&self, file: &[u8], held: &mut [u8], count: &mut u64) -> u8 {
         plain::fill(file, held, count)
     }
@@ -316,6 +330,13 @@ impl Engine for Library {
 
     fn owner(&self, file: &[u8], master: u8, buffer: &mut [u8], length: &mut u64) -> u8 {
         ttpa::calls::owner(file, master, buffer, length)
+    }
+
+    fn to_edition(&self, file: &[u8], edition: Edition, buffer: &mut [u8], length: &mut u64) -> u8 {
+        match edition {
+            Edition::One => ttpa::calls::to_edition_1(file, buffer, length),
+            Edition::Two => ttpa::calls::to_edition_2(file, buffer, length),
+        }
     }
 
     fn fill(&self, file: &[u8], held: &mut [u8], count: &mut u64) -> u8 {

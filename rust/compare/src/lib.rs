@@ -9,6 +9,7 @@ pub mod campaign;
 pub mod case;
 pub mod draws;
 pub mod edges;
+pub mod editions;
 pub mod engine;
 pub mod frames;
 mod layout;

@@ -3,7 +3,8 @@
 //! Built with the feature `library` it is the linked library, otherwise the plain program. With `--cases`
 //! it runs kept cases instead; with `--sample` it also prints N cases of each sort. It prints `engine NAME`
 //! first, then `made KIND N` for each kind of call and `outcome KIND NUMBER N` for each outcome, as `tally`
-//! names them. The last line is `N passed, M failed`; the status is 1 on a difference, and where no call
+//! names them; with `--cases` also `made other-edition N`, the cases that were made on the file in the other edition as
+//! well. The last line is `N passed, M failed`; the status is 1 on a difference, and where no call
 //! was made.
 
 use compare::campaign::{Amounts, Campaign};
@@ -56,5 +57,8 @@ fn cases(path: &str) -> (u64, u64) {
     let held = hold_all(ENGINE, &text);
     held.wrong.iter().for_each(|what| println!("{what}"));
     held.tally.print();
+    if held.turned > 0 {
+        println!("made other-edition {}", held.turned);
+    }
     (held.passed, held.wrong.len() as u64)
 }

@@ -1,9 +1,11 @@
 //! A cluster as its parts. The layout of its file is in `file`.
 
-use crate::{number_of, FileNumber, LogicalName, RecordNumber};
+use crate::{number_of, Edition, FileNumber, LogicalName, RecordNumber};
 
 #[derive(Clone, Debug, PartialEq, Eq)]
 pub struct Cluster {
+    /// That of its file. No rule of rounds looks at it.
+    pub edition: Edition,
     pub epoch: u8,
     pub pending: Pending,
     pub slaves: Vec<Slave>,

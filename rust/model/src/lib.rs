@@ -9,6 +9,8 @@
 
 mod account;
 mod cluster;
+mod conversion;
+mod edition;
 mod file;
 mod frame;
 mod listing;
@@ -22,7 +24,9 @@ mod trace;
 
 pub use account::{closed_figures, naming_pass, naming_rounds, Account, ClosedFigures};
 pub use cluster::{Cluster, File, Pending, Slave};
-pub use file::{check, load, MOST_BYTES, MOST_SLAVES};
+pub use conversion::to_edition;
+pub use edition::Edition;
+pub use file::{check, load};
 pub use frame::{
     firework_of, read_address, round_of, write_address, write_data, Address, Frame, Operation, FRAME_BYTES,
     MSA, MSD,

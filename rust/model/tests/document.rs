@@ -1,8 +1,8 @@
 //! The documents' own cases (M1 to M10) and rounds worked out by hand: in these someone sends.
 
 use model::{
-    listing, read_address, round, write_address, write_data, Cluster, File, FileNumber, LogicalName, Pending,
-    Refusal, Slave,
+    listing, read_address, round, write_address, write_data, Cluster, Edition, File, FileNumber, LogicalName,
+    Pending, Refusal, Slave,
 };
 
 /// The 96-byte file of M10.
@@ -50,7 +50,7 @@ fn slave(logical_name: u8, physical_name: u64, comparison_value: u64, others: &[
 
 fn file_of(slaves: Vec<Slave>) -> Vec<u8> {
     let pending = Pending { flag: false, name: LogicalName(0), pb2: 0, pb3: 0 };
-    Cluster { epoch: 0, pending, slaves }.encode()
+    Cluster { edition: Edition::One, epoch: 0, pending, slaves }.encode()
 }
 
 /// M10 after the address frame of a write, M2.

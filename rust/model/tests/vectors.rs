@@ -1,6 +1,7 @@
 //! The model against kept cases: vectors from another reading of documents 01 and 02, and cases of our own.
 
 use compare::case::{bytes, hold_all, kind_of, LISTING};
+use compare::editions::turned;
 use compare::engine::Model;
 
 /// The kinds of every file but `base.txt`. Steps of files before request 6 had positions of six words, and listings of
@@ -34,10 +35,13 @@ fn listing_holds(line: &str) -> Result<(), String> {
     let file = left.split_once(' ').and_then(|(_, file)| bytes(file)).ok_or("no bytes")?;
     let text = model::listing(&file);
     let given = text.strip_suffix('\n').ok_or("the last line has no end")?.replace('\n', " / ");
-    if given == expected {
-        Ok(())
-    } else {
+    let in_other_edition = model::check(&file).ok().and_then(|_| turned(&file));
+    if given != expected {
         Err(format!("expected {expected}\n     got {given}\n     for {left}"))
+    } else if in_other_edition.is_some_and(|turned| model::listing(&turned) != text) {
+        Err(format!("another listing in the other edition, for {left}"))
+    } else {
+        Ok(())
     }
 }
 
@@ -99,6 +103,14 @@ fn vectors_of_request_9_hold() {
     let about_summaries = ["fill", "holder", "round-keeping", "step-keeping"];
     let kinds = [&about_summaries[..], &["owner", "step", "trace"]].concat();
     assert_eq!(kinds_that_hold(include_str!("data/request-09.txt")), with(&kinds));
+}
+
+#[test]
+fn vectors_of_request_10_hold() {
+    let about_summaries = ["fill", "holder", "round-keeping", "step-keeping"];
+    let about_editions = ["to-edition-1", "to-edition-2"];
+    let kinds = [&about_summaries[..], &about_editions, &["owner", "step", "trace"]].concat();
+    assert_eq!(kinds_that_hold(include_str!("data/request-10.txt")), with(&kinds));
 }
 
 #[test]

@@ -6,6 +6,8 @@
 
 #![forbid(unsafe_code)]
 
+mod conversion;
+mod edition;
 mod frames;
 mod master_slave;
 mod multipartner;
@@ -16,6 +18,7 @@ mod summary;
 mod survey;
 mod trace;
 
+pub use conversion::{to_edition_1, to_edition_2};
 pub use frames::{read_address, write_address, write_data};
 pub use naming::{start, step};
 pub use owner::owner;
@@ -30,7 +33,6 @@ pub(crate) const ANSWER_BYTES: usize = 64;
 pub(crate) const UNNAMED: u8 = 0xFF;
 pub(crate) const CONFIGURATION: u8 = 0x08;
 pub(crate) const DOCUMENTATION: u8 = 0x3D;
-pub(crate) const EPOCH: usize = 8;
 
 /// A file from outside: the grounds of every call, and 22.
 pub fn check(file: &[u8]) -> u8 {
@@ -84,12 +86,12 @@ fn carry_out(
         return 10;
     };
     match firework {
-        MSA => address_round(file, frame, answer, senders),
+        MSA => address_round(file, survey, frame, answer, senders),
         MSD => data_round(file, survey, frame, answer, senders),
         _ => {
             let ground = partner_ground(frame);
             if ground == 0 {
-                file[EPOCH] = file[EPOCH].wrapping_add(1);
+                raise_epoch(file, survey);
                 *answer = silence(firework);
                 *senders = run_partners(file, survey, round_of(firework).unwrap_or(0), answer);
                 survey.rest(file, 0);
@@ -110,13 +112,24 @@ fn partner_ground(frame: &[u8]) -> u8 {
     }
 }
 
-fn address_round(file: &mut [u8], frame: &[u8], answer: &mut [u8; ANSWER_BYTES], senders: &mut u64) -> u8 {
+fn raise_epoch(file: &mut [u8], survey: &Survey) {
+    let epoch = &mut file[survey.epoch()];
+    *epoch = epoch.wrapping_add(1);
+}
+
+fn address_round(
+    file: &mut [u8],
+    survey: &Survey,
+    frame: &[u8],
+    answer: &mut [u8; ANSWER_BYTES],
+    senders: &mut u64,
+) -> u8 {
     let ground = frames::address_ground(frame);
     if ground != 0 {
         return ground;
     }
-    file[EPOCH] = frame[1];
-    Pending { name: frame[2], pb2: frame[3], record: frame[4] }.store(file);
+    file[survey.epoch()] = frame[1];
+    Pending { name: frame[2], pb2: frame[3], record: frame[4] }.store(file, survey);
     *answer = silence(MSA);
     *senders = 0;
     0
@@ -129,7 +142,7 @@ fn data_round(
     answer: &mut [u8; ANSWER_BYTES],
     senders: &mut u64,
 ) -> u8 {
-    let pending = Pending::of(file);
+    let pending = Pending::of(file, survey);
     let data = match pending {
         Some(Pending { pb2, .. }) if pb2 & 3 == master_slave::WRITE => {
             let ground = frames::data_ground(frame);
@@ -141,7 +154,7 @@ fn data_round(
         _ if frame.len() != 1 => return 11,
         _ => [0; 4],
     };
-    file[EPOCH] = file[EPOCH].wrapping_add(1);
+    raise_epoch(file, survey);
     *answer = silence(MSD);
     let sleepers;
     (*senders, sleepers) = match pending {

@@ -7,7 +7,6 @@ use crate::{u32_at, ANSWER_BYTES, CONFIGURATION, DOCUMENTATION, UNNAMED};
 pub const READ: u8 = 0;
 pub const WRITE: u8 = 1;
 pub const EXECUTE: u8 = 2;
-const FLAG: usize = 9;
 
 /// The operation that an MSD carries out, as the header holds it.
 #[derive(Clone, Copy)]
@@ -18,12 +17,15 @@ pub struct Pending {
 }
 
 impl Pending {
-    pub fn of(file: &[u8]) -> Option<Pending> {
-        (file[FLAG] == 1).then_some(Pending { name: file[10], pb2: file[11], record: file[12] })
+    pub fn of(file: &[u8], survey: &Survey) -> Option<Pending> {
+        let flag = survey.epoch() + 1;
+        let [flag, name, pb2, record] = u32_at(file, flag).to_be_bytes();
+        (flag == 1).then_some(Pending { name, pb2, record })
     }
 
-    pub fn store(self, file: &mut [u8]) {
-        file[FLAG..FLAG + 4].copy_from_slice(&[1, self.name, self.pb2, self.record]);
+    pub fn store(self, file: &mut [u8], survey: &Survey) {
+        let flag = survey.epoch() + 1;
+        file[flag..flag + 4].copy_from_slice(&[1, self.name, self.pb2, self.record]);
     }
 
     /// Carries the operation out, puts what was sent into the answer and returns the mask.
@@ -46,7 +48,7 @@ impl Pending {
 
     /// The slaves that an execute of record 4 of 0x08 puts to sleep, a bit a slave; it changes nothing else.
     #[inline]
-    pub fn who_falls_asleep(self, file: &[u8], survey: &Survey) -> u32 {
+    pub fn who_falls_asleep(self, file: &[u8], survey: &Survey) -> u64 {
         const SLEEP: u8 = CONFIGURATION << 2 | EXECUTE;
         match self {
             Pending { name, pb2: SLEEP, record: 4 } => sleep(file, survey, name),
@@ -63,7 +65,7 @@ fn is_addressed(file: &[u8], survey: &Survey, slave: usize, name: u8) -> bool {
 }
 
 /// Those addressed that have the record.
-fn sleep(file: &[u8], survey: &Survey, name: u8) -> u32 {
+fn sleep(file: &[u8], survey: &Survey, name: u8) -> u64 {
     let falls_asleep = |&slave: &usize| {
         is_addressed(file, survey, slave, name) && survey.record(file, slave, CONFIGURATION, 4).is_some()
     };
@@ -150,7 +152,7 @@ pub fn write_configuration<const BYTES: usize>(
     write_at(file, survey, name, data, |_, slave| Some(survey.configuration(slave) + offset))
 }
 
-#[inline]
+#[inline(always)]
 fn write_at<const BYTES: usize>(
     file: &mut [u8],
     survey: &Survey,

@@ -1,10 +1,11 @@
 //! Multipartner rounds. Each round descriptor list is read once: a 64-bit number holds the slots that an
 //! entry already covers, and for each slot stands who sends, who receives and from or to which place.
 
-use crate::survey::Survey;
-use crate::{ANSWER_BYTES, EPOCH, UNNAMED};
+use crate::survey::{Survey, MOST_SLAVES};
+use crate::{ANSWER_BYTES, UNNAMED};
 
-const SLAVES: usize = 32;
+/// As many as edition 1 has at most.
+const FEW_SLAVES: usize = 32;
 /// Operations 1 and 5 and the odd ones from 8 on, and 0, 2 and 4 and the even ones from 8 on, as sets of bits.
 const SENDS: u32 = 0b1010_1010_0010_0010;
 const RECEIVES: u32 = 0b0101_0101_0001_0101;
@@ -14,16 +15,30 @@ const MULTIPLEXED: u32 = 0x8000;
 const LEAST_STORED: usize = 4;
 
 /// Who acts in each slot, a bit a slave, and each slave's place for it.
-struct Plan {
-    senders: [u32; ANSWER_BYTES],
-    receivers: [u32; ANSWER_BYTES],
+struct Plan<const SLAVES: usize> {
+    senders: [u64; ANSWER_BYTES],
+    receivers: [u64; ANSWER_BYTES],
     places: [[u16; ANSWER_BYTES]; SLAVES],
 }
 
-/// Runs the round, puts what was sent into the answer and returns the mask.
+/// Runs the round, puts what was sent into the answer and returns the mask. A plan costs its size, so that of the few
+/// slaves that most clusters have is a smaller one.
 pub fn run(file: &mut [u8], survey: &Survey, round: u8, answer: &mut [u8; ANSWER_BYTES]) -> u64 {
-    let turns = turns_of(file[EPOCH]);
-    let mut plan =
+    if survey.slaves().len() <= FEW_SLAVES {
+        run_planned::<FEW_SLAVES>(file, survey, round, answer)
+    } else {
+        run_planned::<MOST_SLAVES>(file, survey, round, answer)
+    }
+}
+
+fn run_planned<const SLAVES: usize>(
+    file: &mut [u8],
+    survey: &Survey,
+    round: u8,
+    answer: &mut [u8; ANSWER_BYTES],
+) -> u64 {
+    let turns = turns_of(file[survey.epoch()]);
+    let mut plan: Plan<SLAVES> =
         Plan { senders: [0; ANSWER_BYTES], receivers: [0; ANSWER_BYTES], places: [[0; ANSWER_BYTES]; SLAVES] };
     for slave in survey.slaves() {
         if survey.logical_name(file, slave) != UNNAMED && survey.is_awake(file, slave) {
@@ -35,7 +50,7 @@ pub fn run(file: &mut [u8], survey: &Survey, round: u8, answer: &mut [u8; ANSWER
     plan.carry_out(file, answer)
 }
 
-impl Plan {
+impl<const SLAVES: usize> Plan<SLAVES> {
     /// On its own, since its loop needs the registers.
     #[inline(never)]
     fn read_list(&mut self, file: &[u8], survey: &Survey, slave: usize, list: &[u8], turns: u32) {
@@ -86,8 +101,8 @@ impl Plan {
                 continue;
             }
             let mut byte = 0xFF;
-            for_each_bit(senders.into(), |slave| byte &= file[usize::from(self.places[slave & 31][slot])]);
-            for_each_bit(receivers.into(), |slave| file[usize::from(self.places[slave & 31][slot])] = byte);
+            for_each_bit(senders, |slave| byte &= file[usize::from(self.places[slave % SLAVES][slot])]);
+            for_each_bit(receivers, |slave| file[usize::from(self.places[slave % SLAVES][slot])] = byte);
             answer[slot] = byte;
             mask |= 1 << slot;
         }
@@ -106,7 +121,7 @@ struct Span {
 
 impl Span {
     #[inline]
-    fn enter(self, acting: &mut [u32; ANSWER_BYTES], places: &mut [u16; ANSWER_BYTES], slave_bit: u32) {
+    fn enter(self, acting: &mut [u64; ANSWER_BYTES], places: &mut [u16; ANSWER_BYTES], slave_bit: u64) {
         for_each_bit(self.fresh, |slot| {
             let place = self.first + slot - self.start as usize;
             if self.least <= place && place < self.end {

@@ -4,7 +4,7 @@
 use crate::frames::MSD;
 use crate::master_slave::{baptize, compare, read, write_configuration, Pending, EXECUTE, READ, WRITE};
 use crate::survey::Survey;
-use crate::{silence, ANSWER_BYTES, CONFIGURATION, DOCUMENTATION, EPOCH, UNNAMED};
+use crate::{silence, ANSWER_BYTES, CONFIGURATION, DOCUMENTATION, UNNAMED};
 
 const RUNNING: u64 = 0;
 const ALL_NAMED: u64 = 1;
@@ -101,7 +101,8 @@ fn carry_on(
     let [end, index, step, value, rounds, _, high, low] = run;
     let name = names[*index as usize];
     // The address frame puts the epoch to one more, the data frame adds one.
-    file[EPOCH] = file[EPOCH].wrapping_add(2);
+    let epoch = &mut file[survey.epoch()];
+    *epoch = epoch.wrapping_add(2);
     *rounds += 1;
     if *rounds == 1 {
         // The extra read, whose reply is ignored.
@@ -128,7 +129,7 @@ fn carry_on(
 /// Reads the first half of the physical name of whoever holds a name.
 #[inline]
 fn poll(file: &mut [u8], survey: &Survey, name: u8, answer: &mut [u8; ANSWER_BYTES]) -> u64 {
-    Pending { name, pb2: DOCUMENTATION << 2 | READ, record: 1 }.store(file);
+    Pending { name, pb2: DOCUMENTATION << 2 | READ, record: 1 }.store(file, survey);
     read(file, survey, name, DOCUMENTATION, 1, answer)
 }
 
@@ -156,7 +157,7 @@ fn compare_on(file: &mut [u8], survey: &Survey, run: &mut Run, answer: &mut [u8;
         }
         _ => {
             *comparisons += 1;
-            execute_unnamed(file, 2);
+            execute_unnamed(file, survey, 2);
             let senders = compare(file, survey, UNNAMED, answer);
             if senders != 0 {
                 *value = sent;
@@ -188,7 +189,7 @@ fn give(file: &mut [u8], survey: &Survey, run: &mut Run, length: usize) -> u64 {
             write_half(file, survey, 3, low, low_half(*value))
         }
         _ => {
-            execute_unnamed(file, 1);
+            execute_unnamed(file, survey, 1);
             finish_name(end, index, step, length);
             baptize(file, survey, UNNAMED)
         }
@@ -220,8 +221,8 @@ fn finish_name(end: &mut u64, index: &mut u64, step: &mut u64, length: usize) {
     }
 }
 
-fn execute_unnamed(file: &mut [u8], record: u8) {
-    Pending { name: UNNAMED, pb2: CONFIGURATION << 2 | EXECUTE, record }.store(file);
+fn execute_unnamed(file: &mut [u8], survey: &Survey, record: u8) {
+    Pending { name: UNNAMED, pb2: CONFIGURATION << 2 | EXECUTE, record }.store(file, survey);
 }
 
 /// Writes a half of a comparison value and keeps it.
@@ -234,7 +235,7 @@ fn write_half(file: &mut [u8], survey: &Survey, record: u8, kept: &mut u64, half
 /// Nobody sends at a write. Of record 1 the last byte, the logical name, is not written.
 #[inline]
 fn write_unnamed<const BYTES: usize>(file: &mut [u8], survey: &Survey, record: u8, data: [u8; BYTES]) -> u64 {
-    Pending { name: UNNAMED, pb2: CONFIGURATION << 2 | WRITE, record }.store(file);
+    Pending { name: UNNAMED, pb2: CONFIGURATION << 2 | WRITE, record }.store(file, survey);
     write_configuration(file, survey, UNNAMED, record, data);
     0
 }

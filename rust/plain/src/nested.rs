@@ -2,13 +2,11 @@
 //! labelled exit at the covering entry or the end entry. It is here to tell what that form costs by itself.
 
 use crate::multipartner::{is_out_of_turn, turns_of};
-use crate::survey::Survey;
-use crate::{ANSWER_BYTES, EPOCH, UNNAMED};
-
-const SLAVES: usize = 32;
+use crate::survey::{Survey, MOST_SLAVES};
+use crate::{ANSWER_BYTES, UNNAMED};
 
 /// A slave that takes part, awake and not unnamed: its number in the table, and where its round descriptor list begins
-/// and ends.
+/// and ends, which is before its file 0x3D and so below 65,536.
 #[derive(Clone, Copy)]
 struct Partner {
     slave: usize,
@@ -17,7 +15,7 @@ struct Partner {
 
 /// Runs the round, puts what was sent into the answer and returns the mask.
 pub fn run(file: &mut [u8], survey: &Survey, round: u8, answer: &mut [u8; ANSWER_BYTES]) -> u64 {
-    let mut partners = [Partner { slave: 0, list: (0, 0) }; SLAVES];
+    let mut partners = [Partner { slave: 0, list: (0, 0) }; MOST_SLAVES];
     let mut count = 0;
     for slave in survey.slaves() {
         if survey.logical_name(file, slave) != UNNAMED && survey.is_awake(file, slave) {
@@ -27,7 +25,7 @@ pub fn run(file: &mut [u8], survey: &Survey, round: u8, answer: &mut [u8; ANSWER
             }
         }
     }
-    let turns = turns_of(file[EPOCH]);
+    let turns = turns_of(file[survey.epoch()]);
     let mut mask = 0;
     for slot in 1..ANSWER_BYTES as u8 {
         if let Some(byte) = run_slot(file, survey, &partners[..count], slot, turns) {
@@ -42,7 +40,7 @@ pub fn run(file: &mut [u8], survey: &Survey, round: u8, answer: &mut [u8; ANSWER
 fn run_slot(file: &mut [u8], survey: &Survey, partners: &[Partner], slot: u8, turns: u32) -> Option<u8> {
     let mut byte = 0xFF;
     let mut someone_sent = false;
-    let mut stores = [0u16; SLAVES];
+    let mut stores = [0u16; MOST_SLAVES];
     let mut store_count = 0;
     for partner in partners {
         let list = &file[usize::from(partner.list.0)..usize::from(partner.list.1)];

@@ -88,7 +88,7 @@ fn is_true(file: &[u8], survey: &Survey, held: &[u8], count: u64) -> bool {
 #[inline]
 fn keep(ground: u8, file: &[u8], survey: &Survey, held: &mut [u8]) -> u8 {
     const BAPTIZE: u8 = CONFIGURATION << 2 | EXECUTE;
-    if ground == 0 && matches!(Pending::of(file), Some(Pending { pb2: BAPTIZE, record: 1, .. })) {
+    if ground == 0 && matches!(Pending::of(file, survey), Some(Pending { pb2: BAPTIZE, record: 1, .. })) {
         put_names(file, survey, held);
     }
     ground

@@ -1,14 +1,15 @@
-//! Grounds 1 to 8 in one walk, which keeps where each slave has the two files every round asks for.
+//! Grounds 1 to 8 in one walk over a file of either edition, which keeps where each slave has the two files every round
+//! asks for.
 
-use crate::{u32_at, u64_at, CONFIGURATION, DOCUMENTATION, UNNAMED};
+use crate::edition::{Edition, NARROW, WIDE};
+use crate::{u64_at, CONFIGURATION, DOCUMENTATION, UNNAMED};
 use std::ops::Range;
 
-const HEADER_BYTES: usize = 16;
-const MOST_BYTES: usize = 32_768;
-const MOST_SLAVES: usize = 32;
+pub const MOST_SLAVES: usize = 64;
 
-/// What the walk over an accepted file found.
+/// What the walk over an accepted file found. A place is below 65,536, the most bytes that a file has.
 pub struct Survey {
+    edition: &'static Edition,
     count: usize,
     /// Whether anyone sleeps; who does stands in the table.
     someone_sleeps: bool,
@@ -19,6 +20,7 @@ pub struct Survey {
 impl Survey {
     pub fn new() -> Survey {
         Survey {
+            edition: &NARROW,
             count: 0,
             someone_sleeps: false,
             configuration: [0; MOST_SLAVES],
@@ -28,18 +30,24 @@ impl Survey {
 
     /// Fills the survey: 0, or the ground that turns the file away.
     pub fn walk(&mut self, file: &[u8]) -> u8 {
-        if file.len() > MOST_BYTES {
-            return 1;
+        if Edition::of(file).number == WIDE.number {
+            self.walk_as::<8>(file)
+        } else {
+            self.walk_as::<4>(file)
         }
-        let Some(header) = file.first_chunk::<HEADER_BYTES>() else {
-            return 1;
-        };
-        let ground = header_ground(header, file.len());
+    }
+
+    /// Inlined, so that an edition's numbers are constants of its walk.
+    #[inline(always)]
+    fn walk_as<const ENTRY: usize>(&mut self, file: &[u8]) -> u8 {
+        let edition = Edition::of_entries(ENTRY);
+        let ground = edition.header_ground(file);
         if ground != 0 {
             return ground;
         }
-        self.count = usize::from(header[3]);
-        let Some(lacks_a_file) = self.walk_slaves(file) else {
+        self.edition = edition;
+        self.count = usize::from(file[3]);
+        let Some(lacks_a_file) = self.walk_slaves::<ENTRY>(file) else {
             return 6;
         };
         if lacks_a_file {
@@ -52,24 +60,26 @@ impl Survey {
     }
 
     /// None where the layout is broken, else whether a slave lacks one of its two files.
-    fn walk_slaves(&mut self, file: &[u8]) -> Option<bool> {
-        let table = file.get(HEADER_BYTES..HEADER_BYTES + 4 * self.count)?;
-        // One byte above 1 shows in the or of all.
-        let sleep_bytes = table.as_chunks::<4>().0.iter().fold(0, |seen, entry| seen | entry[3]);
-        if sleep_bytes > 1 {
+    #[inline(always)]
+    fn walk_slaves<const ENTRY: usize>(&mut self, file: &[u8]) -> Option<bool> {
+        let header = Edition::of_entries(ENTRY).header_bytes;
+        let mut place = header + ENTRY * self.count;
+        let table = file.get(header..place)?.as_chunks::<ENTRY>().0;
+        // A bit that none may have shows in the or of all.
+        let all_entries = or_of(table);
+        if is_table_entry_wrong::<ENTRY>(all_entries) {
             return None;
         }
-        self.someone_sleeps = sleep_bytes != 0;
-        let mut place = HEADER_BYTES + 4 * self.count;
+        self.someone_sleeps = all_entries & sleep_bit::<ENTRY>() != 0;
         let mut lacks_a_file = false;
         let places = self.configuration.iter_mut().zip(&mut self.documentation);
-        for (entry, (configuration, documentation)) in table.as_chunks().0.iter().zip(places) {
-            let entry = u32::from_be_bytes(*entry);
-            if (entry >> 16) as usize != place {
+        for (entry, (configuration, documentation)) in table.iter().zip(places) {
+            let (stated, bytes) = directory_in::<ENTRY>(word_of(entry));
+            if stated != place {
                 return None;
             }
-            let after = place + directory_bytes(entry);
-            let directory = file.get(place..after)?.as_chunks().0;
+            let after = place + bytes;
+            let directory = file.get(place..after)?.as_chunks::<ENTRY>().0;
             place = walk_directory(directory, after)?;
             *configuration = configuration_in(directory);
             *documentation = documentation_in(directory);
@@ -78,18 +88,18 @@ impl Survey {
         (place == file.len()).then_some(lacks_a_file)
     }
 
-    /// Equal names have equal marks, so a name whose mark is new need not be compared with the others.
+    /// Equal names have equal marks, so a name whose mark is new need not be compared with the others. There are 256 marks,
+    /// so that few of 64 names share one.
     fn equal_physical_names(&self, file: &[u8]) -> bool {
-        let mut names = [0; MOST_SLAVES];
-        let mut marks = 0u64;
+        let mut marks = [0u64; 4];
         for slave in self.slaves() {
             let name = self.physical_name(file, slave);
-            let mark = 1 << (name.wrapping_mul(0x9E37_79B9_7F4A_7C15) >> 58);
-            if marks & mark != 0 && names[..slave].contains(&name) {
+            let hash = name.wrapping_mul(0x9E37_79B9_7F4A_7C15);
+            let (word, mark) = (&mut marks[(hash >> 62) as usize], 1 << (hash >> 56 & 63));
+            if *word & mark != 0 && (0..slave).any(|other| self.physical_name(file, other) == name) {
                 return true;
             }
-            marks |= mark;
-            names[slave] = name;
+            *word |= mark;
         }
         false
     }
@@ -114,15 +124,20 @@ impl Survey {
         0..self.count.min(MOST_SLAVES)
     }
 
+    /// Where the header has the epoch; the pending flag and bytes come behind it.
+    pub fn epoch(&self) -> usize {
+        self.edition.epoch
+    }
+
     /// Whether a slave takes part in rounds.
     pub fn is_awake(&self, file: &[u8], slave: usize) -> bool {
-        !self.someone_sleeps || file[sleep_place(slave)] == 0
+        !self.someone_sleeps || file[self.edition.sleep_place(slave)] == 0
     }
 
     /// After a round: these sleep, a bit a slave, and everyone else is awake. Mostly nobody slept and nobody does, so
     /// that nothing is stored.
     #[inline]
-    pub fn rest(&mut self, file: &mut [u8], sleepers: u32) {
+    pub fn rest(&mut self, file: &mut [u8], sleepers: u64) {
         if self.someone_sleeps || sleepers != 0 {
             self.store_sleepers(file, sleepers);
         }
@@ -130,9 +145,9 @@ impl Survey {
 
     #[cold]
     #[inline(never)]
-    fn store_sleepers(&mut self, file: &mut [u8], sleepers: u32) {
+    fn store_sleepers(&mut self, file: &mut [u8], sleepers: u64) {
         for slave in self.slaves() {
-            file[sleep_place(slave)] = (sleepers >> slave & 1) as u8;
+            file[self.edition.sleep_place(slave)] = (sleepers >> slave & 1) as u8;
         }
         self.someone_sleeps = sleepers != 0;
     }
@@ -156,16 +171,42 @@ impl Survey {
 
     /// Where a slave keeps a file, and how many bytes it has.
     pub fn find(&self, file: &[u8], slave: usize, number: u8) -> Option<(usize, usize)> {
-        // Numbers rise, so the search ends at the first that is not below.
-        let entry = directory_of(file, slave).iter().find(|entry| entry[0] >= number)?;
-        (entry[0] == number).then_some((place_in(entry), size_in(entry)))
+        if self.is_wide() {
+            find_in(self.directory_of::<8>(file, slave), number)
+        } else {
+            find_in(self.directory_of::<4>(file, slave), number)
+        }
     }
 
     /// The numbers of a slave's files and the range of their bytes, in rising order.
     pub fn files<'a>(&self, file: &'a [u8], slave: usize) -> impl Iterator<Item = (u8, Range<usize>)> + 'a {
-        directory_of(file, slave)
-            .iter()
-            .map(|entry| (entry[0], place_in(entry)..place_in(entry) + size_in(entry)))
+        let (narrow, wide): (&[[u8; 4]], &[[u8; 8]]) = if self.is_wide() {
+            (&[], self.directory_of(file, slave))
+        } else {
+            (self.directory_of(file, slave), &[])
+        };
+        narrow.iter().map(file_in).chain(wide.iter().map(file_in))
+    }
+
+    /// How many files a slave has.
+    pub fn file_count(&self, file: &[u8], slave: usize) -> usize {
+        usize::from(file[self.edition.sleep_place(slave) - 1])
+    }
+
+    pub fn edition(&self) -> &'static Edition {
+        self.edition
+    }
+
+    fn is_wide(&self) -> bool {
+        self.edition.number == WIDE.number
+    }
+
+    /// The directory entries of a slave.
+    pub fn directory_of<'a, const ENTRY: usize>(&self, file: &'a [u8], slave: usize) -> &'a [[u8; ENTRY]] {
+        let entry = Edition::of_entries(ENTRY).header_bytes + ENTRY * slave;
+        let entry: &[u8; ENTRY] = file[entry..entry + ENTRY].try_into().expect("a table entry");
+        let (place, bytes) = directory_in::<ENTRY>(word_of(entry));
+        file[place..place + bytes].as_chunks().0
     }
 
     /// Where the bytes of file 0x3D begin.
@@ -181,52 +222,66 @@ impl Survey {
     }
 }
 
-fn header_ground(header: &[u8; HEADER_BYTES], length: usize) -> u8 {
-    if header[0] != 0x54 || header[1] != 0x41 {
-        return 2;
+/// An entry of four or eight bytes as one number. In the table its upper half is the place of a directory; then come the file
+/// count, the sleep byte and, in the wider one, two zeros.
+#[inline]
+fn word_of<const ENTRY: usize>(entry: &[u8; ENTRY]) -> u64 {
+    match entry[..] {
+        [a, b, c, d] => u32::from_be_bytes([a, b, c, d]).into(),
+        [a, b, c, d, e, f, g, h] => u64::from_be_bytes([a, b, c, d, e, f, g, h]),
+        _ => unreachable!("four bytes or eight"),
     }
-    if header[2] != 1 {
-        return 3;
-    }
-    if usize::from(header[6]) << 8 | usize::from(header[7]) != length {
-        return 4;
-    }
-    let zeros = header[4] | header[13] | header[14] | header[15];
-    if usize::from(header[3]) > MOST_SLAVES || header[5] != 16 || zeros != 0 || header[9] > 1 {
-        return 5;
-    }
-    let operation = header[11] & 3;
-    if header[9] == 1 && (operation == 3 || (operation == 0 && header[10] == 0)) {
-        return 5;
-    }
-    0
 }
 
-/// Four bytes for each file that a table entry counts.
-fn directory_bytes(table_entry: u32) -> usize {
-    (table_entry >> 6 & 0x3FC) as usize
+/// The place and the bytes of the directory that a table entry states.
+#[inline]
+fn directory_in<const ENTRY: usize>(table_entry: u64) -> (usize, usize) {
+    let count = (table_entry >> (4 * ENTRY - 8)) as u8;
+    ((table_entry >> (4 * ENTRY)) as usize, ENTRY * usize::from(count))
+}
+
+/// The or of all entries, as one number.
+#[inline]
+fn or_of<const ENTRY: usize>(table: &[[u8; ENTRY]]) -> u64 {
+    let or = |all: [u8; ENTRY], entry: &[u8; ENTRY]| std::array::from_fn(|at| all[at] | entry[at]);
+    word_of(&table.iter().fold([0; ENTRY], or))
+}
+
+/// The bit of a table entry that tells whether the slave sleeps.
+const fn sleep_bit<const ENTRY: usize>() -> u64 {
+    1 << (4 * ENTRY - 16)
+}
+
+/// Whether the sleep byte is above 1 or a zero behind it is none.
+#[inline]
+fn is_table_entry_wrong<const ENTRY: usize>(table_entry: u64) -> bool {
+    let behind_the_count = (1 << (4 * ENTRY - 8)) - 1;
+    table_entry & behind_the_count & !sleep_bit::<ENTRY>() != 0
 }
 
 /// The place after the slave's last file, or None where an entry breaks the layout. Places past the end
 /// need no test here: the next directory, or the end of the walk, finds them out.
-fn walk_directory(directory: &[[u8; 4]], mut place: usize) -> Option<usize> {
+fn walk_directory<const ENTRY: usize>(directory: &[[u8; ENTRY]], place: usize) -> Option<usize> {
+    let mut place = place as u64;
     let mut number_before = -1;
     for entry in directory {
-        let entry = u32::from_be_bytes(*entry);
-        let number = (entry >> 24) as i32;
-        let records = entry & 0x00FF_0000;
-        if number <= number_before || records == 0 || (entry & 0xFFFF) as usize != place {
+        // Number and record count; then the place, in the wider entry behind two zeros.
+        let entry = word_of(entry);
+        let number = (entry >> (8 * ENTRY - 8)) as i32;
+        let records = entry & 0xFF << (8 * ENTRY - 16);
+        let zeros_and_place = entry & ((1 << (8 * ENTRY - 16)) - 1);
+        if number <= number_before || records == 0 || zeros_and_place != place {
             return None;
         }
         number_before = number;
-        place += (records >> 14) as usize + 4;
+        place += (records >> (8 * ENTRY - 18)) + 4;
     }
     // Numbers only rise, so if the last one is not too high none is.
-    (number_before < 64).then_some(place)
+    (number_before < 64).then_some(place as usize)
 }
 
 /// The place of file 0x08 with at least 3 records, or 0. Numbers rise, so it is among the first nine.
-fn configuration_in(directory: &[[u8; 4]]) -> u16 {
+fn configuration_in<const ENTRY: usize>(directory: &[[u8; ENTRY]]) -> u16 {
     match directory.iter().find(|entry| entry[0] >= CONFIGURATION) {
         Some(entry) if entry[0] == CONFIGURATION && entry[1] >= 3 => place_in(entry) as u16,
         _ => 0,
@@ -234,31 +289,36 @@ fn configuration_in(directory: &[[u8; 4]]) -> u16 {
 }
 
 /// The place of file 0x3D with at least 2 records, or 0. Only 0x3E and 0x3F can come after it.
-fn documentation_in(directory: &[[u8; 4]]) -> u16 {
+fn documentation_in<const ENTRY: usize>(directory: &[[u8; ENTRY]]) -> u16 {
     match directory.iter().rev().find(|entry| entry[0] <= DOCUMENTATION) {
         Some(entry) if entry[0] == DOCUMENTATION && entry[1] >= 2 => place_in(entry) as u16,
         _ => 0,
     }
 }
 
-/// The last byte of a table entry: 0 awake, 1 asleep.
-fn sleep_place(slave: usize) -> usize {
-    HEADER_BYTES + 4 * slave + 3
+/// Place and size of the file of this number. Numbers rise, so the search ends at the first that is not below.
+#[inline]
+fn find_in<const ENTRY: usize>(directory: &[[u8; ENTRY]], number: u8) -> Option<(usize, usize)> {
+    let entry = directory.iter().find(|entry| entry[0] >= number)?;
+    (entry[0] == number).then_some((place_in(entry), size_in(entry)))
 }
 
-/// The directory entries of a slave.
-fn directory_of(file: &[u8], slave: usize) -> &[[u8; 4]] {
-    let entry = u32_at(file, HEADER_BYTES + 4 * slave);
-    let directory = (entry >> 16) as usize;
-    file[directory..directory + directory_bytes(entry)].as_chunks().0
+/// The number of a directory entry and the range of its file's bytes.
+pub fn file_in<const ENTRY: usize>(entry: &[u8; ENTRY]) -> (u8, Range<usize>) {
+    (entry[0], place_in(entry)..place_in(entry) + size_in(entry))
 }
 
 /// How many bytes the file of a directory entry has.
-fn size_in(entry: &[u8; 4]) -> usize {
+fn size_in<const ENTRY: usize>(entry: &[u8; ENTRY]) -> usize {
     4 * usize::from(entry[1]) + 4
 }
 
-/// The place that a directory entry states.
-fn place_in(entry: &[u8; 4]) -> usize {
-    usize::from(u16::from_be_bytes([entry[2], entry[3]]))
+/// The place that a directory entry states, in its second half.
+#[inline]
+fn place_in<const ENTRY: usize>(entry: &[u8; ENTRY]) -> usize {
+    match entry[..] {
+        [_, _, a, b] => usize::from(u16::from_be_bytes([a, b])),
+        [_, _, _, _, a, b, c, d] => u32::from_be_bytes([a, b, c, d]) as usize,
+        _ => unreachable!("four bytes or eight"),
+    }
 }

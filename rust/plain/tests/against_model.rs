@@ -58,3 +58,9 @@ fn the_edges_of_sleepers_hold() {
     edges::sleepers::hold(&Plain { nested: false });
     edges::sleepers::hold(&Plain { nested: true });
 }
+
+#[test]
+fn the_edges_of_editions_hold() {
+    edges::editions::hold(&Plain { nested: false });
+    edges::editions::hold(&Plain { nested: true });
+}

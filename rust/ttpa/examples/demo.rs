@@ -3,17 +3,17 @@
 //! Sees to it that crate and library are of one version, loads a cluster file, checks it, reads a record of a named
 //! slave, has a foreign master try to name slaves by a write, names the unnamed slaves while other rounds go on in
 //! between, tells before and after it who holds a name, runs a captured trace, plans who sends in which slot, has a slot
-//! multiplexed, puts the cluster to sleep and wakes it, and prints what happened. c/demo.c does the same and prints the
-//! same.
+//! multiplexed, puts the cluster to sleep and wakes it, converts the file to edition 2 and back, and prints what happened.
+//! c/demo.c does the same and prints the same.
 
 use std::fs::File;
 use std::io::Read;
 use std::process::ExitCode;
 use ttpa::{
-    Address, End, Owners, Report, Run, Senders, Summary, TtpaError, ANSWER_BYTES, FILE_CONFIGURATION,
-    FILE_DOCUMENTATION, FIREWORK_MSA, FIREWORK_MSD, FIREWORK_ROUND_2, FRAME_BYTES, MOST_FILE_BYTES,
-    MOST_OWNER_BYTES, NAME_BROADCAST, NAME_UNNAMED, OPERATION_EXECUTE, OPERATION_READ, OPERATION_WRITE,
-    RECORD_SLEEP,
+    to_edition, Address, Edition, End, Owners, Report, Run, Senders, Summary, TtpaError, ANSWER_BYTES,
+    EDITION_1_FILE_BYTES, FILE_CONFIGURATION, FILE_DOCUMENTATION, FIREWORK_MSA, FIREWORK_MSD, FIREWORK_ROUND_2,
+    FRAME_BYTES, MOST_FILE_BYTES, MOST_OWNER_BYTES, NAME_BROADCAST, NAME_UNNAMED, OPERATION_EXECUTE,
+    OPERATION_READ, OPERATION_WRITE, RECORD_SLEEP, WIDENED_BYTES,
 };
 
 const ROUND_2: [u8; 1] = [FIREWORK_ROUND_2];
@@ -23,9 +23,12 @@ const STEPS_BETWEEN_TRAFFIC: u64 = 50;
 const MASTER: u8 = 0x80;
 /// Where the demo's file has the logical name of its second slave, which is unnamed.
 const SECOND_NAME: usize = 0x7F;
-/// Where a cluster file tells whether its first slave sleeps, and how far it is to the next slave's byte.
+/// Where a cluster file of edition 1 tells whether its first slave sleeps, and how far it is to the next slave's byte.
 const FIRST_SLEEP: usize = 19;
 const ENTRY_BYTES: usize = 4;
+/// The bytes of a header of edition 1 and of edition 2.
+const HEADER_BYTES: usize = 16;
+const WIDE_HEADER_BYTES: usize = 24;
 /// Five frames captured on site: round 2; a write of E7 7F 00 00 to record 1 of file 0x10 of slave 01, its data
 /// broken at first (the check byte is D1); and round 2 again. First frame count and data length, then for each
 /// frame offset and length.
@@ -234,6 +237,38 @@ impl Cluster {
             self.print_sleep(slaves);
         }
     }
+
+    /// A neighbouring tool works on the file in edition 2: a round on it has the same answer as on the file, and what it
+    /// leaves is, in edition 1 again, what the round leaves of the file.
+    fn show_editions(&mut self) -> Result<(), TtpaError> {
+        let mut wide = vec![0; WIDENED_BYTES];
+        let mut narrow = vec![0; EDITION_1_FILE_BYTES];
+        print_verdict("edition 2 in 291 bytes", to_edition(&self.file, Edition::Two, &mut wide[..291]));
+        let widened = to_edition(&self.file, Edition::Two, &mut wide)?;
+        println!("edition 2: accepted");
+        print_bytes("header", &widened[..WIDE_HEADER_BYTES]);
+        println!("a tester before version 0.11.0 refuses it by {}", older_ground(widened));
+        self.senders = ttpa::round(widened, &ROUND_2, &mut self.answer)?;
+        println!("round 2 on it: accepted");
+        self.print_answer();
+        let narrowed = to_edition(widened, Edition::One, &mut narrow)?;
+        println!("edition 1 again: accepted");
+        print_bytes("header", &narrowed[..HEADER_BYTES]);
+        print_verdict("round 2 on the file", self.send(&ROUND_2));
+        self.print_answer();
+        println!("both are {}", if narrowed == self.file { "the same" } else { "not the same" });
+        Ok(())
+    }
+}
+
+/// What a tester that knows edition 1 alone says of a file with the right mark: 1 by its length, or 3 by byte 2.
+fn older_ground(file: &[u8]) -> u8 {
+    let ground = match file {
+        _ if !(HEADER_BYTES..=EDITION_1_FILE_BYTES).contains(&file.len()) => TtpaError::FileSize,
+        [_, _, 1, ..] => return 0,
+        _ => TtpaError::Edition,
+    };
+    ground.number()
 }
 
 /// Who holds each of some names, asked of the summary alone.
@@ -309,6 +344,9 @@ fn main() -> ExitCode {
     cluster.print_answer();
     cluster.show_multiplexed();
     cluster.show_sleep(summary.names().len());
+    if let Err(error) = cluster.show_editions() {
+        println!("a conversion: {error}");
+    }
     let mut short = [0; ANSWER_BYTES - 1];
     print_verdict("a short answer buffer", ttpa::round(&mut cluster.file, &ROUND_2, &mut short));
     print_verdict("the file as it is now", ttpa::check(&cluster.file));

@@ -133,6 +133,8 @@ mod c {
             room: usize,
             count: u64,
         ) -> u8;
+        pub fn ttpa_to_edition_1(file: *const u8, n: usize, out: *mut u8, room: usize, length: *mut u64) -> u8;
+        pub fn ttpa_to_edition_2(file: *const u8, n: usize, out: *mut u8, room: usize, length: *mut u64) -> u8;
     }
 }
 
@@ -279,4 +281,14 @@ pub fn step_keeping(
             count,
         )
     }
+}
+
+/// Writes a file as one of edition 1: 0, or 1 to 8, 25 or 26.
+pub fn to_edition_1(file: &[u8], out: &mut [u8], length: &mut u64) -> u8 {
+    unsafe { c::ttpa_to_edition_1(file.as_ptr(), file.len(), out.as_mut_ptr(), out.len(), length) }
+}
+
+/// Writes a file as one of edition 2: 0, or 1 to 8 or 26.
+pub fn to_edition_2(file: &[u8], out: &mut [u8], length: &mut u64) -> u8 {
+    unsafe { c::ttpa_to_edition_2(file.as_ptr(), file.len(), out.as_mut_ptr(), out.len(), length) }
 }

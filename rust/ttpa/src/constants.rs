@@ -1,7 +1,15 @@
 //! The numbers of include/ttpa.h by its names, without TTPA_.
 
-/// A cluster file has at most this many bytes.
-pub const MOST_FILE_BYTES: usize = 32_768;
+/// A cluster file has at most this many bytes; those of edition 1 have at most [`EDITION_1_FILE_BYTES`].
+pub const MOST_FILE_BYTES: usize = 65_536;
+/// A cluster file of edition 1 has at most this many bytes.
+pub const EDITION_1_FILE_BYTES: usize = 32_768;
+/// A cluster file has at most this many slaves, and a summary as many names.
+pub const MOST_SLAVES: usize = 64;
+/// A cluster file of edition 1 has at most this many slaves.
+pub const EDITION_1_SLAVES: usize = 32;
+/// A file of edition 1 has at most this many bytes when it is converted to edition 2.
+pub const WIDENED_BYTES: usize = 41_096;
 /// An answer buffer has at least this many bytes; a call writes exactly these.
 pub const ANSWER_BYTES: usize = 64;
 /// An address frame and a data frame have this many bytes. The last is the check: the exclusive or of the
@@ -44,5 +52,5 @@ pub const FILE_CONFIGURATION: u8 = 0x08;
 pub const FILE_DOCUMENTATION: u8 = 0x3D;
 /// The record of [`FILE_CONFIGURATION`] whose execute puts addressed slaves that have it to sleep, after its data frame. A
 /// sleeping slave takes no part in rounds and is awake after the next data frame or multipartner round that is carried
-/// out; the last byte of its entry in the slave table tells it, 0 awake and 1 asleep.
+/// out; the sleep byte of its entry in the slave table tells it, 0 awake and 1 asleep.
 pub const RECORD_SLEEP: u8 = 4;

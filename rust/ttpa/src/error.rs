@@ -5,11 +5,11 @@ use core::fmt;
 #[non_exhaustive]
 pub enum TtpaError {
     // .ci/refusals writes from here: variants
-    /// 1: the file is shorter than 16 or longer than 32,768 bytes.
+    /// 1: the file is shorter than 16 or longer than 32,768 bytes; if byte 2 is 2, than 24 or 65,536.
     FileSize,
     /// 2: the mark is wrong.
     Mark,
-    /// 3: the edition is not 1.
+    /// 3: the edition is neither 1 nor 2.
     Edition,
     /// 4: the length field is not the file's length.
     LengthField,
@@ -53,6 +53,10 @@ pub enum TtpaError {
     MultiplexedSend,
     /// 24: the summary does not match its cluster file, or its count is above its slice's length.
     Summary,
+    /// 25: a file to be narrowed to edition 1 has more than 32 slaves, or would have more than 32,768 bytes there.
+    EditionLimits,
+    /// 26: the buffer is too short for the converted file.
+    ConversionBuffer,
     // .ci/refusals writes to here
     /// A number that this edition of the crate does not know.
     Other(u8),
@@ -60,7 +64,7 @@ pub enum TtpaError {
 
 /// The variants in the order of their numbers, from 1.
 // .ci/refusals writes from here: numbered
-const NUMBERED: [TtpaError; 24] = [
+const NUMBERED: [TtpaError; 26] = [
     TtpaError::FileSize,
     TtpaError::Mark,
     TtpaError::Edition,
@@ -85,6 +89,8 @@ const NUMBERED: [TtpaError; 24] = [
     TtpaError::EqualLogicalNames,
     TtpaError::MultiplexedSend,
     TtpaError::Summary,
+    TtpaError::EditionLimits,
+    TtpaError::ConversionBuffer,
 ];
 // .ci/refusals writes to here
 
@@ -107,9 +113,11 @@ impl TtpaError {
     fn text(self) -> &'static str {
         match self {
             // .ci/refusals writes from here: arms
-            TtpaError::FileSize => "the cluster file is shorter than 16 or longer than 32,768 bytes",
+            TtpaError::FileSize => {
+                "the cluster file is shorter than its header or longer than 32,768 bytes, 65,536 in edition 2"
+            }
             TtpaError::Mark => "the file is no cluster file: it does not begin with the mark 0x54 0x41",
-            TtpaError::Edition => "the cluster file's edition, byte 2 of its header, is not 1",
+            TtpaError::Edition => "the cluster file's edition, byte 2 of its header, is neither 1 nor 2",
             TtpaError::LengthField => "the cluster file is not as long as its header says",
             TtpaError::Header => {
                 "the cluster file's header has a wrong count, table offset, pending operation or zero byte"
@@ -157,6 +165,10 @@ impl TtpaError {
             TtpaError::Summary => {
                 "the summary does not match the cluster file, or has more names than there is room for"
             }
+            TtpaError::EditionLimits => {
+                "the cluster file does not fit into edition 1, which has at most 32 slaves and 32,768 bytes"
+            }
+            TtpaError::ConversionBuffer => "the buffer is too short for the converted cluster file",
             TtpaError::Other(_) => "refused on a ground that this version has no text for",
             // .ci/refusals writes to here
         }
@@ -218,7 +230,9 @@ mod tests {
         assert_eq!(TtpaError::EqualLogicalNames.number(), 22);
         assert_eq!(TtpaError::MultiplexedSend.number(), 23);
         assert_eq!(TtpaError::Summary.number(), 24);
-        assert_eq!(TtpaError::Other(25).number(), 25);
+        assert_eq!(TtpaError::EditionLimits.number(), 25);
+        assert_eq!(TtpaError::ConversionBuffer.number(), 26);
+        assert_eq!(TtpaError::Other(27).number(), 27);
         // .ci/refusals writes to here
     }
 }

@@ -1,5 +1,6 @@
 //! The TTP/A cluster engine for Rust programs: check a cluster file, read and write frames, carry out
-//! rounds on the file, name its slaves, run captured traces, write the owner file, tell who holds a name.
+//! rounds on the file, name its slaves, run captured traces, write the owner file, tell who holds a name, convert the file
+//! between its two editions.
 //!
 //! The engine keeps no state, never allocates and always returns. Everything it works on is lent to it for
 //! the time of one call. A call that refuses alters nothing it was lent.
@@ -24,6 +25,7 @@
 
 pub mod calls;
 mod constants;
+mod edition;
 mod error;
 mod owner;
 mod run;
@@ -32,10 +34,11 @@ mod trace;
 mod version;
 
 pub use constants::*;
+pub use edition::{to_edition, Edition};
 pub use error::TtpaError;
 pub use owner::{owner, Owners, MOST_OWNER_BYTES};
 pub use run::{End, Run};
-pub use summary::{round_keeping, Summary, MOST_SLAVES};
+pub use summary::{round_keeping, Summary};
 pub use trace::{trace, Report, MOST_TRACE_BYTES};
 pub use version::{check_version, version, VersionMismatch, VERSION};
 

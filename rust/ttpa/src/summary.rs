@@ -1,9 +1,6 @@
 use crate::calls::{self, NOBODY, RUN_WORDS};
-use crate::{version, Senders, TtpaError};
+use crate::{version, Senders, TtpaError, MOST_SLAVES};
 use core::fmt;
-
-/// A cluster file has at most this many slaves, and a summary as many names.
-pub const MOST_SLAVES: usize = 32;
 
 /// A summary of a cluster file: each slave's logical name in table order, so that who holds a name is told without a look
 /// at the file. It owns its names. The default is that of a file without slaves.
@@ -24,7 +21,7 @@ pub const MOST_SLAVES: usize = 32;
 /// }
 /// # Ok::<(), ttpa::TtpaError>(())
 /// ```
-#[derive(Clone, Copy, Default, PartialEq, Eq)]
+#[derive(Clone, Copy, PartialEq, Eq)]
 pub struct Summary {
     /// All 0 after the names.
     held: [u8; MOST_SLAVES],
@@ -78,6 +75,12 @@ impl Summary {
         let Summary { held, count } = self;
         TtpaError::of(calls::step_keeping(file, run, names, answer, &mut senders, held, *count))?;
         Ok(Senders(senders))
+    }
+}
+
+impl Default for Summary {
+    fn default() -> Summary {
+        Summary { held: [0; MOST_SLAVES], count: 0 }
     }
 }
 

@@ -4,8 +4,8 @@
 use compare::campaign::agrees_with_model;
 use compare::case::hold_all;
 use compare::edges;
-use compare::engine::{Engine, ReportWords, RunWords, Summary};
-use ttpa::{calls, Address, End, Report, Run, Senders, TtpaError};
+use compare::engine::{self, Engine, ReportWords, RunWords, Summary};
+use ttpa::{calls, Address, Edition, End, Report, Run, Senders, TtpaError};
 
 /// The safe functions in the form of the C calls.
 struct Wrapper;
@@ -64,6 +64,14 @@ impl Engine for Wrapper {
 
     fn owner(&self, file: &[u8], master: u8, buffer: &mut [u8], length: &mut u64) -> u8 {
         number(ttpa::owner(file, master, buffer).map(|owners| *length = owners.bytes().len() as u64))
+    }
+
+    fn to_edition(&self, file: &[u8], edition: engine::Edition, buffer: &mut [u8], length: &mut u64) -> u8 {
+        let edition = match edition {
+            engine::Edition::One => Edition::One,
+            engine::Edition::Two => Edition::Two,
+        };
+        number(ttpa::to_edition(file, edition, buffer).map(|written| *length = written.len() as u64))
     }
 
     fn fill(&self, file: &[u8], held: &mut [u8], count: &mut u64) -> u8 {
@@ -152,6 +160,7 @@ fn the_safe_functions_give_the_kept_results() {
         include_str!("../../model/tests/data/request-07.txt"),
         include_str!("../../model/tests/data/request-08.txt"),
         include_str!("../../model/tests/data/request-09.txt"),
+        include_str!("../../model/tests/data/request-10.txt"),
     ] {
         let held = hold_all(&Wrapper, text);
         assert!(held.passed > 0);
@@ -197,4 +206,9 @@ fn the_edges_of_summaries_hold() {
 #[test]
 fn the_edges_of_sleepers_hold() {
     edges::sleepers::hold(&Wrapper);
+}
+
+#[test]
+fn the_edges_of_editions_hold() {
+    edges::editions::hold(&Wrapper);
 }

@@ -1,7 +1,7 @@
 -- "An accepted MSA sets the epoch to PB0 and becomes pending until the next one" (document 01, "What slaves do"), over lists of round
 -- calls, one after the other on a file. A naming step that makes a round sends an MSA of its own, so it is a call with one; any other
 -- step leaves the file alone.
-use Prim.Native.Nat.{ℕ}
+use Prim.Native.Nat.{ℕ, _+_, _%_}
 use mathlib.Core.Path.{_≡_}
 use mathlib.Core.List.{List, [], _∷_}
 use lib.ListN.{getD}
@@ -9,7 +9,7 @@ use Rattle.file.specs.Rules.Bytes.{Bytes, All}
 use Rattle.file.specs.Rules.Layout.{pendingFlag}
 use Rattle.file.specs.Rules.Cluster.{Cluster}
 use Rattle.file.specs.Rules.Decode.{decode}
-use Rattle.frame.specs.Rules.Fireworks.{msa}
+use Rattle.frame.specs.Rules.Fireworks.{Round, multipartner, msd, msa}
 use Rattle.cluster.specs.Rules.Grounds.{roundBy}
 use Rattle.cluster.specs.Rules.Round.{roundGround, roundOn}
 
@@ -55,3 +55,13 @@ abbrev pub StaysPending : Type 0
 StaysPending =
     (file : List ℕ) (calls : List FrameCall) → Bytes file → All (λ (c : FrameCall). Bytes (c .frame)) calls → WithoutMsa file calls →
     Pending (decode (fileAfter file calls)) (decode file .flag) (decode file .pendingName) (decode file .pendingPB2) (decode file .pendingPB3)
+
+-- "Any other round first adds 1 to the epoch, 255 going to 0.": after every accepted MSD, and every accepted multipartner frame, whoever sleeps
+pub data RaisesEpoch : Round → Type 0 where
+  byMsd : RaisesEpoch msd
+  byMultipartner : {r : ℕ} → RaisesEpoch (multipartner r)
+
+abbrev pub EpochRaised : Type 0
+EpochRaised =
+    (file frame buffer : List ℕ) → Bytes file → Bytes frame → roundGround file frame buffer ≡ 0 → RaisesEpoch (roundBy frame) →
+    decode (roundOn file frame buffer .2) .epoch ≡ (decode file .epoch + 1) % 256

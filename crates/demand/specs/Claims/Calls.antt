@@ -25,7 +25,8 @@ use Rattle.demand.specs.Claims.Traces.{CallOrTrace, halfwayFrom, singly}
 -- a call, by all that it is handed except file, run and names: a step's answer buffer and the senders' word; a frame, the answer
 -- buffer and the senders' word; a trace and the report's words. "Every round and naming step may be given the summary" (document 02,
 -- job 8): then a slice and a count come last, any slice and any count, and a list may have such calls and others in any order. The other
--- C calls, ttpa_start aside, write neither file nor run: ttpa_fill and ttpa_owner only read the file, ttpa_holder reads the slice alone.
+-- C calls, ttpa_start aside, write neither file nor run: ttpa_fill, ttpa_owner, ttpa_to_edition_1 and ttpa_to_edition_2 only read the file,
+-- ttpa_holder reads the slice alone.
 pub data CCall : Type 0 where
   ttpaStep : List ℕ → ℕ → CCall
   ttpaStepKeeping : List ℕ → ℕ → List ℕ → ℕ → CCall

@@ -6,9 +6,9 @@ use mathlib.Core.Bool.{Bool, true, false, cond}
 use lib.ListN.{length, getD, take}
 use lib.Dec.{eqb, leb}
 use Rattle.file.specs.Rules.Order.{firstOf, both}
-use Rattle.file.specs.Rules.Layout.{headerSize, entrySize}
+use Rattle.file.specs.Rules.Layout.{OffsetWidth, headerSize, entrySize}
 use Rattle.file.specs.Rules.Layout.{fillLength, maxSlaves, maxLength}
-use Rattle.file.specs.Inner.Layout.{OffsetWidth, neededConfiguration, neededDocumentation, physicalNamePlace, longWidth}
+use Rattle.file.specs.Inner.Layout.{neededConfiguration, neededDocumentation, physicalNamePlace, longWidth}
 use Rattle.file.specs.Rules.Cluster.{configuration, documentation}
 use Rattle.file.specs.Rules.Bytes.{All, numberOf, part, allZero}
 use Rattle.file.specs.Rules.Decode.{offsetAt, fileSize}

@@ -1,14 +1,6 @@
--- The widths of an offset for which the functions of the checker are proved, and names for numbers of the layout that contracts and
--- proofs repeat. `Rules` has each number where its sentence stands.
-use Prim.Native.Nat.{ℕ, _+_, _*_, _%_, _≤_}
-use mathlib.Core.Path.{_≡_}
+-- Names for numbers of the layout that contracts and proofs repeat. `Rules` has each number where its sentence stands.
+use Prim.Native.Nat.{ℕ, _+_, _*_}
 use Rattle.file.specs.Rules.Layout.{recordSize}
-
--- 2 bytes in edition 1, 4 in the wider one that request 10 brings
-pub record OffsetWidth (w : ℕ) : Type 0 where
-  pub least : 2 ≤ w
-  pub most : w ≤ 4
-  pub even : w % 2 ≡ 0
 
 -- the header's places behind the table's offset: the length, the five free fields, the zeros
 abbrev pub lengthPlace : ℕ → ℕ

@@ -6,7 +6,7 @@ use mathlib.Core.List.{List, [], _∷_}
 use mathlib.Core.Bool.{cond}
 use lib.ListN.{length, getD, set}
 use lib.Dec.{eqb}
-use Rattle.file.specs.Rules.Layout.{headerSize, entrySize}
+use Rattle.file.specs.Rules.Layout.{widthIn, headerSize, entrySize}
 use Rattle.file.specs.Rules.Cluster.{File, Slave, Cluster}
 pub use Rattle.file.specs.Rules.Cluster.{noSlave}
 use Rattle.file.specs.Rules.Encode.{slaveSize, slavesPlace}
@@ -30,17 +30,13 @@ filePlaceFrom w place (x ∷ xs) (suc s) n = filePlaceFrom w (place + slaveSize 
 unfoldable pub filePlaceAt : ℕ → Cluster → ℕ → ℕ → ℕ
 filePlaceAt w c s n = filePlaceFrom w (slavesPlace w (c .slaves)) (c .slaves) s n
 
--- the bytes of an offset in an edition
-abbrev pub widthIn : ℕ → ℕ
-widthIn edition = 2 * edition
-
 -- where the encoding at the width of its edition, which is a legal cluster's encoding, keeps file n of slave s
 unfoldable pub filePlace : Cluster → ℕ → ℕ → ℕ
 filePlace c s n = filePlaceAt (widthIn (c .edition)) c s n
 
--- the slaves that an array has room for
+-- the slaves that an array has room for: the most of either edition
 abbrev pub slavesRoom : ℕ
-slavesRoom = 32
+slavesRoom = 64
 
 -- a list of places has a slave's two together: that of 0x08, then that of 0x3D
 abbrev pub placesEach : ℕ

@@ -1,4 +1,4 @@
--- A cluster with bytes of a file, with other slaves or with the header's free fields replaced, all else as it was.
+-- A cluster with bytes of a file, with other slaves, with the header's free fields or with the edition replaced, all else as it was.
 use Prim.Native.Nat.{ℕ}
 use mathlib.Core.List.{List, [], _∷_}
 use mathlib.Core.Bool.{cond}
@@ -18,6 +18,10 @@ putInSlave s n k b = record { asleep = s .asleep; files = putAmong (s .files) n 
 -- its sleep byte replaced
 unfoldable pub withSleep : Slave → ℕ → Slave
 withSleep s b = record { asleep = b; files = s .files }
+
+-- the edition replaced: epoch, pending bytes, sleep bytes and files as they were
+unfoldable pub withEdition : Cluster → ℕ → Cluster
+withEdition c e = record { edition = e; epoch = c .epoch; flag = c .flag; pendingName = c .pendingName; pendingPB2 = c .pendingPB2; pendingPB3 = c .pendingPB3; slaves = c .slaves }
 
 unfoldable pub withSlaves : Cluster → List Slave → Cluster
 withSlaves c ss = record { edition = c .edition; epoch = c .epoch; flag = c .flag; pendingName = c .pendingName; pendingPB2 = c .pendingPB2; pendingPB3 = c .pendingPB3; slaves = ss }

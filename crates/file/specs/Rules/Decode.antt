@@ -4,7 +4,7 @@ use Prim.Native.Nat.{ℕ, zero, suc, _+_, _*_}
 use mathlib.Core.List.{List, [], _∷_}
 use lib.ListN.{getD}
 use Rattle.file.specs.Rules.Bytes.{numberOf, part}
-use Rattle.file.specs.Rules.Layout.{offsetWidth, editionOf, headerSize, entrySize, recordSize}
+use Rattle.file.specs.Rules.Layout.{widthOf, editionOf, headerSize, entrySize, recordSize}
 use Rattle.file.specs.Rules.Cluster.{File, Slave, Cluster}
 
 -- a number of the offset's width at a place
@@ -15,7 +15,8 @@ offsetAt w f at = numberOf (part f at w)
 unfoldable pub fileSize : ℕ → ℕ
 fileSize r = recordSize * (r + 1)
 
--- the file of the directory entry at d: its number, its record count behind that, its offset from byte 2 on (w in general)
+-- the file of the directory entry at d: its number, its record count behind that, its offset from byte 2 on (w in general); "file number,
+-- record count, two zeros, offset (4)" (document 02, job 10)
 unfoldable pub fileAt : ℕ → List ℕ → ℕ → File
 fileAt w f d = record { number = getD f d 0; bytes = part f (offsetAt w f (d + w)) (fileSize (getD f (d + 1) 0)) }
 
@@ -33,10 +34,11 @@ unfoldable pub slavesAt : ℕ → List ℕ → ℕ → ℕ → List Slave
 slavesAt w f t zero = []
 slavesAt w f t (suc n) = slaveAt w f t ∷ slavesAt w f (t + entrySize w) n
 
--- bytes 8 to 12 in edition 1 are the epoch, the pending flag, the pending logical name, PB2 and PB3; byte 3 is the slave count
+-- the epoch, the pending flag, the pending logical name, PB2 and PB3 are bytes 8 to 12 in edition 1, "12 to 16 epoch and pending bytes" in
+-- edition 2 (document 02, job 10); byte 3 is the slave count
 unfoldable pub decodeAt : ℕ → List ℕ → Cluster
 decodeAt w f = record { edition = editionOf w; epoch = getD f (4 + 2 * w) 0; flag = getD f (5 + 2 * w) 0; pendingName = getD f (6 + 2 * w) 0; pendingPB2 = getD f (7 + 2 * w) 0; pendingPB3 = getD f (8 + 2 * w) 0; slaves = slavesAt w f (headerSize w) (getD f 3 0) }
 
--- edition 1
+-- at the width of the file's edition: "All calls take both editions" (document 02, job 10)
 unfoldable pub decode : List ℕ → Cluster
-decode f = decodeAt offsetWidth f
+decode f = decodeAt (widthOf f) f

@@ -1,14 +1,14 @@
--- The bytes of a cluster (document 01, "The cluster file"), at offsets of w bytes. The offsets follow from the sizes, so a cluster
--- has one encoding.
+-- The bytes of a cluster (document 01, "The cluster file"; document 02, job 10), at offsets of w bytes. The offsets follow from the
+-- sizes, so a cluster has one encoding.
 use Prim.Native.Nat.{ℕ, _+_, _*_}
 use mathlib.Core.List.{List, [], _∷_, _++_}
 use lib.ListN.{length, replicate}
 use Rattle.file.specs.Rules.Bytes.{bytesOf}
-use Rattle.file.specs.Rules.Layout.{offsetWidth, editionOf, headerSize, entrySize, fillLength, zerosLength}
+use Rattle.file.specs.Rules.Layout.{widthIn, editionOf, headerSize, entrySize, fillLength, zerosLength}
 use Rattle.file.specs.Rules.Cluster.{File, Slave, Cluster, lastRecord}
 
 -- "A directory entry is 4 bytes: file number 0 to 63, strictly rising; record count r, 1 to 255; offset (2)." (the bounds and the
--- order: `Legal`)
+-- order: `Legal`); in edition 2 "a directory entry is file number, record count, two zeros, offset (4)" (document 02, job 10)
 unfoldable pub directoryEntry : ℕ → ℕ → File → List ℕ
 directoryEntry w place x = (x .number ∷ lastRecord (x .bytes) ∷ []) ++ (replicate (fillLength w) 0 ++ bytesOf w place)
 
@@ -40,7 +40,7 @@ slavesSize w [] = 0
 slavesSize w (s ∷ ss) = slaveSize w s + slavesSize w ss
 
 -- "A table entry is 4 bytes: directory offset (2), file count (1), zero."; "The zero at the end of a table entry becomes 0 awake or 1
--- asleep." (document 02, job 9)
+-- asleep." (document 02, job 9); in edition 2 "A table entry is offset (4), file count, sleep byte, two zeros" (job 10)
 unfoldable pub tableEntry : ℕ → ℕ → Slave → List ℕ
 tableEntry w place s = bytesOf w place ++ (length (s .files) ∷ s .asleep ∷ replicate (fillLength w) 0)
 
@@ -58,6 +58,7 @@ fileLength w ss = slavesPlace w ss + slavesSize w ss
 
 -- "0 to 1 the mark 0x54 0x41; 2 the edition, 1; 3 the slave count, 0 to 32; 4 to 5 the offset of the slave table, 16; 6 to 7 the
 -- file's length; 8 the epoch; 9 the pending flag, 0 or 1; 10 to 12 the pending logical name, PB2 and PB3; 13 to 15 zero"
+-- "0 to 3 as before, 4 to 7 table offset 24, 8 to 11 length, 12 to 16 epoch and pending bytes, 17 to 23 zero" (document 02, job 10)
 unfoldable pub header : ℕ → Cluster → List ℕ
 header w c =
     (0x54 ∷ 0x41 ∷ editionOf w ∷ length (c .slaves) ∷ []) ++
@@ -70,6 +71,6 @@ unfoldable pub encodeAt : ℕ → Cluster → List ℕ
 encodeAt w c =
     header w c ++ (table w (slavesPlace w (c .slaves)) (c .slaves) ++ slavesBytes w (slavesPlace w (c .slaves)) (c .slaves))
 
--- edition 1
+-- at the width of its edition
 unfoldable pub encode : Cluster → List ℕ
-encode c = encodeAt offsetWidth c
+encode c = encodeAt (widthIn (c .edition)) c

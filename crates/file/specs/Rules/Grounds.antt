@@ -1,5 +1,6 @@
 -- Grounds 1 to 8 (document 01, "Grounds for turning something away") and 22 (document 02, job 5), each by its own name, and the first
--- of them that holds.
+-- of them that holds. Those of the file's bytes are by w, the bytes of an offset, with the numbers of the edition of that width
+-- (document 02, job 10): at the width of the file's own edition they are the file's.
 use Prim.Native.Nat.{ℕ, zero, suc, _+_, _*_}
 use mathlib.Core.List.{List, [], _∷_, _++_, map}
 use mathlib.Core.Bool.{Bool, true, false, cond, not}
@@ -7,7 +8,7 @@ use lib.ListN.{length, getD}
 use lib.Dec.{eqb, leb, ltb}
 use Rattle.file.specs.Rules.Bytes.{part, allZero}
 use Rattle.file.specs.Rules.Order.{Ground, firstOf, both, either}
-use Rattle.file.specs.Rules.Layout.{offsetWidth, editionOf, pendingFlag, zerosLength}
+use Rattle.file.specs.Rules.Layout.{widthOf, editionOf, pendingFlag, zerosLength}
 use Rattle.file.specs.Rules.Layout.{headerSize, entrySize, fillLength, maxSlaves, maxLength}
 use Rattle.file.specs.Rules.Cluster.{Slave, bytesIn, lastRecord, configuration, documentation, physicalName, logicalNames, unnamed, operationOf, noOperation, broadcastRead}
 use Rattle.file.specs.Rules.Decode.{offsetAt, fileSize, decodeAt}
@@ -15,7 +16,8 @@ use Rattle.file.specs.Rules.Results.{Result, resultOf}
 
 -- ---- 1 to 5: the header
 
--- 1. "The file is shorter than 16 or longer than 32,768 bytes."
+-- 1. "The file is shorter than 16 or longer than 32,768 bytes."; "The length limits of number 1 are edition 2's (24 and 65,536) if byte 2
+-- is present and is 2, otherwise those of edition 1" (document 02, job 10)
 unfoldable pub wrongSize : ℕ → List ℕ → Bool
 wrongSize w f = either (ltb (length f) (headerSize w)) (ltb (maxLength w) (length f))
 
@@ -23,11 +25,12 @@ wrongSize w f = either (ltb (length f) (headerSize w)) (ltb (maxLength w) (lengt
 unfoldable pub wrongMark : List ℕ → Bool
 wrongMark f = not (both (eqb (getD f 0 0) 0x54) (eqb (getD f 1 0) 0x41))
 
--- 3. "The edition is not 1."
+-- 3. "The edition is not 1."; "numbers 3 to 5 use the edition's own values" (document 02, job 10): at the file's own width it is that the
+-- edition is neither 1 nor 2
 unfoldable pub wrongEdition : ℕ → List ℕ → Bool
 wrongEdition w f = not (eqb (getD f 2 0) (editionOf w))
 
--- 4. "The length field is not the file's length.": in edition 1 it begins at byte 6
+-- 4. "The length field is not the file's length.": it begins at byte 6 in edition 1, at byte 8 in edition 2
 unfoldable pub wrongLength : ℕ → List ℕ → Bool
 wrongLength w f = not (eqb (offsetAt w f (4 + w)) (length f))
 
@@ -38,7 +41,9 @@ wrongPending flag name pb2 =
     (both (eqb flag pendingFlag) (either (noOperation (operationOf pb2)) (broadcastRead (operationOf pb2) name)))
 
 -- 5. "The count is above 32, the table offset is not 16, a header zero is not zero, the flag ..": the count is byte 3, the offset begins
--- at byte 4; in edition 1 the zeros begin at byte 13, and the flag, the pending logical name and PB2 are bytes 9, 10 and 11
+-- at byte 4; in edition 1 the zeros begin at byte 13, and the flag, the pending logical name and PB2 are bytes 9, 10 and 11; in edition
+-- 2 the count may be 64, the table offset is 24, the zeros begin at byte 17, and the flag, the pending logical name and PB2 are bytes 13,
+-- 14 and 15
 unfoldable pub wrongHeader : ℕ → List ℕ → Bool
 wrongHeader w f =
     either (ltb (maxSlaves w) (getD f 3 0))
@@ -152,12 +157,12 @@ fileGroundsAt w f =
 unfoldable pub fileGroundAt : ℕ → List ℕ → ℕ
 fileGroundAt w f = firstOf (fileGroundsAt w f)
 
--- edition 1
+-- at the width of the file's edition
 unfoldable pub fileGrounds : List ℕ → List Ground
-fileGrounds f = fileGroundsAt offsetWidth f
+fileGrounds f = fileGroundsAt (widthOf f) f
 
 unfoldable pub fileGround : List ℕ → ℕ
-fileGround f = fileGroundAt offsetWidth f
+fileGround f = fileGroundAt (widthOf f) f
 
 -- ---- 22: "Loading a file from outside (the checker's call and the listing program, nothing else)"
 
@@ -172,7 +177,7 @@ equalLogicalNames w f = hasRepeat (heldNames (logicalNames (decodeAt w f)))
 
 -- "after 8"
 unfoldable pub loadGround : List ℕ → ℕ
-loadGround f = firstOf (fileGrounds f ++ (22, equalLogicalNames offsetWidth f) ∷ [])
+loadGround f = firstOf (fileGrounds f ++ (22, equalLogicalNames (widthOf f) f) ∷ [])
 
 -- what the checker's call answers
 unfoldable pub loadVerdict : List ℕ → Result (Unit {0})

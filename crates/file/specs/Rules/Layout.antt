@@ -1,16 +1,36 @@
--- The numbers of the layout (document 01, "The cluster file": "Our own layout, edition 1."), each by w, the bytes of an offset: 2 in
--- edition 1. The number that it is in edition 1 stands in its comment, and `proofs/EditionOne.antt` computes them all.
-use Prim.Native.Nat.{ℕ, _+_, _*_, _-_, _/_}
+-- The numbers of the layout, each by w, the bytes of an offset: 2 in edition 1 (document 01, "The cluster file": "Our own layout,
+-- edition 1."), 4 in edition 2 (document 02, job 10: "In edition 2 offsets and length have 4 bytes"). The number that it is in edition
+-- 1, then that in edition 2, stands in its comment; `Claims/EditionOne` and `Claims/EditionTwo` compute them all.
+use Prim.Native.Nat.{ℕ, _+_, _*_, _-_, _/_, _%_, _≤_}
+use mathlib.Core.Path.{_≡_}
+use mathlib.Core.List.{List}
+use mathlib.Core.Bool.{cond}
+use lib.ListN.{getD}
+use lib.Dec.{eqb}
 
--- the bytes of an offset in edition 1
-abbrev pub offsetWidth : ℕ
-offsetWidth = 2
+-- ---- the width of an offset
+
+-- the bytes of an offset in an edition
+abbrev pub widthIn : ℕ → ℕ
+widthIn edition = 2 * edition
+
+-- a width that there is: 2 bytes or 4
+pub record OffsetWidth (w : ℕ) : Type 0 where
+  pub least : 2 ≤ w
+  pub most : w ≤ 4
+  pub even : w % 2 ≡ 0
+
+-- that of a file: edition 2's "if byte 2 is present and is 2, otherwise those of edition 1" (a byte that is not there is read as 0)
+unfoldable pub widthOf : List ℕ → ℕ
+widthOf f = cond (eqb (getD f 2 0) 2) (widthIn 2) (widthIn 1)
 
 -- ---- the header: "Header, 16 bytes: 0 to 1 the mark 0x54 0x41; 2 the edition, 1; 3 the slave count, 0 to 32; 4 to 5 the offset of
 -- the slave table, 16; 6 to 7 the file's length; 8 the epoch; 9 the pending flag, 0 or 1; 10 to 12 the pending logical name, PB2 and
 -- PB3; 13 to 15 zero."
+-- "Header, 24 bytes: 0 to 3 as before, 4 to 7 table offset 24, 8 to 11 length, 12 to 16 epoch and pending bytes, 17 to 23 zero."
+-- (document 02, job 10)
 
--- the edition's number: 1
+-- the edition's number: 1, 2
 abbrev pub editionOf : ℕ → ℕ
 editionOf w = w / 2
 
@@ -18,27 +38,27 @@ editionOf w = w / 2
 abbrev pub pendingFlag : ℕ
 pendingFlag = 1
 
--- the zeros at its end: 3 of them
+-- the zeros at its end: 3, 7
 abbrev pub zerosLength : ℕ → ℕ
 zerosLength w = 2 * w - 1
 
--- the header's length, which is the slave table's offset: 16
+-- the header's length, which is the slave table's offset: 16, 24
 abbrev pub headerSize : ℕ → ℕ
 headerSize w = 8 + 4 * w
 
 -- ---- entries
 
--- a table entry and a directory entry: 4 bytes each
+-- a table entry and a directory entry: 4 bytes each, 8 bytes each
 abbrev pub entrySize : ℕ → ℕ
 entrySize w = 2 * w
 
--- zeros that fill an entry up beyond edition 1's: none in edition 1
+-- zeros that fill an entry up beyond edition 1's: none, 2
 abbrev pub fillLength : ℕ → ℕ
 fillLength w = w - 2
 
 -- ---- limits
 
--- "the slave count, 0 to 32", "longer than 32,768 bytes"
+-- "the slave count, 0 to 32", "longer than 32,768 bytes"; "the limits are 64 slaves and 65,536 bytes" (document 02, job 10)
 abbrev pub maxSlaves : ℕ → ℕ
 maxSlaves w = 16 * w
 

@@ -1,10 +1,10 @@
--- A legal cluster, by its fields alone (document 01, "The cluster file"): what an accepted file holds.
+-- A legal cluster, by its fields alone (document 01, "The cluster file"; document 02, job 10): what an accepted file holds.
 use Prim.Native.Nat.{ℕ, suc, _+_, _*_, _≤_}
 use mathlib.Core.Path.{_≡_}
 use mathlib.Core.List.{List, [], _∷_, map}
 use lib.ListN.{length}
 use Rattle.file.specs.Rules.Bytes.{Byte, Bytes, All}
-use Rattle.file.specs.Rules.Layout.{offsetWidth, editionOf, pendingFlag, maxSlaves, maxLength, recordSize}
+use Rattle.file.specs.Rules.Layout.{OffsetWidth, widthIn, editionOf, pendingFlag, maxSlaves, maxLength, recordSize}
 use Rattle.file.specs.Rules.Cluster.{File, Slave, Cluster, bytesIn, lastRecord, configuration, documentation, physicalName, operationOf, readOperation, broadcast}
 use Rattle.file.specs.Rules.Encode.{fileLength}
 
@@ -45,7 +45,9 @@ pub record LegalPending (c : Cluster) : Type 0 where
   pub operation : c .flag ≡ pendingFlag → operationOf (c .pendingPB2) ≡ 3 → ⊥
   pub broadcastRead : c .flag ≡ pendingFlag → operationOf (c .pendingPB2) ≡ readOperation → c .pendingName ≡ broadcast → ⊥
 
+-- in the edition of that offset width, which is one that there is: the slave count and the length are within the edition's limits
 pub record LegalAt (w : ℕ) (c : Cluster) : Type 0 where
+  pub width : OffsetWidth w
   pub edition : c .edition ≡ editionOf w
   pub count : length (c .slaves) ≤ maxSlaves w
   pub pending : LegalPending c
@@ -53,5 +55,6 @@ pub record LegalAt (w : ℕ) (c : Cluster) : Type 0 where
   pub names : Distinct (map physicalName (c .slaves))
   pub size : fileLength w (c .slaves) ≤ maxLength w
 
+-- in its own edition
 abbrev pub Legal : Cluster → Type 0
-Legal c = LegalAt offsetWidth c
+Legal c = LegalAt (widthIn (c .edition)) c

@@ -2,8 +2,9 @@
 use Prim.Native.Nat.{ℕ}
 use mathlib.Core.Path.{_≡_}
 use mathlib.Core.List.{List}
-use lib.ListN.{length, getD, take}
+use lib.ListN.{length, take}
 use Rattle.file.specs.Rules.Results.{Result}
+use Rattle.file.specs.Claims.Edition.{NoEdition}
 use Rattle.naming.specs.Rules.Run.{Position}
 use Rattle.cluster.specs.Rules.Summary.{Summary}
 use Rattle.naming.specs.Rules.Step.{StepDone, stepOn, stepKeeping}
@@ -17,7 +18,7 @@ pub record Alike (x y : Result StepDone × Position × List ℕ × List ℕ) : T
 -- for two files of one length and the same first three bytes, the last of them no edition
 abbrev pub UnknownEditionStep : Type 0
 UnknownEditionStep =
-    (f g : List ℕ) (p : Position) (names buffer : List ℕ) → length f ≡ length g → take 3 f ≡ take 3 g → (getD f 2 0 ≡ 1 → ⊥) →
+    (f g : List ℕ) (p : Position) (names buffer : List ℕ) → length f ≡ length g → take 3 f ≡ take 3 g → NoEdition f →
     Alike (stepOn f p names buffer) (stepOn g p names buffer)
 
 -- of a step given a summary, the summary too
@@ -30,4 +31,4 @@ pub record KeepingAlike (x y : Result StepDone × Position × List ℕ × List �
 abbrev pub UnknownEditionStepKeeping : Type 0
 UnknownEditionStepKeeping =
     (f g : List ℕ) (p : Position) (names : List ℕ) (summary : Summary) (buffer : List ℕ) → length f ≡ length g → take 3 f ≡ take 3 g →
-    (getD f 2 0 ≡ 1 → ⊥) → KeepingAlike (stepKeeping f p names summary buffer) (stepKeeping g p names summary buffer)
+    NoEdition f → KeepingAlike (stepKeeping f p names summary buffer) (stepKeeping g p names summary buffer)

@@ -2,6 +2,7 @@
 -- customer's third demand). A step that no ground refuses, of a running position, is the two frames of its next round, both accepted.
 use Prim.Native.Nat.{ℕ, _/_, _%_, _^_, _<_}
 use mathlib.Core.Path.{_≡_}
+use mathlib.Core.Logic.{_≢_}
 use mathlib.Core.List.{List}
 use lib.Dec.{eqb}
 use Rattle.file.specs.Rules.Bytes.{Bytes}
@@ -11,7 +12,7 @@ use Rattle.cluster.specs.Rules.Round.{Answer, roundGround, roundOn}
 use Rattle.cluster.specs.Rules.MasterSlave.{addressSent, dataSent}
 use Rattle.naming.specs.Rules.Rounds.{sent}
 use Rattle.naming.specs.Rules.Run.{Position, running, bits, nextRound, advance}
-use Rattle.naming.specs.Rules.Step.{made, stepGround, stepOn}
+use Rattle.naming.specs.Rules.Step.{ended, made, stepGround, stepOn}
 
 -- "that round's two frames": the MSA on the file and buffer handed in, the MSD on those that the MSA left
 abbrev pub addressFrame : List ℕ → Position → List ℕ → List ℕ
@@ -39,3 +40,10 @@ abbrev pub StepsAreFrames : Type 0
 StepsAreFrames =
     (file : List ℕ) (p : Position) (names buffer : List ℕ) → Bytes file → Bytes names → p .value < 2 ^ bits →
     stepGround file p names buffer ≡ 0 → p .end ≡ running → TwoFrames file p names buffer
+
+-- "a step of an ended run alters nothing" (document 01): no round and no count, of a position that counts no round too (document 02, job 9: the
+-- extra read is due "exactly while a running position counts no round")
+abbrev pub EndedAltersNothing : Type 0
+EndedAltersNothing =
+    (file : List ℕ) (p : Position) (names buffer : List ℕ) → stepGround file p names buffer ≡ 0 → p .end ≢ running →
+    stepOn file p names buffer ≡ (done ended, p, buffer, file)

@@ -10,6 +10,7 @@ use Rattle.file.specs.Rules.Results.{done}
 use Rattle.file.specs.Rules.Decode.{decode}
 use Rattle.file.specs.Rules.Changes.{withEpoch}
 use Rattle.file.specs.Rules.Grounds.{fileGround}
+use Rattle.file.specs.Claims.Edition.{NoEdition}
 use Rattle.owner.specs.Rules.Plan.{rounds, isOwned}
 use Rattle.owner.specs.Rules.OwnerFile.{rowOf}
 use Rattle.owner.specs.Rules.Writing.{ownerOn}
@@ -48,4 +49,4 @@ PlannedAwake =
 -- on a file of unknown edition its answer depends on the file's length and first three bytes alone
 abbrev pub UnknownEdition : Type 0
 UnknownEdition =
-    (f g : List ℕ) (m n : ℕ) (a b : List ℕ) → length f ≡ length g → take 3 f ≡ take 3 g → (getD f 2 0 ≡ 1 → ⊥) → ownerOn f m a .0 ≡ ownerOn g n b .0
+    (f g : List ℕ) (m n : ℕ) (a b : List ℕ) → length f ≡ length g → take 3 f ≡ take 3 g → NoEdition f → ownerOn f m a .0 ≡ ownerOn g n b .0

@@ -2,10 +2,10 @@
 use Prim.Native.Nat.{ℕ}
 use mathlib.Core.List.{List, [], _∷_, _++_}
 use mathlib.Core.Bool.{Bool, cond}
-use lib.ListN.{length, drop}
+use lib.ListN.{length}
 use lib.Dec.{eqb, ltb}
 use Rattle.file.specs.Rules.Order.{Ground, firstOf}
-use Rattle.file.specs.Rules.Results.{Result, refused, done}
+use Rattle.file.specs.Rules.Results.{Result, refused, done, writtenIn}
 use Rattle.file.specs.Rules.Cluster.{Slave}
 use Rattle.file.specs.Rules.Decode.{decode}
 use Rattle.file.specs.Rules.Grounds.{fileGrounds}
@@ -25,10 +25,6 @@ ownerGrounds file master buffer =
 
 unfoldable pub ownerGround : List ℕ → ℕ → List ℕ → ℕ
 ownerGround file master buffer = firstOf (ownerGrounds file master buffer)
-
--- document 01, "Past the bytes a call writes, a buffer keeps its content."
-unfoldable pub writtenIn : List ℕ → List ℕ → List ℕ
-writtenIn buffer bytes = bytes ++ drop (length bytes) buffer
 
 -- the answer, with the length of what was written, and the buffer
 unfoldable pub ownerOn : List ℕ → ℕ → List ℕ → Result ℕ × List ℕ

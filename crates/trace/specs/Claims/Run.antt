@@ -3,10 +3,11 @@ use Prim.Native.Nat.{ℕ}
 use mathlib.Core.Path.{_≡_}
 use mathlib.Core.Logic.{_≢_}
 use mathlib.Core.List.{List}
-use lib.ListN.{length, getD, take}
+use lib.ListN.{length, take}
 use Rattle.file.specs.Rules.Bytes.{Bytes}
 use Rattle.file.specs.Rules.Results.{done}
 use Rattle.file.specs.Rules.Grounds.{fileGround}
+use Rattle.file.specs.Claims.Edition.{NoEdition}
 use Rattle.frame.specs.Rules.Fireworks.{noRound}
 use Rattle.cluster.specs.Rules.Grounds.{roundBy}
 use Rattle.trace.specs.Rules.Trace.{frameCount}
@@ -31,4 +32,4 @@ RunKeepsFile = (file t : List ℕ) → Bytes file → Bytes t → fileGround fil
 -- the answer to a file of unknown edition depends on the file's length and first three bytes alone
 abbrev pub UnknownEdition : Type 0
 UnknownEdition =
-    (f g t u : List ℕ) → length f ≡ length g → take 3 f ≡ take 3 g → (getD f 2 0 ≡ 1 → ⊥) → traceOn f t .0 ≡ traceOn g u .0
+    (f g t u : List ℕ) → length f ≡ length g → take 3 f ≡ take 3 g → NoEdition f → traceOn f t .0 ≡ traceOn g u .0

@@ -2,7 +2,8 @@
 -- numbers (02 adds more)." (the customer's first demand): which numbers each C call returns, whatever it is handed.
 use Prim.Native.Nat.{ℕ}
 use mathlib.Core.List.{List, [], _∷_, _++_}
-use Rattle.ttpa.specs.Rules.Calls.{checkCall, readAddressCall, writeAddressCall, writeDataCall, roundCall, traceCall, ownerCall, startCall, stepCall, fillCall, holderCall, roundKeepingCall, stepKeepingCall}
+use Rattle.file.specs.Rules.Bytes.{Bytes}
+use Rattle.ttpa.specs.Rules.Calls.{checkCall, readAddressCall, writeAddressCall, writeDataCall, roundCall, traceCall, ownerCall, convertCall, startCall, stepCall, fillCall, holderCall, roundKeepingCall, stepKeepingCall}
 
 pub data OneOf : ℕ → List ℕ → Type 0 where
   here : {n : ℕ} {ns : List ℕ} → OneOf n (n ∷ ns)
@@ -30,6 +31,9 @@ pub record RefusedByNumbers : Type 0 where
   pub owner :
       (file : List ℕ) (master : ℕ) (buffer : List ℕ) (length : ℕ) →
       ZeroOr (ownerCall file master buffer length .0) (fileNumbers ++ 23 ∷ 20 ∷ 21 ∷ [])
+  -- 25 and 26 "in this order after 8" (document 02, job 10); 25 refuses narrowing alone, a lent file being bytes
+  pub toOne : (file out : List ℕ) (length : ℕ) → ZeroOr (convertCall 1 file out length .0) (fileNumbers ++ 25 ∷ 26 ∷ [])
+  pub toTwo : (file out : List ℕ) (length : ℕ) → Bytes file → ZeroOr (convertCall 2 file out length .0) (fileNumbers ++ 26 ∷ [])
   pub start : (names run : List ℕ) → ZeroOr (startCall names run .0) (15 ∷ 16 ∷ [])
   pub step :
       (file run names answer : List ℕ) (senders : ℕ) →

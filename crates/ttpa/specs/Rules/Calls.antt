@@ -11,6 +11,7 @@ use Rattle.cluster.specs.Rules.Round.{roundOn}
 use Rattle.cluster.specs.Rules.Summary.{Summary, without, kept, roundKeeping, fillOn, Held, nobody, at, holderIn}
 use Rattle.trace.specs.Rules.Run.{reportWords, traceOn}
 use Rattle.owner.specs.Rules.Writing.{ownerOn}
+use Rattle.convert.specs.Rules.Convert.{convertOn}
 use Rattle.naming.specs.Rules.Run.{Position, startOver}
 use Rattle.naming.specs.Rules.Step.{StepDone, ended, made, stepOn, stepKeeping}
 
@@ -19,7 +20,7 @@ unfoldable pub versionMajor : ℕ
 versionMajor = 0
 
 unfoldable pub versionMinor : ℕ
-versionMinor = 10
+versionMinor = 11
 
 unfoldable pub versionPatch : ℕ
 versionPatch = 0
@@ -66,6 +67,10 @@ traceCall file t report = let r = traceOn file t in (numberIn (r .0), lentAfter 
 -- the owner file of a file: number, length and buffer
 unfoldable pub ownerCall : List ℕ → ℕ → List ℕ → ℕ → ℕ × ℕ × List ℕ
 ownerCall file master buffer length = let r = ownerOn file master buffer in (numberIn (r .0), lentAfter (r .0) length (λ (written : ℕ). written), r .1)
+
+-- a file's form in an edition, of a call for each edition: number, length and buffer
+unfoldable pub convertCall : ℕ → List ℕ → List ℕ → ℕ → ℕ × ℕ × List ℕ
+convertCall edition file out length = let r = convertOn file edition out in (numberIn (r .0), lentAfter (r .0) length (λ (written : ℕ). written), r .1)
 
 -- a run's eight words, by their places: end, index, step, value, rounds, comparisons, and the two halves last written
 unfoldable pub wordsOf : Position → List ℕ

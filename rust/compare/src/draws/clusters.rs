@@ -1,30 +1,38 @@
 //! Random clusters, legal ones and damaged files.
 
 use super::random::Random;
-use crate::layout::ROUNDS;
-use model::{Cluster, File, FileNumber, LogicalName, Pending, Slave, MOST_BYTES, MOST_SLAVES};
+use crate::layout::{place_in, ROUNDS};
+use model::{Cluster, Edition, File, FileNumber, LogicalName, Pending, Slave};
 
 /// The operations of an entry that receive, and those that send; plain ones more often than multiplexed ones, which have
 /// their turns.
 const RECEIVES: [u8; 13] = [0, 2, 4, 0, 2, 4, 0, 2, 4, 8, 10, 12, 14];
 const SENDS: [u8; 10] = [1, 5, 1, 5, 1, 5, 9, 11, 13, 15];
-const HEADER_BYTES: usize = 16;
-const ENTRY_BYTES: usize = 4;
 /// In one of so many clusters half of the slaves sleep.
 const CLUSTERS_FOR_SLEEPERS: usize = 4;
 
-/// A legal cluster of 0 to 32 slaves.
+/// A legal cluster in either edition, of 0 slaves to the edition's most.
 pub fn cluster(random: &mut Random) -> Cluster {
+    let edition = random.one_of(&Edition::BOTH);
+    let most = edition.most_slaves();
     let count = match random.below(8) {
         0 => random.below(2),
-        1 => random.between(MOST_SLAVES - 1, MOST_SLAVES),
-        2 => random.between(0, MOST_SLAVES),
+        1 => random.between(most - 1, most),
+        2 => random.between(0, most),
         _ => random.between(1, 6),
     };
-    cluster_of(random, count)
+    cluster_in(random, edition, count)
 }
 
+/// A legal cluster of so many slaves, in either edition where both can hold it.
 pub fn cluster_of(random: &mut Random, count: usize) -> Cluster {
+    let fits_both = count <= Edition::One.most_slaves();
+    let edition = if fits_both { random.one_of(&Edition::BOTH) } else { Edition::Two };
+    cluster_in(random, edition, count)
+}
+
+/// A legal cluster of so many slaves in this edition.
+pub fn cluster_in(random: &mut Random, edition: Edition, count: usize) -> Cluster {
     // Many slaves get few files, or the file would grow too long.
     let richness = if count > 8 { 3 } else { 12 };
     let mut slaves: Vec<Slave> = Vec::new();
@@ -49,8 +57,8 @@ pub fn cluster_of(random: &mut Random, count: usize) -> Cluster {
     }
     let any_epoch = random.byte();
     let epoch = random.one_of(&[0, 1, 127, 254, 255, any_epoch, any_epoch, any_epoch]);
-    let cluster = Cluster { epoch, pending: pending(random), slaves };
-    debug_assert!(cluster.encode().len() <= MOST_BYTES);
+    let cluster = Cluster { edition, epoch, pending: pending(random), slaves };
+    debug_assert!(cluster.length() <= edition.most_bytes());
     cluster
 }
 
@@ -275,9 +283,18 @@ pub fn give_record(random: &mut Random, slave: &mut Slave, number: u8, record: u
     file.bytes.extend(random.bytes(missing));
 }
 
-/// A file of this many bytes, its last slave's files grown to reach it; 32 slaves of 64 files each if asked.
-pub fn file_of_length(random: &mut Random, length: usize, most_entries: bool) -> Vec<u8> {
-    let mut cluster = cluster_of(random, MOST_SLAVES);
+/// A file of an edition's most bytes and slaves, its slaves' files grown to reach it; 64 files each if asked.
+pub fn longest_file(random: &mut Random, edition: Edition, most_entries: bool) -> Vec<u8> {
+    longest_cluster(random, edition, most_entries).encode()
+}
+
+/// So many slaves of 64 files each fit into edition 2: 8 bytes in the table, 512 of directory and 524 of files.
+const SLAVES_OF_64_FILES: usize = 62;
+
+pub fn longest_cluster(random: &mut Random, edition: Edition, most_entries: bool) -> Cluster {
+    let most_slaves = edition.most_slaves();
+    let count = if most_entries { most_slaves.min(SLAVES_OF_64_FILES) } else { most_slaves };
+    let mut cluster = cluster_in(random, edition, count);
     if most_entries {
         for slave in &mut cluster.slaves {
             let name = slave.physical_name();
@@ -285,13 +302,18 @@ pub fn file_of_length(random: &mut Random, length: usize, most_entries: bool) ->
             slave.files = numbers.iter().map(|&number| least_file(number, name)).collect();
         }
     }
-    let mut missing = length.saturating_sub(cluster.encode().len());
+    grow_to(random, &mut cluster, edition.most_bytes());
+    cluster
+}
+
+/// Lengthens files, one after the other, until the cluster's file has so many bytes.
+pub fn grow_to(random: &mut Random, cluster: &mut Cluster, length: usize) {
+    let mut missing = length.saturating_sub(cluster.length());
     for file in cluster.slaves.iter_mut().flat_map(|slave| &mut slave.files) {
         let grown = missing.min(4 * (255 - file.last_record()));
         file.bytes.extend(random.bytes(grown / 4 * 4));
         missing -= grown / 4 * 4;
     }
-    cluster.encode()
 }
 
 /// The shortest file of this number.
@@ -319,16 +341,19 @@ pub fn damaged(random: &mut Random) -> Vec<u8> {
         1 => repeat_a_physical_name(random, &mut cluster),
         _ => {}
     }
+    let (header, flag) = (cluster.edition.header_bytes(), cluster.edition.epoch_place() + 1);
     let mut file = cluster.encode();
     match random.below(12) {
-        0 => file[random.below(HEADER_BYTES)] = random.byte(),
-        1 => file[random.below(HEADER_BYTES)] ^= 1 << random.below(8),
+        0 => file[random.below(header)] = random.byte(),
+        1 => file[random.below(header)] ^= 1 << random.below(8),
         2 | 3 => damage_layout(random, &mut file),
         4 => cut(random, &mut file),
         5 => grow(random, &mut file),
-        6 => file[9..13].copy_from_slice(&[1, random.below(2) as u8, random.byte(), 0]),
-        7 => file[3] = random.one_of(&[0, 31, 32, 33, 255]),
+        6 => file[flag..flag + 4].copy_from_slice(&[1, random.below(2) as u8, random.byte(), 0]),
+        7 => file[3] = random.one_of(&[0, 31, 32, 33, 63, 64, 65, 255]),
         8 => damage_sleep_byte(random, &mut file),
+        // The other edition, another one, and a file of which byte 2 is not there.
+        9 if random.once_in(3) => file[2] = random.one_of(&[1, 2, 1, 2, 0, 3, 255]),
         _ => {}
     }
     if random.once_in(40) {
@@ -351,7 +376,8 @@ fn lack_a_file(random: &mut Random, cluster: &mut Cluster) {
     }
 }
 
-fn repeat_a_physical_name(random: &mut Random, cluster: &mut Cluster) {
+/// Gives one slave the physical name of another, which may be itself.
+pub fn repeat_a_physical_name(random: &mut Random, cluster: &mut Cluster) {
     if cluster.slaves.len() < 2 {
         return;
     }
@@ -363,11 +389,12 @@ fn repeat_a_physical_name(random: &mut Random, cluster: &mut Cluster) {
     }
 }
 
-/// Puts the last byte of a table entry above 1.
+/// Puts the sleep byte of a table entry above 1.
 fn damage_sleep_byte(random: &mut Random, file: &mut [u8]) {
     let count = usize::from(file[3]);
     if count > 0 {
-        file[HEADER_BYTES + ENTRY_BYTES * random.below(count) + 3] = random.one_of(&[2, 3, 128, 255]);
+        let slave = random.below(count);
+        file[Edition::of(file).sleep_place(slave)] = random.one_of(&[2, 3, 128, 255]);
     }
 }
 
@@ -377,12 +404,17 @@ fn damage_layout(random: &mut Random, file: &mut [u8]) {
     if count == 0 {
         return;
     }
-    let table_entry = HEADER_BYTES + 4 * random.below(count);
-    let directory = usize::from(file[table_entry]) << 8 | usize::from(file[table_entry + 1]);
-    let entries = usize::from(file[table_entry + 2]);
-    let entry =
-        if random.once_in(3) || entries == 0 { table_entry } else { directory + 4 * random.below(entries) };
-    let place = entry + random.below(4);
+    let edition = Edition::of(file);
+    let (width, entry_bytes) = (edition.offset_bytes(), edition.entry_bytes());
+    let table_entry = edition.header_bytes() + entry_bytes * random.below(count);
+    let directory = place_in(&file[table_entry..table_entry + width]);
+    let entries = usize::from(file[table_entry + width]);
+    let entry = if random.once_in(3) || entries == 0 {
+        table_entry
+    } else {
+        directory + entry_bytes * random.below(entries)
+    };
+    let place = entry + random.below(entry_bytes);
     if let Some(byte) = file.get_mut(place) {
         *byte = match random.below(3) {
             0 => byte.wrapping_add(1),
@@ -410,23 +442,35 @@ fn grow(random: &mut Random, file: &mut Vec<u8>) {
 
 /// Puts the length field to the file's length, so that later grounds are reached.
 fn state_length(file: &mut [u8]) {
-    let length = file.len() as u16;
-    if let Some(field) = file.get_mut(6..8) {
-        field.copy_from_slice(&length.to_be_bytes());
+    let length = (file.len() as u32).to_be_bytes();
+    let edition = Edition::of(file);
+    let (width, end) = (edition.offset_bytes(), edition.epoch_place());
+    if let Some(field) = file.get_mut(end - width..end) {
+        field.copy_from_slice(&length[length.len() - width..]);
     }
 }
 
-/// The limits of ground 1, and bytes of no meaning.
-fn odd_length(random: &mut Random) -> Vec<u8> {
-    match random.below(6) {
-        0 => random.bytes(15),
+/// The limits of ground 1 in each edition, and bytes of no meaning.
+pub fn odd_length(random: &mut Random) -> Vec<u8> {
+    let edition = random.one_of(&Edition::BOTH);
+    match random.below(7) {
+        0 => random.bytes(edition.header_bytes() - 1),
         1 => Vec::new(),
-        2 => file_of_length(random, MOST_BYTES, true),
-        3 => file_of_length(random, MOST_BYTES, false),
+        2 => longest_file(random, edition, true),
+        3 => longest_file(random, edition, false),
         4 => {
-            let mut file = file_of_length(random, MOST_BYTES, false);
+            let mut file = longest_file(random, edition, false);
             file.push(0);
             state_length(&mut file);
+            file
+        }
+        5 => {
+            // As long as the other edition's header, or its longest file.
+            let most_entries = random.once_in(2);
+            let mut file = longest_file(random, edition, most_entries);
+            file[2] = 3 - file[2];
+            state_length(&mut file);
+            file.truncate(random.one_of(&[16, 23, 24, file.len()]));
             file
         }
         _ => {

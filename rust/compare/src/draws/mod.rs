@@ -1,6 +1,8 @@
-//! Random inputs: numbers, clusters, frames, positions, traces, owner files, summaries, sleepers and whole naming runs.
+//! Random inputs: numbers, clusters, frames, positions, traces, owner files, summaries, sleepers, conversions and whole
+//! naming runs.
 
 pub mod clusters;
+pub mod conversions;
 pub mod inputs;
 pub mod owners;
 pub mod random;

@@ -3,7 +3,7 @@
 use super::clusters;
 use super::random::Random;
 use crate::layout::{LAST_ROUND, LAST_SLOT, MOST_OWNER_BYTES, NOT_OWNED, ROUNDS};
-use model::{owner, Cluster, File, FileNumber, LogicalName, Slave, MOST_SLAVES};
+use model::{owner, Cluster, Edition, File, FileNumber, LogicalName, Slave};
 
 const MOST_ENTRY_SLOTS: usize = 16;
 const SENDS: [u8; 2] = [1, 5];
@@ -17,8 +17,9 @@ const REFUSED: [u8; 4] = [9, 11, 13, 15];
 /// A cluster in which the slots of each round are dealt out to the slaves, so that mostly no two send in one. In a
 /// third of them one more entry is put anywhere, which may make two meet.
 pub fn planned(random: &mut Random) -> Cluster {
-    let count = if random.once_in(6) { MOST_SLAVES } else { random.between(1, 6) };
-    let mut cluster = clusters::cluster_of(random, count);
+    let edition = random.one_of(&Edition::BOTH);
+    let count = if random.once_in(6) { edition.most_slaves() } else { random.between(1, 6) };
+    let mut cluster = clusters::cluster_in(random, edition, count);
     for slave in &mut cluster.slaves {
         slave.files.retain(|file| file.number.0 >= 8);
     }
@@ -107,6 +108,11 @@ fn sending(random: &mut Random, slave: &Slave, length: usize, slot: usize) -> [u
 fn disturb(random: &mut Random, slave: &mut Slave, round: u8) {
     let (length, slot) = (random.between(1, MOST_ENTRY_SLOTS), random.between(0, LAST_SLOT));
     let mut entry = sending(random, slave, length, slot);
+    if random.once_in(4) {
+        // A byte of the list itself, in its first records.
+        entry[0] = round << 2 | entry[0] & 3;
+        entry[1] = random.below(2) as u8;
+    }
     if random.once_in(3) {
         let operation = match random.below(4) {
             0 => random.one_of(&HIDES),

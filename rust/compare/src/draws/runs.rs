@@ -10,7 +10,9 @@ use crate::case::{Call, Outcome};
 use crate::engine::RunWords;
 use crate::frames::{framed, unfolded, MULTIPARTNER};
 use crate::sorts::{turns, Sort};
-use model::{check, closed_figures, Account, Address, Cluster, End, FileNumber, LogicalName, Operation, Slave};
+use model::{
+    check, closed_figures, Account, Address, Cluster, Edition, End, FileNumber, LogicalName, Operation, Slave,
+};
 
 const NO_RUN: RunWords = [0; 8];
 /// Of the calls of a run that is given a summary, one in so many is made without it.
@@ -71,6 +73,8 @@ pub fn whole_run(campaign: &mut Campaign, random: &mut Random, slaves: usize, gi
     campaign.note_sorts((given == Given::Summary).then_some(Sort::RunKept));
     let slept = cluster.slaves.iter().any(|slave| slave.asleep && slave.is_unnamed());
     campaign.note_sorts((slept && named > 0).then_some(Sort::RunOverSleepers));
+    let more = cluster.slaves.len() > Edition::One.most_slaves();
+    campaign.note_sorts((more && named > 0).then_some(Sort::RunOverMoreSlaves));
 }
 
 /// A run over unnamed slaves whose steps the engine and the model make in turn, each on the file and the words that the

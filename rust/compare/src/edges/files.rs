@@ -1,6 +1,7 @@
 //! Cluster files for edges, their layout written out and not made by the model or an engine.
 
 use crate::case::bytes;
+use crate::editions::{Parts, SlaveFile};
 
 pub const UNNAMED: u8 = 0xFF;
 const CONFIGURATION: u8 = 0x08;
@@ -28,9 +29,9 @@ pub fn slave(name: u8, round: u8, entries: &str) -> Slave {
 }
 
 /// The slave's files in rising order of their numbers, the physical name being 7 and its place in the table.
-fn files_of(slave: &Slave, place: u8) -> Vec<(u8, Vec<u8>)> {
+fn files_of(slave: &Slave, place: u8) -> Vec<SlaveFile> {
     let (more, lists): (Vec<_>, Vec<_>) = slave.lists.iter().partition(|(number, _)| *number == CONFIGURATION);
-    let mut files: Vec<(u8, Vec<u8>)> =
+    let mut files: Vec<SlaveFile> =
         lists.into_iter().map(|(round, entries)| (*round, hex(&format!("00000000 {entries}")))).collect();
     let mut configuration = vec![0, 0, 0, 0, 0, 0, 0, slave.name, 0, 0, 0, 0, 0, 0, 0, 0];
     more.into_iter().for_each(|(_, records)| configuration.extend(hex(records)));
@@ -41,27 +42,15 @@ fn files_of(slave: &Slave, place: u8) -> Vec<(u8, Vec<u8>)> {
     files
 }
 
-/// The cluster file of these slaves: epoch 0, nothing pending.
+/// The cluster file of these slaves in edition 1: epoch 0, nothing pending, all awake.
 pub fn cluster(slaves: &[Slave]) -> Vec<u8> {
-    let two_bytes = |number: usize| [(number / 256) as u8, (number % 256) as u8];
-    let mut table = Vec::new();
-    let mut rest = Vec::new();
-    let first = 16 + 4 * slaves.len();
-    for (place, slave) in (0..).zip(slaves) {
-        let files = files_of(slave, place);
-        table.extend(two_bytes(first + rest.len()));
-        table.extend([files.len() as u8, 0]);
-        let mut offset = first + rest.len() + 4 * files.len();
-        for (number, content) in &files {
-            rest.extend([*number, (content.len() / 4 - 1) as u8]);
-            rest.extend(two_bytes(offset));
-            offset += content.len();
-        }
-        files.iter().for_each(|(_, content)| rest.extend(content));
-    }
-    let [high, low] = two_bytes(first + rest.len());
-    let header = vec![0x54, 0x41, 1, slaves.len() as u8, 0, 16, high, low, 0, 0, 0, 0, 0, 0, 0, 0];
-    [header, table, rest].concat()
+    parts(slaves).laid_out(1)
+}
+
+/// The same as its parts, which either edition holds.
+pub fn parts(slaves: &[Slave]) -> Parts {
+    let awake = |(place, slave)| (0, files_of(slave, place));
+    Parts { state: [0; 5], slaves: (0..).zip(slaves).map(awake).collect() }
 }
 
 /// Where a file keeps what is pending: flag, logical name, PB2 and PB3.
@@ -87,7 +76,7 @@ pub fn refused_files(names: [u8; 2]) -> [(&'static str, Vec<u8>, u8); 8] {
     [
         ("15 bytes", file[..15].to_vec(), 1),
         ("a wrong mark", changed(&file, &[(0, "55")]), 2),
-        ("a wrong edition", changed(&file, &[(2, "02")]), 3),
+        ("a wrong edition", changed(&file, &[(2, "03")]), 3),
         ("a wrong length", changed(&file, &[(7, "00")]), 4),
         ("a header zero", changed(&file, &[(13, "01")]), 5),
         ("a sleep byte of 2", changed(&file, &[(0x13, "02")]), 6),

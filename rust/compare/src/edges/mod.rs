@@ -1,6 +1,8 @@
 //! Cases by hand, each chosen for one thing that is just right or just wrong. Every expected result is worked out from the
-//! documents, and no input is made by the model or an engine. An engine, the model too, has to give what stands here.
+//! documents, and no input is made by the model or an engine. An engine, the model too, has to give what stands here, and on
+//! the file in the other edition the same.
 
+pub mod editions;
 mod files;
 pub mod logical_names;
 pub mod multiplexed;
@@ -12,6 +14,7 @@ pub mod summaries;
 pub mod traces;
 
 use crate::case::{Call, Outcome};
+use crate::editions::holds_in_other_edition;
 use crate::engine::Engine;
 
 /// One call, or the same one on several buffers, and what each has to answer and leave.
@@ -36,6 +39,8 @@ impl Edge {
         assert!(!self.calls.is_empty(), "{}: no call", self.what);
         for (call, expected) in &self.calls {
             assert_eq!(&call.make(engine), expected, "{}: {call}", self.what);
+            let turned = holds_in_other_edition(engine, call, expected);
+            assert!(turned, "{}, in the other edition: {call}", self.what);
         }
     }
 }

@@ -594,7 +594,7 @@ fn refused_files() -> Vec<Edge> {
     let files = [
         (1, whole[..15].to_vec()),
         (2, with(0, 0x55)),
-        (3, with(2, 2)),
+        (3, with(2, 3)),
         (4, with(7, 0)),
         (5, with(13, 1)),
         (6, with(0x13, 2)),

@@ -1,5 +1,6 @@
 //! What calls are examples of: the sorts that have to occur, and the tally of outcomes.
 
+pub mod conversions;
 pub mod grounds;
 pub mod names;
 pub mod owners;
@@ -23,5 +24,6 @@ pub fn of(call: &Call, outcome: &Outcome) -> Vec<Sort> {
     sorts.extend(turns::sorts(call, outcome));
     sorts.extend(summaries::sorts(call, outcome));
     sorts.extend(sleepers::sorts(call, outcome));
+    sorts.extend(conversions::sorts(call, outcome));
     sorts
 }

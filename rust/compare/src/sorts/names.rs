@@ -3,7 +3,8 @@
 
 use super::Sort;
 use crate::case::{Call, Outcome};
-use model::{check, load, Cluster, FileNumber, LogicalName, RecordNumber, Refusal, Slave, MSD};
+use crate::layout::place_in;
+use model::{check, load, Cluster, Edition, FileNumber, LogicalName, RecordNumber, Refusal, Slave, MSD};
 
 const EQUAL_PHYSICAL_NAMES: u8 = 8;
 const EQUAL_LOGICAL_NAMES: u8 = 22;
@@ -55,11 +56,14 @@ fn only_zero_twice(cluster: &Cluster) -> bool {
 /// Whether a file with equal physical names would be refused for equal logical ones if those were told apart.
 fn equal_names_beneath(file: &[u8]) -> bool {
     let mut apart = file.to_vec();
-    for (slave, entry) in file[16..].chunks(4).take(usize::from(file[3])).enumerate() {
-        let directory = usize::from(u16::from_be_bytes([entry[0], entry[1]]));
-        let entries = file[directory..].chunks(4).take(usize::from(entry[2]));
+    let edition = Edition::of(file);
+    let (width, bytes) = (edition.offset_bytes(), edition.entry_bytes());
+    let table = file[edition.header_bytes()..].chunks(bytes).take(usize::from(file[3]));
+    for (slave, entry) in table.enumerate() {
+        let directory = place_in(&entry[..width]);
+        let entries = file[directory..].chunks(bytes).take(usize::from(entry[width]));
         for entry in entries.filter(|entry| entry[0] == FileNumber::DOCUMENTATION.0) {
-            let place = usize::from(u16::from_be_bytes([entry[2], entry[3]]));
+            let place = place_in(&entry[width..]);
             apart[place + 4..place + 12].copy_from_slice(&(slave as u64).to_be_bytes());
         }
     }

@@ -7,7 +7,7 @@ use crate::engine::{Model, RunWords};
 use crate::frames::is_multipartner;
 use crate::layout::sleepers_of;
 use model::{
-    check, senders_of, Cluster, End, FileNumber, LogicalName, Operation, RecordNumber, Slave, MSA, MSD,
+    check, senders_of, Cluster, Edition, End, FileNumber, LogicalName, Operation, RecordNumber, Slave, MSA, MSD,
 };
 
 const LAYOUT: u8 = 6;
@@ -41,8 +41,9 @@ fn occurring<const N: usize>(occurs: [(bool, Sort); N]) -> Vec<Sort> {
 /// Whether the file would be accepted if each sleep byte above 1 were 1.
 fn is_accepted_asleep(file: &[u8]) -> bool {
     let mut mended = file.to_vec();
-    for entry in mended[16..].chunks_mut(4).take(usize::from(file[3])) {
-        entry.iter_mut().skip(3).for_each(|byte| *byte = 1.min(*byte));
+    for slave in 0..usize::from(file[3]) {
+        let sleep_byte = mended.get_mut(Edition::of(file).sleep_place(slave));
+        sleep_byte.into_iter().for_each(|byte| *byte = 1.min(*byte));
     }
     check(&mended).is_ok()
 }

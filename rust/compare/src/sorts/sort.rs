@@ -234,6 +234,37 @@ pub enum Sort {
     RunOverSleepers,
     /// A naming run of which all steps and rounds but a few were given the summary.
     RunKept,
+    /// A naming run over more slaves than edition 1 holds.
+    RunOverMoreSlaves,
+    /// A conversion refused by 25 for its slaves alone, for its length alone, and for a length that is a record too much.
+    NarrowedManySlaves,
+    NarrowedLong,
+    NarrowedRecordTooLong,
+    /// One refused by 25 where the buffer is empty, and one of a file that is turned away likewise.
+    LimitsBeforeBuffer,
+    FileBeforeConversion,
+    /// One refused by 26 where one byte more would do.
+    ConvertedOneShort,
+    /// One into the edition that the file has.
+    Copied,
+    /// One into the other edition: into a buffer of exactly its bytes, to 32,768 bytes, of 32 slaves to edition 1, with
+    /// pending bytes that are free and not zero, and with sleepers.
+    ConvertedFits,
+    NarrowedToMostBytes,
+    NarrowedMostSlaves,
+    ConvertedFreeBytes,
+    ConvertedSleepers,
+    /// One after which the way back restored the file.
+    ThereAndBack,
+    /// A call carried out alike on a file and its converted form.
+    CarriedOutOnBothForms,
+    /// A call other than a conversion carried out on a file of edition 2; of more slaves or bytes than edition 1 has; of
+    /// the most.
+    InEdition2,
+    OnMoreSlaves,
+    OnMostSlaves,
+    OnLongerFile,
+    OnLongestFile,
 }
 
 /// A sort, one in how many calls has to be of it, and what is printed of it.
@@ -432,8 +463,32 @@ impl Sort {
         (Sort::SleepByteAbove, 800, "files refused for a sleep byte above 1"),
     ];
 
+    /// Sorts of conversions, and of calls on files of edition 2, with one in how many of the conversions asked for.
+    pub const REACHED_BY_CONVERSIONS: [Reached; 19] = [
+        (Sort::NarrowedManySlaves, 40, "conversions refused by 25 for more than 32 slaves alone"),
+        (Sort::NarrowedLong, 80, "conversions refused by 25 for the length alone"),
+        (Sort::NarrowedRecordTooLong, 200, "conversions refused by 25 for four bytes too many"),
+        (Sort::LimitsBeforeBuffer, 200, "conversions refused by 25, no buffer"),
+        (Sort::FileBeforeConversion, 100, "conversions of files turned away, no buffer"),
+        (Sort::ConvertedOneShort, 20, "conversions refused by 26 where one byte more would do"),
+        (Sort::Copied, 10, "conversions into the edition that the file has"),
+        (Sort::ConvertedFits, 20, "files converted, the buffer just long enough"),
+        (Sort::NarrowedToMostBytes, 200, "files narrowed to 32,768 bytes"),
+        (Sort::NarrowedMostSlaves, 100, "files of 32 slaves narrowed"),
+        (Sort::ConvertedFreeBytes, 20, "files converted, with free pending bytes other than 0"),
+        (Sort::ConvertedSleepers, 40, "files converted, with sleepers"),
+        (Sort::ThereAndBack, 10, "files converted there and back"),
+        (Sort::CarriedOutOnBothForms, 10, "calls carried out alike on a file and its converted form"),
+        (Sort::InEdition2, 1, "other calls carried out on a file of edition 2"),
+        (Sort::OnMoreSlaves, 4, "other calls carried out on more than 32 slaves"),
+        (Sort::OnMostSlaves, 20, "other calls carried out on 64 slaves"),
+        (Sort::OnLongerFile, 40, "other calls carried out on more than 32,768 bytes"),
+        (Sort::OnLongestFile, 200, "other calls carried out on 65,536 bytes"),
+    ];
+
     /// Sorts of calls in naming runs, with one in how many of the runs asked for.
-    pub const REACHED_BY_RUNS: [Reached; 6] = [
+    pub const REACHED_BY_RUNS: [Reached; 7] = [
+        (Sort::RunOverMoreSlaves, 10, "naming runs over more than 32 slaves"),
         (Sort::TraceBetweenSteps, 1, "traces run between naming steps, with a round and a refused frame"),
         (
             Sort::NamesWrittenBetweenSteps,
@@ -447,8 +502,8 @@ impl Sort {
     ];
 
     /// What a call is an example of; logical names, naming steps, their grounds, multiplexed entries, traces, owner files,
-    /// summaries and sleepers are sorted in `names`, `passes`, `grounds`, `turns`, `traces`, `owners`, `summaries` and
-    /// `sleepers`.
+    /// summaries, sleepers and conversions are sorted in `names`, `passes`, `grounds`, `turns`, `traces`, `owners`,
+    /// `summaries`, `sleepers` and `conversions`.
     pub fn of(call: &Call, outcome: &Outcome) -> Option<Sort> {
         match call {
             Call::Read { frame } if outcome.number == 12 && is_unfolded(frame) => Some(Sort::UnfoldedNotRead),

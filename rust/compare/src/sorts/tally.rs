@@ -2,12 +2,12 @@
 
 use crate::case::{Call, Outcome};
 use crate::engine::{ReportWords, RunWords};
-use model::{check, End, FileNumber, Pending, MSA, MSD};
+use model::{check, Edition, End, FileNumber, Pending, MSA, MSD};
 use std::collections::BTreeMap;
 
 /// Each kind of call with what it can do when it is carried out, and the numbers that can refuse it. A whole run is a
 /// kind of its own.
-const OUTCOMES: [(&str, &[&str], &[u8]); 14] = [
+const OUTCOMES: [(&str, &[&str], &[u8]); 16] = [
     ("check", &[PLAIN], CHECK_NUMBERS),
     ("read", &["read", "write", "execute"], READ_NUMBERS),
     ("write", &["read", "write", "execute"], WRITE_NUMBERS),
@@ -17,6 +17,8 @@ const OUTCOMES: [(&str, &[&str], &[u8]); 14] = [
     ("step", IN_A_STEP, STEP_NUMBERS),
     ("trace", &["no-frames", "none-refused", "some-refused", "all-refused"], TRACE_NUMBERS),
     ("owner", &[PLAIN], OWNER_NUMBERS),
+    ("to-edition-1", IN_A_CONVERSION, TO_EDITION_1_NUMBERS),
+    ("to-edition-2", IN_A_CONVERSION, TO_EDITION_2_NUMBERS),
     ("fill", &["no-slave", "no-room-left", "room-left"], FILL_NUMBERS),
     ("holder", &["first-slave", "later-slave", "nobody"], HOLDER_NUMBERS),
     ("round-keeping", IN_A_ROUND, ROUND_KEEPING_NUMBERS),
@@ -63,6 +65,9 @@ const IN_A_STEP: &[&str] = &[
     "nobody-named",
 ];
 
+/// What a conversion does: the file has the other edition, or that one already.
+const IN_A_CONVERSION: &[&str] = &["converted", "copied"];
+
 // The numbers of each call in the order in which it checks them.
 // .ci/refusals writes from here: calls
 const CHECK_NUMBERS: &[u8] = &[1, 2, 3, 4, 5, 6, 7, 8, 22];
@@ -78,6 +83,8 @@ const FILL_NUMBERS: &[u8] = &[1, 2, 3, 4, 5, 6, 7, 8, 24];
 const HOLDER_NUMBERS: &[u8] = &[24];
 const ROUND_KEEPING_NUMBERS: &[u8] = &[1, 2, 3, 4, 5, 6, 7, 8, 24, 9, 10, 11, 12, 13, 14];
 const STEP_KEEPING_NUMBERS: &[u8] = &[1, 2, 3, 4, 5, 6, 7, 8, 24, 9, 15, 16, 17];
+const TO_EDITION_1_NUMBERS: &[u8] = &[1, 2, 3, 4, 5, 6, 7, 8, 25, 26];
+const TO_EDITION_2_NUMBERS: &[u8] = &[1, 2, 3, 4, 5, 6, 7, 8, 26];
 // .ci/refusals writes to here
 
 /// A call that does one thing only.
@@ -162,6 +169,7 @@ fn shown((kind, number, done): Came) -> String {
 fn done(call: &Call, outcome: &Outcome) -> &'static str {
     match call {
         Call::Check { .. } | Call::Data { .. } | Call::Owner { .. } => PLAIN,
+        Call::Convert { file, edition, .. } => either(Edition::of(file) == *edition, "copied", "converted"),
         Call::Read { .. } => operation(outcome.parts.map_or(0, |parts| parts[3])),
         Call::Write { parts, .. } => operation(parts[3]),
         Call::Round { file, frame, .. } => in_round(file, frame, outcome),

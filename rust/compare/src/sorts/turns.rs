@@ -4,7 +4,7 @@
 use super::Sort;
 use crate::case::{Call, Outcome};
 use crate::frames::is_multipartner;
-use crate::layout::{EPOCH, LAST_SLOT};
+use crate::layout::LAST_SLOT;
 use model::{check, round_of, File, FileNumber, Slave};
 
 /// An entry of a round descriptor list before its end.
@@ -92,12 +92,12 @@ pub fn sorts(call: &Call, outcome: &Outcome) -> Vec<Sort> {
     for slave in cluster.slaves.iter().filter(|slave| !slave.is_unnamed() && !slave.asleep) {
         let list = slave.file(number).map(list_of).unwrap_or_default();
         if list.iter().any(Entry::is_multiplexed) {
-            let in_slot = |slot| in_slot(slave, &list, slot, file[EPOCH].wrapping_add(1), outcome.mask());
+            let in_slot = |slot| in_slot(slave, &list, slot, cluster.epoch.wrapping_add(1), outcome.mask());
             sorts.extend((1..=LAST_SLOT).flat_map(in_slot));
         }
     }
     let acted = sorts.iter().any(|sort| matches!(sort, Sort::Multiplexed(_)));
-    sorts.extend((acted && file[EPOCH] == u8::MAX).then_some(Sort::MultiplexedAfter255));
+    sorts.extend((acted && cluster.epoch == u8::MAX).then_some(Sort::MultiplexedAfter255));
     sorts.sort_unstable();
     sorts.dedup();
     sorts

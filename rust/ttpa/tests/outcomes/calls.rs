@@ -80,6 +80,19 @@ fn the_length_of_an_owner_file_is_written_on_success_only() {
 }
 
 #[test]
+fn the_length_of_a_converted_file_is_written_on_success_only() {
+    let (mut buffer, mut length) = ([FILL; 130], MASK_BEFORE);
+    assert_eq!(calls::to_edition_2(M10, &mut buffer[..127], &mut length), 26);
+    assert_eq!(calls::to_edition_2(&M10[..15], &mut buffer, &mut length), 1);
+    assert_eq!(calls::to_edition_1(M10, &mut buffer[..95], &mut length), 26);
+    assert_eq!((buffer, length), ([FILL; 130], MASK_BEFORE));
+    assert_eq!(calls::to_edition_1(M10, &mut buffer, &mut length), 0);
+    assert_eq!((&buffer[..96], buffer[96], length), (M10, FILL, 96));
+    assert_eq!(calls::to_edition_2(M10, &mut buffer, &mut length), 0);
+    assert_eq!((buffer[2], buffer[127], buffer[128], length), (2, 0xA0, FILL, 128));
+}
+
+#[test]
 fn the_count_of_a_summary_is_written_on_success_only() {
     let (mut held, mut count) = ([FILL; 3], MASK_BEFORE);
     assert_eq!(calls::fill(M10, &mut held[..1], &mut count), 24);

@@ -6,8 +6,8 @@ use ttpa::TtpaError;
 
 /// Each ground with its number in the documents and a word that its text cannot do without.
 // .ci/refusals writes from here: grounds
-const GROUNDS: [(TtpaError, u8, &str); 25] = [
-    (TtpaError::FileSize, 1, "32,768"),
+const GROUNDS: [(TtpaError, u8, &str); 27] = [
+    (TtpaError::FileSize, 1, "65,536"),
     (TtpaError::Mark, 2, "mark"),
     (TtpaError::Edition, 3, "edition"),
     (TtpaError::LengthField, 4, "as long as its header"),
@@ -31,7 +31,9 @@ const GROUNDS: [(TtpaError, u8, &str); 25] = [
     (TtpaError::EqualLogicalNames, 22, "logical name;"),
     (TtpaError::MultiplexedSend, 23, "multiplexed"),
     (TtpaError::Summary, 24, "summary"),
-    (TtpaError::Other(25), 25, "no text"),
+    (TtpaError::EditionLimits, 25, "edition 1"),
+    (TtpaError::ConversionBuffer, 26, "converted"),
+    (TtpaError::Other(27), 27, "no text"),
 ];
 // .ci/refusals writes to here
 

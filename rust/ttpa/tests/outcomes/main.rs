@@ -2,6 +2,7 @@
 //! lent memory is then as it was.
 
 mod calls;
+mod editions;
 mod errors;
 mod frames;
 mod owners;
@@ -42,7 +43,7 @@ fn refused_files() -> [(Vec<u8>, TtpaError); 8] {
     [
         (M10[..15].to_vec(), TtpaError::FileSize),
         (m10_with(0, 0x55), TtpaError::Mark),
-        (m10_with(EDITION, 2), TtpaError::Edition),
+        (m10_with(EDITION, 3), TtpaError::Edition),
         (m10_with(LENGTH_LOW, 0x61), TtpaError::LengthField),
         (m10_with(HEADER_ZERO, 1), TtpaError::Header),
         (m10_with(SLEEP_BYTE, 2), TtpaError::Layout),

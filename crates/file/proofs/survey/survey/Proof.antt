@@ -6,7 +6,6 @@ use denote.Ref.{now}
 use Rattle.file.specs.Rules.Bytes.{Bytes}
 use Rattle.file.specs.Inner.Answers.{checkedOf}
 use Rattle.file.proofs.SurveyLaws.{header-good, refused-by-header, refused-by-layout, refused-by-slaves, whole, survey-accepts, bytes-known}
-use Rattle.file.proofs.AtWidth.{edition-width}
 use borrow.Author.Needs.{needs}
 use Rattle.file.proofs.survey.survey.Statement.{statement}
 use Rattle.file.proofs.survey.survey.Tie as tie
@@ -15,35 +14,41 @@ use Rattle.file.proofs.survey.survey.Tie as tie
 known : (c : tie.After-shared-slice-known) → Bytes (now (c .before .args .file))
 known c = bytes-known _ (λ k. omega (arith, c .shared-slice-known .given k))
 
+width-of-requires : tie.Need-width-of-requires
+width-of-requires c κs = search needs
+
 header-ground-requires : tie.Need-header-ground-requires
 header-ground-requires c κs = search needs
 
 returns : tie.Need-returns
 unfolding checkedOf
-returns c = search (needs, refused-by-header, edition-width)
+returns c = search (needs, refused-by-header)
 
 walk-body-requires : tie.Need-walk-body-requires
 walk-body-requires c κs = (search needs, search (needs, header-good), record { room = omega (arith, c .walk-body-arg .given .0 .1) })
 
 returns-2 : tie.Need-returns-2
 unfolding checkedOf
-returns-2 c = search (needs, refused-by-layout, edition-width, header-good, not-true)
+returns-2 c = search (needs, refused-by-layout, header-good, not-true)
 
 slaves-ground-requires : tie.Need-slaves-ground-requires
-slaves-ground-requires c κs = (search (needs, whole, not-false), record { room = omega arith })
+slaves-ground-requires c κs =
+    let walked = c .before .before in
+    (whole (walked .before .walk-body .ensures) (not-false _ (walked .if2 .left)), record { room = omega arith })
 
 returns-3 : tie.Need-returns-3
 unfolding checkedOf
-returns-3 c = search (needs, refused-by-slaves, edition-width, not-false)
+returns-3 c = search (needs, refused-by-slaves, not-false)
 
 returns-4 : tie.Need-returns-4
 unfolding checkedOf
-returns-4 c = search (needs, survey-accepts, edition-width, not-false, known)
+returns-4 c = search (needs, survey-accepts, not-false, known)
 
 pub survey-spec : {M : Type 1} → statement M
 survey-spec =
     tie.close
     (tie.spec
+    width-of-requires
     header-ground-requires
     returns
     walk-body-requires

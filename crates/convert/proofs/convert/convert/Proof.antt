@@ -1,0 +1,57 @@
+-- `convert::convert::convert` meets its contract: a law for each way.
+-- Assumes nothing.
+use Rattle.file.proofs.Surveyed.{survey-placed}
+use Rattle.convert.specs.Inner.Answers.{convertedOf}
+use Rattle.convert.proofs.EditionLaws.{width-there}
+use Rattle.convert.proofs.Calls.{call-refused, call-over, call-short, call-fits, call-written}
+use borrow.Author.Needs.{needs}
+use Rattle.convert.proofs.convert.convert.Statement.{statement}
+use Rattle.convert.proofs.convert.convert.Tie as tie
+
+length-in-requires : tie.Need-length-in-requires
+length-in-requires c κs =
+    let told = c .before in
+    (survey-placed (told .before .before .survey .ensures) (told .enum-told .given .1) .file, width-there _ (c .width-in .ensures))
+
+is-over-requires : tie.Need-is-over-requires
+is-over-requires c κs =
+    let told = c .before .before in
+    (survey-placed (told .before .before .survey .ensures) (told .enum-told .given .1) .file, width-there _ (c .before .width-in .ensures), c .length-in .ensures)
+
+returns : tie.Need-returns
+unfolding convertedOf
+returns c = search (needs, call-over)
+
+returns-2 : tie.Need-returns-2
+unfolding convertedOf
+returns-2 c = search (needs, call-short)
+
+put-form-requires : tie.Need-put-form-requires
+put-form-requires c κs =
+    let told = c .before .before .before .before .before .before in
+    (survey-placed (told .before .before .survey .ensures) (told .enum-told .given .1) .file, search (needs, call-fits))
+
+returns-3 : tie.Need-returns-3
+unfolding convertedOf
+returns-3 c = search (needs, call-refused)
+
+returns-4 : tie.Need-returns-4
+unfolding convertedOf
+returns-4 c = search (needs, call-written)
+
+pub convert-spec : {M : Type 1} → statement M
+convert-spec =
+    tie.close
+    (tie.spec
+    (λ c κs. search needs)
+    (λ c. search needs)
+    (λ c. search needs)
+    (λ c κs. search needs)
+    length-in-requires
+    is-over-requires
+    returns
+    returns-2
+    put-form-requires
+    returns-3
+    (λ c. search needs)
+    returns-4)

@@ -1,0 +1,310 @@
+-- Both editions over the C calls: each call on a file's converted form, lists of calls, and demand 3 with conversions between the calls.
+-- Assumes nothing.
+use Prim.Native.Nat.{ℕ, _^_, _<_}
+use native.Mathlib.Omega.{arith}
+use mathlib.Core.Path.{_≡_, refl, sym, ap, _∙_, subst}
+use mathlib.Core.List.{List, [], _∷_}
+use mathlib.Core.Bool.{Bool, false}
+use Rattle.file.specs.Rules.Bytes.{Bytes, All, allEmpty, allNext}
+use Rattle.file.specs.Rules.Results.{Result, refused, done}
+use Rattle.file.specs.Rules.Decode.{decode}
+use Rattle.file.specs.Rules.Grounds.{fileGround, loadGround, loadVerdict}
+use Rattle.file.specs.Rules.Editions.{inEdition}
+use Rattle.file.proofs.Bytes.{all-map}
+use Rattle.file.proofs.Results.{load-twice}
+use Rattle.cluster.specs.Rules.Grounds.{roundBy}
+use Rattle.cluster.specs.Rules.Summary.{without, kept}
+use Rattle.cluster.specs.Claims.Editions.{Convertible}
+use Rattle.cluster.proofs.Editions.{form, form-again, own-edition, grounds-behind, slaves-same, names-same, rounds-converted, keeping-converted, filling-converted}
+use Rattle.trace.specs.Rules.Layout.{headerSize}
+use Rattle.trace.specs.Rules.Trace.{frameCount, framesOf}
+use Rattle.trace.specs.Rules.Run.{sent}
+use Rattle.trace.proofs.Runs.{frames-bytes}
+use Rattle.trace.proofs.Editions.{sent-converted, traces-converted}
+use Rattle.owner.proofs.Editions.{owner-converted}
+use Rattle.convert.specs.Rules.Convert.{convertGrounds, convertGround, convertOn}
+use Rattle.naming.specs.Rules.Account.{Named, argumentsGround}
+use Rattle.naming.specs.Rules.Run.{Position, bits, fresh, startGround}
+use Rattle.naming.specs.Rules.Step.{StepDone, ended, made, stepOn, stepKeeping}
+use Rattle.naming.specs.Claims.Demand.{halfwayAfter, startOn}
+use Rattle.naming.proofs.Renaming.{step-value}
+use Rattle.naming.proofs.Summaries.{keeping-step-value}
+use Rattle.naming.proofs.Editions.{steps-converted, steps-keeping-converted, names-in}
+use Rattle.ttpa.specs.Rules.Calls.{checkCall, startCall, stepCall, stepWords, stepKeepingCall, roundCall, roundKeepingCall, traceCall, ownerCall, convertCall, fillCall, wordsOf, positionIn}
+use Rattle.demand.specs.Claims.Traces.{halfwayFrom}
+use Rattle.demand.specs.Claims.Calls.{CCall, GivenBytes, given-step, given-step-keeping, given-frame, given-frame-keeping, given-trace, Memory, returned, memoryAfter, afterCalls}
+use Rattle.demand.specs.Claims.Calls.{permittedFrames, permittedCall, halfwayOn, permitted, TakenByRounds, loads, equalNames, CallsDemand, started}
+use Rattle.demand.specs.Claims.Editions.{AllCallsAlike, converted, numbersReturned, ListConverted, ListsConverted, Turn, call, convert, afterTurns, permittedTurns, callsAmong, Fitting, of-call, of-conversion, CallsDemandConverted}
+use Rattle.demand.proofs.Calls.{runs-accepted, start-number, start-memory, demand-over-calls}
+
+-- ---- each call
+
+-- ground 22 goes by the names
+load-same : {f : List ℕ} {e : ℕ} → Convertible f e → loadGround (inEdition f e) ≡ loadGround f
+load-same {f} {e} convertible =
+    load-twice (inEdition f e) (form convertible .accepted) ∙ rw (names-same convertible) (sym (load-twice f (convertible .accepted)))
+
+check-same : {f : List ℕ} {e : ℕ} → Convertible f e → checkCall (inEdition f e) ≡ checkCall f
+unfolding checkCall loadVerdict
+check-same convertible = rw (load-same convertible)
+
+-- a conversion goes by the slaves, and writes the form in the edition asked for
+conversion-ground :
+    {f : List ℕ} {e : ℕ} (d : ℕ) (out : List ℕ) → Convertible f e → convertGround (inEdition f e) d out ≡ convertGround f d out
+unfolding convertGround convertGrounds
+conversion-ground d out convertible = grounds-behind convertible (rw (slaves-same convertible))
+
+conversion-same : {f : List ℕ} {e : ℕ} (d : ℕ) (out : List ℕ) → Convertible f e → convertOn (inEdition f e) d out ≡ convertOn f d out
+unfolding convertOn
+conversion-same d out convertible = rw (conversion-ground d out convertible, form-again convertible d)
+
+pub all-calls-alike : AllCallsAlike
+unfolding roundCall roundKeepingCall stepCall stepKeepingCall traceCall ownerCall convertCall fillCall
+all-calls-alike f e convertible =
+    record {
+      check = check-same convertible;
+      round = λ bytes answer senders rb. rw (rounds-converted f e bytes answer convertible rb .0);
+      roundKeeping = λ bytes answer senders held count rb. rw (keeping-converted f e (kept count held) bytes answer convertible rb .0);
+      step = λ run names answer senders nb small. rw (steps-converted f e (positionIn run) names answer convertible nb small .0);
+      stepKeeping = λ run names answer senders held count nb small.
+          rw (steps-keeping-converted f e (positionIn run) names (kept count held) answer convertible nb small .0);
+      trace = λ t report tb. rw (traces-converted f e t convertible tb .0);
+      owner = λ master buffer length. rw (owner-converted f e master buffer convertible);
+      convert = λ d out length. rw (conversion-same d out convertible);
+      fill = λ held count. rw (filling-converted f e held convertible);
+    }
+
+-- ---- the frames of a trace
+
+record FramesAlike (f : List ℕ) (e : ℕ) (h : Bool) (xs : List (List ℕ)) : Type 0 where
+  permits : permittedFrames h (inEdition f e) xs ≡ permittedFrames h f xs
+  halfway : halfwayFrom h (inEdition f e) xs ≡ halfwayFrom h f xs
+
+frames-alike : (f : List ℕ) (e : ℕ) (h : Bool) {xs : List (List ℕ)} → Convertible f e → All Bytes xs → FramesAlike f e h xs
+unfolding permittedFrames halfwayFrom
+frames-alike f e h convertible allEmpty = record { permits = refl; halfway = refl }
+frames-alike f e h convertible (allNext {a = x} b bs) =
+    let one = sent-converted f e x convertible b in
+    let more = frames-alike (sent f x .2) e (halfwayAfter h (sent f x .0) (roundBy x)) (one .after) bs in
+    record { permits = rw (one .answer, one .file, more .permits); halfway = rw (one .answer, one .file) (more .halfway) }
+
+-- ---- a call of a list
+
+words-small :
+    (a : Result StepDone) (p : Position) (run : List ℕ) → p .value < 2 ^ bits → positionIn run .value < 2 ^ bits →
+    positionIn (stepWords a p run) .value < 2 ^ bits
+unfolding stepWords positionIn wordsOf
+words-small (refused n) p run new old = old
+words-small (done ended) p run new old = old
+words-small (done (made mask)) p run new old = new
+
+record CallConverted (names : List ℕ) (m : Memory) (e : ℕ) (c : CCall) : Type 0 where
+  number : returned names (converted m e) c ≡ returned names m c
+  memory : memoryAfter names (converted m e) c ≡ converted (memoryAfter names m c) e
+  may : (h : Bool) → permittedCall h (converted m e) c ≡ permittedCall h m c
+  halfway : (h : Bool) → halfwayOn h (converted m e) c ≡ halfwayOn h m c
+  after : Convertible (memoryAfter names m c .file) e
+  small : positionIn (memoryAfter names m c .run) .value < 2 ^ bits
+
+module _ (names : List ℕ) (nb : Bytes names) where
+  call-converted :
+      (m : Memory) (e : ℕ) {c : CCall} → Convertible (m .file) e → positionIn (m .run) .value < 2 ^ bits → GivenBytes c →
+      CallConverted names m e c
+  unfolding returned memoryAfter permittedCall halfwayOn converted roundCall roundKeepingCall stepCall stepKeepingCall traceCall framesOf
+  call-converted m e convertible small (given-step {buffer} {senders}) =
+      let p : Position = positionIn (m .run) in
+      let (same, after) = steps-converted (m .file) e p names buffer convertible nb small in
+      let r = stepOn (m .file) p names buffer in
+      record {
+        number = rw same;
+        memory = rw same;
+        may = λ h. refl;
+        halfway = λ h. refl;
+        after = after;
+        small = words-small (r .0) (r .1) (m .run) (step-value (m .file) p names buffer small) small;
+      }
+  call-converted m e convertible small (given-step-keeping {buffer} {senders} {held} {count}) =
+      let p : Position = positionIn (m .run) in
+      let (same, after) = steps-keeping-converted (m .file) e p names (kept count held) buffer convertible nb small in
+      let r = stepKeeping (m .file) p names (kept count held) buffer in
+      record {
+        number = rw same;
+        memory = rw same;
+        may = λ h. refl;
+        halfway = λ h. refl;
+        after = after;
+        small = words-small (r .0) (r .1) (m .run) (keeping-step-value (m .file) p names (kept count held) buffer small) small;
+      }
+  call-converted m e convertible small (given-frame {bytes} {buffer} {senders} rb) =
+      let (same, after) = rounds-converted (m .file) e bytes buffer convertible rb in
+      record { number = rw same; memory = rw same; may = λ h. refl; halfway = λ h. refl; after = after; small = small }
+  call-converted m e convertible small (given-frame-keeping {bytes} {buffer} {senders} {held} {count} rb) =
+      let (same, after) = keeping-converted (m .file) e (kept count held) bytes buffer convertible rb in
+      record { number = rw same; memory = rw same; may = λ h. refl; halfway = λ h. refl; after = after; small = small }
+  call-converted m e convertible small (given-trace {t} {report} tb) =
+      let (same, after) = traces-converted (m .file) e t convertible tb in
+      let frames = frames-bytes tb headerSize (frameCount t) in
+      record {
+        number = rw same;
+        memory = rw same;
+        may = λ h. frames-alike (m .file) e h convertible frames .permits;
+        halfway = λ h. frames-alike (m .file) e h convertible frames .halfway;
+        after = after;
+        small = small;
+      }
+
+  -- ---- a list of calls
+
+  list-converted :
+      (m : Memory) (e : ℕ) {calls : List CCall} → Convertible (m .file) e → positionIn (m .run) .value < 2 ^ bits → All GivenBytes calls →
+      ListConverted names m e calls
+  unfolding afterCalls permitted numbersReturned
+  list-converted m e convertible small allEmpty = record { numbers = refl; same = refl; permits = λ h. refl; after = convertible }
+  list-converted m e convertible small (allNext {a = c} b bs) =
+      let one = call-converted m e convertible small b in
+      let more = list-converted (memoryAfter names m c) e (one .after) (one .small) bs in
+      record {
+        numbers = rw (one .number, one .memory, more .numbers);
+        same = rw (one .memory) (more .same);
+        permits = λ h. rw (one .number, one .memory, one .may h, one .halfway h, more .permits _);
+        after = more .after;
+      }
+
+pub lists-converted : ListsConverted
+lists-converted names m e calls convertible nb small bs = list-converted names nb m e convertible small bs
+
+-- ---- conversions between the calls
+
+-- ready on a file: frames and traces are bytes, and the file is convertible
+data Ready (f : List ℕ) : Turn → Type 0 where
+  ready-call : {c : CCall} → GivenBytes c → Ready f (call c)
+  ready-conversion : {e : ℕ} → Convertible f e → Ready f (convert e)
+
+fitting-ready : (f : List ℕ) → Bytes f → fileGround f ≡ 0 → (t : Turn) → Fitting f t → Ready f t
+fitting-ready f fb none (call c) (of-call b) = ready-call b
+fitting-ready f fb none (convert e) (of-conversion width room) =
+    ready-conversion (record { bytes = fb; accepted = none; width = width; room = room })
+
+fitting-bytes : (f : List ℕ) {turns : List Turn} → All (Fitting f) turns → All GivenBytes (callsAmong turns)
+unfolding callsAmong
+fitting-bytes f allEmpty = allEmpty
+fitting-bytes f (allNext (of-call b) bs) = allNext b (fitting-bytes f bs)
+fitting-bytes f (allNext (of-conversion width room) bs) = fitting-bytes f bs
+
+again : (m : Memory) (e next : ℕ) → Convertible (m .file) e → converted (converted m e) next ≡ converted m next
+unfolding converted
+again m e next convertible = rw (form-again convertible next)
+
+-- the edition after the turns, from edition e on
+unfoldable lastEdition : ℕ → List Turn → ℕ
+lastEdition e [] = e
+lastEdition e (call c ∷ ts) = lastEdition e ts
+lastEdition e (convert next ∷ ts) = lastEdition next ts
+
+record Converting (names : List ℕ) (m : Memory) (e : ℕ) (turns : List Turn) : Type 0 where
+  same : afterTurns names (converted m e) turns ≡ converted (afterCalls names m (callsAmong turns)) (lastEdition e turns)
+  permits : (h : Bool) → permittedTurns h names (converted m e) turns ≡ permitted h names m (callsAmong turns)
+  after : Convertible (afterCalls names m (callsAmong turns) .file) (lastEdition e turns)
+  small : positionIn (afterCalls names m (callsAmong turns) .run) .value < 2 ^ bits
+
+module _ (names : List ℕ) (nb : Bytes names) where
+  -- ready on the file that a call leaves
+  ready-after :
+      (m : Memory) {c : CCall} → positionIn (m .run) .value < 2 ^ bits → GivenBytes c → (t : Turn) → Ready (m .file) t →
+      Ready (memoryAfter names m c .file) t
+  ready-after m small b (call d) (ready-call h) = ready-call h
+  ready-after m small b (convert e) (ready-conversion convertible) =
+      ready-conversion (call-converted names nb m e convertible small b .after)
+
+  turns-converted :
+      (m : Memory) (e : ℕ) (turns : List Turn) → Convertible (m .file) e → positionIn (m .run) .value < 2 ^ bits → All (Ready (m .file)) turns →
+      Converting names m e turns
+  unfolding afterTurns permittedTurns afterCalls permitted callsAmong lastEdition
+  turns-converted m e [] convertible small allEmpty = record { same = refl; permits = λ h. refl; after = convertible; small = small }
+  turns-converted m e (call c ∷ ts) convertible small (allNext (ready-call b) bs) =
+      let one = call-converted names nb m e convertible small b in
+      let more = turns-converted (memoryAfter names m c) e ts (one .after) (one .small) (all-map (ready-after m small b) bs) in
+      record {
+        same = rw (one .memory) (more .same);
+        permits = λ h. rw (one .number, one .memory, one .may h, one .halfway h, more .permits _);
+        after = more .after;
+        small = more .small;
+      }
+  turns-converted m e (convert next ∷ ts) convertible small (allNext (ready-conversion other) bs) =
+      let more = turns-converted m next ts other small bs in
+      record {
+        same = rw (again m e next convertible) (more .same);
+        permits = λ h. rw (again m e next convertible) (more .permits h);
+        after = more .after;
+        small = more .small;
+      }
+
+-- ---- demand 3
+
+taken-in : {f : List ℕ} {e : ℕ} → Convertible f e → TakenByRounds f → TakenByRounds (inEdition f e)
+taken-in convertible (loads is) = loads (check-same convertible ∙ is)
+taken-in convertible (equalNames is) = equalNames (check-same convertible ∙ is)
+
+demand-in :
+    {file names : List ℕ} {calls : List CCall} {m : Memory} {e : ℕ} → Bytes names → Convertible (m .file) e → positionIn (m .run) .value < 2 ^ bits →
+    CallsDemand file names calls m → CallsDemand file names calls (converted m e)
+demand-in {file} {names} {calls} {m} {e} nb convertible small d =
+    let same = names-in convertible in
+    unfold converted in
+    record {
+      logical = same ∙ d .logical;
+      end = d .end;
+      rounds = d .rounds;
+      comparisons = d .comparisons;
+      accepted = taken-in convertible (d .accepted);
+      loaded = λ is. check-same convertible ∙ d .loaded is;
+      next = λ buffer senders.
+          call-converted names nb m e convertible small (given-step {buffer = buffer} {senders = senders}) .number
+          ∙ d .next buffer senders
+          ∙ ap (λ (l : List Named). argumentsGround l (record { summary = without; buffer = buffer })) (sym same);
+      nextKeeping = λ buffer senders held count.
+          call-converted names nb m e convertible small (given-step-keeping {buffer = buffer} {senders = senders} {held = held} {count = count}) .number
+          ∙ d .nextKeeping buffer senders held count
+          ∙ ap (λ (l : List Named). argumentsGround l (record { summary = kept count held; buffer = buffer })) (sym same);
+      outcome = rw same (d .outcome);
+    }
+
+fresh-small : (file names run : List ℕ) → startGround names ≡ 0 → positionIn (started file names run .run) .value < 2 ^ bits
+unfolding positionIn wordsOf fresh startOn
+fresh-small file names run none =
+    subst (λ (m : Memory). positionIn (m .run) .value < 2 ^ bits) (sym (start-memory file names run none)) (omega arith)
+
+-- the turns on a file as they are on its form in its own edition, which is the file itself
+record FromOwn (file names run : List ℕ) (turns : List Turn) : Type 0 where
+  own : started file names run ≡ converted (started file names run) (decode file .edition)
+  turned : Converting names (started file names run) (decode file .edition) turns
+
+from-own :
+    (file : List ℕ) → Bytes file → TakenByRounds file → (names : List ℕ) → Bytes names → (run : List ℕ) → startCall names run .0 ≡ 0 →
+    (turns : List Turn) → All (Fitting file) turns → FromOwn file names run turns
+from-own file fb taken names nb run starts turns fits =
+    let m : Memory = started file names run in
+    let none : fileGround file ≡ 0 = runs-accepted taken in
+    let (convertible, was) = own-edition file fb none in
+    let small = fresh-small file names run (sym (start-number names run) ∙ starts) in
+    record {
+      own = unfold converted in rw was;
+      turned = turns-converted names nb m (decode file .edition) turns convertible small (all-map (fitting-ready file fb none) fits);
+    }
+
+-- permitted are those among which the calls are permitted
+pub turns-permitted :
+    (file : List ℕ) → Bytes file → TakenByRounds file → (names : List ℕ) → Bytes names → (run : List ℕ) → startCall names run .0 ≡ 0 →
+    (turns : List Turn) → All (Fitting file) turns →
+    permittedTurns false names (started file names run) turns ≡ permitted false names (started file names run) (callsAmong turns)
+turns-permitted file fb taken names nb run starts turns fits =
+    let r = from-own file fb taken names nb run starts turns fits in
+    ap (λ (k : Memory). permittedTurns false names k turns) (r .own) ∙ r .turned .permits false
+
+pub calls-demand-converted : CallsDemandConverted
+calls-demand-converted file fb taken names nb run starts turns fits may =
+    let r = from-own file fb taken names nb run starts turns fits in
+    let same = ap (λ (k : Memory). afterTurns names k turns) (r .own) ∙ r .turned .same in
+    let may-call = sym (turns-permitted file fb taken names nb run starts turns fits) ∙ may in
+    let d = demand-over-calls file fb taken names nb run starts (callsAmong turns) (fitting-bytes file fits) may-call in
+    rw same (demand-in nb (r .turned .after) (r .turned .small) d)
