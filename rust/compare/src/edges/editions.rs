@@ -10,7 +10,7 @@ use crate::frames::framed;
 use model::{Edition, MSA, MSD};
 
 /// So many edges there are, runs aside.
-const EDGES: usize = 187;
+const EDGES: usize = 192;
 
 const EDITION_LIMITS: u8 = 25;
 const CONVERSION_BUFFER: u8 = 26;
@@ -28,6 +28,7 @@ pub fn hold(engine: &dyn Engine) {
         entries(),
         slaves_without_files(),
         equal_names(),
+        last_of_64(),
         on_64_slaves(),
         converted(),
         carried_over(),
@@ -234,6 +235,26 @@ fn equal_names() -> Vec<Edge> {
         check("equal physical names", with_last(0, 0x06), 8),
         check("equal logical names", with_last(63, 0x05), 22),
         check("both", with_last(0, 0x05), 8),
+    ]
+}
+
+/// Numbers 6 and 7 of the last of 64 slaves.
+fn last_of_64() -> Vec<Edge> {
+    let lacking = |lacked: u8| {
+        let mut parts = unnamed(64, 0);
+        parts.slaves[63].1.retain(|&(number, _)| number != lacked);
+        parts.laid_out(2)
+    };
+    let file = unnamed(64, 0).laid_out(2);
+    let entry = TABLE + 63 * ENTRY;
+    // Its directory of two entries, then 16 and 12 bytes.
+    let directory = file.len() - 28 - 2 * ENTRY;
+    vec![
+        check("the last lacks 0x08", lacking(0x08), 7),
+        check("the last lacks 0x3D", lacking(0x3D), 7),
+        check("the last one's sleep byte 2", changed(&file, &[(entry + 5, "02")]), 6),
+        check("a zero of the last table entry", changed(&file, &[(entry + 7, "01")]), 6),
+        check("a zero of the last directory", changed(&file, &[(directory + 2, "01")]), 6),
     ]
 }
 
