@@ -1,10 +1,11 @@
 /* demo FILE: commissioning a small cluster, as firmware or test software would do it.
  *
  * Sees to it that header and library are of one version, loads a cluster file, checks it, reads a record of a named
- * slave, has a foreign master try to name slaves by a write, names the unnamed slaves while other rounds go on in
- * between, tells before and after it who holds a name, runs a captured trace, plans who sends in which slot, has a slot
- * multiplexed, puts the cluster to sleep and wakes it, converts the file to edition 2 and back, and prints what happened.
- * examples/demo.rs of the Rust crate does the same and prints the same. */
+ * slave, has a foreign master try to name slaves by a write, names unnamed slaves until the list of names runs dry and
+ * the last one by a second list, while other rounds go on in between, tells before and after it who holds a name, runs a
+ * captured trace, plans who sends in which slot, has a slot multiplexed, puts the cluster to sleep and wakes it, converts
+ * the file to edition 2 and back, and prints what happened. examples/demo.rs of the Rust crate does the same and prints
+ * the same. */
 #include <inttypes.h>
 #include <stdio.h>
 #include <string.h>
@@ -396,7 +397,8 @@ static void show_editions(void)
 
 int main(int count, char **arguments)
 {
-    static const uint8_t names[] = {0x01, 0x02, 0x03, 0x04};
+    static const uint8_t names[] = {0x01, 0x02};
+    static const uint8_t more_names[] = {0x03, 0x04};
     static const uint8_t bad_names[] = {0x01, 0x02, 0x01};
     static const uint8_t round[1] = {TTPA_FIREWORK_ROUND_2};
     uint64_t run[TTPA_RUN_WORDS];
@@ -428,6 +430,11 @@ int main(int count, char **arguments)
     print_verdict("names with a repeat", ttpa_start(bad_names, sizeof bad_names, run));
     number = name_slaves(names, sizeof names);
     print_verdict("naming", number);
+    print_holders();
+    /* a slave is left unnamed: a second list goes on with the file as it is, and leaves the names that one list of all
+     * four would */
+    number = name_slaves(more_names, sizeof more_names);
+    print_verdict("naming with a second list", number);
     print_holders();
     show_wrong_summary();
     for (uint8_t name = 0x02; name <= 0x03; name++) {

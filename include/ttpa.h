@@ -372,6 +372,14 @@ uint8_t ttpa_round(uint8_t *file, size_t n, const uint8_t *frame, size_t m, uint
                    uint64_t *senders);
 
 /* Makes a fresh naming run over the list of n names; over an empty list it has ended already.
+ *
+ * When a run has ended, its list having run dry, say, a second list may be started on the same file. If each run is made
+ * to its end, with other rounds before, in and after it only as ttpa_step has them, and the two lists have no name in
+ * common, every slave then has the logical name that one run over the first list followed by the second would have given
+ * it. Such a joined list is accepted if both are; with a common name 16 refuses it. The second run goes by the file as the
+ * first left it: a name that a slave has by then is taken, and rounds and comparisons count from 0. It begins with an
+ * extra read of its own. So where the first ended "names used up" the two runs, neither list being empty, make one round
+ * more than the one; where it ended "all named", they make the second run's rounds more.
  * Refuses by 15, 16 in this order. On 0 all of run is written. */
 uint8_t ttpa_start(const uint8_t *names, size_t n, uint64_t run[TTPA_RUN_WORDS]);
 

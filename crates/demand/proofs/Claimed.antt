@@ -19,6 +19,10 @@ use Rattle.demand.proofs.Steps.{steps-are-rounds}
 use Rattle.demand.proofs.TraceCalls.{traces-are-rounds}
 use Rattle.demand.proofs.Summary.{kept-by-calls, filled-and-asked, rounds-with-summary, steps-with-summary, given-makes-no-difference-in-calls}
 use Rattle.demand.proofs.Sleep.{calls-stay-awake, calls-counted-awake, c-calls-wake}
+use Rattle.demand.specs.Claims.TwoLists.{TwoListsOverCalls, JoinedStarts, CommonReturns, RunsEndOverCalls, EveryRunEndsOverCalls}
+use Rattle.demand.specs.Claims.TwoLists.{EndMarkOverCalls, SecondFindsOverCalls, TwoRunsOverCalls}
+use Rattle.demand.proofs.TwoLists.{two-lists-over-calls, joined-starts, common-returns, runs-end-over-calls, every-run-ends-over-calls}
+use Rattle.demand.proofs.TwoLists.{end-mark-over-calls, second-finds-over-calls, two-runs-over-calls}
 
 pub held-demand-over-calls : DemandOverCalls
 held-demand-over-calls = demand-over-calls
@@ -106,3 +110,27 @@ held-lists-converted = lists-converted
 
 pub held-calls-demand-converted : CallsDemandConverted
 held-calls-demand-converted = calls-demand-converted
+
+pub held-two-lists-over-calls : TwoListsOverCalls
+held-two-lists-over-calls = two-lists-over-calls
+
+pub held-joined-starts : JoinedStarts
+held-joined-starts = joined-starts
+
+pub held-common-returns : CommonReturns
+held-common-returns = common-returns
+
+pub held-every-run-ends-over-calls : EveryRunEndsOverCalls
+held-every-run-ends-over-calls = every-run-ends-over-calls
+
+pub held-runs-end-over-calls : RunsEndOverCalls
+held-runs-end-over-calls = runs-end-over-calls
+
+pub held-end-mark-over-calls : EndMarkOverCalls
+held-end-mark-over-calls = end-mark-over-calls
+
+pub held-second-finds-over-calls : SecondFindsOverCalls
+held-second-finds-over-calls = second-finds-over-calls
+
+pub held-two-runs-over-calls : TwoRunsOverCalls
+held-two-runs-over-calls = two-runs-over-calls

@@ -8,6 +8,9 @@ pub mod Permitted
 pub mod Steps
 -- a trace is its frames, one call of ttpa_round or ttpa_round_keeping each
 pub mod TraceCalls
+-- two lists of names, one run after the other
+pub mod TwoLists
+pub mod TwoListsExamples
 -- what stays pending, who is renamed, and who is awake, over lists of calls
 pub mod Pending
 pub mod Renaming

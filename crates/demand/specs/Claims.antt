@@ -1,9 +1,10 @@
--- Statements of theorems: demand 3 over lists with traces and over the C calls, the lists that it permits there, a step and a trace as
--- calls of ttpa_round, what stays pending, who is renamed and who is awake over lists of calls, the summary and both editions over the C
--- calls.
+-- Statements of theorems: demand 3 over lists with traces and over the C calls, the lists that it permits there, two lists of names, a step
+-- and a trace as calls of ttpa_round, what stays pending, who is renamed and who is awake over lists of calls, the summary and both
+-- editions over the C calls.
 pub mod Traces
 pub mod Calls
 pub mod Permitted
+pub mod TwoLists
 pub mod Steps
 pub mod TraceCalls
 pub mod Pending

@@ -29,6 +29,9 @@ use Rattle.naming.proofs.StepLaws.{ended-alters-nothing}
 use Rattle.naming.proofs.RoundsMade.{makes-extra, moves-on, stands}
 use Rattle.naming.proofs.PassRounds.{passes-made}
 use Rattle.naming.proofs.Sleep.{step-wakes, no-round-wakes-nobody, stays-awake, counted-awake}
+use Rattle.naming.specs.Claims.TwoLists.{TwoLists, JoinedAccepted, CommonRefused, RunsEnd, EveryRunEnds, EndMark, SecondFinds, TwoRuns}
+use Rattle.naming.proofs.TwoLists.{two-lists, joined-accepted, common-refused, runs-end, every-run-ends}
+use Rattle.naming.proofs.TwoRuns.{end-mark, second-finds, two-runs}
 
 pub held-marked-cases : MarkedCases
 held-marked-cases = marked-cases
@@ -155,3 +158,27 @@ held-all-turns-converted = all-turns-converted
 
 pub held-demand-converted : DemandConverted
 held-demand-converted = demand-converted
+
+pub held-two-lists : TwoLists
+held-two-lists = two-lists
+
+pub held-joined-accepted : JoinedAccepted
+held-joined-accepted = joined-accepted
+
+pub held-common-refused : CommonRefused
+held-common-refused = common-refused
+
+pub held-every-run-ends : EveryRunEnds
+held-every-run-ends = every-run-ends
+
+pub held-runs-end : RunsEnd
+held-runs-end = runs-end
+
+pub held-end-mark : EndMark
+held-end-mark = end-mark
+
+pub held-second-finds : SecondFinds
+held-second-finds = second-finds
+
+pub held-two-runs : TwoRuns
+held-two-runs = two-runs

@@ -67,7 +67,7 @@ module _ (slaves : List Named) (names : List ℕ) where
       let long = length-falling (unnamedAmong slaves) in
       omega (arith, rw long at passes, extra-is names)
 
-  comparisons-whole :
+  pub comparisons-whole :
       dueComparisons (namesHeld slaves) names (falling (unnamedAmong slaves)) ≡ comparisonsFor slaves names
   unfolding comparisonsFor
   comparisons-whole = due-comparisons (namesHeld slaves) names (falling (unnamedAmong slaves)) ∙ rw (length-falling (unnamedAmong slaves))

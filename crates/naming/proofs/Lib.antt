@@ -27,6 +27,9 @@ pub mod Lists
 pub mod PermittedExactly
 pub mod PermittedRounds
 pub mod HeldOnce
+pub mod TwoLists
+pub mod TwoRuns
+pub mod TwoListsExamples
 pub mod PositionLaws
 pub mod NameLaws
 pub mod SendLaws

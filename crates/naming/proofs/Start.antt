@@ -50,7 +50,7 @@ all-unnamed [] allEmpty = allEmpty
 all-unnamed (s ∷ ss) (also p h) =
     byCase (eqb (s .logical) unnamed) (λ t. rw t (also p (all-unnamed ss h))) (λ f. rw f (all-unnamed ss h))
 
-distinct-unnamed : (ss : List Named) → Distinct (physicals ss) → Distinct (unnamedAmong ss)
+pub distinct-unnamed : (ss : List Named) → Distinct (physicals ss) → Distinct (unnamedAmong ss)
 unfolding physicals unnamedAmong
 distinct-unnamed [] alone = alone
 distinct-unnamed (s ∷ ss) (apart p h) =

@@ -100,7 +100,7 @@ given-one p n ps ns a s =
     rw (t, e))
     (λ f. rw f)
 
-given-now : (p n : ℕ) (ps ns : List ℕ) → isAmong p ps ≡ false → (ss : List Named) →
+pub given-now : (p n : ℕ) (ps ns : List ℕ) → isAmong p ps ≡ false → (ss : List Named) →
     map (renamed (givings ps ns)) (map (give p n) ss) ≡ map (renamed (givings (p ∷ ps) (n ∷ ns))) ss
 unfolding renamed nameGiven give givings
 given-now p n ps ns a [] = refl
@@ -109,17 +109,17 @@ given-now p n ps ns a (s ∷ ss) = rw (given-one p n ps ns a s, given-now p n ps
 -- ---- what is due after a pass
 
 module _ (n : ℕ) (ns held : List ℕ) (t : isAmong n held ≡ true) where
-  due-taken : (ws : List ℕ) → due held (n ∷ ns) ws ≡ suc (due held ns ws)
+  pub due-taken : (ws : List ℕ) → due held (n ∷ ns) ws ≡ suc (due held ns ws)
   unfolding due
   due-taken [] = rw t
   due-taken (p ∷ ps) = rw t
 
-  due-comparisons-taken : (ws : List ℕ) → dueComparisons held (n ∷ ns) ws ≡ dueComparisons held ns ws
+  pub due-comparisons-taken : (ws : List ℕ) → dueComparisons held (n ∷ ns) ws ≡ dueComparisons held ns ws
   unfolding dueComparisons
   due-comparisons-taken [] = rw t
   due-comparisons-taken (p ∷ ps) = rw t
 
-  free-taken : freeNames held (n ∷ ns) ≡ freeNames held ns
+  pub free-taken : freeNames held (n ∷ ns) ≡ freeNames held ns
   unfolding freeNames
   free-taken = rw t
 
@@ -227,7 +227,7 @@ module _ (R C : ℕ) (F : List Named) where
       let l : suc k < namingRounds p = omega arith in
       rw (goes-on n ns (p ∷ ps) slaves held rounds done k f l) (goes-on-pass n ns (p ∷ ps) slaves held rounds done k made d (rw f l)))
 
-  ended-stays : (left ws : List ℕ) (slaves : List Named) (held : List ℕ) (end rounds done k : ℕ) → 0 < end →
+  pub ended-stays : (left ws : List ℕ) (slaves : List Named) (held : List ℕ) (end rounds done k : ℕ) → 0 < end →
       passOn (account left ws slaves held end rounds done k) ≡ account left ws slaves held end rounds done k
   unfolding passOn
   ended-stays left ws slaves held end rounds done k h = let n : end ≡ 0 → ⊥ = omega arith in rw (ne-eqb end 0 n)

@@ -2,7 +2,7 @@
 
 use crate::case::{Call, Outcome};
 use crate::draws::random::Random;
-use crate::draws::{clusters, conversions, inputs, owners, runs, sleepers, summaries, traces};
+use crate::draws::{clusters, conversions, inputs, owners, runs, sleepers, summaries, traces, two_lists};
 use crate::engine::{Engine, Model};
 use crate::frames::MULTIPARTNER;
 use crate::sorts::owners::Planned;
@@ -178,10 +178,12 @@ impl<'a> Campaign<'a> {
         self.sorts_reached(&Sort::REACHED_BY_SLEEPERS, amounts.rounds);
         self.sorts_reached(&Sort::REACHED_BY_CONVERSIONS, amounts.conversions);
         self.sorts_reached(&Sort::REACHED_BY_RUNS, amounts.runs);
+        self.sorts_reached(&Sort::REACHED_BY_TWO_LISTS, amounts.runs);
         self.reached();
     }
 
-    /// Whole naming runs; for every four one more is made in turn, and two more are given a summary.
+    /// Whole naming runs; for every four one more is made in turn, and two more are given a summary. Beside each there
+    /// are three over two lists.
     fn runs(&mut self, amount: usize, seed: u64) {
         for run in 0..amount {
             let random = |kind: u64| Random::from_seed(seed ^ kind ^ (run as u64) << 8);
@@ -193,6 +195,7 @@ impl<'a> Campaign<'a> {
             } else if run % 4 == 0 {
                 runs::run_in_turn(self, &mut random(10), slaves);
             }
+            two_lists::runs(self, &mut random(19), run);
         }
     }
 

@@ -8,6 +8,7 @@ use crate::editions::{holds_in_other_edition, in_other_edition};
 use crate::engine::{Engine, ReportWords, RunWords, Summary, NOBODY};
 use crate::layout::{slaves_place, sleepers_of};
 use crate::sorts::tally::Tally;
+use crate::two_lists::{self, TWO};
 use model::Edition;
 use std::fmt;
 
@@ -455,7 +456,7 @@ impl Call {
 /// What came of the kept cases of a text.
 #[derive(Default)]
 pub struct Held {
-    /// The calls of the cases that hold.
+    /// The calls of the cases that hold, and their pairs of lists.
     pub tally: Tally,
     pub passed: u64,
     /// Those of them that hold on the file in the other edition too.
@@ -464,20 +465,20 @@ pub struct Held {
     pub wrong: Vec<String>,
 }
 
-/// Makes the call of every kept case, where its file is accepted and the other edition can hold it also on the file in
-/// that edition. Listings are no call of an engine and are left out.
+/// Makes the call of every kept case, or the runs of one about two lists, where its file is accepted and the other edition
+/// can hold it also on the file in that edition. Listings are no call of an engine and are left out.
 pub fn hold_all(engine: &dyn Engine, text: &str) -> Held {
     let mut held = Held::default();
     for line in text.lines().filter(|line| kind_of(line) != LISTING) {
-        match hold_against(engine, line) {
-            Ok((call, outcome)) => {
-                held.tally.note(&call, &outcome);
+        let turned = match kind_of(line) {
+            TWO => held.two_lists(engine, line),
+            _ => held.call(engine, line),
+        };
+        match turned {
+            Ok(in_other_edition) => {
                 held.passed += 1;
-                if in_other_edition(&call, &outcome).is_none() {
-                    continue;
-                }
-                held.turned += 1;
-                if !holds_in_other_edition(engine, &call, &outcome) {
+                held.turned += u64::from(in_other_edition.is_some());
+                if in_other_edition == Some(false) {
                     held.wrong.push(format!("in the other edition it does not hold: {line}"));
                 }
             }
@@ -485,6 +486,23 @@ pub fn hold_all(engine: &dyn Engine, text: &str) -> Held {
         }
     }
     held
+}
+
+impl Held {
+    /// Whether the call of a case that holds does so in the other edition too, where there is one; or what differs.
+    fn call(&mut self, engine: &dyn Engine, line: &str) -> Result<Option<bool>, String> {
+        let (call, outcome) = hold_against(engine, line)?;
+        self.tally.note(&call, &outcome);
+        let turned = in_other_edition(&call, &outcome);
+        Ok(turned.map(|_| holds_in_other_edition(engine, &call, &outcome)))
+    }
+
+    /// The same of the runs of a case about two lists.
+    fn two_lists(&mut self, engine: &dyn Engine, line: &str) -> Result<Option<bool>, String> {
+        let (lists, runs) = two_lists::hold_against(engine, line)?;
+        self.tally.note_two_lists(&lists, &runs);
+        Ok(two_lists::hold_in_other_edition(engine, &lists, &runs))
+    }
 }
 
 /// A kept case: the call and what came of it, or what differs. An engine passes when the line it gives is the line that

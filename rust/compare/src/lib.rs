@@ -14,3 +14,4 @@ pub mod engine;
 pub mod frames;
 mod layout;
 pub mod sorts;
+pub mod two_lists;

@@ -114,6 +114,14 @@ fn vectors_of_request_10_hold() {
 }
 
 #[test]
+fn vectors_of_request_11_hold() {
+    let about_summaries = ["fill", "holder", "round-keeping", "step-keeping"];
+    let about_editions = ["to-edition-1", "to-edition-2"];
+    let kinds = [&about_summaries[..], &about_editions, &["owner", "step", "trace", "two"]].concat();
+    assert_eq!(kinds_that_hold(include_str!("data/request-11.txt")), with(&kinds));
+}
+
+#[test]
 fn cases_of_our_own_hold() {
     assert!(!kinds_that_hold(include_str!("data/cases.txt")).is_empty());
 }

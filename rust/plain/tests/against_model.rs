@@ -64,3 +64,9 @@ fn the_edges_of_editions_hold() {
     edges::editions::hold(&Plain { nested: false });
     edges::editions::hold(&Plain { nested: true });
 }
+
+#[test]
+fn the_edges_of_two_lists_hold() {
+    edges::two_lists::hold(&Plain { nested: false });
+    edges::two_lists::hold(&Plain { nested: true });
+}

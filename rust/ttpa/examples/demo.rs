@@ -1,10 +1,10 @@
 //! `demo FILE`: commissioning a small cluster, as firmware or test software would do it.
 //!
 //! Sees to it that crate and library are of one version, loads a cluster file, checks it, reads a record of a named
-//! slave, has a foreign master try to name slaves by a write, names the unnamed slaves while other rounds go on in
-//! between, tells before and after it who holds a name, runs a captured trace, plans who sends in which slot, has a slot
-//! multiplexed, puts the cluster to sleep and wakes it, converts the file to edition 2 and back, and prints what happened.
-//! c/demo.c does the same and prints the same.
+//! slave, has a foreign master try to name slaves by a write, names unnamed slaves until the list of names runs dry and
+//! the last one by a second list, while other rounds go on in between, tells before and after it who holds a name, runs a
+//! captured trace, plans who sends in which slot, has a slot multiplexed, puts the cluster to sleep and wakes it, converts
+//! the file to edition 2 and back, and prints what happened. c/demo.c does the same and prints the same.
 
 use std::fs::File;
 use std::io::Read;
@@ -325,7 +325,11 @@ fn main() -> ExitCode {
     let mut summary = cluster.filled_summary();
     print_holders(&summary);
     print_verdict("names with a repeat", Run::start(&[0x01, 0x02, 0x01]));
-    print_verdict("naming", cluster.name_slaves(&[0x01, 0x02, 0x03, 0x04], &mut summary));
+    print_verdict("naming", cluster.name_slaves(&[0x01, 0x02], &mut summary));
+    print_holders(&summary);
+    // A slave is left unnamed: a second list goes on with the file as it is, and leaves the names that one list of all
+    // four would.
+    print_verdict("naming with a second list", cluster.name_slaves(&[0x03, 0x04], &mut summary));
     print_holders(&summary);
     cluster.show_wrong_summary(&summary);
     for name in 0x02..=0x03 {

@@ -22,7 +22,9 @@ pub struct Run {
 }
 
 impl Run {
-    /// A fresh run; refused by 15 and 16.
+    /// A fresh run; refused by 15 and 16. After a run has ended, a second list without a name of the first may be started
+    /// on the same file: made to their ends, both leave the names that one run over the first list followed by the second
+    /// would leave.
     pub fn start(names: &[u8]) -> Result<Run, TtpaError> {
         version::hold();
         let mut words = [0; RUN_WORDS];

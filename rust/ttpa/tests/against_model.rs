@@ -161,6 +161,7 @@ fn the_safe_functions_give_the_kept_results() {
         include_str!("../../model/tests/data/request-08.txt"),
         include_str!("../../model/tests/data/request-09.txt"),
         include_str!("../../model/tests/data/request-10.txt"),
+        include_str!("../../model/tests/data/request-11.txt"),
     ] {
         let held = hold_all(&Wrapper, text);
         assert!(held.passed > 0);
@@ -211,4 +212,9 @@ fn the_edges_of_sleepers_hold() {
 #[test]
 fn the_edges_of_editions_hold() {
     edges::editions::hold(&Wrapper);
+}
+
+#[test]
+fn the_edges_of_two_lists_hold() {
+    edges::two_lists::hold(&Wrapper);
 }

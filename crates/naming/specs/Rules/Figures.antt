@@ -7,6 +7,7 @@ use mathlib.Core.Bool.{cond}
 use lib.ListN.{length}
 use lib.Dec.{eqb, ltb}
 use Rattle.file.specs.Rules.Grounds.{isAmong}
+use Rattle.naming.specs.Rules.Run.{allNamed, namesUsedUp}
 use Rattle.naming.specs.Rules.Account.{Named, falling, unnamedAmong, namesHeld, namingRounds, namingComparisons, endingRounds, endingComparisons}
 
 -- the listed names that are held, and those that are free, by the names held at the start
@@ -69,6 +70,20 @@ unfoldable pub comparisonsFor : List Named → List ℕ → ℕ
 comparisonsFor slaves names =
     let u = length (unnamedAmong slaves) in let f = length (freeNames (namesHeld slaves) names) in
     namingComparisons * min u f + cond (ltb u f) endingComparisons 0
+
+-- its end mark: "all named" if u < f, since a free name is left that nobody takes, else "names used up"
+unfoldable pub endFor : List Named → List ℕ → ℕ
+endFor slaves names = cond (ltb (length (unnamedAmong slaves)) (length (freeNames (namesHeld slaves) names))) allNamed namesUsedUp
+
+-- the rounds of a run that finds nobody unnamed: the extra read, the taken names before its first free one, 4 if it has a free one
+unfoldable pub roundsForNobody : List ℕ → List ℕ → ℕ
+roundsForNobody held names = extraFor names + takenTried held 0 names + cond (ltb 0 (length (freeNames held names))) endingRounds 0
+
+-- request 11: by how much the extra reads of two runs are more than that of one run over both lists: by one if neither list is empty
+unfoldable pub extraAgain : List ℕ → List ℕ → ℕ
+extraAgain [] B = 0
+extraAgain (n ∷ A) [] = 0
+extraAgain (n ∷ A) (m ∷ B) = 1
 
 -- what a run over these names that began with these slaves has come to, by its end mark, its counts and the slaves now: it has
 -- ended exactly when its rounds are the figure, and then comparisons and names are theirs

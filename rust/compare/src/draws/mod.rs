@@ -1,5 +1,5 @@
-//! Random inputs: numbers, clusters, frames, positions, traces, owner files, summaries, sleepers, conversions and whole
-//! naming runs.
+//! Random inputs: numbers, clusters, frames, positions, traces, owner files, summaries, sleepers, conversions, whole naming
+//! runs and pairs of lists.
 
 pub mod clusters;
 pub mod conversions;
@@ -10,3 +10,4 @@ pub mod runs;
 pub mod sleepers;
 pub mod summaries;
 pub mod traces;
+pub mod two_lists;

@@ -10,6 +10,7 @@ use crate::case::{Call, Outcome};
 use crate::engine::RunWords;
 use crate::frames::{framed, unfolded, MULTIPARTNER};
 use crate::sorts::{turns, Sort};
+use crate::two_lists::{names_in, Ended};
 use model::{
     check, closed_figures, Account, Address, Cluster, Edition, End, FileNumber, LogicalName, Operation, Slave,
 };
@@ -43,13 +44,31 @@ pub fn whole_run(campaign: &mut Campaign, random: &mut Random, slaves: usize, gi
         cluster.slaves.iter_mut().for_each(|slave| slave.set_logical_name(LogicalName::UNNAMED));
     }
     let names = inputs::good_names(random, slaves + 3);
-    let figures = closed_figures(&cluster, &names);
-    let started = campaign.call(&Call::Start { names: names.clone() });
-    let account = Account::start(&cluster, &names);
-    let file = cluster.encode();
+    let ended = to_its_end(campaign, random, cluster.encode(), &names, given);
+    let named = newly_named(&cluster, &ended.file) > 0;
+    campaign.note_sorts((given == Given::Summary).then_some(Sort::RunKept));
+    let slept = cluster.slaves.iter().any(|slave| slave.asleep && slave.is_unnamed());
+    campaign.note_sorts((slept && named).then_some(Sort::RunOverSleepers));
+    let more = cluster.slaves.len() > Edition::One.most_slaves();
+    campaign.note_sorts((more && named).then_some(Sort::RunOverMoreSlaves));
+}
+
+/// A run over the names, begun on this file and made to its end, with permitted traffic between its steps and after its
+/// end.
+pub fn to_its_end(
+    campaign: &mut Campaign,
+    random: &mut Random,
+    file: Vec<u8>,
+    names: &[u8],
+    given: Given,
+) -> Ended {
+    let cluster = check(&file).expect("an accepted file");
+    let figures = closed_figures(&cluster, names);
+    let started = campaign.call(&Call::Start { names: names.to_vec() });
+    let account = Account::start(&cluster, names);
     let summary = (given == Given::Summary).then(|| Held::of(random, &file));
     let run = started.run.unwrap_or(NO_RUN);
-    let mut whole = WholeRun { file, names, run, account, summary, made: 0 };
+    let mut whole = WholeRun { file, names: names.to_vec(), run, account, summary, made: 0 };
     let traffic = random.one_of(&[1, 2, 4, 10, 50]);
     while whole.run[0] == End::Running.number() {
         if random.once_in(traffic) {
@@ -59,22 +78,25 @@ pub fn whole_run(campaign: &mut Campaign, random: &mut Random, slaves: usize, gi
     }
     // A step of an ended run alters nothing.
     whole.step(campaign, 64);
+    if random.once_in(2) {
+        whole.other_calls(campaign, random);
+    }
     campaign.tally.note_run(figures.end);
-    let [end, _, _, _, rounds, comparisons, ..] = whole.run;
-    if (end, rounds, comparisons) != (figures.end.number(), figures.rounds, figures.comparisons) {
+    let ended = Ended { run: whole.run, file: whole.file.clone() };
+    if ended.figures() != [figures.end.number(), figures.rounds, figures.comparisons] {
         whole.report(campaign, "the closed figures");
     }
-    let left = whole.cluster();
-    let got_a_name = |(now, then): &(&Slave, &Slave)| then.is_unnamed() && !now.is_unnamed();
-    let named = left.slaves.iter().zip(&cluster.slaves).filter(got_a_name).count();
-    if named as u64 != figures.named {
+    if newly_named(&cluster, &whole.file) != figures.named {
         whole.report(campaign, "the closed count of slaves named");
     }
-    campaign.note_sorts((given == Given::Summary).then_some(Sort::RunKept));
-    let slept = cluster.slaves.iter().any(|slave| slave.asleep && slave.is_unnamed());
-    campaign.note_sorts((slept && named > 0).then_some(Sort::RunOverSleepers));
-    let more = cluster.slaves.len() > Edition::One.most_slaves();
-    campaign.note_sorts((more && named > 0).then_some(Sort::RunOverMoreSlaves));
+    ended
+}
+
+/// How many slaves of the cluster are unnamed and have a name in the file.
+fn newly_named(cluster: &Cluster, file: &[u8]) -> u64 {
+    let left = names_in(file);
+    let got_a_name = |(slave, &name): &(&Slave, &u8)| slave.is_unnamed() && name != LogicalName::UNNAMED.0;
+    cluster.slaves.iter().zip(&left).filter(got_a_name).count() as u64
 }
 
 /// A run over unnamed slaves whose steps the engine and the model make in turn, each on the file and the words that the

@@ -12,6 +12,7 @@ pub mod sleepers;
 pub mod step_grounds;
 pub mod summaries;
 pub mod traces;
+pub mod two_lists;
 
 use crate::case::{Call, Outcome};
 use crate::editions::holds_in_other_edition;

@@ -11,11 +11,12 @@ pub mod summaries;
 pub mod tally;
 pub mod traces;
 pub mod turns;
+pub mod two_lists;
 
 use crate::case::{Call, Outcome};
 pub use sort::{Reached, Sort};
 
-/// What any call is an example of. Traces and owner files are sorted where they are drawn.
+/// What any call is an example of. Traces, owner files and pairs of lists are sorted where they are drawn.
 pub fn of(call: &Call, outcome: &Outcome) -> Vec<Sort> {
     let mut sorts = Vec::from_iter(Sort::of(call, outcome));
     sorts.extend(names::sorts(call, outcome));

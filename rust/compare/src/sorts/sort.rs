@@ -3,6 +3,7 @@
 use crate::case::{Call, Outcome};
 use crate::frames::{is_multipartner, is_unfolded};
 use model::{check, Cluster, FileNumber, Pending, RecordNumber, MSA, MSD};
+use std::cmp::Ordering;
 
 /// What a call is an example of.
 #[derive(Clone, Copy, PartialEq, Eq, PartialOrd, Ord)]
@@ -236,6 +237,32 @@ pub enum Sort {
     RunKept,
     /// A naming run over more slaves than edition 1 holds.
     RunOverMoreSlaves,
+    /// Two lists, the unnamed slaves that the run over the first, or the second, finds being less, equal or greater in number
+    /// than its free names.
+    UnnamedBesideFirst(Ordering),
+    UnnamedBesideSecond(Ordering),
+    /// Two lists of which the first, or the second, has a name that is held at the start; of which the first has no other.
+    FirstListHeld,
+    SecondListHeld,
+    FirstListTaken,
+    /// Two lists of which only the first, only the second, or both are empty; the others have names in both.
+    FirstListEmpty,
+    SecondListEmpty,
+    BothListsEmpty,
+    /// The first run ended "names used up"; it ended "all named", and the second list has a free name, or none.
+    FirstListUsedUp,
+    SecondAsksInVain,
+    SecondTakenAfterAll,
+    /// Each of two runs named a slave; the second list before the first would leave other names.
+    BothListsName,
+    OrderOfListsTells,
+    /// The file is of edition 1, or of edition 2; an unnamed slave sleeps at the start; the second run was given a summary.
+    TwoListsInEdition1,
+    TwoListsInEdition2,
+    TwoListsOverSleepers,
+    SecondListKept,
+    /// A name of the first list in the second, by which the start over both is refused.
+    CommonName,
     /// A conversion refused by 25 for its slaves alone, for its length alone, and for a length that is a record too much.
     NarrowedManySlaves,
     NarrowedLong,
@@ -499,6 +526,52 @@ impl Sort {
         (Sort::RunInTurn, 4, "naming runs made in turn"),
         (Sort::RunKept, 4, "naming runs given a summary"),
         (Sort::RunOverSleepers, 10, "naming runs begun over unnamed sleepers"),
+    ];
+
+    /// Sorts of runs over two lists, with one in how many of the runs asked for.
+    pub const REACHED_BY_TWO_LISTS: [Reached; 22] = [
+        (Sort::UnnamedBesideFirst(Ordering::Less), 8, "two lists, fewer unnamed than free names of the first"),
+        (
+            Sort::UnnamedBesideFirst(Ordering::Equal),
+            16,
+            "two lists, as many unnamed as free names of the first",
+        ),
+        (
+            Sort::UnnamedBesideFirst(Ordering::Greater),
+            8,
+            "two lists, more unnamed than free names of the first",
+        ),
+        (
+            Sort::UnnamedBesideSecond(Ordering::Less),
+            8,
+            "two lists, fewer unnamed than free names of the second",
+        ),
+        (
+            Sort::UnnamedBesideSecond(Ordering::Equal),
+            8,
+            "two lists, as many unnamed as free names of the second",
+        ),
+        (
+            Sort::UnnamedBesideSecond(Ordering::Greater),
+            16,
+            "two lists, more unnamed than free names of the second",
+        ),
+        (Sort::FirstListHeld, 8, "two lists, a name of the first held"),
+        (Sort::SecondListHeld, 8, "two lists, a name of the second held"),
+        (Sort::FirstListTaken, 16, "two lists, every name of the first held"),
+        (Sort::FirstListEmpty, 16, "two lists, the first empty"),
+        (Sort::SecondListEmpty, 16, "two lists, the second empty"),
+        (Sort::BothListsEmpty, 16, "two lists, both empty"),
+        (Sort::FirstListUsedUp, 4, "two lists, the first used up"),
+        (Sort::SecondAsksInVain, 16, "two lists, all named by the first, the second with a free name"),
+        (Sort::SecondTakenAfterAll, 16, "two lists, all named by the first, the second without a free name"),
+        (Sort::BothListsName, 8, "two lists, each of which names"),
+        (Sort::OrderOfListsTells, 8, "two lists that would leave other names in the other order"),
+        (Sort::TwoListsInEdition1, 8, "two lists in edition 1"),
+        (Sort::TwoListsInEdition2, 8, "two lists in edition 2"),
+        (Sort::TwoListsOverSleepers, 8, "two lists over unnamed sleepers"),
+        (Sort::SecondListKept, 8, "two lists, the second run given a summary"),
+        (Sort::CommonName, 4, "two lists with a common name, refused as one"),
     ];
 
     /// What a call is an example of; logical names, naming steps, their grounds, multiplexed entries, traces, owner files,

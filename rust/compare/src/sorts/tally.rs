@@ -2,12 +2,13 @@
 
 use crate::case::{Call, Outcome};
 use crate::engine::{ReportWords, RunWords};
+use crate::two_lists::{Runs, TwoLists, TWO};
 use model::{check, Edition, End, FileNumber, Pending, MSA, MSD};
 use std::collections::BTreeMap;
 
 /// Each kind of call with what it can do when it is carried out, and the numbers that can refuse it. A whole run is a
-/// kind of its own.
-const OUTCOMES: [(&str, &[&str], &[u8]); 16] = [
+/// kind of its own, and so are the runs over two lists.
+const OUTCOMES: [(&str, &[&str], &[u8]); 17] = [
     ("check", &[PLAIN], CHECK_NUMBERS),
     ("read", &["read", "write", "execute"], READ_NUMBERS),
     ("write", &["read", "write", "execute"], WRITE_NUMBERS),
@@ -23,6 +24,7 @@ const OUTCOMES: [(&str, &[&str], &[u8]); 16] = [
     ("holder", &["first-slave", "later-slave", "nobody"], HOLDER_NUMBERS),
     ("round-keeping", IN_A_ROUND, ROUND_KEEPING_NUMBERS),
     ("step-keeping", IN_A_STEP, STEP_KEEPING_NUMBERS),
+    (TWO, &[EMPTY_LIST, ALL_NAMED, USED_UP], &[]),
     (RUN, &[ALL_NAMED, USED_UP], &[]),
 ];
 
@@ -92,6 +94,7 @@ const PLAIN: &str = "";
 const RUN: &str = "run";
 const ALL_NAMED: &str = "all-named";
 const USED_UP: &str = "names-used-up";
+const EMPTY_LIST: &str = "empty-list";
 
 /// A call's kind and number, and what it did if it was carried out.
 type Came = (&'static str, u8, &'static str);
@@ -109,6 +112,16 @@ impl Tally {
 
     pub fn note_run(&mut self, end: End) {
         self.add(RUN, 0, if end == End::AllNamed { ALL_NAMED } else { USED_UP });
+    }
+
+    /// By the end of the first run; where a list is empty, the other's run is the whole.
+    pub fn note_two_lists(&mut self, lists: &TwoLists, runs: &Runs) {
+        let done = if lists.first.is_empty() || lists.second.is_empty() {
+            EMPTY_LIST
+        } else {
+            either(runs.first.named_all(), ALL_NAMED, USED_UP)
+        };
+        self.add(TWO, 0, done);
     }
 
     fn add(&mut self, kind: &'static str, number: u8, done: &'static str) {

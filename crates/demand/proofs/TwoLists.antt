@@ -1,0 +1,268 @@
+-- Two lists of names over the C calls, from the law of the names alone and demand 3 over the C calls; and that every run ends, from the
+-- same over the rules.
+-- Assumes nothing.
+use Prim.Native.Nat.{ℕ, zero, suc, _+_}
+use mathlib.Core.Path.{_≡_, refl, sym, ap, _∙_, subst}
+use mathlib.Core.List.{List, [], _∷_, _++_, map}
+use mathlib.Core.Bool.{true, false}
+use native.Mathlib.Omega.{arith}
+use lib.ListN.{replicate}
+use Rattle.file.specs.Rules.Bytes.{Bytes, All, All.allEmpty, All.allNext as also}
+use Rattle.file.specs.Rules.Decode.{decode}
+use Rattle.file.proofs.Order.{byCase}
+use Rattle.file.proofs.Accepted.{accepted-legal}
+use Rattle.file.proofs.Bytes.{all-append}
+use Rattle.cluster.specs.Rules.Bus.{slots}
+use Rattle.trace.specs.Rules.Trace.{brokenTrace, framesOf}
+use Rattle.naming.specs.Rules.Run.{Position, fresh, startGround}
+use Rattle.naming.specs.Rules.Account.{Named, Call, accountOf}
+use Rattle.naming.specs.Rules.Figures.{namesAfter}
+use Rattle.naming.specs.Claims.Demand as rules
+use Rattle.naming.specs.Claims.Demand.{State, startOn, callOn}
+use Rattle.naming.specs.Claims.TwoLists as files
+use Rattle.naming.specs.Claims.TwoLists.{longStep}
+use Rattle.naming.proofs.FromFile.{legal-slaves, accepted-names}
+use Rattle.naming.proofs.OverBytes.{bytes-after}
+use Rattle.naming.proofs.Start.{Names}
+use Rattle.naming.proofs.TwoLists.{joined-names, joined-accepted, common-refused, names-after-both, runs-end, every-run-ends}
+use Rattle.naming.proofs.TwoLists.{accountSteps, counts-same}
+use Rattle.naming.proofs.TwoRuns.{account-end, Whole, second-run, runs-together}
+use Rattle.naming.proofs.Unasked.{step-unasked}
+use Rattle.ttpa.specs.Rules.Calls.{startCall, positionIn}
+use Rattle.demand.specs.Claims.Calls.{CCall, ttpaStep, ttpaStepKeeping, ttpaRound, ttpaRoundKeeping, ttpaTrace, GivenBytes}
+use Rattle.demand.specs.Claims.Calls.{given-step, IsStep, is-step, Memory, afterCalls, permitted, callsFed}
+use Rattle.demand.specs.Claims.Calls.{slavesIn, TakenByRounds, started, memoryOf, argumentsOf}
+use Rattle.demand.specs.Claims.Traces.{frameCall, framesSingly, singly, afterTrace, callOrTraceOn}
+use Rattle.demand.specs.Claims.TwoLists.{ToItsEnd, fileAfter, runAfter, TwoListsOverCalls, JoinedStarts, CommonReturns}
+use Rattle.demand.specs.Claims.TwoLists.{stepTaken, stepsTaken, RunsEndOverCalls, EveryRunEndsOverCalls, EndMarkOverCalls}
+use Rattle.demand.specs.Claims.TwoLists.{SecondFindsOverCalls, TwoRunsOverCalls}
+use Rattle.demand.proofs.Traces.{singly-of-bytes, trace-sent-singly, all-sent-singly}
+use Rattle.demand.proofs.Calls.{position-back, groundOf, call-number, call-memory, calls-memory, all-given, runs-accepted}
+use Rattle.demand.proofs.Calls.{start-number, start-memory, start-same, demand-over-calls}
+
+-- ---- as calls of the rules
+
+-- the calls of demand 3 that a list of C calls stands for
+abbrev pub byRules : List CCall → List Call
+byRules calls = singly (map argumentsOf calls)
+
+module _ (file names run : List ℕ) (none : startGround names ≡ 0) (calls : List CCall) where
+  after-by-rules :
+      afterCalls names (started file names run) calls ≡
+      memoryOf (rules.afterCalls names (startOn file) (fresh names) (byRules calls) .0)
+      (rules.afterCalls names (startOn file) (fresh names) (byRules calls) .1)
+  after-by-rules =
+      ap (λ (m : Memory). afterCalls names m calls) (start-memory file names run none)
+      ∙ calls-memory names (startOn file) (fresh names) calls
+      ∙ sym
+      (ap (λ (w : State × Position). memoryOf (w .0) (w .1)) (all-sent-singly names (startOn file) (fresh names) (map argumentsOf calls)))
+
+  run-by-rules : runAfter file names run calls ≡ rules.afterCalls names (startOn file) (fresh names) (byRules calls) .1
+  run-by-rules =
+      ap (λ (m : Memory). positionIn (m .run)) after-by-rules
+      ∙ position-back (rules.afterCalls names (startOn file) (fresh names) (byRules calls) .1)
+
+to-rules :
+    {file names run : List ℕ} {calls : List CCall} → ToItsEnd file names run calls → files.ToItsEnd file names (byRules calls)
+to-rules {file} {names} {run} {calls} to =
+    let none : startGround names ≡ 0 = sym (start-number names run) ∙ to .starts in
+    record {
+      bytes = singly-of-bytes (all-given (to .bytes));
+      may = sym (start-same file names run none calls) ∙ to .may;
+      ended = λ e. to .ended (ap (λ (p : Position). p .end) (run-by-rules file names run none calls) ∙ e);
+    }
+
+from-rules :
+    {file names run : List ℕ} {calls : List CCall} → startCall names run .0 ≡ 0 → All GivenBytes calls →
+    files.ToItsEnd file names (byRules calls) →
+    ToItsEnd file names run calls
+from-rules {file} {names} {run} {calls} starts given to =
+    let none : startGround names ≡ 0 = sym (start-number names run) ∙ starts in
+    record {
+      starts = starts;
+      bytes = given;
+      may = start-same file names run none calls ∙ to .may;
+      ended = λ e. to .ended (sym (ap (λ (p : Position). p .end) (run-by-rules file names run none calls)) ∙ e);
+    }
+
+-- ---- the names
+
+-- the file that permitted calls leave is of bytes
+pub bytes-left :
+    (file : List ℕ) → Bytes file → TakenByRounds file → (names : List ℕ) → Bytes names → (run : List ℕ) (calls : List CCall) →
+    ToItsEnd file names run calls → Bytes (fileAfter file names run calls)
+bytes-left file b taken names n run calls to =
+    let none : startGround names ≡ 0 = sym (start-number names run) ∙ to .starts in
+    let by = to-rules to in
+    subst (λ (m : Memory). Bytes (m .file)) (sym (after-by-rules file names run none calls))
+    (bytes-after file b (runs-accepted taken) names n none (byRules calls) (by .bytes) (by .may))
+
+-- the names that a run leaves
+pub names-left :
+    (file : List ℕ) → Bytes file → TakenByRounds file → (names : List ℕ) → Bytes names → (run : List ℕ) (calls : List CCall) →
+    ToItsEnd file names run calls → slavesIn (fileAfter file names run calls) ≡ namesAfter (slavesIn file) names
+names-left file b taken names n run calls to =
+    demand-over-calls file b taken names n run (to .starts) calls (to .bytes) (to .may) .outcome .named (to .ended)
+
+pub two-lists-over-calls : TwoListsOverCalls
+two-lists-over-calls file b taken A B ba bb apart run run′ run″ first second whole one two all =
+    let none : startGround A ≡ 0 = sym (start-number A run) ∙ one .starts in
+    let none′ : startGround B ≡ 0 = sym (start-number B run′) ∙ two .starts in
+    let slaves = legal-slaves (decode file) (accepted-legal file b (runs-accepted taken)) in
+    let d = demand-over-calls file b taken A ba run (one .starts) first (one .bytes) (one .may) in
+    names-left (fileAfter file A run first) (bytes-left file b taken A ba run first one) (d .accepted) B bb run′ second two
+    ∙ ap (λ (l : List Named). namesAfter l B) (names-left file b taken A ba run first one)
+    ∙ names-after-both (slavesIn file) A B slaves (joined-names (accepted-names A ba none) (accepted-names B bb none′) apart)
+    ∙ sym (names-left file b taken (A ++ B) (all-append ba bb) run″ whole all)
+
+pub joined-starts : JoinedStarts
+joined-starts A B ba bb run run′ run″ one two =
+    let here = start-number (A ++ B) run″ in
+    let exactly = joined-accepted A B ba bb (sym (start-number A run) ∙ one) (sym (start-number B run′) ∙ two) in
+    (λ e. exactly .0 (sym here ∙ e), λ apart. here ∙ exactly .1 apart)
+
+pub common-returns : CommonReturns
+common-returns A B ba bb run run′ run″ one two common =
+    start-number (A ++ B) run″ ∙ common-refused A B ba bb (sym (start-number A run) ∙ one) (sym (start-number B run′) ∙ two) common
+
+-- ---- the steps that return 0 are those that no ground refuses
+
+module _ (names : List ℕ) where
+  frames-front :
+      (s : State) (p : Position) (xs : List (List ℕ)) (ds : List Call) →
+      files.stepsTaken names s p (map frameCall xs ++ ds) ≡
+      files.stepsTaken names (rules.afterCalls names s p (map frameCall xs) .0) (rules.afterCalls names s p (map frameCall xs) .1) ds
+  unfolding files.stepsTaken files.stepTaken rules.afterCalls frameCall
+  frames-front s p [] ds = refl
+  frames-front s p (x ∷ xs) ds =
+      omega (arith, frames-front (callOn names s p (frameCall x) .0) (callOn names s p (frameCall x) .1) xs ds)
+
+  frames-of-trace :
+      (s : State) (p : Position) (t : List ℕ) (ds : List Call) →
+      files.stepsTaken names s p (framesSingly t ++ ds) ≡
+      files.stepsTaken names (rules.afterCalls names s p (framesSingly t) .0) (rules.afterCalls names s p (framesSingly t) .1) ds
+  unfolding framesSingly
+  frames-of-trace s p t ds =
+      byCase (brokenTrace t) (λ broken. rw broken (unfold rules.afterCalls in refl)) (λ whole. rw whole (frames-front s p (framesOf t) ds))
+
+  trace-front :
+      (s : State) (p : Position) (t : List ℕ) (ds : List Call) →
+      files.stepsTaken names s p (framesSingly t ++ ds) ≡ files.stepsTaken names (afterTrace s t) p ds
+  trace-front s p t ds =
+      frames-of-trace s p t ds ∙ ap (λ (w : State × Position). files.stepsTaken names (w .0) (w .1) ds) (trace-sent-singly names s p t)
+
+  same-steps :
+      (s : State) (p : Position) (calls : List CCall) → stepsTaken names (memoryOf s p) calls ≡ files.stepsTaken names s p (byRules calls)
+  unfolding stepsTaken stepTaken files.stepsTaken files.stepTaken singly argumentsOf callOrTraceOn groundOf
+  same-steps s p [] = refl
+  same-steps s p (c ∷ cs) =
+      let after = callOrTraceOn names s p (argumentsOf c) in
+      rw (call-memory names s p c, same-steps (after .0) (after .1) cs) (one c)
+    where
+      one :
+          (c : CCall) →
+          stepTaken names (memoryOf s p) c +
+          files.stepsTaken names (callOrTraceOn names s p (argumentsOf c) .0) (callOrTraceOn names s p (argumentsOf c) .1) (byRules cs) ≡
+          files.stepsTaken names s p (byRules (c ∷ cs))
+      one (ttpaStep buffer senders) = rw (call-number names s p (ttpaStep buffer senders), step-unasked (s .file) p names buffer)
+      one (ttpaStepKeeping buffer senders held count) = rw (call-number names s p (ttpaStepKeeping buffer senders held count))
+      one (ttpaRound bytes buffer senders) = refl
+      one (ttpaRoundKeeping bytes buffer senders held count) = refl
+      one (ttpaTrace t report) = omega (arith, trace-front s p t (byRules cs))
+
+-- so after ttpa_start
+started-steps :
+    (file names run : List ℕ) → startGround names ≡ 0 → (calls : List CCall) →
+    stepsTaken names (started file names run) calls ≡ files.stepsTaken names (startOn file) (fresh names) (byRules calls)
+started-steps file names run none calls =
+    ap (λ (m : Memory). stepsTaken names m calls) (start-memory file names run none)
+    ∙ same-steps names (startOn file) (fresh names) calls
+
+-- and those that the account counts
+pub calls-counted :
+    (file : List ℕ) → Bytes file → TakenByRounds file → (names : List ℕ) → Bytes names → (run : List ℕ) → startCall names run .0 ≡ 0 →
+    (calls : List CCall) → All GivenBytes calls → permitted false names (started file names run) calls ≡ true →
+    stepsTaken names (started file names run) calls ≡ accountSteps (accountOf (slavesIn file) names) (byRules calls)
+calls-counted file b taken names n run starts calls given may =
+    let none : startGround names ≡ 0 = sym (start-number names run) ∙ starts in
+    started-steps file names run none calls
+    ∙ counts-same file b (runs-accepted taken) names n none (byRules calls) (singly-of-bytes (all-given given))
+    (sym (start-same file names run none calls) ∙ may)
+
+-- ---- every run ends
+
+pub runs-end-over-calls : RunsEndOverCalls
+runs-end-over-calls file b taken names n run starts calls given may =
+    let none : startGround names ≡ 0 = sym (start-number names run) ∙ starts in
+    let same = started-steps file names run none calls in
+    let exactly =
+    runs-end file b (runs-accepted taken) names n none (byRules calls) (singly-of-bytes (all-given given))
+    (sym (start-same file names run none calls) ∙ may) in
+    (λ enough. from-rules starts given (exactly .0 (rw same at enough)), λ to. rw same (exactly .1 (to-rules to)))
+
+module _ (senders : ℕ) where
+  abbrev pub longCall : CCall
+  longCall = ttpaStep (replicate slots 0) senders
+
+  pub steps-by-rules : (n : ℕ) → byRules (replicate n longCall) ≡ replicate n longStep
+  unfolding singly argumentsOf
+  steps-by-rules zero = refl
+  steps-by-rules (suc n) = ap (λ (l : List Call). longStep ∷ l) (steps-by-rules n)
+
+  pub steps-given : (n : ℕ) → All GivenBytes (replicate n longCall)
+  steps-given zero = allEmpty
+  steps-given (suc n) = also given-step (steps-given n)
+
+  pub steps-only : (n : ℕ) → All IsStep (replicate n longCall)
+  steps-only zero = allEmpty
+  steps-only (suc n) = also is-step (steps-only n)
+
+pub every-run-ends-over-calls : EveryRunEndsOverCalls
+every-run-ends-over-calls file b taken names n run starts many senders enough =
+    let none : startGround names ≡ 0 = sym (start-number names run) ∙ starts in
+    from-rules starts (steps-given senders many)
+    (rw (steps-by-rules senders many) (every-run-ends file b (runs-accepted taken) names n none many enough))
+
+-- ---- the end mark, rounds and comparisons
+
+pub end-mark-over-calls : EndMarkOverCalls
+end-mark-over-calls file b taken names n run calls to =
+    let d = demand-over-calls file b taken names n run (to .starts) calls (to .bytes) (to .may) in
+    d .end ∙ account-end (slavesIn file) names (callsFed calls) (λ e. to .ended (d .end ∙ e))
+
+whole-over-calls :
+    (file : List ℕ) → Bytes file → TakenByRounds file → (names : List ℕ) → Bytes names → (run : List ℕ) (calls : List CCall) →
+    ToItsEnd file names run calls → Whole (slavesIn file) names (runAfter file names run calls)
+whole-over-calls file b taken names n run calls to =
+    let d = demand-over-calls file b taken names n run (to .starts) calls (to .bytes) (to .may) in
+    record {
+      end = end-mark-over-calls file b taken names n run calls to;
+      rounds = d .outcome .ended (to .ended);
+      comparisons = d .outcome .compared (to .ended);
+    }
+
+module _ (file : List ℕ) (b : Bytes file) (taken : TakenByRounds file) (A B : List ℕ) (ba : Bytes A) (bb : Bytes B) where
+  -- the run over B from the file that A's run left
+  second-whole :
+      (run run′ : List ℕ) (first second : List CCall) → ToItsEnd file A run first → ToItsEnd (fileAfter file A run first) B run′ second →
+      Whole (slavesIn (fileAfter file A run first)) B (runAfter (fileAfter file A run first) B run′ second)
+  second-whole run run′ first second one two =
+      let d = demand-over-calls file b taken A ba run (one .starts) first (one .bytes) (one .may) in
+      whole-over-calls (fileAfter file A run first) (bytes-left file b taken A ba run first one) (d .accepted) B bb run′ second two
+
+pub second-finds-over-calls : SecondFindsOverCalls
+second-finds-over-calls file b taken A B ba bb run run′ first second one two =
+    second-run (legal-slaves (decode file) (accepted-legal file b (runs-accepted taken)))
+    (accepted-names A ba (sym (start-number A run) ∙ one .starts)) (accepted-names B bb (sym (start-number B run′) ∙ two .starts))
+    (names-left file b taken A ba run first one) (second-whole file b taken A B ba bb run run′ first second one two)
+
+pub two-runs-over-calls : TwoRunsOverCalls
+two-runs-over-calls file b taken A B ba bb apart run run′ run″ first second whole one two all =
+    let a : Names A = accepted-names A ba (sym (start-number A run) ∙ one .starts) in
+    let joined : Names (A ++ B) = joined-names a (accepted-names B bb (sym (start-number B run′) ∙ two .starts)) apart in
+    let there : Whole (namesAfter (slavesIn file) A) B (runAfter (fileAfter file A run first) B run′ second) =
+    subst (λ (l : List Named). Whole l B (runAfter (fileAfter file A run first) B run′ second)) (names-left file b taken A ba run first one)
+    (second-whole file b taken A B ba bb run run′ first second one two) in
+    runs-together (legal-slaves (decode file) (accepted-legal file b (runs-accepted taken))) a joined
+    (whole-over-calls file b taken A ba run first one) there
+    (whole-over-calls file b taken (A ++ B) (all-append ba bb) run″ whole all)
