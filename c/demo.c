@@ -4,8 +4,8 @@
  * slave, has a foreign master try to name slaves by a write, names unnamed slaves until the list of names runs dry and
  * the last one by a second list, while other rounds go on in between, tells before and after it who holds a name, runs a
  * captured trace, plans who sends in which slot, has a slot multiplexed, puts the cluster to sleep and wakes it, converts
- * the file to edition 2 and back, and prints what happened. examples/demo.rs of the Rust crate does the same and prints
- * the same. */
+ * the file to edition 2 and back, serves three screens in turn, and prints what happened. examples/demo.rs of the Rust
+ * crate does the same and prints the same. */
 #include <inttypes.h>
 #include <stdio.h>
 #include <string.h>
@@ -23,6 +23,8 @@
 /* the bytes of a header of edition 1 and of edition 2 */
 #define HEADER_BYTES 16
 #define WIDE_HEADER_BYTES 24
+/* the screen that posts again as soon as it is served */
+#define BUSY_SCREEN 2
 
 /* The cluster file and what the last round answered. One byte more than a file may have, so that a longer
  * one is seen and refused. */
@@ -395,6 +397,46 @@ static void show_editions(void)
            narrow_length == length && memcmp(narrow, cluster, length) == 0 ? "the same" : "not the same");
 }
 
+/* A screen posts a read of the serial number of a slave. */
+static uint8_t post(uint8_t state[TTPA_SCREENS_BYTES], uint8_t screen, uint8_t name)
+{
+    return ttpa_post(state, screen, name, TTPA_FILE_DOCUMENTATION, 2);
+}
+
+/* Makes a turn and prints its answer; the screen that was served. */
+static uint8_t take_turn(uint8_t state[TTPA_SCREENS_BYTES])
+{
+    uint8_t screen = TTPA_NO_SCREEN;
+    uint8_t number = ttpa_turn(cluster, length, state, answer, sizeof answer, &senders, &screen);
+    if (number != TTPA_ACCEPTED) {
+        print_verdict("a turn", number);
+    } else if (screen == TTPA_NO_SCREEN) {
+        printf("a turn: no screen waits\n");
+    } else {
+        printf("a turn: screen %u\n", (unsigned)screen);
+        print_answer("answer");
+    }
+    return screen;
+}
+
+/* Three screens read through the tester. Screen 2 posts again as soon as it is served, in the first four turns, and the
+ * others have theirs all the same. */
+static void show_screens(void)
+{
+    uint8_t state[TTPA_SCREENS_BYTES];
+    print_verdict("screens", ttpa_screens(state));
+    print_verdict("a post of screen 8", post(state, 8, 0x01));
+    print_verdict("a post of screen 2", post(state, BUSY_SCREEN, 0x01));
+    print_verdict("a post of screen 2", post(state, BUSY_SCREEN, 0x01));
+    print_verdict("a post of screen 5", post(state, 5, 0x03));
+    print_verdict("a post of screen 0", post(state, 0, 0x02));
+    for (int turn = 0; turn < 6; turn++) {
+        if (take_turn(state) == BUSY_SCREEN && turn < 4) {
+            print_verdict("a post of screen 2", post(state, BUSY_SCREEN, 0x01));
+        }
+    }
+}
+
 int main(int count, char **arguments)
 {
     static const uint8_t names[] = {0x01, 0x02};
@@ -458,6 +500,7 @@ int main(int count, char **arguments)
     show_multiplexed();
     show_sleep();
     show_editions();
+    show_screens();
     print_verdict("a short answer buffer", ttpa_round(cluster, length, round, sizeof round, answer,
                                                       TTPA_ANSWER_BYTES - 1, &senders));
     print_verdict("the file as it is now", ttpa_check(cluster, length));

@@ -57,6 +57,8 @@ VALUE(TTPA_REFUSED_MULTIPLEXED_SEND, 23);
 VALUE(TTPA_REFUSED_SUMMARY, 24);
 VALUE(TTPA_REFUSED_EDITION_LIMITS, 25);
 VALUE(TTPA_REFUSED_CONVERSION_BUFFER, 26);
+VALUE(TTPA_REFUSED_SCREEN, 27);
+VALUE(TTPA_REFUSED_SCREEN_WAITING, 28);
 /* .ci/refusals writes to here */
 
 VALUE(TTPA_FILE_BYTES, 65536);
@@ -122,6 +124,9 @@ VALUE(TTPA_OWNER_INDEX, 4);
 
 VALUE(TTPA_NOBODY, UINT64_C(0xFFFFFFFFFFFFFFFF));
 
+VALUE(TTPA_SCREENS_BYTES, 33);
+VALUE(TTPA_NO_SCREEN, 8);
+
 /* ---- the prototypes */
 
 typedef const char *text_type(uint8_t);
@@ -143,6 +148,9 @@ typedef uint8_t round_keeping_type(uint8_t *, size_t, const uint8_t *, size_t, u
 typedef uint8_t step_keeping_type(uint8_t *, size_t, uint64_t *, const uint8_t *, size_t, uint8_t *, size_t,
                                   uint64_t *, uint8_t *, size_t, uint64_t);
 typedef uint8_t to_edition_type(const uint8_t *, size_t, uint8_t *, size_t, uint64_t *);
+typedef uint8_t screens_type(uint8_t *);
+typedef uint8_t post_type(uint8_t *, uint8_t, uint8_t, uint8_t, uint8_t);
+typedef uint8_t turn_type(uint8_t *, size_t, uint8_t *, uint8_t *, size_t, uint64_t *, uint8_t *);
 
 PROTOTYPE(ttpa_refusal_text, text_type);
 PROTOTYPE(ttpa_version, version_type);
@@ -161,6 +169,9 @@ PROTOTYPE(ttpa_round_keeping, round_keeping_type);
 PROTOTYPE(ttpa_step_keeping, step_keeping_type);
 PROTOTYPE(ttpa_to_edition_1, to_edition_type);
 PROTOTYPE(ttpa_to_edition_2, to_edition_type);
+PROTOTYPE(ttpa_screens, screens_type);
+PROTOTYPE(ttpa_post, post_type);
+PROTOTYPE(ttpa_turn, turn_type);
 
 /* ---- the comparisons */
 
@@ -281,6 +292,8 @@ static const struct {
     {TTPA_REFUSED_SUMMARY, "summary"},
     {TTPA_REFUSED_EDITION_LIMITS, "edition 1"},
     {TTPA_REFUSED_CONVERSION_BUFFER, "converted"},
+    {TTPA_REFUSED_SCREEN, "above 7"},
+    {TTPA_REFUSED_SCREEN_WAITING, "waiting already"},
     /* .ci/refusals writes to here */
 };
 
@@ -1286,6 +1299,128 @@ static void rounds_on_both_forms(void)
     EXPECT(senders == 2 && answer[1] == 0x00 && cluster[EPOCH] == 6 && wide[WIDE_EPOCH] == 6);
 }
 
+/* ---- screens that share turns */
+
+/* The state, and a byte behind it that no call writes. */
+static uint8_t state[TTPA_SCREENS_BYTES + 1];
+static uint8_t screen;
+
+/* M10 with its first slave named 0x05, which answers a read of its serial number with 00 00 00 10 and the check 59. */
+static void renew_screens(void)
+{
+    renew();
+    cluster[FIRST_NAME] = 0x05;
+    memset(state, OLD, sizeof state);
+    EXPECT(ttpa_screens(state) == TTPA_ACCEPTED);
+    screen = OLD;
+}
+
+/* The screen last served, the four bytes of one screen, and of all others zeros. */
+static int state_is(uint8_t last, size_t of, uint8_t waiting, uint8_t name, uint8_t file, uint8_t record)
+{
+    uint8_t expected[TTPA_SCREENS_BYTES] = {0};
+    expected[0] = last;
+    expected[1 + 4 * of] = waiting;
+    expected[2 + 4 * of] = name;
+    expected[3 + 4 * of] = file;
+    expected[4 + 4 * of] = record;
+    return memcmp(state, expected, sizeof expected) == 0 && state[TTPA_SCREENS_BYTES] == OLD;
+}
+
+static uint8_t turn(size_t answer_bytes)
+{
+    return ttpa_turn(cluster, sizeof cluster, state, answer, answer_bytes, &senders, &screen);
+}
+
+/* The answer is that of 0x05 to a read of its serial number. */
+static int serial_heard(void)
+{
+    return senders == 0x3E && answer[1] == 0x00 && answer[3] == 0x00 && answer[4] == 0x10 && answer[5] == 0x59 &&
+           silent_from(TTPA_FIREWORK_MSD, 6);
+}
+
+static void posts(void)
+{
+    renew_screens();
+    EXPECT(state_is(7, 0, 0, 0, 0, 0));
+    EXPECT(ttpa_post(state, 0, 0x05, TTPA_FILE_DOCUMENTATION, 2) == TTPA_ACCEPTED);
+    EXPECT(state_is(7, 0, 1, 0x05, TTPA_FILE_DOCUMENTATION, 2));
+    EXPECT(ttpa_post(state, 0, 0x05, TTPA_FILE_DOCUMENTATION, 2) == TTPA_REFUSED_SCREEN_WAITING);
+    EXPECT(ttpa_post(state, 0, 0x00, 64, 2) == TTPA_REFUSED_SCREEN_WAITING);
+    EXPECT(ttpa_post(state, 8, 0x00, 64, 2) == TTPA_REFUSED_SCREEN);
+    EXPECT(ttpa_post(state, 255, 0x05, 0, 2) == TTPA_REFUSED_SCREEN);
+    EXPECT(ttpa_post(state, 7, 0x00, 64, 2) == TTPA_REFUSED_FILE_NUMBER);
+    EXPECT(ttpa_post(state, 7, 0x00, 63, 2) == TTPA_REFUSED_BROADCAST_READ);
+    EXPECT(state_is(7, 0, 1, 0x05, TTPA_FILE_DOCUMENTATION, 2));
+    renew_screens();
+    EXPECT(ttpa_post(state, 7, TTPA_NAME_UNNAMED, 63, 255) == TTPA_ACCEPTED);
+    EXPECT(state_is(7, 7, 1, TTPA_NAME_UNNAMED, 63, 255));
+    state[0] = 8;
+    EXPECT(ttpa_post(state, 7, 0x05, 64, 2) == TTPA_REFUSED_SCREEN);
+    EXPECT(state_is(8, 7, 1, TTPA_NAME_UNNAMED, 63, 255));
+}
+
+/* Screens 0 and 6 in turn; 0 posts again as soon as it is served, and waits for 6. Each read adds 2 to the epoch. */
+static void turns(void)
+{
+    static const uint8_t served[] = {0, 6, 0, TTPA_NO_SCREEN};
+    renew_screens();
+    EXPECT(ttpa_post(state, 6, 0x05, TTPA_FILE_DOCUMENTATION, 2) == TTPA_ACCEPTED);
+    EXPECT(ttpa_post(state, 0, 0x05, TTPA_FILE_DOCUMENTATION, 2) == TTPA_ACCEPTED);
+    for (size_t i = 0; i < sizeof served; i++) {
+        memset(answer, OLD, sizeof answer);
+        senders = OLD_SENDERS;
+        EXPECT(turn(sizeof answer) == TTPA_ACCEPTED && screen == served[i]);
+        EXPECT(i < 3 ? serial_heard() : senders == OLD_SENDERS && is_old(answer, sizeof answer));
+        EXPECT(cluster[EPOCH] == (i < 3 ? 2 * (i + 1) : 6));
+        EXPECT(i > 0 || ttpa_post(state, 0, 0x05, TTPA_FILE_DOCUMENTATION, 2) == TTPA_ACCEPTED);
+    }
+    EXPECT(cluster[EPOCH + 1] == 1 && cluster[EPOCH + 2] == 0x05 && cluster[EPOCH + 3] == 0xF4);
+    EXPECT(state[0] == 0 && state[1] == 0 && state[2] == 0x05 && state[TTPA_SCREENS_BYTES] == OLD);
+    EXPECT(ttpa_post(state, 3, TTPA_NAME_UNNAMED, TTPA_FILE_DOCUMENTATION, 2) == TTPA_ACCEPTED);
+    EXPECT(turn(TTPA_ANSWER_BYTES) == TTPA_ACCEPTED && screen == 3 && senders == 0);
+    EXPECT(silent_from(TTPA_FIREWORK_MSD, 1));
+}
+
+/* The order of a turn's grounds; a read that is not due is not looked at, and one whose turn is refused waits on. */
+static void refused_turns(void)
+{
+    renew_screens();
+    EXPECT(turn(TTPA_ANSWER_BYTES - 1) == TTPA_REFUSED_SHORT_BUFFER);
+    EXPECT(ttpa_turn(NULL, 0, state, NULL, 0, &senders, &screen) == TTPA_REFUSED_FILE_SIZE);
+    EXPECT(ttpa_post(state, 1, 0x05, TTPA_FILE_DOCUMENTATION, 2) == TTPA_ACCEPTED);
+    state[2 + 4] = TTPA_NAME_BROADCAST;
+    EXPECT(ttpa_turn(cluster, 15, state, NULL, 0, &senders, &screen) == TTPA_REFUSED_BROADCAST_READ);
+    state[3 + 4] = 64;
+    EXPECT(ttpa_turn(cluster, 15, state, NULL, 0, &senders, &screen) == TTPA_REFUSED_FILE_NUMBER);
+    state[0] = 8;
+    EXPECT(ttpa_turn(cluster, 15, state, NULL, 0, &senders, &screen) == TTPA_REFUSED_SCREEN);
+    state[0] = 7;
+    EXPECT(state_is(7, 1, 1, TTPA_NAME_BROADCAST, 64, 2));
+    EXPECT(ttpa_post(state, 0, 0x05, TTPA_FILE_DOCUMENTATION, 2) == TTPA_ACCEPTED);
+    EXPECT(ttpa_turn(cluster, 15, state, NULL, 0, &senders, &screen) == TTPA_REFUSED_FILE_SIZE);
+    EXPECT(turn(TTPA_ANSWER_BYTES - 1) == TTPA_REFUSED_SHORT_BUFFER);
+    EXPECT(screen == OLD && senders == OLD_SENDERS && is_old(answer, sizeof answer) && cluster[EPOCH] == 0);
+    EXPECT(turn(TTPA_ANSWER_BYTES) == TTPA_ACCEPTED && screen == 0 && serial_heard());
+    EXPECT(turn(TTPA_ANSWER_BYTES) == TTPA_REFUSED_FILE_NUMBER && screen == 0 && cluster[EPOCH] == 2);
+}
+
+/* Epoch 254, all asleep and another master's write pending: the read is silent, wakes all and has the write's place. */
+static void turn_on_sleepers(void)
+{
+    static const uint8_t pending[] = {0xFE, 0x01, 0x05, 0x41, 0x01};
+    renew_screens();
+    memcpy(cluster + EPOCH, pending, sizeof pending);
+    cluster[FIRST_SLEEP] = 1;
+    state[1] = 255;
+    state[2] = 0x05;
+    state[3] = TTPA_FILE_DOCUMENTATION;
+    state[4] = 2;
+    EXPECT(turn(sizeof answer) == TTPA_ACCEPTED && screen == 0 && senders == 0);
+    EXPECT(silent_from(TTPA_FIREWORK_MSD, 1) && cluster[EPOCH] == 0 && cluster[FIRST_SLEEP] == 0);
+    EXPECT(cluster[EPOCH + 3] == 0xF4 && cluster[EPOCH + 4] == 2 && state_is(0, 0, 0, 0x05, TTPA_FILE_DOCUMENTATION, 2));
+}
+
 int main(void)
 {
     EXPECT(ttpa_version() == TTPA_VERSION);
@@ -1324,6 +1459,10 @@ int main(void)
     refused_conversions();
     most_slaves();
     rounds_on_both_forms();
+    posts();
+    turns();
+    refused_turns();
+    turn_on_sleepers();
     printf("%d comparisons, %d failed\n", comparisons, failures);
     return failures == 0 ? 0 : 1;
 }

@@ -3,9 +3,9 @@
  * Each call is made on a stack of its own that was filled with one byte value; the deepest byte that has
  * another value afterwards is the deepest that was used. The calls are made on a cluster file of the
  * greatest length with the most slaves in each edition: every kind of frame, a whole naming run over all names, both
- * without and with a summary, the frames again as a trace, owner files, conversions, and refusals. All of it runs three
- * times: first to have the linker's work done, then with two different fillings, since a byte may be written with the
- * value that it has. */
+ * without and with a summary, the frames again as a trace, owner files, conversions, turns of all screens, and refusals.
+ * All of it runs three times: first to have the linker's work done, then with two different fillings, since a byte may be
+ * written with the value that it has. */
 #define _XOPEN_SOURCE 700
 #include <stdio.h>
 #include <string.h>
@@ -42,6 +42,8 @@ static uint64_t place;
 static uint8_t converted[TTPA_FILE_BYTES];
 static size_t converted_room;
 static uint64_t converted_length;
+static uint8_t state[TTPA_SCREENS_BYTES];
+static uint8_t screen;
 static uint8_t number;
 static uint32_t version;
 
@@ -240,6 +242,21 @@ static void to_edition_2_call(void)
     number = ttpa_to_edition_2(source, source_bytes, converted, converted_room, &converted_length);
 }
 
+static void screens_call(void)
+{
+    number = ttpa_screens(state);
+}
+
+static void post_call(void)
+{
+    number = ttpa_post(state, screen, parts[TTPA_PART_NAME], parts[TTPA_PART_FILE], parts[TTPA_PART_RECORD]);
+}
+
+static void turn_call(void)
+{
+    number = ttpa_turn(cluster, cluster_bytes, state, answer, sizeof answer, &senders, &screen);
+}
+
 enum kind {
     NOTHING,
     VERSION,
@@ -258,6 +275,9 @@ enum kind {
     STEP_KEEPING,
     TO_EDITION_1,
     TO_EDITION_2,
+    SCREENS,
+    POST,
+    TURN,
     KINDS
 };
 
@@ -284,6 +304,9 @@ static const struct call calls[KINDS] = {
     [STEP_KEEPING] = {"ttpa_step_keeping", step_keeping_call},
     [TO_EDITION_1] = {"ttpa_to_edition_1", to_edition_1_call},
     [TO_EDITION_2] = {"ttpa_to_edition_2", to_edition_2_call},
+    [SCREENS] = {"ttpa_screens", screens_call},
+    [POST] = {"ttpa_post", post_call},
+    [TURN] = {"ttpa_turn", turn_call},
 };
 
 /* The most stack that a call of each kind has used. */
@@ -528,6 +551,37 @@ static void convert(void)
     }
 }
 
+static void post(uint8_t of_screen, uint8_t name, uint8_t file, uint8_t expected)
+{
+    const uint8_t read[TTPA_ADDRESS_PARTS] = {0, name, file, TTPA_OPERATION_READ, 1};
+    memcpy(parts, read, sizeof parts);
+    screen = of_screen;
+    make(POST, expected);
+}
+
+/* All eight screens post, reads that are answered and others, and are served; then none waits. And calls that are refused. */
+static void serve_screens(void)
+{
+    static const uint8_t files[] = {TTPA_FILE_CONFIGURATION, DATA_FILE, TTPA_FILE_DOCUMENTATION, 0x3F};
+    make(SCREENS, TTPA_ACCEPTED);
+    post(TTPA_NO_SCREEN, 0x01, DATA_FILE, TTPA_REFUSED_SCREEN);
+    post(0, 0x01, 64, TTPA_REFUSED_FILE_NUMBER);
+    post(0, TTPA_NAME_BROADCAST, DATA_FILE, TTPA_REFUSED_BROADCAST_READ);
+    for (uint8_t i = 0; i < TTPA_NO_SCREEN; i++) {
+        post(i, i < 4 ? 0x01 : TTPA_NAME_UNNAMED, files[i % 4], TTPA_ACCEPTED);
+        post(i, 0x01, DATA_FILE, TTPA_REFUSED_SCREEN_WAITING);
+    }
+    for (uint8_t i = 0; i <= TTPA_NO_SCREEN; i++) {
+        make(TURN, TTPA_ACCEPTED);
+        failed |= screen != i;
+    }
+    cluster[0] ^= 1;
+    make(TURN, TTPA_REFUSED_MARK);
+    cluster[0] ^= 1;
+    state[0] = TTPA_NO_SCREEN;
+    make(TURN, TTPA_REFUSED_SCREEN);
+}
+
 static void all_calls_on(uint8_t of_edition)
 {
     edition = of_edition;
@@ -540,6 +594,7 @@ static void all_calls_on(uint8_t of_edition)
     write_owner(TTPA_ACCEPTED);
     name_all_keeping();
     name_all(STEP);
+    serve_screens();
     write_owner(TTPA_REFUSED_TWO_SENDERS);
     refuse_multiplexed();
     multipartner_rounds();

@@ -1,7 +1,7 @@
 /* The TTP/A cluster engine for C and C++: check a cluster file, read and write frames, carry out rounds on
- * the file, name its slaves, run captured traces, write the owner file, tell who holds a logical name and convert
- * a file between its two editions. The words and rules are those of document 01, the scope document, and of
- * document 02, the change requests.
+ * the file, name its slaves, run captured traces, write the owner file, tell who holds a logical name, convert a
+ * file between its two editions and serve the reads of several screens in turn. The words and rules are those of
+ * document 01, the scope document, and of document 02, the change requests.
  *
  * Numbers. Every call but ttpa_version returns 0 or the number of the ground on which it refused, see enum
  * ttpa_refusal. The comment of a call gives its numbers in the order in which it checks them; the first that
@@ -10,8 +10,8 @@
  * Memory. All memory is the caller's, lent until the call returns; no pointer is kept. No byte is read or
  * written outside the length that is given with a pointer.
  * - NULL: a pointer with length 0 is not followed and may be NULL. With any other length it points to that
- *   many bytes. parts, run, senders, report, length, place and the count that ttpa_fill writes are lent without
- *   a length and are never NULL, not in a refused call either.
+ *   many bytes. parts, run, senders, report, length, place, state, screen and the count that ttpa_fill writes are
+ *   lent without a length and are never NULL, not in a refused call either.
  * - Alignment: run, senders, report, length, place and that count as uint64_t has it, so not inside a packed
  *   structure; all others none.
  * - Overlap: what a call may write (each pointer without const) overlaps nothing else of the same call.
@@ -42,7 +42,7 @@ extern "C" {
  * does not link; this is so from 0.8.0 on. Older headers have no ttpa_version, and those before 0.6.0 have fewer words
  * in a run, which a linked program does not notice: what was compiled with them is to be compiled again. */
 #define TTPA_VERSION_MAJOR 0
-#define TTPA_VERSION_MINOR 11
+#define TTPA_VERSION_MINOR 12
 #define TTPA_VERSION_PATCH 0
 #define TTPA_VERSION (10000 * TTPA_VERSION_MAJOR + 100 * TTPA_VERSION_MINOR + TTPA_VERSION_PATCH)
 
@@ -76,7 +76,7 @@ enum ttpa_refusal {
     TTPA_REFUSED_LISTED_NAME = 15,
     TTPA_REFUSED_REPEATED_NAME = 16,
     TTPA_REFUSED_POSITION = 17,
-    /* a file number handed to the writer of address frames */
+    /* a file number handed to the writer of address frames, or of a read that is posted or due */
     TTPA_REFUSED_FILE_NUMBER = 18,
     /* a captured trace */
     TTPA_REFUSED_TRACE = 19,
@@ -91,7 +91,10 @@ enum ttpa_refusal {
     TTPA_REFUSED_SUMMARY = 24,
     /* a conversion to another edition, after 8 */
     TTPA_REFUSED_EDITION_LIMITS = 25,
-    TTPA_REFUSED_CONVERSION_BUFFER = 26
+    TTPA_REFUSED_CONVERSION_BUFFER = 26,
+    /* screens that share the tester's turns, before a read's 18 and 14 and before a file's numbers */
+    TTPA_REFUSED_SCREEN = 27,
+    TTPA_REFUSED_SCREEN_WAITING = 28
     /* .ci/refusals writes to here */
 };
 
@@ -155,6 +158,10 @@ static inline const char *ttpa_refusal_text(uint8_t number)
         return "the cluster file does not fit into edition 1, which has at most 32 slaves and 32,768 bytes";
     case TTPA_REFUSED_CONVERSION_BUFFER:
         return "the buffer is too short for the converted cluster file";
+    case TTPA_REFUSED_SCREEN:
+        return "the screen, or the screen last served in the stored state, is above 7";
+    case TTPA_REFUSED_SCREEN_WAITING:
+        return "the screen has a read waiting already";
     default:
         return "refused on a ground that this version has no text for";
     /* .ci/refusals writes to here */
@@ -264,8 +271,9 @@ static inline const char *ttpa_refusal_text(uint8_t number)
  * asleep after its data frame. The sleep byte of a slave's entry in the slave table tells it, which for slave s, 0 the
  * first, is byte 19 + 4 s of the file in edition 1 and byte 29 + 8 s in edition 2: 0 awake, 1 asleep; 6 refuses a byte
  * above 1. A sleeping slave takes no part in rounds: it is not addressed, sends nothing and keeps every byte of its
- * files. It is awake after the next data frame or multipartner round that is carried out, also one of a trace or of a
- * naming step; an address frame, a refused call and a refused frame of a trace wake nobody.
+ * files. It is awake after the next data frame or multipartner round that is carried out, also one of a trace, of a
+ * naming step or of a turn that serves a screen; an address frame, a refused call and a refused frame of a trace wake
+ * nobody.
  *
  * At 0x00 all slaves but the unnamed are addressed, at 0xFF the unnamed. So where some slaves have names and some do
  * not, no number of executes of this record puts the whole cluster to sleep: one at 0x00 leaves the unnamed awake, and
@@ -340,6 +348,29 @@ static inline const char *ttpa_refusal_text(uint8_t number)
 /* What ttpa_holder tells in the place of a slave where nobody holds the name. */
 #define TTPA_NOBODY UINT64_MAX
 
+/* Up to eight screens, 0 to 7, read slave records through one tester, and none of them starves the others. Each may post
+ * one read, of a record of a file at a logical name, and then waits. A turn serves the next screen that waits after the
+ * one last served, in cyclic order, from screen 0 at the start: so a read that waits is served within eight turns that
+ * are carried out, however often the others post, if each call is given the state that the last one left.
+ *
+ * The state is these bytes, and may be stored; it belongs to no cluster file:
+ *
+ *     the screen last served    0, it is 7 at the start
+ *     of screen s, 0 to 7
+ *     whether it waits          1 + 4 s, 0 no and any other byte yes
+ *     logical name              2 + 4 s
+ *     file number               3 + 4 s
+ *     record number             4 + 4 s
+ *
+ * At the start all but the first are 0. A post makes the waiting byte 1 and writes the three behind it; a turn that
+ * serves makes it 0 and byte 0 the screen's number; every other byte stays. A state of any content may be handed in: 27
+ * refuses a screen last served above 7, 18 and 14 a read that no post would have let in. At a turn they look at the read
+ * that is due alone, and refuse every turn until the caller has mended the state. */
+#define TTPA_SCREENS_BYTES 33
+
+/* What ttpa_turn tells in the place of a screen where none waited. */
+#define TTPA_NO_SCREEN 8
+
 /* The version of the library, as TTPA_VERSION is that of the header. Refuses nothing. */
 uint32_t ttpa_version(void);
 
@@ -385,9 +416,9 @@ uint8_t ttpa_start(const uint8_t *names, size_t n, uint64_t run[TTPA_RUN_WORDS])
 
 /* Makes the run's next round, an address frame and a data frame, on the cluster file of n bytes, over the
  * same list of m names as at the start; answer has k bytes. Between two steps other rounds may be made on
- * the file, one by one or as traces: multipartner rounds, and address frames each with its data frame, but of
- * file 0x08 only reads, and writes of record 1 at another name than 0xFF. So no sleep: after one between two steps a
- * slave that holds a name is not heard, and its name may be given a second time.
+ * the file, one by one, as traces or as turns of screens: multipartner rounds, and address frames each with its data
+ * frame, but of file 0x08 only reads, and writes of record 1 at another name than 0xFF. So no sleep: after one between
+ * two steps a slave that holds a name is not heard, and its name may be given a second time.
  * Refuses by 1, 2, 3, 4, 5, 6, 7, 8, 9, 15, 16, 17 in this order. On 0 file and run have moved on, and
  * answer and *senders are those of the data frame, as ttpa_round has them. In a run from ttpa_start: if the
  * index has risen, the name before it is done: it was taken already if the step was 0 before the call, else
@@ -459,6 +490,27 @@ uint8_t ttpa_to_edition_1(const uint8_t *file, size_t n, uint8_t *out, size_t ro
  * TTPA_FILE_BYTES are always enough and TTPA_WIDENED_BYTES for one of edition 1. On 0 *length and out are as
  * ttpa_to_edition_1 has them. */
 uint8_t ttpa_to_edition_2(const uint8_t *file, size_t n, uint8_t *out, size_t room, uint64_t *length);
+
+/* Makes the state at the start: no screen waits, and screen 0 is next; reads that waited are dropped. Refuses nothing
+ * and returns 0; all of state is written. */
+uint8_t ttpa_screens(uint8_t state[TTPA_SCREENS_BYTES]);
+
+/* Posts a read of a record of a file at a logical name for a screen, which then waits. Whether a slave has the name and
+ * the record is seen at its turn; a read at 0xFF may be posted, and nobody answers it.
+ * Refuses by 27, 28, 18, 14 in this order; 27 is for a screen above 7, the one that posts or the one last served, and 28
+ * for one that waits already. On 0 the screen's four bytes of state, and no other, are written. */
+uint8_t ttpa_post(uint8_t state[TTPA_SCREENS_BYTES], uint8_t screen, uint8_t name, uint8_t file, uint8_t record);
+
+/* Serves the screen that is next on the cluster file of n bytes; answer has k bytes. Its read is a complete round, an
+ * address frame with the file's epoch plus 1 modulo 256 and a data frame, as two calls of ttpa_round carry them out. It
+ * may stand between two naming steps, but not between the address frame and the data frame of another round, whose
+ * operation it would replace.
+ * Refuses by 27, 18, 14, 1, 2, 3, 4, 5, 6, 7, 8, 9 in this order; 27 is for a screen last served above 7, 18 and 14 are
+ * for the read that is due. A read whose turn is refused waits on. On 0 *screen is the screen served, and file, answer
+ * and *senders are those of the data frame, as ttpa_round has them. Where no screen waited *screen is TTPA_NO_SCREEN and
+ * nothing else is altered, *senders neither. */
+uint8_t ttpa_turn(uint8_t *file, size_t n, uint8_t state[TTPA_SCREENS_BYTES], uint8_t *answer, size_t k,
+                  uint64_t *senders, uint8_t *screen);
 
 #ifdef __cplusplus
 }

@@ -5,7 +5,7 @@ use Prim.Native.Nat.{ℕ}
 use mathlib.Core.Path.{_≡_, refl, sym, ap, _∙_}
 use mathlib.Core.Logic.{_≢_}
 use native.Mathlib.Omega.{arith}
-use mathlib.Core.List.{List, [], _∷_, _++_, map, append-nil, map-append}
+use mathlib.Core.List.{List, [], _∷_, _++_, map, append-nil, append-assoc}
 use mathlib.Core.Bool.{Bool, true, false, cond}
 use lib.ListN.{replicate}
 use lib.Dec.{eqb}
@@ -16,6 +16,7 @@ use Rattle.file.specs.Rules.Results.{refused, done, resultOf, numberIn}
 use Rattle.file.specs.Rules.Cluster.{logicalNames}
 use Rattle.file.specs.Rules.Decode.{decode}
 use Rattle.file.specs.Rules.Grounds.{fileGround, hasRepeat, heldNames, loadGround, loadVerdict}
+use Rattle.file.proofs.Bytes.{all-append}
 use Rattle.file.proofs.Order.{byCase, both-true, both-next}
 use Rattle.file.proofs.Results.{file-most, load-first, load-file, load-twice, result-done}
 use Rattle.cluster.specs.Rules.Bus.{slots}
@@ -29,7 +30,8 @@ use Rattle.trace.specs.Rules.Run.{sent, afterFrames, traceGround, traceOn}
 use Rattle.trace.proofs.Calls as call
 use Rattle.naming.specs.Rules.Run.{Position, running, fresh, startGround, startOver}
 use Rattle.naming.specs.Rules.Step.{madeBy, stepGround, stepOn, stepKeepingGround, stepKeeping}
-use Rattle.naming.specs.Rules.Account.{Call, step, frame}
+use Rattle.screens.specs.Rules.Turn.{turnOn}
+use Rattle.naming.specs.Rules.Account.{Call, step, frame, Account, namesIn, accountOf, accountCall, accountAfter}
 use Rattle.naming.specs.Claims.Demand.{State, startOn, halfwayAfter, of-step, of-frame, Demand}
 use Rattle.naming.specs.Claims.Demand as rules
 use Rattle.naming.proofs.Lists.{accepted-halfway}
@@ -37,13 +39,20 @@ use Rattle.naming.proofs.HeldOnce.{demand-loadable}
 use Rattle.naming.proofs.StepLaws.{step-refused, step-ended, step-made}
 use Rattle.naming.proofs.StepKeeping.{keeping-step, step-keeping-accepted, step-keeping-refused}
 use Rattle.naming.proofs.Unasked.{plainStep, plainFrame, step-unasked, step-plain, frame-plain, step-plain-may, frame-plain-may}
-use Rattle.ttpa.specs.Rules.Calls.{lentAfter, checkCall, startCall, stepCall, stepWords, stepKeepingCall, roundCall, roundKeepingCall, traceCall, wordsOf, positionIn}
-use Rattle.demand.specs.Claims.Traces.{AllBytes, in-call, in-trace, halfwayFrom, halfwayAfterTrace, afterTrace}
+use Rattle.ttpa.specs.Rules.Calls.{lentAfter, checkCall, startCall, stepCall, stepWords, stepKeepingCall, roundCall, roundKeepingCall}
+use Rattle.ttpa.specs.Rules.Calls.{traceCall, turnCall, wordsOf, positionIn}
+use Rattle.demand.specs.Claims.Traces.{CallOrTrace, AllBytes, in-call, in-trace, halfwayFrom, halfwayAfterTrace, afterTrace}
 use Rattle.demand.specs.Claims.Traces.{callOrTraceOn, afterAll, frameCall, framesSingly, singly, tracesAside}
-use Rattle.demand.specs.Claims.Calls.{CCall, ttpaStep, ttpaStepKeeping, ttpaRound, ttpaRoundKeeping, ttpaTrace, GivenBytes, given-step, given-step-keeping, given-frame, given-frame-keeping, given-trace, Memory, returned, memoryAfter, afterCalls}
-use Rattle.demand.specs.Claims.Calls.{permittedFrames, permittedCall, halfwayOn, permitted, callsFed, TakenByRounds, loads, equalNames, CallsDemand, started}
-use Rattle.demand.specs.Claims.Calls.{DemandOverCalls, ThroughoutCalls, IsStep, is-step, is-step-keeping, StepsPermitted, memoryOf, argumentsOf, SamePermitted}
-use Rattle.demand.proofs.Traces.{afterSingly, frame-refused, trace-run, trace-refused, file-refused, throughout-with-traces}
+use Rattle.demand.specs.Claims.Calls.{CCall, ttpaStep, ttpaStepKeeping, ttpaRound, ttpaRoundKeeping, ttpaTrace, ttpaTurn, GivenBytes}
+use Rattle.demand.specs.Claims.Calls.{given-step, given-step-keeping, given-frame, given-frame-keeping, given-trace, given-turn}
+use Rattle.demand.specs.Claims.Calls.{Memory, returned, memoryAfter, afterCalls}
+use Rattle.demand.specs.Claims.Calls.{turnFrames, permittedFrames, permittedCall, halfwayOn, permitted, callsFed, TakenByRounds}
+use Rattle.demand.specs.Claims.Calls.{loads, equalNames, CallsDemand, started}
+use Rattle.demand.specs.Claims.Calls.{DemandOverCalls, ThroughoutCalls, IsStep, is-step, is-step-keeping, StepsPermitted, memoryOf}
+use Rattle.demand.specs.Claims.Calls.{argumentsOf, argumentsOfAll, SamePermitted}
+use Rattle.demand.proofs.Traces.{afterSingly, frames-singly, frame-refused, trace-run, trace-refused, file-refused, singly-append}
+use Rattle.demand.proofs.Traces.{all-sent-singly, throughout-with-traces}
+use Rattle.demand.proofs.TurnFrames.{turn-left, none-sent, turn-frames-bytes}
 
 -- ---- numbers and words
 
@@ -133,6 +142,20 @@ trace-number file t =
 
 -- ---- a call
 
+-- frames as calls of a list
+pub frames-alone : (xs : List (List ℕ)) → singly (map (λ (x : List ℕ). CallOrTrace.call (frameCall x)) xs) ≡ map frameCall xs
+unfolding singly
+frames-alone [] = refl
+frames-alone (x ∷ xs) = ap (λ (l : List Call). frameCall x ∷ l) (frames-alone xs)
+
+pub frames-left :
+    (names : List ℕ) (s : State) (p : Position) (xs : List (List ℕ)) →
+    afterAll names s p (map (λ (x : List ℕ). CallOrTrace.call (frameCall x)) xs) ≡ (afterSingly s xs, p)
+frames-left names s p xs =
+    sym (all-sent-singly names s p (map (λ (x : List ℕ). CallOrTrace.call (frameCall x)) xs))
+    ∙ ap (λ (l : List Call). rules.afterCalls names s p l) (frames-alone xs)
+    ∙ frames-singly names s p xs
+
 -- the ground of a call
 unfoldable pub groundOf : List ℕ → State → Position → CCall → ℕ
 groundOf names s p (ttpaStep buffer senders) = stepGround (s .file) p names buffer
@@ -140,27 +163,35 @@ groundOf names s p (ttpaStepKeeping buffer senders held count) = stepKeepingGrou
 groundOf names s p (ttpaRound bytes buffer senders) = roundGround (s .file) bytes buffer
 groundOf names s p (ttpaRoundKeeping bytes buffer senders held count) = roundKeepingGround (s .file) (kept count held) bytes buffer
 groundOf names s p (ttpaTrace t report) = traceGround (s .file) t
+groundOf names s p (ttpaTurn state buffer senders screen) = numberIn (turnOn state (s .file) buffer .0)
 
 module _ (names : List ℕ) (s : State) (p : Position) where
   pub call-number : (c : CCall) → returned names (memoryOf s p) c ≡ groundOf names s p c
-  unfolding returned groundOf stepCall stepKeepingCall roundCall roundKeepingCall traceCall
+  unfolding returned groundOf stepCall stepKeepingCall roundCall roundKeepingCall traceCall turnCall
   call-number (ttpaStep buffer senders) = rw (position-back p) (step-number (s .file) p names buffer)
   call-number (ttpaStepKeeping buffer senders held count) = rw (position-back p) (keeping-step-number (s .file) p names (kept count held) buffer)
   call-number (ttpaRound bytes buffer senders) = round-number (s .file) bytes buffer
   call-number (ttpaRoundKeeping bytes buffer senders held count) = keeping-round-number (s .file) (kept count held) bytes buffer
   call-number (ttpaTrace t report) = trace-number (s .file) t
+  call-number (ttpaTurn state buffer senders screen) = refl
 
-  pub call-memory : (c : CCall) → memoryAfter names (memoryOf s p) c ≡ memoryOf (callOrTraceOn names s p (argumentsOf c) .0) (callOrTraceOn names s p (argumentsOf c) .1)
-  unfolding memoryAfter argumentsOf callOrTraceOn afterTrace stepCall stepKeepingCall roundCall roundKeepingCall traceCall
+  pub call-memory : (c : CCall) → let after = afterAll names s p (argumentsOf (s .file) c) in
+      memoryAfter names (memoryOf s p) c ≡ memoryOf (after .0) (after .1)
+  unfolding memoryAfter argumentsOf afterAll callOrTraceOn afterTrace stepCall stepKeepingCall roundCall roundKeepingCall traceCall
   call-memory (ttpaStep buffer senders) = rw (step-plain names s p buffer, position-back p, step-words (s .file) p names buffer)
   call-memory (ttpaStepKeeping buffer senders held count) =
       unfold rules.callOn in rw (position-back p, keeping-step-words (s .file) p names (kept count held) buffer)
   call-memory (ttpaRound bytes buffer senders) = rw (frame-plain names s p bytes buffer)
   call-memory (ttpaRoundKeeping bytes buffer senders held count) = unfold rules.callOn in refl
   call-memory (ttpaTrace t report) = refl
+  call-memory (ttpaTurn state buffer senders screen) =
+      unfold turnCall afterSingly in
+      rw (frames-left names s p (turnFrames (s .file) state buffer), turn-left (s .file) state buffer)
 
-  call-halfway : (c : CCall) → cond (eqb (groundOf names s p c) 0) (halfwayOn (s .halfway) (memoryOf s p) c) (s .halfway) ≡ callOrTraceOn names s p (argumentsOf c) .0 .halfway
-  unfolding groundOf halfwayOn argumentsOf callOrTraceOn afterTrace
+  call-halfway :
+      (c : CCall) → cond (eqb (groundOf names s p c) 0) (halfwayOn (s .halfway) (memoryOf s p) c) (s .halfway) ≡
+      afterAll names s p (argumentsOf (s .file) c) .0 .halfway
+  unfolding groundOf halfwayOn argumentsOf afterAll callOrTraceOn afterTrace
   call-halfway (ttpaStep buffer senders) =
       byCase (eqb (stepGround (s .file) p names buffer) 0)
       (λ z. rw (z, step-plain names s p buffer))
@@ -186,17 +217,30 @@ module _ (names : List ℕ) (s : State) (p : Position) where
       byCase (eqb (traceGround (s .file) t) 0)
       (λ z. rw (z, call.trace-run (s .file) t (eqb-true _ _ z)) (unfold halfwayAfterTrace in refl))
       (λ z. rw (z, call.trace-refused (s .file) t (eqb-false _ _ z)) (unfold halfwayAfterTrace in refl))
+  call-halfway (ttpaTurn state buffer senders screen) =
+      unfold afterSingly in
+      byCase (eqb (numberIn (turnOn state (s .file) buffer .0)) 0)
+      (λ z. rw (z, frames-left names s p (turnFrames (s .file) state buffer)))
+      (λ z. rw (z, none-sent (s .file) state buffer (eqb-false _ _ z)))
 
 -- ---- lists
 
+after-both :
+    (names : List ℕ) (s : State) (p : Position) (cs ds : List CallOrTrace) →
+    afterAll names s p (cs ++ ds) ≡ afterAll names (afterAll names s p cs .0) (afterAll names s p cs .1) ds
+unfolding afterAll
+after-both names s p [] ds = refl
+after-both names s p (c ∷ cs) ds = after-both names (callOrTraceOn names s p c .0) (callOrTraceOn names s p c .1) cs ds
+
 pub calls-memory :
     (names : List ℕ) (s : State) (p : Position) (cs : List CCall) →
-    afterCalls names (memoryOf s p) cs ≡ memoryOf (afterAll names s p (map argumentsOf cs) .0) (afterAll names s p (map argumentsOf cs) .1)
-unfolding afterCalls afterAll
-calls-memory names s p [] = refl
+    let after = afterAll names s p (argumentsOfAll names (memoryOf s p) cs) in
+    afterCalls names (memoryOf s p) cs ≡ memoryOf (after .0) (after .1)
+unfolding afterCalls argumentsOfAll
+calls-memory names s p [] = unfold afterAll in refl
 calls-memory names s p (c ∷ cs) =
-    rw (call-memory names s p c)
-    (calls-memory names (callOrTraceOn names s p (argumentsOf c) .0) (callOrTraceOn names s p (argumentsOf c) .1) cs)
+    let after = afterAll names s p (argumentsOf (s .file) c) in
+    rw (after-both names s p (argumentsOf (s .file) c), call-memory names s p c) (calls-memory names (after .0) (after .1) cs)
 
 -- ---- permitted
 
@@ -255,53 +299,92 @@ trace-front names s p t ds =
     rw (z, whole, trace-refused s t some)
     (frames-front names s p (framesOf t) ds ∙ rw (frames-refused (s .file) bad (s .halfway) (framesOf t), file-refused s t some whole))))
 
+-- those of a turn: none if it is refused
+turn-front :
+    (names : List ℕ) (s : State) (p : Position) (state buffer : List ℕ) (ds : List Call) → let xs = turnFrames (s .file) state buffer in
+    rules.permitted names s p (map frameCall xs ++ ds) ≡
+    both (cond (eqb (numberIn (turnOn state (s .file) buffer .0)) 0) (permittedFrames (s .halfway) (s .file) xs) true)
+    (rules.permitted names (afterSingly s xs) p ds)
+turn-front names s p state buffer ds =
+    frames-front names s p (turnFrames (s .file) state buffer) ds
+    ∙ byCase (eqb (numberIn (turnOn state (s .file) buffer .0)) 0)
+    (λ z. rw z)
+    (λ z. unfold permittedFrames in rw (z, none-sent (s .file) state buffer (eqb-false _ _ z)))
+
 -- a call in front of others
 call-front :
-    (names : List ℕ) (s : State) (p : Position) (c : CCall) (cs : List CCall) →
-    rules.permitted names s p (singly (map argumentsOf (c ∷ cs))) ≡
+    (names : List ℕ) (s : State) (p : Position) (c : CCall) (ds : List Call) → let after = afterAll names s p (argumentsOf (s .file) c) in
+    rules.permitted names s p (singly (argumentsOf (s .file) c) ++ ds) ≡
     both (cond (eqb (groundOf names s p c) 0) (permittedCall (s .halfway) (memoryOf s p) c) true)
-    (rules.permitted names (callOrTraceOn names s p (argumentsOf c) .0) (callOrTraceOn names s p (argumentsOf c) .1) (singly (map argumentsOf cs)))
-unfolding groundOf permittedCall argumentsOf callOrTraceOn singly
-call-front names s p (ttpaStep buffer senders) cs = unfold rules.permitted in rw (step-plain-may names s p buffer)
-call-front names s p (ttpaStepKeeping buffer senders held count) cs = unfold rules.permitted rules.permittedCall in refl
-call-front names s p (ttpaRound bytes buffer senders) cs = unfold rules.permitted in rw (frame-plain-may names s p bytes buffer)
-call-front names s p (ttpaRoundKeeping bytes buffer senders held count) cs = unfold rules.permitted rules.permittedCall in refl
-call-front names s p (ttpaTrace t report) cs = trace-front names s p t (singly (map argumentsOf cs))
+    (rules.permitted names (after .0) (after .1) ds)
+unfolding groundOf permittedCall argumentsOf afterAll callOrTraceOn singly
+call-front names s p (ttpaStep buffer senders) ds = unfold rules.permitted in rw (step-plain-may names s p buffer)
+call-front names s p (ttpaStepKeeping buffer senders held count) ds = unfold rules.permitted rules.permittedCall in refl
+call-front names s p (ttpaRound bytes buffer senders) ds = unfold rules.permitted in rw (frame-plain-may names s p bytes buffer)
+call-front names s p (ttpaRoundKeeping bytes buffer senders held count) ds = unfold rules.permitted rules.permittedCall in refl
+call-front names s p (ttpaTrace t report) ds = rw (append-nil (framesSingly t)) (trace-front names s p t ds)
+call-front names s p (ttpaTurn state buffer senders screen) ds =
+    let xs = turnFrames (s .file) state buffer in
+    rw (frames-alone xs, frames-left names s p xs) (turn-front names s p state buffer ds)
 
 -- the lists permitted here are those that the rules permit
 pub same-permitted : SamePermitted
-unfolding permitted rules.permitted singly
-same-permitted names s p [] = refl
+unfolding permitted argumentsOfAll
+same-permitted names s p [] = unfold rules.permitted singly in refl
 same-permitted names s p (c ∷ cs) =
+    let after = afterAll names s p (argumentsOf (s .file) c) in
+    let rest = argumentsOfAll names (memoryOf (after .0) (after .1)) cs in
     rw (
       call-number names s p c,
       call-halfway names s p c,
       call-memory names s p c,
-      same-permitted names (callOrTraceOn names s p (argumentsOf c) .0) (callOrTraceOn names s p (argumentsOf c) .1) cs,
+      same-permitted names (after .0) (after .1) cs,
     )
-    (sym (call-front names s p c cs))
+    (sym (ap (rules.permitted names s p) (singly-append (argumentsOf (s .file) c) rest) ∙ call-front names s p c (singly rest)))
 
 -- ---- the theorem
 
-pub all-given : {cs : List CCall} → All GivenBytes cs → All AllBytes (map argumentsOf cs)
-unfolding argumentsOf
-all-given allEmpty = allEmpty
-all-given (also given-step gs) = also (in-call of-step) (all-given gs)
-all-given (also given-step-keeping gs) = also (in-call of-step) (all-given gs)
-all-given (also (given-frame b) gs) = also (in-call (of-frame b)) (all-given gs)
-all-given (also (given-frame-keeping b) gs) = also (in-call (of-frame b)) (all-given gs)
-all-given (also (given-trace b) gs) = also (in-trace b) (all-given gs)
+frames-given : {xs : List (List ℕ)} → All Bytes xs → All AllBytes (map (λ (x : List ℕ). CallOrTrace.call (frameCall x)) xs)
+unfolding frameCall
+frames-given allEmpty = allEmpty
+frames-given (also b bs) = also (in-call (of-frame b)) (frames-given bs)
 
-calls-fed : (cs : List CCall) → tracesAside (map argumentsOf cs) ≡ callsFed cs
-unfolding tracesAside callsFed argumentsOf
-calls-fed [] = refl
-calls-fed (ttpaStep buffer senders ∷ cs) = ap (λ (l : List Call). plainStep buffer ∷ l) (calls-fed cs)
-calls-fed (ttpaStepKeeping buffer senders held count ∷ cs) =
-    ap (λ (l : List Call). step (record { summary = kept count held; buffer = buffer }) ∷ l) (calls-fed cs)
-calls-fed (ttpaRound bytes buffer senders ∷ cs) = ap (λ (l : List Call). plainFrame bytes buffer ∷ l) (calls-fed cs)
-calls-fed (ttpaRoundKeeping bytes buffer senders held count ∷ cs) =
-    ap (λ (l : List Call). frame (record { summary = kept count held; bytes = bytes; buffer = buffer }) ∷ l) (calls-fed cs)
-calls-fed (ttpaTrace t report ∷ cs) = calls-fed cs
+one-given : (file : List ℕ) {c : CCall} → GivenBytes c → All AllBytes (argumentsOf file c)
+unfolding argumentsOf
+one-given file given-step = also (in-call of-step) allEmpty
+one-given file given-step-keeping = also (in-call of-step) allEmpty
+one-given file (given-frame b) = also (in-call (of-frame b)) allEmpty
+one-given file (given-frame-keeping b) = also (in-call (of-frame b)) allEmpty
+one-given file (given-trace b) = also (in-trace b) allEmpty
+one-given file (given-turn {state} {buffer} b) = frames-given (turn-frames-bytes file state buffer b)
+
+pub all-given : (names : List ℕ) (m : Memory) {cs : List CCall} → All GivenBytes cs → All AllBytes (argumentsOfAll names m cs)
+unfolding argumentsOfAll
+all-given names m allEmpty = allEmpty
+all-given names m (also {a = c} g gs) = all-append (one-given (m .file) g) (all-given names (memoryAfter names m c) gs)
+
+-- the account takes no notice of a turn's frames
+turn-unaccounted :
+    (a : Account) (xs : List (List ℕ)) (ds : List CallOrTrace) →
+    accountAfter a (tracesAside (map (λ (x : List ℕ). CallOrTrace.call (frameCall x)) xs ++ ds)) ≡ accountAfter a (tracesAside ds)
+unfolding tracesAside accountAfter accountCall frameCall
+turn-unaccounted a [] ds = refl
+turn-unaccounted a (x ∷ xs) ds = turn-unaccounted a xs ds
+
+calls-fed :
+    (names : List ℕ) (m : Memory) (a : Account) (cs : List CCall) →
+    accountAfter a (tracesAside (argumentsOfAll names m cs)) ≡ accountAfter a (callsFed cs)
+unfolding tracesAside callsFed argumentsOfAll argumentsOf accountAfter
+calls-fed names m a [] = refl
+calls-fed names m a (ttpaStep buffer senders ∷ cs) = calls-fed names _ (accountCall a (plainStep buffer)) cs
+calls-fed names m a (ttpaStepKeeping buffer senders held count ∷ cs) =
+    calls-fed names _ (accountCall a (step (record { summary = kept count held; buffer = buffer }))) cs
+calls-fed names m a (ttpaRound bytes buffer senders ∷ cs) = calls-fed names _ (accountCall a (plainFrame bytes buffer)) cs
+calls-fed names m a (ttpaRoundKeeping bytes buffer senders held count ∷ cs) =
+    calls-fed names _ (accountCall a (frame (record { summary = kept count held; bytes = bytes; buffer = buffer }))) cs
+calls-fed names m a (ttpaTrace t report ∷ cs) = calls-fed names _ a cs
+calls-fed names m a (ttpaTurn state buffer senders screen ∷ cs) =
+    turn-unaccounted a (turnFrames (m .file) state buffer) _ ∙ calls-fed names _ a cs
 
 check-number : (file : List ℕ) → checkCall file ≡ loadGround file
 unfolding checkCall loadVerdict
@@ -334,21 +417,52 @@ start-memory file names run none = rw (result-done {value = fresh names} none)
 -- the lists permitted after ttpa_start are those that the rules permit from a fresh run on
 pub start-same :
     (file names run : List ℕ) → startGround names ≡ 0 → (calls : List CCall) →
-    permitted false names (started file names run) calls ≡ rules.permitted names (startOn file) (fresh names) (singly (map argumentsOf calls))
+    permitted false names (started file names run) calls ≡
+    rules.permitted names (startOn file) (fresh names) (singly (argumentsOfAll names (started file names run) calls))
 unfolding startOn
 start-same file names run none calls = rw (start-memory file names run none) (same-permitted names (startOn file) (fresh names) calls)
 
+-- and the memory after the calls is that of file and position after them
+pub start-calls :
+    (file names run : List ℕ) → startGround names ≡ 0 → (calls : List CCall) →
+    let after = afterAll names (startOn file) (fresh names) (argumentsOfAll names (started file names run) calls) in
+    afterCalls names (started file names run) calls ≡ memoryOf (after .0) (after .1)
+start-calls file names run none calls = rw (start-memory file names run none) (calls-memory names (startOn file) (fresh names) calls)
+
+-- the calls of demand 3 that a list of C calls stands for, the frames of traces and turns sent singly
+abbrev pub byRules : List ℕ → Memory → List CCall → List Call
+byRules names m calls = singly (argumentsOfAll names m calls)
+
+pub after-by-rules :
+    (file names run : List ℕ) → startGround names ≡ 0 → (calls : List CCall) →
+    let after = rules.afterCalls names (startOn file) (fresh names) (byRules names (started file names run) calls) in
+    afterCalls names (started file names run) calls ≡ memoryOf (after .0) (after .1)
+after-by-rules file names run none calls =
+    let same = all-sent-singly names (startOn file) (fresh names) (argumentsOfAll names (started file names run) calls) in
+    start-calls file names run none calls ∙ sym (ap (λ (after : State × Position). memoryOf (after .0) (after .1)) same)
+
+-- calls in front of others
+pub arguments-append :
+    (names : List ℕ) (m : Memory) (cs ds : List CCall) →
+    argumentsOfAll names m (cs ++ ds) ≡ argumentsOfAll names m cs ++ argumentsOfAll names (afterCalls names m cs) ds
+unfolding argumentsOfAll afterCalls
+arguments-append names m [] ds = refl
+arguments-append names m (c ∷ cs) ds =
+    rw (arguments-append names (memoryAfter names m c) cs ds) (sym (append-assoc (argumentsOf (m .file) c) _ _))
+
 -- what demand 3 says of file and position, said of file and words
 in-words :
-    {file names : List ℕ} → Bytes file → Bytes names → startGround names ≡ 0 → (calls : List CCall) (s : State) (p : Position) → Demand file names (tracesAside (map argumentsOf calls)) (s .file) p →
-    CallsDemand file names calls (memoryOf s p)
+    {file names : List ℕ} → Bytes file → Bytes names → startGround names ≡ 0 →
+    (m : Memory) (calls : List CCall) (s : State) (p : Position) →
+    Demand file names (tracesAside (argumentsOfAll names m calls)) (s .file) p → CallsDemand file names calls (memoryOf s p)
 unfolding wordsOf positionIn
-in-words {file} {names} b n none calls s p d =
+in-words {file} {names} b n none m calls s p d =
+    let fed = calls-fed names m (accountOf (namesIn (decode file)) names) calls in
     record {
-      logical = rw (calls-fed calls) at (d .logical);
-      end = rw (calls-fed calls) at (d .end);
-      rounds = rw (calls-fed calls) at (d .rounds);
-      comparisons = rw (calls-fed calls) at (d .comparisons);
+      logical = rw fed at (d .logical);
+      end = rw fed at (d .end);
+      rounds = rw fed at (d .rounds);
+      comparisons = rw fed at (d .comparisons);
       accepted = accepted-runs (d .accepted);
       loaded = λ e. check-number (s .file) ∙ demand-loadable b (sym (check-number file) ∙ e) n none d;
       next = λ buffer senders.
@@ -363,10 +477,13 @@ in-words {file} {names} b n none calls s p d =
 pub throughout-calls : ThroughoutCalls
 throughout-calls file b checked names n run fresh-run calls more given may =
     let none : startGround names ≡ 0 = sym (start-number names run) ∙ fresh-run in
-    let d = throughout-with-traces file b (runs-accepted checked) names n none (map argumentsOf calls) (map argumentsOf more) (all-given given)
-    (rw (map-append argumentsOf calls more) at (sym (start-same file names run none (calls ++ more)) ∙ may)) in
-    let after = afterAll names (startOn file) (fresh names) (map argumentsOf calls) in
-    rw (start-memory file names run none, calls-memory names (startOn file) (fresh names) calls) (in-words b n none calls (after .0) (after .1) d)
+    let begun = started file names run in
+    let front = argumentsOfAll names begun calls in
+    let behind = argumentsOfAll names (afterCalls names begun calls) more in
+    let d = throughout-with-traces file b (runs-accepted checked) names n none front behind (all-given names begun given)
+    (rw (arguments-append names begun calls more) at (sym (start-same file names run none (calls ++ more)) ∙ may)) in
+    let after = afterAll names (startOn file) (fresh names) front in
+    rw (start-calls file names run none calls) (in-words b n none begun calls (after .0) (after .1) d)
 
 -- and of the whole list
 pub demand-over-calls : DemandOverCalls

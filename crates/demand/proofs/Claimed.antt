@@ -1,7 +1,7 @@
 -- Each claim of specs/Claims, and the theorem that has it as its type.
 use Rattle.demand.specs.Claims.Calls.{DemandOverCalls, ThroughoutCalls, StepsPermitted, SamePermitted}
 use Rattle.demand.specs.Claims.Editions.{AllCallsAlike, ListsConverted, CallsDemandConverted}
-use Rattle.demand.specs.Claims.Pending.{CallsStayPending}
+use Rattle.demand.specs.Claims.Pending.{CallsStayPending, CCallsStayPending}
 use Rattle.demand.specs.Claims.Renaming.{CallsRenameNobody, CCallsRenameNobody}
 use Rattle.demand.specs.Claims.Traces.{TraceSentSingly, AllSentSingly, AccountTracesAside, DemandWithTraces, TraceSentInOrder}
 use Rattle.demand.specs.Claims.Permitted.{CallsPermittedExactly, TraceFits, RoundsFitCalls, TraceSends}
@@ -11,7 +11,7 @@ use Rattle.demand.specs.Claims.Summary.{KeptByCalls, FilledAndAsked, Rou
 use Rattle.demand.specs.Claims.Sleep.{CallsStayAwake, CallsCountedAwake, CCallsWake}
 use Rattle.demand.proofs.Calls.{demand-over-calls, throughout-calls, steps-permitted, same-permitted}
 use Rattle.demand.proofs.Editions.{all-calls-alike, lists-converted, calls-demand-converted}
-use Rattle.demand.proofs.Pending.{calls-stay-pending}
+use Rattle.demand.proofs.Pending.{calls-stay-pending, c-calls-stay-pending}
 use Rattle.demand.proofs.Renaming.{calls-rename-nobody, c-calls-rename-nobody}
 use Rattle.demand.proofs.Traces.{trace-sent-singly, all-sent-singly, account-traces-aside, demand-with-traces, trace-sent-in-order}
 use Rattle.demand.proofs.Permitted.{calls-permitted-exactly, trace-fits, rounds-fit-calls, trace-sends}
@@ -19,6 +19,10 @@ use Rattle.demand.proofs.Steps.{steps-are-rounds}
 use Rattle.demand.proofs.TraceCalls.{traces-are-rounds}
 use Rattle.demand.proofs.Summary.{kept-by-calls, filled-and-asked, rounds-with-summary, steps-with-summary, given-makes-no-difference-in-calls}
 use Rattle.demand.proofs.Sleep.{calls-stay-awake, calls-counted-awake, c-calls-wake}
+use Rattle.demand.specs.Claims.Turns.{TurnsFit, TurnsSendRounds, TurnsPermitted, NoTurnWithin, OtherTurns, ServedTurnsWake}
+use Rattle.demand.specs.Claims.Turns.{TurnSends, TurnBaptizesNobody, TurnPutsNobodyToSleep}
+use Rattle.demand.proofs.Turns.{turns-fit, turns-send-rounds, turns-permitted, no-turn-within, other-turns, served-turns-wake}
+use Rattle.demand.proofs.Turns.{turn-sends, turn-baptizes-nobody, turn-puts-nobody-to-sleep}
 use Rattle.demand.specs.Claims.TwoLists.{TwoListsOverCalls, JoinedStarts, CommonReturns, RunsEndOverCalls, EveryRunEndsOverCalls}
 use Rattle.demand.specs.Claims.TwoLists.{EndMarkOverCalls, SecondFindsOverCalls, TwoRunsOverCalls}
 use Rattle.demand.proofs.TwoLists.{two-lists-over-calls, joined-starts, common-returns, runs-end-over-calls, every-run-ends-over-calls}
@@ -38,6 +42,9 @@ held-same-permitted = same-permitted
 
 pub held-calls-stay-pending : CallsStayPending
 held-calls-stay-pending = calls-stay-pending
+
+pub held-c-calls-stay-pending : CCallsStayPending
+held-c-calls-stay-pending = c-calls-stay-pending
 
 pub held-calls-rename-nobody : CallsRenameNobody
 held-calls-rename-nobody = calls-rename-nobody
@@ -134,3 +141,30 @@ held-second-finds-over-calls = second-finds-over-calls
 
 pub held-two-runs-over-calls : TwoRunsOverCalls
 held-two-runs-over-calls = two-runs-over-calls
+
+pub held-turns-send-rounds : TurnsSendRounds
+held-turns-send-rounds = turns-send-rounds
+
+pub held-turn-sends : TurnSends
+held-turn-sends = turn-sends
+
+pub held-turn-baptizes-nobody : TurnBaptizesNobody
+held-turn-baptizes-nobody = turn-baptizes-nobody
+
+pub held-turn-puts-nobody-to-sleep : TurnPutsNobodyToSleep
+held-turn-puts-nobody-to-sleep = turn-puts-nobody-to-sleep
+
+pub held-turns-permitted : TurnsPermitted
+held-turns-permitted = turns-permitted
+
+pub held-no-turn-within : NoTurnWithin
+held-no-turn-within = no-turn-within
+
+pub held-other-turns : OtherTurns
+held-other-turns = other-turns
+
+pub held-served-turns-wake : ServedTurnsWake
+held-served-turns-wake = served-turns-wake
+
+pub held-turns-fit : TurnsFit
+held-turns-fit = turns-fit

@@ -11,9 +11,10 @@ use Rattle.naming.proofs.Witnesses.{sleeper, sleeper-bytes, sleeper-accepted, o
 use Rattle.naming.proofs.EditionWitnesses.{sleeper-widens, sleeper-narrows}
 use Rattle.ttpa.specs.Rules.Calls.{startCall}
 use Rattle.demand.specs.Claims.Calls.{CCall, ttpaStep, given-step, Memory, CallsDemand, started, is-step}
-use Rattle.demand.specs.Claims.Editions.{Turn, call, convert, afterTurns, permittedTurns, callsAmong, Fitting, of-call, of-conversion}
+use Rattle.demand.specs.Claims.Editions.{CallOrConversion, call, convert, afterConverting, permittedConverting, callsAmong, Fitting}
+use Rattle.demand.specs.Claims.Editions.{of-call, of-conversion}
 use Rattle.demand.proofs.Calls.{accepted-runs, start-number, steps-permitted}
-use Rattle.demand.proofs.Editions.{turns-permitted, calls-demand-converted}
+use Rattle.demand.proofs.Editions.{converting-permitted, calls-demand-converted}
 
 abbrev begun : Memory
 begun = started sleeper (5 ∷ []) (replicate 8 0)
@@ -21,12 +22,12 @@ begun = started sleeper (5 ∷ []) (replicate 8 0)
 abbrev oneStep : CCall
 oneStep = ttpaStep answerBuffer 0
 
-turns : List Turn
-turns = convert 2 ∷ call oneStep ∷ convert 1 ∷ call oneStep ∷ []
+mixed : List CallOrConversion
+mixed = convert 2 ∷ call oneStep ∷ convert 1 ∷ call oneStep ∷ []
 
-turns-fit : All (Fitting sleeper) turns
-unfolding turns
-turns-fit =
+all-fit : All (Fitting sleeper) mixed
+unfolding mixed
+all-fit =
     allNext (of-conversion (sleeper-widens .width) (sleeper-widens .room))
     (allNext (of-call given-step)
     (allNext (of-conversion (sleeper-narrows .width) (sleeper-narrows .room)) (allNext (of-call given-step) allEmpty)))
@@ -34,14 +35,14 @@ turns-fit =
 begins : startCall (5 ∷ []) (replicate 8 0) .0 ≡ 0
 begins = start-number (5 ∷ []) (replicate 8 0) ∙ one-name-accepted
 
-turns-may : permittedTurns false (5 ∷ []) begun turns ≡ true
-unfolding turns callsAmong
-turns-may =
-    turns-permitted sleeper sleeper-bytes (accepted-runs sleeper-accepted) (5 ∷ []) one-name (replicate 8 0) begins turns turns-fit
+all-may : permittedConverting false (5 ∷ []) begun mixed ≡ true
+unfolding mixed callsAmong
+all-may =
+    converting-permitted sleeper sleeper-bytes (accepted-runs sleeper-accepted) (5 ∷ []) one-name (replicate 8 0) begins mixed all-fit
     ∙ steps-permitted (5 ∷ []) begun (oneStep ∷ oneStep ∷ []) (allNext is-step (allNext is-step allEmpty))
 
-sleeper-demand : CallsDemand sleeper (5 ∷ []) (oneStep ∷ oneStep ∷ []) (afterTurns (5 ∷ []) begun turns)
-unfolding turns callsAmong
+sleeper-demand : CallsDemand sleeper (5 ∷ []) (oneStep ∷ oneStep ∷ []) (afterConverting (5 ∷ []) begun mixed)
+unfolding mixed callsAmong
 sleeper-demand =
-    calls-demand-converted sleeper sleeper-bytes (accepted-runs sleeper-accepted) (5 ∷ []) one-name (replicate 8 0) begins turns turns-fit
-    turns-may
+    calls-demand-converted sleeper sleeper-bytes (accepted-runs sleeper-accepted) (5 ∷ []) one-name (replicate 8 0) begins mixed all-fit
+    all-may

@@ -9,10 +9,12 @@ use Rattle.file.specs.Rules.Bytes.{Bytes, All, allEmpty, allNext}
 use Rattle.file.specs.Rules.Results.{Result, refused, done}
 use Rattle.file.specs.Rules.Decode.{decode}
 use Rattle.file.specs.Rules.Grounds.{fileGround, loadGround, loadVerdict}
+use Rattle.file.specs.Rules.Changes.{withEdition}
 use Rattle.file.specs.Rules.Editions.{inEdition}
 use Rattle.file.proofs.Bytes.{all-map}
 use Rattle.file.proofs.Results.{load-twice}
 use Rattle.cluster.specs.Rules.Grounds.{roundBy}
+use Rattle.cluster.specs.Rules.MasterSlave.{Sent, addressSent}
 use Rattle.cluster.specs.Rules.Summary.{without, kept}
 use Rattle.cluster.specs.Claims.Editions.{Convertible}
 use Rattle.cluster.proofs.Editions.{form, form-again, own-edition, grounds-behind, slaves-same, names-same, rounds-converted, keeping-converted, filling-converted}
@@ -22,6 +24,9 @@ use Rattle.trace.specs.Rules.Run.{sent}
 use Rattle.trace.proofs.Runs.{frames-bytes}
 use Rattle.trace.proofs.Editions.{sent-converted, traces-converted}
 use Rattle.owner.proofs.Editions.{owner-converted}
+use Rattle.screens.specs.Rules.Screens.{readOf}
+use Rattle.screens.specs.Rules.Turn.{Turn as TurnDone, idle, served, readSent, turnOn}
+use Rattle.screens.proofs.Editions.{turns-converted}
 use Rattle.convert.specs.Rules.Convert.{convertGrounds, convertGround, convertOn}
 use Rattle.naming.specs.Rules.Account.{Named, argumentsGround}
 use Rattle.naming.specs.Rules.Run.{Position, bits, fresh, startGround}
@@ -30,11 +35,17 @@ use Rattle.naming.specs.Claims.Demand.{halfwayAfter, startOn}
 use Rattle.naming.proofs.Renaming.{step-value}
 use Rattle.naming.proofs.Summaries.{keeping-step-value}
 use Rattle.naming.proofs.Editions.{steps-converted, steps-keeping-converted, names-in}
-use Rattle.ttpa.specs.Rules.Calls.{checkCall, startCall, stepCall, stepWords, stepKeepingCall, roundCall, roundKeepingCall, traceCall, ownerCall, convertCall, fillCall, wordsOf, positionIn}
+use Rattle.ttpa.specs.Rules.Calls.{checkCall, startCall, stepCall, stepWords, stepKeepingCall, roundCall, roundKeepingCall, traceCall}
+use Rattle.ttpa.specs.Rules.Calls.{turnCall, ownerCall, convertCall, fillCall, wordsOf, positionIn}
 use Rattle.demand.specs.Claims.Traces.{halfwayFrom}
-use Rattle.demand.specs.Claims.Calls.{CCall, GivenBytes, given-step, given-step-keeping, given-frame, given-frame-keeping, given-trace, Memory, returned, memoryAfter, afterCalls}
-use Rattle.demand.specs.Claims.Calls.{permittedFrames, permittedCall, halfwayOn, permitted, TakenByRounds, loads, equalNames, CallsDemand, started}
-use Rattle.demand.specs.Claims.Editions.{AllCallsAlike, converted, numbersReturned, ListConverted, ListsConverted, Turn, call, convert, afterTurns, permittedTurns, callsAmong, Fitting, of-call, of-conversion, CallsDemandConverted}
+use Rattle.demand.specs.Claims.Calls.{CCall, GivenBytes, given-step, given-step-keeping, given-frame, given-frame-keeping}
+use Rattle.demand.specs.Claims.Calls.{given-trace, given-turn, Memory, returned, memoryAfter, afterCalls}
+use Rattle.demand.specs.Claims.Calls.{framesServed, turnFrames, permittedFrames, permittedCall, halfwayOn, permitted, TakenByRounds}
+use Rattle.demand.specs.Claims.Calls.{loads, equalNames, CallsDemand, started}
+use Rattle.demand.specs.Claims.Editions.{AllCallsAlike, converted, numbersReturned, ListConverted, ListsConverted, CallOrConversion}
+use Rattle.demand.specs.Claims.Editions.{call, convert, afterConverting, permittedConverting, callsAmong, Fitting, of-call}
+use Rattle.demand.specs.Claims.Editions.{of-conversion, CallsDemandConverted}
+use Rattle.demand.proofs.TurnFrames.{turn-frames-bytes}
 use Rattle.demand.proofs.Calls.{runs-accepted, start-number, start-memory, demand-over-calls}
 
 -- ---- each call
@@ -59,7 +70,7 @@ unfolding convertOn
 conversion-same d out convertible = rw (conversion-ground d out convertible, form-again convertible d)
 
 pub all-calls-alike : AllCallsAlike
-unfolding roundCall roundKeepingCall stepCall stepKeepingCall traceCall ownerCall convertCall fillCall
+unfolding roundCall roundKeepingCall stepCall stepKeepingCall traceCall turnCall ownerCall convertCall fillCall
 all-calls-alike f e convertible =
     record {
       check = check-same convertible;
@@ -69,6 +80,7 @@ all-calls-alike f e convertible =
       stepKeeping = λ run names answer senders held count nb small.
           rw (steps-keeping-converted f e (positionIn run) names (kept count held) answer convertible nb small .0);
       trace = λ t report tb. rw (traces-converted f e t convertible tb .0);
+      turn = λ state answer senders screen sb. rw (turns-converted f e state answer convertible sb .0);
       owner = λ master buffer length. rw (owner-converted f e master buffer convertible);
       convert = λ d out length. rw (conversion-same d out convertible);
       fill = λ held count. rw (filling-converted f e held convertible);
@@ -87,6 +99,25 @@ frames-alike f e h convertible (allNext {a = x} b bs) =
     let one = sent-converted f e x convertible b in
     let more = frames-alike (sent f x .2) e (halfwayAfter h (sent f x .0) (roundBy x)) (one .after) bs in
     record { permits = rw (one .answer, one .file, more .permits); halfway = rw (one .answer, one .file) (more .halfway) }
+
+-- ---- the frames of a turn
+
+-- the epoch is the same
+address-alike : {f : List ℕ} {e : ℕ} (s : Sent) → Convertible f e → addressSent (decode (inEdition f e)) s ≡ addressSent (decode f) s
+unfolding addressSent
+address-alike s convertible = unfold withEdition in rw (form convertible .decoded)
+
+turn-sends-alike :
+    {f : List ℕ} {e : ℕ} (state buffer : List ℕ) → Convertible f e → Bytes state →
+    turnFrames (inEdition f e) state buffer ≡ turnFrames f state buffer
+unfolding turnFrames framesServed
+turn-sends-alike {f} {e} state buffer convertible sb =
+    rw (turns-converted f e state buffer convertible sb .0) (by (turnOn state f buffer .0))
+  where
+    by : (a : Result TurnDone) → framesServed (inEdition f e) state a ≡ framesServed f state a
+    by (refused n) = refl
+    by (done idle) = refl
+    by (done (served i mask)) = rw (address-alike (readSent (readOf state i)) convertible)
 
 -- ---- a call of a list
 
@@ -152,6 +183,18 @@ module _ (names : List ℕ) (nb : Bytes names) where
         after = after;
         small = small;
       }
+  call-converted m e convertible small (given-turn {state} {buffer} {senders} {screen} sb) =
+      let (same, after) = turns-converted (m .file) e state buffer convertible sb in
+      let frames = turn-frames-bytes (m .file) state buffer sb in
+      let sends = turn-sends-alike state buffer convertible sb in
+      record {
+        number = unfold turnCall in rw same;
+        memory = unfold turnCall in rw same;
+        may = λ h. rw sends (frames-alike (m .file) e h convertible frames .permits);
+        halfway = λ h. rw sends (frames-alike (m .file) e h convertible frames .halfway);
+        after = unfold turnCall in after;
+        small = small;
+      }
 
   -- ---- a list of calls
 
@@ -176,16 +219,16 @@ lists-converted names m e calls convertible nb small bs = list-converted names n
 -- ---- conversions between the calls
 
 -- ready on a file: frames and traces are bytes, and the file is convertible
-data Ready (f : List ℕ) : Turn → Type 0 where
+data Ready (f : List ℕ) : CallOrConversion → Type 0 where
   ready-call : {c : CCall} → GivenBytes c → Ready f (call c)
   ready-conversion : {e : ℕ} → Convertible f e → Ready f (convert e)
 
-fitting-ready : (f : List ℕ) → Bytes f → fileGround f ≡ 0 → (t : Turn) → Fitting f t → Ready f t
+fitting-ready : (f : List ℕ) → Bytes f → fileGround f ≡ 0 → (t : CallOrConversion) → Fitting f t → Ready f t
 fitting-ready f fb none (call c) (of-call b) = ready-call b
 fitting-ready f fb none (convert e) (of-conversion width room) =
     ready-conversion (record { bytes = fb; accepted = none; width = width; room = room })
 
-fitting-bytes : (f : List ℕ) {turns : List Turn} → All (Fitting f) turns → All GivenBytes (callsAmong turns)
+fitting-bytes : (f : List ℕ) {calls : List CallOrConversion} → All (Fitting f) calls → All GivenBytes (callsAmong calls)
 unfolding callsAmong
 fitting-bytes f allEmpty = allEmpty
 fitting-bytes f (allNext (of-call b) bs) = allNext b (fitting-bytes f bs)
@@ -195,43 +238,44 @@ again : (m : Memory) (e next : ℕ) → Convertible (m .file) e → converted (c
 unfolding converted
 again m e next convertible = rw (form-again convertible next)
 
--- the edition after the turns, from edition e on
-unfoldable lastEdition : ℕ → List Turn → ℕ
+-- the edition after them, from edition e on
+unfoldable lastEdition : ℕ → List CallOrConversion → ℕ
 lastEdition e [] = e
 lastEdition e (call c ∷ ts) = lastEdition e ts
 lastEdition e (convert next ∷ ts) = lastEdition next ts
 
-record Converting (names : List ℕ) (m : Memory) (e : ℕ) (turns : List Turn) : Type 0 where
-  same : afterTurns names (converted m e) turns ≡ converted (afterCalls names m (callsAmong turns)) (lastEdition e turns)
-  permits : (h : Bool) → permittedTurns h names (converted m e) turns ≡ permitted h names m (callsAmong turns)
-  after : Convertible (afterCalls names m (callsAmong turns) .file) (lastEdition e turns)
-  small : positionIn (afterCalls names m (callsAmong turns) .run) .value < 2 ^ bits
+record Converting (names : List ℕ) (m : Memory) (e : ℕ) (calls : List CallOrConversion) : Type 0 where
+  same : afterConverting names (converted m e) calls ≡ converted (afterCalls names m (callsAmong calls)) (lastEdition e calls)
+  permits : (h : Bool) → permittedConverting h names (converted m e) calls ≡ permitted h names m (callsAmong calls)
+  after : Convertible (afterCalls names m (callsAmong calls) .file) (lastEdition e calls)
+  small : positionIn (afterCalls names m (callsAmong calls) .run) .value < 2 ^ bits
 
 module _ (names : List ℕ) (nb : Bytes names) where
   -- ready on the file that a call leaves
   ready-after :
-      (m : Memory) {c : CCall} → positionIn (m .run) .value < 2 ^ bits → GivenBytes c → (t : Turn) → Ready (m .file) t →
+      (m : Memory) {c : CCall} → positionIn (m .run) .value < 2 ^ bits → GivenBytes c → (t : CallOrConversion) → Ready (m .file) t →
       Ready (memoryAfter names m c .file) t
   ready-after m small b (call d) (ready-call h) = ready-call h
   ready-after m small b (convert e) (ready-conversion convertible) =
       ready-conversion (call-converted names nb m e convertible small b .after)
 
-  turns-converted :
-      (m : Memory) (e : ℕ) (turns : List Turn) → Convertible (m .file) e → positionIn (m .run) .value < 2 ^ bits → All (Ready (m .file)) turns →
-      Converting names m e turns
-  unfolding afterTurns permittedTurns afterCalls permitted callsAmong lastEdition
-  turns-converted m e [] convertible small allEmpty = record { same = refl; permits = λ h. refl; after = convertible; small = small }
-  turns-converted m e (call c ∷ ts) convertible small (allNext (ready-call b) bs) =
+  calls-converting :
+      (m : Memory) (e : ℕ) (calls : List CallOrConversion) → Convertible (m .file) e →
+      positionIn (m .run) .value < 2 ^ bits → All (Ready (m .file)) calls →
+      Converting names m e calls
+  unfolding afterConverting permittedConverting afterCalls permitted callsAmong lastEdition
+  calls-converting m e [] convertible small allEmpty = record { same = refl; permits = λ h. refl; after = convertible; small = small }
+  calls-converting m e (call c ∷ ts) convertible small (allNext (ready-call b) bs) =
       let one = call-converted names nb m e convertible small b in
-      let more = turns-converted (memoryAfter names m c) e ts (one .after) (one .small) (all-map (ready-after m small b) bs) in
+      let more = calls-converting (memoryAfter names m c) e ts (one .after) (one .small) (all-map (ready-after m small b) bs) in
       record {
         same = rw (one .memory) (more .same);
         permits = λ h. rw (one .number, one .memory, one .may h, one .halfway h, more .permits _);
         after = more .after;
         small = more .small;
       }
-  turns-converted m e (convert next ∷ ts) convertible small (allNext (ready-conversion other) bs) =
-      let more = turns-converted m next ts other small bs in
+  calls-converting m e (convert next ∷ ts) convertible small (allNext (ready-conversion other) bs) =
+      let more = calls-converting m next ts other small bs in
       record {
         same = rw (again m e next convertible) (more .same);
         permits = λ h. rw (again m e next convertible) (more .permits h);
@@ -274,37 +318,37 @@ unfolding positionIn wordsOf fresh startOn
 fresh-small file names run none =
     subst (λ (m : Memory). positionIn (m .run) .value < 2 ^ bits) (sym (start-memory file names run none)) (omega arith)
 
--- the turns on a file as they are on its form in its own edition, which is the file itself
-record FromOwn (file names run : List ℕ) (turns : List Turn) : Type 0 where
+-- calls and conversions on a file as they are on its form in its own edition, which is the file itself
+record FromOwn (file names run : List ℕ) (calls : List CallOrConversion) : Type 0 where
   own : started file names run ≡ converted (started file names run) (decode file .edition)
-  turned : Converting names (started file names run) (decode file .edition) turns
+  converting : Converting names (started file names run) (decode file .edition) calls
 
 from-own :
     (file : List ℕ) → Bytes file → TakenByRounds file → (names : List ℕ) → Bytes names → (run : List ℕ) → startCall names run .0 ≡ 0 →
-    (turns : List Turn) → All (Fitting file) turns → FromOwn file names run turns
-from-own file fb taken names nb run starts turns fits =
+    (calls : List CallOrConversion) → All (Fitting file) calls → FromOwn file names run calls
+from-own file fb taken names nb run starts calls fits =
     let m : Memory = started file names run in
     let none : fileGround file ≡ 0 = runs-accepted taken in
     let (convertible, was) = own-edition file fb none in
     let small = fresh-small file names run (sym (start-number names run) ∙ starts) in
     record {
       own = unfold converted in rw was;
-      turned = turns-converted names nb m (decode file .edition) turns convertible small (all-map (fitting-ready file fb none) fits);
+      converting = calls-converting names nb m (decode file .edition) calls convertible small (all-map (fitting-ready file fb none) fits);
     }
 
 -- permitted are those among which the calls are permitted
-pub turns-permitted :
+pub converting-permitted :
     (file : List ℕ) → Bytes file → TakenByRounds file → (names : List ℕ) → Bytes names → (run : List ℕ) → startCall names run .0 ≡ 0 →
-    (turns : List Turn) → All (Fitting file) turns →
-    permittedTurns false names (started file names run) turns ≡ permitted false names (started file names run) (callsAmong turns)
-turns-permitted file fb taken names nb run starts turns fits =
-    let r = from-own file fb taken names nb run starts turns fits in
-    ap (λ (k : Memory). permittedTurns false names k turns) (r .own) ∙ r .turned .permits false
+    (calls : List CallOrConversion) → All (Fitting file) calls →
+    permittedConverting false names (started file names run) calls ≡ permitted false names (started file names run) (callsAmong calls)
+converting-permitted file fb taken names nb run starts calls fits =
+    let r = from-own file fb taken names nb run starts calls fits in
+    ap (λ (k : Memory). permittedConverting false names k calls) (r .own) ∙ r .converting .permits false
 
 pub calls-demand-converted : CallsDemandConverted
-calls-demand-converted file fb taken names nb run starts turns fits may =
-    let r = from-own file fb taken names nb run starts turns fits in
-    let same = ap (λ (k : Memory). afterTurns names k turns) (r .own) ∙ r .turned .same in
-    let may-call = sym (turns-permitted file fb taken names nb run starts turns fits) ∙ may in
-    let d = demand-over-calls file fb taken names nb run starts (callsAmong turns) (fitting-bytes file fits) may-call in
-    rw same (demand-in nb (r .turned .after) (r .turned .small) d)
+calls-demand-converted file fb taken names nb run starts calls fits may =
+    let r = from-own file fb taken names nb run starts calls fits in
+    let same = ap (λ (k : Memory). afterConverting names k calls) (r .own) ∙ r .converting .same in
+    let may-call = sym (converting-permitted file fb taken names nb run starts calls fits) ∙ may in
+    let d = demand-over-calls file fb taken names nb run starts (callsAmong calls) (fitting-bytes file fits) may-call in
+    rw same (demand-in nb (r .converting .after) (r .converting .small) d)

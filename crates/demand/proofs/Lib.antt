@@ -1,6 +1,7 @@
 -- demand 3 over lists with traces
 pub mod Traces
 -- demand 3 over the C calls
+pub mod TurnFrames
 pub mod Calls
 -- which lists are permitted, and rounds among them
 pub mod Permitted
@@ -22,5 +23,9 @@ pub mod SummaryExamples
 -- both editions over the C calls
 pub mod Editions
 pub mod EditionExamples
+-- turns among the C calls
+pub mod ServedTurn
+pub mod Turns
+pub mod TurnExamples
 -- each claim with its theorem
 pub mod Claimed

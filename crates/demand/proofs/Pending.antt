@@ -22,8 +22,10 @@ use Rattle.naming.proofs.StepLaws.{step-ended}
 use Rattle.naming.proofs.StepKeeping.{keeping-step, step-keeping-refused, step-keeping-accepted}
 use Rattle.naming.proofs.Summaries.{keeping-round-bytes}
 use Rattle.demand.specs.Claims.Traces.{singly}
-use Rattle.demand.specs.Claims.Pending.{in-step, in-frame, NoMsaAmong, noCalls, oneMore, CallsStayPending}
+use Rattle.demand.specs.Claims.Pending.{in-step, in-frame, NoMsaAmong, noCalls, oneMore, CallsStayPending, CCallsStayPending}
+use Rattle.demand.specs.Claims.Calls.{memoryOf, argumentsOfAll}
 use Rattle.demand.proofs.Traces.{all-sent-singly, singly-of-bytes}
+use Rattle.demand.proofs.Calls.{calls-memory, all-given}
 
 -- the same is pending in both files
 abbrev Same : List ℕ → List ℕ → Type 0
@@ -88,3 +90,9 @@ unfolding startOn
 calls-stay-pending file names p calls fb os none =
     subst (λ (w : State × Position). Same file (w .0 .file)) (all-sent-singly names (startOn file) p calls)
     (calls-leave names (startOn file) p (singly calls) fb (singly-of-bytes os) none)
+
+pub c-calls-stay-pending : CCallsStayPending
+c-calls-stay-pending file names p calls fb given none =
+    let begun = memoryOf (startOn file) p in
+    rw (calls-memory names (startOn file) p calls)
+    (calls-stay-pending file names p (argumentsOfAll names begun calls) fb (all-given names begun given) none)

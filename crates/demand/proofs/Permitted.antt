@@ -3,7 +3,7 @@
 -- Assumes nothing.
 use Prim.Native.Nat.{ℕ, _≤_}
 use mathlib.Core.Path.{_≡_, refl, sym, ap, _∙_}
-use mathlib.Core.List.{List, [], _∷_, _++_, map, map-append, append-nil}
+use mathlib.Core.List.{List, [], _∷_, _++_, map, append-nil}
 use mathlib.Core.Bool.{Bool}
 use native.Mathlib.Omega.{arith}
 use lib.ListN.{length}
@@ -19,17 +19,19 @@ use Rattle.naming.specs.Claims.PermittedRounds.{IsStep as IsStepByRules, is-ste
 use Rattle.naming.proofs.PermittedExactly.{permitted-exactly}
 use Rattle.naming.proofs.PermittedRounds.{address-of-bytes, data-frame-bytes, rounds-fit}
 use Rattle.demand.specs.Claims.Traces.{CallOrTrace, frameCall, framesSingly, singly}
-use Rattle.demand.specs.Claims.Calls.{CCall, IsStep, is-step, is-step-keeping, argumentsOf}
+use Rattle.demand.specs.Claims.Calls.{CCall, Memory, afterCalls, started, IsStep, is-step, is-step-keeping, argumentsOf}
+use Rattle.demand.specs.Claims.Calls.{argumentsOfAll}
 use Rattle.demand.specs.Claims.Permitted.{CallsPermittedExactly, TraceFits, RoundsFitCalls, TraceSends}
 use Rattle.demand.proofs.Traces.{zeros-long, singly-append, singly-of-bytes}
-use Rattle.demand.proofs.Calls.{all-given, runs-accepted, start-number, start-same}
+use Rattle.demand.proofs.Calls.{all-given, runs-accepted, start-number, start-same, arguments-append}
 
 -- ---- exactly
 
 pub calls-permitted-exactly : CallsPermittedExactly
 calls-permitted-exactly file names run fresh-run calls given =
     let same = start-same file names run (sym (start-number names run) ∙ fresh-run) calls in
-    let exactly = permitted-exactly names file (fresh names) (singly (map argumentsOf calls)) (singly-of-bytes (all-given given)) in
+    let exactly = permitted-exactly names file (fresh names) (singly (argumentsOfAll names (started file names run) calls))
+    (singly-of-bytes (all-given names (started file names run) given)) in
     (λ e. exactly .0 (sym same ∙ e), λ l. same ∙ exactly .1 l)
 
 -- ---- traces
@@ -56,7 +58,7 @@ encoded-singly : (frames : List (List ℕ)) → Frames frames → framesSingly (
 unfolding framesSingly
 encoded-singly frames f = let back = encoded-accepted frames f in rw (back .accepted, back .read)
 
-frames-sent : (frames : List (List ℕ)) → SentBy frames (map frameCall frames)
+pub frames-sent : (frames : List (List ℕ)) → SentBy frames (map frameCall frames)
 unfolding frameCall
 frames-sent [] = noFrames
 frames-sent (x ∷ xs) = oneMore zeros-long (frames-sent xs)
@@ -82,31 +84,37 @@ trace-fits file names calls from frames rounds whole ds steps =
 
 -- ---- the C calls
 
-steps-singly : {ds : List CCall} → All IsStep ds → All IsStepByRules (singly (map argumentsOf ds))
-unfolding singly argumentsOf
-steps-singly allEmpty = allEmpty
-steps-singly (also is-step steps) = also is-step-by-rules (steps-singly steps)
-steps-singly (also is-step-keeping steps) = also is-step-by-rules (steps-singly steps)
+steps-singly : (names : List ℕ) (m : Memory) {ds : List CCall} → All IsStep ds → All IsStepByRules (singly (argumentsOfAll names m ds))
+unfolding singly argumentsOfAll argumentsOf
+steps-singly names m allEmpty = allEmpty
+steps-singly names m (also is-step steps) = also is-step-by-rules (steps-singly names _ steps)
+steps-singly names m (also is-step-keeping steps) = also is-step-by-rules (steps-singly names _ steps)
 
-calls-apart : (cs ds : List CCall) → singly (map argumentsOf (cs ++ ds)) ≡ singly (map argumentsOf cs) ++ singly (map argumentsOf ds)
-calls-apart cs ds = rw (map-append argumentsOf cs ds) (singly-append (map argumentsOf cs) (map argumentsOf ds))
+pub calls-apart :
+    (names : List ℕ) (m : Memory) (cs ds : List CCall) →
+    singly (argumentsOfAll names m (cs ++ ds)) ≡
+    singly (argumentsOfAll names m cs) ++ singly (argumentsOfAll names (afterCalls names m cs) ds)
+calls-apart names m cs ds = rw (arguments-append names m cs ds) (singly-append (argumentsOfAll names m cs) _)
 
 pub rounds-fit-calls : RoundsFitCalls
 rounds-fit-calls file b checked names n run fresh-run cs given may frames rounds rs sent ds steps =
     let none : startGround names ≡ 0 = sym (start-number names run) ∙ fresh-run in
-    let from : PermittedFrom file names (singly (map argumentsOf cs)) =
+    let begun = started file names run in
+    let then = afterCalls names begun cs in
+    let from : PermittedFrom file names (singly (argumentsOfAll names begun cs)) =
     record {
       fileBytes = b;
       accepted = runs-accepted checked;
       nameBytes = n;
       start = none;
-      callBytes = singly-of-bytes (all-given given);
+      callBytes = singly-of-bytes (all-given names begun given);
       may = sym (start-same file names run none cs) ∙ may;
     } in
     start-same file names run none (cs ++ (rs ++ ds)) ∙
-    rw (calls-apart cs (rs ++ ds), calls-apart rs ds)
-    (rounds-fit file names (singly (map argumentsOf cs)) from frames rounds (singly (map argumentsOf rs)) sent (singly (map argumentsOf ds)) (steps-singly steps))
+    rw (calls-apart names begun cs (rs ++ ds), calls-apart names then rs ds)
+    (rounds-fit file names (singly (argumentsOfAll names begun cs)) from frames rounds (singly (argumentsOfAll names then rs)) sent
+    (singly (argumentsOfAll names (afterCalls names then rs) ds)) (steps-singly names (afterCalls names then rs) steps))
 
 pub trace-sends : TraceSends
-unfolding singly argumentsOf
-trace-sends frames rounds whole report = rw (append-nil (framesSingly (encodeTrace frames))) (trace-sent rounds whole)
+unfolding singly argumentsOfAll argumentsOf
+trace-sends frames rounds whole report names m = rw (append-nil (framesSingly (encodeTrace frames))) (trace-sent rounds whole)

@@ -2,7 +2,7 @@
 -- Assumes nothing.
 use Prim.Native.Nat.{ℕ, _^_, _<_}
 use mathlib.Core.Path.{_≡_, refl, _∙_, subst}
-use mathlib.Core.List.{List, [], _∷_, map}
+use mathlib.Core.List.{List, [], _∷_}
 use lib.Dec.{eqb}
 use borrow.Author.Tests.{eqb-true, eqb-false}
 use Rattle.file.specs.Rules.Bytes.{Bytes, All, All.allEmpty, All.allNext as also}
@@ -20,7 +20,7 @@ use Rattle.naming.proofs.Renaming.{only-baptizing-steps-rename}
 use Rattle.naming.proofs.Summaries.{keeping-step-bytes, keeping-step-value, keeping-round-bytes}
 use Rattle.demand.specs.Claims.Traces.{singly}
 use Rattle.demand.specs.Claims.Renaming.{NoBaptism, in-step, in-frame, NoneBaptizes, noCalls, oneMore, CallsRenameNobody, CCallsRenameNobody}
-use Rattle.demand.specs.Claims.Calls.{argumentsOf}
+use Rattle.demand.specs.Claims.Calls.{memoryOf, argumentsOfAll}
 use Rattle.demand.proofs.Traces.{all-sent-singly, singly-of-bytes}
 use Rattle.demand.proofs.Calls.{calls-memory, all-given}
 
@@ -73,4 +73,6 @@ calls-rename-nobody file names p calls fb nb small os none =
 
 pub c-calls-rename-nobody : CCallsRenameNobody
 c-calls-rename-nobody file names p calls fb nb small given none =
-    rw (calls-memory names (startOn file) p calls) (calls-rename-nobody file names p (map argumentsOf calls) fb nb small (all-given given) none)
+    let begun = memoryOf (startOn file) p in
+    rw (calls-memory names (startOn file) p calls)
+    (calls-rename-nobody file names p (argumentsOfAll names begun calls) fb nb small (all-given names begun given) none)

@@ -4,7 +4,7 @@
 use Prim.Native.Nat.{ℕ, _^_, _<_}
 use mathlib.Core.Path.{_≡_, refl, sym, ap, _∙_, subst}
 use mathlib.Core.Logic.{_≢_}
-use mathlib.Core.List.{List, [], _∷_, _++_, map, map-append}
+use mathlib.Core.List.{List, [], _∷_, _++_, map, append-nil}
 use mathlib.Core.Bool.{true, false}
 use lib.ListN.{replicate}
 use lib.Dec.{eqb}
@@ -16,6 +16,7 @@ use Rattle.cluster.specs.Rules.Round.{roundOn}
 use Rattle.cluster.specs.Rules.Summary.{roundKeepingGround}
 use Rattle.cluster.specs.Claims.Sleep.{AllAwake}
 use Rattle.cluster.proofs.Keeping.{keeping-round, keeping-accepted, keeping-refused}
+use Rattle.trace.specs.Rules.Trace.{framesOf}
 use Rattle.trace.specs.Rules.Run.{sent}
 use Rattle.trace.specs.Claims.Sleep.{sentGround}
 use Rattle.trace.proofs.Calls.{run-whole}
@@ -29,12 +30,17 @@ use Rattle.naming.proofs.Sleep.{step-wakes, no-round-wakes-nobody, stays-awake,
 use Rattle.naming.proofs.Summaries.{keeping-step-bytes, keeping-step-value, keeping-round-bytes}
 use Rattle.naming.proofs.Unasked.{step-unasked, frame-unasked, frame-plain}
 use Rattle.ttpa.specs.Rules.Calls.{positionIn}
-use Rattle.demand.specs.Claims.Calls.{CCall, ttpaStep, ttpaStepKeeping, ttpaRound, ttpaRoundKeeping, ttpaTrace, Memory, returned, memoryAfter, afterCalls, permitted, started, is-step, is-step-keeping, memoryOf, argumentsOf}
-use Rattle.demand.specs.Claims.Traces.{CallOrTrace, callOrTraceOn, frameCall, framesSingly, singly}
-use Rattle.demand.specs.Claims.Sleep.{SomeWakes, thisOne, laterOne, MayWake, byStep, byRound, byRoundKeeping, byTrace, WokenByCalls, fromStart, byFirst, later, CallsStayAwake, CallsCountedAwake}
+use Rattle.demand.specs.Claims.Calls.{CCall, ttpaStep, ttpaStepKeeping, ttpaRound, ttpaRoundKeeping, ttpaTrace, turnFrames, Memory}
+use Rattle.demand.specs.Claims.Calls.{returned, memoryAfter, afterCalls, permitted, started, is-step, is-step-keeping, memoryOf}
+use Rattle.demand.specs.Claims.Calls.{argumentsOf, argumentsOfAll}
+use Rattle.demand.specs.Claims.Traces.{CallOrTrace, afterAll, frameCall, framesSingly, singly}
+use Rattle.demand.specs.Claims.Sleep.{SomeWakes, thisOne, laterOne, MayWake, byStep, byRound, byRoundKeeping, byTrace, byTurn}
+use Rattle.demand.specs.Claims.Sleep.{WokenByCalls, fromStart, byFirst, later, CallsStayAwake, CallsCountedAwake}
 use Rattle.demand.specs.Claims.Sleep.{NoSleepBy, in-step, in-frame, NoneSleeps, noCalls, oneMore, AwakeToEnd, awakeBefore, wokenBy, wokenAfter, CCallsWake}
-use Rattle.demand.proofs.Traces.{singly-append, singly-of-bytes, all-sent-singly, trace-sent-singly}
-use Rattle.demand.proofs.Calls.{groundOf, call-number, call-memory, calls-memory, all-given, runs-accepted, start-number, start-memory, start-same, position-back}
+use Rattle.demand.proofs.Traces.{singly-append, singly-of-bytes, all-sent-singly}
+use Rattle.demand.proofs.Calls.{frames-alone, groundOf, call-number, call-memory, calls-memory, all-given, runs-accepted}
+use Rattle.demand.proofs.Calls.{start-number, start-memory, start-same, byRules, after-by-rules, position-back}
+use Rattle.demand.proofs.Permitted.{calls-apart}
 
 -- ---- what wakes
 
@@ -63,72 +69,78 @@ module _ (names : List ℕ) (s : State) (p : Position) where
   running-there : positionIn (memoryOf s p .run) .end ≡ running → p .end ≡ running
   running-there e = sym (ap (λ (q : Position). q .end) (position-back p)) ∙ e
 
-  one-wakes : {c : CCall} (cs : List CallOrTrace) → returned names (memoryOf s p) c ≡ 0 → MayWake (memoryOf s p) c →
-      Woken names s p (singly (argumentsOf c ∷ cs))
+  one-wakes : {c : CCall} (ds : List Call) → returned names (memoryOf s p) c ≡ 0 → MayWake (memoryOf s p) c →
+      Woken names s p (singly (argumentsOf (s .file) c) ++ ds)
   unfolding singly argumentsOf groundOf
-  one-wakes cs e (byStep (is-step {buffer} {senders}) going) =
+  one-wakes ds e (byStep (is-step {buffer} {senders}) going) =
       atFirst (wakesByStep (step-unasked (s .file) p names buffer ∙ none-of (ttpaStep buffer senders) e) (running-there going))
-  one-wakes cs e (byStep (is-step-keeping {buffer} {senders} {held} {count}) going) =
+  one-wakes ds e (byStep (is-step-keeping {buffer} {senders} {held} {count}) going) =
       atFirst (wakesByStep (none-of (ttpaStepKeeping buffer senders held count) e) (running-there going))
-  one-wakes cs e (byRound {bytes} {buffer} {senders} other) =
+  one-wakes ds e (byRound {bytes} {buffer} {senders} other) =
       atFirst (wakesByFrame (frame-unasked (s .file) bytes buffer ∙ none-of (ttpaRound bytes buffer senders) e) other)
-  one-wakes cs e (byRoundKeeping {bytes} {buffer} {senders} {held} {count} other) =
+  one-wakes ds e (byRoundKeeping {bytes} {buffer} {senders} {held} {count} other) =
       atFirst (wakesByFrame (none-of (ttpaRoundKeeping bytes buffer senders held count) e) other)
-  one-wakes cs e (byTrace {t} {report} some) =
-      unfold framesSingly in rw (run-whole (s .file) t (none-of (ttpaTrace t report) e)) (frames-wake names s p (singly cs) refl some)
+  one-wakes ds e (byTrace {t} {report} some) =
+      unfold framesSingly in
+      rw (run-whole (s .file) t (none-of (ttpaTrace t report) e), append-nil (map frameCall (framesOf t)))
+      (frames-wake names s p ds refl some)
+  one-wakes ds e (byTurn {state} {buffer} some) = rw (frames-alone (turnFrames (s .file) state buffer)) (frames-wake names s p ds refl some)
 
-  -- what wakes behind a call or a trace
-  wakes-behind : (c : CallOrTrace) (cs : List CallOrTrace) →
-      Woken names (callOrTraceOn names s p c .0) (callOrTraceOn names s p c .1) (singly cs) →
-      Woken names s p (singly (c ∷ cs))
-  unfolding singly callOrTraceOn
-  wakes-behind (CallOrTrace.call c) cs w = afterFirst w
-  wakes-behind (CallOrTrace.trace t) cs w =
-      woken-behind names s p (framesSingly t)
-      (subst (λ (after : State × Position). Woken names (after .0) (after .1) (singly cs)) (sym (trace-sent-singly names s p t)) w)
+  -- what wakes behind calls and traces
+  wakes-behind : (cs : List CallOrTrace) {ds : List Call} → Woken names (afterAll names s p cs .0) (afterAll names s p cs .1) ds →
+      Woken names s p (singly cs ++ ds)
+  wakes-behind cs {ds} w =
+      woken-behind names s p (singly cs)
+      (subst (λ (after : State × Position). Woken names (after .0) (after .1) ds) (sym (all-sent-singly names s p cs)) w)
 
 calls-wake : (names : List ℕ) (s : State) (p : Position) {m : Memory} {cs : List CCall} → m ≡ memoryOf s p → WokenByCalls names m cs →
-    Woken names s p (singly (map argumentsOf cs))
+    Woken names s p (singly (argumentsOfAll names m cs))
+unfolding argumentsOfAll
 calls-wake names s p here (fromStart up) = atStart (subst (λ (m : Memory). AllAwake (m .file)) here up)
-calls-wake names s p here (byFirst {c = c} {cs = cs} e wakes) =
-    one-wakes names s p (map argumentsOf cs) (ap (λ (m : Memory). returned names m c) (sym here) ∙ e) (subst (λ (m : Memory). MayWake m c) here wakes)
-calls-wake names s p here (later {c = c} {cs = cs} rest) =
-    let after = callOrTraceOn names s p (argumentsOf c) in
-    wakes-behind names s p (argumentsOf c) (map argumentsOf cs)
-    (calls-wake names (after .0) (after .1) (ap (λ (m : Memory). memoryAfter names m c) here ∙ call-memory names s p c) rest)
+calls-wake names s p {m} here (byFirst {c = c} {cs = cs} e wakes) =
+    rw (singly-append (argumentsOf (m .file) c) _, here)
+    (one-wakes names s p _ (ap (λ (k : Memory). returned names k c) (sym here) ∙ e) (subst (λ (k : Memory). MayWake k c) here wakes))
+calls-wake names s p {m} here (later {c = c} {cs = cs} rest) =
+    let after = afterAll names s p (argumentsOf (s .file) c) in
+    let next = ap (λ (k : Memory). memoryAfter names k c) here ∙ call-memory names s p c in
+    rw (singly-append (argumentsOf (m .file) c) _)
+    (subst (λ (f : List ℕ). Woken names s p (singly (argumentsOf f c) ++ singly (argumentsOfAll names (memoryAfter names m c) cs)))
+    (sym (ap (λ (k : Memory). k .file) here))
+    (wakes-behind names s p (argumentsOf (s .file) c) (calls-wake names (after .0) (after .1) next rest)))
 
 -- ---- from ttpa_start
 
 -- what is said of the file after the frames sent singly, said of the memory after the calls
 module _ (file names run : List ℕ) (none : startGround names ≡ 0) where
-  front-may : (calls more : List CCall) → permitted false names (started file names run) (calls ++ more) ≡ true →
-      permittedByRules names (startOn file) (fresh names) (singly (map argumentsOf calls) ++ singly (map argumentsOf more)) ≡ true
+  abbrev begun : Memory
+  begun = started file names run
+
+  front-may : (calls more : List CCall) → permitted false names begun (calls ++ more) ≡ true →
+      permittedByRules names (startOn file) (fresh names)
+      (byRules names begun calls ++ byRules names (afterCalls names begun calls) more) ≡ true
   front-may calls more may =
-      ap (permittedByRules names (startOn file) (fresh names))
-      (sym (ap singly (map-append argumentsOf calls more) ∙ singly-append (map argumentsOf calls) (map argumentsOf more)))
+      ap (permittedByRules names (startOn file) (fresh names)) (sym (calls-apart names begun calls more))
       ∙ sym (start-same file names run none (calls ++ more))
       ∙ may
 
-  same-memory : (calls : List CCall) → let after = afterRules names (startOn file) (fresh names) (singly (map argumentsOf calls)) in
-      afterCalls names (started file names run) calls ≡ memoryOf (after .0) (after .1)
-  same-memory calls =
-      rw (start-memory file names run none, calls-memory names (startOn file) (fresh names) calls)
-      (sym (ap (λ (after : State × Position). memoryOf (after .0) (after .1)) (all-sent-singly names (startOn file) (fresh names) (map argumentsOf calls))))
-
 pub calls-stay-awake : CallsStayAwake
 calls-stay-awake file b taken names n run fresh-run calls more given may woken =
+    let begun = started file names run in
     let none : startGround names ≡ 0 = sym (start-number names run) ∙ fresh-run in
-    subst (λ (m : Memory). AllAwake (m .file)) (sym (same-memory file names run none calls))
-    (stays-awake file b (runs-accepted taken) names n none (singly (map argumentsOf calls)) (singly (map argumentsOf more)) (singly-of-bytes (all-given given))
+    subst (λ (m : Memory). AllAwake (m .file)) (sym (after-by-rules file names run none calls))
+    (stays-awake file b (runs-accepted taken) names n none (byRules names begun calls) (byRules names (afterCalls names begun calls) more)
+    (singly-of-bytes (all-given names begun given))
     (front-may file names run none calls more may)
     (calls-wake names (startOn file) (fresh names) (start-memory file names run none) woken))
 
 pub calls-counted-awake : CallsCountedAwake
 calls-counted-awake file b taken names n run fresh-run calls more given may =
+    let begun = started file names run in
     let none : startGround names ≡ 0 = sym (start-number names run) ∙ fresh-run in
-    subst (λ (m : Memory). positionIn (m .run) .rounds ≢ 0 → AllAwake (m .file)) (sym (same-memory file names run none calls))
+    subst (λ (m : Memory). positionIn (m .run) .rounds ≢ 0 → AllAwake (m .file)) (sym (after-by-rules file names run none calls))
     (λ some.
-    counted-awake file b (runs-accepted taken) names n none (singly (map argumentsOf calls)) (singly (map argumentsOf more)) (singly-of-bytes (all-given given))
+    counted-awake file b (runs-accepted taken) names n none (byRules names begun calls) (byRules names (afterCalls names begun calls) more)
+    (singly-of-bytes (all-given names begun given))
     (front-may file names run none calls more may)
     (λ z. some (ap (λ (q : Position). q .rounds) (position-back _) ∙ z)))
 
@@ -203,6 +215,7 @@ module _ (names : List ℕ) (nb : Bytes names) where
 
 pub c-calls-wake : CCallsWake
 c-calls-wake file names p calls fb nb small given wakes =
+    let begun = memoryOf (startOn file) p in
     rw (calls-memory names (startOn file) p calls)
-    (subst (λ (w : State × Position). AllAwake (w .0 .file)) (all-sent-singly names (startOn file) p (map argumentsOf calls))
-    (all-wake names nb (startOn file) p (unfold startOn in fb) small (singly-of-bytes (all-given given)) wakes))
+    (subst (λ (w : State × Position). AllAwake (w .0 .file)) (all-sent-singly names (startOn file) p (argumentsOfAll names begun calls))
+    (all-wake names nb (startOn file) p (unfold startOn in fb) small (singly-of-bytes (all-given names begun given)) wakes))

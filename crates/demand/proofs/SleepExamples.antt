@@ -5,7 +5,7 @@
 use Prim.Native.Nat.{ℕ}
 use native.Mathlib.Omega.{arith}
 use mathlib.Core.Path.{_≡_, refl, sym, ap, _∙_, subst}
-use mathlib.Core.List.{List, [], _∷_, map}
+use mathlib.Core.List.{List, [], _∷_}
 use mathlib.Core.Bool.{true, false}
 use lib.ListN.{replicate}
 use Rattle.file.specs.Rules.Layout.{widthOf}
@@ -42,7 +42,7 @@ use Rattle.naming.proofs.Witnesses.{sleeper, sleeper-bytes, sleeper-accepted, s
 use Rattle.ttpa.specs.Rules.Calls.{startCall, wordsOf, positionIn}
 use Rattle.demand.specs.Claims.Traces.{frameCall, framesSingly, singly}
 use Rattle.demand.specs.Claims.Calls.{CCall, ttpaStep, ttpaRound, ttpaTrace, GivenBytes, given-step, given-frame, given-trace, Memory, returned, afterCalls}
-use Rattle.demand.specs.Claims.Calls.{permitted, callsFed, started, is-step, memoryOf, argumentsOf}
+use Rattle.demand.specs.Claims.Calls.{permitted, callsFed, started, is-step, memoryOf, argumentsOf, argumentsOfAll}
 use Rattle.demand.specs.Claims.Sleep.{thisOne, MayWake, byStep, byRound, byTrace, byFirst, in-frame, NoneSleeps.oneMore as oneAwake, noCalls, wokenBy}
 use Rattle.demand.proofs.Traces.{zeros-long}
 use Rattle.demand.proofs.Calls.{groundOf, call-number, accepted-runs, start-number, start-memory, steps-permitted, demand-over-calls}
@@ -163,25 +163,26 @@ shared-taken = refl
 
 -- a call that sends that frame is permitted, and if it returns 0 all are awake after it
 shared-wakes :
-    (c : CCall) → GivenBytes c → SentBy ((0xBA ∷ []) ∷ []) (singly (map argumentsOf (c ∷ []))) →
+    (c : CCall) → GivenBytes c → SentBy ((0xBA ∷ []) ∷ []) (singly (argumentsOfAll (5 ∷ []) begun (c ∷ []))) →
     returned (5 ∷ []) begun c ≡ 0 → MayWake begun c → AllAwake (afterCalls (5 ∷ []) begun (c ∷ []) .file)
 shared-wakes c given sends e wakes =
     calls-stay-awake sleeper sleeper-bytes (accepted-runs sleeper-accepted) (5 ∷ []) one-name (replicate 8 0) begins (c ∷ []) []
     (allNext given allEmpty)
     (rounds-fit-calls sleeper sleeper-bytes (accepted-runs sleeper-accepted) (5 ∷ []) one-name (replicate 8 0) begins [] allEmpty
     (unfold permitted in refl) ((0xBA ∷ []) ∷ [])
-    (multipartnerNext {firework = 0xBA} {r = 2} (omega arith) (unfold roundOf roundIn in refl) noRounds) (c ∷ []) sends [] allEmpty)
+    (multipartnerNext {firework = 0xBA} {r = 2} (omega arith) (unfold roundOf roundIn in refl) noRounds) (c ∷ [])
+    (unfold afterCalls in sends) [] allEmpty)
     (byFirst e wakes)
 
 sleeper-shared : AllAwake (afterCalls (5 ∷ []) begun (ttpaRound (0xBA ∷ []) answerBuffer 0 ∷ []) .file)
-unfolding singly argumentsOf groundOf startOn frame-wakes
+unfolding singly argumentsOfAll argumentsOf groundOf startOn frame-wakes
 sleeper-shared =
     shared-wakes (ttpaRound (0xBA ∷ []) answerBuffer 0) (given-frame (bytes-below (0xBA ∷ []) (unfold allBelow both in refl)))
     (oneMore zeros-long noFrames) (returns-ground (ttpaRound (0xBA ∷ []) answerBuffer 0) ∙ shared-taken)
     (byRound (λ e. let z : _≡_ {A = ℕ} 0 1 = cc in omega arith))
 
 sleeper-shared-traced : AllAwake (afterCalls (5 ∷ []) begun (ttpaTrace oneShared [] ∷ []) .file)
-unfolding singly argumentsOf framesSingly frameCall groundOf startOn trace-runs frame-wakes oneShared
+unfolding singly argumentsOfAll argumentsOf framesSingly frameCall groundOf startOn trace-runs frame-wakes oneShared
 sleeper-shared-traced =
     shared-wakes (ttpaTrace oneShared []) (given-trace (bytes-below oneShared (unfold oneShared allBelow both in refl)))
     (oneMore zeros-long noFrames) (returns-ground (ttpaTrace oneShared []) ∙ none-holds sleeper oneShared sleeper-accepted refl)
@@ -193,7 +194,7 @@ abbrev oneMsd : List CCall
 oneMsd = ttpaRound (0x49 ∷ []) answerBuffer 0 ∷ []
 
 sleeper-sent : AllAwake (afterCalls (5 ∷ []) (memoryOf (startOn sleeper) (fresh (5 ∷ []))) oneMsd .file)
-unfolding singly argumentsOf startOn frame-wakes
+unfolding singly argumentsOfAll argumentsOf startOn frame-wakes
 sleeper-sent =
     c-calls-wake sleeper (5 ∷ []) (fresh (5 ∷ [])) oneMsd sleeper-bytes one-name (unfold fresh in omega arith)
     (allNext (given-frame (bytes-below (0x49 ∷ []) (unfold allBelow both in refl))) allEmpty)

@@ -40,10 +40,19 @@ use Rattle.naming.proofs.StepKeeping.{step-keeping-refused, step-keeping-accept
 use Rattle.naming.proofs.Renaming.{step-bytes}
 use Rattle.naming.proofs.Unasked.{step-unasked, frame-unasked}
 use Rattle.naming.proofs.Summaries.{steps-in-order, step-refused-by-24, step-keeps-summary, keeping-step-bytes, keeping-round-bytes}
-use Rattle.ttpa.specs.Rules.Calls.{lentAfter, positionIn, roundCall, stepSenders, stepWords, stepCall, traceCall, fillCall, nobodyPlace, placeOf, holderCall, sliceOf, roundKeepingCall, stepKeepingCall}
-use Rattle.demand.specs.Claims.Calls.{CCall, GivenBytes, given-step, given-step-keeping, given-frame, given-frame-keeping, given-trace, Memory, returned, memoryAfter, afterCalls, permittedCall, halfwayOn, permitted, TakenByRounds}
-use Rattle.demand.specs.Claims.Summary.{Made, otherFile, madeOn, allMade, Keeps, inRound, inStep, inOther, noneMade, nextMade, KeptByCalls, AnswersAsRead, FilledAndAsked, sliceAside, stepSliceAside, RoundsWithSummary, StepsWithSummary}
-use Rattle.demand.specs.Claims.Summary.{GivenRight, stepWithout, roundWithout, traceWithout, stepMatching, roundMatching, noCalls, oneMore, withoutSummary, numbers, NoDifference, GivenMakesNoDifferenceInCalls}
+use Rattle.ttpa.specs.Rules.Calls.{lentAfter, positionIn, roundCall, stepSenders, stepWords, stepCall, traceCall, turnCall, fillCall}
+use Rattle.ttpa.specs.Rules.Calls.{nobodyPlace, placeOf, holderCall, sliceOf, roundKeepingCall, stepKeepingCall}
+use Rattle.demand.specs.Claims.Calls.{CCall, GivenBytes, given-step, given-step-keeping, given-frame, given-frame-keeping}
+use Rattle.demand.specs.Claims.Calls.{given-trace, given-turn, Memory, returned, memoryAfter, afterCalls, permittedCall, halfwayOn}
+use Rattle.demand.specs.Claims.Calls.{permitted, TakenByRounds}
+use Rattle.demand.specs.Claims.Summary.{Made, otherFile, madeOn, allMade, Keeps, inRound, inStep, inOther, inTurn, noneMade, nextMade}
+use Rattle.demand.specs.Claims.Summary.{KeptByCalls, AnswersAsRead, FilledAndAsked, sliceAside, stepSliceAside, RoundsWithSummary}
+use Rattle.demand.specs.Claims.Summary.{StepsWithSummary}
+use Rattle.demand.specs.Claims.Summary.{GivenRight, stepWithout, roundWithout, traceWithout, turnWithout, stepMatching, roundMatching}
+use Rattle.demand.specs.Claims.Summary.{noCalls, oneMore, withoutSummary, numbers, NoDifference, GivenMakesNoDifferenceInCalls}
+use Rattle.screens.specs.Rules.Turn.{turnOn}
+use Rattle.screens.proofs.Names.{turn-keeps-summary}
+use Rattle.demand.proofs.TurnFrames.{turn-left, turn-frames-bytes}
 use Rattle.demand.proofs.Calls.{keeping-step-number, keeping-round-number, runs-accepted, accepted-runs}
 
 -- ---- the ground of a call given a summary, and its own without
@@ -214,9 +223,13 @@ trace-bytes file t fb tb =
     (λ z. rw (trace-run file t (eqb-true _ _ z)) (frames-bytes-kept file fb (frames-bytes tb 4 (frameCount t))))
     (λ z. rw (trace-refused file t (eqb-false _ _ z)) fb)
 
+turn-bytes : (file state buffer : List ℕ) → Bytes file → Bytes state → Bytes (turnOn state file buffer .3)
+turn-bytes file state buffer fb sb =
+    rw (turn-left file state buffer) (frames-bytes-kept file fb (turn-frames-bytes file state buffer sb))
+
 other-bytes :
     (file run names : List ℕ) {c : CCall} → Bytes file → Bytes names → positionIn run .value < 2 ^ bits → GivenBytes c → Bytes (otherFile file run names c)
-unfolding memoryAfter stepCall stepKeepingCall roundCall roundKeepingCall traceCall
+unfolding memoryAfter stepCall stepKeepingCall roundCall roundKeepingCall traceCall turnCall
 other-bytes file run names fb nb small (given-step {buffer}) = step-bytes file (positionIn run) names buffer fb nb small
 other-bytes file run names fb nb small (given-step-keeping {buffer} {held = held} {count = count}) =
     keeping-step-bytes file (positionIn run) names (kept count held) buffer fb nb small
@@ -224,6 +237,7 @@ other-bytes file run names fb nb small (given-frame {bytes} {buffer} rb) = round
 other-bytes file run names fb nb small (given-frame-keeping {bytes} {buffer} {held = held} {count = count} rb) =
     keeping-round-bytes file (kept count held) bytes buffer fb rb
 other-bytes file run names fb nb small (given-trace {t} tb) = trace-bytes file t fb tb
+other-bytes file run names fb nb small (given-turn {state} {buffer} sb) = turn-bytes file state buffer fb sb
 
 one-kept :
     (file held : List ℕ) (count : ℕ) {c : Made} → Bytes file → Keeps file c → Matches file (kept count held) →
@@ -237,6 +251,8 @@ one-kept file held count fb (inStep {run} {names} {buffer} nb small) m =
     (step-keeps-summary file (positionIn run) names (kept count held) buffer fb nb small m)
 one-kept file held count fb (inOther {run} {names} {c} nb small given stay) m =
     (same-names file (otherFile file run names c) stay m, rest-same (kept count held))
+one-kept file held count fb (inTurn {state = state} {buffer = buffer} sb) m =
+    (unfold memoryAfter turnCall in turn-keeps-summary state file buffer (kept count held) sb fb m, rest-same (kept count held))
 
 one-bytes : (file held : List ℕ) (count : ℕ) {c : Made} → Bytes file → Keeps file c → Bytes (madeOn count file held c .0)
 unfolding madeOn roundKeepingCall stepKeepingCall
@@ -244,6 +260,8 @@ one-bytes file held count fb (inRound {bytes} {buffer} rb) = keeping-round-bytes
 one-bytes file held count fb (inStep {run} {names} {buffer} nb small) =
     keeping-step-bytes file (positionIn run) names (kept count held) buffer fb nb small
 one-bytes file held count fb (inOther {run} {names} nb small given stay) = other-bytes file run names fb nb small given
+one-bytes file held count fb (inTurn {state = state} {buffer = buffer} sb) =
+    unfold memoryAfter turnCall in turn-bytes file state buffer fb sb
 
 pub kept-by-calls : KeptByCalls
 unfolding allMade
@@ -341,6 +359,7 @@ unfolding withoutSummary
 given-same names m stepWithout = record { number = refl; memory = refl; may = λ h. refl; halfway = λ h. refl }
 given-same names m roundWithout = record { number = refl; memory = refl; may = λ h. refl; halfway = λ h. refl }
 given-same names m traceWithout = record { number = refl; memory = refl; may = λ h. refl; halfway = λ h. refl }
+given-same names m turnWithout = record { number = refl; memory = refl; may = λ h. refl; halfway = λ h. refl }
 given-same names m (stepMatching {buffer} {senders} {held} {count} right) =
     let given = steps-with-summary (m .file) (m .run) names buffer senders held count in
     let same = given .same (λ e. given .by24 .0 e .1 right) in

@@ -36,7 +36,7 @@ use Rattle.demand.specs.Claims.Traces.{frameCall, framesSingly, singly, 
 unfoldable pub afterSingly : State → List (List ℕ) → State
 afterSingly s xs = record { file = afterFrames (s .file) xs; halfway = halfwayFrom (s .halfway) (s .file) xs }
 
-frames-singly :
+pub frames-singly :
     (names : List ℕ) (s : State) (p : Position) (xs : List (List ℕ)) → afterCalls names s p (map frameCall xs) ≡ (afterSingly s xs, p)
 unfolding afterSingly afterCalls callOn frameCall afterFrames halfwayFrom sent
 frames-singly names s p [] = refl

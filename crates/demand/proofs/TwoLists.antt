@@ -3,7 +3,7 @@
 -- Assumes nothing.
 use Prim.Native.Nat.{ℕ, zero, suc, _+_}
 use mathlib.Core.Path.{_≡_, refl, sym, ap, _∙_, subst}
-use mathlib.Core.List.{List, [], _∷_, _++_, map}
+use mathlib.Core.List.{List, [], _∷_, _++_, map, append-nil}
 use mathlib.Core.Bool.{true, false}
 use native.Mathlib.Omega.{arith}
 use lib.ListN.{replicate}
@@ -29,52 +29,40 @@ use Rattle.naming.proofs.TwoLists.{accountSteps, counts-same}
 use Rattle.naming.proofs.TwoRuns.{account-end, Whole, second-run, runs-together}
 use Rattle.naming.proofs.Unasked.{step-unasked}
 use Rattle.ttpa.specs.Rules.Calls.{startCall, positionIn}
-use Rattle.demand.specs.Claims.Calls.{CCall, ttpaStep, ttpaStepKeeping, ttpaRound, ttpaRoundKeeping, ttpaTrace, GivenBytes}
+use Rattle.demand.specs.Claims.Calls.{CCall, ttpaStep, ttpaStepKeeping, ttpaRound, ttpaRoundKeeping, ttpaTrace, ttpaTurn, turnFrames}
+use Rattle.demand.specs.Claims.Calls.{GivenBytes}
 use Rattle.demand.specs.Claims.Calls.{given-step, IsStep, is-step, Memory, afterCalls, permitted, callsFed}
-use Rattle.demand.specs.Claims.Calls.{slavesIn, TakenByRounds, started, memoryOf, argumentsOf}
-use Rattle.demand.specs.Claims.Traces.{frameCall, framesSingly, singly, afterTrace, callOrTraceOn}
+use Rattle.demand.specs.Claims.Calls.{slavesIn, TakenByRounds, started, memoryOf, argumentsOf, argumentsOfAll}
+use Rattle.demand.specs.Claims.Traces.{frameCall, framesSingly, singly, afterTrace, callOrTraceOn, afterAll}
 use Rattle.demand.specs.Claims.TwoLists.{ToItsEnd, fileAfter, runAfter, TwoListsOverCalls, JoinedStarts, CommonReturns}
 use Rattle.demand.specs.Claims.TwoLists.{stepTaken, stepsTaken, RunsEndOverCalls, EveryRunEndsOverCalls, EndMarkOverCalls}
 use Rattle.demand.specs.Claims.TwoLists.{SecondFindsOverCalls, TwoRunsOverCalls}
-use Rattle.demand.proofs.Traces.{singly-of-bytes, trace-sent-singly, all-sent-singly}
-use Rattle.demand.proofs.Calls.{position-back, groundOf, call-number, call-memory, calls-memory, all-given, runs-accepted}
-use Rattle.demand.proofs.Calls.{start-number, start-memory, start-same, demand-over-calls}
+use Rattle.demand.proofs.Traces.{afterSingly, frames-singly, singly-append, singly-of-bytes, trace-sent-singly}
+use Rattle.demand.proofs.Calls.{position-back, frames-alone, frames-left, groundOf, call-number, call-memory, all-given}
+use Rattle.demand.proofs.Calls.{runs-accepted}
+use Rattle.demand.proofs.Calls.{start-number, start-memory, start-same, byRules, after-by-rules, demand-over-calls}
 
 -- ---- as calls of the rules
 
--- the calls of demand 3 that a list of C calls stands for
-abbrev pub byRules : List CCall → List Call
-byRules calls = singly (map argumentsOf calls)
-
 module _ (file names run : List ℕ) (none : startGround names ≡ 0) (calls : List CCall) where
-  after-by-rules :
-      afterCalls names (started file names run) calls ≡
-      memoryOf (rules.afterCalls names (startOn file) (fresh names) (byRules calls) .0)
-      (rules.afterCalls names (startOn file) (fresh names) (byRules calls) .1)
-  after-by-rules =
-      ap (λ (m : Memory). afterCalls names m calls) (start-memory file names run none)
-      ∙ calls-memory names (startOn file) (fresh names) calls
-      ∙ sym
-      (ap (λ (w : State × Position). memoryOf (w .0) (w .1)) (all-sent-singly names (startOn file) (fresh names) (map argumentsOf calls)))
-
-  run-by-rules : runAfter file names run calls ≡ rules.afterCalls names (startOn file) (fresh names) (byRules calls) .1
-  run-by-rules =
-      ap (λ (m : Memory). positionIn (m .run)) after-by-rules
-      ∙ position-back (rules.afterCalls names (startOn file) (fresh names) (byRules calls) .1)
+  run-by-rules :
+      runAfter file names run calls ≡ rules.afterCalls names (startOn file) (fresh names) (byRules names (started file names run) calls) .1
+  run-by-rules = ap (λ (m : Memory). positionIn (m .run)) (after-by-rules file names run none calls) ∙ position-back _
 
 to-rules :
-    {file names run : List ℕ} {calls : List CCall} → ToItsEnd file names run calls → files.ToItsEnd file names (byRules calls)
+    {file names run : List ℕ} {calls : List CCall} → ToItsEnd file names run calls →
+    files.ToItsEnd file names (byRules names (started file names run) calls)
 to-rules {file} {names} {run} {calls} to =
     let none : startGround names ≡ 0 = sym (start-number names run) ∙ to .starts in
     record {
-      bytes = singly-of-bytes (all-given (to .bytes));
+      bytes = singly-of-bytes (all-given names (started file names run) (to .bytes));
       may = sym (start-same file names run none calls) ∙ to .may;
       ended = λ e. to .ended (ap (λ (p : Position). p .end) (run-by-rules file names run none calls) ∙ e);
     }
 
 from-rules :
     {file names run : List ℕ} {calls : List CCall} → startCall names run .0 ≡ 0 → All GivenBytes calls →
-    files.ToItsEnd file names (byRules calls) →
+    files.ToItsEnd file names (byRules names (started file names run) calls) →
     ToItsEnd file names run calls
 from-rules {file} {names} {run} {calls} starts given to =
     let none : startGround names ≡ 0 = sym (start-number names run) ∙ starts in
@@ -95,7 +83,7 @@ bytes-left file b taken names n run calls to =
     let none : startGround names ≡ 0 = sym (start-number names run) ∙ to .starts in
     let by = to-rules to in
     subst (λ (m : Memory). Bytes (m .file)) (sym (after-by-rules file names run none calls))
-    (bytes-after file b (runs-accepted taken) names n none (byRules calls) (by .bytes) (by .may))
+    (bytes-after file b (runs-accepted taken) names n none (byRules names (started file names run) calls) (by .bytes) (by .may))
 
 -- the names that a run leaves
 pub names-left :
@@ -151,42 +139,57 @@ module _ (names : List ℕ) where
   trace-front s p t ds =
       frames-of-trace s p t ds ∙ ap (λ (w : State × Position). files.stepsTaken names (w .0) (w .1) ds) (trace-sent-singly names s p t)
 
+  turn-front :
+      (s : State) (p : Position) (xs : List (List ℕ)) (ds : List Call) →
+      files.stepsTaken names s p (map frameCall xs ++ ds) ≡ files.stepsTaken names (afterSingly s xs) p ds
+  turn-front s p xs ds =
+      frames-front s p xs ds ∙ ap (λ (w : State × Position). files.stepsTaken names (w .0) (w .1) ds) (frames-singly names s p xs)
+
+  call-front :
+      (s : State) (p : Position) (c : CCall) (ds : List Call) → let after = afterAll names s p (argumentsOf (s .file) c) in
+      stepTaken names (memoryOf s p) c + files.stepsTaken names (after .0) (after .1) ds ≡
+      files.stepsTaken names s p (singly (argumentsOf (s .file) c) ++ ds)
+  unfolding stepTaken files.stepsTaken files.stepTaken singly argumentsOf afterAll callOrTraceOn groundOf
+  call-front s p (ttpaStep buffer senders) ds =
+      rw (call-number names s p (ttpaStep buffer senders), step-unasked (s .file) p names buffer)
+  call-front s p (ttpaStepKeeping buffer senders held count) ds = rw (call-number names s p (ttpaStepKeeping buffer senders held count))
+  call-front s p (ttpaRound bytes buffer senders) ds = refl
+  call-front s p (ttpaRoundKeeping bytes buffer senders held count) ds = refl
+  call-front s p (ttpaTrace t report) ds = rw (append-nil (framesSingly t)) (omega (arith, trace-front s p t ds))
+  call-front s p (ttpaTurn state buffer senders screen) ds =
+      let xs = turnFrames (s .file) state buffer in
+      rw (frames-alone xs, frames-left names s p xs) (omega (arith, turn-front s p xs ds))
+
   same-steps :
-      (s : State) (p : Position) (calls : List CCall) → stepsTaken names (memoryOf s p) calls ≡ files.stepsTaken names s p (byRules calls)
-  unfolding stepsTaken stepTaken files.stepsTaken files.stepTaken singly argumentsOf callOrTraceOn groundOf
-  same-steps s p [] = refl
+      (s : State) (p : Position) (calls : List CCall) →
+      stepsTaken names (memoryOf s p) calls ≡ files.stepsTaken names s p (byRules names (memoryOf s p) calls)
+  unfolding stepsTaken argumentsOfAll
+  same-steps s p [] = unfold files.stepsTaken singly in refl
   same-steps s p (c ∷ cs) =
-      let after = callOrTraceOn names s p (argumentsOf c) in
-      rw (call-memory names s p c, same-steps (after .0) (after .1) cs) (one c)
-    where
-      one :
-          (c : CCall) →
-          stepTaken names (memoryOf s p) c +
-          files.stepsTaken names (callOrTraceOn names s p (argumentsOf c) .0) (callOrTraceOn names s p (argumentsOf c) .1) (byRules cs) ≡
-          files.stepsTaken names s p (byRules (c ∷ cs))
-      one (ttpaStep buffer senders) = rw (call-number names s p (ttpaStep buffer senders), step-unasked (s .file) p names buffer)
-      one (ttpaStepKeeping buffer senders held count) = rw (call-number names s p (ttpaStepKeeping buffer senders held count))
-      one (ttpaRound bytes buffer senders) = refl
-      one (ttpaRoundKeeping bytes buffer senders held count) = refl
-      one (ttpaTrace t report) = omega (arith, trace-front s p t (byRules cs))
+      let after = afterAll names s p (argumentsOf (s .file) c) in
+      let rest = argumentsOfAll names (memoryOf (after .0) (after .1)) cs in
+      rw (call-memory names s p c, same-steps (after .0) (after .1) cs, singly-append (argumentsOf (s .file) c) rest)
+      (call-front s p c (singly rest))
 
 -- so after ttpa_start
 started-steps :
     (file names run : List ℕ) → startGround names ≡ 0 → (calls : List CCall) →
-    stepsTaken names (started file names run) calls ≡ files.stepsTaken names (startOn file) (fresh names) (byRules calls)
+    stepsTaken names (started file names run) calls ≡
+    files.stepsTaken names (startOn file) (fresh names) (byRules names (started file names run) calls)
 started-steps file names run none calls =
-    ap (λ (m : Memory). stepsTaken names m calls) (start-memory file names run none)
-    ∙ same-steps names (startOn file) (fresh names) calls
+    rw (start-memory file names run none) (same-steps names (startOn file) (fresh names) calls)
 
 -- and those that the account counts
 pub calls-counted :
     (file : List ℕ) → Bytes file → TakenByRounds file → (names : List ℕ) → Bytes names → (run : List ℕ) → startCall names run .0 ≡ 0 →
     (calls : List CCall) → All GivenBytes calls → permitted false names (started file names run) calls ≡ true →
-    stepsTaken names (started file names run) calls ≡ accountSteps (accountOf (slavesIn file) names) (byRules calls)
+    stepsTaken names (started file names run) calls ≡
+    accountSteps (accountOf (slavesIn file) names) (byRules names (started file names run) calls)
 calls-counted file b taken names n run starts calls given may =
     let none : startGround names ≡ 0 = sym (start-number names run) ∙ starts in
     started-steps file names run none calls
-    ∙ counts-same file b (runs-accepted taken) names n none (byRules calls) (singly-of-bytes (all-given given))
+    ∙ counts-same file b (runs-accepted taken) names n none (byRules names (started file names run) calls)
+    (singly-of-bytes (all-given names (started file names run) given))
     (sym (start-same file names run none calls) ∙ may)
 
 -- ---- every run ends
@@ -196,7 +199,8 @@ runs-end-over-calls file b taken names n run starts calls given may =
     let none : startGround names ≡ 0 = sym (start-number names run) ∙ starts in
     let same = started-steps file names run none calls in
     let exactly =
-    runs-end file b (runs-accepted taken) names n none (byRules calls) (singly-of-bytes (all-given given))
+    runs-end file b (runs-accepted taken) names n none (byRules names (started file names run) calls)
+    (singly-of-bytes (all-given names (started file names run) given))
     (sym (start-same file names run none calls) ∙ may) in
     (λ enough. from-rules starts given (exactly .0 (rw same at enough)), λ to. rw same (exactly .1 (to-rules to)))
 
@@ -204,10 +208,10 @@ module _ (senders : ℕ) where
   abbrev pub longCall : CCall
   longCall = ttpaStep (replicate slots 0) senders
 
-  pub steps-by-rules : (n : ℕ) → byRules (replicate n longCall) ≡ replicate n longStep
-  unfolding singly argumentsOf
-  steps-by-rules zero = refl
-  steps-by-rules (suc n) = ap (λ (l : List Call). longStep ∷ l) (steps-by-rules n)
+  pub steps-by-rules : (names : List ℕ) (m : Memory) (n : ℕ) → byRules names m (replicate n longCall) ≡ replicate n longStep
+  unfolding singly argumentsOfAll argumentsOf
+  steps-by-rules names m zero = refl
+  steps-by-rules names m (suc n) = ap (λ (l : List Call). longStep ∷ l) (steps-by-rules names _ n)
 
   pub steps-given : (n : ℕ) → All GivenBytes (replicate n longCall)
   steps-given zero = allEmpty
@@ -221,7 +225,7 @@ pub every-run-ends-over-calls : EveryRunEndsOverCalls
 every-run-ends-over-calls file b taken names n run starts many senders enough =
     let none : startGround names ≡ 0 = sym (start-number names run) ∙ starts in
     from-rules starts (steps-given senders many)
-    (rw (steps-by-rules senders many) (every-run-ends file b (runs-accepted taken) names n none many enough))
+    (rw (steps-by-rules senders names (started file names run) many) (every-run-ends file b (runs-accepted taken) names n none many enough))
 
 -- ---- the end mark, rounds and comparisons
 

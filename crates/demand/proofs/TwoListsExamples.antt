@@ -1,7 +1,7 @@
 -- Lists of C calls that meet what the claims on two lists of names ask: of every accepted file and any two acceptable lists without a
 -- common name, and on the file of M10, whose two slaves have no name, with summaries, refused steps, rounds of others and a trace among
--- the steps and between the runs; the stored figures there and on the file of M8, whose two slaves hold name 1; and like statements that
--- are false.
+-- the steps and between the runs, or with a turn; the stored figures there and on the file of M8, whose two slaves hold name 1; and like
+-- statements that are false.
 -- Assumes nothing.
 use Prim.Native.Nat.{ℕ, _+_, _≤_}
 use native.Mathlib.Omega.{arith}
@@ -20,32 +20,38 @@ use Rattle.file.specs.Rules.Grounds.{walkSlave}
 use Rattle.file.specs.Rules.Grounds.{goodTableEntry, walkDirectory, goodEntry, endsAt, lacksNeeded, allHaveNeeded, hasNeeded}
 use Rattle.file.specs.Rules.Grounds.{equalPhysicalNames}
 use Rattle.file.proofs.Order.{clash}
-use Rattle.file.proofs.Bytes.{all-append}
+use Rattle.file.proofs.Bytes.{all-append, all-map}
 use Rattle.file.proofs.BytesBelow.{allBelow, bytes-below}
 use Rattle.frame.specs.Rules.Fireworks.{roundOf, roundIn}
 use Rattle.cluster.specs.Rules.Grounds.{shortAnswer}
 use Rattle.cluster.specs.Rules.Summary.{wrongSummary, alike}
 use Rattle.trace.specs.Rules.Trace.{frameCount, dataLength, offsetIn, lengthIn, dataPlace, wholeRows, brokenTrace, framesFrom, framesOf}
 use Rattle.naming.specs.Rules.Run.{namesUsedUp, allNamed, startGround, namesGrounds, unfitName}
-use Rattle.naming.specs.Rules.Account.{Named, Call, argumentsGround, accountOf, accountCall, oneRound, endWith, extra, insert, falling, unnamedAmong, namesHeld}
+use Rattle.naming.specs.Rules.Account.{Named, Call, Account, argumentsGround, accountOf, accountCall, oneRound, endWith, extra, insert}
+use Rattle.naming.specs.Rules.Account.{falling, unnamedAmong, namesHeld}
 use Rattle.naming.specs.Rules.Figures.{freeNames, givings, nameGiven, renamed, namesAfter, roundsFor, endFor, extraAgain, roundsForNobody}
 use Rattle.naming.specs.Claims.Files.{m8File, m10File}
 use Rattle.naming.specs.Claims.Cases.{answerBuffer, slave}
 use Rattle.naming.specs.Claims.PermittedRounds.{Rounds, noRounds, multipartnerNext, SentBy, noFrames, oneMore}
-use Rattle.naming.specs.Claims.TwoLists.{NoCommon, SecondRun, RunsTogether}
+use Rattle.naming.specs.Claims.TwoLists.{NoCommon, SecondRun, RunsTogether, longStep}
 use Rattle.naming.proofs.Examples.{m10-accepted}
 use Rattle.naming.proofs.TwoLists.{accountStep, accountSteps, long-counted}
 use Rattle.naming.proofs.TwoListsExamples.{m10Slaves, m10-slaves, m8-slaves, threeRuns, names-fewer, names-more, first-held, nobody-after-3}
 use Rattle.ttpa.specs.Rules.Calls.{startCall}
 use Rattle.demand.specs.Claims.Calls.{CCall, ttpaStep, ttpaStepKeeping, ttpaRound, ttpaTrace, GivenBytes, given-step}
-use Rattle.demand.specs.Claims.Calls.{given-step-keeping, given-frame, given-trace, is-step-keeping}
-use Rattle.demand.specs.Claims.Calls.{is-step, afterCalls, permitted, slavesIn, TakenByRounds, started, argumentsOf}
+use Rattle.demand.specs.Claims.Calls.{given-step-keeping, given-frame, given-trace, given-turn, is-step-keeping}
+use Rattle.demand.specs.Claims.Calls.{is-step, Memory, afterCalls, permitted, slavesIn, TakenByRounds, started, argumentsOf}
+use Rattle.demand.specs.Claims.Calls.{argumentsOfAll, memoryAfter, turnFrames}
+use Rattle.demand.specs.Claims.Turns.{Serves, aStep, aTurn}
 use Rattle.demand.specs.Claims.Traces.{frameCall, framesSingly, singly}
 use Rattle.demand.specs.Claims.TwoLists.{ToItsEnd, fileAfter, runAfter, stepsTaken}
-use Rattle.demand.proofs.Traces.{zeros-long}
-use Rattle.demand.proofs.Calls.{accepted-runs, start-number, steps-permitted, demand-over-calls}
+use Rattle.demand.proofs.Traces.{zeros-long, singly-append}
+use Rattle.demand.proofs.Calls.{accepted-runs, runs-accepted, start-number, steps-permitted, throughout-calls, demand-over-calls, byRules}
+use Rattle.demand.proofs.Calls.{frames-alone}
 use Rattle.demand.proofs.Permitted.{rounds-fit-calls}
-use Rattle.demand.proofs.TwoLists.{byRules, longCall, steps-by-rules, steps-given, steps-only, bytes-left, names-left, two-lists-over-calls}
+use Rattle.demand.proofs.Turns.{serving-told, turns-permitted}
+use Rattle.demand.proofs.TurnExamples.{waiting, waiting-bytes, waiting-served, oneTurn}
+use Rattle.demand.proofs.TwoLists.{longCall, steps-by-rules, steps-given, steps-only, bytes-left, names-left, two-lists-over-calls}
 use Rattle.demand.proofs.TwoLists.{joined-starts, common-returns, calls-counted, runs-end-over-calls}
 use Rattle.demand.proofs.TwoLists.{end-mark-over-calls, second-finds-over-calls, two-runs-over-calls}
 
@@ -74,10 +80,10 @@ unfolding roundOf roundIn
 twice =
     multipartnerNext {firework = 0x78} {r = 0} (omega arith) refl (multipartnerNext {firework = 0x78} {r = 0} (omega arith) refl noRounds)
 
-others-sent : SentBy twoFrames (singly (map argumentsOf others))
-unfolding singly argumentsOf framesSingly frameCall oneTraced framesOf framesFrom brokenTrace wholeRows dataPlace frameCount dataLength
-    offsetIn lengthIn part numberOf both either
-others-sent = oneMore zeros-long (oneMore zeros-long noFrames)
+others-sent : (names : List ℕ) (m : Memory) → SentBy twoFrames (byRules names m others)
+unfolding singly argumentsOfAll argumentsOf framesSingly frameCall oneTraced framesOf framesFrom brokenTrace wholeRows dataPlace
+    frameCount dataLength offsetIn lengthIn part numberOf both either
+others-sent names m = oneMore zeros-long (oneMore zeros-long noFrames)
 
 abbrev busyRun : ℕ → List CCall
 busyRun n = others ++ steps n
@@ -102,14 +108,15 @@ module _ (file : List ℕ) (b : Bytes file) (taken : TakenByRounds file) {names 
   busy-may : permitted false names (started file names run) (busyRun n) ≡ true
   busy-may =
       rounds-fit-calls file b taken names (l .bytes) run (starts l run) [] allEmpty (steps-permitted names (started file names run) [] allEmpty)
-      twoFrames twice others others-sent (steps n) (steps-only 0 n)
+      twoFrames twice others (others-sent _ _) (steps n) (steps-only 0 n)
 
   busy-steps : stepsTaken names (started file names run) (busyRun n) ≡ n
-  unfolding others-sent accountSteps accountStep accountCall
+  unfolding others-sent accountSteps accountStep accountCall afterCalls
   busy-steps =
+      let behind = afterCalls names (started file names run) others in
       let counted = calls-counted file b taken names (l .bytes) run (starts l run) (busyRun n) busy-given busy-may in
-      let long : accountSteps (accountOf (slavesIn file) names) (byRules (steps n)) ≡ n =
-      ap (λ (cs : List Call). accountSteps (accountOf (slavesIn file) names) cs) (steps-by-rules 0 n)
+      let long : accountSteps (accountOf (slavesIn file) names) (byRules names behind (steps n)) ≡ n =
+      ap (λ (cs : List Call). accountSteps (accountOf (slavesIn file) names) cs) (steps-by-rules 0 names behind n)
       ∙ long-counted n (accountOf (slavesIn file) names) in
       omega (arith, counted, long)
 
@@ -295,6 +302,16 @@ m8-alike = left-alike m8File m8-bytes m8-taken name-1 name-2 apart-1-2 words wor
 
 -- ---- with summaries, refused steps, a multipartner round and a trace of one among the steps
 
+-- a run over name 1 ends with its 136th step
+m10-ends :
+    {calls : List CCall} → All GivenBytes calls → permitted false (1 ∷ []) (started m10File (1 ∷ []) words) calls ≡ true →
+    stepsTaken (1 ∷ []) (started m10File (1 ∷ []) words) calls ≡ 136 → ToItsEnd m10File (1 ∷ []) words calls
+unfolding threeRuns
+m10-ends {calls} given may taken =
+    let due = ap (λ (ss : List Named). roundsFor ss (1 ∷ [])) m10-slaves ∙ ap (λ (l : List ℕ). getD l 1 0) names-fewer in
+    runs-end-over-calls m10File m10-bytes m10-taken (1 ∷ []) (name-1 .bytes) words (starts name-1 words) calls given may .0
+    (omega (arith, due, taken))
+
 -- a step with the summary of the file's slaves, of which what lies beyond the count does not matter; one with a summary of other names,
 -- refused by 24; one with a short buffer, refused by 9
 abbrev before : List CCall
@@ -314,20 +331,16 @@ mixed-may : permitted false (1 ∷ []) (started m10File (1 ∷ []) words) mixed 
 mixed-may =
     rounds-fit-calls m10File m10-bytes m10-taken (1 ∷ []) (name-1 .bytes) words (starts name-1 words) before before-given
     (steps-permitted (1 ∷ []) (started m10File (1 ∷ []) words) before (also is-step-keeping (also is-step-keeping (also is-step allEmpty))))
-    twoFrames twice others others-sent (steps 135) (steps-only 0 135)
+    twoFrames twice others (others-sent _ _) (steps 135) (steps-only 0 135)
 
 mixed-steps : stepsTaken (1 ∷ []) (started m10File (1 ∷ []) words) mixed ≡ 136
 unfolding others-sent accountSteps accountStep argumentsGround firstOf wrongSummary alike shortAnswer namesHeld accountOf accountCall oneRound endWith extra m10Slaves slave
 mixed-steps =
     calls-counted m10File m10-bytes m10-taken (1 ∷ []) (name-1 .bytes) words (starts name-1 words) mixed mixed-given mixed-may
-    ∙ ap (λ (ss : List Named). accountSteps (accountOf ss (1 ∷ [])) (byRules mixed)) m10-slaves
+    ∙ ap (λ (ss : List Named). accountSteps (accountOf ss (1 ∷ [])) (byRules (1 ∷ []) (started m10File (1 ∷ []) words) mixed)) m10-slaves
 
 mixed-ends : ToItsEnd m10File (1 ∷ []) words mixed
-unfolding threeRuns
-mixed-ends =
-    let due = ap (λ (ss : List Named). roundsFor ss (1 ∷ [])) m10-slaves ∙ ap (λ (l : List ℕ). getD l 1 0) names-fewer in
-    runs-end-over-calls m10File m10-bytes m10-taken (1 ∷ []) (name-1 .bytes) words (starts name-1 words) mixed mixed-given mixed-may .0
-    (omega (arith, due, mixed-steps))
+mixed-ends = m10-ends mixed-given mixed-may mixed-steps
 
 -- one of the 136 steps short, a run is not at its end
 m10-not-yet : ToItsEnd m10File (1 ∷ []) words (busyRun 135) → ⊥
@@ -349,20 +362,16 @@ between-given = all-append mixed-given (all-append others-given allEmpty)
 between-may : permitted false (1 ∷ []) (started m10File (1 ∷ []) words) between ≡ true
 between-may =
     rounds-fit-calls m10File m10-bytes m10-taken (1 ∷ []) (name-1 .bytes) words (starts name-1 words) mixed mixed-given mixed-may
-    twoFrames twice others others-sent [] allEmpty
+    twoFrames twice others (others-sent _ _) [] allEmpty
 
 between-steps : stepsTaken (1 ∷ []) (started m10File (1 ∷ []) words) between ≡ 136
 unfolding mixed-steps
 between-steps =
     calls-counted m10File m10-bytes m10-taken (1 ∷ []) (name-1 .bytes) words (starts name-1 words) between between-given between-may
-    ∙ ap (λ (ss : List Named). accountSteps (accountOf ss (1 ∷ [])) (byRules between)) m10-slaves
+    ∙ ap (λ (ss : List Named). accountSteps (accountOf ss (1 ∷ [])) (byRules (1 ∷ []) (started m10File (1 ∷ []) words) between)) m10-slaves
 
 between-ends : ToItsEnd m10File (1 ∷ []) words between
-unfolding threeRuns
-between-ends =
-    let due = ap (λ (ss : List Named). roundsFor ss (1 ∷ [])) m10-slaves ∙ ap (λ (l : List ℕ). getD l 1 0) names-fewer in
-    runs-end-over-calls m10File m10-bytes m10-taken (1 ∷ []) (name-1 .bytes) words (starts name-1 words) between between-given between-may .0
-    (omega (arith, due, between-steps))
+between-ends = m10-ends between-given between-may between-steps
 
 between-second : ToItsEnd (fileAfter m10File (1 ∷ []) words between) (2 ∷ []) words (secondRun m10File (1 ∷ []) (2 ∷ []))
 between-second = second-ends m10File m10-bytes m10-taken name-1 name-2 between-ends words
@@ -381,6 +390,78 @@ between-finds :
 between-finds =
     second-finds-over-calls m10File m10-bytes m10-taken (1 ∷ []) (2 ∷ []) (name-1 .bytes) (name-2 .bytes) words words
     between (secondRun m10File (1 ∷ []) (2 ∷ [])) between-ends between-second
+
+-- ---- with a turn behind the first step
+
+abbrev turned : List CCall
+turned = longCall 0 ∷ oneTurn ∷ steps 135
+
+turned-given : All GivenBytes turned
+turned-given = also given-step (also (given-turn waiting-bytes) (steps-given 0 135))
+
+turned-may : permitted false (1 ∷ []) (started m10File (1 ∷ []) words) turned ≡ true
+turned-may =
+    turns-permitted m10File m10-bytes m10-taken (1 ∷ []) (name-1 .bytes) words (starts name-1 words) [] allEmpty
+    (steps-permitted (1 ∷ []) (started m10File (1 ∷ []) words) [] allEmpty) turned
+    (also (aStep is-step) (also (aTurn waiting-bytes) (all-map (λ c is. aStep is) (steps-only 0 135))))
+
+-- it serves, on the file that the step leaves
+turned-serves : Serves (fileAfter m10File (1 ∷ []) words (longCall 0 ∷ [])) waiting answerBuffer 0 0
+turned-serves =
+    serving-told 0 0
+    (waiting-served _
+    (runs-accepted
+    (throughout-calls m10File m10-bytes m10-taken (1 ∷ []) (name-1 .bytes) words (starts name-1 words) (longCall 0 ∷ [])
+    (oneTurn ∷ steps 135) (also given-step allEmpty) turned-may .accepted)))
+
+-- its frames are no steps of the account
+module _ (a : Account) where
+  frames-uncounted : (xs : List (List ℕ)) (ds : List Call) → accountSteps a (map frameCall xs ++ ds) ≡ accountSteps a ds
+  unfolding accountSteps accountStep accountCall frameCall
+  frames-uncounted [] ds = refl
+  frames-uncounted (x ∷ xs) ds = omega (arith, frames-uncounted xs ds)
+
+  turn-uncounted :
+      (names : List ℕ) (m : Memory) (cs : List CCall) →
+      accountSteps a (byRules names m (oneTurn ∷ cs)) ≡ accountSteps a (byRules names (memoryAfter names m oneTurn) cs)
+  unfolding argumentsOfAll argumentsOf
+  turn-uncounted names m cs =
+      let rest = argumentsOfAll names (memoryAfter names m oneTurn) cs in
+      let xs = turnFrames (m .file) waiting answerBuffer in
+      rw (singly-append (argumentsOf (m .file) oneTurn) rest, frames-alone xs) (frames-uncounted xs (singly rest))
+
+  step-counted :
+      (names : List ℕ) (m : Memory) (cs : List CCall) →
+      accountSteps a (byRules names m (longCall 0 ∷ cs)) ≡
+      1 + accountSteps (accountCall a longStep) (byRules names (memoryAfter names m (longCall 0)) cs)
+  unfolding singly argumentsOfAll argumentsOf accountSteps accountStep argumentsGround firstOf wrongSummary shortAnswer
+  step-counted names m cs = refl
+
+turned-steps : stepsTaken (1 ∷ []) (started m10File (1 ∷ []) words) turned ≡ 136
+turned-steps =
+    let begun = started m10File (1 ∷ []) words in
+    let stepped = memoryAfter (1 ∷ []) begun (longCall 0) in
+    let served = memoryAfter (1 ∷ []) stepped oneTurn in
+    let a = accountOf (slavesIn m10File) (1 ∷ []) in
+    let b = accountCall a longStep in
+    calls-counted m10File m10-bytes m10-taken (1 ∷ []) (name-1 .bytes) words (starts name-1 words) turned turned-given turned-may
+    ∙ step-counted a (1 ∷ []) begun (oneTurn ∷ steps 135)
+    ∙ ap (λ (n : ℕ). 1 + n)
+    (turn-uncounted b (1 ∷ []) stepped (steps 135)
+    ∙ ap (λ (cs : List Call). accountSteps b cs) (steps-by-rules 0 (1 ∷ []) served 135)
+    ∙ long-counted 135 b)
+
+turned-ends : ToItsEnd m10File (1 ∷ []) words turned
+turned-ends = m10-ends turned-given turned-may turned-steps
+
+turned-alike :
+    slavesIn (fileAfter (fileAfter m10File (1 ∷ []) words turned) (2 ∷ []) words (secondRun m10File (1 ∷ []) (2 ∷ []))) ≡
+    slavesIn (leftBy m10File (1 ∷ 2 ∷ []))
+turned-alike =
+    two-lists-over-calls m10File m10-bytes m10-taken (1 ∷ []) (2 ∷ []) (name-1 .bytes) (name-2 .bytes) apart-1-2 words words words
+    turned (secondRun m10File (1 ∷ []) (2 ∷ [])) (wholeRun m10File (1 ∷ 2 ∷ [])) turned-ends
+    (second-ends m10File m10-bytes m10-taken name-1 name-2 turned-ends words)
+    (run-ends m10File m10-bytes m10-taken (joined-listed m10File m10-bytes m10-taken name-1 name-2 apart-1-2 words words words) words)
 
 -- ---- like statements that are false
 

@@ -113,6 +113,10 @@ impl Refusal {
     pub const EDITION_LIMITS: Refusal = Refusal(25);
 
     pub const CONVERSION_BUFFER: Refusal = Refusal(26);
+
+    pub const SCREEN: Refusal = Refusal(27);
+
+    pub const SCREEN_WAITING: Refusal = Refusal(28);
 }
 
 // The slaves that an array has room for: the most of either edition.

@@ -2,7 +2,7 @@
 use Rattle.naming.specs.Claims.Cases.{MarkedCases}
 use Rattle.naming.specs.Claims.Demand.{DemandThree}
 use Rattle.naming.specs.Claims.Edition.{UnknownEditionStep, UnknownEditionStepKeeping}
-use Rattle.naming.specs.Claims.Editions.{StepsConverted, StepsKeepingConverted, AllCallsConverted, AllTurnsConverted, DemandConverted}
+use Rattle.naming.specs.Claims.Editions.{StepsConverted, StepsKeepingConverted, AllCallsConverted, ConvertedBetween, DemandConverted}
 use Rattle.naming.specs.Claims.Passes.{PassesCounted, PassesMade}
 use Rattle.naming.specs.Claims.Renaming.{BaptizingStepRenames, OnlyBaptizingStepsRename, StaysLoadable}
 use Rattle.naming.specs.Claims.Summary.{StepWithout, StepsInOrder, StepRefusedBy24, RefusedStepKeepsSummary, KeepingIsStep, StepKeepsSummary, StepStillMatches, StepStillMatchesBaptized, CallsKeepSummary, FilledAndKept, GivenMakesNoDifference}
@@ -19,7 +19,7 @@ use Rattle.naming.proofs.Passes.{passes-counted}
 use Rattle.naming.proofs.Renaming.{baptizing-step-renames, only-baptizing-steps-rename}
 use Rattle.naming.proofs.Summaries.{step-without, steps-in-order, step-refused-by-24, refused-step-keeps-summary, keeping-is-step, step-keeps-summary, step-still-matches, step-still-matches-baptized, calls-keep-summary, filled-and-kept}
 use Rattle.naming.proofs.StepKeeping.{step-keeping-edition}
-use Rattle.naming.proofs.Editions.{steps-converted, steps-keeping-converted, all-calls-converted, all-turns-converted, demand-converted}
+use Rattle.naming.proofs.Editions.{steps-converted, steps-keeping-converted, all-calls-converted, converted-between, demand-converted}
 use Rattle.naming.proofs.Unasked.{given-makes-no-difference}
 use Rattle.naming.proofs.HeldOnce.{stays-loadable}
 use Rattle.naming.proofs.PermittedExactly.{permitted-exactly}
@@ -153,8 +153,8 @@ held-steps-keeping-converted = steps-keeping-converted
 pub held-all-calls-converted : AllCallsConverted
 held-all-calls-converted = all-calls-converted
 
-pub held-all-turns-converted : AllTurnsConverted
-held-all-turns-converted = all-turns-converted
+pub held-converted-between : ConvertedBetween
+held-converted-between = converted-between
 
 pub held-demand-converted : DemandConverted
 held-demand-converted = demand-converted

@@ -21,7 +21,7 @@ use Rattle.naming.specs.Rules.Run.{Position, running, bits, nextRound, f
 use Rattle.naming.specs.Rules.Step.{stepGround, stepKeepingGround, stepKeeping}
 use Rattle.naming.specs.Rules.Account.{Named, namesIn, Call, argumentsGround}
 use Rattle.naming.specs.Claims.Demand.{State, startOn, callOn, permittedCall, permitted, afterCalls, OfBytes, of-step, of-frame, Demand}
-use Rattle.naming.specs.Claims.Editions.{StepsConverted, StepsKeepingConverted, converted, answerOn, answersOn, CallsConverted, AllCallsConverted, Turn, call, convert, afterTurns, permittedTurns, callsAmong, Fitting, of-call, of-conversion, AllTurnsConverted, DemandConverted}
+use Rattle.naming.specs.Claims.Editions.{StepsConverted, StepsKeepingConverted, converted, answerOn, answersOn, CallsConverted, AllCallsConverted, CallOrConversion, call, convert, afterConverting, permittedConverting, callsAmong, Fitting, of-call, of-conversion, ConvertedBetween, DemandConverted}
 use Rattle.naming.proofs.StepLaws.{step-refused, step-ended, step-made}
 use Rattle.naming.proofs.StepFrames.{next-sent}
 use Rattle.naming.proofs.Summaries.{keeping-step-value}
@@ -125,16 +125,16 @@ module _ (names : List ℕ) (nb : Bytes names) where
 -- ---- conversions between the calls
 
 -- ready on a file: the frames of calls are bytes, and the file is convertible
-data Ready (f : List ℕ) : Turn → Type 0 where
+data Ready (f : List ℕ) : CallOrConversion → Type 0 where
   ready-call : {c : Call} → OfBytes c → Ready f (call c)
   ready-conversion : {e : ℕ} → Convertible f e → Ready f (convert e)
 
-fitting-ready : (f : List ℕ) → Bytes f → fileGround f ≡ 0 → (t : Turn) → Fitting f t → Ready f t
+fitting-ready : (f : List ℕ) → Bytes f → fileGround f ≡ 0 → (t : CallOrConversion) → Fitting f t → Ready f t
 fitting-ready f fb none (call c) (of-call b) = ready-call b
 fitting-ready f fb none (convert e) (of-conversion width room) =
     ready-conversion (record { bytes = fb; accepted = none; width = width; room = room })
 
-fitting-bytes : (f : List ℕ) {turns : List Turn} → All (Fitting f) turns → All OfBytes (callsAmong turns)
+fitting-bytes : (f : List ℕ) {mixed : List CallOrConversion} → All (Fitting f) mixed → All OfBytes (callsAmong mixed)
 unfolding callsAmong
 fitting-bytes f allEmpty = allEmpty
 fitting-bytes f (allNext (of-call b) bs) = allNext b (fitting-bytes f bs)
@@ -145,39 +145,39 @@ again : (s : State) (e next : ℕ) → Convertible (s .file) e → converted (co
 unfolding converted
 again s e next convertible = rw (form-again convertible next)
 
--- the edition after the turns, from edition e on
-unfoldable lastEdition : ℕ → List Turn → ℕ
+-- the edition after the calls and conversions, from edition e on
+unfoldable lastEdition : ℕ → List CallOrConversion → ℕ
 lastEdition e [] = e
 lastEdition e (call c ∷ ts) = lastEdition e ts
 lastEdition e (convert next ∷ ts) = lastEdition next ts
 
-record Converting (names : List ℕ) (s : State) (e : ℕ) (p : Position) (turns : List Turn) : Type 0 where
+record Converting (names : List ℕ) (s : State) (e : ℕ) (p : Position) (mixed : List CallOrConversion) : Type 0 where
   same :
-      afterTurns names (converted s e) p turns ≡
-      (converted (afterCalls names s p (callsAmong turns) .0) (lastEdition e turns), afterCalls names s p (callsAmong turns) .1)
-  permits : permittedTurns names (converted s e) p turns ≡ permitted names s p (callsAmong turns)
-  after : Convertible (afterCalls names s p (callsAmong turns) .0 .file) (lastEdition e turns)
+      afterConverting names (converted s e) p mixed ≡
+      (converted (afterCalls names s p (callsAmong mixed) .0) (lastEdition e mixed), afterCalls names s p (callsAmong mixed) .1)
+  permits : permittedConverting names (converted s e) p mixed ≡ permitted names s p (callsAmong mixed)
+  after : Convertible (afterCalls names s p (callsAmong mixed) .0 .file) (lastEdition e mixed)
 
 module _ (names : List ℕ) (nb : Bytes names) where
   -- ready on the file that a call leaves
   ready-after :
-      (s : State) (p : Position) {c : Call} → p .value < 2 ^ bits → OfBytes c → (t : Turn) → Ready (s .file) t → Ready (callOn names s p c .0 .file) t
+      (s : State) (p : Position) {c : Call} → p .value < 2 ^ bits → OfBytes c → (t : CallOrConversion) → Ready (s .file) t → Ready (callOn names s p c .0 .file) t
   ready-after s p small b (call d) (ready-call h) = ready-call h
   ready-after s p small b (convert e) (ready-conversion convertible) =
       ready-conversion (call-converted names nb s e p convertible small b .after)
 
-  turns-converted :
-      (s : State) (e : ℕ) (p : Position) (turns : List Turn) → Convertible (s .file) e → p .value < 2 ^ bits → All (Ready (s .file)) turns →
-      Converting names s e p turns
-  unfolding afterTurns permittedTurns afterCalls permitted callsAmong lastEdition
-  turns-converted s e p [] convertible small allEmpty = record { same = refl; permits = unfold converted in refl; after = convertible }
-  turns-converted s e p (call c ∷ ts) convertible small (allNext (ready-call b) bs) =
+  mixed-converted :
+      (s : State) (e : ℕ) (p : Position) (mixed : List CallOrConversion) → Convertible (s .file) e → p .value < 2 ^ bits → All (Ready (s .file)) mixed →
+      Converting names s e p mixed
+  unfolding afterConverting permittedConverting afterCalls permitted callsAmong lastEdition
+  mixed-converted s e p [] convertible small allEmpty = record { same = refl; permits = unfold converted in refl; after = convertible }
+  mixed-converted s e p (call c ∷ ts) convertible small (allNext (ready-call b) bs) =
       let one = call-converted names nb s e p convertible small b in
       let ready = all-map (ready-after s p small b) bs in
-      let more = turns-converted (callOn names s p c .0) e (callOn names s p c .1) ts (one .after) (one .small) ready in
+      let more = mixed-converted (callOn names s p c .0) e (callOn names s p c .1) ts (one .after) (one .small) ready in
       record { same = rw (one .same) (more .same); permits = rw (one .same, one .permits, more .permits); after = more .after }
-  turns-converted s e p (convert next ∷ ts) convertible small (allNext (ready-conversion other) bs) =
-      let more = turns-converted s next p ts other small bs in
+  mixed-converted s e p (convert next ∷ ts) convertible small (allNext (ready-conversion other) bs) =
+      let more = mixed-converted s next p ts other small bs in
       let last = again s e next convertible in
       record { same = rw last (more .same); permits = rw last (more .permits); after = more .after }
 
@@ -193,18 +193,18 @@ module _ (names : List ℕ) (nb : Bytes names) (s : State) (p : Position) (small
   unfolding converted
   as-it-was = rw (own-edition (s .file) fb none .1)
 
-  module _ {turns : List Turn} (fits : All (Fitting (s .file)) turns) where
+  module _ {mixed : List CallOrConversion} (fits : All (Fitting (s .file)) mixed) where
     abbrev calls : List Call
-    calls = callsAmong turns
+    calls = callsAmong mixed
 
-    from-own : Converting names s own p turns
-    from-own = turns-converted names nb s own p turns (own-edition (s .file) fb none .0) small (all-map (fitting-ready (s .file) fb none) fits)
+    from-own : Converting names s own p mixed
+    from-own = mixed-converted names nb s own p mixed (own-edition (s .file) fb none .0) small (all-map (fitting-ready (s .file) fb none) fits)
 
-    turns-same : afterTurns names s p turns ≡ (converted (afterCalls names s p calls .0) (lastEdition own turns), afterCalls names s p calls .1)
-    turns-same = ap (λ (t : State). afterTurns names t p turns) as-it-was ∙ from-own .same
+    mixed-same : afterConverting names s p mixed ≡ (converted (afterCalls names s p calls .0) (lastEdition own mixed), afterCalls names s p calls .1)
+    mixed-same = ap (λ (t : State). afterConverting names t p mixed) as-it-was ∙ from-own .same
 
-    turns-permitted : permittedTurns names s p turns ≡ permitted names s p calls
-    turns-permitted = ap (λ (t : State). permittedTurns names t p turns) as-it-was ∙ from-own .permits
+    mixed-permitted : permittedConverting names s p mixed ≡ permitted names s p calls
+    mixed-permitted = ap (λ (t : State). permittedConverting names t p mixed) as-it-was ∙ from-own .permits
 
     -- the calls leave a file of the same edition
     calls-own : afterCalls names s p calls .0 .file ≡ inEdition (afterCalls names s p calls .0 .file) own
@@ -213,19 +213,19 @@ module _ (names : List ℕ) (nb : Bytes names) (s : State) (p : Position) (small
         let plain = calls-converted names nb s own p (own-edition (s .file) fb none .0) small (fitting-bytes (s .file) fits) in
         ap (λ (r : State × Position). r .0 .file) (ap (λ (t : State). afterCalls names t p calls) as-it-was ∙ plain .same)
 
-    turns-back : inEdition (afterTurns names s p turns .0 .file) own ≡ afterCalls names s p calls .0 .file
+    mixed-back : inEdition (afterConverting names s p mixed .0 .file) own ≡ afterCalls names s p calls .0 .file
     unfolding converted
-    turns-back =
-        ap (λ (r : State × Position). inEdition (r .0 .file) own) turns-same
+    mixed-back =
+        ap (λ (r : State × Position). inEdition (r .0 .file) own) mixed-same
         ∙ form-again (from-own .after) own
         ∙ sym calls-own
 
-pub all-turns-converted : AllTurnsConverted
-all-turns-converted names s p turns fb none nb small fits =
+pub converted-between : ConvertedBetween
+converted-between names s p mixed fb none nb small fits =
     record {
-      run = ap (λ (r : State × Position). r .1) (turns-same names nb s p small fb none fits);
-      back = turns-back names nb s p small fb none fits;
-      permits = turns-permitted names nb s p small fb none fits;
+      run = ap (λ (r : State × Position). r .1) (mixed-same names nb s p small fb none fits);
+      back = mixed-back names nb s p small fb none fits;
+      permits = mixed-permitted names nb s p small fb none fits;
     }
 
 -- ---- demand 3
@@ -258,10 +258,10 @@ fresh-small names = omega arith
 
 pub demand-converted : DemandConverted
 unfolding startOn converted
-demand-converted file fb none names nb accepted turns fits may =
+demand-converted file fb none names nb accepted mixed fits may =
     let s : State = startOn file in
     let p : Position = fresh names in
-    let may-call : permitted names s p (callsAmong turns) ≡ true = sym (turns-permitted names nb s p (fresh-small names) fb none fits) ∙ may in
-    let d = demand-3 file fb none names nb accepted (callsAmong turns) (fitting-bytes file fits) may-call in
-    rw (turns-same names nb s p (fresh-small names) fb none fits)
+    let may-call : permitted names s p (callsAmong mixed) ≡ true = sym (mixed-permitted names nb s p (fresh-small names) fb none fits) ∙ may in
+    let d = demand-3 file fb none names nb accepted (callsAmong mixed) (fitting-bytes file fits) may-call in
+    rw (mixed-same names nb s p (fresh-small names) fb none fits)
     (demand-in (from-own names nb s p (fresh-small names) fb none fits .after) d)

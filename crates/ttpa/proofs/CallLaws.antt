@@ -49,12 +49,19 @@ use Rattle.naming.specs.declared.run.Started.{Started}
 use Rattle.naming.specs.declared.run.Started.the-variants as starts
 use Rattle.naming.specs.declared.run.Stepped.{Stepped}
 use Rattle.naming.specs.declared.run.Stepped.the-variants as steps
+use Rattle.screens.specs.Rules.Screens.{readBy, fresh, postOn}
+use Rattle.screens.specs.Rules.Turn.{idle, served, turnOn}
+use Rattle.screens.specs.Inner.Answers.{postedOf, turnedOf}
+use Rattle.screens.specs.declared.post.Posted.{Posted}
+use Rattle.screens.specs.declared.post.Posted.the-variants as posts
+use Rattle.screens.specs.declared.turn.Turned.{Turned}
+use Rattle.screens.specs.declared.turn.Turned.the-variants as turns
 use Rattle.summary.specs.Inner.Answers.{filledOf, holderOf}
 use Rattle.summary.specs.declared.fill.Filling.{Filling}
 use Rattle.summary.specs.declared.fill.Filling.the-variants as fillings
 use Rattle.summary.specs.declared.holder.Holder.{Holder}
 use Rattle.summary.specs.declared.holder.Holder.the-variants as holders
-use Rattle.ttpa.specs.Rules.Calls.{lentAfter, checkCall, partBytes, readAddressCall, writeAddressCall, writeDataCall, roundCall, traceCall, ownerCall, convertCall, wordsOf, positionIn, startCall, stepSenders, stepWords, stepCall, fillCall, nobodyPlace, placeOf, holderCall, sliceOf, roundKeepingCall, stepKeepingCall}
+use Rattle.ttpa.specs.Rules.Calls.{lentAfter, checkCall, partBytes, readAddressCall, writeAddressCall, writeDataCall, roundCall, traceCall, ownerCall, convertCall, wordsOf, positionIn, startCall, stepSenders, stepWords, stepCall, fillCall, nobodyPlace, placeOf, holderCall, sliceOf, roundKeepingCall, stepKeepingCall, screensCall, postCall, noneWaited, turnScreen, turnSenders, turnCall}
 use Rattle.ttpa.specs.Inner.Told.{roundTold, stepTold}
 
 -- ---- the checker
@@ -287,4 +294,46 @@ module _ (held : List ℕ) (count name place : ℕ) {c n : ℕ} (counted : c ≡
   unfolding holderCall numberIn lentAfter holderOf placeOf nobodyPlace
   holder-nobody e =
       let r : done nobody ≡ holderIn name count held = rw e at is in
+      rw (← r)
+
+-- ---- screens
+
+pub screens-start : (state : List ℕ) {new : List ℕ} → new ≡ fresh → (0, new) ≡ screensCall state
+unfolding screensCall
+screens-start state e = rw e
+
+module _ (state : List ℕ) (i name file «record» : ℕ) {n : ℕ} (same : n ≡ name) {after : List ℕ} {a : Posted}
+    (is : (postedOf a, after) ≡ postOn state i (readBy n file «record»)) where
+  pub post-refuses : {why : Refusal} → a ≡ posts.Refused why → (why .0, after) ≡ postCall state i name file «record»
+  unfolding postCall numberIn postedOf
+  post-refuses {why} e =
+      let r : (refused (why .0), after) ≡ postOn state i (readBy name file «record») = rw (e, same) at is in
+      rw (← r)
+
+  pub post-posts : a ≡ posts.Posted → (0, after) ≡ postCall state i name file «record»
+  unfolding postCall numberIn postedOf
+  post-posts e =
+      let r : (done tt, after) ≡ postOn state i (readBy name file «record») = rw (e, same) at is in
+      rw (← r)
+
+module _ (file state answer : List ℕ) (senders screen : ℕ) {state′ answer′ file′ : List ℕ} {a : Turned}
+    (is : (turnedOf a, state′, answer′, file′) ≡ turnOn state file answer) where
+  pub turn-refuses :
+      {why : Refusal} → a ≡ turns.Refused why → (why .0, senders, screen, state′, answer′, file′) ≡ turnCall file state answer senders screen
+  unfolding turnCall turnScreen turnSenders numberIn turnedOf
+  turn-refuses {why} e =
+      let r : (refused (why .0), state′, answer′, file′) ≡ turnOn state file answer = rw e at is in
+      rw (← r)
+
+  pub turn-idles : a ≡ turns.Idle → (0, senders, 8, state′, answer′, file′) ≡ turnCall file state answer senders screen
+  unfolding turnCall turnScreen turnSenders noneWaited numberIn turnedOf
+  turn-idles e =
+      let r : (done idle, state′, answer′, file′) ≡ turnOn state file answer = rw e at is in
+      rw (← r)
+
+  pub turn-serves :
+      {i mask : ℕ} → a ≡ turns.Served i mask → (0, mask, i, state′, answer′, file′) ≡ turnCall file state answer senders screen
+  unfolding turnCall turnScreen turnSenders numberIn turnedOf
+  turn-serves {i} {mask} e =
+      let r : (done (served i mask), state′, answer′, file′) ≡ turnOn state file answer = rw e at is in
       rw (← r)

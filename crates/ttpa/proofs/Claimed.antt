@@ -3,10 +3,12 @@ use Rattle.ttpa.specs.Claims.Holder.{HolderTellsFirst}
 use Rattle.ttpa.specs.Claims.Numbers.{RefusedByNumbers}
 use Rattle.ttpa.specs.Claims.Refusals.{RefusalsAlterNothing}
 use Rattle.ttpa.specs.Claims.Conversion.{ConversionWritten, ConversionsComeBack, ConversionWidens, ConversionCopies}
+use Rattle.ttpa.specs.Claims.Turns.{TurnsAreRounds, TurnKeepsSummary, FairOverCalls, PostedIsServed}
 use Rattle.ttpa.proofs.HolderLaws.{holder-tells-first}
 use Rattle.ttpa.proofs.Numbers.{refused-by-numbers}
 use Rattle.ttpa.proofs.Refusals.{refusals-alter-nothing}
 use Rattle.ttpa.proofs.Conversion.{conversion-written, conversions-come-back, conversion-widens, conversion-copies}
+use Rattle.ttpa.proofs.Turns.{turns-are-rounds, turn-keeps-summary-call, fair-over-calls, posted-is-served}
 
 pub held-refused-by-numbers : RefusedByNumbers
 held-refused-by-numbers = refused-by-numbers
@@ -28,3 +30,15 @@ held-conversion-widens = conversion-widens
 
 pub held-conversion-copies : ConversionCopies
 held-conversion-copies = conversion-copies
+
+pub held-turns-are-rounds : TurnsAreRounds
+held-turns-are-rounds = turns-are-rounds
+
+pub held-turn-keeps-summary : TurnKeepsSummary
+held-turn-keeps-summary = turn-keeps-summary-call
+
+pub held-fair-over-calls : FairOverCalls
+held-fair-over-calls = fair-over-calls
+
+pub held-posted-is-served : PostedIsServed
+held-posted-is-served = posted-is-served

@@ -1,9 +1,12 @@
 pub mod CallLaws
-pub mod Refusals
 pub mod Numbers
+pub mod Refusals
 -- what the question tells
 pub mod HolderLaws
 -- what conversions leave
 pub mod Conversion
+-- turns shared between screens
+pub mod Turns
+pub mod TurnExamples
 -- each claim with its theorem
 pub mod Claimed

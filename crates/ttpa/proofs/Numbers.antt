@@ -2,9 +2,10 @@
 -- Assumes nothing.
 use Prim.Native.Nat.{ℕ}
 use native.Mathlib.Omega.{arith}
-use mathlib.Core.Path.{_≡_, refl, sym}
+use mathlib.Core.Path.{_≡_, refl, sym, _∙_}
 use mathlib.Core.Logic.{_≢_}
 use mathlib.Core.List.{List, [], _∷_, _++_, map}
+use mathlib.Core.Bool.{Bool}
 use lib.ListN.{length}
 use lib.Dec.{eqb, ltb}
 use borrow.Author.Tests.{eqb-true}
@@ -19,7 +20,7 @@ use Rattle.file.proofs.Width.{two-widths}
 use Rattle.frame.specs.Rules.Fireworks.{Round, multipartner, msd, msa, noRound}
 use Rattle.frame.specs.Rules.Reading.{readGround, partsOf, readAddress}
 use Rattle.frame.specs.Rules.Writing.{writeFrame, writeGround, writeAddress, dataGround, writeData}
-use Rattle.cluster.specs.Rules.Grounds.{roundBy, groundsOn}
+use Rattle.cluster.specs.Rules.Grounds.{shortAnswer, roundBy, groundsOn}
 use Rattle.cluster.specs.Rules.Round.{roundGround, roundOn}
 use Rattle.cluster.specs.Rules.Summary.{kept, fillGround, fillOn, holderIn, roundKeepingGround, roundKeeping}
 use Rattle.trace.specs.Rules.Run.{traceGrounds, traceGround, traceOn}
@@ -28,7 +29,9 @@ use Rattle.convert.specs.Rules.Convert.{convertGrounds, convertGround, convertO
 use Rattle.convert.proofs.Grounds.{only-narrowing}
 use Rattle.naming.specs.Rules.Run.{Position, running, namesGrounds, startGround, runGrounds, fresh, startOver}
 use Rattle.naming.specs.Rules.Step.{StepDone, stepGround, stepMade, stepOn, stepKeepingGround, stepKeeping}
-use Rattle.ttpa.specs.Rules.Calls.{checkCall, readAddressCall, writeAddressCall, writeDataCall, roundCall, traceCall, ownerCall, convertCall, positionIn, startCall, stepCall, fillCall, holderCall, roundKeepingCall, stepKeepingCall}
+use Rattle.screens.specs.Rules.Screens.{Due, nobody, screen, readBy, due, readGrounds, postGround, postOn}
+use Rattle.screens.specs.Rules.Turn.{dueGrounds, stateGrounds, turnGround, turnMade, turnOn}
+use Rattle.ttpa.specs.Rules.Calls.{checkCall, readAddressCall, writeAddressCall, writeDataCall, roundCall, traceCall, ownerCall, convertCall, positionIn, startCall, stepCall, fillCall, holderCall, roundKeepingCall, stepKeepingCall, screensCall, postCall, turnCall}
 use Rattle.ttpa.specs.Claims.Numbers.{OneOf, here, later, ZeroOr, fileNumbers, RefusedByNumbers}
 
 -- ---- the first ground that holds
@@ -66,7 +69,7 @@ refused-number : (A : Type 0) (n : ℕ) → numberIn {A = A} (refused n) ≡ n
 unfolding numberIn
 refused-number A n = refl
 
-round-number : (file frame answer : List ℕ) (senders : ℕ) → roundCall file frame answer senders .0 ≡ roundGround file frame answer
+pub round-number : (file frame answer : List ℕ) (senders : ℕ) → roundCall file frame answer senders .0 ≡ roundGround file frame answer
 unfolding roundCall roundOn numberIn
 round-number file frame answer senders =
     byCase (eqb (roundGround file frame answer) 0) (λ e. rw e (sym (eqb-true _ _ e))) (λ e. rw e)
@@ -93,6 +96,25 @@ step-number file run names answer senders =
 fill-number : (file held : List ℕ) (count : ℕ) → fillCall file held count .0 ≡ fillGround file held
 unfolding fillCall fillOn numberIn
 fill-number file held count = byCase (eqb (fillGround file held) 0) (λ e. rw e (sym (eqb-true _ _ e))) (λ e. rw e)
+
+pub post-number :
+    (state : List ℕ) (i name file «record» : ℕ) → postCall state i name file «record» .0 ≡ postGround state i (readBy name file «record»)
+unfolding postCall postOn
+post-number state i name file record′ = result-number _ _
+
+-- by who is due
+made-number : (d : Due) (state file answer : List ℕ) → numberIn (turnMade d state file answer .0) ≡ 0
+unfolding turnMade numberIn
+made-number nobody state file answer = refl
+made-number (screen i) state file answer = refl
+
+pub turn-number :
+    (file state answer : List ℕ) (senders screen : ℕ) → turnCall file state answer senders screen .0 ≡ turnGround state file answer
+unfolding turnCall turnOn
+turn-number file state answer senders told =
+    byCase (eqb (turnGround state file answer) 0)
+    (λ e. rw e (made-number (due state) state file answer ∙ sym (eqb-true _ _ e)))
+    (λ e. rw e (refused-number _ _))
 
 -- ---- the numbers of each call's grounds
 
@@ -222,7 +244,26 @@ step-keeping-returns file run names answer senders held count =
     rw (e, refused-number StepDone (stepKeepingGround file (positionIn run) names (kept count held) answer))
     (step-keeping-numbers file (positionIn run) names held count answer))
 
+post-numbers :
+    (state : List ℕ) (i name file «record» : ℕ) → ZeroOr (postGround state i (readBy name file «record»)) (27 ∷ 28 ∷ 18 ∷ 14 ∷ [])
+unfolding postGround readGrounds numbersOf
+post-numbers state i name file record′ = first-number _
+
+-- of a turn with nobody due, or with a read due
+due-numbers :
+    (d : Due) (state file answer : List ℕ) (last : Bool) →
+    ZeroOr (firstOf (((27, last) ∷ dueGrounds state d) ++ (fileGrounds file ++ (9, shortAnswer answer) ∷ [])))
+    (27 ∷ 18 ∷ 14 ∷ fileNumbers ++ 9 ∷ [])
+unfolding dueGrounds readGrounds fileGrounds fileGroundsAt numbersOf
+due-numbers nobody state file answer last = behind (0 ∷ 27 ∷ []) (λ x. later (later x)) (first-number _)
+due-numbers (screen i) state file answer last = first-number _
+
+turn-numbers : (file state answer : List ℕ) → ZeroOr (turnGround state file answer) (27 ∷ 18 ∷ 14 ∷ fileNumbers ++ 9 ∷ [])
+unfolding turnGround stateGrounds
+turn-numbers file state answer = due-numbers (due state) state file answer _
+
 pub refused-by-numbers : RefusedByNumbers
+unfolding screensCall
 refused-by-numbers =
     record {
       check = check-returns;
@@ -240,4 +281,7 @@ refused-by-numbers =
       holder = holder-returns;
       roundKeeping = round-keeping-returns;
       stepKeeping = step-keeping-returns;
+      screens = λ state. refl;
+      post = λ state i name file record′. rw (post-number state i name file record′) (post-numbers state i name file record′);
+      turn = λ file state answer senders told. rw (turn-number file state answer senders told) (turn-numbers file state answer);
     }

@@ -1,7 +1,7 @@
 -- A refused C call leaves everything that it was lent: the answer of the layer below taken apart, or the test of its ground.
 -- Assumes nothing.
 use Prim.Native.Nat.{ℕ}
-use mathlib.Core.Path.{_≡_, sym}
+use mathlib.Core.Path.{_≡_, sym, _∙_}
 use mathlib.Core.Logic.{_≢_}
 use mathlib.Core.List.{List}
 use lib.Dec.{eqb}
@@ -20,8 +20,12 @@ use Rattle.convert.specs.Rules.Convert.{convertGround, convertOn}
 use Rattle.naming.specs.Rules.Run.{running, startOver}
 use Rattle.naming.specs.Rules.Step.{stepGround, stepMade, stepOn, stepKeepingGround, stepKeeping}
 use Rattle.naming.proofs.StepKeeping.{keeping-step}
-use Rattle.ttpa.specs.Rules.Calls.{lentAfter, partBytes, readAddressCall, writeAddressCall, writeDataCall, roundCall, traceCall, ownerCall, convertCall, positionIn, wordsOf, startCall, stepSenders, stepWords, stepCall, fillCall, placeOf, holderCall, sliceOf, roundKeepingCall, stepKeepingCall}
+use Rattle.screens.specs.Rules.Screens.{readBy, postGround, postOn}
+use Rattle.screens.specs.Rules.Turn.{turnGround}
+use Rattle.screens.proofs.Grounds.{turn-refused}
+use Rattle.ttpa.specs.Rules.Calls.{lentAfter, partBytes, readAddressCall, writeAddressCall, writeDataCall, roundCall, traceCall, ownerCall, convertCall, positionIn, wordsOf, startCall, stepSenders, stepWords, stepCall, fillCall, placeOf, holderCall, sliceOf, roundKeepingCall, stepKeepingCall, postCall, turnScreen, turnSenders, turnCall}
 use Rattle.ttpa.specs.Claims.Refusals.{RefusalsAlterNothing}
+use Rattle.ttpa.proofs.Numbers.{turn-number}
 
 -- ---- a frame read or written
 
@@ -125,6 +129,27 @@ step-keeping-kept file run names answer senders held count n some e =
     (λ v. absurd (some (sym (rw (t, none, v) at e)))))
     (λ t. let same : stepKeepingGround file (positionIn run) names (kept count held) answer ≡ n = rw t at e in rw (t, same))
 
+-- ---- screens
+
+post-kept :
+    (state : List ℕ) (i name file «record» n : ℕ) → n ≢ 0 → postCall state i name file «record» .0 ≡ n →
+    postCall state i name file «record» ≡ (n, state)
+unfolding postCall postOn resultOf numberIn
+post-kept state i name file record′ n some e =
+    byCase (eqb (postGround state i (readBy name file record′)) 0)
+    (λ t. absurd (some (sym (rw t at e))))
+    (λ t. let same : postGround state i (readBy name file record′) ≡ n = rw t at e in rw (t, same))
+
+turn-kept :
+    (file state answer : List ℕ) (senders screen n : ℕ) → n ≢ 0 → turnCall file state answer senders screen .0 ≡ n →
+    turnCall file state answer senders screen ≡ (n, senders, screen, state, answer, file)
+unfolding turnCall turnSenders turnScreen numberIn
+turn-kept file state answer senders screen n some e =
+    let number = turn-number file state answer senders screen in
+    let is : turnGround state file answer ≡ n = sym number ∙ e in
+    let turned = turn-refused state file answer (λ z. some (sym is ∙ z)) in
+    rw (turned, is)
+
 pub refusals-alter-nothing : RefusalsAlterNothing
 unfolding readAddressCall writeAddressCall writeAddress writeDataCall writeData startCall holderCall
 refusals-alter-nothing =
@@ -144,4 +169,6 @@ refusals-alter-nothing =
       holder = λ held count name place n some e. lent-kept (holderIn name count held) place placeOf n some e;
       roundKeeping = round-keeping-kept;
       stepKeeping = step-keeping-kept;
+      post = post-kept;
+      turn = turn-kept;
     }

@@ -2,7 +2,7 @@
 // return. Each is the call of the layer below, with the answer as a number.
 ghost use mathlib.Core.Path.{_≡_};
 ghost use mathlib.Core.List.{[], _∷_};
-ghost use Rattle.ttpa.specs.Rules.Calls.{versionCall, checkCall, readAddressCall, writeAddressCall, writeDataCall, roundCall, traceCall, ownerCall, convertCall, wordsOf, positionIn, startCall, stepCall, fillCall, holderCall, roundKeepingCall, stepKeepingCall};
+ghost use Rattle.ttpa.specs.Rules.Calls.{versionCall, checkCall, readAddressCall, writeAddressCall, writeDataCall, roundCall, traceCall, ownerCall, convertCall, wordsOf, positionIn, startCall, stepCall, fillCall, holderCall, roundKeepingCall, stepKeepingCall, screensCall, postCall, turnCall};
 ghost use Rattle.ttpa.specs.Inner.Told.{roundTold, stepTold};
 ghost use Rattle.cluster.specs.Inner.Answers.{answerOf};
 ghost use Rattle.convert.specs.Inner.Answers.{editionIn};
@@ -14,6 +14,7 @@ ghost use Rattle.trace.specs.Inner.Answers.{reportIn};
 ghost use Rattle.trace.specs.Inner.Sent.{FewFrames};
 use cluster::answer::RoundAnswer;
 use cluster::round::round;
+use cluster::types::RecordAddress;
 use convert::convert::Conversion;
 use convert::convert::convert;
 use convert::editions::Edition;
@@ -35,6 +36,13 @@ use naming::run::start;
 use naming::run::step;
 use owner::write::OwnerAnswer;
 use owner::write::write_owner;
+use screens::post::Posted;
+use screens::post::post;
+use screens::state::SCREENS;
+use screens::state::ScreenState;
+use screens::state::fresh_state;
+use screens::turn::Turned;
+use screens::turn::turn;
 use summary::fill::Filling;
 use summary::fill::fill;
 use summary::holder::Holder;
@@ -46,7 +54,7 @@ use trace::run::TraceAnswer;
 use trace::run::run_trace;
 
 // The version, as one number: its three numbers stand in specs/Rules/Calls.
-const VERSION: u32 = 1100;
+const VERSION: u32 = 1200;
 
 // The parts of an address frame.
 pub const PARTS: usize = 5;
@@ -386,4 +394,62 @@ pub extern "C" fn ttpa_step_keeping(
 {
     let stepped = step_keeping(file, position_in(run), names, answer, held, count as usize);
     step_number(stepped, senders, run)
+}
+
+#[no_mangle]
+pub extern "C" fn ttpa_screens(state: &mut ScreenState) -> u8
+    ensures { λ r. ⌜ (r, now (state .exit)) ≡ screensCall (now (state .entry)) ⌝ }
+{
+    *state = fresh_state();
+    0
+}
+
+#[no_mangle]
+pub extern "C" fn ttpa_post(
+    state: &mut ScreenState,
+    screen: u8,
+    name: u8,
+    file: u8,
+    record: u8,
+) -> u8
+    ensures { λ r. ⌜ (r, now (state .exit)) ≡ postCall (now (state .entry)) screen name file «record» ⌝ }
+{
+    let read = RecordAddress {
+        name: LogicalName::new(name),
+        number: FileNumber(file),
+        record: RecordNumber(record),
+    };
+    let posted = post(state, screen, read);
+    match posted {
+        Posted::Refused(why) => why.0,
+        Posted::Posted => 0,
+    }
+}
+
+#[no_mangle]
+pub extern "C" fn ttpa_turn(
+    file: &mut [u8],
+    state: &mut ScreenState,
+    answer: &mut [u8],
+    senders: &mut u64,
+    screen: &mut u8,
+) -> u8
+    ensures { λ r. ⌜ (r, now (senders .exit), now (screen .exit), now (state .exit), now (answer .exit), now (file .exit)) ≡ turnCall (now (file .entry)) (now (state .entry)) (now (answer .entry)) (now (senders .entry)) (now (screen .entry)) ⌝ }
+{
+    let turned = turn(file, state, answer);
+    match turned {
+        Turned::Refused(why) => why.0,
+        Turned::Idle => {
+            *screen = SCREENS;
+            0
+        }
+        Turned::Served {
+            screen: served,
+            senders: mask,
+        } => {
+            *senders = mask;
+            *screen = served;
+            0
+        }
+    }
 }

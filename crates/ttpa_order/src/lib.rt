@@ -3,7 +3,8 @@
 // which has none, is not here.
 ghost use mathlib.Core.Path.{_≡_};
 ghost use mathlib.Core.List.{[], _∷_};
-ghost use Rattle.ttpa.specs.Rules.Calls.{checkCall, readAddressCall, writeAddressCall, writeDataCall, roundCall, traceCall, ownerCall, convertCall, startCall, stepCall, fillCall, holderCall, roundKeepingCall, stepKeepingCall};
+ghost use Rattle.ttpa.specs.Rules.Calls.{checkCall, readAddressCall, writeAddressCall, writeDataCall, roundCall, traceCall, ownerCall, convertCall, startCall, stepCall, fillCall, holderCall, roundKeepingCall, stepKeepingCall, screensCall, postCall, turnCall};
+use screens::state::ScreenState;
 use ttpa::PARTS;
 use ttpa::REPORT_WORDS;
 use ttpa::WORDS;
@@ -11,15 +12,18 @@ use ttpa::ttpa_check;
 use ttpa::ttpa_fill;
 use ttpa::ttpa_holder;
 use ttpa::ttpa_owner;
+use ttpa::ttpa_post;
 use ttpa::ttpa_read_address;
 use ttpa::ttpa_round;
 use ttpa::ttpa_round_keeping;
+use ttpa::ttpa_screens;
 use ttpa::ttpa_start;
 use ttpa::ttpa_step;
 use ttpa::ttpa_step_keeping;
 use ttpa::ttpa_to_edition_1;
 use ttpa::ttpa_to_edition_2;
 use ttpa::ttpa_trace;
+use ttpa::ttpa_turn;
 use ttpa::ttpa_write_address;
 use ttpa::ttpa_write_data;
 
@@ -139,4 +143,28 @@ pub fn step_keeping(
     ensures { λ r. ⌜ (r, now (senders .exit), now (run .exit), now (answer .exit), now (file .exit), now (held .exit)) ≡ stepKeepingCall (now (file .entry)) (now (run .entry)) (now (names .entry)) (now (answer .entry)) (now (senders .entry)) (now (held .entry)) count ⌝ }
 {
     ttpa_step_keeping(file, run, names, answer, senders, held, count)
+}
+
+pub fn screens(state: &mut ScreenState) -> u8
+    ensures { λ r. ⌜ (r, now (state .exit)) ≡ screensCall (now (state .entry)) ⌝ }
+{
+    ttpa_screens(state)
+}
+
+pub fn post(state: &mut ScreenState, screen: u8, name: u8, file: u8, record: u8) -> u8
+    ensures { λ r. ⌜ (r, now (state .exit)) ≡ postCall (now (state .entry)) screen name file «record» ⌝ }
+{
+    ttpa_post(state, screen, name, file, record)
+}
+
+pub fn turn(
+    file: &mut [u8],
+    state: &mut ScreenState,
+    answer: &mut [u8],
+    senders: &mut u64,
+    screen: &mut u8,
+) -> u8
+    ensures { λ r. ⌜ (r, now (senders .exit), now (screen .exit), now (state .exit), now (answer .exit), now (file .exit)) ≡ turnCall (now (file .entry)) (now (state .entry)) (now (answer .entry)) (now (senders .entry)) (now (screen .entry)) ⌝ }
+{
+    ttpa_turn(file, state, answer, senders, screen)
 }

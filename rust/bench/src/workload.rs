@@ -1,13 +1,13 @@
 //! What is measured. Everything is prepared before the first call.
 
 use crate::files;
-use compare::engine::{Engine, ReportWords, RunWords, Summary};
+use compare::engine::{Engine, ReportWords, RunWords, State, Summary, Turn};
 use compare::frames::framed;
-use model::{closed_figures, encode_trace, to_edition, Edition, MSA, MSD};
+use model::{closed_figures, encode_trace, post, screens, to_edition, Edition, MSA, MSD};
 use std::hint::black_box;
 
 /// The lines of the table.
-pub const TABLE: [&str; 43] = [
+pub const TABLE: [&str; 49] = [
     "check-32-2",
     "check-named-32",
     "check-most",
@@ -40,6 +40,12 @@ pub const TABLE: [&str; 43] = [
     "keeping-execute-1-all-32",
     "keeping-partner-32-63",
     "keeping-naming-32",
+    "post-first",
+    "post-last",
+    "turn-first-32",
+    "turn-last-32",
+    "turn-none-32",
+    "turn-as-rounds-32",
     "wide-check-32-2",
     "wide-check-64-2",
     "wide-check-most",
@@ -120,6 +126,16 @@ pub enum Workload {
     },
     /// A call with a summary.
     WithSummary(WithSummary),
+    /// A post of a screen, always on this state.
+    Post {
+        state: State,
+        screen: u8,
+    },
+    /// A turn, always from this state.
+    Turn {
+        file: Vec<u8>,
+        state: State,
+    },
 }
 
 pub enum WithSummary {
@@ -194,6 +210,15 @@ impl Workload {
             ["owner", "none", slaves] => Workload::Owner { file: named(number(slaves)?) },
             ["rounds", reads, slaves] => reads_as_rounds(number(reads)?, number(slaves)?),
             ["fill" | "holder" | "keeping", ..] => Workload::WithSummary(WithSummary::of(name)?),
+            ["post", which] => Workload::Post { state: screens(), screen: screen(which)? },
+            ["turn", "none", slaves] => Workload::Turn { file: named(number(slaves)?), state: screens() },
+            ["turn", "as", "rounds", slaves] => Workload::Frames {
+                file: named(number(slaves)?),
+                frames: vec![framed(MSA, [0x05, SHOWN[0], SHOWN[1] << 2, SHOWN[2]]), vec![MSD]],
+            },
+            ["turn", which, slaves] => {
+                Workload::Turn { file: named(number(slaves)?), state: waiting(screen(which)?) }
+            }
             _ => return None,
         })
     }
@@ -244,6 +269,17 @@ impl Workload {
                     }
                 }
                 Workload::WithSummary(workload) => workload.make(engine, &mut answer, &mut senders),
+                Workload::Post { state, screen } => {
+                    let mut state = *state;
+                    accepted(engine.post(black_box(&mut state), black_box(*screen), SHOWN));
+                    black_box(state);
+                }
+                Workload::Turn { file, state } => {
+                    let (mut state, mut screen) = (*state, 0);
+                    let told = Turn { senders: &mut senders, screen: &mut screen };
+                    accepted(engine.turn(black_box(file), black_box(&mut state), &mut answer, told));
+                    black_box((state, screen));
+                }
             }
         }
         black_box(senders);
@@ -343,6 +379,26 @@ fn reads_as_trace(reads: usize, slaves: usize) -> Workload {
 
 fn reads_as_rounds(reads: usize, slaves: usize) -> Workload {
     Workload::Frames { file: named(slaves), frames: reads_of(reads, slaves) }
+}
+
+/// The read that screens post: record 1 of 0x3D of one slave.
+const SHOWN: [u8; 3] = [0x11, 0x3D, 1];
+
+/// The screen that is next at the start, or the last one.
+fn screen(which: &str) -> Option<u8> {
+    match which {
+        "first" => Some(0),
+        "last" => Some(7),
+        _ => None,
+    }
+}
+
+/// The state in which this screen alone waits, screen 7 being the one last served.
+fn waiting(screen: u8) -> State {
+    let mut state = screens();
+    let [name, file, record] = SHOWN;
+    post(&mut state, screen, name, file, record).expect("a good read");
+    state
 }
 
 /// Slaves with the logical names 1, 2, …

@@ -2,7 +2,9 @@
 
 use crate::case::{Call, Outcome};
 use crate::draws::random::Random;
-use crate::draws::{clusters, conversions, inputs, owners, runs, sleepers, summaries, traces, two_lists};
+use crate::draws::{
+    clusters, conversions, inputs, owners, runs, screens, sleepers, summaries, traces, two_lists,
+};
 use crate::engine::{Engine, Model};
 use crate::frames::MULTIPARTNER;
 use crate::sorts::owners::Planned;
@@ -35,6 +37,8 @@ pub struct Amounts {
     /// Rounds that are given a summary, and half as many steps.
     pub kept: usize,
     pub conversions: usize,
+    /// Posts, and turns.
+    pub screens: usize,
     pub runs: usize,
 }
 
@@ -51,6 +55,7 @@ impl Amounts {
         summaries: 10_000,
         kept: 40_000,
         conversions: 10_000,
+        screens: 40_000,
         runs: 65,
     };
 
@@ -67,6 +72,7 @@ impl Amounts {
             summaries: self.summaries * factor,
             kept: self.kept * factor,
             conversions: self.conversions * factor,
+            screens: self.screens * factor,
             runs: self.runs * factor,
         }
     }
@@ -84,6 +90,7 @@ impl Amounts {
             summaries: self.summaries / divisor,
             kept: self.kept / divisor,
             conversions: self.conversions / divisor,
+            screens: self.screens / divisor,
             runs: self.runs / divisor,
         }
     }
@@ -166,6 +173,7 @@ impl<'a> Campaign<'a> {
         summaries::steps(self, amounts.kept / 2, &mut Random::from_seed(seed ^ 15));
         sleepers::rounds(self, amounts.rounds / ROUNDS_FOR_A_SLEEPER, &mut Random::from_seed(seed ^ 17));
         conversions::conversions(self, amounts.conversions, &mut Random::from_seed(seed ^ 18));
+        screens::posts_and_turns(self, amounts.screens, &mut Random::from_seed(seed ^ 19));
         self.runs(amounts.runs, seed);
         self.sorts_reached(&Sort::REACHED, amounts.rounds);
         self.sorts_reached(&Sort::REACHED_ABOUT_NAMES, amounts.rounds);
@@ -177,6 +185,7 @@ impl<'a> Campaign<'a> {
         self.sorts_reached(&Sort::REACHED_BY_SUMMARIES, amounts.kept);
         self.sorts_reached(&Sort::REACHED_BY_SLEEPERS, amounts.rounds);
         self.sorts_reached(&Sort::REACHED_BY_CONVERSIONS, amounts.conversions);
+        self.sorts_reached(&Sort::REACHED_BY_SCREENS, amounts.screens);
         self.sorts_reached(&Sort::REACHED_BY_RUNS, amounts.runs);
         self.sorts_reached(&Sort::REACHED_BY_TWO_LISTS, amounts.runs);
         self.reached();
@@ -479,6 +488,10 @@ fn difference(call: &Call, expected: &Outcome, got: &Outcome) -> Option<&'static
         Some("count")
     } else if expected.place != got.place {
         Some("place")
+    } else if expected.state != got.state {
+        Some("state")
+    } else if expected.screen != got.screen {
+        Some("screen")
     } else {
         None
     }

@@ -2,10 +2,11 @@
 //!
 //! Bytes are hexadecimal and `-` is none; other numbers are decimal, masks sixteen hexadecimal digits. The
 //! answer buffer, and that for an owner file or a converted file, hold EE throughout before the call. A mask, a report, a
-//! length or a count that the call leaves alone is shown as 0, the place of a holder as `-` where nobody holds the name.
+//! length, a count or a screen that the call leaves alone is shown as 0, the place of a holder as `-` where nobody holds the
+//! name.
 
 use crate::editions::{holds_in_other_edition, in_other_edition};
-use crate::engine::{Engine, ReportWords, RunWords, Summary, NOBODY};
+use crate::engine::{Engine, ReportWords, RunWords, State, Summary, Turn, NOBODY};
 use crate::layout::{slaves_place, sleepers_of};
 use crate::sorts::tally::Tally;
 use crate::two_lists::{self, TWO};
@@ -22,6 +23,9 @@ const RUN_BEFORE: RunWords = [SENDERS_BEFORE; 8];
 /// A report's five words between two that are not lent, so that a word too many shows.
 type FencedReport = [u64; 7];
 const REPORT_BEFORE: FencedReport = [SENDERS_BEFORE; 7];
+/// A state of screens between two bytes that are not lent, likewise.
+type FencedState = [u8; 35];
+const STATE_BEFORE: FencedState = [FILL; 35];
 const ROUND_KEEPING: &str = "round-keeping";
 const STEP_KEEPING: &str = "step-keeping";
 const TO_EDITION_1: &str = "to-edition-1";
@@ -89,6 +93,19 @@ pub enum Call {
         held: Vec<u8>,
         count: u64,
     },
+    /// The state of screens at the start.
+    Screens,
+    Post {
+        state: State,
+        screen: u8,
+        /// Name, file and record.
+        read: [u8; 3],
+    },
+    Turn {
+        file: Vec<u8>,
+        state: State,
+        answer_length: usize,
+    },
 }
 
 /// Everything a call answers and leaves in lent memory; None is memory that was not lent.
@@ -107,6 +124,9 @@ pub struct Outcome {
     pub held: Option<Vec<u8>>,
     pub count: Option<u64>,
     pub place: Option<u64>,
+    pub state: Option<FencedState>,
+    /// The screen that a turn served.
+    pub screen: Option<u8>,
 }
 
 impl Outcome {
@@ -142,6 +162,22 @@ impl Outcome {
         self.place.filter(|&place| self.number == 0 && place != NOBODY)
     }
 
+    /// The state of screens that was left.
+    pub fn state_left(&self) -> State {
+        *lent_state(&mut self.state.clone())
+    }
+
+    /// The same with this state.
+    pub fn with_state(mut self, state: State) -> Outcome {
+        self.state = Some(fenced(state));
+        self
+    }
+
+    /// What a turn told: the screen served, or `NO_SCREEN`.
+    pub fn served(&self) -> Option<u8> {
+        self.screen.filter(|_| self.number == 0)
+    }
+
     /// Whether a byte of a slave's files is another than before: what lies behind the table, whose bytes tell who sleeps.
     pub fn alters_slaves(&self, before: &[u8]) -> bool {
         let files = slaves_place(before);
@@ -174,6 +210,9 @@ impl Call {
                 Call::Round { .. } => ROUND_KEEPING,
                 _ => STEP_KEEPING,
             },
+            Call::Screens => "screens",
+            Call::Post { .. } => "post",
+            Call::Turn { .. } => "turn",
         }
     }
 
@@ -186,13 +225,16 @@ impl Call {
             | Call::Trace { file, .. }
             | Call::Owner { file, .. }
             | Call::Convert { file, .. }
-            | Call::Fill { file, .. } => Some(file),
+            | Call::Fill { file, .. }
+            | Call::Turn { file, .. } => Some(file),
             Call::Keeping { call, .. } => call.file(),
             Call::Read { .. }
             | Call::Write { .. }
             | Call::Data { .. }
             | Call::Start { .. }
-            | Call::Holder { .. } => None,
+            | Call::Holder { .. }
+            | Call::Screens
+            | Call::Post { .. } => None,
         }
     }
 
@@ -206,7 +248,8 @@ impl Call {
             | Call::Trace { file, .. }
             | Call::Owner { file, .. }
             | Call::Convert { file, .. }
-            | Call::Fill { file, .. } => *file = other,
+            | Call::Fill { file, .. }
+            | Call::Turn { file, .. } => *file = other,
             Call::Keeping { call, .. } => **call = call.on(other)?,
             _ => return None,
         }
@@ -254,6 +297,14 @@ impl Call {
             }
             Call::Holder { held, count, name } => engine.holder(held, *count, *name, lent(&mut outcome.place)),
             Call::Keeping { call, count, .. } => call.make_keeping(engine, *count, &mut outcome),
+            Call::Screens => engine.screens(lent_state(&mut outcome.state)),
+            Call::Post { screen, read, .. } => engine.post(lent_state(&mut outcome.state), *screen, *read),
+            Call::Turn { .. } => engine.turn(
+                lent_bytes(&mut outcome.file),
+                lent_state(&mut outcome.state),
+                lent_bytes(&mut outcome.buffer),
+                Turn { senders: lent(&mut outcome.senders), screen: lent(&mut outcome.screen) },
+            ),
         };
         outcome
     }
@@ -312,6 +363,16 @@ impl Call {
             }
             Call::Holder { .. } => Outcome { place: Some(PLACE_BEFORE), ..nothing },
             Call::Keeping { call, held, .. } => Outcome { held: Some(held.clone()), ..call.before() },
+            Call::Screens => Outcome { state: Some(STATE_BEFORE), ..nothing },
+            Call::Post { state, .. } => nothing.with_state(*state),
+            Call::Turn { file, state, answer_length } => Outcome {
+                senders: Some(SENDERS_BEFORE),
+                file: Some(file.clone()),
+                buffer: answer(*answer_length),
+                screen: Some(FILL),
+                ..nothing
+            }
+            .with_state(*state),
         }
     }
 
@@ -360,6 +421,13 @@ impl Call {
                 format!("{number}")
             }
             Call::Keeping { call, .. } => format!("{} {}", call.result(outcome), after(&outcome.held)),
+            Call::Screens => hex(&outcome.state_left()),
+            Call::Post { .. } => format!("{number} {}", hex(&outcome.state_left())),
+            Call::Turn { .. } => {
+                let screen = outcome.served().unwrap_or(0);
+                let (file, state) = (after(&outcome.file), hex(&outcome.state_left()));
+                format!("{number} {screen} {mask:016X} {file} {state} {}", after(&outcome.buffer))
+            }
         }
     }
 
@@ -415,6 +483,17 @@ impl Call {
             }
             [ROUND_KEEPING, ref words @ .., held, count] => Call::given(held, count, "round", words),
             [STEP_KEEPING, ref words @ .., held, count] => Call::given(held, count, "step", words),
+            ["screens"] => Some(Call::Screens),
+            ["post", state, screen, ref read @ ..] => Some(Call::Post {
+                state: bytes(state)?.try_into().ok()?,
+                screen: screen.parse().ok()?,
+                read: numbers(read)?,
+            }),
+            ["turn", file, state, length] => Some(Call::Turn {
+                file: bytes(file)?,
+                state: bytes(state)?.try_into().ok()?,
+                answer_length: length.parse().ok()?,
+            }),
             _ => None,
         }
     }
@@ -422,7 +501,10 @@ impl Call {
 
 impl fmt::Display for Call {
     fn fmt(&self, out: &mut fmt::Formatter) -> fmt::Result {
-        write!(out, "{} {}", self.kind(), self.arguments())
+        match self {
+            Call::Screens => write!(out, "{}", self.kind()),
+            _ => write!(out, "{} {}", self.kind(), self.arguments()),
+        }
     }
 }
 
@@ -449,6 +531,13 @@ impl Call {
             Call::Fill { file, held } => format!("{} {}", hex(file), hex(held)),
             Call::Holder { held, count, name } => format!("{} {count} {name}", hex(held)),
             Call::Keeping { call, held, count } => format!("{} {} {count}", call.arguments(), hex(held)),
+            Call::Screens => String::new(),
+            Call::Post { state, screen, read } => {
+                format!("{} {screen} {}", hex(state), decimals(read, " "))
+            }
+            Call::Turn { file, state, answer_length } => {
+                format!("{} {} {answer_length}", hex(file), hex(state))
+            }
         }
     }
 }
@@ -532,6 +621,17 @@ fn lent<T>(memory: &mut Option<T>) -> &mut T {
 
 fn lent_report(fenced: &mut Option<FencedReport>) -> &mut ReportWords {
     (&mut lent(fenced)[1..6]).try_into().expect("five words")
+}
+
+/// A state between its two further bytes.
+fn fenced(state: State) -> FencedState {
+    let mut fenced = STATE_BEFORE;
+    fenced[1..34].copy_from_slice(&state);
+    fenced
+}
+
+fn lent_state(fenced: &mut Option<FencedState>) -> &mut State {
+    (&mut lent(fenced)[1..34]).try_into().expect("33 bytes")
 }
 
 fn lent_bytes(memory: &mut Option<Vec<u8>>) -> &mut [u8] {

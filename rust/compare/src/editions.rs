@@ -5,7 +5,7 @@
 
 use crate::case::{Call, Outcome};
 use crate::engine::Engine;
-use model::Edition;
+use model::{check, Edition};
 
 /// The limits of edition 1.
 const NARROW_SLAVES: usize = 32;
@@ -115,7 +115,7 @@ pub fn turned(file: &[u8]) -> Option<Vec<u8>> {
 /// that edition too. None for a call that takes no file, one whose file is turned away, and where edition 1 cannot hold the
 /// file.
 pub fn in_other_edition(call: &Call, outcome: &Outcome) -> Option<(Call, Outcome)> {
-    let file = call.file().filter(|_| !(1..=8).contains(&outcome.number))?;
+    let file = call.file().filter(|file| check(file).is_ok())?;
     let file_after = match &outcome.file {
         Some(left) => Some(turned(left)?),
         None => None,

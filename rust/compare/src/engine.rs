@@ -1,6 +1,6 @@
 //! The calls that outside code makes, each with the lent buffers of the C call and its number as answer.
 
-pub use model::Edition;
+pub use model::{Edition, State};
 
 /// End, index, step, value, rounds, comparisons, and the high and the low half last written.
 pub type RunWords = [u64; 8];
@@ -16,7 +16,16 @@ pub struct Summary<'a> {
 /// The place of a holder where there is none.
 pub const NOBODY: u64 = u64::MAX;
 
-/// One implementation of the fifteen calls. 0 is "carried out", every other number a refusal.
+/// What a turn writes beside file, state and answer.
+pub struct Turn<'a> {
+    pub senders: &'a mut u64,
+    pub screen: &'a mut u8,
+}
+
+/// The screen served where none waited.
+pub const NO_SCREEN: u8 = 8;
+
+/// One implementation of the eighteen calls. 0 is "carried out", every other number a refusal.
 pub trait Engine {
     /// What the comparison says it ran against.
     fn name(&self) -> &'static str;
@@ -56,6 +65,10 @@ pub trait Engine {
         senders: &mut u64,
         summary: Summary,
     ) -> u8;
+    fn screens(&self, state: &mut State) -> u8;
+    /// The read is its name, file and record.
+    fn post(&self, state: &mut State, screen: u8, read: [u8; 3]) -> u8;
+    fn turn(&self, file: &mut [u8], state: &mut State, answer: &mut [u8], told: Turn) -> u8;
 }
 
 /// The documents read as plain Rust.
@@ -161,6 +174,22 @@ impl Engine for Model {
         *run = words_of(&position);
         // A step of an ended run alters nothing, the mask included.
         number(stepped.map(|mask| *senders = mask.unwrap_or(*senders)))
+    }
+
+    fn screens(&self, state: &mut State) -> u8 {
+        *state = model::screens();
+        0
+    }
+
+    fn post(&self, state: &mut State, screen: u8, [name, file, record]: [u8; 3]) -> u8 {
+        number(model::post(state, screen, name, file, record))
+    }
+
+    fn turn(&self, file: &mut [u8], state: &mut State, answer: &mut [u8], told: Turn) -> u8 {
+        number(model::turn(file, state, answer).map(|served| match served {
+            Some(model::Served { screen, senders }) => (*told.screen, *told.senders) = (screen, senders),
+            None => *told.screen = NO_SCREEN,
+        }))
     }
 }
 
@@ -277,6 +306,18 @@ impl Engine for Plain {
     ) -> u8 {
         plain::step_keeping(file, run, names, answer, senders, held, count)
     }
+
+    fn screens(&self, state: &mut State) -> u8 {
+        plain::screens(state)
+    }
+
+    fn post(&self, state: &mut State, screen: u8, [name, file, record]: [u8; 3]) -> u8 {
+        plain::post(state, screen, name, file, record)
+    }
+
+    fn turn(&self, file: &mut [u8], state: &mut State, answer: &mut [u8], told: Turn) -> u8 {
+        plain::turn(file, state, answer, told.senders, told.screen)
+    }
 }
 
 /// The engine as it is linked.
@@ -368,5 +409,17 @@ impl Engine for Library {
         Summary { held, count }: Summary,
     ) -> u8 {
         ttpa::calls::step_keeping(file, run, names, answer, senders, held, count)
+    }
+
+    fn screens(&self, state: &mut State) -> u8 {
+        ttpa::calls::screens(state)
+    }
+
+    fn post(&self, state: &mut State, screen: u8, [name, file, record]: [u8; 3]) -> u8 {
+        ttpa::calls::post(state, screen, name, file, record)
+    }
+
+    fn turn(&self, file: &mut [u8], state: &mut State, answer: &mut [u8], told: Turn) -> u8 {
+        ttpa::calls::turn(file, state, answer, told.senders, told.screen)
     }
 }

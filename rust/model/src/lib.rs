@@ -18,6 +18,7 @@ mod multipartner;
 mod naming;
 mod owner;
 mod round;
+mod screens;
 mod slaves;
 mod summary;
 mod trace;
@@ -35,6 +36,7 @@ pub use listing::listing;
 pub use naming::{start, step, End, Run};
 pub use owner::{owner, senders_of};
 pub use round::{round, Answer, ANSWER_BYTES};
+pub use screens::{post, screens, turn, Served, State, SCREENS, STATE_BYTES};
 pub use summary::{fill, first_holder, holder, round_keeping, step_keeping};
 pub use trace::{encode_trace, trace, Report, MOST_TRACE_BYTES};
 

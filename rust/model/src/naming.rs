@@ -252,7 +252,7 @@ impl Run {
 }
 
 /// What the master sends in one complete round, its epoch aside.
-struct MasterSlaveRound {
+pub(crate) struct MasterSlaveRound {
     name: LogicalName,
     file: FileNumber,
     operation: Operation,
@@ -263,8 +263,11 @@ struct MasterSlaveRound {
 impl MasterSlaveRound {
     /// "read 0x3D record 1 there"
     fn poll(name: LogicalName) -> MasterSlaveRound {
-        let file = FileNumber::DOCUMENTATION;
-        MasterSlaveRound { name, file, operation: Operation::Read, record: RecordNumber(1), data: None }
+        Self::read(name, FileNumber::DOCUMENTATION, RecordNumber(1))
+    }
+
+    pub(crate) fn read(name: LogicalName, file: FileNumber, record: RecordNumber) -> MasterSlaveRound {
+        MasterSlaveRound { name, file, operation: Operation::Read, record, data: None }
     }
 
     fn write(record: u8, data: [u8; 4]) -> MasterSlaveRound {
@@ -287,8 +290,8 @@ impl MasterSlaveRound {
 }
 
 /// The two frames of a round on the cluster, "PB0 being the file's epoch plus 1 modulo 256"; the answer to
-/// the second. Neither can be refused: a listed name is not 0x00, and the frames are whole.
-fn make_round(cluster: &mut Cluster, round: &MasterSlaveRound) -> Answer {
+/// the second. Neither can be refused: a name that is read is not 0x00, and the frames are whole.
+pub(crate) fn make_round(cluster: &mut Cluster, round: &MasterSlaveRound) -> Answer {
     let address = Address {
         epoch: cluster.epoch.wrapping_add(1),
         name: round.name,

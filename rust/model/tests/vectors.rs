@@ -122,6 +122,16 @@ fn vectors_of_request_11_hold() {
 }
 
 #[test]
+fn vectors_of_request_12_hold() {
+    let about_summaries = ["fill", "holder", "round-keeping", "step-keeping"];
+    let about_editions = ["to-edition-1", "to-edition-2"];
+    let about_screens = ["screens", "post", "turn"];
+    let others = ["owner", "step", "trace", "two"];
+    let kinds = [&about_summaries[..], &about_editions, &about_screens, &others].concat();
+    assert_eq!(kinds_that_hold(include_str!("data/request-12.txt")), with(&kinds));
+}
+
+#[test]
 fn cases_of_our_own_hold() {
     assert!(!kinds_that_hold(include_str!("data/cases.txt")).is_empty());
 }

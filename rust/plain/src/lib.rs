@@ -14,6 +14,7 @@ mod multipartner;
 mod naming;
 mod nested;
 mod owner;
+mod screens;
 mod summary;
 mod survey;
 mod trace;
@@ -22,6 +23,7 @@ pub use conversion::{to_edition_1, to_edition_2};
 pub use frames::{read_address, write_address, write_data};
 pub use naming::{start, step};
 pub use owner::owner;
+pub use screens::{post, screens, turn};
 pub use summary::{fill, holder, round_keeping, step_keeping};
 pub use trace::{trace, trace_in_nested_loops};
 

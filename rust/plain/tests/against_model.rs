@@ -70,3 +70,8 @@ fn the_edges_of_two_lists_hold() {
     edges::two_lists::hold(&Plain { nested: false });
     edges::two_lists::hold(&Plain { nested: true });
 }
+
+#[test]
+fn the_edges_of_screens_hold() {
+    edges::screens::hold(&Plain { nested: false });
+}

@@ -4,16 +4,17 @@
 //! slave, has a foreign master try to name slaves by a write, names unnamed slaves until the list of names runs dry and
 //! the last one by a second list, while other rounds go on in between, tells before and after it who holds a name, runs a
 //! captured trace, plans who sends in which slot, has a slot multiplexed, puts the cluster to sleep and wakes it, converts
-//! the file to edition 2 and back, and prints what happened. c/demo.c does the same and prints the same.
+//! the file to edition 2 and back, serves three screens in turn, and prints what happened. c/demo.c does the same and
+//! prints the same.
 
 use std::fs::File;
 use std::io::Read;
 use std::process::ExitCode;
 use ttpa::{
-    to_edition, Address, Edition, End, Owners, Report, Run, Senders, Summary, TtpaError, ANSWER_BYTES,
-    EDITION_1_FILE_BYTES, FILE_CONFIGURATION, FILE_DOCUMENTATION, FIREWORK_MSA, FIREWORK_MSD, FIREWORK_ROUND_2,
-    FRAME_BYTES, MOST_FILE_BYTES, MOST_OWNER_BYTES, NAME_BROADCAST, NAME_UNNAMED, OPERATION_EXECUTE,
-    OPERATION_READ, OPERATION_WRITE, RECORD_SLEEP, WIDENED_BYTES,
+    to_edition, Address, Edition, End, Owners, RecordRead, Report, Run, Screens, Senders, Summary, TtpaError,
+    ANSWER_BYTES, EDITION_1_FILE_BYTES, FILE_CONFIGURATION, FILE_DOCUMENTATION, FIREWORK_MSA, FIREWORK_MSD,
+    FIREWORK_ROUND_2, FRAME_BYTES, MOST_FILE_BYTES, MOST_OWNER_BYTES, NAME_BROADCAST, NAME_UNNAMED,
+    OPERATION_EXECUTE, OPERATION_READ, OPERATION_WRITE, RECORD_SLEEP, WIDENED_BYTES,
 };
 
 const ROUND_2: [u8; 1] = [FIREWORK_ROUND_2];
@@ -29,6 +30,8 @@ const ENTRY_BYTES: usize = 4;
 /// The bytes of a header of edition 1 and of edition 2.
 const HEADER_BYTES: usize = 16;
 const WIDE_HEADER_BYTES: usize = 24;
+/// The screen that posts again as soon as it is served.
+const BUSY_SCREEN: u8 = 2;
 /// Five frames captured on site: round 2; a write of E7 7F 00 00 to record 1 of file 0x10 of slave 01, its data
 /// broken at first (the check byte is D1); and round 2 again. First frame count and data length, then for each
 /// frame offset and length.
@@ -259,6 +262,43 @@ impl Cluster {
         println!("both are {}", if narrowed == self.file { "the same" } else { "not the same" });
         Ok(())
     }
+
+    /// Makes a turn and prints its answer; the screen that was served.
+    fn take_turn(&mut self, screens: &mut Screens) -> Option<u8> {
+        match screens.turn(&mut self.file, &mut self.answer) {
+            Ok(Some(served)) => {
+                self.senders = served.senders;
+                println!("a turn: screen {}", served.screen);
+                self.print_answer();
+                return Some(served.screen);
+            }
+            Ok(None) => println!("a turn: no screen waits"),
+            Err(error) => println!("a turn: {error}"),
+        }
+        None
+    }
+
+    /// Three screens read through the tester. Screen 2 posts again as soon as it is served, in the first four turns, and the
+    /// others have theirs all the same.
+    fn show_screens(&mut self) {
+        let mut screens = Screens::new();
+        println!("screens: accepted");
+        print_verdict("a post of screen 8", post(&mut screens, 8, 0x01));
+        print_verdict("a post of screen 2", post(&mut screens, BUSY_SCREEN, 0x01));
+        print_verdict("a post of screen 2", post(&mut screens, BUSY_SCREEN, 0x01));
+        print_verdict("a post of screen 5", post(&mut screens, 5, 0x03));
+        print_verdict("a post of screen 0", post(&mut screens, 0, 0x02));
+        for turn in 0..6 {
+            if self.take_turn(&mut screens) == Some(BUSY_SCREEN) && turn < 4 {
+                print_verdict("a post of screen 2", post(&mut screens, BUSY_SCREEN, 0x01));
+            }
+        }
+    }
+}
+
+/// A screen posts a read of the serial number of a slave.
+fn post(screens: &mut Screens, screen: u8, name: u8) -> Result<(), TtpaError> {
+    screens.post(screen, &RecordRead { name, file: FILE_DOCUMENTATION, record: 2 })
 }
 
 /// What a tester that knows edition 1 alone says of a file with the right mark: 1 by its length, or 3 by byte 2.
@@ -351,6 +391,7 @@ fn main() -> ExitCode {
     if let Err(error) = cluster.show_editions() {
         println!("a conversion: {error}");
     }
+    cluster.show_screens();
     let mut short = [0; ANSWER_BYTES - 1];
     print_verdict("a short answer buffer", ttpa::round(&mut cluster.file, &ROUND_2, &mut short));
     print_verdict("the file as it is now", ttpa::check(&cluster.file));

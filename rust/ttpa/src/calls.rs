@@ -2,6 +2,8 @@
 //! documents' number. The rest of the crate is built on these; they are public for callers who want to lend every
 //! buffer themselves, and with them the places in what is lent.
 
+use crate::SCREENS_BYTES;
+
 /// The parts of an address frame.
 pub const ADDRESS_PARTS: usize = 5;
 /// Place of the epoch among the parts.
@@ -61,6 +63,9 @@ pub const OWNER_INDEX: usize = 4;
 
 /// The place that [`holder`] writes where nobody holds the name.
 pub const NOBODY: u64 = u64::MAX;
+
+/// The screen that [`turn`] writes where none waited.
+pub const NO_SCREEN: u8 = 8;
 
 mod c {
     extern "C" {
@@ -135,6 +140,17 @@ mod c {
         ) -> u8;
         pub fn ttpa_to_edition_1(file: *const u8, n: usize, out: *mut u8, room: usize, length: *mut u64) -> u8;
         pub fn ttpa_to_edition_2(file: *const u8, n: usize, out: *mut u8, room: usize, length: *mut u64) -> u8;
+        pub fn ttpa_screens(state: *mut u8) -> u8;
+        pub fn ttpa_post(state: *mut u8, screen: u8, name: u8, file: u8, record: u8) -> u8;
+        pub fn ttpa_turn(
+            file: *mut u8,
+            n: usize,
+            state: *mut u8,
+            answer: *mut u8,
+            k: usize,
+            senders: *mut u64,
+            screen: *mut u8,
+        ) -> u8;
     }
 }
 
@@ -291,4 +307,36 @@ pub fn to_edition_1(file: &[u8], out: &mut [u8], length: &mut u64) -> u8 {
 /// Writes a file as one of edition 2: 0, or 1 to 8 or 26.
 pub fn to_edition_2(file: &[u8], out: &mut [u8], length: &mut u64) -> u8 {
     unsafe { c::ttpa_to_edition_2(file.as_ptr(), file.len(), out.as_mut_ptr(), out.len(), length) }
+}
+
+/// Makes the state of screens at the start: always 0.
+pub fn screens(state: &mut [u8; SCREENS_BYTES]) -> u8 {
+    unsafe { c::ttpa_screens(state.as_mut_ptr()) }
+}
+
+/// Posts a read for a screen: 0, or 27, 28, 18 or 14.
+pub fn post(state: &mut [u8; SCREENS_BYTES], screen: u8, name: u8, file: u8, record: u8) -> u8 {
+    unsafe { c::ttpa_post(state.as_mut_ptr(), screen, name, file, record) }
+}
+
+/// Serves the next screen that waits: 0, or 27, 18, 14 or 1 to 9. The screen becomes [`NO_SCREEN`] where none waited, and
+/// nothing else is altered then.
+pub fn turn(
+    file: &mut [u8],
+    state: &mut [u8; SCREENS_BYTES],
+    answer: &mut [u8],
+    senders: &mut u64,
+    screen: &mut u8,
+) -> u8 {
+    unsafe {
+        c::ttpa_turn(
+            file.as_mut_ptr(),
+            file.len(),
+            state.as_mut_ptr(),
+            answer.as_mut_ptr(),
+            answer.len(),
+            senders,
+            screen,
+        )
+    }
 }

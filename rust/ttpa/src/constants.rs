@@ -10,6 +10,8 @@ pub const MOST_SLAVES: usize = 64;
 pub const EDITION_1_SLAVES: usize = 32;
 /// A file of edition 1 has at most this many bytes when it is converted to edition 2.
 pub const WIDENED_BYTES: usize = 41_096;
+/// The bytes of a state of screens.
+pub const SCREENS_BYTES: usize = 33;
 /// An answer buffer has at least this many bytes; a call writes exactly these.
 pub const ANSWER_BYTES: usize = 64;
 /// An address frame and a data frame have this many bytes. The last is the check: the exclusive or of the

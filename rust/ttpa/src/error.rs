@@ -57,6 +57,10 @@ pub enum TtpaError {
     EditionLimits,
     /// 26: the buffer is too short for the converted file.
     ConversionBuffer,
+    /// 27: the screen, or the one last served in the state, is above 7.
+    Screen,
+    /// 28: the screen waits already.
+    ScreenWaiting,
     // .ci/refusals writes to here
     /// A number that this edition of the crate does not know.
     Other(u8),
@@ -64,7 +68,7 @@ pub enum TtpaError {
 
 /// The variants in the order of their numbers, from 1.
 // .ci/refusals writes from here: numbered
-const NUMBERED: [TtpaError; 26] = [
+const NUMBERED: [TtpaError; 28] = [
     TtpaError::FileSize,
     TtpaError::Mark,
     TtpaError::Edition,
@@ -91,6 +95,8 @@ const NUMBERED: [TtpaError; 26] = [
     TtpaError::Summary,
     TtpaError::EditionLimits,
     TtpaError::ConversionBuffer,
+    TtpaError::Screen,
+    TtpaError::ScreenWaiting,
 ];
 // .ci/refusals writes to here
 
@@ -169,6 +175,8 @@ impl TtpaError {
                 "the cluster file does not fit into edition 1, which has at most 32 slaves and 32,768 bytes"
             }
             TtpaError::ConversionBuffer => "the buffer is too short for the converted cluster file",
+            TtpaError::Screen => "the screen, or the screen last served in the stored state, is above 7",
+            TtpaError::ScreenWaiting => "the screen has a read waiting already",
             TtpaError::Other(_) => "refused on a ground that this version has no text for",
             // .ci/refusals writes to here
         }
@@ -232,7 +240,9 @@ mod tests {
         assert_eq!(TtpaError::Summary.number(), 24);
         assert_eq!(TtpaError::EditionLimits.number(), 25);
         assert_eq!(TtpaError::ConversionBuffer.number(), 26);
-        assert_eq!(TtpaError::Other(27).number(), 27);
+        assert_eq!(TtpaError::Screen.number(), 27);
+        assert_eq!(TtpaError::ScreenWaiting.number(), 28);
+        assert_eq!(TtpaError::Other(29).number(), 29);
         // .ci/refusals writes to here
     }
 }

@@ -1,6 +1,6 @@
 //! The TTP/A cluster engine for Rust programs: check a cluster file, read and write frames, carry out
 //! rounds on the file, name its slaves, run captured traces, write the owner file, tell who holds a name, convert the file
-//! between its two editions.
+//! between its two editions, serve the reads of several screens in turn.
 //!
 //! The engine keeps no state, never allocates and always returns. Everything it works on is lent to it for
 //! the time of one call. A call that refuses alters nothing it was lent.
@@ -29,6 +29,7 @@ mod edition;
 mod error;
 mod owner;
 mod run;
+mod screens;
 mod summary;
 mod trace;
 mod version;
@@ -38,6 +39,7 @@ pub use edition::{to_edition, Edition};
 pub use error::TtpaError;
 pub use owner::{owner, Owners, MOST_OWNER_BYTES};
 pub use run::{End, Run};
+pub use screens::{RecordRead, Screens, Served};
 pub use summary::{round_keeping, Summary};
 pub use trace::{trace, Report, MOST_TRACE_BYTES};
 pub use version::{check_version, version, VersionMismatch, VERSION};

@@ -4,8 +4,8 @@
 use compare::campaign::agrees_with_model;
 use compare::case::hold_all;
 use compare::edges;
-use compare::engine::{self, Engine, ReportWords, RunWords, Summary};
-use ttpa::{calls, Address, Edition, End, Report, Run, Senders, TtpaError};
+use compare::engine::{self, Engine, ReportWords, RunWords, State, Summary, Turn};
+use ttpa::{calls, Address, Edition, End, RecordRead, Report, Run, Screens, Senders, Served, TtpaError};
 
 /// The safe functions in the form of the C calls.
 struct Wrapper;
@@ -128,6 +128,29 @@ impl Engine for Wrapper {
         // The C call of an ended run writes no mask.
         number(stepped.map(|Senders(slots)| *mask = if running { slots } else { *mask }))
     }
+
+    fn screens(&self, state: &mut State) -> u8 {
+        *state = Screens::new().bytes();
+        0
+    }
+
+    fn post(&self, state: &mut State, screen: u8, [name, file, record]: [u8; 3]) -> u8 {
+        let mut screens = Screens::from_bytes(*state);
+        let posted = screens.post(screen, &RecordRead { name, file, record });
+        *state = screens.bytes();
+        number(posted)
+    }
+
+    fn turn(&self, file: &mut [u8], state: &mut State, answer: &mut [u8], told: Turn) -> u8 {
+        let mut screens = Screens::from_bytes(*state);
+        let turned = screens.turn(file, answer);
+        *state = screens.bytes();
+        number(turned.map(|served| match served {
+            Some(Served { screen, senders: Senders(slots) }) => (*told.screen, *told.senders) = (screen, slots),
+            // The C call writes no mask where none waited.
+            None => *told.screen = calls::NO_SCREEN,
+        }))
+    }
 }
 
 /// The summary that owns these names; none where there are fewer than the count, or more than a file has slaves. Such a
@@ -162,6 +185,7 @@ fn the_safe_functions_give_the_kept_results() {
         include_str!("../../model/tests/data/request-09.txt"),
         include_str!("../../model/tests/data/request-10.txt"),
         include_str!("../../model/tests/data/request-11.txt"),
+        include_str!("../../model/tests/data/request-12.txt"),
     ] {
         let held = hold_all(&Wrapper, text);
         assert!(held.passed > 0);
@@ -217,4 +241,9 @@ fn the_edges_of_editions_hold() {
 #[test]
 fn the_edges_of_two_lists_hold() {
     edges::two_lists::hold(&Wrapper);
+}
+
+#[test]
+fn the_edges_of_screens_hold() {
+    edges::screens::hold(&Wrapper);
 }

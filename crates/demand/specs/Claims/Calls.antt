@@ -1,6 +1,7 @@
 -- Demand 3 (document 01, "The naming run", third paragraph) over the C calls that a program makes: ttpa_check, ttpa_start and then
--- any list of ttpa_step, ttpa_step_keeping, ttpa_round, ttpa_round_keeping and ttpa_trace, on the bytes of the file and the eight stored
--- words, judged by the numbers returned. What each call does is `ttpa/specs/Rules/Calls`, which the contracts of the C functions cite.
+-- any list of ttpa_step, ttpa_step_keeping, ttpa_round, ttpa_round_keeping, ttpa_trace and ttpa_turn, on the bytes of the file and the
+-- eight stored words, judged by the numbers returned. What each call does is `ttpa/specs/Rules/Calls`, which the contracts of the C
+-- functions cite.
 use Prim.Native.Nat.{ℕ}
 use mathlib.Core.Path.{_≡_}
 use mathlib.Core.List.{List, [], _∷_, _++_, map}
@@ -8,33 +9,39 @@ use mathlib.Core.Bool.{Bool, true, false, cond, not}
 use lib.Dec.{eqb}
 use Rattle.file.specs.Rules.Bytes.{Bytes, All}
 use Rattle.file.specs.Rules.Order.{both}
-use Rattle.file.specs.Rules.Results.{done, numberIn}
+use Rattle.file.specs.Rules.Results.{Result, refused, done, numberIn}
 use Rattle.file.specs.Rules.Decode.{decode}
 use Rattle.cluster.specs.Rules.Grounds.{roundBy}
+use Rattle.cluster.specs.Rules.MasterSlave.{addressSent, dataSent}
 use Rattle.cluster.specs.Rules.Summary.{without, kept}
 use Rattle.trace.specs.Rules.Trace.{framesOf}
 use Rattle.trace.specs.Rules.Run.{sent}
+use Rattle.screens.specs.Rules.Screens.{readOf}
+use Rattle.screens.specs.Rules.Turn.{Turn, idle, served, readSent, turnOn}
 use Rattle.naming.specs.Rules.Account.{argumentsGround, Call, Call.step as stepBy, Call.frame as frameOf}
 use Rattle.naming.specs.Rules.Account.{Named, namesIn, Account, accountOf, accountAfter, comparisonsOf}
 use Rattle.naming.specs.Rules.Figures.{Outcome}
 use Rattle.naming.specs.Rules.Run.{Position}
 use Rattle.naming.specs.Claims.Demand.{State, halfwayAfter, permittedFrame, permitted as permittedByRules}
-use Rattle.ttpa.specs.Rules.Calls.{checkCall, startCall, stepCall, stepKeepingCall, roundCall, roundKeepingCall, traceCall, wordsOf, positionIn}
-use Rattle.demand.specs.Claims.Traces.{CallOrTrace, halfwayFrom, singly}
+use Rattle.ttpa.specs.Rules.Calls.{checkCall, startCall, stepCall, stepKeepingCall, roundCall, roundKeepingCall, traceCall, turnCall}
+use Rattle.ttpa.specs.Rules.Calls.{wordsOf, positionIn}
+use Rattle.demand.specs.Claims.Traces.{CallOrTrace, halfwayFrom, frameCall, singly}
 
 -- a call, by all that it is handed except file, run and names: a step's answer buffer and the senders' word; a frame, the answer
--- buffer and the senders' word; a trace and the report's words. "Every round and naming step may be given the summary" (document 02,
--- job 8): then a slice and a count come last, any slice and any count, and a list may have such calls and others in any order. The other
--- C calls, ttpa_start aside, write neither file nor run: ttpa_fill, ttpa_owner, ttpa_to_edition_1 and ttpa_to_edition_2 only read the file,
--- ttpa_holder reads the slice alone.
+-- buffer and the senders' word; a trace and the report's words; a turn's state, answer buffer, senders' word and screen's byte, each turn
+-- with any state, so also with the one that the last turn or post left. "Every round and naming step may be given the summary" (document
+-- 02, job 8): then a slice and a count come last, any slice and any count, and a list may have such calls and others in any order. The
+-- other C calls, ttpa_start aside, write neither file nor run: ttpa_fill, ttpa_owner, ttpa_to_edition_1 and ttpa_to_edition_2 only read
+-- the file, ttpa_holder reads the slice alone, ttpa_screens and ttpa_post write the state alone.
 pub data CCall : Type 0 where
   ttpaStep : List ℕ → ℕ → CCall
   ttpaStepKeeping : List ℕ → ℕ → List ℕ → ℕ → CCall
   ttpaRound : List ℕ → List ℕ → ℕ → CCall
   ttpaRoundKeeping : List ℕ → List ℕ → ℕ → List ℕ → ℕ → CCall
   ttpaTrace : List ℕ → List ℕ → CCall
+  ttpaTurn : List ℕ → List ℕ → ℕ → ℕ → CCall
 
--- a frame and a trace are bytes
+-- a frame, a trace and a turn's state are bytes
 pub data GivenBytes : CCall → Type 0 where
   given-step : {buffer : List ℕ} {senders : ℕ} → GivenBytes (ttpaStep buffer senders)
   given-step-keeping : {buffer : List ℕ} {senders : ℕ} {held : List ℕ} {count : ℕ} → GivenBytes (ttpaStepKeeping buffer senders held count)
@@ -42,6 +49,7 @@ pub data GivenBytes : CCall → Type 0 where
   given-frame-keeping :
       {bytes buffer : List ℕ} {senders : ℕ} {held : List ℕ} {count : ℕ} → Bytes bytes → GivenBytes (ttpaRoundKeeping bytes buffer senders held count)
   given-trace : {t report : List ℕ} → Bytes t → GivenBytes (ttpaTrace t report)
+  given-turn : {state buffer : List ℕ} {senders screen : ℕ} → Bytes state → GivenBytes (ttpaTurn state buffer senders screen)
 
 -- ---- carried out
 
@@ -57,6 +65,7 @@ returned names m (ttpaStepKeeping buffer senders held count) = stepKeepingCall (
 returned names m (ttpaRound bytes buffer senders) = roundCall (m .file) bytes buffer senders .0
 returned names m (ttpaRoundKeeping bytes buffer senders held count) = roundKeepingCall (m .file) bytes buffer senders held count .0
 returned names m (ttpaTrace t report) = traceCall (m .file) t report .0
+returned names m (ttpaTurn state buffer senders screen) = turnCall (m .file) state buffer senders screen .0
 
 -- and what it leaves there: "each call gets the file as the last call left it, each step also the run as the last step left it and
 -- the unchanged names, and nobody else writes these meanwhile"
@@ -69,6 +78,8 @@ memoryAfter names m (ttpaRound bytes buffer senders) = record { file = roundCall
 memoryAfter names m (ttpaRoundKeeping bytes buffer senders held count) =
     record { file = roundKeepingCall (m .file) bytes buffer senders held count .3; run = m .run }
 memoryAfter names m (ttpaTrace t report) = record { file = traceCall (m .file) t report .2; run = m .run }
+memoryAfter names m (ttpaTurn state buffer senders screen) =
+    record { file = turnCall (m .file) state buffer senders screen .5; run = m .run }
 
 unfoldable pub afterCalls : List ℕ → Memory → List CCall → Memory
 afterCalls names m [] = m
@@ -76,7 +87,18 @@ afterCalls names m (c ∷ cs) = afterCalls names (memoryAfter names m c) cs
 
 -- ---- permitted, h being whether a round of others is half done: its MSA accepted, its MSD still to come
 
--- the frames of a trace, judged as ttpa_round with a buffer of 64 bytes answers them, "sent singly in order"
+-- the frames that a turn sends: if it serves a screen those of "the read round, PB0 as in naming, sent alone on the file as it then is"
+-- (document 02, job 12), an MSA and an MSD; none if it is refused or nobody waits
+unfoldable pub framesServed : List ℕ → List ℕ → Result Turn → List (List ℕ)
+framesServed file state (refused n) = []
+framesServed file state (done idle) = []
+framesServed file state (done (served i mask)) =
+    let read = readSent (readOf state i) in addressSent (decode file) read ∷ dataSent read ∷ []
+
+unfoldable pub turnFrames : List ℕ → List ℕ → List ℕ → List (List ℕ)
+turnFrames file state buffer = framesServed file state (turnOn state file buffer .0)
+
+-- the frames of a trace or a turn, judged as ttpa_round with a buffer of 64 bytes answers them, "sent singly in order"
 unfoldable pub permittedFrames : Bool → List ℕ → List (List ℕ) → Bool
 permittedFrames h file [] = true
 permittedFrames h file (x ∷ xs) =
@@ -84,13 +106,14 @@ permittedFrames h file (x ∷ xs) =
     both (cond (eqb (numberIn (sent file x .0)) 0) (permittedFrame h (roundBy x) x) true) rest
 
 -- a call that returns 0: "A complete round is an accepted MSA followed directly, refused calls aside, by an accepted MSD, or a
--- multipartner frame"; a step stands within no such round
+-- multipartner frame"; a step stands within no such round, and a turn that serves a screen is one (`Claims/Turns` TurnsFit, NoTurnWithin)
 unfoldable pub permittedCall : Bool → Memory → CCall → Bool
 permittedCall h m (ttpaStep buffer senders) = not h
 permittedCall h m (ttpaStepKeeping buffer senders held count) = not h
 permittedCall h m (ttpaRound bytes buffer senders) = permittedFrame h (roundBy bytes) bytes
 permittedCall h m (ttpaRoundKeeping bytes buffer senders held count) = permittedFrame h (roundBy bytes) bytes
 permittedCall h m (ttpaTrace t report) = permittedFrames h (m .file) (framesOf t)
+permittedCall h m (ttpaTurn state buffer senders screen) = permittedFrames h (m .file) (turnFrames (m .file) state buffer)
 
 -- whether a round of others is half done after it
 unfoldable pub halfwayOn : Bool → Memory → CCall → Bool
@@ -99,6 +122,7 @@ halfwayOn h m (ttpaStepKeeping buffer senders held count) = h
 halfwayOn h m (ttpaRound bytes buffer senders) = halfwayAfter h (done 0) (roundBy bytes)
 halfwayOn h m (ttpaRoundKeeping bytes buffer senders held count) = halfwayAfter h (done 0) (roundBy bytes)
 halfwayOn h m (ttpaTrace t report) = halfwayFrom h (m .file) (framesOf t)
+halfwayOn h m (ttpaTurn state buffer senders screen) = halfwayFrom h (m .file) (turnFrames (m .file) state buffer)
 
 -- "every list of steps, permitted rounds .. and refused steps and frames": each judged where it comes, one that returns another
 -- number than 0 being permitted and changing nothing, and no round left half done
@@ -111,8 +135,8 @@ permitted h names m (c ∷ cs) =
 
 -- ---- the account
 
--- the calls that it is fed: "each call's arguments other than file, run and names", a summary among them; a trace is others' rounds, which
--- "change nothing here"
+-- the calls that it is fed: "each call's arguments other than file, run and names", a summary among them; a trace and a turn are others'
+-- rounds, which "change nothing here"
 unfoldable pub callsFed : List CCall → List Call
 callsFed [] = []
 callsFed (ttpaStep buffer senders ∷ cs) = stepBy (record { summary = without; buffer = buffer }) ∷ callsFed cs
@@ -121,6 +145,7 @@ callsFed (ttpaRound bytes buffer senders ∷ cs) = frameOf (record { summary = w
 callsFed (ttpaRoundKeeping bytes buffer senders held count ∷ cs) =
     frameOf (record { summary = kept count held; bytes = bytes; buffer = buffer }) ∷ callsFed cs
 callsFed (ttpaTrace t report ∷ cs) = callsFed cs
+callsFed (ttpaTurn state buffer senders screen ∷ cs) = callsFed cs
 
 -- the slaves' names in a file, and the account after the calls
 abbrev pub slavesIn : List ℕ → List Named
@@ -189,20 +214,29 @@ pub data IsStep : CCall → Type 0 where
 abbrev pub StepsPermitted : Type 0
 StepsPermitted = (names : List ℕ) (m : Memory) (calls : List CCall) → All IsStep calls → permitted false names m calls ≡ true
 
--- And the lists permitted are exactly those that demand 3 permits over files and positions, so rounds and traces too: the memory that
--- holds a file and a position, and the calls without the words that they write.
+-- And the lists permitted are exactly those that demand 3 permits over files and positions, so rounds, traces and turns too: the memory
+-- that holds a file and a position, and the calls without the words that they write, a turn being the frames that it sends on the file.
 abbrev pub memoryOf : State → Position → Memory
 memoryOf s p = record { file = s .file; run = wordsOf p }
 
-unfoldable pub argumentsOf : CCall → CallOrTrace
-argumentsOf (ttpaStep buffer senders) = CallOrTrace.call (stepBy (record { summary = without; buffer = buffer }))
-argumentsOf (ttpaStepKeeping buffer senders held count) = CallOrTrace.call (stepBy (record { summary = kept count held; buffer = buffer }))
-argumentsOf (ttpaRound bytes buffer senders) = CallOrTrace.call (frameOf (record { summary = without; bytes = bytes; buffer = buffer }))
-argumentsOf (ttpaRoundKeeping bytes buffer senders held count) =
-    CallOrTrace.call (frameOf (record { summary = kept count held; bytes = bytes; buffer = buffer }))
-argumentsOf (ttpaTrace t report) = CallOrTrace.trace t
+unfoldable pub argumentsOf : List ℕ → CCall → List CallOrTrace
+argumentsOf file (ttpaStep buffer senders) = CallOrTrace.call (stepBy (record { summary = without; buffer = buffer })) ∷ []
+argumentsOf file (ttpaStepKeeping buffer senders held count) =
+    CallOrTrace.call (stepBy (record { summary = kept count held; buffer = buffer })) ∷ []
+argumentsOf file (ttpaRound bytes buffer senders) =
+    CallOrTrace.call (frameOf (record { summary = without; bytes = bytes; buffer = buffer })) ∷ []
+argumentsOf file (ttpaRoundKeeping bytes buffer senders held count) =
+    CallOrTrace.call (frameOf (record { summary = kept count held; bytes = bytes; buffer = buffer })) ∷ []
+argumentsOf file (ttpaTrace t report) = CallOrTrace.trace t ∷ []
+argumentsOf file (ttpaTurn state buffer senders screen) =
+    map (λ (x : List ℕ). CallOrTrace.call (frameCall x)) (turnFrames file state buffer)
+
+-- each on the file as it then is
+unfoldable pub argumentsOfAll : List ℕ → Memory → List CCall → List CallOrTrace
+argumentsOfAll names m [] = []
+argumentsOfAll names m (c ∷ cs) = argumentsOf (m .file) c ++ argumentsOfAll names (memoryAfter names m c) cs
 
 abbrev pub SamePermitted : Type 0
 SamePermitted =
     (names : List ℕ) (s : State) (p : Position) (calls : List CCall) →
-    permitted (s .halfway) names (memoryOf s p) calls ≡ permittedByRules names s p (singly (map argumentsOf calls))
+    permitted (s .halfway) names (memoryOf s p) calls ≡ permittedByRules names s p (singly (argumentsOfAll names (memoryOf s p) calls))

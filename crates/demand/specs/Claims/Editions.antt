@@ -13,13 +13,15 @@ use Rattle.file.specs.Rules.Decode.{decode}
 use Rattle.file.specs.Rules.Editions.{inEdition, exceeds}
 use Rattle.cluster.specs.Claims.Editions.{Convertible}
 use Rattle.naming.specs.Rules.Run.{bits}
-use Rattle.ttpa.specs.Rules.Calls.{checkCall, startCall, stepCall, stepKeepingCall, roundCall, roundKeepingCall, traceCall, ownerCall, convertCall, fillCall, positionIn}
+use Rattle.ttpa.specs.Rules.Calls.{checkCall, startCall, stepCall, stepKeepingCall, roundCall, roundKeepingCall, traceCall, turnCall}
+use Rattle.ttpa.specs.Rules.Calls.{ownerCall, convertCall, fillCall, positionIn}
 use Rattle.demand.specs.Claims.Calls.{CCall, GivenBytes, Memory, returned, memoryAfter, afterCalls, permittedCall, halfwayOn, permitted, TakenByRounds, CallsDemand, started}
 
 -- ---- each call
 
 -- the number returned and all lent memory are the same, but for the file, which is the converted form of the one that the call leaves on
--- the file itself. The calls that take no file are the three of frames, ttpa_start, ttpa_holder and ttpa_version.
+-- the file itself. The calls that take no file are the three of frames, ttpa_start, ttpa_holder, ttpa_screens, ttpa_post
+-- and ttpa_version.
 pub record CallsAlike (f : List ℕ) (e : ℕ) : Type 0 where
   pub check : checkCall (inEdition f e) ≡ checkCall f
   pub round :
@@ -61,6 +63,16 @@ pub record CallsAlike (f : List ℕ) (e : ℕ) : Type 0 where
   pub trace :
       (t report : List ℕ) → Bytes t →
       traceCall (inEdition f e) t report ≡ (traceCall f t report .0, traceCall f t report .1, inEdition (traceCall f t report .2) e)
+  pub turn :
+      (state answer : List ℕ) (senders screen : ℕ) → Bytes state →
+      turnCall (inEdition f e) state answer senders screen ≡ (
+        turnCall f state answer senders screen .0,
+        turnCall f state answer senders screen .1,
+        turnCall f state answer senders screen .2,
+        turnCall f state answer senders screen .3,
+        turnCall f state answer senders screen .4,
+        inEdition (turnCall f state answer senders screen .5) e,
+      )
   pub owner : (master : ℕ) (buffer : List ℕ) (length : ℕ) → ownerCall (inEdition f e) master buffer length ≡ ownerCall f master buffer length
   -- to either edition
   pub convert : (d : ℕ) (out : List ℕ) (length : ℕ) → convertCall d (inEdition f e) out length ≡ convertCall d f out length
@@ -96,32 +108,32 @@ ListsConverted =
 -- ---- conversions in mid-run
 
 -- a call, or a conversion: from there on the file is its form in that edition
-pub data Turn : Type 0 where
-  call : CCall → Turn
-  convert : ℕ → Turn
+pub data CallOrConversion : Type 0 where
+  call : CCall → CallOrConversion
+  convert : ℕ → CallOrConversion
 
-unfoldable pub afterTurns : List ℕ → Memory → List Turn → Memory
-afterTurns names m [] = m
-afterTurns names m (call c ∷ ts) = afterTurns names (memoryAfter names m c) ts
-afterTurns names m (convert e ∷ ts) = afterTurns names (converted m e) ts
+unfoldable pub afterConverting : List ℕ → Memory → List CallOrConversion → Memory
+afterConverting names m [] = m
+afterConverting names m (call c ∷ cs) = afterConverting names (memoryAfter names m c) cs
+afterConverting names m (convert e ∷ cs) = afterConverting names (converted m e) cs
 
 -- permitted as the calls are: a conversion is no call of the run, and may come between the frames of a round
-unfoldable pub permittedTurns : Bool → List ℕ → Memory → List Turn → Bool
-permittedTurns h names m [] = not h
-permittedTurns h names m (call c ∷ ts) =
+unfoldable pub permittedConverting : Bool → List ℕ → Memory → List CallOrConversion → Bool
+permittedConverting h names m [] = not h
+permittedConverting h names m (call c ∷ cs) =
     let carried = eqb (returned names m c) 0 in
-    let rest = permittedTurns (cond carried (halfwayOn h m c) h) names (memoryAfter names m c) ts in
+    let rest = permittedConverting (cond carried (halfwayOn h m c) h) names (memoryAfter names m c) cs in
     both (cond carried (permittedCall h m c) true) rest
-permittedTurns h names m (convert e ∷ ts) = permittedTurns h names (converted m e) ts
+permittedConverting h names m (convert e ∷ cs) = permittedConverting h names (converted m e) cs
 
 -- the calls among them
-unfoldable pub callsAmong : List Turn → List CCall
+unfoldable pub callsAmong : List CallOrConversion → List CCall
 callsAmong [] = []
-callsAmong (call c ∷ ts) = c ∷ callsAmong ts
-callsAmong (convert e ∷ ts) = callsAmong ts
+callsAmong (call c ∷ cs) = c ∷ callsAmong cs
+callsAmong (convert e ∷ cs) = callsAmong cs
 
--- frames and traces are bytes, and an edition that is converted to is one that there is and has room for the file
-pub data Fitting (file : List ℕ) : Turn → Type 0 where
+-- frames, traces and a turn's state are bytes, and an edition that is converted to is one that there is and has room for the file
+pub data Fitting (file : List ℕ) : CallOrConversion → Type 0 where
   of-call : {c : CCall} → GivenBytes c → Fitting file (call c)
   of-conversion : {e : ℕ} → OffsetWidth (widthIn e) → exceeds (widthIn e) (decode file .slaves) ≡ false → Fitting file (convert e)
 
@@ -129,5 +141,5 @@ pub data Fitting (file : List ℕ) : Turn → Type 0 where
 abbrev pub CallsDemandConverted : Type 0
 CallsDemandConverted =
     (file : List ℕ) → Bytes file → TakenByRounds file → (names : List ℕ) → Bytes names → (run : List ℕ) → startCall names run .0 ≡ 0 →
-    (turns : List Turn) → All (Fitting file) turns → permittedTurns false names (started file names run) turns ≡ true →
-    CallsDemand file names (callsAmong turns) (afterTurns names (started file names run) turns)
+    (calls : List CallOrConversion) → All (Fitting file) calls → permittedConverting false names (started file names run) calls ≡ true →
+    CallsDemand file names (callsAmong calls) (afterConverting names (started file names run) calls)

@@ -1,6 +1,6 @@
 -- "An accepted MSA sets the epoch to PB0 and becomes pending until the next one" (document 01, "What slaves do"), over every list of
--- calls: naming steps, frames and traces, one after the other on a file and a run. (`cluster/specs/Claims/Pending` has that it becomes
--- pending, and the same of frames alone.)
+-- calls: naming steps, frames, traces and turns, one after the other on a file and a run. (`cluster/specs/Claims/Pending` has that it
+-- becomes pending, and the same of frames alone.)
 use Prim.Native.Nat.{ℕ}
 use mathlib.Core.Path.{_≡_}
 use mathlib.Core.List.{List, [], _∷_}
@@ -13,6 +13,7 @@ use Rattle.naming.specs.Rules.Step.{stepKeepingGround}
 use Rattle.naming.specs.Rules.Account.{StepArguments, FrameArguments, Call, step, frame}
 use Rattle.naming.specs.Claims.Demand.{State, startOn, callOn}
 use Rattle.demand.specs.Claims.Traces.{CallOrTrace, AllBytes, singly, afterAll}
+use Rattle.demand.specs.Claims.Calls.{CCall, GivenBytes, afterCalls, memoryOf, argumentsOfAll}
 
 -- no MSA is accepted in a call. A step of a running position sends an MSA of its own, so this is a step that is refused, or of an ended
 -- run.
@@ -36,4 +37,12 @@ abbrev pub CallsStayPending : Type 0
 CallsStayPending =
     (file names : List ℕ) (p : Position) (calls : List CallOrTrace) → Bytes file → All AllBytes calls → NoMsaAmong names (startOn file) p (singly calls) →
     Pending (decode (afterAll names (startOn file) p calls .0 .file))
+    (decode file .flag) (decode file .pendingName) (decode file .pendingPB2) (decode file .pendingPB3)
+
+-- and so over the C calls, of which a turn that serves a screen sends an MSA
+abbrev pub CCallsStayPending : Type 0
+CCallsStayPending =
+    (file names : List ℕ) (p : Position) (calls : List CCall) → Bytes file → All GivenBytes calls →
+    NoMsaAmong names (startOn file) p (singly (argumentsOfAll names (memoryOf (startOn file) p) calls)) →
+    Pending (decode (afterCalls names (memoryOf (startOn file) p) calls .file))
     (decode file .flag) (decode file .pendingName) (decode file .pendingPB2) (decode file .pendingPB3)

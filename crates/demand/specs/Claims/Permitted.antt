@@ -16,13 +16,15 @@ use Rattle.naming.specs.Claims.Permitted.{PermittedList}
 use Rattle.naming.specs.Claims.PermittedRounds.{PermittedFrom, IsStep as IsStepByRules, Rounds, SentBy}
 use Rattle.ttpa.specs.Rules.Calls.{startCall}
 use Rattle.demand.specs.Claims.Traces.{CallOrTrace, singly}
-use Rattle.demand.specs.Claims.Calls.{CCall, ttpaTrace, GivenBytes, permitted, TakenByRounds, started, IsStep, argumentsOf}
+use Rattle.demand.specs.Claims.Calls.{CCall, ttpaTrace, GivenBytes, permitted, TakenByRounds, afterCalls, started, IsStep, Memory}
+use Rattle.demand.specs.Claims.Calls.{argumentsOfAll}
 
 -- a list of C calls, made after a ttpa_start that returns 0, is permitted if and only if the calls that it stands for are such a list
 abbrev pub CallsPermittedExactly : Type 0
 CallsPermittedExactly =
     (file names run : List ℕ) → startCall names run .0 ≡ 0 → (calls : List CCall) → All GivenBytes calls →
-    (permitted false names (started file names run) calls ≡ true) ↔ PermittedList names file (fresh names) (singly (map argumentsOf calls))
+    (permitted false names (started file names run) calls ≡ true) ↔
+    PermittedList names file (fresh names) (singly (argumentsOfAll names (started file names run) calls))
 
 -- a trace of permitted rounds, "the whole at most 16,384 bytes", fits after any permitted calls and traces and before any steps
 abbrev pub TraceFits : Type 0
@@ -31,17 +33,19 @@ TraceFits =
     (frames : List (List ℕ)) → Rounds frames → length (encodeTrace frames) ≤ maxTrace → (ds : List Call) → All IsStepByRules ds →
     permittedByRules names (startOn file) (fresh names) (singly (calls ++ CallOrTrace.trace (encodeTrace frames) ∷ map CallOrTrace.call ds)) ≡ true
 
--- and over the C calls: permitted rounds, their frames sent by ttpa_round with buffers that are long enough or by ttpa_trace, among calls
--- with summaries and without. (`Claims/Summary` has that ttpa_round_keeping with a summary that matches is permitted where these are.)
+-- and over the C calls: permitted rounds, their frames sent by ttpa_round with buffers that are long enough, by ttpa_trace or by ttpa_turn,
+-- among calls with summaries and without. (`Claims/Summary` has that ttpa_round_keeping with a summary that matches is permitted where
+-- these are.)
 abbrev pub RoundsFitCalls : Type 0
 RoundsFitCalls =
     (file : List ℕ) → Bytes file → TakenByRounds file → (names : List ℕ) → Bytes names → (run : List ℕ) → startCall names run .0 ≡ 0 →
     (cs : List CCall) → All GivenBytes cs → permitted false names (started file names run) cs ≡ true →
-    (frames : List (List ℕ)) → Rounds frames → (rs : List CCall) → SentBy frames (singly (map argumentsOf rs)) → (ds : List CCall) → All IsStep ds →
+    (frames : List (List ℕ)) → Rounds frames → (rs : List CCall) →
+    SentBy frames (singly (argumentsOfAll names (afterCalls names (started file names run) cs) rs)) → (ds : List CCall) → All IsStep ds →
     permitted false names (started file names run) (cs ++ (rs ++ ds)) ≡ true
 
 -- a trace of permitted rounds so sends their frames
 abbrev pub TraceSends : Type 0
 TraceSends =
-    (frames : List (List ℕ)) → Rounds frames → length (encodeTrace frames) ≤ maxTrace → (report : List ℕ) →
-    SentBy frames (singly (map argumentsOf (ttpaTrace (encodeTrace frames) report ∷ [])))
+    (frames : List (List ℕ)) → Rounds frames → length (encodeTrace frames) ≤ maxTrace → (report names : List ℕ) (m : Memory) →
+    SentBy frames (singly (argumentsOfAll names m (ttpaTrace (encodeTrace frames) report ∷ [])))

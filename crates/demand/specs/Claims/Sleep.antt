@@ -4,7 +4,7 @@
 use Prim.Native.Nat.{ℕ, _^_, _<_}
 use mathlib.Core.Path.{_≡_}
 use mathlib.Core.Logic.{_≢_}
-use mathlib.Core.List.{List, [], _∷_, _++_, map}
+use mathlib.Core.List.{List, [], _∷_, _++_}
 use mathlib.Core.Bool.{true, false}
 use Rattle.file.specs.Rules.Bytes.{Bytes, All}
 use Rattle.frame.specs.Rules.Fireworks.{msa}
@@ -19,7 +19,9 @@ use Rattle.naming.specs.Rules.Account.{StepArguments, FrameArguments, Call, ste
 use Rattle.naming.specs.Claims.Demand.{State, startOn, callOn}
 use Rattle.naming.specs.Claims.Sleep.{Wakes}
 use Rattle.ttpa.specs.Rules.Calls.{startCall, positionIn}
-use Rattle.demand.specs.Claims.Calls.{CCall, ttpaRound, ttpaRoundKeeping, ttpaTrace, GivenBytes, Memory, returned, memoryAfter, afterCalls, permitted, TakenByRounds, started, IsStep, memoryOf, argumentsOf}
+use Rattle.demand.specs.Claims.Calls.{CCall, ttpaRound, ttpaRoundKeeping, ttpaTrace, ttpaTurn, turnFrames, GivenBytes, Memory}
+use Rattle.demand.specs.Claims.Calls.{returned, memoryAfter, afterCalls, permitted, TakenByRounds, started, IsStep, memoryOf}
+use Rattle.demand.specs.Claims.Calls.{argumentsOfAll}
 use Rattle.demand.specs.Claims.Traces.{singly}
 
 -- ---- the lists of demand 3
@@ -29,7 +31,8 @@ pub data SomeWakes : List ℕ → List (List ℕ) → Type 0 where
   thisOne : {file x : List ℕ} {xs : List (List ℕ)} → sentGround file x ≡ 0 → roundBy x ≢ msa → SomeWakes file (x ∷ xs)
   laterOne : {file x : List ℕ} {xs : List (List ℕ)} → SomeWakes (sent file x .2) xs → SomeWakes file (x ∷ xs)
 
--- a call that wakes all if it returns 0: a step of a running position; a frame that is no MSA; a trace with such a frame
+-- a call that wakes all if it returns 0: a step of a running position; a frame that is no MSA; a trace or a turn that
+-- sends such a frame, as each turn does that serves a screen (`Claims/Turns` ServedTurnsWake)
 pub data MayWake (m : Memory) : CCall → Type 0 where
   byStep : {c : CCall} → IsStep c → positionIn (m .run) .end ≡ running → MayWake m c
   byRound : {bytes buffer : List ℕ} {senders : ℕ} → roundBy bytes ≢ msa → MayWake m (ttpaRound bytes buffer senders)
@@ -37,6 +40,9 @@ pub data MayWake (m : Memory) : CCall → Type 0 where
       {bytes buffer : List ℕ} {senders : ℕ} {held : List ℕ} {count : ℕ} → roundBy bytes ≢ msa →
       MayWake m (ttpaRoundKeeping bytes buffer senders held count)
   byTrace : {t report : List ℕ} → SomeWakes (m .file) (framesOf t) → MayWake m (ttpaTrace t report)
+  byTurn :
+      {state buffer : List ℕ} {senders screen : ℕ} → SomeWakes (m .file) (turnFrames (m .file) state buffer) →
+      MayWake m (ttpaTurn state buffer senders screen)
 
 -- all are awake at the start of the calls, or are woken by one of them
 pub data WokenByCalls (names : List ℕ) : Memory → List CCall → Type 0 where
@@ -90,5 +96,5 @@ pub data AwakeToEnd (names : List ℕ) : State → Position → List Call → Ty
 abbrev pub CCallsWake : Type 0
 CCallsWake =
     (file names : List ℕ) (p : Position) (calls : List CCall) → Bytes file → Bytes names → p .value < 2 ^ bits → All GivenBytes calls →
-    AwakeToEnd names (startOn file) p (singly (map argumentsOf calls)) →
+    AwakeToEnd names (startOn file) p (singly (argumentsOfAll names (memoryOf (startOn file) p) calls)) →
     AllAwake (afterCalls names (memoryOf (startOn file) p) calls .file)

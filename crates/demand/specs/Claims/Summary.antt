@@ -17,7 +17,7 @@ use Rattle.cluster.specs.Claims.Renaming.{namesOf}
 use Rattle.cluster.specs.Claims.Summary.{Matches, LeavesRest, FirstAt}
 use Rattle.naming.specs.Rules.Run.{bits}
 use Rattle.ttpa.specs.Rules.Calls.{positionIn, roundCall, stepCall, fillCall, nobodyPlace, placeOf, holderCall, roundKeepingCall, stepKeepingCall}
-use Rattle.demand.specs.Claims.Calls.{CCall, ttpaStep, ttpaStepKeeping, ttpaRound, ttpaRoundKeeping, ttpaTrace}
+use Rattle.demand.specs.Claims.Calls.{CCall, ttpaStep, ttpaStepKeeping, ttpaRound, ttpaRoundKeeping, ttpaTrace, ttpaTurn}
 use Rattle.demand.specs.Claims.Calls.{GivenBytes, Memory, returned, memoryAfter, afterCalls, permitted, TakenByRounds}
 
 -- ---- from the filling to the question
@@ -47,8 +47,9 @@ unfoldable pub allMade : ℕ → List ℕ → List ℕ → List Made → List �
 allMade count file held [] = (file, held)
 allMade count file held (c ∷ cs) = let r = madeOn count file held c in allMade count (r .0) (r .1) cs
 
--- frames, traces and names are bytes, and a run's value is one of 64 bits; of a call that is given the summary no more is asked. One that is
--- not leaves every logical name, as each does that does not baptize (`Claims/Renaming` CCallsRenameNobody).
+-- frames, traces, a turn's state and names are bytes, and a run's value is one of 64 bits; of a call that is given the summary no more is
+-- asked. One that is not leaves every logical name, as each does that does not baptize (`Claims/Renaming` CCallsRenameNobody). Of a turn that
+-- is not asked: it only reads (`screens/specs/Claims/Turns` TurnRenamesNobody).
 pub data Keeps (file : List ℕ) : Made → Type 0 where
   inRound : {bytes buffer : List ℕ} {senders : ℕ} → Bytes bytes → Keeps file (keepingRound bytes buffer senders)
   inStep :
@@ -56,6 +57,9 @@ pub data Keeps (file : List ℕ) : Made → Type 0 where
   inOther :
       {run names : List ℕ} {c : CCall} → Bytes names → positionIn run .value < 2 ^ bits → GivenBytes c →
       namesOf (otherFile file run names c) ≡ namesOf file → Keeps file (other run names c)
+  inTurn :
+      {run names state buffer : List ℕ} {senders screen : ℕ} → Bytes state →
+      Keeps file (other run names (ttpaTurn state buffer senders screen))
 
 -- each on the file and the slice as they then are
 pub data AllKeep (count : ℕ) : List ℕ → List ℕ → List Made → Type 0 where
@@ -133,6 +137,7 @@ pub data GivenRight (file : List ℕ) : CCall → Type 0 where
   stepWithout : {buffer : List ℕ} {senders : ℕ} → GivenRight file (ttpaStep buffer senders)
   roundWithout : {bytes buffer : List ℕ} {senders : ℕ} → GivenRight file (ttpaRound bytes buffer senders)
   traceWithout : {t report : List ℕ} → GivenRight file (ttpaTrace t report)
+  turnWithout : {state buffer : List ℕ} {senders screen : ℕ} → GivenRight file (ttpaTurn state buffer senders screen)
   stepMatching :
       {buffer : List ℕ} {senders : ℕ} {held : List ℕ} {count : ℕ} → Matches file (kept count held) →
       GivenRight file (ttpaStepKeeping buffer senders held count)
@@ -154,6 +159,7 @@ withoutSummary (ttpaStepKeeping buffer senders held count) = ttpaStep buffer sen
 withoutSummary (ttpaRound bytes buffer senders) = ttpaRound bytes buffer senders
 withoutSummary (ttpaRoundKeeping bytes buffer senders held count) = ttpaRound bytes buffer senders
 withoutSummary (ttpaTrace t report) = ttpaTrace t report
+withoutSummary (ttpaTurn state buffer senders screen) = ttpaTurn state buffer senders screen
 
 -- the numbers that calls return, one after the other
 unfoldable pub numbers : List ℕ → Memory → List CCall → List ℕ

@@ -14,7 +14,7 @@ use Rattle.naming.specs.Rules.Run.{Position, running}
 use Rattle.naming.specs.Rules.Figures.{roundsFor, endFor}
 use Rattle.naming.specs.Claims.TwoLists.{NoCommon, SecondRun, RunsTogether}
 use Rattle.ttpa.specs.Rules.Calls.{startCall, positionIn}
-use Rattle.demand.specs.Claims.Calls.{CCall, ttpaStep, ttpaStepKeeping, ttpaRound, ttpaRoundKeeping, ttpaTrace, GivenBytes}
+use Rattle.demand.specs.Claims.Calls.{CCall, ttpaStep, ttpaStepKeeping, ttpaRound, ttpaRoundKeeping, ttpaTrace, ttpaTurn, GivenBytes}
 use Rattle.demand.specs.Claims.Calls.{Memory, returned, memoryAfter, afterCalls, permitted, slavesIn, TakenByRounds, started}
 
 -- the file that the calls after ttpa_start leave, and the position in the run's words
@@ -62,6 +62,7 @@ stepTaken names m (ttpaStepKeeping buffer senders held count) =
 stepTaken names m (ttpaRound bytes buffer senders) = 0
 stepTaken names m (ttpaRoundKeeping bytes buffer senders held count) = 0
 stepTaken names m (ttpaTrace t report) = 0
+stepTaken names m (ttpaTurn state buffer senders screen) = 0
 
 -- how many of the calls are such steps, those after the run's end too
 unfoldable pub stepsTaken : List ℕ → Memory → List CCall → ℕ

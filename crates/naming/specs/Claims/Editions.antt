@@ -86,48 +86,48 @@ AllCallsConverted =
 -- ---- conversions in mid-run
 
 -- a call, or a conversion of the file to an edition
-pub data Turn : Type 0 where
-  call : Call → Turn
-  convert : ℕ → Turn
+pub data CallOrConversion : Type 0 where
+  call : Call → CallOrConversion
+  convert : ℕ → CallOrConversion
 
-unfoldable pub afterTurns : List ℕ → State → Position → List Turn → State × Position
-afterTurns names s p [] = (s, p)
-afterTurns names s p (call c ∷ ts) = afterTurns names (callOn names s p c .0) (callOn names s p c .1) ts
-afterTurns names s p (convert e ∷ ts) = afterTurns names (converted s e) p ts
+unfoldable pub afterConverting : List ℕ → State → Position → List CallOrConversion → State × Position
+afterConverting names s p [] = (s, p)
+afterConverting names s p (call c ∷ ts) = afterConverting names (callOn names s p c .0) (callOn names s p c .1) ts
+afterConverting names s p (convert e ∷ ts) = afterConverting names (converted s e) p ts
 
 -- permitted as the calls are: a conversion is no call of the run, and may come between the frames of a round
-unfoldable pub permittedTurns : List ℕ → State → Position → List Turn → Bool
-permittedTurns names s p [] = not (s .halfway)
-permittedTurns names s p (call c ∷ ts) =
-    let rest = permittedTurns names (callOn names s p c .0) (callOn names s p c .1) ts in both (permittedCall names s p c) rest
-permittedTurns names s p (convert e ∷ ts) = permittedTurns names (converted s e) p ts
+unfoldable pub permittedConverting : List ℕ → State → Position → List CallOrConversion → Bool
+permittedConverting names s p [] = not (s .halfway)
+permittedConverting names s p (call c ∷ ts) =
+    let rest = permittedConverting names (callOn names s p c .0) (callOn names s p c .1) ts in both (permittedCall names s p c) rest
+permittedConverting names s p (convert e ∷ ts) = permittedConverting names (converted s e) p ts
 
 -- the calls among them
-unfoldable pub callsAmong : List Turn → List Call
+unfoldable pub callsAmong : List CallOrConversion → List Call
 callsAmong [] = []
 callsAmong (call c ∷ ts) = c ∷ callsAmong ts
 callsAmong (convert e ∷ ts) = callsAmong ts
 
 -- frames are bytes, and an edition that is converted to is one that there is and has room for the file
-pub data Fitting (file : List ℕ) : Turn → Type 0 where
+pub data Fitting (file : List ℕ) : CallOrConversion → Type 0 where
   of-call : {c : Call} → OfBytes c → Fitting file (call c)
   of-conversion : {e : ℕ} → OffsetWidth (widthIn e) → exceeds (widthIn e) (decode file .slaves) ≡ false → Fitting file (convert e)
 
 -- run and permission are those of the calls alone, and so are the bytes of the file, back in its own edition
-pub record TurnsConverted (names : List ℕ) (s : State) (p : Position) (turns : List Turn) : Type 0 where
-  pub run : afterTurns names s p turns .1 ≡ afterCalls names s p (callsAmong turns) .1
-  pub back : inEdition (afterTurns names s p turns .0 .file) (decode (s .file) .edition) ≡ afterCalls names s p (callsAmong turns) .0 .file
-  pub permits : permittedTurns names s p turns ≡ permitted names s p (callsAmong turns)
+pub record WithConversions (names : List ℕ) (s : State) (p : Position) (mixed : List CallOrConversion) : Type 0 where
+  pub run : afterConverting names s p mixed .1 ≡ afterCalls names s p (callsAmong mixed) .1
+  pub back : inEdition (afterConverting names s p mixed .0 .file) (decode (s .file) .edition) ≡ afterCalls names s p (callsAmong mixed) .0 .file
+  pub permits : permittedConverting names s p mixed ≡ permitted names s p (callsAmong mixed)
 
-abbrev pub AllTurnsConverted : Type 0
-AllTurnsConverted =
-    (names : List ℕ) (s : State) (p : Position) (turns : List Turn) → Bytes (s .file) → fileGround (s .file) ≡ 0 → Bytes names →
-    p .value < 2 ^ bits → All (Fitting (s .file)) turns → TurnsConverted names s p turns
+abbrev pub ConvertedBetween : Type 0
+ConvertedBetween =
+    (names : List ℕ) (s : State) (p : Position) (mixed : List CallOrConversion) → Bytes (s .file) → fileGround (s .file) ≡ 0 → Bytes names →
+    p .value < 2 ^ bits → All (Fitting (s .file)) mixed → WithConversions names s p mixed
 
 -- Demand 3 with conversions anywhere between the calls: names, end and counts are those of the account, which is fed the calls alone
 abbrev pub DemandConverted : Type 0
 DemandConverted =
     (file : List ℕ) → Bytes file → fileGround file ≡ 0 → (names : List ℕ) → Bytes names → startGround names ≡ 0 →
-    (turns : List Turn) → All (Fitting file) turns → permittedTurns names (startOn file) (fresh names) turns ≡ true →
-    Demand file names (callsAmong turns) (afterTurns names (startOn file) (fresh names) turns .0 .file)
-    (afterTurns names (startOn file) (fresh names) turns .1)
+    (mixed : List CallOrConversion) → All (Fitting file) mixed → permittedConverting names (startOn file) (fresh names) mixed ≡ true →
+    Demand file names (callsAmong mixed) (afterConverting names (startOn file) (fresh names) mixed .0 .file)
+    (afterConverting names (startOn file) (fresh names) mixed .1)

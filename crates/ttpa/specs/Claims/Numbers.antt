@@ -1,9 +1,10 @@
 -- "A cluster file, a frame, a list of names or a stored run position of any content is carried out or refused by one of document 01's
 -- numbers (02 adds more)." (the customer's first demand): which numbers each C call returns, whatever it is handed.
 use Prim.Native.Nat.{ℕ}
+use mathlib.Core.Path.{_≡_}
 use mathlib.Core.List.{List, [], _∷_, _++_}
 use Rattle.file.specs.Rules.Bytes.{Bytes}
-use Rattle.ttpa.specs.Rules.Calls.{checkCall, readAddressCall, writeAddressCall, writeDataCall, roundCall, traceCall, ownerCall, convertCall, startCall, stepCall, fillCall, holderCall, roundKeepingCall, stepKeepingCall}
+use Rattle.ttpa.specs.Rules.Calls.{checkCall, readAddressCall, writeAddressCall, writeDataCall, roundCall, traceCall, ownerCall, convertCall, startCall, stepCall, fillCall, holderCall, roundKeepingCall, stepKeepingCall, screensCall, postCall, turnCall}
 
 pub data OneOf : ℕ → List ℕ → Type 0 where
   here : {n : ℕ} {ns : List ℕ} → OneOf n (n ∷ ns)
@@ -47,3 +48,11 @@ pub record RefusedByNumbers : Type 0 where
   pub stepKeeping :
       (file run names answer : List ℕ) (senders : ℕ) (held : List ℕ) (count : ℕ) →
       ZeroOr (stepKeepingCall file run names answer senders held count .0) (fileNumbers ++ 24 ∷ 9 ∷ 15 ∷ 16 ∷ 17 ∷ [])
+  -- "27, ..; 28, ..; then 18 and 14 on the read posted or due; all before the file's" (document 02, job 12); the state of the start is
+  -- never refused
+  pub screens : (state : List ℕ) → screensCall state .0 ≡ 0
+  pub post :
+      (state : List ℕ) (screen name file «record» : ℕ) → ZeroOr (postCall state screen name file «record» .0) (27 ∷ 28 ∷ 18 ∷ 14 ∷ [])
+  pub turn :
+      (file state answer : List ℕ) (senders screen : ℕ) →
+      ZeroOr (turnCall file state answer senders screen .0) (27 ∷ 18 ∷ 14 ∷ fileNumbers ++ 9 ∷ [])

@@ -1,11 +1,11 @@
 -- "A refusal returns its number and alters nothing lent" (document 01, "Grounds for turning something away"), for every C call: where the
 -- number that it returns is not 0, everything lent to it is what it was. The check of a file is lent nothing that a call could alter; the
--- version is asked for with nothing lent, and never refused.
+-- version is asked for with nothing lent, and never refused; nor is the screens' state of the start.
 use Prim.Native.Nat.{ℕ}
 use mathlib.Core.Path.{_≡_}
 use mathlib.Core.Logic.{_≢_}
 use mathlib.Core.List.{List}
-use Rattle.ttpa.specs.Rules.Calls.{readAddressCall, writeAddressCall, writeDataCall, roundCall, traceCall, ownerCall, convertCall, startCall, stepCall, fillCall, holderCall, roundKeepingCall, stepKeepingCall}
+use Rattle.ttpa.specs.Rules.Calls.{readAddressCall, writeAddressCall, writeDataCall, roundCall, traceCall, ownerCall, convertCall, startCall, stepCall, fillCall, holderCall, roundKeepingCall, stepKeepingCall, postCall, turnCall}
 
 pub record RefusalsAlterNothing : Type 0 where
   -- the five parts
@@ -48,3 +48,12 @@ pub record RefusalsAlterNothing : Type 0 where
       (file run names answer : List ℕ) (senders : ℕ) (held : List ℕ) (count n : ℕ) → n ≢ 0 →
       stepKeepingCall file run names answer senders held count .0 ≡ n →
       stepKeepingCall file run names answer senders held count ≡ (n, senders, run, answer, file, held)
+  -- the screens' state
+  pub post :
+      (state : List ℕ) (screen name file «record» n : ℕ) → n ≢ 0 →
+      postCall state screen name file «record» .0 ≡ n → postCall state screen name file «record» ≡ (n, state)
+  -- senders, screen, the screens' state, answer buffer and file
+  pub turn :
+      (file state answer : List ℕ) (senders screen n : ℕ) → n ≢ 0 →
+      turnCall file state answer senders screen .0 ≡ n →
+      turnCall file state answer senders screen ≡ (n, senders, screen, state, answer, file)

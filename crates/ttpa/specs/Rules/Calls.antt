@@ -14,13 +14,15 @@ use Rattle.owner.specs.Rules.Writing.{ownerOn}
 use Rattle.convert.specs.Rules.Convert.{convertOn}
 use Rattle.naming.specs.Rules.Run.{Position, startOver}
 use Rattle.naming.specs.Rules.Step.{StepDone, ended, made, stepOn, stepKeeping}
+use Rattle.screens.specs.Rules.Screens.{readBy, fresh, postOn}
+use Rattle.screens.specs.Rules.Turn.{Turn, idle, served, turnOn}
 
 -- the version of these definitions, which is that of include/ttpa.h: the gate compares the three numbers
 unfoldable pub versionMajor : ℕ
 versionMajor = 0
 
 unfoldable pub versionMinor : ℕ
-versionMinor = 11
+versionMinor = 12
 
 unfoldable pub versionPatch : ℕ
 versionPatch = 0
@@ -132,3 +134,33 @@ unfoldable pub stepKeepingCall : List ℕ → List ℕ → List ℕ → List ℕ
 stepKeepingCall file run names answer senders held count =
     let r = stepKeeping file (positionIn run) names (kept count held) answer in
     (numberIn (r .0), stepSenders (r .0) senders, stepWords (r .0) (r .1) run, r .2, r .3, sliceOf (r .4))
+
+-- ---- screens that share one tester, their state lent as 33 bytes (document 02, job 12)
+
+-- the state at the start: number and state. It refuses nothing, whatever the bytes were
+unfoldable pub screensCall : List ℕ → ℕ × List ℕ
+screensCall state = (0, fresh)
+
+-- a screen posts a read: number and state
+unfoldable pub postCall : List ℕ → ℕ → ℕ → ℕ → ℕ → ℕ × List ℕ
+postCall state screen name file «record» = let r = postOn state screen (readBy name file «record») in (numberIn (r .0), r .1)
+
+-- a turn "tells which"; "a turn with none waiting does nothing and says so", by TTPA_NO_SCREEN of the header
+unfoldable pub noneWaited : ℕ
+noneWaited = 8
+
+unfoldable pub turnScreen : Result Turn → ℕ → ℕ
+turnScreen (refused n) screen = screen
+turnScreen (done idle) screen = noneWaited
+turnScreen (done (served i mask)) screen = i
+
+unfoldable pub turnSenders : Result Turn → ℕ → ℕ
+turnSenders (refused n) senders = senders
+turnSenders (done idle) senders = senders
+turnSenders (done (served i mask)) senders = mask
+
+-- number, senders, screen, state, answer buffer and file
+unfoldable pub turnCall : List ℕ → List ℕ → List ℕ → ℕ → ℕ → ℕ × ℕ × ℕ × List ℕ × List ℕ × List ℕ
+turnCall file state answer senders screen =
+    let r = turnOn state file answer in
+    (numberIn (r .0), turnSenders (r .0) senders, turnScreen (r .0) screen, r .1, r .2, r .3)

@@ -45,7 +45,8 @@ pub fn write_of(random: &mut Random, name: u8, file: u8, record: u8) -> Vec<u8> 
     framed(MSA, [random.byte(), at, file << 2 | 1, record])
 }
 
-fn address_target(random: &mut Random, cluster: &Cluster) -> (u8, u8) {
+/// A name and a file that an address frame speaks of, often a slave's own.
+pub fn address_target(random: &mut Random, cluster: &Cluster) -> (u8, u8) {
     let mut name = logical_name(random);
     let any_file = random.below(64) as u8;
     let mut file = random.one_of(&[0x08, 0x08, 0x3D, 0x10, any_file]);

@@ -1,5 +1,5 @@
-//! Random inputs: numbers, clusters, frames, positions, traces, owner files, summaries, sleepers, conversions, whole naming
-//! runs and pairs of lists.
+//! Random inputs: numbers, clusters, frames, positions, traces, owner files, summaries, sleepers, conversions, screens,
+//! whole naming runs and pairs of lists.
 
 pub mod clusters;
 pub mod conversions;
@@ -7,6 +7,7 @@ pub mod inputs;
 pub mod owners;
 pub mod random;
 pub mod runs;
+pub mod screens;
 pub mod sleepers;
 pub mod summaries;
 pub mod traces;

@@ -4,10 +4,10 @@
 use super::inputs::{NAMES_RECORD, WRITE_OF_CONFIGURATION};
 use super::random::Random;
 use super::summaries::{is_true, Held};
-use super::{clusters, inputs};
+use super::{clusters, inputs, screens};
 use crate::campaign::Campaign;
 use crate::case::{Call, Outcome};
-use crate::engine::RunWords;
+use crate::engine::{RunWords, State};
 use crate::frames::{framed, unfolded, MULTIPARTNER};
 use crate::sorts::{turns, Sort};
 use crate::two_lists::{names_in, Ended};
@@ -33,6 +33,7 @@ struct WholeRun {
     run: RunWords,
     account: Account,
     summary: Option<Held>,
+    screens: State,
     /// Calls made.
     made: usize,
 }
@@ -68,7 +69,8 @@ pub fn to_its_end(
     let account = Account::start(&cluster, names);
     let summary = (given == Given::Summary).then(|| Held::of(random, &file));
     let run = started.run.unwrap_or(NO_RUN);
-    let mut whole = WholeRun { file, names: names.to_vec(), run, account, summary, made: 0 };
+    let mut whole =
+        WholeRun { file, names: names.to_vec(), run, account, summary, screens: model::screens(), made: 0 };
     let traffic = random.one_of(&[1, 2, 4, 10, 50]);
     while whole.run[0] == End::Running.number() {
         if random.once_in(traffic) {
@@ -189,10 +191,12 @@ impl WholeRun {
     }
 
     /// A complete round that demand 3 permits, with refused calls anywhere, now and then after a captured trace of such
-    /// rounds.
+    /// rounds or a turn of a screen.
     fn other_calls(&mut self, campaign: &mut Campaign, random: &mut Random) {
-        if random.once_in(4) {
-            self.trace(campaign, random);
+        match random.below(8) {
+            0 | 1 => self.trace(campaign, random),
+            2 | 3 => self.turn(campaign, random),
+            _ => {}
         }
         self.refused(campaign, random);
         if random.once_in(2) {
@@ -242,6 +246,13 @@ impl WholeRun {
         campaign.note_sorts(between.then_some(Sort::TraceBetweenSteps));
         self.file = outcome.file.expect("a lent file");
         self.fill(campaign);
+        self.hold_against_account(campaign);
+    }
+
+    /// A screen posts a read and a turn is made; it takes no summary and leaves it matching.
+    fn turn(&mut self, campaign: &mut Campaign, random: &mut Random) {
+        let file = std::mem::take(&mut self.file);
+        (self.file, self.screens) = screens::between_steps(campaign, random, file, self.screens);
         self.hold_against_account(campaign);
     }
 

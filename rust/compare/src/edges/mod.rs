@@ -8,6 +8,7 @@ pub mod logical_names;
 pub mod multiplexed;
 pub mod naming_steps;
 pub mod owners;
+pub mod screens;
 pub mod sleepers;
 pub mod step_grounds;
 pub mod summaries;

@@ -5,6 +5,7 @@ pub mod grounds;
 pub mod names;
 pub mod owners;
 pub mod passes;
+pub mod screens;
 pub mod sleepers;
 mod sort;
 pub mod summaries;
@@ -26,5 +27,6 @@ pub fn of(call: &Call, outcome: &Outcome) -> Vec<Sort> {
     sorts.extend(summaries::sorts(call, outcome));
     sorts.extend(sleepers::sorts(call, outcome));
     sorts.extend(conversions::sorts(call, outcome));
+    sorts.extend(screens::sorts(call, outcome));
     sorts
 }

@@ -292,6 +292,63 @@ pub enum Sort {
     OnMostSlaves,
     OnLongerFile,
     OnLongestFile,
+    /// A post refused by 27 for its screen alone, and one for the screen last served alone.
+    PostOfNoScreen,
+    PostAfterNoScreen,
+    /// One refused by 27 where the screen waits, and where its read is a bad one; by 28 where it is; by 18 where 14 holds.
+    ScreenBeforeWaiting,
+    ScreenBeforeRead,
+    WaitingBeforeRead,
+    PostFileBeforeName,
+    /// One carried out of screen 7, of file 63, and at 0xFF.
+    PostOfLastScreen,
+    PostOfLastFile,
+    PostAtUnnamed,
+    /// A turn that serves the screen last served, one before it, screen 0 after 7, and screen 7.
+    ServedAgain,
+    ServedPastTheEnd,
+    ServedFirstAfterLast,
+    ServedLastScreen,
+    /// One with all eight waiting, and one by a waiting byte above 1.
+    ServedOfAll,
+    ServedByOtherByte,
+    /// One of a read that had to wait for eight turns.
+    ServedAtEighthTurn,
+    /// One with a bad read waiting that is not due.
+    BadReadNotDue,
+    /// One that was made as two rounds as well.
+    TurnAsRounds,
+    /// One at 0xFF with an unnamed slave, one that several answer, and one at a name that nobody holds.
+    TurnAtUnnamed,
+    TurnOfSeveral,
+    TurnAtNobody,
+    /// One of which the epoch of the data frame or of the address frame is 0.
+    TurnAtEpoch254,
+    TurnAtEpoch255,
+    /// One with the operation of another master pending.
+    TurnOverWrite,
+    TurnOverExecute,
+    /// One that wakes, and one that a sleeper would have answered.
+    TurnWakes,
+    TurnAsleep,
+    TurnInEdition2,
+    /// A turn refused by 27 with none waiting, with a bad read waiting, and on a file that is turned away.
+    IdleAfterNoScreen,
+    LastBeforeRead,
+    LastBeforeFile,
+    /// One refused for its read: by 18 where 14 holds, on a file that is turned away, and with a short buffer.
+    DueFileBeforeName,
+    ReadBeforeFile,
+    ReadBeforeBuffer,
+    /// One refused by 1 to 8 with a short buffer, with none waiting, and with a read that waits on.
+    FileBeforeAnswer,
+    IdleOnRefusedFile,
+    FileKeepsRead,
+    /// One refused by 9 with none waiting, and with a read that waits on where one byte more would do.
+    IdleInShortBuffer,
+    BufferKeepsRead,
+    /// A turn that serves a screen between two naming steps.
+    TurnBetweenSteps,
 }
 
 /// A sort, one in how many calls has to be of it, and what is printed of it.
@@ -513,8 +570,51 @@ impl Sort {
         (Sort::OnLongestFile, 200, "other calls carried out on 65,536 bytes"),
     ];
 
+    /// Sorts of posts and turns of screens, with one in how many of those asked for.
+    pub const REACHED_BY_SCREENS: [Reached; 39] = [
+        (Sort::PostOfNoScreen, 100, "posts refused by 27 for their screen alone"),
+        (Sort::PostAfterNoScreen, 100, "posts refused by 27 for the screen last served alone"),
+        (Sort::ScreenBeforeWaiting, 400, "posts refused by 27, the screen waiting"),
+        (Sort::ScreenBeforeRead, 400, "posts refused by 27, the read a bad one"),
+        (Sort::WaitingBeforeRead, 400, "posts refused by 28, the read a bad one"),
+        (Sort::PostFileBeforeName, 400, "posts refused by 18 for which 14 holds too"),
+        (Sort::PostOfLastScreen, 100, "posts of screen 7"),
+        (Sort::PostOfLastFile, 400, "posts of file 63"),
+        (Sort::PostAtUnnamed, 40, "posts at 0xFF"),
+        (Sort::ServedAgain, 100, "turns that serve the screen last served"),
+        (Sort::ServedPastTheEnd, 40, "turns that serve a screen before the one last served"),
+        (Sort::ServedFirstAfterLast, 100, "turns that serve screen 0 after 7"),
+        (Sort::ServedLastScreen, 100, "turns that serve screen 7"),
+        (Sort::ServedOfAll, 200, "turns with all eight waiting"),
+        (Sort::ServedByOtherByte, 200, "turns by a waiting byte above 1"),
+        (Sort::ServedAtEighthTurn, 2_000, "turns that serve a read at its eighth turn"),
+        (Sort::BadReadNotDue, 100, "turns with a bad read waiting that is not due"),
+        (Sort::TurnAsRounds, 20, "turns made as two rounds as well"),
+        (Sort::TurnAtUnnamed, 20, "turns at 0xFF, with unnamed slaves"),
+        (Sort::TurnOfSeveral, 100, "turns that several slaves answer"),
+        (Sort::TurnAtNobody, 40, "turns at a name that nobody holds"),
+        (Sort::TurnAtEpoch254, 400, "turns after epoch 254"),
+        (Sort::TurnAtEpoch255, 400, "turns after epoch 255"),
+        (Sort::TurnOverWrite, 400, "turns with another master's write pending"),
+        (Sort::TurnOverExecute, 400, "turns with another master's execute pending"),
+        (Sort::TurnWakes, 400, "turns that wake"),
+        (Sort::TurnAsleep, 8_000, "turns that a sleeper would have answered"),
+        (Sort::TurnInEdition2, 20, "turns on a file of edition 2"),
+        (Sort::IdleAfterNoScreen, 400, "turns refused by 27, none waiting"),
+        (Sort::LastBeforeRead, 400, "turns refused by 27, a bad read waiting"),
+        (Sort::LastBeforeFile, 1_000, "turns refused by 27 on a file that is turned away"),
+        (Sort::DueFileBeforeName, 800, "turns refused by 18 for which 14 holds too"),
+        (Sort::ReadBeforeFile, 4_000, "turns refused for their read on a file that is turned away"),
+        (Sort::ReadBeforeBuffer, 800, "turns refused for their read, the buffer short"),
+        (Sort::FileBeforeAnswer, 400, "turns refused by 1 to 8, the buffer short"),
+        (Sort::IdleOnRefusedFile, 2_000, "turns refused by 1 to 8, none waiting"),
+        (Sort::FileKeepsRead, 80, "turns refused by 1 to 8, the read waiting on"),
+        (Sort::IdleInShortBuffer, 400, "turns refused by 9, none waiting"),
+        (Sort::BufferKeepsRead, 40, "turns refused by 9 for a byte, the read waiting on"),
+    ];
+
     /// Sorts of calls in naming runs, with one in how many of the runs asked for.
-    pub const REACHED_BY_RUNS: [Reached; 7] = [
+    pub const REACHED_BY_RUNS: [Reached; 8] = [
         (Sort::RunOverMoreSlaves, 10, "naming runs over more than 32 slaves"),
         (Sort::TraceBetweenSteps, 1, "traces run between naming steps, with a round and a refused frame"),
         (
@@ -523,6 +623,7 @@ impl Sort {
             "writes of record 1 of 0x08 at a name between naming steps, around a refused call",
         ),
         (Sort::MultiplexedBetweenSteps, 1, "rounds between naming steps in which a multiplexed entry acts"),
+        (Sort::TurnBetweenSteps, 1, "turns that serve a screen between naming steps"),
         (Sort::RunInTurn, 4, "naming runs made in turn"),
         (Sort::RunKept, 4, "naming runs given a summary"),
         (Sort::RunOverSleepers, 10, "naming runs begun over unnamed sleepers"),
@@ -575,8 +676,8 @@ impl Sort {
     ];
 
     /// What a call is an example of; logical names, naming steps, their grounds, multiplexed entries, traces, owner files,
-    /// summaries, sleepers and conversions are sorted in `names`, `passes`, `grounds`, `turns`, `traces`, `owners`,
-    /// `summaries`, `sleepers` and `conversions`.
+    /// summaries, sleepers, conversions and screens are sorted in `names`, `passes`, `grounds`, `turns`, `traces`, `owners`,
+    /// `summaries`, `sleepers`, `conversions` and `screens`.
     pub fn of(call: &Call, outcome: &Outcome) -> Option<Sort> {
         match call {
             Call::Read { frame } if outcome.number == 12 && is_unfolded(frame) => Some(Sort::UnfoldedNotRead),

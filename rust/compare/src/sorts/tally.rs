@@ -1,14 +1,14 @@
 //! How many calls were made, by kind, number and, of those carried out, what they did.
 
 use crate::case::{Call, Outcome};
-use crate::engine::{ReportWords, RunWords};
+use crate::engine::{ReportWords, RunWords, NO_SCREEN};
 use crate::two_lists::{Runs, TwoLists, TWO};
 use model::{check, Edition, End, FileNumber, Pending, MSA, MSD};
 use std::collections::BTreeMap;
 
 /// Each kind of call with what it can do when it is carried out, and the numbers that can refuse it. A whole run is a
 /// kind of its own, and so are the runs over two lists.
-const OUTCOMES: [(&str, &[&str], &[u8]); 17] = [
+const OUTCOMES: [(&str, &[&str], &[u8]); 20] = [
     ("check", &[PLAIN], CHECK_NUMBERS),
     ("read", &["read", "write", "execute"], READ_NUMBERS),
     ("write", &["read", "write", "execute"], WRITE_NUMBERS),
@@ -24,6 +24,9 @@ const OUTCOMES: [(&str, &[&str], &[u8]); 17] = [
     ("holder", &["first-slave", "later-slave", "nobody"], HOLDER_NUMBERS),
     ("round-keeping", IN_A_ROUND, ROUND_KEEPING_NUMBERS),
     ("step-keeping", IN_A_STEP, STEP_KEEPING_NUMBERS),
+    ("screens", &[PLAIN], &[]),
+    ("post", &[PLAIN], POST_NUMBERS),
+    ("turn", &["answered", "silent", "none-waiting"], TURN_NUMBERS),
     (TWO, &[EMPTY_LIST, ALL_NAMED, USED_UP], &[]),
     (RUN, &[ALL_NAMED, USED_UP], &[]),
 ];
@@ -87,6 +90,8 @@ const ROUND_KEEPING_NUMBERS: &[u8] = &[1, 2, 3, 4, 5, 6, 7, 8, 24, 9, 10, 11, 12
 const STEP_KEEPING_NUMBERS: &[u8] = &[1, 2, 3, 4, 5, 6, 7, 8, 24, 9, 15, 16, 17];
 const TO_EDITION_1_NUMBERS: &[u8] = &[1, 2, 3, 4, 5, 6, 7, 8, 25, 26];
 const TO_EDITION_2_NUMBERS: &[u8] = &[1, 2, 3, 4, 5, 6, 7, 8, 26];
+const POST_NUMBERS: &[u8] = &[27, 28, 18, 14];
+const TURN_NUMBERS: &[u8] = &[27, 18, 14, 1, 2, 3, 4, 5, 6, 7, 8, 9];
 // .ci/refusals writes to here
 
 /// A call that does one thing only.
@@ -181,7 +186,9 @@ fn shown((kind, number, done): Came) -> String {
 /// What a call did that was carried out.
 fn done(call: &Call, outcome: &Outcome) -> &'static str {
     match call {
-        Call::Check { .. } | Call::Data { .. } | Call::Owner { .. } => PLAIN,
+        Call::Check { .. } | Call::Data { .. } | Call::Owner { .. } | Call::Screens | Call::Post { .. } => {
+            PLAIN
+        }
         Call::Convert { file, edition, .. } => either(Edition::of(file) == *edition, "copied", "converted"),
         Call::Read { .. } => operation(outcome.parts.map_or(0, |parts| parts[3])),
         Call::Write { parts, .. } => operation(parts[3]),
@@ -196,6 +203,8 @@ fn done(call: &Call, outcome: &Outcome) -> &'static str {
             None => "nobody",
         },
         Call::Keeping { call, .. } => done(call, outcome),
+        Call::Turn { .. } if outcome.served() == Some(NO_SCREEN) => "none-waiting",
+        Call::Turn { .. } => either(outcome.mask() != 0, "answered", "silent"),
     }
 }
 

@@ -133,3 +133,23 @@ fn a_summary_is_lent_with_its_room() {
     assert_eq!(calls::step_keeping(&mut file, &mut run, &[1], &mut answer, &mut senders, &mut held, 2), 0);
     assert_eq!((run, answer[0], senders, held), ([0, 0, 0, 0, 1, 0, 0, 0], 0x49, 0, [0xFF, 0xFF, FILL]));
 }
+
+#[test]
+fn mask_and_screen_of_a_turn_are_written_on_success_only() {
+    let (mut file, mut answer, mut senders, mut screen) = (M10.to_vec(), ROOMY, MASK_BEFORE, FILL);
+    let mut state = [FILL; 33];
+    assert_eq!(calls::post(&mut state, 0, 0x05, 0x3D, 1), 27);
+    assert_eq!(calls::turn(&mut file, &mut state, &mut answer, &mut senders, &mut screen), 27);
+    assert_eq!((state, screen, senders), ([FILL; 33], FILL, MASK_BEFORE));
+    assert_eq!(calls::screens(&mut state), 0);
+    assert_eq!((state[0], state[1..] == [0; 32]), (7, true));
+    let fresh = state;
+    assert_eq!(calls::turn(&mut file, &mut state, &mut answer, &mut senders, &mut screen), 0);
+    assert_eq!((state, screen, senders), (fresh, calls::NO_SCREEN, MASK_BEFORE));
+    assert_eq!(calls::post(&mut state, 6, 0x05, 0x3D, 1), 0);
+    screen = FILL;
+    assert_eq!(calls::turn(&mut file, &mut state, &mut answer[..63], &mut senders, &mut screen), 9);
+    assert_eq!((&file[..], answer, screen, senders), (M10, ROOMY, FILL, MASK_BEFORE));
+    assert_eq!(calls::turn(&mut file, &mut state, &mut answer, &mut senders, &mut screen), 0);
+    assert_eq!((answer[0], screen, senders, file[8]), (0x49, 6, 0, 2));
+}

@@ -6,7 +6,7 @@ use ttpa::TtpaError;
 
 /// Each ground with its number in the documents and a word that its text cannot do without.
 // .ci/refusals writes from here: grounds
-const GROUNDS: [(TtpaError, u8, &str); 27] = [
+const GROUNDS: [(TtpaError, u8, &str); 29] = [
     (TtpaError::FileSize, 1, "65,536"),
     (TtpaError::Mark, 2, "mark"),
     (TtpaError::Edition, 3, "edition"),
@@ -33,7 +33,9 @@ const GROUNDS: [(TtpaError, u8, &str); 27] = [
     (TtpaError::Summary, 24, "summary"),
     (TtpaError::EditionLimits, 25, "edition 1"),
     (TtpaError::ConversionBuffer, 26, "converted"),
-    (TtpaError::Other(27), 27, "no text"),
+    (TtpaError::Screen, 27, "above 7"),
+    (TtpaError::ScreenWaiting, 28, "waiting already"),
+    (TtpaError::Other(29), 29, "no text"),
 ];
 // .ci/refusals writes to here
 

@@ -8,6 +8,7 @@ mod frames;
 mod owners;
 mod rounds;
 mod runs;
+mod screens;
 mod summaries;
 mod traces;
 

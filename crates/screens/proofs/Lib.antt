@@ -1,0 +1,24 @@
+-- The laws of the screens, layer by layer; a module cites those above it. Each function's own proof stands in the folder of its source
+-- file.
+
+-- answers are told apart
+pub mod Distinct
+-- a law for each way of the functions
+pub mod StateLaws
+pub mod PostLaws
+pub mod TurnLaws
+-- the grounds in their order, and who is due
+pub mod Grounds
+pub mod Due
+-- what a post and a turn do
+pub mod StateBytes
+pub mod Posts
+pub mod Turns
+pub mod Names
+-- a posted read is served within eight turns
+pub mod Fairness
+pub mod Eighth
+-- turns on both editions
+pub mod Editions
+-- each claim with its theorem
+pub mod Claimed
