@@ -199,9 +199,10 @@ static const uint8_t m10[] = {
     0x00, 0x00, 0x00, 0x00, 0x00, 0x00, 0x00, 0x00, 0x00, 0x00, 0x00, 0x07, 0x00, 0x00, 0x00, 0xA0,
 };
 
-/* Where M10 keeps what the calls change: the epoch, whether the first slave sleeps, and the logical name of each. */
+/* Where M10 keeps what the calls change: the epoch, whether each slave sleeps, and the logical name of each. */
 #define EPOCH 8
 #define FIRST_SLEEP 19
+#define SECOND_SLEEP 23
 #define FIRST_NAME 39
 #define SECOND_NAME 75
 
@@ -1412,13 +1413,41 @@ static void turn_on_sleepers(void)
     renew_screens();
     memcpy(cluster + EPOCH, pending, sizeof pending);
     cluster[FIRST_SLEEP] = 1;
+    cluster[SECOND_SLEEP] = 1;
     state[1] = 255;
     state[2] = 0x05;
     state[3] = TTPA_FILE_DOCUMENTATION;
     state[4] = 2;
     EXPECT(turn(sizeof answer) == TTPA_ACCEPTED && screen == 0 && senders == 0);
-    EXPECT(silent_from(TTPA_FIREWORK_MSD, 1) && cluster[EPOCH] == 0 && cluster[FIRST_SLEEP] == 0);
+    EXPECT(silent_from(TTPA_FIREWORK_MSD, 1) && cluster[EPOCH] == 0);
+    EXPECT(cluster[FIRST_SLEEP] == 0 && cluster[SECOND_SLEEP] == 0);
     EXPECT(cluster[EPOCH + 3] == 0xF4 && cluster[EPOCH + 4] == 2 && state_is(0, 0, 0, 0x05, TTPA_FILE_DOCUMENTATION, 2));
+}
+
+static void with_summaries(void)
+{
+    filled();
+    holders();
+    kept_rounds();
+    refused_summaries();
+    kept_steps();
+    refused_kept_steps();
+}
+
+static void in_both_editions(void)
+{
+    conversions();
+    refused_conversions();
+    most_slaves();
+    rounds_on_both_forms();
+}
+
+static void shared_turns(void)
+{
+    posts();
+    turns();
+    refused_turns();
+    turn_on_sleepers();
 }
 
 int main(void)
@@ -1449,20 +1478,9 @@ int main(void)
     refused_owners();
     multiplexed_owners();
     multiplexed_rounds();
-    filled();
-    holders();
-    kept_rounds();
-    refused_summaries();
-    kept_steps();
-    refused_kept_steps();
-    conversions();
-    refused_conversions();
-    most_slaves();
-    rounds_on_both_forms();
-    posts();
-    turns();
-    refused_turns();
-    turn_on_sleepers();
+    with_summaries();
+    in_both_editions();
+    shared_turns();
     printf("%d comparisons, %d failed\n", comparisons, failures);
     return failures == 0 ? 0 : 1;
 }

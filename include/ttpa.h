@@ -141,7 +141,7 @@ static inline const char *ttpa_refusal_text(uint8_t number)
     case TTPA_REFUSED_POSITION:
         return "the stored naming run is damaged or belongs to another list of names";
     case TTPA_REFUSED_FILE_NUMBER:
-        return "the file number for an address frame is above 63";
+        return "the file number of an address frame or a read is above 63";
     case TTPA_REFUSED_TRACE:
         return "the trace is longer than 16,384 bytes, or its header, an offset or its length is wrong";
     case TTPA_REFUSED_TWO_SENDERS:
@@ -365,7 +365,8 @@ static inline const char *ttpa_refusal_text(uint8_t number)
  * At the start all but the first are 0. A post makes the waiting byte 1 and writes the three behind it; a turn that
  * serves makes it 0 and byte 0 the screen's number; every other byte stays. A state of any content may be handed in: 27
  * refuses a screen last served above 7, 18 and 14 a read that no post would have let in. At a turn they look at the read
- * that is due alone, and refuse every turn until the caller has mended the state. */
+ * that is due alone, and refuse every turn at which it is due: until the caller has mended the state, or another screen
+ * that comes before it has posted (then until that one is served). */
 #define TTPA_SCREENS_BYTES 33
 
 /* What ttpa_turn tells in the place of a screen where none waited. */
@@ -406,8 +407,8 @@ uint8_t ttpa_round(uint8_t *file, size_t n, const uint8_t *frame, size_t m, uint
  *
  * When a run has ended, its list having run dry, say, a second list may be started on the same file. If each run is made
  * to its end, with other rounds before, in and after it only as ttpa_step has them, and the two lists have no name in
- * common, every slave then has the logical name that one run over the first list followed by the second would have given
- * it. Such a joined list is accepted if both are; with a common name 16 refuses it. The second run goes by the file as the
+ * common, every slave then has the logical name that one run over the first list followed by the second leaves
+ * it with. Such a joined list is accepted if both are; with a common name 16 refuses it. The second run goes by the file as the
  * first left it: a name that a slave has by then is taken, and rounds and comparisons count from 0. It begins with an
  * extra read of its own. So where the first ended "names used up" the two runs, neither list being empty, make one round
  * more than the one; where it ended "all named", they make the second run's rounds more.

@@ -33,9 +33,9 @@ use Rattle.naming.specs.Rules.Figures.{freeNames, givings, nameGiven, renamed, 
 use Rattle.naming.specs.Claims.Files.{m8File, m10File}
 use Rattle.naming.specs.Claims.Cases.{answerBuffer, slave}
 use Rattle.naming.specs.Claims.PermittedRounds.{Rounds, noRounds, multipartnerNext, SentBy, noFrames, oneMore}
-use Rattle.naming.specs.Claims.TwoLists.{NoCommon, SecondRun, RunsTogether, longStep}
+use Rattle.naming.specs.Claims.TwoLists.{NoCommon, SecondRun, RunsTogether}
 use Rattle.naming.proofs.Examples.{m10-accepted}
-use Rattle.naming.proofs.TwoLists.{accountStep, accountSteps, long-counted}
+use Rattle.naming.proofs.TwoLists.{accountStep, accountSteps, longStep, long-many}
 use Rattle.naming.proofs.TwoListsExamples.{m10Slaves, m10-slaves, m8-slaves, threeRuns, names-fewer, names-more, first-held, nobody-after-3}
 use Rattle.ttpa.specs.Rules.Calls.{startCall}
 use Rattle.demand.specs.Claims.Calls.{CCall, ttpaStep, ttpaStepKeeping, ttpaRound, ttpaTrace, GivenBytes, given-step}
@@ -117,7 +117,7 @@ module _ (file : List ℕ) (b : Bytes file) (taken : TakenByRounds file) {names 
       let counted = calls-counted file b taken names (l .bytes) run (starts l run) (busyRun n) busy-given busy-may in
       let long : accountSteps (accountOf (slavesIn file) names) (byRules names behind (steps n)) ≡ n =
       ap (λ (cs : List Call). accountSteps (accountOf (slavesIn file) names) cs) (steps-by-rules 0 names behind n)
-      ∙ long-counted n (accountOf (slavesIn file) names) in
+      ∙ long-many n (accountOf (slavesIn file) names) in
       omega (arith, counted, long)
 
   busy-ends : roundsFor (slavesIn file) names ≤ n → ToItsEnd file names run (busyRun n)
@@ -131,11 +131,11 @@ module _ (file : List ℕ) (b : Bytes file) (taken : TakenByRounds file) where
   names-whole :
       {names : List ℕ} → Listed names → (run : List ℕ) →
       slavesIn (fileAfter file names run (wholeRun file names)) ≡ namesAfter (slavesIn file) names
-  names-whole {names} l run = names-left file b taken names (l .bytes) run (wholeRun file names) (run-ends l run)
+  names-whole {names} l run = names-left file b taken names (l .bytes) run (starts l run) (wholeRun file names) (run-ends l run)
 
   mark-whole :
       {names : List ℕ} → Listed names → (run : List ℕ) → runAfter file names run (wholeRun file names) .end ≡ endFor (slavesIn file) names
-  mark-whole {names} l run = end-mark-over-calls file b taken names (l .bytes) run (wholeRun file names) (run-ends l run)
+  mark-whole {names} l run = end-mark-over-calls file b taken names (l .bytes) run (starts l run) (wholeRun file names) (run-ends l run)
 
   -- B's run after any run over A
   second-ends :
@@ -143,8 +143,8 @@ module _ (file : List ℕ) (b : Bytes file) (taken : TakenByRounds file) where
       ToItsEnd (fileAfter file A run first) B run′ (secondRun file A B)
   second-ends {A} {B} a l {run} {first} to run′ =
       let d = demand-over-calls file b taken A (a .bytes) run (starts a run) first (to .bytes) (to .may) in
-      busy-ends (fileAfter file A run first) (bytes-left file b taken A (a .bytes) run first to) (d .accepted) l run′
-      (roundsFor (namesAfter (slavesIn file) A) B) (rw (names-left file b taken A (a .bytes) run first to) (omega arith))
+      busy-ends (fileAfter file A run first) (bytes-left file b taken A (a .bytes) run (starts a run) first to) (d .accepted) l run′
+      (roundsFor (namesAfter (slavesIn file) A) B) (rw (names-left file b taken A (a .bytes) run (starts a run) first to) (omega arith))
 
   -- whatever the run's words are before each ttpa_start
   module _ {A B : List ℕ} (a : Listed A) (l : Listed B) (apart : NoCommon A B) (run run′ run″ : List ℕ) where
@@ -161,20 +161,20 @@ module _ (file : List ℕ) (b : Bytes file) (taken : TakenByRounds file) where
     left-alike :
         slavesIn (fileAfter fileBetween B run′ (secondRun file A B)) ≡ slavesIn (fileAfter file (A ++ B) run″ (wholeRun file (A ++ B)))
     left-alike =
-        two-lists-over-calls file b taken A B (a .bytes) (l .bytes) apart run run′ run″
+        two-lists-over-calls file b taken A B (a .bytes) (l .bytes) apart run run′ run″ (starts a run) (starts l run′)
         (wholeRun file A) (secondRun file A B) (wholeRun file (A ++ B))
         (run-ends a run) (second-ends a l (run-ends a run) run′) (run-ends joined-listed run″)
 
     finds : SecondRun (slavesIn file) A B (slavesIn fileBetween) (runAfter fileBetween B run′ (secondRun file A B))
     finds =
-        second-finds-over-calls file b taken A B (a .bytes) (l .bytes) run run′
+        second-finds-over-calls file b taken A B (a .bytes) (l .bytes) run run′ (starts a run) (starts l run′)
         (wholeRun file A) (secondRun file A B) (run-ends a run) (second-ends a l (run-ends a run) run′)
 
     together :
         RunsTogether (slavesIn file) A B (runAfter file A run (wholeRun file A))
         (runAfter fileBetween B run′ (secondRun file A B)) (runAfter file (A ++ B) run″ (wholeRun file (A ++ B)))
     together =
-        two-runs-over-calls file b taken A B (a .bytes) (l .bytes) apart run run′ run″
+        two-runs-over-calls file b taken A B (a .bytes) (l .bytes) apart run run′ run″ (starts a run) (starts l run′)
         (wholeRun file A) (secondRun file A B) (wholeRun file (A ++ B))
         (run-ends a run) (second-ends a l (run-ends a run) run′) (run-ends joined-listed run″)
 
@@ -381,14 +381,14 @@ between-alike :
     slavesIn (leftBy m10File (1 ∷ 2 ∷ []))
 between-alike =
     two-lists-over-calls m10File m10-bytes m10-taken (1 ∷ []) (2 ∷ []) (name-1 .bytes) (name-2 .bytes) apart-1-2 words words words
-    between (secondRun m10File (1 ∷ []) (2 ∷ [])) (wholeRun m10File (1 ∷ 2 ∷ [])) between-ends between-second
+    (starts name-1 words) (starts name-2 words) between (secondRun m10File (1 ∷ []) (2 ∷ [])) (wholeRun m10File (1 ∷ 2 ∷ [])) between-ends between-second
     (run-ends m10File m10-bytes m10-taken (joined-listed m10File m10-bytes m10-taken name-1 name-2 apart-1-2 words words words) words)
 
 between-finds :
     SecondRun (slavesIn m10File) (1 ∷ []) (2 ∷ []) (slavesIn (fileAfter m10File (1 ∷ []) words between))
     (runAfter (fileAfter m10File (1 ∷ []) words between) (2 ∷ []) words (secondRun m10File (1 ∷ []) (2 ∷ [])))
 between-finds =
-    second-finds-over-calls m10File m10-bytes m10-taken (1 ∷ []) (2 ∷ []) (name-1 .bytes) (name-2 .bytes) words words
+    second-finds-over-calls m10File m10-bytes m10-taken (1 ∷ []) (2 ∷ []) (name-1 .bytes) (name-2 .bytes) words words (starts name-1 words) (starts name-2 words)
     between (secondRun m10File (1 ∷ []) (2 ∷ [])) between-ends between-second
 
 -- ---- with a turn behind the first step
@@ -449,7 +449,7 @@ turned-steps =
     ∙ ap (λ (n : ℕ). 1 + n)
     (turn-uncounted b (1 ∷ []) stepped (steps 135)
     ∙ ap (λ (cs : List Call). accountSteps b cs) (steps-by-rules 0 (1 ∷ []) served 135)
-    ∙ long-counted 135 b)
+    ∙ long-many 135 b)
 
 turned-ends : ToItsEnd m10File (1 ∷ []) words turned
 turned-ends = m10-ends turned-given turned-may turned-steps
@@ -459,7 +459,7 @@ turned-alike :
     slavesIn (leftBy m10File (1 ∷ 2 ∷ []))
 turned-alike =
     two-lists-over-calls m10File m10-bytes m10-taken (1 ∷ []) (2 ∷ []) (name-1 .bytes) (name-2 .bytes) apart-1-2 words words words
-    turned (secondRun m10File (1 ∷ []) (2 ∷ [])) (wholeRun m10File (1 ∷ 2 ∷ [])) turned-ends
+    (starts name-1 words) (starts name-2 words) turned (secondRun m10File (1 ∷ []) (2 ∷ [])) (wholeRun m10File (1 ∷ 2 ∷ [])) turned-ends
     (second-ends m10File m10-bytes m10-taken name-1 name-2 turned-ends words)
     (run-ends m10File m10-bytes m10-taken (joined-listed m10File m10-bytes m10-taken name-1 name-2 apart-1-2 words words words) words)
 
@@ -485,7 +485,7 @@ names-2-1 = listed (2 ∷ 1 ∷ []) refl refl
 abbrev Reversed : Type 0
 Reversed =
     (file : List ℕ) → Bytes file → TakenByRounds file → (A B : List ℕ) → Bytes A → Bytes B → NoCommon A B →
-    (run run′ run″ : List ℕ) (first second whole : List CCall) →
+    (run run′ run″ : List ℕ) → startCall A run .0 ≡ 0 → startCall B run′ .0 ≡ 0 → (first second whole : List CCall) →
     ToItsEnd file A run first → ToItsEnd (fileAfter file A run first) B run′ second → ToItsEnd file (B ++ A) run″ whole →
     slavesIn (fileAfter (fileAfter file A run first) B run′ second) ≡ slavesIn (fileAfter file (B ++ A) run″ whole)
 
@@ -494,7 +494,7 @@ unfolding firstName m10Slaves slave namesAfter renamed nameGiven givings freeNam
 not-reversed claim =
     let same =
     claim m10File m10-bytes m10-taken (1 ∷ []) (2 ∷ []) (name-1 .bytes) (name-2 .bytes) apart-1-2 words words words
-    (wholeRun m10File (1 ∷ [])) (secondRun m10File (1 ∷ []) (2 ∷ [])) (wholeRun m10File (2 ∷ 1 ∷ []))
+    (starts name-1 words) (starts name-2 words) (wholeRun m10File (1 ∷ [])) (secondRun m10File (1 ∷ []) (2 ∷ [])) (wholeRun m10File (2 ∷ 1 ∷ []))
     (run-ends m10File m10-bytes m10-taken name-1 words)
     (second-ends m10File m10-bytes m10-taken name-1 name-2 (run-ends m10File m10-bytes m10-taken name-1 words) words)
     (run-ends m10File m10-bytes m10-taken names-2-1 words) in
@@ -507,7 +507,7 @@ not-reversed claim =
 abbrev OnFirstFile : Type 0
 OnFirstFile =
     (file : List ℕ) → Bytes file → TakenByRounds file → (A B : List ℕ) → Bytes A → Bytes B → NoCommon A B →
-    (run run′ run″ : List ℕ) (first second whole : List CCall) →
+    (run run′ run″ : List ℕ) → startCall A run .0 ≡ 0 → startCall B run′ .0 ≡ 0 → (first second whole : List CCall) →
     ToItsEnd file A run first → ToItsEnd file B run′ second → ToItsEnd file (A ++ B) run″ whole →
     slavesIn (fileAfter file B run′ second) ≡ slavesIn (fileAfter file (A ++ B) run″ whole)
 
@@ -516,7 +516,7 @@ unfolding not-reversed
 not-on-first-file claim =
     let same =
     claim m10File m10-bytes m10-taken (1 ∷ []) (2 ∷ []) (name-1 .bytes) (name-2 .bytes) apart-1-2 words words words
-    (wholeRun m10File (1 ∷ [])) (wholeRun m10File (2 ∷ [])) (wholeRun m10File (1 ∷ 2 ∷ []))
+    (starts name-1 words) (starts name-2 words) (wholeRun m10File (1 ∷ [])) (wholeRun m10File (2 ∷ [])) (wholeRun m10File (1 ∷ 2 ∷ []))
     (run-ends m10File m10-bytes m10-taken name-1 words) (run-ends m10File m10-bytes m10-taken name-2 words)
     (run-ends m10File m10-bytes m10-taken names-1-2 words) in
     let names : namesAfter m10Slaves (2 ∷ []) ≡ namesAfter m10Slaves (1 ∷ 2 ∷ []) =
@@ -527,7 +527,7 @@ not-on-first-file claim =
 abbrev CutShort : Type 0
 CutShort =
     (file : List ℕ) → Bytes file → TakenByRounds file → (A B : List ℕ) → Bytes A → Bytes B → NoCommon A B →
-    (run run′ run″ : List ℕ) (first second whole : List CCall) → startCall A run .0 ≡ 0 → All GivenBytes first →
+    (run run′ run″ : List ℕ) → startCall A run .0 ≡ 0 → startCall B run′ .0 ≡ 0 → (first second whole : List CCall) → All GivenBytes first →
     permitted false A (started file A run) first ≡ true →
     ToItsEnd (fileAfter file A run first) B run′ second → ToItsEnd file (A ++ B) run″ whole →
     slavesIn (fileAfter (fileAfter file A run first) B run′ second) ≡ slavesIn (fileAfter file (A ++ B) run″ whole)
@@ -537,7 +537,7 @@ unfolding not-reversed afterCalls
 not-cut-short claim =
     let same =
     claim m10File m10-bytes m10-taken (1 ∷ []) (2 ∷ []) (name-1 .bytes) (name-2 .bytes) apart-1-2 words words words
-    [] (wholeRun m10File (2 ∷ [])) (wholeRun m10File (1 ∷ 2 ∷ [])) (starts name-1 words) allEmpty
+    (starts name-1 words) (starts name-2 words) [] (wholeRun m10File (2 ∷ [])) (wholeRun m10File (1 ∷ 2 ∷ [])) allEmpty
     (steps-permitted (1 ∷ []) (started m10File (1 ∷ []) words) [] allEmpty)
     (run-ends m10File m10-bytes m10-taken name-2 words) (run-ends m10File m10-bytes m10-taken names-1-2 words) in
     let names : namesAfter m10Slaves (2 ∷ []) ≡ namesAfter m10Slaves (1 ∷ 2 ∷ []) =

@@ -5,9 +5,9 @@ use mathlib.Core.Path.{_≡_, refl, sym, ap, ap₂, _∙_}
 use mathlib.Core.List.{List, [], _∷_, _++_, map, append-assoc}
 use mathlib.Core.Bool.{Bool, true, false, cond}
 use native.Mathlib.Omega.{arith}
-use lib.ListN.{length, replicate, drop}
+use lib.ListN.{length, replicate, length-replicate, drop}
 use lib.Dec.{eqb}
-use borrow.Author.Tests.{eqb-true, ne-eqb}
+use borrow.Author.Tests.{eqb-true, ne-eqb, le-ltb}
 use Rattle.file.specs.Rules.Bytes.{Bytes, All, All.allEmpty, All.allNext as also}
 use Rattle.file.specs.Rules.Order.{firstOf, both, either}
 use Rattle.file.specs.Rules.Cluster.{unnamed}
@@ -16,9 +16,10 @@ use Rattle.file.specs.Rules.Legal.{Distinct}
 use Rattle.file.specs.Rules.Grounds.{isAmong, hasRepeat, fileGround}
 use Rattle.file.proofs.Order.{byCase, clash, either-false, either-false-left, either-false-right, both-false-right}
 use Rattle.file.proofs.Accepted.{accepted-legal}
-use Rattle.file.proofs.Bytes.{all-append}
+use Rattle.file.proofs.Bytes.{all-append, all-map}
 use Rattle.cluster.specs.Rules.Grounds.{shortAnswer}
-use Rattle.cluster.specs.Rules.Summary.{wrongSummary}
+use Rattle.cluster.specs.Rules.Bus.{slots}
+use Rattle.cluster.specs.Rules.Summary.{without, wrongSummary}
 use Rattle.naming.specs.Rules.Run.{Position, fresh, unfitName, namesGrounds, startGround}
 use Rattle.naming.specs.Rules.Account.{Named, Account, Call, step, frame, argumentsGround, accountCall, accountAfter, accountOf}
 use Rattle.naming.specs.Rules.Account.{oneRound, extra, passOn, pass, freePass, passDone, goOn, give, falling, unnamedAmong}
@@ -27,7 +28,7 @@ use Rattle.naming.specs.Rules.Figures.{freeNames, givings, renamed, name
 use Rattle.naming.specs.Claims.Demand.{State, startOn, callOn, permitted, afterCalls, OfBytes, of-step}
 use Rattle.naming.specs.Claims.PermittedRounds.{fileAfter, IsStep, is-step}
 use Rattle.naming.specs.Claims.TwoLists.{NoCommon, TwoLists, JoinedAccepted, CommonRefused, stepTaken, stepsTaken, RunsEnd}
-use Rattle.naming.specs.Claims.TwoLists.{longStep, EveryRunEnds}
+use Rattle.naming.specs.Claims.TwoLists.{LongStep, long, EveryRunEnds}
 use Rattle.naming.proofs.Facts.{Falling, Falling.end as lowest, Falling.next as below, Facts, physicals, fall-first, all-among}
 use Rattle.naming.proofs.Facts.{not-among, among-here, among-next, drop-taken, give-physicals, give-greatest}
 use Rattle.naming.proofs.Sorted.{among-falling, falling-falls}
@@ -108,7 +109,7 @@ module _ {left ws : List ℕ} {ss : List Named} {held : List ℕ} (d : Distinct 
 
 -- ---- the names
 
-free-same :
+pub free-same :
     (held now : List ℕ) {names : List ℕ} → All (λ (n : ℕ). isAmong n held ≡ isAmong n now) names →
     freeNames held names ≡ freeNames now names
 unfolding freeNames
@@ -415,24 +416,41 @@ runs-end file b g names n fit calls of-bytes may =
       λ to. omega (arith, most, same, none, d .rounds, d .outcome .ended (to .ended)),
     )
 
--- steps with an answer buffer of 64 bytes and no summary are all taken
-pub long-counted : (n : ℕ) (a : Account) → accountSteps a (replicate n longStep) ≡ n
+long-is-step : {c : Call} → LongStep c → IsStep c
+long-is-step (long fits) = is-step
+
+long-of-step : {c : Call} → LongStep c → OfBytes c
+long-of-step (long fits) = of-step
+
+-- steps with an answer buffer of 64 bytes or more and no summary are all taken
+pub long-counted : (a : Account) {calls : List Call} → All LongStep calls → accountSteps a calls ≡ length calls
 unfolding accountSteps accountStep argumentsGround firstOf wrongSummary shortAnswer
-long-counted zero a = refl
-long-counted (suc n) a = omega (arith, long-counted n (accountCall a longStep))
+long-counted a allEmpty = refl
+long-counted a (also (long {buffer} fits) ls) =
+    rw (le-ltb (length buffer) slots fits)
+    (omega (arith, long-counted (accountCall a (step (record { summary = without; buffer = buffer }))) ls))
 
-pub steps-only : (n : ℕ) → All IsStep (replicate n longStep)
-steps-only zero = allEmpty
-steps-only (suc n) = also is-step (steps-only n)
+pub long-only : {calls : List Call} → All LongStep calls → All IsStep calls
+long-only ls = all-map (λ c l. long-is-step l) ls
 
-pub steps-bytes : (n : ℕ) → All OfBytes (replicate n longStep)
-steps-bytes zero = allEmpty
-steps-bytes (suc n) = also of-step (steps-bytes n)
+pub long-bytes : {calls : List Call} → All LongStep calls → All OfBytes calls
+long-bytes ls = all-map (λ c l. long-of-step l) ls
 
 pub every-run-ends : EveryRunEnds
-every-run-ends file b g names bytes accepted n enough =
-    let may : permitted names (startOn file) (fresh names) (replicate n longStep) ≡ true =
-    steps-permitted names (startOn file) (fresh names) (unfold startOn in refl) (steps-only n) in
-    let same = counts-same file b g names bytes accepted (replicate n longStep) (steps-bytes n) may in
-    runs-end file b g names bytes accepted (replicate n longStep) (steps-bytes n) may .0
-    (omega (arith, enough, same, long-counted n (accountOf (namesIn (decode file)) names)))
+every-run-ends file b g names bytes accepted calls ls enough =
+    let may : permitted names (startOn file) (fresh names) calls ≡ true =
+    steps-permitted names (startOn file) (fresh names) (unfold startOn in refl) (long-only ls) in
+    let same = counts-same file b g names bytes accepted calls (long-bytes ls) may in
+    runs-end file b g names bytes accepted calls (long-bytes ls) may .0
+    (omega (arith, enough, same, long-counted (accountOf (namesIn (decode file)) names) ls))
+
+-- such steps with a buffer of 64 zeros
+abbrev pub longStep : Call
+longStep = step (record { summary = without; buffer = replicate slots 0 })
+
+pub long-steps : (n : ℕ) → All LongStep (replicate n longStep)
+long-steps zero = allEmpty
+long-steps (suc n) = also (long {buffer = replicate slots 0} (omega arith)) (long-steps n)
+
+pub long-many : (n : ℕ) (a : Account) → accountSteps a (replicate n longStep) ≡ n
+long-many n a = long-counted a (long-steps n) ∙ length-replicate n longStep

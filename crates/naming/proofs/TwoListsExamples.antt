@@ -24,12 +24,12 @@ use Rattle.naming.specs.Claims.Files.{m8File, m10File}
 use Rattle.naming.specs.Claims.Cases.{answerBuffer, slave}
 use Rattle.naming.specs.Claims.Demand.{startOn, permitted, OfBytes, of-frame}
 use Rattle.naming.specs.Claims.PermittedRounds.{fileAfter, runAfter, noFrames, oneMore}
-use Rattle.naming.specs.Claims.TwoLists.{NoCommon, ToItsEnd, longStep, SecondRun, RunsTogether}
+use Rattle.naming.specs.Claims.TwoLists.{NoCommon, ToItsEnd, SecondRun, RunsTogether}
 use Rattle.naming.proofs.OverBytes.{demand-3, bytes-after}
 use Rattle.naming.proofs.Lists.{steps-permitted}
 use Rattle.naming.proofs.PermittedRounds.{rounds-fit, each-multipartner}
-use Rattle.naming.proofs.TwoLists.{two-lists, joined-accepted, accountStep, accountSteps, counts-same, runs-end, long-counted}
-use Rattle.naming.proofs.TwoLists.{steps-only, steps-bytes}
+use Rattle.naming.proofs.TwoLists.{two-lists, joined-accepted, accountStep, accountSteps, counts-same, runs-end, longStep}
+use Rattle.naming.proofs.TwoLists.{long-steps, long-only, long-bytes, long-many}
 use Rattle.naming.proofs.TwoRuns.{end-mark, second-finds, two-runs}
 
 -- ---- every two lists: each run by as many steps as it has rounds, a multipartner round before them
@@ -42,20 +42,20 @@ busyRun n = other ∷ replicate n longStep
 
 module _ {file : List ℕ} (b : Bytes file) (g : fileGround file ≡ 0) {names : List ℕ} (l : Bytes names) (fit : startGround names ≡ 0) (n : ℕ) where
   busy-bytes : All OfBytes (busyRun n)
-  busy-bytes = also (of-frame (bytes-below (0x78 ∷ []) (unfold allBelow both in refl))) (steps-bytes n)
+  busy-bytes = also (of-frame (bytes-below (0x78 ∷ []) (unfold allBelow both in refl))) (long-bytes (long-steps n))
 
   busy-may : permitted names (startOn file) (fresh names) (busyRun n) ≡ true
   busy-may =
       let none = steps-permitted names (startOn file) (fresh names) (unfold startOn in refl) allEmpty in
       rounds-fit file names []
       (record { fileBytes = b; accepted = g; nameBytes = l; start = fit; callBytes = allEmpty; may = none })
-      ((0x78 ∷ []) ∷ []) (all-first each-multipartner) (other ∷ []) (oneMore (omega arith) noFrames) (replicate n longStep) (steps-only n)
+      ((0x78 ∷ []) ∷ []) (all-first each-multipartner) (other ∷ []) (oneMore (omega arith) noFrames) (replicate n longStep) (long-only (long-steps n))
 
   busy-ends : roundsFor (namesIn (decode file)) names ≤ n → ToItsEnd file names (busyRun n)
   unfolding accountSteps accountStep accountCall
   busy-ends enough =
       let counted = counts-same file b g names l fit (busyRun n) busy-bytes busy-may in
-      let long = long-counted n (accountOf (namesIn (decode file)) names) in
+      let long = long-many n (accountOf (namesIn (decode file)) names) in
       runs-end file b g names l fit (busyRun n) busy-bytes busy-may .0 (omega (arith, enough, counted, long))
 
 module _ {file : List ℕ} (b : Bytes file) (g : fileGround file ≡ 0) where

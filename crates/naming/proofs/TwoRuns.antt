@@ -1,13 +1,13 @@
 -- The end mark of a whole run; the rounds and comparisons of a run over A, of one over B after it, and of one over both.
 -- Assumes nothing.
-use Prim.Native.Nat.{ℕ, suc, _+_}
-use mathlib.Core.Path.{_≡_, refl, sym, ap, _∙_, subst}
+use Prim.Native.Nat.{ℕ, suc, _+_, _-_, _≤_}
+use mathlib.Core.Path.{_≡_, refl, sym, ap, ap₂, _∙_, subst}
 use mathlib.Core.List.{List, [], _∷_, _++_, map, append-nil}
 use mathlib.Core.Bool.{Bool, true, false, cond}
 use native.Mathlib.Omega.{arith}
-use lib.ListN.{length}
+use lib.ListN.{length, drop, length-drop}
 use lib.Dec.{eqb, ltb, leb·suc-suc}
-use borrow.Author.Tests.{lt-ltb, le-ltb}
+use borrow.Author.Tests.{lt-ltb, le-ltb, ltb-true, ltb-false}
 use Rattle.file.specs.Rules.Bytes.{Bytes, All, All.allEmpty, All.allNext as also}
 use Rattle.file.specs.Rules.Order.{both}
 use Rattle.file.specs.Rules.Decode.{decode}
@@ -32,7 +32,7 @@ use Rattle.naming.proofs.Tally.{due, dueComparisons, finally, extraDue,
 use Rattle.naming.proofs.Demand.{rounds-whole, comparisons-whole}
 use Rattle.naming.proofs.FromFile.{legal-slaves, accepted-names}
 use Rattle.naming.proofs.OverBytes.{demand-3, bytes-after}
-use Rattle.naming.proofs.TwoLists.{waiting-unnamed, none-left, none-waits, first-taken, first-given, facts-after, renamed-physicals}
+use Rattle.naming.proofs.TwoLists.{waiting-unnamed, free-same, none-left, none-waits, first-taken, first-given, facts-after, renamed-physicals}
 use Rattle.naming.proofs.TwoLists.{at-start, joined-names, joined-ground}
 
 -- ---- whether there are more free names than slaves that wait: no pass changes it
@@ -55,6 +55,34 @@ module _ (held : List ℕ) (n : ℕ) (ns : List ℕ) where
   outnumber-given : (p : ℕ) (ps : List ℕ) → isAmong n held ≡ false → outnumber held (p ∷ ps) (n ∷ ns) ≡ outnumber held ps ns
   unfolding freeNames
   outnumber-given p ps f = rw (f, leb·suc-suc (suc (length ps)) (length (freeNames held ns)))
+
+free-both : (held A B : List ℕ) → length (freeNames held (A ++ B)) ≡ length (freeNames held A) + length (freeNames held B)
+unfolding freeNames
+free-both held [] B = omega arith
+free-both held (n ∷ A) B =
+    byCase (isAmong n held) (λ t. rw t (free-both held A B)) (λ t. rw t (omega (arith, free-both held A B)))
+
+less-within : (u f g : ℕ) → ltb u f ≡ true → ltb u (f + g) ≡ true
+less-within u f g e = let less = ltb-true u f e in lt-ltb u (f + g) (omega arith)
+
+less-beyond : (u f g : ℕ) → ltb u f ≡ false → ltb u (f + g) ≡ ltb (u - f) g
+less-beyond u f g e =
+    let most : f ≤ u = ltb-false u f e in
+    byCase (ltb (u - f) g)
+    (λ t. let less = ltb-true (u - f) g t in rw t (lt-ltb u (f + g) (omega arith)))
+    (λ t. let more : g ≤ u - f = ltb-false (u - f) g t in rw t (le-ltb u (f + g) (omega arith)))
+
+-- so whether it is so over both lists: by the first alone if it is so there
+outnumber-within : (held ws A B : List ℕ) → outnumber held ws A ≡ true → outnumber held ws (A ++ B) ≡ true
+outnumber-within held ws A B more = rw (free-both held A B) (less-within (length ws) _ (length (freeNames held B)) more)
+
+-- else by the second, for those who wait still
+outnumber-beyond :
+    (held ws A B : List ℕ) → outnumber held ws A ≡ false →
+    outnumber held ws (A ++ B) ≡ outnumber held (drop (length (freeNames held A)) ws) B
+outnumber-beyond held ws A B few =
+    rw (free-both held A B, length-drop (length (freeNames held A)) ws)
+    (less-beyond (length ws) (length (freeNames held A)) (length (freeNames held B)) few)
 
 -- ---- the end mark
 
@@ -323,6 +351,29 @@ module _ (ss : List Named) (A B : List ℕ) where
           rw (sym (at-start ss A)) at passes,
         )
 
+    -- the run over both ends as B's run does
+    end-used-up : endFor ss A ≡ namesUsedUp → endFor ss (A ++ B) ≡ endFor (namesAfter ss A) B
+    unfolding endFor
+    end-used-up e =
+        let facts = facts-after A B waitingNow heldNow ss (start-facts ss (A ++ B) s names) in
+        let apart : Distinct (physicals (finally heldNow A waitingNow ss)) =
+        unfold finally in rw (renamed-physicals (givings waitingNow (freeNames heldNow A)) ss) (s .different) in
+        rw (at-start ss A)
+        (ap (λ (more : Bool). cond more allNamed namesUsedUp)
+        (sym (ap (λ (u : ℕ). ltb u (length (freeNames heldNow (A ++ B)))) (length-falling (unnamedAmong ss)))
+        ∙ outnumber-beyond heldNow waitingNow A B (fewer-free e)
+        ∙ ap₂ (λ (u : List ℕ) (f : List ℕ). ltb (length u) (length f)) (waiting-unnamed apart facts)
+        (free-same heldNow (namesHeld (finally heldNow A waitingNow ss)) (facts .taken))
+        ∙ ap (λ (u : ℕ). ltb u (length (freeNames (namesHeld (finally heldNow A waitingNow ss)) B)))
+        (length-falling (unnamedAmong (finally heldNow A waitingNow ss)))))
+
+  end-named : endFor ss A ≡ allNamed → endFor ss (A ++ B) ≡ allNamed
+  unfolding endFor
+  end-named e =
+      ap (λ (more : Bool). cond more allNamed namesUsedUp)
+      (sym (ap (λ (u : ℕ). ltb u (length (freeNames heldNow (A ++ B)))) (length-falling (unnamedAmong ss)))
+      ∙ outnumber-within heldNow waitingNow A B (more-free e))
+
   rounds-named : endFor ss A ≡ allNamed → roundsFor ss A ≡ roundsFor ss (A ++ B)
   rounds-named e =
       omega (
@@ -411,6 +462,8 @@ runs-together {ss} {A} {B} s a names one two all =
           let more = more-free ss A B (sym (one .end) ∙ m) in
           let none = nobody-left A (falling (unnamedAmong ss)) (namesHeld ss) ss (s .different) facts more in
           two .rounds ∙ rounds-nobody (namesAfter ss A) B (rw (sym (at-start ss A)) at none);
+      usedUpEnd = λ m. all .end ∙ end-used-up ss A B s names (sym (one .end) ∙ m) ∙ sym (two .end);
+      namedEnd = λ m. all .end ∙ end-named ss A B (sym (one .end) ∙ m);
     }
 
 pub two-runs : TwoRuns

@@ -6,12 +6,24 @@ use mathlib.Core.Bool.{Bool, true, false}
 use Rattle.file.specs.Rules.Results.{Result, refused, done}
 use Rattle.file.proofs.Order.{clash}
 use Rattle.cluster.specs.Rules.Round.{Answer}
+use Rattle.screens.specs.declared.state.DueScreen.{DueScreen}
+use Rattle.screens.specs.declared.state.DueScreen.the-variants as dues
 use Rattle.screens.specs.declared.post.Posted.{Posted}
 use Rattle.screens.specs.declared.post.Posted.the-variants as posts
 use Rattle.screens.specs.declared.turn.Turned.{Turned}
 use Rattle.screens.specs.declared.turn.Turned.the-variants as turns
+use Rattle.screens.specs.Rules.Screens.{Due, nobody, screen}
 use Rattle.screens.specs.Rules.Turn.{Turn, idle, served, servedBy}
-use Rattle.screens.specs.Inner.Answers.{postedOf, turnedOf}
+use Rattle.screens.specs.Inner.Answers.{dueOf, postedOf, turnedOf}
+
+looking : Due → DueScreen
+looking nobody = dues.Nobody
+looking (screen i) = dues.Screen i
+
+looking-back : (a : DueScreen) → looking (dueOf a) ≡ a
+unfolding looking dueOf
+looking-back dues.Nobody = refl
+looking-back (dues.Screen i) = refl
 
 posting : Result (Unit {0}) → Posted
 posting (refused n) = posts.Refused (record { 0 = n })
@@ -32,6 +44,9 @@ unfolding turning turnedOf
 turning-back (turns.Refused why) = refl
 turning-back turns.Idle = refl
 turning-back (turns.Served i mask) = refl
+
+pub dues-distinct : (a b : DueScreen) → dueOf a ≡ dueOf b → a ≡ b
+dues-distinct a b h = sym (looking-back a) ∙ (ap looking h ∙ looking-back b)
 
 pub posts-distinct : (a b : Posted) → postedOf a ≡ postedOf b → a ≡ b
 posts-distinct a b h = sym (posting-back a) ∙ (ap posting h ∙ posting-back b)

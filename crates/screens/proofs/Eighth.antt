@@ -6,32 +6,42 @@ use mathlib.Core.List.{List, [], _∷_}
 use native.Mathlib.Omega.{arith}
 use lib.ListN.{length, replicate}
 use Rattle.file.specs.Rules.Order.{firstOf, both, either}
-use Rattle.file.specs.Rules.Results.{Result, done}
+use Rattle.file.specs.Rules.Results.{Result, done, resultOf}
 use Rattle.file.specs.Rules.Grounds.{fileGround}
 use Rattle.frame.specs.Rules.Grounds.{broadcastRead, noFileNumber}
 use Rattle.cluster.specs.Rules.Bus.{slots}
 use Rattle.screens.specs.Rules.Screens.{lastServed, placeOf, isWaiting, Read, readOf, screen, nextScreen, dueFrom, due, noScreen}
 use Rattle.screens.specs.Rules.Screens.{readBy, readGrounds, postGround, posted, postOn}
 use Rattle.screens.specs.Rules.Turn.{Turn, afterServing, dueGrounds, stateGrounds, turnGround}
-use Rattle.screens.specs.Claims.Fairness.{Call, post, turn, stateAfter, acceptedBy, acceptedTurns, Serves, ServedWithin, now, later}
-use Rattle.screens.specs.Claims.Fairness.{allWaiting, SevenAreTooFew}
+use Rattle.screens.specs.Claims.Fairness.{Call, post, turn, stateAfter, acceptedBy, acceptedTurns, Serves, ServedWithin}
+use Rattle.screens.specs.Claims.Fairness.{ServedAmong, here, behind, allWaiting, SevenAreTooFew}
 use Rattle.screens.proofs.Distinct.{served-by-same}
 use Rattle.screens.proofs.Grounds.{turn-none}
 use Rattle.screens.proofs.Turns.{turn-serves}
-use Rattle.screens.proofs.Fairness.{state-left, counted, one-done}
+use Rattle.screens.proofs.Fairness.{state-left, counted, one-done, posted-is-served}
 
 -- the calls are that many accepted turns, and none of them serves screen 0
 record Unserved (state : List ℕ) (calls : List Call) (turns : ℕ) : Type 0 where
   accepted : acceptedTurns state calls ≡ turns
-  never : (r : Read) (n : ℕ) → ServedWithin 0 r n state calls → ⊥
+  never : (r : Read) → ServedAmong 0 r state calls → ⊥
 
-some-calls : {i n : ℕ} {r : Read} {state : List ℕ} {calls : List Call} → ServedWithin i r n state calls → 0 < length calls
-some-calls (now s) = omega arith
-some-calls (later b s) = omega arith
+some-calls : {i : ℕ} {r : Read} {state : List ℕ} {calls : List Call} → ServedAmong i r state calls → 0 < length calls
+some-calls (here s) = omega arith
+some-calls (behind s) = omega arith
 
 no-calls : (state : List ℕ) → Unserved state [] 0
 unfolding acceptedTurns
-no-calls state = record { accepted = refl; never = λ r n s. let l = some-calls s in absurd (omega (arith, l)) }
+no-calls state = record { accepted = refl; never = λ r s. let l = some-calls s in absurd (omega (arith, l)) }
+
+-- all wait but screen 1, which was served last
+abbrev pub sevenWaiting : List ℕ
+sevenWaiting = 1 ∷ 1 ∷ 1 ∷ 1 ∷ 1 ∷ 0 ∷ replicate 27 1
+
+-- it posts, and eight turns behind the post are accepted
+pub record PostedThenEight (file buffer : List ℕ) : Type 0 where
+  pub taken : postOn sevenWaiting 1 (readBy 1 1 1) .0 ≡ done tt
+  pub accepted : acceptedTurns (postOn sevenWaiting 1 (readBy 1 1 1) .1) (replicate 8 (turn file buffer)) ≡ 8
+  pub served : ServedWithin 1 (readBy 1 1 1) 8 (postOn sevenWaiting 1 (readBy 1 1 1) .1) (replicate 8 (turn file buffer))
 
 module _ (file buffer : List ℕ) (good : fileGround file ≡ 0) (long : slots ≤ length buffer) where
   module _ (state : List ℕ) (j : ℕ) (fits : firstOf (stateGrounds state) ≡ 0) (is : due state ≡ screen j) where
@@ -60,9 +70,9 @@ module _ (file buffer : List ℕ) (good : fileGround file ≡ 0) (long : slots �
           let same : 0 ≡ j = served-by-same 0 j _ _ told in
           omega (arith, same, some)
 
-      never-here : (r : Read) (n : ℕ) → ServedWithin 0 r n state (turn file buffer ∷ calls) → ⊥
-      never-here r n (now s) = not-0 r s
-      never-here r n (later {m = m} b s) = rest .never r m (subst (λ (x : List ℕ). ServedWithin 0 r m x calls) after s)
+      never-here : (r : Read) → ServedAmong 0 r state (turn file buffer ∷ calls) → ⊥
+      never-here r (here s) = not-0 r s
+      never-here r (behind s) = rest .never r (subst (λ (x : List ℕ). ServedAmong 0 r x calls) after s)
 
       one-more : Unserved state (turn file buffer ∷ calls) (suc turns)
       one-more = record { accepted = one-accepted calls (rest .accepted); never = never-here }
@@ -116,6 +126,22 @@ module _ (file buffer : List ℕ) (good : fileGround file ≡ 0) (long : slots �
       (one-accepted (reposted 2) 4 refl refl (some 4) (one-accepted (reposted 3) 5 refl refl (some 3)
       (one-accepted (reposted 4) 6 refl refl (some 2) (one-accepted (reposted 5) 7 refl refl (some 1)
       (one-accepted (reposted 6) 0 refl refl [] refl))))))))
+
+  -- what is asked of a posted read can be met
+  pub posted-then-eight : PostedThenEight file buffer
+  unfolding seven-turns reposted acceptedTurns postOn postGround posted either resultOf
+  posted-then-eight =
+      let some : ℕ → List Call = λ n. replicate n (turn file buffer) in
+      let accepted : acceptedTurns (reposted 0) (some 8) ≡ 8 =
+      one-accepted (reposted 0) 2 refl refl (some 7) (one-accepted (reposted 1) 3 refl refl (some 6)
+      (one-accepted (reposted 2) 4 refl refl (some 5) (one-accepted (reposted 3) 5 refl refl (some 4)
+      (one-accepted (reposted 4) 6 refl refl (some 3) (one-accepted (reposted 5) 7 refl refl (some 2)
+      (one-accepted (reposted 6) 0 refl refl (some 1) (one-accepted (afterServing (reposted 6) 0) 1 refl refl [] refl))))))) in
+      record {
+        taken = refl;
+        accepted = accepted;
+        served = posted-is-served sevenWaiting refl 1 (readBy 1 1 1) refl (some 8) (omega (arith, accepted));
+      }
 
 pub seven-are-too-few : SevenAreTooFew
 seven-are-too-few file buffer good long =

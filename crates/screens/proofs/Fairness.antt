@@ -141,16 +141,15 @@ one-turn :
     ServedWithin i r n state (turn file buffer ∷ cs)
 one-turn {state} {file} {buffer} {i} {r} n turns cs few at l enough (kept same none) rest =
     let bound : acceptedBy state (turn file buffer) + n ≤ n = omega (arith, none) in
-    later bound
-    (rest n (lastServed state) (subst (λ (s : List ℕ). Waiting s i r (lastServed state)) (sym same) at) l (omega (arith, none, enough)))
+    let still = subst (λ (s : List ℕ). Waiting s i r (lastServed state)) (sym same) at in
+    later bound (still .waits) (still .read) (rest n (lastServed state) still l (omega (arith, none, enough)))
 one-turn zero turns cs few at l enough (own serves) rest = absurd (omega (arith, l))
 one-turn (suc n) turns cs few at l enough (own serves) rest = now serves
 one-turn {state} {file} {buffer} {i} {r} n turns cs few at l enough (other {j = j} differs b near′ last after one) rest =
     let shorter = closer (lastServed state) i j last few b differs near′ in
     let bound : acceptedBy state (turn file buffer) + (n - 1) ≤ n = omega (arith, one, l) in
-    later bound
-    (rest (n - 1) j (subst (λ (s : List ℕ). Waiting s i r j) (sym after) (serving-waits at j differs)) (omega (arith, shorter, l))
-    (omega (arith, one, enough)))
+    let still = subst (λ (s : List ℕ). Waiting s i r j) (sym after) (serving-waits at j differs) in
+    later bound (still .waits) (still .read) (rest (n - 1) j still (omega (arith, shorter, l)) (omega (arith, one, enough)))
 
 fair-from :
     (calls : List Call) (state : List ℕ) (i : ℕ) (r : Read) (n last : ℕ) → i < 8 → Waiting state i r last → away last i < n →
@@ -160,8 +159,9 @@ fair-from [] state i r n last few at l enough = absurd (omega (arith, l, enough)
 fair-from (post j q ∷ cs) state i r n last few at l enough =
     let none : acceptedBy state (post j q) ≡ 0 = unfold acceptedBy in refl in
     let bound : acceptedBy state (post j q) + n ≤ n = omega (arith, none) in
-    later bound
-    (fair-from cs (stateAfter state (post j q)) i r n last few (post-keeps at j q) l (omega (arith, none, enough)))
+    let still = post-keeps at j q in
+    later bound (still .waits) (still .read)
+    (fair-from cs (stateAfter state (post j q)) i r n last few still l (omega (arith, none, enough)))
 fair-from (turn file buffer ∷ cs) state i r n last few at l enough =
     let here : Waiting state i r (lastServed state) = record { waits = at .waits; read = at .read; served = refl } in
     let way : away (lastServed state) i < n = rw (at .served) l in

@@ -6,14 +6,15 @@ use mathlib.Core.Path.{_≡_, refl, sym, ap, _∙_}
 use mathlib.Core.Logic.{_≢_}
 use mathlib.Core.List.{List, [], _∷_, _++_}
 use mathlib.Core.Bool.{true, false}
-use lib.ListN.{length}
+use lib.ListN.{length, take}
 use lib.Dec.{eqb}
-use borrow.Author.Tests.{eq-eqb, ne-eqb, lt-ltb, le-ltb, ltb-false}
+use borrow.Author.Tests.{eqb-true, eqb-false, eq-eqb, ne-eqb, lt-ltb, le-ltb, ltb-false}
 use Rattle.file.specs.Rules.Bytes.{All, All.allEmpty, All.allNext as also}
 use Rattle.file.specs.Rules.Order.{Ground, firstOf, either}
 use Rattle.file.specs.Rules.Results.{refused}
 use Rattle.file.specs.Rules.Grounds.{fileGround, fileGrounds}
-use Rattle.file.proofs.Order.{Numbered, first-none, either-right, joined-here, joined-next, joined-left, joined-right}
+use Rattle.file.specs.Claims.Edition.{NoEdition}
+use Rattle.file.proofs.Order.{Numbered, byCase, first-none, either-right, joined-here, joined-next, joined-left, joined-right}
 use Rattle.file.proofs.Edition.{unknown-edition, refused-edition}
 use Rattle.cluster.specs.Rules.Bus.{slots}
 use Rattle.cluster.specs.Rules.Grounds.{shortAnswer}
@@ -148,10 +149,28 @@ module _ (s f buffer : List ℕ) where
 pub turn-grounds-in-order : TurnGroundsInOrder
 turn-grounds-in-order = record { state = state-decides; file = turn-file; buffer = turn-buffer; none = turn-none }
 
+module _ (f g : List ℕ) (long : length f ≡ length g) (front : take 3 f ≡ take 3 g) (other : NoEdition f) where
+  edition-refuses : (s t a b : List ℕ) → firstOf (stateGrounds s) ≡ 0 → firstOf (stateGrounds t) ≡ 0 → turnOn s f a .0 ≡ turnOn t g b .0
+  edition-refuses s t a b ns nt =
+      let same : fileGround f ≡ fileGround g = unknown-edition f g long front other in
+      let some : fileGround f ≢ 0 = refused-edition f other in
+      let by-f : turnGround s f a ≡ fileGround f = turn-file s f a ns some in
+      let by-g : turnGround t g b ≡ fileGround f = turn-file t g b nt (λ z. some (same ∙ z)) ∙ sym same in
+      rw (turn-refused s f a (λ z. some (sym by-f ∙ z)), turn-refused t g b (λ z. some (sym by-g ∙ z)), by-f, by-g)
+
+  state-refuses : (s a b : List ℕ) → firstOf (stateGrounds s) ≢ 0 → turnOn s f a .0 ≡ turnOn s g b .0
+  state-refuses s a b some =
+      let by-f = state-decides s f a some in
+      let by-g = state-decides s g b some in
+      rw (turn-refused s f a (λ z. some (sym by-f ∙ z)), turn-refused s g b (λ z. some (sym by-g ∙ z)), by-f, by-g)
+
 pub turn-edition : UnknownEdition
-turn-edition s t f g a b ns nt long front other =
-    let same : fileGround f ≡ fileGround g = unknown-edition f g long front other in
-    let some : fileGround f ≢ 0 = refused-edition f other in
-    let by-f : turnGround s f a ≡ fileGround f = turn-file s f a ns some in
-    let by-g : turnGround t g b ≡ fileGround f = turn-file t g b nt (λ z. some (same ∙ z)) ∙ sym same in
-    rw (turn-refused s f a (λ z. some (sym by-f ∙ z)), turn-refused t g b (λ z. some (sym by-g ∙ z)), by-f, by-g)
+turn-edition =
+    record {
+      ofState =
+          λ s f g a b long front other.
+          byCase (eqb (firstOf (stateGrounds s)) 0)
+          (λ t. edition-refuses f g long front other s s a b (eqb-true _ _ t) (eqb-true _ _ t))
+          (λ t. state-refuses f g long front other s a b (eqb-false _ _ t));
+      ofFile = λ s t f g a b ns nt long front other. edition-refuses f g long front other s t a b ns nt;
+    }

@@ -3,11 +3,13 @@ use Rattle.ttpa.specs.Claims.Holder.{HolderTellsFirst}
 use Rattle.ttpa.specs.Claims.Numbers.{RefusedByNumbers}
 use Rattle.ttpa.specs.Claims.Refusals.{RefusalsAlterNothing}
 use Rattle.ttpa.specs.Claims.Conversion.{ConversionWritten, ConversionsComeBack, ConversionWidens, ConversionCopies}
+use Rattle.ttpa.specs.Claims.Turns.{ScreensStart, PostNumbers, TurnNumbers, PostTaken, ServedWaitsNoMore}
 use Rattle.ttpa.specs.Claims.Turns.{TurnsAreRounds, TurnKeepsSummary, FairOverCalls, PostedIsServed}
 use Rattle.ttpa.proofs.HolderLaws.{holder-tells-first}
 use Rattle.ttpa.proofs.Numbers.{refused-by-numbers}
 use Rattle.ttpa.proofs.Refusals.{refusals-alter-nothing}
 use Rattle.ttpa.proofs.Conversion.{conversion-written, conversions-come-back, conversion-widens, conversion-copies}
+use Rattle.ttpa.proofs.Turns.{screens-start, post-numbers, turn-numbers, post-taken-call, served-waits-no-more-call}
 use Rattle.ttpa.proofs.Turns.{turns-are-rounds, turn-keeps-summary-call, fair-over-calls, posted-is-served}
 
 pub held-refused-by-numbers : RefusedByNumbers
@@ -30,6 +32,21 @@ held-conversion-widens = conversion-widens
 
 pub held-conversion-copies : ConversionCopies
 held-conversion-copies = conversion-copies
+
+pub held-screens-start : ScreensStart
+held-screens-start = screens-start
+
+pub held-post-numbers : PostNumbers
+held-post-numbers = post-numbers
+
+pub held-turn-numbers : TurnNumbers
+held-turn-numbers = turn-numbers
+
+pub held-post-taken : PostTaken
+held-post-taken = post-taken-call
+
+pub held-served-waits-no-more : ServedWaitsNoMore
+held-served-waits-no-more = served-waits-no-more-call
 
 pub held-turns-are-rounds : TurnsAreRounds
 held-turns-are-rounds = turns-are-rounds

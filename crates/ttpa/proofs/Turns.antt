@@ -8,7 +8,7 @@ use native.Mathlib.Omega.{arith}
 use lib.ListN.{length, drop, replicate, drop-of-length-le}
 use lib.Dec.{eqb}
 use borrow.Author.Tests.{eqb-true, eqb-false}
-use Rattle.file.specs.Rules.Bytes.{Byte, Bytes, All, allNext}
+use Rattle.file.specs.Rules.Bytes.{Byte, Bytes, All, allEmpty, allNext}
 use Rattle.file.specs.Rules.Order.{firstOf, both, either}
 use Rattle.file.specs.Rules.Results.{Result, refused, done, resultOf, numberIn}
 use Rattle.file.specs.Rules.Grounds.{fileGround}
@@ -20,24 +20,26 @@ use Rattle.frame.specs.Rules.Frames.{frameSize, frameOf, addressBytes, addressF
 use Rattle.frame.specs.Rules.Grounds.{noFileNumber, broadcastRead}
 use Rattle.frame.proofs.Written.{write-fits, address-writes}
 use Rattle.cluster.specs.Rules.Bus.{slots}
+use Rattle.cluster.specs.Rules.Round.{Answer}
 use Rattle.cluster.specs.Rules.Slaves.{nextEpoch}
 use Rattle.cluster.specs.Rules.MasterSlave.{addressSent, dataSent, roundSent}
 use Rattle.cluster.specs.Inner.Sending.{MaySend}
 use Rattle.screens.specs.Rules.Screens.{lastServed, placeOf, isWaiting, Read, readBy, readOf, Due, nobody, due, noScreen, readGrounds}
 use Rattle.screens.specs.Rules.Screens.{postGround, postOn}
 use Rattle.screens.specs.Rules.Screens as Screens
-use Rattle.screens.specs.Rules.Turn.{Turn, readSent, afterServing, turnGround, turnOn}
-use Rattle.screens.specs.Claims.Turns.{DueExactly, TurnIsRound}
+use Rattle.screens.specs.Rules.Turn.{Turn, idle, served, servedBy, readSent, afterServing, turnGround, turnOn}
+use Rattle.screens.specs.Claims.Turns.{DueExactly, TurnIsRound, WaitsNoMore}
 use Rattle.screens.specs.Claims.Fairness.{allWaiting}
 use Rattle.screens.specs.Claims.Fairness as Fairness
 use Rattle.screens.proofs.Grounds.{turn-refused, turn-free, state-last}
-use Rattle.screens.proofs.Due.{due-is-next}
+use Rattle.screens.proofs.Due.{due-is-next, starts-at-zero}
 use Rattle.screens.proofs.Names.{turn-keeps-summary}
 use Rattle.screens.proofs.Turns as turns
-use Rattle.screens.proofs.Posts.{post-accepted}
+use Rattle.screens.proofs.Posts.{post-accepted, post-ground, post-waits}
 use Rattle.screens.proofs.Fairness as fairness
-use Rattle.screens.proofs.Eighth.{eight-turns, first-turn, eight-with-post}
-use Rattle.ttpa.specs.Rules.Calls.{lentAfter, writeAddressCall, roundCall, postCall, noneWaited, turnScreen, turnSenders, turnCall}
+use Rattle.screens.proofs.Eighth.{eight-turns, first-turn, eight-with-post, sevenWaiting, posted-then-eight}
+use Rattle.ttpa.specs.Rules.Calls.{lentAfter, writeAddressCall, roundCall, screensCall, postCall, noneWaited, turnScreen, turnSenders, turnCall}
+use Rattle.ttpa.specs.Claims.Turns.{ScreensStart, PostNumbers, TurnNumbers, PostTaken, ServedWaitsNoMore}
 use Rattle.ttpa.specs.Claims.Turns.{readFrame, bothFrames, ReadByRounds, ServesRead, TurnDone, serves, noneWaits}
 use Rattle.ttpa.specs.Claims.Turns.{TurnsAreRounds, TurnKeepsSummary, ScreenCall, ttpaPost, ttpaTurn, stateAfter, acceptedBy}
 use Rattle.ttpa.specs.Claims.Turns.{acceptedTurns}
@@ -119,6 +121,74 @@ turns-are-rounds file state answer senders told fb sb e = by-due (due state) ref
         let record′ : Byte (readOf state i .«record») = unfold readOf in byte-at sb (placeOf i + 3) in
         serves (due-exactly .next i .0 is) (serves-read file state answer senders told i (readOf state i) name record′ fb given)
 
+-- ---- the start, a post, and a screen that is served
+
+pub post-numbers : PostNumbers
+post-numbers = post-number
+
+pub turn-numbers : TurnNumbers
+turn-numbers = turn-number
+
+pub screens-start : ScreensStart
+unfolding screensCall
+screens-start state = starts-at-zero
+
+post-answered :
+    (state : List ℕ) (i name file «record» : ℕ) → postCall state i name file «record» .0 ≡ 0 →
+    postOn state i (readBy name file «record») .0 ≡ done tt
+post-answered state i name file record′ e =
+    ap (λ (p : Result (Unit {0}) × List ℕ). p .0)
+    (post-accepted state i (readBy name file record′) (sym (post-number state i name file record′) ∙ e))
+
+pub post-taken-call : PostTaken
+unfolding postCall
+post-taken-call state i name file record′ long e =
+    post-waits state i (readBy name file record′) long (post-answered state i name file record′ e)
+
+-- whatever the answer to the data frame, a served screen is told
+served-told : (i : ℕ) (a : Answer) → (n : ℕ) × (servedBy i a ≡ served i n)
+unfolding servedBy
+served-told i (refused n) = (0, refl)
+served-told i (done n) = (n, refl)
+
+module _ (file state answer : List ℕ) (senders told : ℕ) where
+  idle-told : turnOn state file answer .0 ≡ done idle → turnCall file state answer senders told .2 ≡ 8
+  unfolding turnCall turnScreen noneWaited
+  idle-told is = rw is
+
+  screen-told : (i n : ℕ) → turnOn state file answer .0 ≡ done (served i n) → turnCall file state answer senders told .2 ≡ i
+  unfolding turnCall turnScreen
+  screen-told i n is = rw is
+
+  no-more :
+      (i n : ℕ) → length state ≡ 33 → turnOn state file answer .0 ≡ done (served i n) →
+      WaitsNoMore state i (turnCall file state answer senders told .3)
+  unfolding turnCall
+  no-more i n long is = turns.served-waits-no-more state file answer i n long is
+
+-- what a turn answers
+abbrev answered : Result Turn × List ℕ × List ℕ × List ℕ → Result Turn
+answered t = t .0
+
+pub served-waits-no-more-call : ServedWaitsNoMore
+served-waits-no-more-call file state answer senders told long e few = by-due (due state) refl
+  where
+    none : turnGround state file answer ≡ 0
+    none = sym (turn-number file state answer senders told) ∙ e
+
+    by-due :
+        (d : Due) → due state ≡ d →
+        WaitsNoMore state (turnCall file state answer senders told .2) (turnCall file state answer senders told .3)
+    by-due nobody is =
+        let eight = idle-told file state answer senders told (ap answered (turns.turn-idles state file answer none is)) in
+        absurd (omega (arith, eight, few))
+    by-due (Screens.screen i) is =
+        let (n, by) = served-told i (roundSent file (readSent (readOf state i)) answer .0) in
+        let done′ : turnOn state file answer .0 ≡ done (served i n) =
+        ap answered (turns.turn-serves state file answer none i is) ∙ ap done by in
+        subst (λ (j : ℕ). WaitsNoMore state j (turnCall file state answer senders told .3))
+        (sym (screen-told file state answer senders told i n done′)) (no-more file state answer senders told i n long done′)
+
 pub turn-keeps-summary-call : TurnKeepsSummary
 unfolding turnCall
 turn-keeps-summary-call file state answer senders told held count fb sb m = turn-keeps-summary state file answer _ sb fb m
@@ -156,20 +226,29 @@ same-turns state [] = refl
 same-turns state (c ∷ cs) = rw (same-count state c, same-state state c, same-turns (stateAfter state c) cs)
 
 module _ (i : ℕ) (r : Read) (name : Byte (r .name)) (record′ : Byte (r .«record»)) where
+  still-waits :
+      (state : List ℕ) (c : ScreenCall) → isWaiting (Fairness.stateAfter state (callOf c)) i ≡ true → isWaiting (stateAfter state c) i ≡ true
+  still-waits state c w = subst (λ (x : List ℕ). isWaiting x i ≡ true) (same-state state c) w
+
+  still-read : (state : List ℕ) (c : ScreenCall) → readOf (Fairness.stateAfter state (callOf c)) i ≡ r → readOf (stateAfter state c) i ≡ r
+  still-read state c q = subst (λ (x : List ℕ). readOf x i ≡ r) (same-state state c) q
+
   over-calls :
       {n : ℕ} {state : List ℕ} (cs : List ScreenCall) → All FileOfBytes cs → Fairness.ServedWithin i r n state (map callOf cs) →
       ServedWithin i r n state cs
   unfolding callOf
-  over-calls {n = n} {state = state} (ttpaPost screen name file «record» ∷ cs) (allNext b bs) (Fairness.later {m = m} l s) =
+  over-calls {n = n} {state = state} (ttpaPost screen name file «record» ∷ cs) (allNext b bs) (Fairness.later {m = m} l w q s) =
       let c : ScreenCall = ttpaPost screen name file «record» in
       let bound : acceptedBy state c + m ≤ n = rw (same-count state c) at l in
-      later bound (over-calls cs bs (subst (λ (x : List ℕ). Fairness.ServedWithin i r m x (map callOf cs)) (same-state state c) s))
+      later bound (still-waits state c w) (still-read state c q)
+      (over-calls cs bs (subst (λ (x : List ℕ). Fairness.ServedWithin i r m x (map callOf cs)) (same-state state c) s))
   over-calls {state = state} (ttpaTurn file answer senders screen ∷ cs) (allNext (inTurn fb) bs) (Fairness.now s) =
-      now (serves-read file state answer senders screen i r name record′ fb s)
-  over-calls {n = n} {state = state} (ttpaTurn file answer senders screen ∷ cs) (allNext b bs) (Fairness.later {m = m} l s) =
+      now (s .stands) (serves-read file state answer senders screen i r name record′ fb s)
+  over-calls {n = n} {state = state} (ttpaTurn file answer senders screen ∷ cs) (allNext b bs) (Fairness.later {m = m} l w q s) =
       let c : ScreenCall = ttpaTurn file answer senders screen in
       let bound : acceptedBy state c + m ≤ n = rw (same-count state c) at l in
-      later bound (over-calls cs bs (subst (λ (x : List ℕ). Fairness.ServedWithin i r m x (map callOf cs)) (same-state state c) s))
+      later bound (still-waits state c w) (still-read state c q)
+      (over-calls cs bs (subst (λ (x : List ℕ). Fairness.ServedWithin i r m x (map callOf cs)) (same-state state c) s))
 
 pub fair-over-calls : FairOverCalls
 fair-over-calls state sb i few waits calls bytes enough =
@@ -181,10 +260,9 @@ fair-over-calls state sb i few waits calls bytes enough =
 pub posted-is-served : PostedIsServed
 unfolding postCall
 posted-is-served state long i name file record′ nb rb e calls bytes enough =
-    let taken = post-accepted state i (readBy name file record′) (sym (post-number state i name file record′) ∙ e) in
-    let answered : postOn state i (readBy name file record′) .0 ≡ done tt = ap (λ (p : Result (Unit {0}) × List ℕ). p .0) taken in
+    let taken = post-answered state i name file record′ e in
     over-calls i (readBy name file record′) nb rb calls bytes
-    (fairness.posted-is-served state long i (readBy name file record′) answered (map callOf calls) (rw (same-turns _ calls) enough))
+    (fairness.posted-is-served state long i (readBy name file record′) taken (map callOf calls) (rw (same-turns _ calls) enough))
 
 -- ---- what the claims on fairness ask can be met: eight turns in a row that return 0, and eight with a post between them
 
@@ -193,6 +271,12 @@ pub record PostBetween (file answer : List ℕ) : Type 0 where
   pub taken : postCall (stateAfter allWaiting (ttpaTurn file answer 0 0)) 1 1 1 1 .0 ≡ 0
   pub accepted :
       acceptedTurns allWaiting (ttpaTurn file answer 0 0 ∷ ttpaPost 1 1 1 1 ∷ replicate 7 (ttpaTurn file answer 0 0)) ≡ 8
+
+-- the post first, and eight turns behind it
+pub record PostedThenEight (file answer : List ℕ) : Type 0 where
+  pub taken : postCall sevenWaiting 1 1 1 1 .0 ≡ 0
+  pub accepted : acceptedTurns (postCall sevenWaiting 1 1 1 1 .1) (replicate 8 (ttpaTurn file answer 0 0)) ≡ 8
+  pub served : ServedWithin 1 (readBy 1 1 1) 8 (postCall sevenWaiting 1 1 1 1 .1) (replicate 8 (ttpaTurn file answer 0 0))
 
 post-taken : postCall (afterServing allWaiting 1) 1 1 1 1 .0 ≡ 0
 unfolding postCall postOn postGround afterServing isWaiting lastServed placeOf noScreen readGrounds noFileNumber broadcastRead firstOf either both resultOf numberIn
@@ -215,4 +299,23 @@ module _ (file answer : List ℕ) (good : fileGround file ≡ 0) (long : slots �
         accepted =
             sym (same-turns allWaiting (ttpaTurn file answer 0 0 ∷ ttpaPost 1 1 1 1 ∷ replicate 7 (ttpaTurn file answer 0 0)))
             ∙ eight-with-post file answer good long;
+      }
+
+  -- the one screen that does not wait posts, and the eighth turn behind the post serves it
+  pub posted-then-eight-over-calls : Bytes file → PostedThenEight file answer
+  unfolding callOf postCall
+  posted-then-eight-over-calls fb =
+      let turns : List ScreenCall = replicate 8 (ttpaTurn file answer 0 0) in
+      let given = posted-then-eight file answer good long in
+      let taken : postCall sevenWaiting 1 1 1 1 .0 ≡ 0 =
+      post-number sevenWaiting 1 1 1 1 ∙ post-ground sevenWaiting 1 (readBy 1 1 1) (given .taken) in
+      let accepted : acceptedTurns (postCall sevenWaiting 1 1 1 1 .1) turns ≡ 8 =
+      sym (same-turns (postOn sevenWaiting 1 (readBy 1 1 1) .1) turns) ∙ given .accepted in
+      let by : FileOfBytes (ttpaTurn file answer 0 0) = inTurn fb in
+      let bytes : All FileOfBytes turns =
+      allNext by (allNext by (allNext by (allNext by (allNext by (allNext by (allNext by (allNext by allEmpty))))))) in
+      record {
+        taken = taken;
+        accepted = accepted;
+        served = posted-is-served sevenWaiting refl 1 1 1 1 (omega arith) (omega arith) taken turns bytes (omega (arith, accepted));
       }

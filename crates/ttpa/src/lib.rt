@@ -38,7 +38,6 @@ use owner::write::OwnerAnswer;
 use owner::write::write_owner;
 use screens::post::Posted;
 use screens::post::post;
-use screens::state::SCREENS;
 use screens::state::ScreenState;
 use screens::state::fresh_state;
 use screens::turn::Turned;
@@ -83,6 +82,9 @@ const LOW: usize = 7;
 
 // Told where nobody holds a name: TTPA_NOBODY.
 const NOBODY: u64 = 0xFFFFFFFFFFFFFFFF;
+
+// Told where no screen waited: TTPA_NO_SCREEN.
+const NO_SCREEN: u8 = 8;
 
 #[no_mangle]
 pub extern "C" fn ttpa_version() -> u32
@@ -440,7 +442,7 @@ pub extern "C" fn ttpa_turn(
     match turned {
         Turned::Refused(why) => why.0,
         Turned::Idle => {
-            *screen = SCREENS;
+            *screen = NO_SCREEN;
             0
         }
         Turned::Served {

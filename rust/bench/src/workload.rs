@@ -178,22 +178,7 @@ impl Workload {
             ["check", slaves, files] => {
                 Workload::Check { file: files::small(number(slaves)?, number(files)?, |_| 0xFF) }
             }
-            ["address", slaves] => Workload::Frame {
-                file: files::small(number(slaves)?, 2, |_| 0xFF),
-                frame: framed(MSA, [0x05, 0xFF, 0x22, 0x02]),
-            },
-            ["read", "one", "of", slaves] => {
-                pending(number(slaves)?, |slave| slave as u8 + 1, [0x11, 0x3D << 2, 1], &[MSD])
-            }
-            ["read", "all", slaves] => pending(number(slaves)?, |_| 0x11, [0x11, 0x3D << 2, 1], &[MSD]),
-            ["write", "all", slaves] => {
-                pending(number(slaves)?, |_| 0xFF, [0xFF, 0x08 << 2 | 1, 2], &framed(MSD, [0x80, 0, 0, 0]))
-            }
-            ["execute", record, "all", slaves] => {
-                let record = number(record)? as u8;
-                pending(number(slaves)?, |_| 0xFF, [0xFF, 0x08 << 2 | 2, record], &[MSD])
-            }
-            ["sleep", "all", slaves] => sleeping(number(slaves)?),
+            ["address" | "read" | "write" | "execute" | "sleep", ..] => Workload::of_operation(&words)?,
             ["partner", slaves, entries] => {
                 Workload::Frame { file: files::partners(number(slaves)?, number(entries)?), frame: vec![0xBA] }
             }
@@ -210,14 +195,47 @@ impl Workload {
             ["owner", "none", slaves] => Workload::Owner { file: named(number(slaves)?) },
             ["rounds", reads, slaves] => reads_as_rounds(number(reads)?, number(slaves)?),
             ["fill" | "holder" | "keeping", ..] => Workload::WithSummary(WithSummary::of(name)?),
+            ["post" | "turn", ..] => Workload::of_screens(&words)?,
+            _ => return None,
+        })
+    }
+
+    /// A frame of a master-slave round.
+    fn of_operation(words: &[&str]) -> Option<Workload> {
+        let number = |word: &str| word.parse::<usize>().ok();
+        Some(match *words {
+            ["address", slaves] => Workload::Frame {
+                file: files::small(number(slaves)?, 2, |_| 0xFF),
+                frame: framed(MSA, [0x05, 0xFF, 0x22, 0x02]),
+            },
+            ["read", "one", "of", slaves] => {
+                pending(number(slaves)?, |slave| slave as u8 + 1, [0x11, 0x3D << 2, 1], &[MSD])
+            }
+            ["read", "all", slaves] => pending(number(slaves)?, |_| 0x11, [0x11, 0x3D << 2, 1], &[MSD]),
+            ["write", "all", slaves] => {
+                pending(number(slaves)?, |_| 0xFF, [0xFF, 0x08 << 2 | 1, 2], &framed(MSD, [0x80, 0, 0, 0]))
+            }
+            ["execute", record, "all", slaves] => {
+                let record = number(record)? as u8;
+                pending(number(slaves)?, |_| 0xFF, [0xFF, 0x08 << 2 | 2, record], &[MSD])
+            }
+            ["sleep", "all", slaves] => sleeping(number(slaves)?),
+            _ => return None,
+        })
+    }
+
+    /// A post, a turn, or a turn's read by itself.
+    fn of_screens(words: &[&str]) -> Option<Workload> {
+        let named_slaves = |word: &str| word.parse().ok().map(named);
+        Some(match *words {
             ["post", which] => Workload::Post { state: screens(), screen: screen(which)? },
-            ["turn", "none", slaves] => Workload::Turn { file: named(number(slaves)?), state: screens() },
+            ["turn", "none", slaves] => Workload::Turn { file: named_slaves(slaves)?, state: screens() },
             ["turn", "as", "rounds", slaves] => Workload::Frames {
-                file: named(number(slaves)?),
+                file: named_slaves(slaves)?,
                 frames: vec![framed(MSA, [0x05, SHOWN[0], SHOWN[1] << 2, SHOWN[2]]), vec![MSD]],
             },
             ["turn", which, slaves] => {
-                Workload::Turn { file: named(number(slaves)?), state: waiting(screen(which)?) }
+                Workload::Turn { file: named_slaves(slaves)?, state: waiting(screen(which)?) }
             }
             _ => return None,
         })

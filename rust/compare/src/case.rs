@@ -297,16 +297,23 @@ impl Call {
             }
             Call::Holder { held, count, name } => engine.holder(held, *count, *name, lent(&mut outcome.place)),
             Call::Keeping { call, count, .. } => call.make_keeping(engine, *count, &mut outcome),
-            Call::Screens => engine.screens(lent_state(&mut outcome.state)),
-            Call::Post { screen, read, .. } => engine.post(lent_state(&mut outcome.state), *screen, *read),
-            Call::Turn { .. } => engine.turn(
-                lent_bytes(&mut outcome.file),
-                lent_state(&mut outcome.state),
-                lent_bytes(&mut outcome.buffer),
-                Turn { senders: lent(&mut outcome.senders), screen: lent(&mut outcome.screen) },
-            ),
+            Call::Screens | Call::Post { .. } | Call::Turn { .. } => self.make_sharing(engine, &mut outcome),
         };
         outcome
+    }
+
+    /// A call on a state of screens.
+    fn make_sharing(&self, engine: &dyn Engine, outcome: &mut Outcome) -> u8 {
+        let state = lent_state(&mut outcome.state);
+        match self {
+            Call::Screens => engine.screens(state),
+            Call::Post { screen, read, .. } => engine.post(state, *screen, *read),
+            Call::Turn { .. } => {
+                let told = Turn { senders: lent(&mut outcome.senders), screen: lent(&mut outcome.screen) };
+                engine.turn(lent_bytes(&mut outcome.file), state, lent_bytes(&mut outcome.buffer), told)
+            }
+            _ => unreachable!("a call on a state of screens"),
+        }
     }
 
     fn make_keeping(&self, engine: &dyn Engine, count: u64, outcome: &mut Outcome) -> u8 {
@@ -365,14 +372,7 @@ impl Call {
             Call::Keeping { call, held, .. } => Outcome { held: Some(held.clone()), ..call.before() },
             Call::Screens => Outcome { state: Some(STATE_BEFORE), ..nothing },
             Call::Post { state, .. } => nothing.with_state(*state),
-            Call::Turn { file, state, answer_length } => Outcome {
-                senders: Some(SENDERS_BEFORE),
-                file: Some(file.clone()),
-                buffer: answer(*answer_length),
-                screen: Some(FILL),
-                ..nothing
-            }
-            .with_state(*state),
+            Call::Turn { file, state, answer_length } => before_turn(file, *answer_length).with_state(*state),
         }
     }
 
@@ -385,18 +385,14 @@ impl Call {
         let accepted = outcome.number == 0;
         let mask = outcome.mask();
         let number = outcome.number;
-        let after = |bytes: &Option<Vec<u8>>| hex(bytes.as_deref().unwrap_or(&[]));
+        let told = |words: String| format!("{number} {words}");
         match self {
-            Call::Read { .. } if accepted => {
-                format!("{number} {}", decimals(&outcome.parts.unwrap_or([0; 5]), " "))
-            }
-            Call::Write { .. } | Call::Data { .. } => format!("{number} {}", after(&outcome.buffer)),
+            Call::Read { .. } if accepted => told(decimals(&outcome.parts.unwrap_or([0; 5]), " ")),
+            Call::Write { .. } | Call::Data { .. } => told(after(&outcome.buffer)),
             Call::Round { .. } => {
                 format!("{number} {mask:016X} {} {}", after(&outcome.file), after(&outcome.buffer))
             }
-            Call::Start { .. } if accepted => {
-                format!("{number} {}", decimals(&outcome.run.unwrap_or([0; 8]), " "))
-            }
+            Call::Start { .. } if accepted => told(decimals(&outcome.run.unwrap_or([0; 8]), " ")),
             Call::Step { .. } => format!(
                 "{number} {mask:016X} {} {} {}",
                 after(&outcome.file),
@@ -413,21 +409,14 @@ impl Call {
             Call::Fill { .. } => {
                 format!("{number} {} {}", outcome.filled().unwrap_or(0), after(&outcome.held))
             }
-            Call::Holder { .. } if accepted => match outcome.holder() {
-                Some(place) => format!("{number} {place}"),
-                None => format!("{number} -"),
-            },
+            Call::Holder { .. } if accepted => told(place(outcome)),
             Call::Check { .. } | Call::Read { .. } | Call::Start { .. } | Call::Holder { .. } => {
                 format!("{number}")
             }
             Call::Keeping { call, .. } => format!("{} {}", call.result(outcome), after(&outcome.held)),
             Call::Screens => hex(&outcome.state_left()),
-            Call::Post { .. } => format!("{number} {}", hex(&outcome.state_left())),
-            Call::Turn { .. } => {
-                let screen = outcome.served().unwrap_or(0);
-                let (file, state) = (after(&outcome.file), hex(&outcome.state_left()));
-                format!("{number} {screen} {mask:016X} {file} {state} {}", after(&outcome.buffer))
-            }
+            Call::Post { .. } => told(hex(&outcome.state_left())),
+            Call::Turn { .. } => turn_words(outcome),
         }
     }
 
@@ -483,6 +472,13 @@ impl Call {
             }
             [ROUND_KEEPING, ref words @ .., held, count] => Call::given(held, count, "round", words),
             [STEP_KEEPING, ref words @ .., held, count] => Call::given(held, count, "step", words),
+            _ => Call::sharing(words),
+        }
+    }
+
+    /// A call on a state of screens.
+    fn sharing(words: &[&str]) -> Option<Call> {
+        match *words {
             ["screens"] => Some(Call::Screens),
             ["post", state, screen, ref read @ ..] => Some(Call::Post {
                 state: bytes(state)?.try_into().ok()?,
@@ -613,6 +609,34 @@ fn hold_against(engine: &dyn Engine, line: &str) -> Result<(Call, Outcome), Stri
 /// The first word of a case.
 pub fn kind_of(line: &str) -> &str {
     line.split(' ').next().unwrap_or(line)
+}
+
+/// Lent memory before a turn, its state aside.
+fn before_turn(file: &[u8], answer_length: usize) -> Outcome {
+    Outcome {
+        senders: Some(SENDERS_BEFORE),
+        file: Some(file.to_vec()),
+        buffer: Some(vec![FILL; answer_length]),
+        screen: Some(FILL),
+        ..Outcome::default()
+    }
+}
+
+/// What a turn answers and leaves.
+fn turn_words(outcome: &Outcome) -> String {
+    let (number, screen, mask) = (outcome.number, outcome.served().unwrap_or(0), outcome.mask());
+    let (file, state) = (after(&outcome.file), hex(&outcome.state_left()));
+    format!("{number} {screen} {mask:016X} {file} {state} {}", after(&outcome.buffer))
+}
+
+/// Bytes that were left, none where none were lent.
+fn after(bytes: &Option<Vec<u8>>) -> String {
+    hex(bytes.as_deref().unwrap_or(&[]))
+}
+
+/// The place of the holder, `-` where nobody holds the name.
+fn place(outcome: &Outcome) -> String {
+    outcome.holder().map_or("-".to_string(), |place| place.to_string())
 }
 
 fn lent<T>(memory: &mut Option<T>) -> &mut T {

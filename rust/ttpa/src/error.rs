@@ -154,7 +154,7 @@ impl TtpaError {
             }
             TtpaError::RepeatedName => "the list of names has a name twice",
             TtpaError::Position => "the stored naming run is damaged or belongs to another list of names",
-            TtpaError::FileNumber => "the file number for an address frame is above 63",
+            TtpaError::FileNumber => "the file number of an address frame or a read is above 63",
             TtpaError::Trace => {
                 "the trace is longer than 16,384 bytes, or its header, an offset or its length is wrong"
             }

@@ -6,7 +6,7 @@ use mathlib.Core.Path.{_≡_}
 use mathlib.Core.Logic.{_↔_}
 use mathlib.Core.List.{List, [], _∷_, _++_}
 use mathlib.Core.Bool.{true, false, cond}
-use lib.ListN.{length, replicate, drop}
+use lib.ListN.{length, drop}
 use lib.Dec.{eqb}
 use Rattle.file.specs.Rules.Bytes.{Bytes, All}
 use Rattle.file.specs.Rules.Decode.{decode}
@@ -69,15 +69,15 @@ RunsEnd =
     (calls : List Call) → All OfBytes calls → permitted names (startOn file) (fresh names) calls ≡ true →
     (roundsFor (namesIn (decode file)) names ≤ stepsTaken names (startOn file) (fresh names) calls) ↔ ToItsEnd file names calls
 
--- a step with an answer buffer of 64 bytes and no summary
-abbrev pub longStep : Call
-longStep = step (record { summary = without; buffer = replicate slots 0 })
+-- a step with an answer buffer of 64 bytes or more, whatever it holds, and no summary
+pub data LongStep : Call → Type 0 where
+  long : {buffer : List ℕ} → slots ≤ length buffer → LongStep (step (record { summary = without; buffer = buffer }))
 
 -- so there are such runs: as many of these steps as the run has rounds, or more
 abbrev pub EveryRunEnds : Type 0
 EveryRunEnds =
     (file : List ℕ) → Bytes file → fileGround file ≡ 0 → (names : List ℕ) → Bytes names → startGround names ≡ 0 →
-    (n : ℕ) → roundsFor (namesIn (decode file)) names ≤ n → ToItsEnd file names (replicate n longStep)
+    (calls : List Call) → All LongStep calls → roundsFor (namesIn (decode file)) names ≤ length calls → ToItsEnd file names calls
 
 -- by which mark
 abbrev pub EndMark : Type 0
@@ -114,6 +114,9 @@ pub record RunsTogether (slaves : List Named) (A B : List ℕ) (first second who
   pub named : first .end ≡ allNamed → first .rounds ≡ whole .rounds
   pub namedCompared : first .end ≡ allNamed → first .comparisons ≡ whole .comparisons
   pub nobody : first .end ≡ allNamed → second .rounds ≡ roundsForNobody (namesHeld (namesAfter slaves A)) B
+  -- the run over both ends as B's does if it comes to B's names, else as A's
+  pub usedUpEnd : first .end ≡ namesUsedUp → whole .end ≡ second .end
+  pub namedEnd : first .end ≡ allNamed → whole .end ≡ allNamed
 
 abbrev pub TwoRuns : Type 0
 TwoRuns =

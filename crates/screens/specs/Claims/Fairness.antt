@@ -46,23 +46,24 @@ pub record Serves (state : List ℕ) (i : ℕ) (r : Read) (file buffer : List �
         roundSent file (readSent r) buffer .2,
       )
 
--- one of the first n accepted turns among the calls serves the i-th screen that read
+-- one of the first n accepted turns among the calls serves the i-th screen that read, and after each call before it the screen waits with it
 pub data ServedWithin (i : ℕ) (r : Read) : ℕ → List ℕ → List Call → Type 0 where
   now :
       {n : ℕ} {state file buffer : List ℕ} {cs : List Call} → Serves state i r file buffer →
       ServedWithin i r (suc n) state (turn file buffer ∷ cs)
   later :
-      {n m : ℕ} {state : List ℕ} {c : Call} {cs : List Call} → acceptedBy state c + m ≤ n → ServedWithin i r m (stateAfter state c) cs →
+      {n m : ℕ} {state : List ℕ} {c : Call} {cs : List Call} → acceptedBy state c + m ≤ n →
+      isWaiting (stateAfter state c) i ≡ true → readOf (stateAfter state c) i ≡ r → ServedWithin i r m (stateAfter state c) cs →
       ServedWithin i r n state (c ∷ cs)
 
 -- a read that waits, in a state of any content, is served by one of the first eight accepted turns of every list of calls, and it is that
--- read: its name, file and record are those that stood in the state at the start
+-- read: its name, file and record are those that stood in the state at the start, and they stay until it is served
 abbrev pub Fair : Type 0
 Fair =
     (state : List ℕ) (i : ℕ) → i < screens → isWaiting state i ≡ true → (calls : List Call) → screens ≤ acceptedTurns state calls →
     ServedWithin i (readOf state i) screens state calls
 
--- and so a read is that was posted
+-- and so is a read that was posted
 abbrev pub PostedIsServed : Type 0
 PostedIsServed =
     (state : List ℕ) → length state ≡ 33 → (i : ℕ) (r : Read) → postOn state i r .0 ≡ done tt → (calls : List Call) →
@@ -72,9 +73,15 @@ PostedIsServed =
 abbrev pub allWaiting : List ℕ
 allWaiting = 0 ∷ replicate 32 1
 
+-- one of the calls serves the i-th screen a read, whatever becomes of the state before it
+pub data ServedAmong (i : ℕ) (r : Read) : List ℕ → List Call → Type 0 where
+  here :
+      {state file buffer : List ℕ} {cs : List Call} → Serves state i r file buffer → ServedAmong i r state (turn file buffer ∷ cs)
+  behind : {state : List ℕ} {c : Call} {cs : List Call} → ServedAmong i r (stateAfter state c) cs → ServedAmong i r state (c ∷ cs)
+
 pub record NotByTurns (file buffer : List ℕ) : Type 0 where
   pub accepted : acceptedTurns allWaiting (replicate 7 (turn file buffer)) ≡ 7
-  pub unserved : (r : Read) (n : ℕ) → ServedWithin 0 r n allWaiting (replicate 7 (turn file buffer)) → ⊥
+  pub unserved : (r : Read) → ServedAmong 0 r allWaiting (replicate 7 (turn file buffer)) → ⊥
 
 abbrev pub SevenAreTooFew : Type 0
 SevenAreTooFew = (file buffer : List ℕ) → fileGround file ≡ 0 → slots ≤ length buffer → NotByTurns file buffer

@@ -51,8 +51,11 @@ pub record TurnGroundsInOrder : Type 0 where
       (s f buffer : List ℕ) → firstOf (stateGrounds s) ≡ 0 → fileGround f ≡ 0 → length buffer < slots → turnGround s f buffer ≡ 9
   pub none : (s f buffer : List ℕ) → firstOf (stateGrounds s) ≡ 0 → fileGround f ≡ 0 → slots ≤ length buffer → turnGround s f buffer ≡ 0
 
--- on a file of unknown edition, where the state has no ground, the answer depends on the file's length and first three bytes alone
-abbrev pub UnknownEdition : Type 0
-UnknownEdition =
-    (s t f g a b : List ℕ) → firstOf (stateGrounds s) ≡ 0 → firstOf (stateGrounds t) ≡ 0 →
-    length f ≡ length g → take 3 f ≡ take 3 g → NoEdition f → turnOn s f a .0 ≡ turnOn t g b .0
+-- on a file of unknown edition the answer depends on the state and the file's length and first three bytes alone, and where the state has no
+-- ground not on the state either
+pub record UnknownEdition : Type 0 where
+  pub ofState :
+      (s f g a b : List ℕ) → length f ≡ length g → take 3 f ≡ take 3 g → NoEdition f → turnOn s f a .0 ≡ turnOn s g b .0
+  pub ofFile :
+      (s t f g a b : List ℕ) → firstOf (stateGrounds s) ≡ 0 → firstOf (stateGrounds t) ≡ 0 →
+      length f ≡ length g → take 3 f ≡ take 3 g → NoEdition f → turnOn s f a .0 ≡ turnOn t g b .0

@@ -1,5 +1,6 @@
--- Screens that share one tester (document 02, job 12), over the C calls: a turn is the read round of the screen that is next, made by
--- ttpa_write_address and two calls of ttpa_round; and every read that waits is served within eight accepted turns.
+-- Screens that share one tester (document 02, job 12), over the C calls: what they return; after a post the screen waits, and after a turn that
+-- serves it no more; a turn is the read round of the screen that is next, made by ttpa_write_address and two calls of ttpa_round; and every
+-- read that waits is served within eight accepted turns.
 -- (`screens/specs/Claims` has the same over states and files.)
 use Prim.Native.Nat.{ℕ, suc, _+_, _≤_, _<_}
 use mathlib.Core.Path.{_≡_}
@@ -15,10 +16,41 @@ use Rattle.frame.specs.Rules.Frames.{frameSize}
 use Rattle.cluster.specs.Rules.Slaves.{nextEpoch}
 use Rattle.cluster.specs.Rules.Summary.{kept}
 use Rattle.cluster.specs.Claims.Summary.{Matches}
-use Rattle.screens.specs.Rules.Screens.{screens, isWaiting, Read, readBy, readOf}
-use Rattle.screens.specs.Rules.Turn.{afterServing}
-use Rattle.screens.specs.Claims.Turns.{NextWaiting, NoneWaiting}
-use Rattle.ttpa.specs.Rules.Calls.{writeAddressCall, roundCall, postCall, turnCall}
+use Rattle.screens.specs.Rules.Screens.{screens, lastServed, isWaiting, Read, readBy, readOf, postGround}
+use Rattle.screens.specs.Rules.Turn.{afterServing, turnGround}
+use Rattle.screens.specs.Claims.Turns.{Waits, away, NextWaiting, NoneWaiting, WaitsNoMore}
+use Rattle.ttpa.specs.Rules.Calls.{writeAddressCall, roundCall, screensCall, postCall, turnCall}
+
+-- ---- the start, a post and a turn
+
+-- "from screen 0 at the start": after ttpa_screens none waits, and the i-th screen comes after i others
+abbrev pub ScreensStart : Type 0
+ScreensStart =
+    (state : List ℕ) →
+    NoneWaiting (screensCall state .1) × ((i : ℕ) → i < screens → away (lastServed (screensCall state .1)) i ≡ i)
+
+-- ttpa_post and ttpa_turn return the first of their grounds that holds, and 0 where none does
+abbrev pub PostNumbers : Type 0
+PostNumbers =
+    (state : List ℕ) (i name file «record» : ℕ) →
+    postCall state i name file «record» .0 ≡ postGround state i (readBy name file «record»)
+
+abbrev pub TurnNumbers : Type 0
+TurnNumbers =
+    (file state answer : List ℕ) (senders screen : ℕ) → turnCall file state answer senders screen .0 ≡ turnGround state file answer
+
+-- after a post that returns 0 the screen waits with that read; the other screens and the one last served are as they were
+abbrev pub PostTaken : Type 0
+PostTaken =
+    (state : List ℕ) (i name file «record» : ℕ) → length state ≡ 33 → postCall state i name file «record» .0 ≡ 0 →
+    Waits state i (readBy name file «record») (postCall state i name file «record» .1)
+
+-- the screen that a turn tells is the one last served and waits no more; its read's bytes and the other screens are as they were
+abbrev pub ServedWaitsNoMore : Type 0
+ServedWaitsNoMore =
+    (file state answer : List ℕ) (senders screen : ℕ) → length state ≡ 33 → turnCall file state answer senders screen .0 ≡ 0 →
+    turnCall file state answer senders screen .2 < screens →
+    WaitsNoMore state (turnCall file state answer senders screen .2) (turnCall file state answer senders screen .3)
 
 -- ---- a turn is the read round
 
@@ -102,23 +134,26 @@ pub data FileOfBytes : ScreenCall → Type 0 where
   inPost : {screen name file «record» : ℕ} → FileOfBytes (ttpaPost screen name file «record»)
   inTurn : {file answer : List ℕ} {senders screen : ℕ} → Bytes file → FileOfBytes (ttpaTurn file answer senders screen)
 
--- one of the first n turns that return 0 serves the i-th screen that read
+-- one of the first n turns that return 0 serves the i-th screen that read, which stands in the state, and after each call before it the
+-- screen waits with it
 pub data ServedWithin (i : ℕ) (r : Read) : ℕ → List ℕ → List ScreenCall → Type 0 where
   now :
-      {n : ℕ} {state file answer : List ℕ} {senders screen : ℕ} {cs : List ScreenCall} →
+      {n : ℕ} {state file answer : List ℕ} {senders screen : ℕ} {cs : List ScreenCall} → readOf state i ≡ r →
       ServesRead file state answer senders screen i r → ServedWithin i r (suc n) state (ttpaTurn file answer senders screen ∷ cs)
   later :
       {n m : ℕ} {state : List ℕ} {c : ScreenCall} {cs : List ScreenCall} → acceptedBy state c + m ≤ n →
-      ServedWithin i r m (stateAfter state c) cs → ServedWithin i r n state (c ∷ cs)
+      isWaiting (stateAfter state c) i ≡ true → readOf (stateAfter state c) i ≡ r → ServedWithin i r m (stateAfter state c) cs →
+      ServedWithin i r n state (c ∷ cs)
 
--- a read that waits in a state of any bytes, and it is that read: name, file and record as they stood in the state
+-- a read that waits in a state of any bytes, and it is that read: name, file and record as they stood in the state, where they stay until it
+-- is served
 abbrev pub FairOverCalls : Type 0
 FairOverCalls =
     (state : List ℕ) → Bytes state → (i : ℕ) → i < screens → isWaiting state i ≡ true →
     (calls : List ScreenCall) → All FileOfBytes calls → screens ≤ acceptedTurns state calls →
     ServedWithin i (readOf state i) screens state calls
 
--- and so a read that ttpa_post took
+-- and so is a read that ttpa_post took
 abbrev pub PostedIsServed : Type 0
 PostedIsServed =
     (state : List ℕ) → length state ≡ 33 → (i name file «record» : ℕ) → Byte name → Byte «record» →

@@ -61,7 +61,7 @@ struct Shared {
     waited: [usize; SCREENS],
 }
 
-/// Posts and turns one after the other, in one of three rows busy: each screen posts again as soon as it is served.
+/// Posts and turns one after the other, in one of three rows busy: before each turn a post, mostly of a screen that does not wait.
 pub fn posts_and_turns(campaign: &mut Campaign, amount: usize, random: &mut Random) {
     let mut made = 0;
     while made < amount {

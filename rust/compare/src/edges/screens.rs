@@ -25,7 +25,7 @@ const FIRST_SLEEP: usize = 19;
 const ENTRY: usize = 4;
 
 /// So many edges there are, calls in a row aside.
-const EDGES: usize = 248;
+const EDGES: usize = 319;
 
 pub fn hold(engine: &dyn Engine) {
     let groups = [
@@ -39,6 +39,7 @@ pub fn hold(engine: &dyn Engine) {
         not_served(),
         file_first(),
         bytes_of_a_state(),
+        bytes_at_a_post(),
     ];
     super::hold_all(engine, groups, EDGES);
     every_row(engine);
@@ -130,7 +131,9 @@ fn not_posted() -> Vec<Edge> {
         refused("screen 8 and last served 8", state(8, &[]), 8, GOOD, NO_SUCH_SCREEN),
         refused("last served 8, the screen waiting", with(waiting(1), &[(0, 8)]), 0, GOOD, NO_SUCH_SCREEN),
     ];
-    edges.extend([8, 9, 16, 128, 255].map(|screen| refused("no screen", fresh, screen, GOOD, NO_SUCH_SCREEN)));
+    edges.extend(
+        [8, 9, 16, 127, 128, 255].map(|screen| refused("no screen", fresh, screen, GOOD, NO_SUCH_SCREEN)),
+    );
     edges
         .extend([8, 9, 128, 255].map(|last| refused("last served", state(last, &[]), 0, GOOD, NO_SUCH_SCREEN)));
     edges.extend([1, 2, 128, 255].map(|byte| refused("it waits", waiting(byte), 0, GOOD, WAITING_ALREADY)));
@@ -383,6 +386,9 @@ fn file_first() -> Vec<Edge> {
     edges.collect()
 }
 
+/// What a byte of a state is put to.
+const AT: [u8; 5] = [0, 1, 127, 128, 255];
+
 /// Every byte of a state in which all eight wait, screen 0 being next: at 0, 1, 127, 128 and 255, and what comes of it.
 fn bytes_of_a_state() -> Vec<Edge> {
     let before = |place, byte| with(all_waiting(7), &[(place, byte)]);
@@ -398,21 +404,47 @@ fn bytes_of_a_state() -> Vec<Edge> {
     let mut edges = vec![
         serving("last served 0", before(0, 0), 1),
         serving("last served 1", before(0, 1), 2),
-        refused("last served 127", 0, 127, NO_SUCH_SCREEN),
         serving("screen 0 does not wait", before(1, 0), 1),
-        serving("screen 0 waits by 127", before(1, 127), 0),
         refused("name 0", 2, 0, BROADCAST_READ),
-        due("name 1", 2, 1, [1, 0x10, 1], &[]),
-        due("name 255", 2, 255, [255, 0x10, 1], &[]),
-        due("file 0", 3, 0, [0x05, 0, 1], &[]),
-        refused("file 127", 3, 127, FILE_NUMBER),
-        due("record 127", 4, 127, [0x05, 0x10, 127], &[]),
+        due("record 0", 4, 0, [0x05, 0x10, 0], &[0xD0, 0xD1, 0xD2, 0xD3, 0x49]),
+        serving("record 1", before(4, 1), 0),
     ];
-    let others = (5..33).map(|place| {
-        let calls = [0, 1, 127, 128, 255].map(|byte| serving("", before(place, byte), 0).calls);
+    edges.extend([127, 128, 255].map(|last| refused("last served", 0, last, NO_SUCH_SCREEN)));
+    edges.extend([1, 127, 128, 255].map(|waiting| serving("screen 0 waits", before(1, waiting), 0)));
+    edges.extend([1, 127, 128, 255].map(|name| due("name", 2, name, [name, 0x10, 1], &[])));
+    edges.extend([0, 1].map(|file| due("file", 3, file, [0x05, file, 1], &[])));
+    edges.extend([127, 128, 255].map(|file| refused("file", 3, file, FILE_NUMBER)));
+    edges.extend([127, 128, 255].map(|record| due("record", 4, record, [0x05, 0x10, record], &[])));
+    edges.extend((5..33).map(|place| {
+        let calls = AT.map(|byte| serving("", before(place, byte), 0).calls);
         Edge { what: "a byte of another screen", calls: calls.concat() }
-    });
-    edges.extend(others);
+    }));
+    edges
+}
+
+/// Every byte of a state in which all but screen 0 wait, and of the read that screen 0 posts: at the same.
+fn bytes_at_a_post() -> Vec<Edge> {
+    let before = |place, byte| with(all_waiting(7), &[(1, 0), (place, byte)]);
+    let idle = before(1, 0);
+    let post = |what, read| posting(what, idle, 0, read);
+    let refused =
+        |what, state, read, number| Edge::refused(what, Call::Post { state, screen: 0, read }, number);
+    let mut edges = vec![
+        posting("last served 0", before(0, 0), 0, GOOD),
+        posting("last served 1", before(0, 1), 0, GOOD),
+        post("it does not wait", GOOD),
+        refused("name 0", idle, [0, 0x10, 1], BROADCAST_READ),
+    ];
+    edges.extend([127, 128, 255].map(|last| refused("last served", before(0, last), GOOD, NO_SUCH_SCREEN)));
+    edges.extend([1, 127, 128, 255].map(|byte| refused("it waits", before(1, byte), GOOD, WAITING_ALREADY)));
+    edges.extend([1, 127, 128, 255].map(|name| post("name", [name, 0x10, 1])));
+    edges.extend([0, 1].map(|file| post("file", [0x05, file, 1])));
+    edges.extend([127, 128, 255].map(|file| refused("file", idle, [0x05, file, 1], FILE_NUMBER)));
+    edges.extend(AT.map(|record| post("record", [0x05, 0x10, record])));
+    edges.extend((2..33).map(|place| {
+        let calls = AT.map(|byte| posting("", before(place, byte), 0, GOOD).calls);
+        Edge { what: "a byte of its old read or of another screen", calls: calls.concat() }
+    }));
     edges
 }
 
