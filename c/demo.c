@@ -4,8 +4,9 @@
  * slave, has a foreign master try to name slaves by a write, names unnamed slaves until the list of names runs dry and
  * the last one by a second list, while other rounds go on in between, tells before and after it who holds a name, runs a
  * captured trace, plans who sends in which slot, has a slot multiplexed, puts the cluster to sleep and wakes it, converts
- * the file to edition 2 and back, serves three screens in turn, and prints what happened. examples/demo.rs of the Rust
- * crate does the same and prints the same. */
+ * the file to edition 2 and back, serves three screens in turn, joins the file with that of a second segment and names
+ * whom the join left unnamed, and prints what happened. examples/demo.rs of the Rust crate does the same and prints the
+ * same. */
 #include <inttypes.h>
 #include <stdio.h>
 #include <string.h>
@@ -437,6 +438,41 @@ static void show_screens(void)
     }
 }
 
+/* A second bus segment: slaves 02, which the first has too, 07, which sleeps, and an unnamed one. */
+static const uint8_t segment[] = {
+    0x54, 0x41, 0x01, 0x03, 0x00, 0x10, 0x00, 0x88, 0x05, 0x00, 0x00, 0x00, 0x00, 0x00, 0x00, 0x00,
+    0x00, 0x1C, 0x02, 0x00, 0x00, 0x40, 0x02, 0x01, 0x00, 0x64, 0x02, 0x00,
+    0x08, 0x03, 0x00, 0x24, 0x3D, 0x02, 0x00, 0x34,
+    0, 0, 0, 0, 0, 0, 0, 0x02, 0, 0, 0, 0, 0, 0, 0, 0, 0, 0, 0, 0, 0, 0, 0, 7, 0, 0, 0, 0x33,
+    0x08, 0x03, 0x00, 0x48, 0x3D, 0x02, 0x00, 0x58,
+    0, 0, 0, 0, 0, 0, 0, 0x07, 0, 0, 0, 0, 0, 0, 0, 0, 0, 0, 0, 0, 0, 0, 0, 7, 0, 0, 0, 0x55,
+    0x08, 0x03, 0x00, 0x6C, 0x3D, 0x02, 0x00, 0x7C,
+    0, 0, 0, 0, 0, 0, 0, 0xFF, 0, 0, 0, 0, 0, 0, 0, 0, 0, 0, 0, 0, 0, 0, 0, 7, 0, 0, 0, 0x21,
+};
+
+/* The two segments are cabled together. The joined file takes the place of the first; its slave 02 keeps that name, the
+ * other 02 becomes unnamed, and a naming run names it and the one that was unnamed. */
+static void show_join(void)
+{
+    static const uint8_t names[] = {0x01, 0x02, 0x03, 0x04, 0x05, 0x06};
+    static uint8_t joined[TTPA_EDITION_1_FILE_BYTES];
+    uint64_t bytes = 0;
+    print_verdict("a join with itself", ttpa_join(cluster, length, cluster, length, joined, sizeof joined, &bytes));
+    print_verdict("a join in 343 bytes",
+                  ttpa_join(cluster, length, segment, sizeof segment, joined, 343, &bytes));
+    uint8_t number = ttpa_join(cluster, length, segment, sizeof segment, joined, sizeof joined, &bytes);
+    print_verdict("a join", number);
+    if (number != TTPA_ACCEPTED) {
+        return;
+    }
+    length = (size_t)bytes;
+    memcpy(cluster, joined, length);
+    print_bytes("header", cluster, HEADER_BYTES);
+    fill_summary();
+    print_verdict("naming after the join", name_slaves(names, sizeof names));
+    print_bytes("names held", held, (size_t)held_count);
+}
+
 int main(int count, char **arguments)
 {
     static const uint8_t names[] = {0x01, 0x02};
@@ -501,6 +537,7 @@ int main(int count, char **arguments)
     show_sleep();
     show_editions();
     show_screens();
+    show_join();
     print_verdict("a short answer buffer", ttpa_round(cluster, length, round, sizeof round, answer,
                                                       TTPA_ANSWER_BYTES - 1, &senders));
     print_verdict("the file as it is now", ttpa_check(cluster, length));

@@ -59,6 +59,8 @@ VALUE(TTPA_REFUSED_EDITION_LIMITS, 25);
 VALUE(TTPA_REFUSED_CONVERSION_BUFFER, 26);
 VALUE(TTPA_REFUSED_SCREEN, 27);
 VALUE(TTPA_REFUSED_SCREEN_WAITING, 28);
+VALUE(TTPA_REFUSED_SHARED_PHYSICAL_NAME, 29);
+VALUE(TTPA_REFUSED_JOINED_LIMITS, 30);
 /* .ci/refusals writes to here */
 
 VALUE(TTPA_FILE_BYTES, 65536);
@@ -151,6 +153,7 @@ typedef uint8_t to_edition_type(const uint8_t *, size_t, uint8_t *, size_t, uint
 typedef uint8_t screens_type(uint8_t *);
 typedef uint8_t post_type(uint8_t *, uint8_t, uint8_t, uint8_t, uint8_t);
 typedef uint8_t turn_type(uint8_t *, size_t, uint8_t *, uint8_t *, size_t, uint64_t *, uint8_t *);
+typedef uint8_t join_type(const uint8_t *, size_t, const uint8_t *, size_t, uint8_t *, size_t, uint64_t *);
 
 PROTOTYPE(ttpa_refusal_text, text_type);
 PROTOTYPE(ttpa_version, version_type);
@@ -172,6 +175,7 @@ PROTOTYPE(ttpa_to_edition_2, to_edition_type);
 PROTOTYPE(ttpa_screens, screens_type);
 PROTOTYPE(ttpa_post, post_type);
 PROTOTYPE(ttpa_turn, turn_type);
+PROTOTYPE(ttpa_join, join_type);
 
 /* ---- the comparisons */
 
@@ -295,6 +299,8 @@ static const struct {
     {TTPA_REFUSED_CONVERSION_BUFFER, "converted"},
     {TTPA_REFUSED_SCREEN, "above 7"},
     {TTPA_REFUSED_SCREEN_WAITING, "waiting already"},
+    {TTPA_REFUSED_SHARED_PHYSICAL_NAME, "of the other"},
+    {TTPA_REFUSED_JOINED_LIMITS, "joined"},
     /* .ci/refusals writes to here */
 };
 
@@ -1424,6 +1430,122 @@ static void turn_on_sleepers(void)
     EXPECT(cluster[EPOCH + 3] == 0xF4 && cluster[EPOCH + 4] == 2 && state_is(0, 0, 0, 0x05, TTPA_FILE_DOCUMENTATION, 2));
 }
 
+/* ---- joins */
+
+/* A slave named 0x05 in a file of each edition: in the first with epoch 9 and a write pending, in the second with free
+ * pending bytes and asleep; and the two joined in either order, the second slave being turned. */
+static const uint8_t narrow_5[] = {
+    0x54, 0x41, 0x01, 0x01, 0x00, 0x10, 0x00, 0x38, 0x09, 0x01, 0x05, 0x41, 0x01, 0x00, 0x00, 0x00,
+    0x00, 0x14, 0x02, 0x00, 0x08, 0x03, 0x00, 0x1C, 0x3D, 0x02, 0x00, 0x2C, 0x01, 0x02, 0x03, 0x04,
+    0x05, 0x06, 0x07, 0x05, 0x08, 0x09, 0x0A, 0x0B, 0x0C, 0x0D, 0x0E, 0x0F, 0x10, 0x11, 0x12, 0x13,
+    0x00, 0x00, 0x00, 0x07, 0x00, 0x00, 0x00, 0x10,
+};
+
+static const uint8_t wide_5[] = {
+    0x54, 0x41, 0x02, 0x01, 0x00, 0x00, 0x00, 0x18, 0x00, 0x00, 0x00, 0x4C, 0xFF, 0x00, 0x03, 0x04,
+    0x05, 0x00, 0x00, 0x00, 0x00, 0x00, 0x00, 0x00, 0x00, 0x00, 0x00, 0x20, 0x02, 0x01, 0x00, 0x00,
+    0x08, 0x03, 0x00, 0x00, 0x00, 0x00, 0x00, 0x30, 0x3D, 0x02, 0x00, 0x00, 0x00, 0x00, 0x00, 0x40,
+    0x21, 0x22, 0x23, 0x24, 0x25, 0x26, 0x27, 0x05, 0x28, 0x29, 0x2A, 0x2B, 0x2C, 0x2D, 0x2E, 0x2F,
+    0x30, 0x31, 0x32, 0x33, 0x00, 0x00, 0x00, 0x07, 0x00, 0x00, 0x00, 0xA0,
+};
+
+static const uint8_t narrow_then_wide[] = {
+    0x54, 0x41, 0x01, 0x02, 0x00, 0x10, 0x00, 0x60, 0x00, 0x00, 0x00, 0x00, 0x00, 0x00, 0x00, 0x00,
+    0x00, 0x18, 0x02, 0x00, 0x00, 0x3C, 0x02, 0x00, 0x08, 0x03, 0x00, 0x20, 0x3D, 0x02, 0x00, 0x30,
+    0x01, 0x02, 0x03, 0x04, 0x05, 0x06, 0x07, 0x05, 0x08, 0x09, 0x0A, 0x0B, 0x0C, 0x0D, 0x0E, 0x0F,
+    0x10, 0x11, 0x12, 0x13, 0x00, 0x00, 0x00, 0x07, 0x00, 0x00, 0x00, 0x10, 0x08, 0x03, 0x00, 0x44,
+    0x3D, 0x02, 0x00, 0x54, 0x21, 0x22, 0x23, 0x24, 0x25, 0x26, 0x27, 0xFF, 0x28, 0x29, 0x2A, 0x2B,
+    0x2C, 0x2D, 0x2E, 0x2F, 0x30, 0x31, 0x32, 0x33, 0x00, 0x00, 0x00, 0x07, 0x00, 0x00, 0x00, 0xA0,
+};
+
+static const uint8_t wide_then_narrow[] = {
+    0x54, 0x41, 0x02, 0x02, 0x00, 0x00, 0x00, 0x18, 0x00, 0x00, 0x00, 0x80, 0x00, 0x00, 0x00, 0x00,
+    0x00, 0x00, 0x00, 0x00, 0x00, 0x00, 0x00, 0x00, 0x00, 0x00, 0x00, 0x28, 0x02, 0x00, 0x00, 0x00,
+    0x00, 0x00, 0x00, 0x54, 0x02, 0x00, 0x00, 0x00, 0x08, 0x03, 0x00, 0x00, 0x00, 0x00, 0x00, 0x38,
+    0x3D, 0x02, 0x00, 0x00, 0x00, 0x00, 0x00, 0x48, 0x21, 0x22, 0x23, 0x24, 0x25, 0x26, 0x27, 0x05,
+    0x28, 0x29, 0x2A, 0x2B, 0x2C, 0x2D, 0x2E, 0x2F, 0x30, 0x31, 0x32, 0x33, 0x00, 0x00, 0x00, 0x07,
+    0x00, 0x00, 0x00, 0xA0, 0x08, 0x03, 0x00, 0x00, 0x00, 0x00, 0x00, 0x64, 0x3D, 0x02, 0x00, 0x00,
+    0x00, 0x00, 0x00, 0x74, 0x01, 0x02, 0x03, 0x04, 0x05, 0x06, 0x07, 0xFF, 0x08, 0x09, 0x0A, 0x0B,
+    0x0C, 0x0D, 0x0E, 0x0F, 0x10, 0x11, 0x12, 0x13, 0x00, 0x00, 0x00, 0x07, 0x00, 0x00, 0x00, 0x10,
+};
+
+/* Joins into the front of converted, of which the first room bytes are lent. */
+static uint8_t join(const uint8_t *first, size_t n, const uint8_t *second, size_t m, size_t room)
+{
+    memset(converted, OLD, sizeof converted);
+    converted_length = OLD_SENDERS;
+    return ttpa_join(first, n, second, m, converted, room, &converted_length);
+}
+
+/* Just enough room, more of it, and a byte too little. Neither file is altered. */
+static void joined(const uint8_t *first, size_t n, const uint8_t *second, size_t m, const uint8_t *into, size_t needed)
+{
+    uint8_t left[sizeof wide_5], right[sizeof wide_5];
+    memcpy(left, first, n);
+    memcpy(right, second, m);
+    EXPECT(join(left, n, right, m, needed) == TTPA_ACCEPTED && converted_is(into, needed));
+    EXPECT(join(left, n, right, m, sizeof converted) == TTPA_ACCEPTED && converted_is(into, needed));
+    EXPECT(join(left, n, right, m, needed - 1) == TTPA_REFUSED_JOINED_LIMITS && not_converted());
+    EXPECT(join(left, n, right, m, 0) == TTPA_REFUSED_JOINED_LIMITS && not_converted());
+    EXPECT(ttpa_join(left, n, right, m, NULL, 0, &converted_length) == TTPA_REFUSED_JOINED_LIMITS && not_converted());
+    EXPECT(memcmp(left, first, n) == 0 && memcmp(right, second, m) == 0);
+}
+
+static void joins(void)
+{
+    static const uint8_t nobody[] = {0x54, 0x41, 0x01, 0, 0, 0x10, 0, 0x10, 0, 0, 0, 0, 0, 0, 0, 0};
+    uint8_t awake[sizeof narrow_5];
+    joined(narrow_5, sizeof narrow_5, wide_5, sizeof wide_5, narrow_then_wide, sizeof narrow_then_wide);
+    joined(wide_5, sizeof wide_5, narrow_5, sizeof narrow_5, wide_then_narrow, sizeof wide_then_narrow);
+    memcpy(awake, narrow_5, sizeof awake);
+    memset(awake + EPOCH, 0, 5);
+    joined(narrow_5, sizeof narrow_5, nobody, sizeof nobody, awake, sizeof awake);
+    joined(nobody, sizeof nobody, narrow_5, sizeof narrow_5, awake, sizeof awake);
+    EXPECT(ttpa_check(narrow_then_wide, sizeof narrow_then_wide) == TTPA_ACCEPTED);
+    /* one and the same memory */
+    EXPECT(join(nobody, sizeof nobody, nobody, sizeof nobody, sizeof converted) == TTPA_ACCEPTED);
+    EXPECT(converted_is(nobody, sizeof nobody));
+    EXPECT(join(wide_5, sizeof wide_5, wide_5, sizeof wide_5, sizeof converted) ==
+           TTPA_REFUSED_SHARED_PHYSICAL_NAME);
+    EXPECT(not_converted());
+}
+
+/* The first file's number, then the second's, then 29, then 30. */
+static void refused_joins(void)
+{
+    renew();
+    EXPECT(join(NULL, 0, NULL, 0, 0) == TTPA_REFUSED_FILE_SIZE);
+    EXPECT(join(wide_5, 23, m10, 15, 0) == TTPA_REFUSED_FILE_SIZE);
+    cluster[0] ^= 1;
+    EXPECT(join(cluster, sizeof cluster, m10, 15, 0) == TTPA_REFUSED_MARK);
+    EXPECT(join(m10, 15, cluster, sizeof cluster, 0) == TTPA_REFUSED_FILE_SIZE);
+    EXPECT(join(m10, sizeof m10, cluster, sizeof cluster, 0) == TTPA_REFUSED_MARK);
+    cluster[0] ^= 1;
+    EXPECT(join(m10, sizeof m10, cluster, sizeof cluster - 1, sizeof converted) == TTPA_REFUSED_LENGTH_FIELD);
+    EXPECT(join(cluster, sizeof cluster, m10, sizeof m10, 0) == TTPA_REFUSED_SHARED_PHYSICAL_NAME);
+    EXPECT(join(m10, sizeof m10, wide_5, sizeof wide_5, sizeof converted) == TTPA_REFUSED_SHARED_PHYSICAL_NAME);
+    /* the second slave's serial number becomes the first's */
+    cluster[sizeof cluster - 1] = 0x10;
+    EXPECT(join(cluster, sizeof cluster, cluster, sizeof cluster, 0) == TTPA_REFUSED_EQUAL_PHYSICAL_NAMES);
+    EXPECT(join(wide_5, sizeof wide_5, cluster, sizeof cluster, 0) == TTPA_REFUSED_EQUAL_PHYSICAL_NAMES);
+    EXPECT(not_converted());
+}
+
+/* 63 slaves and one more are joined, 64 and one more are refused. Their serial numbers are below 64. */
+static void most_joined(void)
+{
+    size_t bytes = put_many(TTPA_MOST_SLAVES - 1);
+    EXPECT(join(many, bytes, wide_5, sizeof wide_5, sizeof converted) == TTPA_ACCEPTED);
+    EXPECT(converted_length == bytes + 52 && converted[3] == TTPA_MOST_SLAVES);
+    EXPECT(ttpa_check(converted, (size_t)converted_length) == TTPA_ACCEPTED);
+    EXPECT(converted[converted_length - 1] == 0xA0 && converted[converted_length - 12 - 16 + 7] == 0x05);
+    EXPECT(join(narrow_5, sizeof narrow_5, many, bytes, sizeof converted) == TTPA_REFUSED_SHARED_PHYSICAL_NAME);
+    bytes = put_many(TTPA_MOST_SLAVES);
+    EXPECT(join(many, bytes, wide_5, sizeof wide_5, sizeof converted) == TTPA_REFUSED_JOINED_LIMITS);
+    EXPECT(join(wide_5, sizeof wide_5, many, bytes, sizeof converted) == TTPA_REFUSED_JOINED_LIMITS);
+    EXPECT(not_converted());
+}
+
 static void with_summaries(void)
 {
     filled();
@@ -1448,6 +1570,13 @@ static void shared_turns(void)
     turns();
     refused_turns();
     turn_on_sleepers();
+}
+
+static void joined_files(void)
+{
+    joins();
+    refused_joins();
+    most_joined();
 }
 
 int main(void)
@@ -1481,6 +1610,7 @@ int main(void)
     with_summaries();
     in_both_editions();
     shared_turns();
+    joined_files();
     printf("%d comparisons, %d failed\n", comparisons, failures);
     return failures == 0 ? 0 : 1;
 }

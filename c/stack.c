@@ -3,9 +3,9 @@
  * Each call is made on a stack of its own that was filled with one byte value; the deepest byte that has
  * another value afterwards is the deepest that was used. The calls are made on a cluster file of the
  * greatest length with the most slaves in each edition: every kind of frame, a whole naming run over all names, both
- * without and with a summary, the frames again as a trace, owner files, conversions, turns of all screens, and refusals.
- * All of it runs three times: first to have the linker's work done, then with two different fillings, since a byte may be
- * written with the value that it has. */
+ * without and with a summary, the frames again as a trace, owner files, conversions, turns of all screens, joins, and
+ * refusals. All of it runs three times: first to have the linker's work done, then with two different fillings, since a
+ * byte may be written with the value that it has. */
 #define _XOPEN_SOURCE 700
 #include <stdio.h>
 #include <string.h>
@@ -242,6 +242,15 @@ static void to_edition_2_call(void)
     number = ttpa_to_edition_2(source, source_bytes, converted, converted_room, &converted_length);
 }
 
+/* The second of two files that are joined; the first is the source. */
+static const uint8_t *joined;
+static size_t joined_bytes;
+
+static void join_call(void)
+{
+    number = ttpa_join(source, source_bytes, joined, joined_bytes, converted, converted_room, &converted_length);
+}
+
 static void screens_call(void)
 {
     number = ttpa_screens(state);
@@ -278,6 +287,7 @@ enum kind {
     SCREENS,
     POST,
     TURN,
+    JOIN,
     KINDS
 };
 
@@ -307,6 +317,7 @@ static const struct call calls[KINDS] = {
     [SCREENS] = {"ttpa_screens", screens_call},
     [POST] = {"ttpa_post", post_call},
     [TURN] = {"ttpa_turn", turn_call},
+    [JOIN] = {"ttpa_join", join_call},
 };
 
 /* The most stack that a call of each kind has used. */
@@ -551,6 +562,61 @@ static void convert(void)
     }
 }
 
+/* Files without slaves, and one of each edition with a slave named 0x05, which is turned where it comes second. */
+static const uint8_t nobody[] = {0x54, 0x41, 0x01, 0, 0, 0x10, 0, 0x10, 0, 0, 0, 0, 0, 0, 0, 0};
+static const uint8_t wide_nobody[] = {0x54, 0x41, 0x02, 0, 0, 0, 0, 0x18, 0, 0, 0, 0x18, 0, 0, 0, 0, 0, 0, 0, 0, 0, 0, 0, 0};
+static const uint8_t narrow_5[] = {
+    0x54, 0x41, 0x01, 0x01, 0x00, 0x10, 0x00, 0x38, 0x09, 0x01, 0x05, 0x41, 0x01, 0x00, 0x00, 0x00,
+    0x00, 0x14, 0x02, 0x00, 0x08, 0x03, 0x00, 0x1C, 0x3D, 0x02, 0x00, 0x2C, 0x01, 0x02, 0x03, 0x04,
+    0x05, 0x06, 0x07, 0x05, 0x08, 0x09, 0x0A, 0x0B, 0x0C, 0x0D, 0x0E, 0x0F, 0x10, 0x11, 0x12, 0x13,
+    0x00, 0x00, 0x00, 0x07, 0x00, 0x00, 0x00, 0x10,
+};
+static const uint8_t wide_5[] = {
+    0x54, 0x41, 0x02, 0x01, 0x00, 0x00, 0x00, 0x18, 0x00, 0x00, 0x00, 0x4C, 0xFF, 0x00, 0x03, 0x04,
+    0x05, 0x00, 0x00, 0x00, 0x00, 0x00, 0x00, 0x00, 0x00, 0x00, 0x00, 0x20, 0x02, 0x01, 0x00, 0x00,
+    0x08, 0x03, 0x00, 0x00, 0x00, 0x00, 0x00, 0x30, 0x3D, 0x02, 0x00, 0x00, 0x00, 0x00, 0x00, 0x40,
+    0x21, 0x22, 0x23, 0x24, 0x25, 0x26, 0x27, 0x05, 0x28, 0x29, 0x2A, 0x2B, 0x2C, 0x2D, 0x2E, 0x2F,
+    0x30, 0x31, 0x32, 0x33, 0x00, 0x00, 0x00, 0x07, 0x00, 0x00, 0x00, 0xA0,
+};
+
+static void join_files(const uint8_t *first, size_t n, const uint8_t *second, size_t m, uint8_t expected)
+{
+    source = first;
+    source_bytes = n;
+    joined = second;
+    joined_bytes = m;
+    make(JOIN, expected);
+}
+
+static void join_whole(const uint8_t *first, size_t n, const uint8_t *second, size_t m)
+{
+    join_files(first, n, second, m, TTPA_ACCEPTED);
+    failed |= converted_length != cluster_bytes || memcmp(converted, cluster, cluster_bytes) != 0;
+}
+
+/* The file and one without slaves, in either order and in the other edition, and with itself; two that turn a slave. */
+static void join(void)
+{
+    const uint8_t *none = edition == 1 ? nobody : wide_nobody, *other = edition == 1 ? wide_nobody : nobody;
+    size_t none_bytes = edition == 1 ? sizeof nobody : sizeof wide_nobody;
+    size_t other_bytes = edition == 1 ? sizeof wide_nobody : sizeof nobody;
+    converted_room = cluster_bytes;
+    join_whole(cluster, cluster_bytes, none, none_bytes);
+    join_whole(cluster, cluster_bytes, other, other_bytes);
+    join_whole(none, none_bytes, cluster, cluster_bytes);
+    converted_room = cluster_bytes - 1;
+    join_files(none, none_bytes, cluster, cluster_bytes, TTPA_REFUSED_JOINED_LIMITS);
+    converted_room = sizeof converted;
+    join_files(other, other_bytes, cluster, cluster_bytes,
+               edition == 1 ? TTPA_ACCEPTED : TTPA_REFUSED_JOINED_LIMITS);
+    join_files(cluster, cluster_bytes, cluster, cluster_bytes, TTPA_REFUSED_SHARED_PHYSICAL_NAME);
+    join_files(narrow_5, sizeof narrow_5, wide_5, sizeof wide_5, TTPA_ACCEPTED);
+    failed |= converted[3] != 2 || converted[0x4B] != TTPA_NAME_UNNAMED;
+    join_files(wide_5, sizeof wide_5, narrow_5, sizeof narrow_5, TTPA_ACCEPTED);
+    failed |= converted[3] != 2 || converted[0x6B] != TTPA_NAME_UNNAMED;
+    join_files(cluster, cluster_bytes, cluster, cluster_bytes - 1, TTPA_REFUSED_LENGTH_FIELD);
+}
+
 static void post(uint8_t of_screen, uint8_t name, uint8_t file, uint8_t expected)
 {
     const uint8_t read[TTPA_ADDRESS_PARTS] = {0, name, file, TTPA_OPERATION_READ, 1};
@@ -590,6 +656,7 @@ static void all_calls_on(uint8_t of_edition)
     make_cluster();
     check_files();
     convert();
+    join();
     multipartner_rounds();
     write_owner(TTPA_ACCEPTED);
     name_all_keeping();

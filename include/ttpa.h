@@ -1,7 +1,7 @@
 /* The TTP/A cluster engine for C and C++: check a cluster file, read and write frames, carry out rounds on
  * the file, name its slaves, run captured traces, write the owner file, tell who holds a logical name, convert a
- * file between its two editions and serve the reads of several screens in turn. The words and rules are those of
- * document 01, the scope document, and of document 02, the change requests.
+ * file between its two editions, serve the reads of several screens in turn and join the files of two clusters. The
+ * words and rules are those of document 01, the scope document, and of document 02, the change requests.
  *
  * Numbers. Every call but ttpa_version returns 0 or the number of the ground on which it refused, see enum
  * ttpa_refusal. The comment of a call gives its numbers in the order in which it checks them; the first that
@@ -42,13 +42,13 @@ extern "C" {
  * does not link; this is so from 0.8.0 on. Older headers have no ttpa_version, and those before 0.6.0 have fewer words
  * in a run, which a linked program does not notice: what was compiled with them is to be compiled again. */
 #define TTPA_VERSION_MAJOR 0
-#define TTPA_VERSION_MINOR 12
+#define TTPA_VERSION_MINOR 13
 #define TTPA_VERSION_PATCH 0
 #define TTPA_VERSION (10000 * TTPA_VERSION_MAJOR + 100 * TTPA_VERSION_MINOR + TTPA_VERSION_PATCH)
 
 /* What the library takes: code and constants of all calls, and the most stack that a call uses, with its
  * return address and arguments. No other memory. Both are measured, and rounded up. */
-#define TTPA_CODE_BYTES 22528
+#define TTPA_CODE_BYTES 24576
 #define TTPA_STACK_BYTES 4096
 
 /* What the calls return: 0, or the documents' number for the ground on which something was refused. */
@@ -94,7 +94,10 @@ enum ttpa_refusal {
     TTPA_REFUSED_CONVERSION_BUFFER = 26,
     /* screens that share the tester's turns, before a read's 18 and 14 and before a file's numbers */
     TTPA_REFUSED_SCREEN = 27,
-    TTPA_REFUSED_SCREEN_WAITING = 28
+    TTPA_REFUSED_SCREEN_WAITING = 28,
+    /* a join of two cluster files, after both files' 1 to 8 */
+    TTPA_REFUSED_SHARED_PHYSICAL_NAME = 29,
+    TTPA_REFUSED_JOINED_LIMITS = 30
     /* .ci/refusals writes to here */
 };
 
@@ -162,6 +165,10 @@ static inline const char *ttpa_refusal_text(uint8_t number)
         return "the screen, or the screen last served in the stored state, is above 7";
     case TTPA_REFUSED_SCREEN_WAITING:
         return "the screen has a read waiting already";
+    case TTPA_REFUSED_SHARED_PHYSICAL_NAME:
+        return "a slave of one cluster file has the same physical name as a slave of the other";
+    case TTPA_REFUSED_JOINED_LIMITS:
+        return "the joined cluster file has more slaves or bytes than its edition may have, or more bytes than the buffer";
     default:
         return "refused on a ground that this version has no text for";
     /* .ci/refusals writes to here */
@@ -512,6 +519,27 @@ uint8_t ttpa_post(uint8_t state[TTPA_SCREENS_BYTES], uint8_t screen, uint8_t nam
  * nothing else is altered, *senders neither. */
 uint8_t ttpa_turn(uint8_t *file, size_t n, uint8_t state[TTPA_SCREENS_BYTES], uint8_t *answer, size_t k,
                   uint64_t *senders, uint8_t *screen);
+
+/* Joins two cluster files, for two bus segments that are cabled together: writes into the front of the room bytes at out
+ * one cluster file, in the edition of first, that has the slaves of first (n bytes) and behind them those of second (m
+ * bytes), each in its order. The two may be of different editions. Epoch, pending flag and pending bytes of the file
+ * written are 0, and all its slaves are awake. A slave of second whose logical name a slave of first holds too becomes
+ * unnamed, 0xFF in byte 3 of record 1 of its file 0x08; 0x00 is a name like any other here, and sleepers hold theirs.
+ * Every other byte of every record is as it was, and neither file is altered. Equal names within one file are no ground:
+ * first's stay, and those of second stay or, where first holds that name, all become 0xFF. Where ttpa_check takes both
+ * files, it takes the file written.
+ *
+ * A naming run on the file written takes as unnamed exactly the slaves that were at 0xFF and those that have become so.
+ * A summary for it is filled anew, by ttpa_fill.
+ *
+ * out overlaps neither file. first and second may overlap, or be the same memory: with a slave in it that is 29.
+ * Refuses by 1, 2, 3, 4, 5, 6, 7, 8, 1, 2, 3, 4, 5, 6, 7, 8, 29, 30 in this order, 1 to 8 for first and then for second;
+ * 29 is for a physical name that is in both files, and 30 for a file that would have more slaves or bytes than the
+ * edition of first may have, or more bytes than room, for which TTPA_FILE_BYTES are always enough, or
+ * TTPA_EDITION_1_FILE_BYTES if first is of edition 1. On 0 *length is the length of the file written, and the first
+ * *length bytes of out, and no other, are written. */
+uint8_t ttpa_join(const uint8_t *first, size_t n, const uint8_t *second, size_t m, uint8_t *out, size_t room,
+                  uint64_t *length);
 
 #ifdef __cplusplus
 }

@@ -33,20 +33,24 @@ use Rattle.convert.specs.declared.editions.Edition.the-variants as editi
 use Rattle.convert.specs.Rules.Convert.{convertGrounds, convertGround, convertOn}
 use Rattle.convert.specs.Inner.Answers.{editionIn}
 use Rattle.convert.specs.Inner.Putting.{Put}
-use Rattle.convert.specs.Inner.Slaves.{FormFits}
+use Rattle.convert.specs.Inner.Slaves.{FormFits, isOver}
 use Rattle.convert.proofs.Putting.{put-same, put-written}
 use Rattle.convert.proofs.EditionLaws.{edition-width}
 
 -- ---- the limits
 
-pub over-many : (v : ℕ) (f : List ℕ) {n : ℕ} → n ≡ slaveCount f → 16 * v < n → true ≡ exceeds v (decode f .slaves)
-unfolding exceeds either
-over-many v f count many = rw (lt-ltb (maxSlaves v) (length (decode f .slaves)) (omega (arith, count)))
+pub over-many : (v : ℕ) {n : ℕ} (size : ℕ) → 16 * v < n → true ≡ isOver v n size
+unfolding isOver either
+over-many v {n} size many = rw (lt-ltb (maxSlaves v) n many)
 
-pub over-long : (v : ℕ) (f : List ℕ) {n size : ℕ} → n ≡ slaveCount f → n ≤ 16 * v → size ≡ fileLength v (decode f .slaves)
-    → ltb (16384 * v) size ≡ exceeds v (decode f .slaves)
-unfolding exceeds either
-over-long v f count few is = rw (le-ltb (maxSlaves v) (length (decode f .slaves)) (omega (arith, count)), is)
+pub over-long : (v : ℕ) {n : ℕ} (size : ℕ) → n ≤ 16 * v → ltb (16384 * v) size ≡ isOver v n size
+unfolding isOver either
+over-long v {n} size few = rw (le-ltb (maxSlaves v) n few)
+
+-- they are those of the slaves that the form has
+pub over-slaves : (v : ℕ) (ss : List Slave) {n size : ℕ} → n ≡ length ss → size ≡ fileLength v ss → isOver v n size ≡ exceeds v ss
+unfolding isOver exceeds
+over-slaves v ss count long = rw (count, long)
 
 -- a form within the limits
 pub record Within (v : ℕ) (ss : List Slave) : Type 0 where
@@ -112,30 +116,33 @@ module _ {f places : List ℕ} {a : FileAnswer} (s : Surveyed f (checkedOf a) pl
     length-is : size ≡ fileLength (widthIn (editionIn e)) (decode f .slaves)
     length-is = long ∙ ap (λ (w : ℕ). fileLength w (decode f .slaves)) width
 
-    over-is : {over b : Bool} → over ≡ exceeds v (decode f .slaves) → over ≡ b → exceeds (widthIn (editionIn e)) (decode f .slaves) ≡ b
-    over-is is b = ap (λ (w : ℕ). exceeds w (decode f .slaves)) (sym width) ∙ sym is ∙ b
+    over-here : {n : ℕ} {over b : Bool} → n ≡ slaveCount f → over ≡ isOver v n size → over ≡ b → exceeds v (decode f .slaves) ≡ b
+    over-here count is b = sym (over-slaves v (decode f .slaves) count long) ∙ sym is ∙ b
 
-    pub call-over : {over : Bool} → over ≡ exceeds v (decode f .slaves) → over ≡ true → (refused 25, out) ≡ convertOn f (editionIn e) out
-    call-over is holds =
-        sym (convert-refused f (editionIn e) out (limits-decide f (editionIn e) out (survey-accepted s accepted) (over-is is holds)) (λ z. omega arith))
+    over-is : {n : ℕ} {over b : Bool} → n ≡ slaveCount f → over ≡ isOver v n size → over ≡ b → exceeds (widthIn (editionIn e)) (decode f .slaves) ≡ b
+    over-is count is b = ap (λ (w : ℕ). exceeds w (decode f .slaves)) (sym width) ∙ over-here count is b
 
-    module _ {over : Bool} (is : over ≡ exceeds v (decode f .slaves)) (no′ : over ≡ false) where
+    pub call-over : {n : ℕ} {over : Bool} → n ≡ slaveCount f → over ≡ isOver v n size → over ≡ true → (refused 25, out) ≡ convertOn f (editionIn e) out
+    call-over count is holds =
+        sym (convert-refused f (editionIn e) out (limits-decide f (editionIn e) out (survey-accepted s accepted) (over-is count is holds)) (λ z. omega arith))
+
+    module _ {n : ℕ} {over : Bool} (count : n ≡ slaveCount f) (is : over ≡ isOver v n size) (no′ : over ≡ false) where
       pub call-short : length out < size → (refused 26, out) ≡ convertOn f (editionIn e) out
       call-short short =
           sym
           (convert-refused f (editionIn e) out
-          (buffer-decides f (editionIn e) out (survey-accepted s accepted) (over-is is no′) (omega (arith, length-is))) (λ z. omega arith))
+          (buffer-decides f (editionIn e) out (survey-accepted s accepted) (over-is count is no′) (omega (arith, length-is))) (λ z. omega arith))
 
       pub call-fits : size ≤ length out → FormFits v out size (decode f .slaves)
       call-fits room =
-          let inside : Within v (decode f .slaves) = within (sym is ∙ no′) in
+          let inside : Within v (decode f .slaves) = within (over-here count is no′) in
           record { width = rw width (edition-width e); is = long; room = omega (arith, long); short = inside .short; few = inside .few }
 
       pub call-written : {new : List ℕ} → size ≤ length out → Put out 0 (encodeAt v (decode f)) new → (done size, new) ≡ convertOn f (editionIn e) out
       call-written {new} room p =
           let form : encodeAt v (decode f) ≡ inEdition f (editionIn e) = ap (λ (w : ℕ). encodeAt w (decode f)) width ∙ sym (in-edition f (editionIn e)) in
           let least = call-fits room .width .least in
-          let count : size ≡ length (inEdition f (editionIn e)) = long ∙ sym (encodeAt-length least (decode f)) ∙ ap length form in
-          let left : new ≡ writtenIn out (inEdition f (editionIn e)) = put-written (put-same form p) (omega (arith, count)) in
-          rw (count, left)
-          (sym (convert-written f (editionIn e) out (none-holds f (editionIn e) out (survey-accepted s accepted) (over-is is no′) (omega (arith, length-is)))))
+          let bytes : size ≡ length (inEdition f (editionIn e)) = long ∙ sym (encodeAt-length least (decode f)) ∙ ap length form in
+          let left : new ≡ writtenIn out (inEdition f (editionIn e)) = put-written (put-same form p) (omega (arith, bytes)) in
+          rw (bytes, left)
+          (sym (convert-written f (editionIn e) out (none-holds f (editionIn e) out (survey-accepted s accepted) (over-is count is no′) (omega (arith, length-is)))))

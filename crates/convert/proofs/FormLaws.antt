@@ -2,16 +2,18 @@
 -- Assumes nothing.
 use Prim.Native.Nat.{ℕ, _+_, _*_}
 use native.Mathlib.Omega.{arith}
-use mathlib.Core.Path.{_≡_, ap}
+use mathlib.Core.Path.{_≡_, ap, _∙_}
 use mathlib.Core.List.{List, _++_, append-assoc}
+use mathlib.Core.Bool.{true}
 use lib.ListN.{length, length-append}
 use Rattle.file.specs.Rules.Encode.{slavesBytes, table, slavesPlace, fileLength, header, encodeAt}
 use Rattle.file.specs.Rules.Decode.{decode}
 use Rattle.file.specs.Inner.Accepted.{slaveCount}
 use Rattle.file.proofs.Sizes.{header-length, table-length}
 use Rattle.convert.specs.Inner.Putting.{Put}
-use Rattle.convert.specs.Inner.Slaves.{TableFits, SlavesFit, FormFits}
+use Rattle.convert.specs.Inner.Slaves.{listed, TableFits, SlavesFit, FormFits}
 use Rattle.convert.proofs.Putting.{put-room, put-same, put-then}
+use Rattle.convert.proofs.TableLaws.{listed-kept}
 
 module _ (f : List ℕ) {old : List ℕ} {v n size : ℕ} (fits : FormFits v old size (decode f .slaves)) (count : n ≡ slaveCount f) where
   place-is : 8 + 4 * v + 2 * v * n ≡ slavesPlace v (decode f .slaves)
@@ -39,14 +41,14 @@ module _ (f : List ℕ) {old : List ℕ} {v n size : ℕ} (fits : FormFits v old
         }
 
   pub form-put : {new mid out : List ℕ} → Put old 0 (header v (decode f)) new
-      → Put new (8 + 4 * v) (table v (8 + 4 * v + 2 * v * n) (decode f .slaves)) mid
+      → Put new (8 + 4 * v) (table v (8 + 4 * v + 2 * v * n) (listed true (decode f .slaves))) mid
       → Put mid (8 + 4 * v + 2 * v * n) (slavesBytes v (8 + 4 * v + 2 * v * n) (decode f .slaves)) out
       → Put old 0 (encodeAt v (decode f)) out
   unfolding encodeAt
   form-put {new} {mid} {out} first second third =
       let c = decode f in
       let place = slavesPlace v (c .slaves) in
-      let entries : Put new (8 + 4 * v) (table v place (c .slaves)) mid = put-same (ap (λ (k : ℕ). table v k (c .slaves)) place-is) second in
+      let entries : Put new (8 + 4 * v) (table v place (c .slaves)) mid = put-same (ap (table v (8 + 4 * v + 2 * v * n)) (listed-kept (c .slaves)) ∙ ap (λ (k : ℕ). table v k (c .slaves)) place-is) second in
       let bodies : Put mid (8 + 4 * v + 2 * v * n) (slavesBytes v place (c .slaves)) out = put-same (ap (λ (k : ℕ). slavesBytes v k (c .slaves)) place-is) third in
       let two = fits .width .least in
       let behind : 8 + 4 * v ≡ 0 + length (header v c) = omega (arith, header-length two c) in

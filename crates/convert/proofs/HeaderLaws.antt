@@ -24,7 +24,7 @@ table-offset o = record { width = o .width; most = omega (arith, o .width .least
 
 -- ---- the front
 
-front-length : (v n size : ℕ) → length (headerFront v n size) ≡ 4 + 2 * v
+pub front-length : (v n size : ℕ) → length (headerFront v n size) ≡ 4 + 2 * v
 unfolding headerFront
 front-length v n size = simp (length-append, bytesOf-length) (omega arith)
 

@@ -1,19 +1,19 @@
 // A cluster file's form in an edition, written into a buffer.
 ghost use mathlib.Core.Path.{_≡_};
 ghost use Rattle.file.specs.Rules.Layout.{OffsetWidth};
-ghost use Rattle.file.specs.Rules.Encode.{fileLength, encodeAt};
+ghost use Rattle.file.specs.Rules.Encode.{encodeAt};
 ghost use Rattle.file.specs.Rules.Decode.{decode};
-ghost use Rattle.file.specs.Rules.Editions.{exceeds};
 ghost use Rattle.file.specs.Inner.Accepted.{AcceptedFile};
 ghost use Rattle.convert.specs.Inner.Answers.{editionIn, convertedOf};
 ghost use Rattle.convert.specs.Inner.Putting.{Put};
-ghost use Rattle.convert.specs.Inner.Slaves.{FormFits};
+ghost use Rattle.convert.specs.Inner.Slaves.{FormFits, isOver};
 ghost use Rattle.convert.specs.Rules.Convert.{convertOn};
 use crate::editions::Edition;
 use crate::editions::width_in;
 use crate::header::put_header;
 use crate::sizes::length_in;
 use crate::slaves::put_slaves;
+use crate::table::SLEEP_KEPT;
 use crate::table::put_table;
 use file::layout::ENTRY_OFFSETS;
 use file::layout::HEADER_BYTES;
@@ -32,12 +32,12 @@ pub enum Conversion {
     Written(usize),
 }
 
-// Whether a file's form of that length exceeds the limits of its width: "the limits are 64 slaves and 65,536 bytes".
-fn is_over(file: &[u8], width: usize, size: usize) -> bool
-    requires { ⌜ AcceptedFile (now file) × OffsetWidth width × (size ≡ fileLength width (decode (now file) .slaves)) ⌝ }
-    ensures { λ r. ⌜ r ≡ exceeds width (decode (now (file .entry)) .slaves) ⌝ }
+// Whether a form of so many slaves and of that length exceeds the limits of its width: "the limits are 64 slaves and 65,536 bytes".
+pub fn is_over(width: usize, count: usize, size: usize) -> bool
+    requires { ⌜ OffsetWidth width ⌝ }
+    ensures { λ r. ⌜ r ≡ isOver width count size ⌝ }
 {
-    if MOST_SLAVES_BY_WIDTH * width < slave_count(file) {
+    if MOST_SLAVES_BY_WIDTH * width < count {
         return true;
     }
     LONGEST_BY_WIDTH * width < size
@@ -51,7 +51,7 @@ fn put_form(out: &mut [u8], width: usize, size: usize, file: &[u8])
     let table = HEADER_BYTES + HEADER_OFFSETS * width;
     let place = table + ENTRY_OFFSETS * width * slave_count(file);
     put_header(out, width, size, file);
-    put_table(out, width, table, place, file);
+    put_table(out, width, table, place, file, SLEEP_KEPT);
     put_slaves(out, width, place, file);
 }
 
@@ -67,7 +67,7 @@ pub fn convert(file: &[u8], edition: Edition, out: &mut [u8]) -> Conversion
         FileAnswer::Accepted => {
             let width = width_in(edition);
             let size = length_in(file, width);
-            if is_over(file, width, size) {
+            if is_over(width, slave_count(file), size) {
                 return Conversion::Refused(Refusal::EDITION_LIMITS);
             }
             if out.len() < size {

@@ -386,7 +386,7 @@ calls-fed names m a (ttpaTrace t report ∷ cs) = calls-fed names _ a cs
 calls-fed names m a (ttpaTurn state buffer senders screen ∷ cs) =
     turn-unaccounted a (turnFrames (m .file) state buffer) _ ∙ calls-fed names _ a cs
 
-check-number : (file : List ℕ) → checkCall file ≡ loadGround file
+pub check-number : (file : List ℕ) → checkCall file ≡ loadGround file
 unfolding checkCall loadVerdict
 check-number file = number-result (loadGround file) tt
 

@@ -27,6 +27,8 @@ use Rattle.demand.specs.Claims.TwoLists.{TwoListsOverCalls, JoinedStarts
 use Rattle.demand.specs.Claims.TwoLists.{EndMarkOverCalls, SecondFindsOverCalls, TwoRunsOverCalls}
 use Rattle.demand.proofs.TwoLists.{two-lists-over-calls, joined-starts, common-returns, runs-end-over-calls, every-run-ends-over-calls}
 use Rattle.demand.proofs.TwoLists.{end-mark-over-calls, second-finds-over-calls, two-runs-over-calls}
+use Rattle.demand.specs.Claims.Join.{UnnamedAfterJoin, UnnamedAfterJoinCall, NamingAfterJoin, NamingAfterJoinCall}
+use Rattle.demand.proofs.Join.{unnamed-after-join, unnamed-after-join-call, naming-after-join, naming-after-join-call}
 
 pub held-demand-over-calls : DemandOverCalls
 held-demand-over-calls = demand-over-calls
@@ -168,3 +170,15 @@ held-served-turns-wake = served-turns-wake
 
 pub held-turns-fit : TurnsFit
 held-turns-fit = turns-fit
+
+pub held-unnamed-after-join : UnnamedAfterJoin
+held-unnamed-after-join = unnamed-after-join
+
+pub held-unnamed-after-join-call : UnnamedAfterJoinCall
+held-unnamed-after-join-call = unnamed-after-join-call
+
+pub held-naming-after-join : NamingAfterJoin
+held-naming-after-join = naming-after-join
+
+pub held-naming-after-join-call : NamingAfterJoinCall
+held-naming-after-join-call = naming-after-join-call

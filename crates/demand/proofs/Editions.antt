@@ -28,6 +28,8 @@ use Rattle.screens.specs.Rules.Screens.{readOf}
 use Rattle.screens.specs.Rules.Turn.{Turn as TurnDone, idle, served, readSent, turnOn}
 use Rattle.screens.proofs.Editions.{turns-converted}
 use Rattle.convert.specs.Rules.Convert.{convertGrounds, convertGround, convertOn}
+use Rattle.join.specs.Rules.Join.{joinOn}
+use Rattle.join.proofs.Editions.{second-in-either}
 use Rattle.naming.specs.Rules.Account.{Named, argumentsGround}
 use Rattle.naming.specs.Rules.Run.{Position, bits, fresh, startGround}
 use Rattle.naming.specs.Rules.Step.{StepDone, ended, made, stepOn, stepKeeping}
@@ -36,7 +38,7 @@ use Rattle.naming.proofs.Renaming.{step-value}
 use Rattle.naming.proofs.Summaries.{keeping-step-value}
 use Rattle.naming.proofs.Editions.{steps-converted, steps-keeping-converted, names-in}
 use Rattle.ttpa.specs.Rules.Calls.{checkCall, startCall, stepCall, stepWords, stepKeepingCall, roundCall, roundKeepingCall, traceCall}
-use Rattle.ttpa.specs.Rules.Calls.{turnCall, ownerCall, convertCall, fillCall, wordsOf, positionIn}
+use Rattle.ttpa.specs.Rules.Calls.{turnCall, ownerCall, convertCall, joinCall, fillCall, wordsOf, positionIn}
 use Rattle.demand.specs.Claims.Traces.{halfwayFrom}
 use Rattle.demand.specs.Claims.Calls.{CCall, GivenBytes, given-step, given-step-keeping, given-frame, given-frame-keeping}
 use Rattle.demand.specs.Claims.Calls.{given-trace, given-turn, Memory, returned, memoryAfter, afterCalls}
@@ -69,8 +71,14 @@ conversion-same : {f : List ℕ} {e : ℕ} (d : ℕ) (out : List ℕ) → Conver
 unfolding convertOn
 conversion-same d out convertible = rw (conversion-ground d out convertible, form-again convertible d)
 
+-- a join asks of its second file what it holds
+join-same : {f : List ℕ} {e : ℕ} (first out : List ℕ) → Convertible f e → joinOn first (inEdition f e) out ≡ joinOn first f out
+join-same {f} {e} first out convertible =
+    second-in-either first f e out
+    (record { bytes = convertible .bytes; accepted = convertible .accepted; width = convertible .width; room = convertible .room })
+
 pub all-calls-alike : AllCallsAlike
-unfolding roundCall roundKeepingCall stepCall stepKeepingCall traceCall turnCall ownerCall convertCall fillCall
+unfolding roundCall roundKeepingCall stepCall stepKeepingCall traceCall turnCall ownerCall convertCall joinCall fillCall
 all-calls-alike f e convertible =
     record {
       check = check-same convertible;
@@ -83,6 +91,7 @@ all-calls-alike f e convertible =
       turn = λ state answer senders screen sb. rw (turns-converted f e state answer convertible sb .0);
       owner = λ master buffer length. rw (owner-converted f e master buffer convertible);
       convert = λ d out length. rw (conversion-same d out convertible);
+      joinSecond = λ first out length. rw (join-same first out convertible);
       fill = λ held count. rw (filling-converted f e held convertible);
     }
 

@@ -27,5 +27,8 @@ pub mod EditionExamples
 pub mod ServedTurn
 pub mod Turns
 pub mod TurnExamples
+-- naming after a join
+pub mod Join
+pub mod JoinExamples
 -- each claim with its theorem
 pub mod Claimed

@@ -42,7 +42,7 @@ m10-count : length (decode m10File .slaves) ≡ 2
 unfolding m10-names
 m10-count = refl
 
-m10-matches : Matches m10File (kept 2 (0xFF ∷ 0xFF ∷ 9 ∷ []))
+pub m10-matches : Matches m10File (kept 2 (0xFF ∷ 0xFF ∷ 9 ∷ []))
 m10-matches = givenNames {count = 2} {slice = 0xFF ∷ 0xFF ∷ 9 ∷ []} (omega arith) (sym m10-names)
 
 m10-no-match : Matches m10File (kept 2 (0xFF ∷ 1 ∷ [])) → ⊥

@@ -3,12 +3,14 @@
 -- the steps and between the runs, or with a turn; the stored figures there and on the file of M8, whose two slaves hold name 1; and like
 -- statements that are false.
 -- Assumes nothing.
-use Prim.Native.Nat.{ℕ, _+_, _≤_}
+use Prim.Native.Nat.{ℕ, zero, suc, _+_, _≤_}
 use native.Mathlib.Omega.{arith}
 use mathlib.Core.Path.{_≡_, refl, sym, ap, _∙_}
 use mathlib.Core.List.{List, [], _∷_, _++_, map}
 use mathlib.Core.Bool.{true, false}
-use lib.ListN.{length, replicate, getD, drop}
+use lib.ListN.{length, replicate, getD, drop, length-replicate}
+use Rattle.demand.specs.Claims.Summary.{AllGivenRight, AllGivenRight.oneMore as nextGiven, noCalls, stepWithout, stepMatching}
+use Rattle.demand.proofs.SummaryExamples.{m10-matches}
 use Rattle.file.specs.Rules.Layout.{widthOf}
 use Rattle.file.specs.Rules.Bytes.{Bytes, All, All.allEmpty, All.allNext as also, numberOf, part, allZero}
 use Rattle.file.specs.Rules.Cluster.{noOperation, broadcastRead, bytesAmong, bytesIn, lastRecord, physicalName}
@@ -44,7 +46,7 @@ use Rattle.demand.specs.Claims.Calls.{is-step, Memory, afterCalls, permi
 use Rattle.demand.specs.Claims.Calls.{argumentsOfAll, memoryAfter, turnFrames}
 use Rattle.demand.specs.Claims.Turns.{Serves, aStep, aTurn}
 use Rattle.demand.specs.Claims.Traces.{frameCall, framesSingly, singly}
-use Rattle.demand.specs.Claims.TwoLists.{ToItsEnd, fileAfter, runAfter, stepsTaken}
+use Rattle.demand.specs.Claims.TwoLists.{ToItsEnd, fileAfter, runAfter, stepsTaken, LongStep, long, longKeeping}
 use Rattle.demand.proofs.Traces.{zeros-long, singly-append}
 use Rattle.demand.proofs.Calls.{accepted-runs, runs-accepted, start-number, steps-permitted, throughout-calls, demand-over-calls, byRules}
 use Rattle.demand.proofs.Calls.{frames-alone}
@@ -52,7 +54,7 @@ use Rattle.demand.proofs.Permitted.{rounds-fit-calls}
 use Rattle.demand.proofs.Turns.{serving-told, turns-permitted}
 use Rattle.demand.proofs.TurnExamples.{waiting, waiting-bytes, waiting-served, oneTurn}
 use Rattle.demand.proofs.TwoLists.{longCall, steps-by-rules, steps-given, steps-only, bytes-left, names-left, two-lists-over-calls}
-use Rattle.demand.proofs.TwoLists.{joined-starts, common-returns, calls-counted, runs-end-over-calls}
+use Rattle.demand.proofs.TwoLists.{joined-starts, common-returns, calls-counted, runs-end-over-calls, every-run-ends-over-calls}
 use Rattle.demand.proofs.TwoLists.{end-mark-over-calls, second-finds-over-calls, two-runs-over-calls}
 
 -- ---- every two lists: each run by as many steps as it has rounds, a round of others and a trace of one before them
@@ -299,6 +301,32 @@ m8-alike :
     slavesIn (fileAfter (leftBy m8File (1 ∷ [])) (2 ∷ []) words (secondRun m8File (1 ∷ []) (2 ∷ []))) ≡
     slavesIn (leftBy m8File (1 ∷ 2 ∷ []))
 m8-alike = left-alike m8File m8-bytes m8-taken name-1 name-2 apart-1-2 words words words
+
+-- ---- steps alone, with buffers of 64 bytes: as many as the run has rounds, and the first of them with a summary
+
+steps-long : (n : ℕ) → All LongStep (steps n)
+steps-long zero = allEmpty
+steps-long (suc n) = also (long zeros-long) (steps-long n)
+
+steps-right : (names : List ℕ) (m : Memory) (n : ℕ) → AllGivenRight names m (steps n)
+steps-right names m zero = noCalls
+steps-right names m (suc n) = nextGiven stepWithout (steps-right names _ n)
+
+steps-end :
+    (file : List ℕ) → Bytes file → TakenByRounds file → {names : List ℕ} → Listed names → (run : List ℕ) →
+    ToItsEnd file names run (steps (roundsFor (slavesIn file) names))
+steps-end file b taken {names} l run =
+    let n = roundsFor (slavesIn file) names in
+    every-run-ends-over-calls file b taken names (l .bytes) run (starts l run) (steps n) (steps-long n) (steps-right names _ n)
+    (omega (arith, length-replicate n (longCall 0)))
+
+summary-first : ToItsEnd m10File (1 ∷ []) words (ttpaStepKeeping answerBuffer 0 (0xFF ∷ 0xFF ∷ 9 ∷ []) 2 ∷ steps 135)
+unfolding threeRuns
+summary-first =
+    let due = ap (λ (ss : List Named). roundsFor ss (1 ∷ [])) m10-slaves ∙ ap (λ (l : List ℕ). getD l 1 0) names-fewer in
+    every-run-ends-over-calls m10File m10-bytes m10-taken (1 ∷ []) (name-1 .bytes) words (starts name-1 words) _
+    (also (longKeeping zeros-long) (steps-long 135)) (nextGiven (stepMatching m10-matches) (steps-right (1 ∷ []) _ 135))
+    (omega (arith, due, length-replicate 135 (longCall 0)))
 
 -- ---- with summaries, refused steps, a multipartner round and a trace of one among the steps
 

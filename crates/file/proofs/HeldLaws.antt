@@ -13,7 +13,8 @@ use Rattle.file.specs.Rules.Cluster.{unnamed}
 use Rattle.file.specs.Rules.Grounds.{isAmong, hasRepeat, heldNames}
 use Rattle.file.proofs.Order.{byCase, clash, either-left, either-right, either-false}
 use Rattle.file.proofs.LookingLaws.{few-once}
-use Rattle.file.proofs.Marks.{Marked, marked-none, marked-add}
+use Rattle.file.specs.Inner.Marked.{Marked}
+use Rattle.file.proofs.Marks.{marked-none, marked-add}
 
 -- ---- the first name is held, or it is 0xFF
 

@@ -10,11 +10,8 @@ use lib.Seq.{getD-set-same, getD-set-other}
 use lib.Dec.{eqb}
 use Rattle.file.specs.Rules.Order.{either}
 use Rattle.file.specs.Rules.Grounds.{isAmong}
+use Rattle.file.specs.Inner.Marked.{Marked}
 use Rattle.file.proofs.Order.{byCase, clash, either-left, either-right, either-next}
-
--- a mark is seen exactly where it is among the marks
-pub record Marked (seen : List Bool) (marks : List ℕ) : Type 0 where
-  pub are : (m : ℕ) → m < length seen → getD seen m false ≡ isAmong m marks
 
 pub marked-none : (room : ℕ) → Marked (replicate room false) []
 unfolding isAmong

@@ -15,7 +15,8 @@ use Rattle.file.specs.Inner.Places.{placesEach, documentationIndex}
 use Rattle.file.specs.Inner.Checked.{documentationPlaces, nameAt, NameStands, namesAt, NamesStand}
 use Rattle.file.proofs.Bytes.{all-at}
 use Rattle.file.proofs.LookingLaws.{Looking, looking-here, looking-next, looking-end, few-once, repeat-after}
-use Rattle.file.proofs.Marks.{Marked, marked-none, marked-add, marked-new}
+use Rattle.file.specs.Inner.Marked.{Marked, remainder}
+use Rattle.file.proofs.Marks.{marked-none, marked-add, marked-new}
 use Rattle.file.proofs.Order.{either-left, either-false}
 
 -- ---- the names in order
@@ -59,10 +60,6 @@ module _ (f docs : List ℕ) {name i : ℕ} (h : Looking name (map (nameAt f) do
     named-next other = looking-next h there (λ e. other (is ∙ sym (name-of f docs i more) ∙ e))
 
 -- ---- the comparison: the marks are the remainders of the names from i on, and none of these names occurs twice
-
--- equal names have equal remainders
-abbrev pub remainder : ℕ → ℕ
-remainder n = n % 255
 
 pub record Comparing (l : List ℕ) (seen : List Bool) (i : ℕ) : Type 0 where
   pub room : length seen ≡ 255

@@ -98,7 +98,7 @@ module _ (n k b : ℕ) where
       rw e (after (x .bytes) (files-stand (begin + length (x .bytes)) xs rest)))
 
   module _ {w : ℕ} (wide : 2 ≤ w) where
-    slave-stands : (begin : ℕ) (x : Slave) → 0 < length (bytesIn x n)
+    pub slave-stands : (begin : ℕ) (x : Slave) → 0 < length (bytesIn x n)
         → Stands (slaveBytes w begin x) (slaveBytes w begin (putInSlave x n k b)) begin
         (placeAmong (begin + entrySize w * length (x .files)) (x .files) n) (bytesIn x n) (set (bytesIn x n) k b)
     unfolding slaveBytes putInSlave bytesIn

@@ -1,5 +1,5 @@
 -- Words of the contracts: the typed numbers, places in the file, the accepted file, the code's answers, and what the checker's parts
--- promise one another.
+-- promise one another; marks for what was seen.
 pub mod Typed
 pub mod Layout
 pub mod Numbers
@@ -8,3 +8,4 @@ pub mod Accepted
 pub mod Answers
 pub mod Surveyed
 pub mod Checked
+pub mod Marked

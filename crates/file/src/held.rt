@@ -4,7 +4,7 @@ ghost use Rattle.file.specs.Rules.Grounds.{hasRepeat, heldNames};
 use crate::types::LogicalName;
 
 // The values of a name.
-const NAME_VALUES: usize = 256;
+pub const NAME_VALUES: usize = 256;
 
 // From the last name to the first: which names come after this one, 0xFF left out. Fewer than two names are not looked at.
 pub fn is_held_twice(names: &[u8]) -> bool

@@ -2,7 +2,7 @@
 mod header;
 pub mod held;
 pub mod layout;
-mod names;
+pub mod names;
 pub mod numbers;
 pub mod operations;
 pub mod readers;

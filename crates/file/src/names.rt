@@ -11,7 +11,7 @@ use crate::numbers::u64_at;
 use crate::types::PLACES_EACH;
 
 // Equal names have equal remainders by this number.
-const REMAINDERS: u64 = 255;
+pub const REMAINDERS: u64 = 255;
 
 // A slave's physical name: the number in the eight bytes after record 0x00 of its documentation.
 fn name_at(file: &[u8], places: &[u16], slave: usize) -> u64
@@ -38,7 +38,7 @@ fn is_named(file: &[u8], places: &[u16], name: u64) -> bool
 }
 
 // The same of a name whose remainder may be new: then none has it.
-fn is_named_again(file: &[u8], places: &[u16], name: u64, seen: bool) -> bool
+pub fn is_named_again(file: &[u8], places: &[u16], name: u64, seen: bool) -> bool
     requires { ⌜ NamesStand (now file) (now places) × (seen ≡ false → isAmong name (namesAt (now file) (now places)) ≡ false) ⌝ }
     ensures { λ r. ⌜ r ≡ isAmong name (namesAt (now (file .entry)) (now (places .entry))) ⌝ }
 {

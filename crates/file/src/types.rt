@@ -117,6 +117,10 @@ impl Refusal {
     pub const SCREEN: Refusal = Refusal(27);
 
     pub const SCREEN_WAITING: Refusal = Refusal(28);
+
+    pub const SHARED_NAME: Refusal = Refusal(29);
+
+    pub const JOINED_LIMITS: Refusal = Refusal(30);
 }
 
 // The slaves that an array has room for: the most of either edition.

@@ -1,6 +1,7 @@
 -- Each claim of specs/Claims, and the theorem that has it as its type.
 use Rattle.screens.specs.Claims.Grounds.{PostGroundsInOrder, StateGroundsInOrder, TurnGroundsInOrder, UnknownEdition}
 use Rattle.screens.specs.Claims.Turns.{PostWaits, DueIsNext, StartsAtZero, TurnsAreRounds, IdleTurns, ServedWaitsNoMore}
+use Rattle.screens.specs.Claims.Turns.{StatesLaidOut, PostBytes, ServedBytes}
 use Rattle.screens.specs.Claims.Turns.{TurnRenamesNobody, TurnKeepsSummary}
 use Rattle.screens.specs.Claims.Fairness.{Fair, PostedIsServed, SevenAreTooFew}
 use Rattle.screens.specs.Claims.Editions.{TurnsConverted}
@@ -12,6 +13,8 @@ use Rattle.screens.proofs.Names.{turn-renames-nobody, turn-keeps-summar
 use Rattle.screens.proofs.Fairness.{fair, posted-is-served}
 use Rattle.screens.proofs.Eighth.{seven-are-too-few}
 use Rattle.screens.proofs.Editions.{turns-converted}
+use Rattle.screens.proofs.Posts.{states-laid-out, post-bytes}
+use Rattle.screens.proofs.Turns.{served-bytes}
 
 pub held-post-grounds-in-order : PostGroundsInOrder
 held-post-grounds-in-order = post-grounds-in-order
@@ -60,3 +63,12 @@ held-seven-are-too-few = seven-are-too-few
 
 pub held-turns-converted : TurnsConverted
 held-turns-converted = turns-converted
+
+pub held-states-laid-out : StatesLaidOut
+held-states-laid-out = states-laid-out
+
+pub held-post-bytes : PostBytes
+held-post-bytes = post-bytes
+
+pub held-served-bytes : ServedBytes
+held-served-bytes = served-bytes

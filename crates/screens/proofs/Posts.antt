@@ -1,7 +1,7 @@
 -- What a post does.
 -- Assumes nothing.
-use Prim.Native.Nat.{ℕ, _+_, _<_}
-use mathlib.Core.Path.{_≡_, sym, ap, _∙_}
+use Prim.Native.Nat.{ℕ, _+_, _*_, _<_}
+use mathlib.Core.Path.{_≡_, refl, sym, ap, _∙_}
 use mathlib.Core.Logic.{_≢_}
 use mathlib.Core.List.{List}
 use mathlib.Core.Bool.{true, false}
@@ -11,11 +11,11 @@ use lib.Seq.{getD-set-same, getD-set-other}
 use lib.Dec.{eqb}
 use borrow.Author.Tests.{eqb-true, eqb-false, eq-eqb, ne-eqb, ltb-false}
 use Rattle.file.specs.Rules.Results.{Result, refused, done, resultOf}
-use Rattle.file.proofs.Order.{byCase, first-none, either-false-left, either-false-right}
+use Rattle.file.proofs.Order.{clash, byCase, first-none, either-false-left, either-false-right}
 use Rattle.screens.specs.Rules.Screens.{screens, lastServed, placeOf, isWaiting, Read, readOf, noScreen, postGround, posted, postOn}
-use Rattle.screens.specs.Claims.Turns.{PostWaits}
+use Rattle.screens.specs.Claims.Turns.{StatesLaidOut, PostBytes, PostWaits}
 use Rattle.screens.proofs.Distinct.{done-refused}
-use Rattle.screens.proofs.StateBytes.{same-waits, same-read, posted-same, posted-last}
+use Rattle.screens.proofs.StateBytes.{same-waits, same-read, posted-byte, posted-same, posted-last}
 
 -- what a post says that is not refused
 pub record Postable (state : List ℕ) (i : ℕ) : Type 0 where
@@ -52,6 +52,17 @@ module _ (state : List ℕ) (i : ℕ) (r : Read) (long : length state ≡ 33) (f
   unfolding placeOf
   place = omega (arith, few)
 
+  posted-first : getD (posted state i r) (placeOf i) 0 ≡ 1
+  unfolding posted
+  posted-first =
+      let one : List ℕ = set state (placeOf i) 1 in
+      let two : List ℕ = set one (placeOf i + 1) (r .name) in
+      let three : List ℕ = set two (placeOf i + 2) (r .file) in
+      getD-set-other three (placeOf i + 3) (placeOf i) (r .«record») 0 (λ e. omega (arith, e))
+      ∙ getD-set-other two (placeOf i + 2) (placeOf i) (r .file) 0 (λ e. omega (arith, e))
+      ∙ getD-set-other one (placeOf i + 1) (placeOf i) (r .name) 0 (λ e. omega (arith, e))
+      ∙ getD-set-same state (placeOf i) 1 0 (omega (arith, place, long))
+
   posted-own : (isWaiting (posted state i r) i ≡ true) × (readOf (posted state i r) i ≡ r)
   unfolding posted isWaiting readOf
   posted-own =
@@ -77,6 +88,26 @@ module _ (state : List ℕ) (i : ℕ) (r : Read) (long : length state ≡ 33) (f
       let record′ : getD (set three (placeOf i + 3) (r .«record»)) (placeOf i + 3) 0 ≡ r .«record» =
       getD-set-same three (placeOf i + 3) (r .«record») 0 (omega (arith, p, l₃)) in
       (rw waits, rw (name, file, record′))
+
+pub states-laid-out : StatesLaidOut
+unfolding lastServed isWaiting readOf placeOf
+states-laid-out state i =
+    record {
+      last = refl;
+      waits = ((λ w e. clash w (rw (eq-eqb (getD state (1 + 4 * i) 0) 0 e))), λ n. rw (ne-eqb (getD state (1 + 4 * i) 0) 0 n));
+      read = refl;
+    }
+
+pub post-bytes : PostBytes
+post-bytes state i r long e =
+    let ground = post-ground state i r e in
+    let few = post-free state i r ground .few in
+    rw (post-accepted state i r ground)
+    (unfold placeOf in record {
+      waiting = posted-first state i r long few;
+      before = λ k l. posted-byte state i r k (λ q. omega (arith, q, l)) (λ q. omega (arith, q, l)) (λ q. omega (arith, q, l)) (λ q. omega (arith, q, l));
+      behind = λ k l. posted-byte state i r k (λ q. omega (arith, q, l)) (λ q. omega (arith, q, l)) (λ q. omega (arith, q, l)) (λ q. omega (arith, q, l));
+    })
 
 pub post-waits : PostWaits
 post-waits state i r long e =

@@ -22,12 +22,12 @@ use Rattle.cluster.specs.Inner.Sending.{MaySend, asked}
 use Rattle.cluster.proofs.SentRounds as rounds
 use Rattle.screens.specs.Rules.Screens.{screens, lastServed, placeOf, Read, readOf, Due, nobody, screen, due}
 use Rattle.screens.specs.Rules.Turn.{Turn, idle, served, servedBy, readSent, afterServing, stateGrounds, turnGround, turnMade, turnOn}
-use Rattle.screens.specs.Claims.Turns.{NoneWaiting, TurnIsRound, TurnsAreRounds, IdleTurns, ServedWaitsNoMore}
+use Rattle.screens.specs.Claims.Turns.{NoneWaiting, TurnIsRound, TurnsAreRounds, IdleTurns, ServedBytes, ServedWaitsNoMore}
 use Rattle.screens.specs.Claims.Fairness.{Serves}
 use Rattle.screens.proofs.TurnLaws.{may-read}
 use Rattle.screens.proofs.Grounds.{Free, turn-free, turn-refused, turn-made, state-last, state-read}
 use Rattle.screens.proofs.Due.{due-is-next}
-use Rattle.screens.proofs.StateBytes.{same-waits, same-read, serving-same, serving-last, serving-clears, serving-read}
+use Rattle.screens.proofs.StateBytes.{same-waits, same-read, serving-byte, serving-same, serving-last, serving-clears, serving-read}
 use Rattle.screens.proofs.Distinct.{done-refused, idle-served, served-same, served-by-same}
 
 -- the read due may be sent, where the state has no ground
@@ -180,6 +180,13 @@ idle-turns state file buffer =
     }
 
 -- ---- the screen that is served
+
+pub served-bytes : ServedBytes
+unfolding servedBy
+served-bytes state file buffer i n e k other else =
+    let none = done-free state file buffer (served i n) e in
+    let is = served-due state file buffer i (done n) e in
+    rw (turn-serves state file buffer none i is) (serving-byte state i k other (unfold placeOf in else))
 
 pub served-waits-no-more : ServedWaitsNoMore
 unfolding servedBy

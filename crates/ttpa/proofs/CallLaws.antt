@@ -37,6 +37,10 @@ use Rattle.convert.specs.Inner.Answers.{editionIn, convertedOf}
 use Rattle.convert.specs.declared.editions.Edition.the-variants as editions
 use Rattle.convert.specs.declared.convert.Conversion.{Conversion}
 use Rattle.convert.specs.declared.convert.Conversion.the-variants as conversions
+use Rattle.join.specs.Rules.Join.{joinOn}
+use Rattle.join.specs.Inner.Answers.{joiningOf}
+use Rattle.join.specs.declared.join.Joining.{Joining}
+use Rattle.join.specs.declared.join.Joining.the-variants as joinings
 use Rattle.owner.specs.Rules.Writing.{ownerOn}
 use Rattle.owner.specs.Inner.Answers.{writtenOf}
 use Rattle.owner.specs.declared.write.OwnerAnswer.{OwnerAnswer}
@@ -61,7 +65,7 @@ use Rattle.summary.specs.declared.fill.Filling.{Filling}
 use Rattle.summary.specs.declared.fill.Filling.the-variants as fillings
 use Rattle.summary.specs.declared.holder.Holder.{Holder}
 use Rattle.summary.specs.declared.holder.Holder.the-variants as holders
-use Rattle.ttpa.specs.Rules.Calls.{lentAfter, checkCall, partBytes, readAddressCall, writeAddressCall, writeDataCall, roundCall, traceCall, ownerCall, convertCall, wordsOf, positionIn, startCall, stepSenders, stepWords, stepCall, fillCall, nobodyPlace, placeOf, holderCall, sliceOf, roundKeepingCall, stepKeepingCall, screensCall, postCall, noneWaited, turnScreen, turnSenders, turnCall}
+use Rattle.ttpa.specs.Rules.Calls.{lentAfter, checkCall, partBytes, readAddressCall, writeAddressCall, writeDataCall, roundCall, traceCall, ownerCall, convertCall, wordsOf, positionIn, startCall, stepSenders, stepWords, stepCall, fillCall, nobodyPlace, placeOf, holderCall, sliceOf, roundKeepingCall, stepKeepingCall, screensCall, postCall, noneWaited, turnScreen, turnSenders, turnCall, joinCall}
 use Rattle.ttpa.specs.Inner.Told.{roundTold, stepTold}
 
 -- ---- the checker
@@ -204,6 +208,21 @@ module _ (file out : List ℕ) (length : ℕ) {x : ℕ × ℕ × List ℕ} where
   pub edition-two : x ≡ convertCall (editionIn editions.Two) file out length → x ≡ convertCall 2 file out length
   unfolding editionIn
   edition-two is = is
+
+-- ---- two files joined
+
+module _ (first second out : List ℕ) (length : ℕ) {out′ : List ℕ} (a : Joining) (is : (joiningOf a, out′) ≡ joinOn first second out) where
+  pub join-refuses : {why : Refusal} → a ≡ joinings.Refused why → (why .0, length, out′) ≡ joinCall first second out length
+  unfolding joinCall numberIn lentAfter joiningOf
+  join-refuses {why} e =
+      let r : (refused (why .0), out′) ≡ joinOn first second out = rw e at is in
+      rw (← r)
+
+  pub join-writes : {written : ℕ} → a ≡ joinings.Written written → (0, written, out′) ≡ joinCall first second out length
+  unfolding joinCall numberIn lentAfter joiningOf
+  join-writes {written} e =
+      let r : (done written, out′) ≡ joinOn first second out = rw e at is in
+      rw (← r)
 
 -- ---- a fresh run
 

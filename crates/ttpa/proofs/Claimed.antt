@@ -5,12 +5,14 @@ use Rattle.ttpa.specs.Claims.Refusals.{RefusalsAlterNothing}
 use Rattle.ttpa.specs.Claims.Conversion.{ConversionWritten, ConversionsComeBack, ConversionWidens, ConversionCopies}
 use Rattle.ttpa.specs.Claims.Turns.{ScreensStart, PostNumbers, TurnNumbers, PostTaken, ServedWaitsNoMore}
 use Rattle.ttpa.specs.Claims.Turns.{TurnsAreRounds, TurnKeepsSummary, FairOverCalls, PostedIsServed}
+use Rattle.ttpa.specs.Claims.Join.{JoinNumbers, JoinWritten, JoinLeft, JoinsConverted}
 use Rattle.ttpa.proofs.HolderLaws.{holder-tells-first}
 use Rattle.ttpa.proofs.Numbers.{refused-by-numbers}
 use Rattle.ttpa.proofs.Refusals.{refusals-alter-nothing}
 use Rattle.ttpa.proofs.Conversion.{conversion-written, conversions-come-back, conversion-widens, conversion-copies}
 use Rattle.ttpa.proofs.Turns.{screens-start, post-numbers, turn-numbers, post-taken-call, served-waits-no-more-call}
 use Rattle.ttpa.proofs.Turns.{turns-are-rounds, turn-keeps-summary-call, fair-over-calls, posted-is-served}
+use Rattle.ttpa.proofs.Joins.{join-numbers, join-written-call, join-left-call, joins-converted}
 
 pub held-refused-by-numbers : RefusedByNumbers
 held-refused-by-numbers = refused-by-numbers
@@ -59,3 +61,15 @@ held-fair-over-calls = fair-over-calls
 
 pub held-posted-is-served : PostedIsServed
 held-posted-is-served = posted-is-served
+
+pub held-join-numbers : JoinNumbers
+held-join-numbers = join-numbers
+
+pub held-join-written : JoinWritten
+held-join-written = join-written-call
+
+pub held-join-left : JoinLeft
+held-join-left = join-left-call
+
+pub held-joins-converted : JoinsConverted
+held-joins-converted = joins-converted

@@ -8,5 +8,7 @@ pub mod Conversion
 -- turns shared between screens
 pub mod Turns
 pub mod TurnExamples
+-- what a join leaves
+pub mod Joins
 -- each claim with its theorem
 pub mod Claimed

@@ -27,11 +27,12 @@ use Rattle.trace.specs.Rules.Run.{traceGrounds, traceGround, traceOn}
 use Rattle.owner.specs.Rules.Writing.{ownerGrounds, ownerGround, ownerOn}
 use Rattle.convert.specs.Rules.Convert.{convertGrounds, convertGround, convertOn}
 use Rattle.convert.proofs.Grounds.{only-narrowing}
+use Rattle.join.specs.Rules.Join.{joinGrounds, joinGround, joinOn}
 use Rattle.naming.specs.Rules.Run.{Position, running, namesGrounds, startGround, runGrounds, fresh, startOver}
 use Rattle.naming.specs.Rules.Step.{StepDone, stepGround, stepMade, stepOn, stepKeepingGround, stepKeeping}
 use Rattle.screens.specs.Rules.Screens.{Due, nobody, screen, readBy, due, readGrounds, postGround, postOn}
 use Rattle.screens.specs.Rules.Turn.{dueGrounds, stateGrounds, turnGround, turnMade, turnOn}
-use Rattle.ttpa.specs.Rules.Calls.{checkCall, readAddressCall, writeAddressCall, writeDataCall, roundCall, traceCall, ownerCall, convertCall, positionIn, startCall, stepCall, fillCall, holderCall, roundKeepingCall, stepKeepingCall, screensCall, postCall, turnCall}
+use Rattle.ttpa.specs.Rules.Calls.{checkCall, readAddressCall, writeAddressCall, writeDataCall, roundCall, traceCall, ownerCall, convertCall, positionIn, startCall, stepCall, fillCall, holderCall, roundKeepingCall, stepKeepingCall, screensCall, postCall, turnCall, joinCall}
 use Rattle.ttpa.specs.Claims.Numbers.{OneOf, here, later, ZeroOr, fileNumbers, RefusedByNumbers}
 
 -- ---- the first ground that holds
@@ -53,6 +54,16 @@ behind : (front : List ℕ) {n : ℕ} {ns ms : List ℕ} → (OneOf n ns → One
 behind [] f x = f x
 behind (m ∷ front) f here = here
 behind (m ∷ front) f (later x) = later (behind front f x)
+
+-- in the front, or behind it
+in-front : {n : ℕ} {ns : List ℕ} (ms : List ℕ) → OneOf n ns → OneOf n (ns ++ ms)
+in-front ms here = here
+in-front ms (later x) = later (in-front ms x)
+
+split : {P : Type 0} (front : List ℕ) {n : ℕ} {ms : List ℕ} → (OneOf n front → P) → (OneOf n ms → P) → OneOf n (front ++ ms) → P
+split [] f g x = g x
+split (m ∷ front) f g here = f here
+split (m ∷ front) f g (later x) = split front (λ y. f (later y)) g x
 
 -- not by the first of them
 but-first : {n m : ℕ} {ns : List ℕ} → n ≢ m → OneOf n (m ∷ ns) → OneOf n ns
@@ -85,6 +96,10 @@ owner-number file master buffer length = byCase (eqb (ownerGround file master bu
 pub convert-number : (edition : ℕ) (file out : List ℕ) (length : ℕ) → convertCall edition file out length .0 ≡ convertGround file edition out
 unfolding convertCall convertOn numberIn
 convert-number edition file out length = byCase (eqb (convertGround file edition out) 0) (λ e. rw e (sym (eqb-true _ _ e))) (λ e. rw e)
+
+pub join-number : (first second out : List ℕ) (length : ℕ) → joinCall first second out length .0 ≡ joinGround first second out
+unfolding joinCall joinOn numberIn
+join-number first second out length = byCase (eqb (joinGround first second out) 0) (λ e. rw e (sym (eqb-true _ _ e))) (λ e. rw e)
 
 step-number : (file run names answer : List ℕ) (senders : ℕ) → stepCall file run names answer senders .0 ≡ stepGround file (positionIn run) names answer
 unfolding stepCall stepOn stepMade numberIn
@@ -165,6 +180,11 @@ widen-numbers : (file out : List ℕ) → Bytes file → ZeroOr (convertGround f
 widen-numbers file out b =
     behind (0 ∷ fileNumbers) (but-first (λ over. omega (arith, only-narrowing file 2 out b (two-widths .1) over .to)))
     (convert-numbers 2 file out)
+
+-- the second file's are the first's
+join-numbers : (first second out : List ℕ) → ZeroOr (joinGround first second out) (fileNumbers ++ 29 ∷ 30 ∷ [])
+unfolding joinGround joinGrounds fileGrounds fileGroundsAt numbersOf
+join-numbers first second out = split (0 ∷ fileNumbers) (in-front (29 ∷ 30 ∷ [])) later (first-number _)
 
 start-numbers : (names : List ℕ) → ZeroOr (startGround names) (15 ∷ 16 ∷ [])
 unfolding startGround namesGrounds numbersOf
@@ -274,6 +294,7 @@ refused-by-numbers =
       trace = λ file t report. rw (trace-number file t report) (trace-numbers file t);
       toOne = λ file out length. rw (convert-number 1 file out length) (convert-numbers 1 file out);
       toTwo = λ file out length b. rw (convert-number 2 file out length) (widen-numbers file out b);
+      join = λ first second out length. rw (join-number first second out length) (join-numbers first second out);
       owner = λ file master buffer length. rw (owner-number file master buffer length) (owner-numbers file master buffer);
       start = start-returns;
       step = step-returns;

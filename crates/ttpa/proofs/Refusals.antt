@@ -17,13 +17,14 @@ use Rattle.cluster.proofs.Keeping.{keeping-round}
 use Rattle.trace.specs.Rules.Run.{traceGround, traceOn}
 use Rattle.owner.specs.Rules.Writing.{ownerGround, ownerOn}
 use Rattle.convert.specs.Rules.Convert.{convertGround, convertOn}
+use Rattle.join.specs.Rules.Join.{joinGround, joinOn}
 use Rattle.naming.specs.Rules.Run.{running, startOver}
 use Rattle.naming.specs.Rules.Step.{stepGround, stepMade, stepOn, stepKeepingGround, stepKeeping}
 use Rattle.naming.proofs.StepKeeping.{keeping-step}
 use Rattle.screens.specs.Rules.Screens.{readBy, postGround, postOn}
 use Rattle.screens.specs.Rules.Turn.{turnGround}
 use Rattle.screens.proofs.Grounds.{turn-refused}
-use Rattle.ttpa.specs.Rules.Calls.{lentAfter, partBytes, readAddressCall, writeAddressCall, writeDataCall, roundCall, traceCall, ownerCall, convertCall, positionIn, wordsOf, startCall, stepSenders, stepWords, stepCall, fillCall, placeOf, holderCall, sliceOf, roundKeepingCall, stepKeepingCall, postCall, turnScreen, turnSenders, turnCall}
+use Rattle.ttpa.specs.Rules.Calls.{lentAfter, partBytes, readAddressCall, writeAddressCall, writeDataCall, roundCall, traceCall, ownerCall, convertCall, positionIn, wordsOf, startCall, stepSenders, stepWords, stepCall, fillCall, placeOf, holderCall, sliceOf, roundKeepingCall, stepKeepingCall, postCall, turnScreen, turnSenders, turnCall, joinCall}
 use Rattle.ttpa.specs.Claims.Refusals.{RefusalsAlterNothing}
 use Rattle.ttpa.proofs.Numbers.{turn-number}
 
@@ -81,6 +82,15 @@ convert-kept edition file out length n some e =
     byCase (eqb (convertGround file edition out) 0)
     (λ x. absurd (some (sym (rw x at e))))
     (λ x. let same : convertGround file edition out ≡ n = rw x at e in rw (x, same))
+
+join-kept :
+    (first second out : List ℕ) (length n : ℕ) → n ≢ 0 → joinCall first second out length .0 ≡ n →
+    joinCall first second out length ≡ (n, length, out)
+unfolding joinCall joinOn numberIn lentAfter
+join-kept first second out length n some e =
+    byCase (eqb (joinGround first second out) 0)
+    (λ x. absurd (some (sym (rw x at e))))
+    (λ x. let same : joinGround first second out ≡ n = rw x at e in rw (x, same))
 
 -- ---- a run
 
@@ -163,6 +173,7 @@ refusals-alter-nothing =
       trace = trace-kept;
       owner = owner-kept;
       convert = convert-kept;
+      join = join-kept;
       start = λ names run n some e. lent-kept (startOver names) run wordsOf n some e;
       step = step-kept;
       fill = fill-kept;

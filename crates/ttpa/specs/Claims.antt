@@ -1,7 +1,8 @@
 -- Statements of theorems: that a refusal alters nothing lent, the numbers that the calls return, what the question tells, what conversions
--- leave, and turns shared between screens.
+-- leave, turns shared between screens, and what a join leaves.
 pub mod Refusals
 pub mod Numbers
 pub mod Holder
 pub mod Conversion
 pub mod Turns
+pub mod Join

@@ -2,7 +2,7 @@
 // return. Each is the call of the layer below, with the answer as a number.
 ghost use mathlib.Core.Path.{_≡_};
 ghost use mathlib.Core.List.{[], _∷_};
-ghost use Rattle.ttpa.specs.Rules.Calls.{versionCall, checkCall, readAddressCall, writeAddressCall, writeDataCall, roundCall, traceCall, ownerCall, convertCall, wordsOf, positionIn, startCall, stepCall, fillCall, holderCall, roundKeepingCall, stepKeepingCall, screensCall, postCall, turnCall};
+ghost use Rattle.ttpa.specs.Rules.Calls.{versionCall, checkCall, readAddressCall, writeAddressCall, writeDataCall, roundCall, traceCall, ownerCall, convertCall, wordsOf, positionIn, startCall, stepCall, fillCall, holderCall, roundKeepingCall, stepKeepingCall, screensCall, postCall, turnCall, joinCall};
 ghost use Rattle.ttpa.specs.Inner.Told.{roundTold, stepTold};
 ghost use Rattle.cluster.specs.Inner.Answers.{answerOf};
 ghost use Rattle.convert.specs.Inner.Answers.{editionIn};
@@ -29,6 +29,8 @@ use frame::types::AddressReading;
 use frame::types::FrameWriting;
 use frame::writer::write_address;
 use frame::writer::write_data;
+use join::join::Joining;
+use join::join::join;
 use naming::position::RunPosition;
 use naming::run::Started;
 use naming::run::Stepped;
@@ -53,7 +55,7 @@ use trace::run::TraceAnswer;
 use trace::run::run_trace;
 
 // The version, as one number: its three numbers stand in specs/Rules/Calls.
-const VERSION: u32 = 1200;
+const VERSION: u32 = 1300;
 
 // The parts of an address frame.
 pub const PARTS: usize = 5;
@@ -257,6 +259,21 @@ pub extern "C" fn ttpa_to_edition_2(file: &[u8], out: &mut [u8], length: &mut u6
     ensures { λ r. ⌜ (r, now (length .exit), now (out .exit)) ≡ convertCall 2 (now (file .entry)) (now (out .entry)) (now (length .entry)) ⌝ }
 {
     to_edition(file, Edition::Two, out, length)
+}
+
+// Two files joined: the number, and the joined file's length in the lent word.
+#[no_mangle]
+pub extern "C" fn ttpa_join(first: &[u8], second: &[u8], out: &mut [u8], length: &mut u64) -> u8
+    ensures { λ r. ⌜ (r, now (length .exit), now (out .exit)) ≡ joinCall (now (first .entry)) (now (second .entry)) (now (out .entry)) (now (length .entry)) ⌝ }
+{
+    let done = join(first, second, out);
+    match done {
+        Joining::Refused(why) => why.0,
+        Joining::Written(bytes) => {
+            *length = bytes as u64;
+            0
+        }
+    }
 }
 
 fn words_of(position: RunPosition) -> [u64; WORDS]

@@ -3,7 +3,7 @@
 // which has none, is not here.
 ghost use mathlib.Core.Path.{_≡_};
 ghost use mathlib.Core.List.{[], _∷_};
-ghost use Rattle.ttpa.specs.Rules.Calls.{checkCall, readAddressCall, writeAddressCall, writeDataCall, roundCall, traceCall, ownerCall, convertCall, startCall, stepCall, fillCall, holderCall, roundKeepingCall, stepKeepingCall, screensCall, postCall, turnCall};
+ghost use Rattle.ttpa.specs.Rules.Calls.{checkCall, readAddressCall, writeAddressCall, writeDataCall, roundCall, traceCall, ownerCall, convertCall, startCall, stepCall, fillCall, holderCall, roundKeepingCall, stepKeepingCall, screensCall, postCall, turnCall, joinCall};
 use screens::state::ScreenState;
 use ttpa::PARTS;
 use ttpa::REPORT_WORDS;
@@ -11,6 +11,7 @@ use ttpa::WORDS;
 use ttpa::ttpa_check;
 use ttpa::ttpa_fill;
 use ttpa::ttpa_holder;
+use ttpa::ttpa_join;
 use ttpa::ttpa_owner;
 use ttpa::ttpa_post;
 use ttpa::ttpa_read_address;
@@ -86,6 +87,12 @@ pub fn to_edition_2(file: &[u8], out: &mut [u8], length: &mut u64) -> u8
     ensures { λ r. ⌜ (r, now (length .exit), now (out .exit)) ≡ convertCall 2 (now (file .entry)) (now (out .entry)) (now (length .entry)) ⌝ }
 {
     ttpa_to_edition_2(file, out, length)
+}
+
+pub fn join(first: &[u8], second: &[u8], out: &mut [u8], length: &mut u64) -> u8
+    ensures { λ r. ⌜ (r, now (length .exit), now (out .exit)) ≡ joinCall (now (first .entry)) (now (second .entry)) (now (out .entry)) (now (length .entry)) ⌝ }
+{
+    ttpa_join(first, second, out, length)
 }
 
 pub fn start(names: &[u8], run: &mut [u64; WORDS]) -> u8

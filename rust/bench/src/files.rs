@@ -31,6 +31,16 @@ pub fn small(slaves: usize, files: usize, logical_name: impl Fn(usize) -> u8) ->
     encode((0..slaves).map(slave).collect())
 }
 
+/// Two bus segments of so many slaves with 0x08 and 0x3D, named 1, 2, …; the names of the second begin in the middle of those
+/// of the first, so that half of them meet where both have as many.
+pub fn segments(first: usize, second: usize, edition: Edition) -> (Vec<u8>, Vec<u8>) {
+    let name = |slave: usize| if slave < first { slave + 1 } else { slave + 1 - first + first / 2 };
+    let mut all = model::check(&small(first + second, 2, |slave| name(slave) as u8)).expect("a legal file");
+    all.edition = edition;
+    let of_second = Cluster { slaves: all.slaves.split_off(first), ..all.clone() };
+    (all.encode(), of_second.encode())
+}
+
 /// Slaves at 0xFF whose file 0x08 has record 4, which puts to sleep.
 pub fn tired(slaves: usize) -> Vec<u8> {
     let slave = |number: usize| {

@@ -7,7 +7,7 @@ use model::{closed_figures, encode_trace, post, screens, to_edition, Edition, MS
 use std::hint::black_box;
 
 /// The lines of the table.
-pub const TABLE: [&str; 49] = [
+pub const TABLE: [&str; 51] = [
     "check-32-2",
     "check-named-32",
     "check-most",
@@ -46,6 +46,7 @@ pub const TABLE: [&str; 49] = [
     "turn-last-32",
     "turn-none-32",
     "turn-as-rounds-32",
+    "join-16-16",
     "wide-check-32-2",
     "wide-check-64-2",
     "wide-check-most",
@@ -57,6 +58,7 @@ pub const TABLE: [&str; 49] = [
     "widen-most",
     "narrow-most",
     "copy-most",
+    "wide-join-32-32",
 ];
 
 /// How the check grows in slaves, and in files of a slave; how a round grows in slaves and entries.
@@ -136,6 +138,12 @@ pub enum Workload {
         file: Vec<u8>,
         state: State,
     },
+    /// Two files joined.
+    Join {
+        first: Vec<u8>,
+        second: Vec<u8>,
+        buffer: Vec<u8>,
+    },
 }
 
 pub enum WithSummary {
@@ -170,6 +178,8 @@ impl Workload {
         Some(match words[..] {
             ["check", "most"] => Workload::Check { file: files::most_entries(Edition::One) },
             ["wide", "check", "most"] => Workload::Check { file: files::most_entries(Edition::Two) },
+            ["join", first, second] => join(number(first)?, number(second)?, Edition::One),
+            ["wide", "join", first, second] => join(number(first)?, number(second)?, Edition::Two),
             ["wide", ..] => Workload::of(name.strip_prefix("wide-")?)?.in_edition_2()?,
             ["widen", "most"] => convert(files::most_entries(Edition::One), Edition::Two),
             ["narrow", "most"] => convert(widened(&files::most_entries(Edition::One)), Edition::One),
@@ -298,6 +308,11 @@ impl Workload {
                     accepted(engine.turn(black_box(file), black_box(&mut state), &mut answer, told));
                     black_box((state, screen));
                 }
+                Workload::Join { first, second, buffer } => {
+                    let mut length = 0;
+                    accepted(engine.join(black_box(first), black_box(second), buffer, &mut length));
+                    black_box((buffer, length));
+                }
             }
         }
         black_box(senders);
@@ -383,6 +398,11 @@ fn widened(file: &[u8]) -> Vec<u8> {
 
 fn convert(file: Vec<u8>, edition: Edition) -> Workload {
     Workload::Convert { file, edition, buffer: vec![0; Edition::Two.most_bytes()] }
+}
+
+fn join(first: usize, second: usize, edition: Edition) -> Workload {
+    let (first, second) = files::segments(first, second, edition);
+    Workload::Join { first, second, buffer: vec![0; Edition::Two.most_bytes()] }
 }
 
 /// The data frame of an execute of record 4 of 0x08: all fall asleep, and by the next call all wake.

@@ -3,7 +3,7 @@
 use crate::case::{Call, Outcome};
 use crate::draws::random::Random;
 use crate::draws::{
-    clusters, conversions, inputs, owners, runs, screens, sleepers, summaries, traces, two_lists,
+    clusters, conversions, inputs, joins, owners, runs, screens, sleepers, summaries, traces, two_lists,
 };
 use crate::engine::{Engine, Model};
 use crate::frames::MULTIPARTNER;
@@ -39,6 +39,7 @@ pub struct Amounts {
     pub conversions: usize,
     /// Posts, and turns.
     pub screens: usize,
+    pub joins: usize,
     pub runs: usize,
 }
 
@@ -56,6 +57,7 @@ impl Amounts {
         kept: 40_000,
         conversions: 10_000,
         screens: 40_000,
+        joins: 10_000,
         runs: 65,
     };
 
@@ -73,6 +75,7 @@ impl Amounts {
             kept: self.kept * factor,
             conversions: self.conversions * factor,
             screens: self.screens * factor,
+            joins: self.joins * factor,
             runs: self.runs * factor,
         }
     }
@@ -91,6 +94,7 @@ impl Amounts {
             kept: self.kept / divisor,
             conversions: self.conversions / divisor,
             screens: self.screens / divisor,
+            joins: self.joins / divisor,
             runs: self.runs / divisor,
         }
     }
@@ -174,6 +178,7 @@ impl<'a> Campaign<'a> {
         sleepers::rounds(self, amounts.rounds / ROUNDS_FOR_A_SLEEPER, &mut Random::from_seed(seed ^ 17));
         conversions::conversions(self, amounts.conversions, &mut Random::from_seed(seed ^ 18));
         screens::posts_and_turns(self, amounts.screens, &mut Random::from_seed(seed ^ 19));
+        joins::joins(self, amounts.joins, &mut Random::from_seed(seed ^ 20));
         self.runs(amounts.runs, seed);
         self.sorts_reached(&Sort::REACHED, amounts.rounds);
         self.sorts_reached(&Sort::REACHED_ABOUT_NAMES, amounts.rounds);
@@ -186,13 +191,14 @@ impl<'a> Campaign<'a> {
         self.sorts_reached(&Sort::REACHED_BY_SLEEPERS, amounts.rounds);
         self.sorts_reached(&Sort::REACHED_BY_CONVERSIONS, amounts.conversions);
         self.sorts_reached(&Sort::REACHED_BY_SCREENS, amounts.screens);
+        self.sorts_reached(&Sort::REACHED_BY_JOINS, amounts.joins);
         self.sorts_reached(&Sort::REACHED_BY_RUNS, amounts.runs);
         self.sorts_reached(&Sort::REACHED_BY_TWO_LISTS, amounts.runs);
         self.reached();
     }
 
     /// Whole naming runs; for every four one more is made in turn, and two more are given a summary. Beside each there
-    /// are three over two lists.
+    /// are three over two lists, and one on a joined file.
     fn runs(&mut self, amount: usize, seed: u64) {
         for run in 0..amount {
             let random = |kind: u64| Random::from_seed(seed ^ kind ^ (run as u64) << 8);
@@ -205,6 +211,7 @@ impl<'a> Campaign<'a> {
                 runs::run_in_turn(self, &mut random(10), slaves);
             }
             two_lists::runs(self, &mut random(19), run);
+            joins::named(self, &mut random(21));
         }
     }
 

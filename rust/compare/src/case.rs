@@ -1,9 +1,9 @@
 //! One call as a line of text: `round FILE FRAME answer-length = number mask FILE-after ANSWER-after`.
 //!
 //! Bytes are hexadecimal and `-` is none; other numbers are decimal, masks sixteen hexadecimal digits. The
-//! answer buffer, and that for an owner file or a converted file, hold EE throughout before the call. A mask, a report, a
-//! length, a count or a screen that the call leaves alone is shown as 0, the place of a holder as `-` where nobody holds the
-//! name.
+//! answer buffer, and that for an owner file, a converted file or a joined one, hold EE throughout before the call. A mask, a
+//! report, a length, a count or a screen that the call leaves alone is shown as 0, the place of a holder as `-` where nobody
+//! holds the name.
 
 use crate::editions::{holds_in_other_edition, in_other_edition};
 use crate::engine::{Engine, ReportWords, RunWords, State, Summary, Turn, NOBODY};
@@ -106,6 +106,11 @@ pub enum Call {
         state: State,
         answer_length: usize,
     },
+    Join {
+        first: Vec<u8>,
+        second: Vec<u8>,
+        buffer_length: usize,
+    },
 }
 
 /// Everything a call answers and leaves in lent memory; None is memory that was not lent.
@@ -114,7 +119,7 @@ pub struct Outcome {
     pub number: u8,
     pub senders: Option<u64>,
     pub file: Option<Vec<u8>>,
-    /// The frame buffer of a writer, the answer buffer, or the buffer for an owner file or a converted file.
+    /// The frame buffer of a writer, the answer buffer, or the buffer for an owner file, a converted file or a joined one.
     pub buffer: Option<Vec<u8>>,
     pub parts: Option<[u8; 5]>,
     pub run: Option<RunWords>,
@@ -147,9 +152,14 @@ impl Outcome {
         self
     }
 
-    /// How many bytes of an owner file or a converted file were written.
+    /// How many bytes of an owner file, a converted file or a joined one were written.
     pub fn written(&self) -> Option<u64> {
         self.length.filter(|_| self.number == 0)
+    }
+
+    /// These bytes.
+    pub fn bytes_written(&self) -> Option<&[u8]> {
+        self.buffer.as_deref()?.get(..self.written()? as usize)
     }
 
     /// How many names a summary was filled with.
@@ -213,10 +223,11 @@ impl Call {
             Call::Screens => "screens",
             Call::Post { .. } => "post",
             Call::Turn { .. } => "turn",
+            Call::Join { .. } => "join",
         }
     }
 
-    /// The cluster file that is handed in.
+    /// The cluster file that is handed in; of two the first.
     pub fn file(&self) -> Option<&[u8]> {
         match self {
             Call::Check { file }
@@ -226,7 +237,8 @@ impl Call {
             | Call::Owner { file, .. }
             | Call::Convert { file, .. }
             | Call::Fill { file, .. }
-            | Call::Turn { file, .. } => Some(file),
+            | Call::Turn { file, .. }
+            | Call::Join { first: file, .. } => Some(file),
             Call::Keeping { call, .. } => call.file(),
             Call::Read { .. }
             | Call::Write { .. }
@@ -238,7 +250,7 @@ impl Call {
         }
     }
 
-    /// The same call on this file in place of its own; None for one that has none.
+    /// The same call on this file in place of its own; None for one that has none, or two.
     pub fn on(&self, other: Vec<u8>) -> Option<Call> {
         let mut call = self.clone();
         match &mut call {
@@ -298,6 +310,9 @@ impl Call {
             Call::Holder { held, count, name } => engine.holder(held, *count, *name, lent(&mut outcome.place)),
             Call::Keeping { call, count, .. } => call.make_keeping(engine, *count, &mut outcome),
             Call::Screens | Call::Post { .. } | Call::Turn { .. } => self.make_sharing(engine, &mut outcome),
+            Call::Join { first, second, .. } => {
+                engine.join(first, second, lent_bytes(&mut outcome.buffer), lent(&mut outcome.length))
+            }
         };
         outcome
     }
@@ -362,7 +377,9 @@ impl Call {
             Call::Trace { file, .. } => {
                 Outcome { file: Some(file.clone()), report: Some(REPORT_BEFORE), ..nothing }
             }
-            Call::Owner { buffer_length, .. } | Call::Convert { buffer_length, .. } => {
+            Call::Owner { buffer_length, .. }
+            | Call::Convert { buffer_length, .. }
+            | Call::Join { buffer_length, .. } => {
                 Outcome { buffer: answer(*buffer_length), length: Some(LENGTH_BEFORE), ..nothing }
             }
             Call::Fill { held, .. } => {
@@ -403,7 +420,7 @@ impl Call {
                 let report = outcome.report_words().unwrap_or([0; 5]);
                 format!("{number} {} {}", decimals(&report, " "), after(&outcome.file))
             }
-            Call::Owner { .. } | Call::Convert { .. } => {
+            Call::Owner { .. } | Call::Convert { .. } | Call::Join { .. } => {
                 format!("{number} {} {}", outcome.written().unwrap_or(0), after(&outcome.buffer))
             }
             Call::Fill { .. } => {
@@ -490,6 +507,11 @@ impl Call {
                 state: bytes(state)?.try_into().ok()?,
                 answer_length: length.parse().ok()?,
             }),
+            ["join", first, second, length] => Some(Call::Join {
+                first: bytes(first)?,
+                second: bytes(second)?,
+                buffer_length: length.parse().ok()?,
+            }),
             _ => None,
         }
     }
@@ -533,6 +555,9 @@ impl Call {
             }
             Call::Turn { file, state, answer_length } => {
                 format!("{} {} {answer_length}", hex(file), hex(state))
+            }
+            Call::Join { first, second, buffer_length } => {
+                format!("{} {} {buffer_length}", hex(first), hex(second))
             }
         }
     }
@@ -578,8 +603,8 @@ impl Held {
     fn call(&mut self, engine: &dyn Engine, line: &str) -> Result<Option<bool>, String> {
         let (call, outcome) = hold_against(engine, line)?;
         self.tally.note(&call, &outcome);
-        let turned = in_other_edition(&call, &outcome);
-        Ok(turned.map(|_| holds_in_other_edition(engine, &call, &outcome)))
+        let turned = !in_other_edition(&call, &outcome).is_empty();
+        Ok(turned.then(|| holds_in_other_edition(engine, &call, &outcome)))
     }
 
     /// The same of the runs of a case about two lists.

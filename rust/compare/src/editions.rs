@@ -10,6 +10,8 @@ use model::{check, Edition};
 /// The limits of edition 1.
 const NARROW_SLAVES: usize = 32;
 const NARROW_BYTES: usize = 32_768;
+/// Of a join, whatever the editions.
+const SHARED_PHYSICAL_NAME: u8 = 29;
 
 /// The other edition, 1 or 2.
 fn other(edition: u8) -> u8 {
@@ -35,6 +37,7 @@ fn sizes(edition: u8) -> Sizes {
 pub type SlaveFile = (u8, Vec<u8>);
 
 /// What a cluster file holds in either edition.
+#[derive(Clone)]
 pub struct Parts {
     /// Epoch, flag, and the pending logical name, PB2 and PB3.
     pub state: [u8; 5],
@@ -113,8 +116,20 @@ pub fn turned(file: &[u8]) -> Option<Vec<u8>> {
 
 /// The same call on the file in the other edition, and what then has to come of it: the same, and the file left is in
 /// that edition too. None for a call that takes no file, one whose file is turned away, and where edition 1 cannot hold the
-/// file.
-pub fn in_other_edition(call: &Call, outcome: &Outcome) -> Option<(Call, Outcome)> {
+/// file. Of two files first the second alone is in the other edition, then both are.
+pub fn in_other_edition(call: &Call, outcome: &Outcome) -> Vec<(Call, Outcome)> {
+    match call {
+        Call::Join { first, second, buffer_length } if check(first).is_ok() && check(second).is_ok() => {
+            let turned_second = turned_second(first, second, *buffer_length, outcome);
+            let turned_both = turned_both(first, second, *buffer_length, outcome);
+            turned_second.into_iter().chain(turned_both).collect()
+        }
+        Call::Join { .. } => Vec::new(),
+        _ => with_file_turned(call, outcome).into_iter().collect(),
+    }
+}
+
+fn with_file_turned(call: &Call, outcome: &Outcome) -> Option<(Call, Outcome)> {
     let file = call.file().filter(|file| check(file).is_ok())?;
     let file_after = match &outcome.file {
         Some(left) => Some(turned(left)?),
@@ -124,14 +139,47 @@ pub fn in_other_edition(call: &Call, outcome: &Outcome) -> Option<(Call, Outcome
     Some((call, Outcome { file: file_after, ..outcome.clone() }))
 }
 
+/// "The result has the edition of the first" (document 02, request 13), so that of the second makes no difference, not to a
+/// refusal either.
+fn turned_second(
+    first: &[u8],
+    second: &[u8],
+    buffer_length: usize,
+    outcome: &Outcome,
+) -> Option<(Call, Outcome)> {
+    let call = Call::Join { first: first.to_vec(), second: turned(second)?, buffer_length };
+    Some((call, outcome.clone()))
+}
+
+/// The join of both turned is the joined file turned, with as much room behind it. Where 30 refuses, which goes by the
+/// edition, there is none.
+fn turned_both(
+    first: &[u8],
+    second: &[u8],
+    buffer_length: usize,
+    outcome: &Outcome,
+) -> Option<(Call, Outcome)> {
+    let (first, second) = (turned(first)?, turned(second)?);
+    if outcome.number == SHARED_PHYSICAL_NAME {
+        return Some((Call::Join { first, second, buffer_length }, outcome.clone()));
+    }
+    let joined = outcome.bytes_written()?;
+    let behind = &outcome.buffer.as_ref()?[joined.len()..];
+    let joined = turned(joined)?;
+    let (length, buffer) = (Some(joined.len() as u64), [&joined, behind].concat());
+    let call = Call::Join { first, second, buffer_length: buffer.len() };
+    Some((call, Outcome { length, buffer: Some(buffer), ..outcome.clone() }))
+}
+
 /// Whether the engine converts the call's file into the one that was laid out here, and back; and does on it what it does
 /// on the other. True where there is none.
 pub fn holds_in_other_edition(engine: &dyn Engine, call: &Call, outcome: &Outcome) -> bool {
-    let (Some(file), Some((call, expected))) = (call.file(), in_other_edition(call, outcome)) else {
-        return true;
-    };
-    let turned = call.file().expect("the file of a call on a file");
-    call.make(engine) == expected && converts(engine, file, turned) && converts(engine, turned, file)
+    in_other_edition(call, outcome).iter().all(|(turned, expected)| {
+        let (Some(file), Some(into)) = (call.file(), turned.file()) else {
+            return false;
+        };
+        &turned.make(engine) == expected && converts(engine, file, into) && converts(engine, into, file)
+    })
 }
 
 /// Whether the engine makes the one file of the other, in a buffer that is just long enough.

@@ -25,7 +25,7 @@ pub struct Turn<'a> {
 /// The screen served where none waited.
 pub const NO_SCREEN: u8 = 8;
 
-/// One implementation of the eighteen calls. 0 is "carried out", every other number a refusal.
+/// One implementation of the nineteen calls. 0 is "carried out", every other number a refusal.
 pub trait Engine {
     /// What the comparison says it ran against.
     fn name(&self) -> &'static str;
@@ -69,6 +69,7 @@ pub trait Engine {
     /// The read is its name, file and record.
     fn post(&self, state: &mut State, screen: u8, read: [u8; 3]) -> u8;
     fn turn(&self, file: &mut [u8], state: &mut State, answer: &mut [u8], told: Turn) -> u8;
+    fn join(&self, first: &[u8], second: &[u8], buffer: &mut [u8], length: &mut u64) -> u8;
 }
 
 /// The documents read as plain Rust.
@@ -190,6 +191,10 @@ impl Engine for Model {
             Some(model::Served { screen, senders }) => (*told.screen, *told.senders) = (screen, senders),
             None => *told.screen = NO_SCREEN,
         }))
+    }
+
+    fn join(&self, first: &[u8], second: &[u8], buffer: &mut [u8], length: &mut u64) -> u8 {
+        number(model::join(first, second, buffer).map(|bytes| *length = bytes as u64))
     }
 }
 
@@ -318,6 +323,10 @@ impl Engine for Plain {
     fn turn(&self, file: &mut [u8], state: &mut State, answer: &mut [u8], told: Turn) -> u8 {
         plain::turn(file, state, answer, told.senders, told.screen)
     }
+
+    fn join(&self, first: &[u8], second: &[u8], buffer: &mut [u8], length: &mut u64) -> u8 {
+        plain::join(first, second, buffer, length)
+    }
 }
 
 /// The engine as it is linked.
@@ -421,5 +430,9 @@ impl Engine for Library {
 
     fn turn(&self, file: &mut [u8], state: &mut State, answer: &mut [u8], told: Turn) -> u8 {
         ttpa::calls::turn(file, state, answer, told.senders, told.screen)
+    }
+
+    fn join(&self, first: &[u8], second: &[u8], buffer: &mut [u8], length: &mut u64) -> u8 {
+        ttpa::calls::join(first, second, buffer, length)
     }
 }

@@ -6,7 +6,9 @@ use crate::{check, Cluster, Edition, Refusal};
 /// whole; its length. "Converting to the edition a file already has copies it": the layout leaves no freedom.
 pub fn to_edition(file: &[u8], edition: Edition, buffer: &mut [u8]) -> Result<usize, Refusal> {
     let converted = Cluster { edition, ..check(file)? };
-    if exceeds_limits(&converted) {
+    // "25, narrowing a file with more than 32 slaves or an edition-1 form above 32,768 bytes": a file that is widened or
+    // copied never exceeds the limits, since each entry has twice the bytes at most, and so has the header.
+    if converted.exceeds_limits() {
         return Err(Refusal(25));
     }
     let Some(front) = buffer.get_mut(..converted.length()) else {
@@ -14,11 +16,4 @@ pub fn to_edition(file: &[u8], edition: Edition, buffer: &mut [u8]) -> Result<us
     };
     front.copy_from_slice(&converted.encode());
     Ok(converted.length())
-}
-
-/// "25, narrowing a file with more than 32 slaves or an edition-1 form above 32,768 bytes". A file that is widened or
-/// copied never exceeds the limits: each entry has twice the bytes at most, and so has the header.
-fn exceeds_limits(converted: &Cluster) -> bool {
-    let most = converted.edition;
-    converted.slaves.len() > most.most_slaves() || converted.length() > most.most_bytes()
 }

@@ -185,6 +185,11 @@ impl Cluster {
         self.edition.header_bytes() + self.slaves.iter().map(slave_bytes).sum::<usize>()
     }
 
+    /// Whether that file would have more slaves or bytes than its edition allows.
+    pub fn exceeds_limits(&self) -> bool {
+        self.slaves.len() > self.edition.most_slaves() || self.length() > self.edition.most_bytes()
+    }
+
     /// The one file that holds this cluster in its edition: the layout leaves no freedom.
     pub fn encode(&self) -> Vec<u8> {
         let edition = self.edition;

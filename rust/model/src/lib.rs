@@ -13,6 +13,7 @@ mod conversion;
 mod edition;
 mod file;
 mod frame;
+mod join;
 mod listing;
 mod multipartner;
 mod naming;
@@ -32,6 +33,7 @@ pub use frame::{
     firework_of, read_address, round_of, write_address, write_data, Address, Frame, Operation, FRAME_BYTES,
     MSA, MSD,
 };
+pub use join::join;
 pub use listing::listing;
 pub use naming::{start, step, End, Run};
 pub use owner::{owner, senders_of};

@@ -7,6 +7,7 @@ const EDITION_LIMITS: u8 = 25;
 const SHORT_BUFFER: u8 = 26;
 /// Epoch, flag and the three pending bytes.
 const STATE_BYTES: usize = 5;
+const MARK: [u8; 2] = [0x54, 0x41];
 
 pub fn to_edition_1(file: &[u8], buffer: &mut [u8], length: &mut u64) -> u8 {
     convert(file, &NARROW, buffer, length)
@@ -41,7 +42,8 @@ fn convert(file: &[u8], to: &Edition, buffer: &mut [u8], length: &mut u64) -> u8
 }
 
 /// Header and entries change their size, the bytes of files do not.
-fn converted_length(file: &[u8], survey: &Survey, to: &Edition) -> usize {
+#[inline]
+pub fn converted_length(file: &[u8], survey: &Survey, to: &Edition) -> usize {
     let from = survey.edition();
     let entries: usize = survey.slaves().map(|slave| 1 + survey.file_count(file, slave)).sum();
     let without_entries = file.len() - from.header_bytes - from.entry_bytes() * entries;
@@ -52,7 +54,8 @@ fn converted_length(file: &[u8], survey: &Survey, to: &Edition) -> usize {
 fn put<const FROM: usize, const TO: usize>(file: &[u8], survey: &Survey, to: &Edition, front: &mut [u8]) {
     let from = survey.edition();
     let slaves = survey.slaves().len();
-    put_header(file, from, to, front);
+    put_header(to, slaves as u8, front);
+    front[to.epoch..to.epoch + STATE_BYTES].copy_from_slice(&file[from.epoch..from.epoch + STATE_BYTES]);
     let mut place = to.header_bytes + TO * slaves;
     for slave in survey.slaves() {
         let directory = survey.directory_of::<FROM>(file, slave);
@@ -65,18 +68,19 @@ fn put<const FROM: usize, const TO: usize>(file: &[u8], survey: &Survey, to: &Ed
     }
 }
 
-fn put_header(file: &[u8], from: &Edition, to: &Edition, front: &mut [u8]) {
+/// The header of a file that fills the front; epoch, flag and pending bytes are 0.
+pub fn put_header(to: &Edition, slaves: u8, front: &mut [u8]) {
     let length = front.len();
     front[..to.header_bytes].fill(0);
-    front[..4].copy_from_slice(&[file[0], file[1], to.number, file[3]]);
+    front[..4].copy_from_slice(&[MARK[0], MARK[1], to.number, slaves]);
     to.put_offset(&mut front[4..], to.header_bytes);
     to.put_offset(&mut front[4 + to.width..], length);
-    front[to.epoch..to.epoch + STATE_BYTES].copy_from_slice(&file[from.epoch..from.epoch + STATE_BYTES]);
 }
 
 /// A slave's directory in the front, which begins at this place, and its files behind it, which stand in one piece in both
 /// editions; the place behind them.
-fn put_slave<const FROM: usize, const TO: usize>(
+#[inline(always)]
+pub fn put_slave<const FROM: usize, const TO: usize>(
     file: &[u8],
     directory: &[[u8; FROM]],
     front: &mut [u8],
@@ -97,6 +101,6 @@ fn put_slave<const FROM: usize, const TO: usize>(
 }
 
 /// The number that an entry is, in its bytes.
-fn bytes_of<const ENTRY: usize>(entry: u64) -> [u8; ENTRY] {
+pub fn bytes_of<const ENTRY: usize>(entry: u64) -> [u8; ENTRY] {
     *entry.to_be_bytes().last_chunk().expect("four bytes or eight")
 }

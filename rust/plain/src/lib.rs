@@ -9,6 +9,7 @@
 mod conversion;
 mod edition;
 mod frames;
+mod join;
 mod master_slave;
 mod multipartner;
 mod naming;
@@ -21,6 +22,7 @@ mod trace;
 
 pub use conversion::{to_edition_1, to_edition_2};
 pub use frames::{read_address, write_address, write_data};
+pub use join::join;
 pub use naming::{start, step};
 pub use owner::owner;
 pub use screens::{post, screens, turn};

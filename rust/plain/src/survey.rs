@@ -17,6 +17,19 @@ pub struct Survey {
     documentation: [u16; MOST_SLAVES],
 }
 
+/// Marks of physical names: equal names have equal marks. There are 256, so that few of 64 names share one.
+#[derive(Default)]
+pub struct Marks([u64; 4]);
+
+impl Marks {
+    /// The word that has a name's mark, and the mark in it.
+    #[inline(always)]
+    pub fn of(&mut self, name: u64) -> (&mut u64, u64) {
+        let hash = name.wrapping_mul(0x9E37_79B9_7F4A_7C15);
+        (&mut self.0[(hash >> 62) as usize], 1 << (hash >> 56 & 63))
+    }
+}
+
 impl Survey {
     pub fn new() -> Survey {
         Survey {
@@ -88,20 +101,28 @@ impl Survey {
         (place == file.len()).then_some(lacks_a_file)
     }
 
-    /// Equal names have equal marks, so a name whose mark is new need not be compared with the others. There are 256 marks,
-    /// so that few of 64 names share one.
+    /// A name whose mark is new need not be compared with the others.
     fn equal_physical_names(&self, file: &[u8]) -> bool {
-        let mut marks = [0u64; 4];
+        let mut marks = Marks::default();
         for slave in self.slaves() {
             let name = self.physical_name(file, slave);
-            let hash = name.wrapping_mul(0x9E37_79B9_7F4A_7C15);
-            let (word, mark) = (&mut marks[(hash >> 62) as usize], 1 << (hash >> 56 & 63));
+            let (word, mark) = marks.of(name);
             if *word & mark != 0 && (0..slave).any(|other| self.physical_name(file, other) == name) {
                 return true;
             }
             *word |= mark;
         }
         false
+    }
+
+    /// The marks of all physical names.
+    pub fn marks(&self, file: &[u8]) -> Marks {
+        let mut marks = Marks::default();
+        for slave in self.slaves() {
+            let (word, mark) = marks.of(self.physical_name(file, slave));
+            *word |= mark;
+        }
+        marks
     }
 
     /// Ground 22, which only the loading of a file asks for: two slaves of one logical name other than 0xFF.
@@ -197,6 +218,11 @@ impl Survey {
         self.edition
     }
 
+    /// Where the slaves' directories and files begin, behind the table.
+    pub fn body(&self) -> usize {
+        self.edition.header_bytes + self.edition.entry_bytes() * self.count
+    }
+
     fn is_wide(&self) -> bool {
         self.edition.number == WIDE.number
     }
@@ -225,7 +251,7 @@ impl Survey {
 /// An entry of four or eight bytes as one number. In the table its upper half is the place of a directory; then come the file
 /// count, the sleep byte and, in the wider one, two zeros.
 #[inline]
-fn word_of<const ENTRY: usize>(entry: &[u8; ENTRY]) -> u64 {
+pub fn word_of<const ENTRY: usize>(entry: &[u8; ENTRY]) -> u64 {
     match entry[..] {
         [a, b, c, d] => u32::from_be_bytes([a, b, c, d]).into(),
         [a, b, c, d, e, f, g, h] => u64::from_be_bytes([a, b, c, d, e, f, g, h]),
@@ -248,7 +274,7 @@ fn or_of<const ENTRY: usize>(table: &[[u8; ENTRY]]) -> u64 {
 }
 
 /// The bit of a table entry that tells whether the slave sleeps.
-const fn sleep_bit<const ENTRY: usize>() -> u64 {
+pub const fn sleep_bit<const ENTRY: usize>() -> u64 {
     1 << (4 * ENTRY - 16)
 }
 

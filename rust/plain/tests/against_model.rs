@@ -75,3 +75,8 @@ fn the_edges_of_two_lists_hold() {
 fn the_edges_of_screens_hold() {
     edges::screens::hold(&Plain { nested: false });
 }
+
+#[test]
+fn the_edges_of_joins_hold() {
+    edges::joins::hold(&Plain { nested: false });
+}

@@ -4,17 +4,17 @@
 //! slave, has a foreign master try to name slaves by a write, names unnamed slaves until the list of names runs dry and
 //! the last one by a second list, while other rounds go on in between, tells before and after it who holds a name, runs a
 //! captured trace, plans who sends in which slot, has a slot multiplexed, puts the cluster to sleep and wakes it, converts
-//! the file to edition 2 and back, serves three screens in turn, and prints what happened. c/demo.c does the same and
-//! prints the same.
+//! the file to edition 2 and back, serves three screens in turn, joins the file with that of a second segment and names
+//! whom the join left unnamed, and prints what happened. c/demo.c does the same and prints the same.
 
 use std::fs::File;
 use std::io::Read;
 use std::process::ExitCode;
 use ttpa::{
-    to_edition, Address, Edition, End, Owners, RecordRead, Report, Run, Screens, Senders, Summary, TtpaError,
-    ANSWER_BYTES, EDITION_1_FILE_BYTES, FILE_CONFIGURATION, FILE_DOCUMENTATION, FIREWORK_MSA, FIREWORK_MSD,
-    FIREWORK_ROUND_2, FRAME_BYTES, MOST_FILE_BYTES, MOST_OWNER_BYTES, NAME_BROADCAST, NAME_UNNAMED,
-    OPERATION_EXECUTE, OPERATION_READ, OPERATION_WRITE, RECORD_SLEEP, WIDENED_BYTES,
+    join, to_edition, Address, Edition, End, Owners, RecordRead, Report, Run, Screens, Senders, Summary,
+    TtpaError, ANSWER_BYTES, EDITION_1_FILE_BYTES, FILE_CONFIGURATION, FILE_DOCUMENTATION, FIREWORK_MSA,
+    FIREWORK_MSD, FIREWORK_ROUND_2, FRAME_BYTES, MOST_FILE_BYTES, MOST_OWNER_BYTES, NAME_BROADCAST,
+    NAME_UNNAMED, OPERATION_EXECUTE, OPERATION_READ, OPERATION_WRITE, RECORD_SLEEP, WIDENED_BYTES,
 };
 
 const ROUND_2: [u8; 1] = [FIREWORK_ROUND_2];
@@ -44,6 +44,19 @@ const CAPTURED: [u8; 39] = [
     FIREWORK_MSD, 0xE7, 0x7F, 0x00, 0x00, 0xD0,
     FIREWORK_MSD, 0xE7, 0x7F, 0x00, 0x00, 0xD1,
     FIREWORK_ROUND_2,
+];
+
+/// A second bus segment: slaves 02, which the first has too, 07, which sleeps, and an unnamed one.
+#[rustfmt::skip]
+const SEGMENT: [u8; 136] = [
+    0x54, 0x41, 0x01, 0x03, 0x00, 0x10, 0x00, 0x88, 0x05, 0x00, 0x00, 0x00, 0x00, 0x00, 0x00, 0x00,
+    0x00, 0x1C, 0x02, 0x00, 0x00, 0x40, 0x02, 0x01, 0x00, 0x64, 0x02, 0x00,
+    0x08, 0x03, 0x00, 0x24, 0x3D, 0x02, 0x00, 0x34,
+    0, 0, 0, 0, 0, 0, 0, 0x02, 0, 0, 0, 0, 0, 0, 0, 0, 0, 0, 0, 0, 0, 0, 0, 7, 0, 0, 0, 0x33,
+    0x08, 0x03, 0x00, 0x48, 0x3D, 0x02, 0x00, 0x58,
+    0, 0, 0, 0, 0, 0, 0, 0x07, 0, 0, 0, 0, 0, 0, 0, 0, 0, 0, 0, 0, 0, 0, 0, 7, 0, 0, 0, 0x55,
+    0x08, 0x03, 0x00, 0x6C, 0x3D, 0x02, 0x00, 0x7C,
+    0, 0, 0, 0, 0, 0, 0, 0xFF, 0, 0, 0, 0, 0, 0, 0, 0, 0, 0, 0, 0, 0, 0, 0, 7, 0, 0, 0, 0x21,
 ];
 
 /// The cluster file and what the last round answered.
@@ -294,6 +307,26 @@ impl Cluster {
             }
         }
     }
+
+    /// The two segments are cabled together. The joined file takes the place of the first; its slave 02 keeps that name,
+    /// the other 02 becomes unnamed, and a naming run names it and the one that was unnamed.
+    fn show_join(&mut self) {
+        let mut joined = vec![0; EDITION_1_FILE_BYTES];
+        print_verdict("a join with itself", join(&self.file, &self.file, &mut joined));
+        print_verdict("a join in 343 bytes", join(&self.file, &SEGMENT, &mut joined[..343]));
+        let length = join(&self.file, &SEGMENT, &mut joined);
+        print_verdict("a join", length);
+        let Ok(length) = length else {
+            return;
+        };
+        joined.truncate(length);
+        self.file = joined;
+        print_bytes("header", &self.file[..HEADER_BYTES]);
+        let mut summary = self.filled_summary();
+        let named = self.name_slaves(&[0x01, 0x02, 0x03, 0x04, 0x05, 0x06], &mut summary);
+        print_verdict("naming after the join", named);
+        print_bytes("names held", summary.names());
+    }
 }
 
 /// A screen posts a read of the serial number of a slave.
@@ -392,6 +425,7 @@ fn main() -> ExitCode {
         println!("a conversion: {error}");
     }
     cluster.show_screens();
+    cluster.show_join();
     let mut short = [0; ANSWER_BYTES - 1];
     print_verdict("a short answer buffer", ttpa::round(&mut cluster.file, &ROUND_2, &mut short));
     print_verdict("the file as it is now", ttpa::check(&cluster.file));

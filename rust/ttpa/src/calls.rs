@@ -151,6 +151,15 @@ mod c {
             senders: *mut u64,
             screen: *mut u8,
         ) -> u8;
+        pub fn ttpa_join(
+            first: *const u8,
+            n: usize,
+            second: *const u8,
+            m: usize,
+            out: *mut u8,
+            room: usize,
+            length: *mut u64,
+        ) -> u8;
     }
 }
 
@@ -337,6 +346,21 @@ pub fn turn(
             answer.len(),
             senders,
             screen,
+        )
+    }
+}
+
+/// Writes the joined file of two cluster files: 0, or 1 to 8 for the first, 1 to 8 for the second, 29 or 30.
+pub fn join(first: &[u8], second: &[u8], out: &mut [u8], length: &mut u64) -> u8 {
+    unsafe {
+        c::ttpa_join(
+            first.as_ptr(),
+            first.len(),
+            second.as_ptr(),
+            second.len(),
+            out.as_mut_ptr(),
+            out.len(),
+            length,
         )
     }
 }

@@ -61,6 +61,10 @@ pub enum TtpaError {
     Screen,
     /// 28: the screen waits already.
     ScreenWaiting,
+    /// 29: a physical name is in both files.
+    SharedPhysicalName,
+    /// 30: the joined file has more slaves or bytes than its edition, which is the first file's, or than the buffer has bytes.
+    JoinedLimits,
     // .ci/refusals writes to here
     /// A number that this edition of the crate does not know.
     Other(u8),
@@ -68,7 +72,7 @@ pub enum TtpaError {
 
 /// The variants in the order of their numbers, from 1.
 // .ci/refusals writes from here: numbered
-const NUMBERED: [TtpaError; 28] = [
+const NUMBERED: [TtpaError; 30] = [
     TtpaError::FileSize,
     TtpaError::Mark,
     TtpaError::Edition,
@@ -97,6 +101,8 @@ const NUMBERED: [TtpaError; 28] = [
     TtpaError::ConversionBuffer,
     TtpaError::Screen,
     TtpaError::ScreenWaiting,
+    TtpaError::SharedPhysicalName,
+    TtpaError::JoinedLimits,
 ];
 // .ci/refusals writes to here
 
@@ -177,6 +183,12 @@ impl TtpaError {
             TtpaError::ConversionBuffer => "the buffer is too short for the converted cluster file",
             TtpaError::Screen => "the screen, or the screen last served in the stored state, is above 7",
             TtpaError::ScreenWaiting => "the screen has a read waiting already",
+            TtpaError::SharedPhysicalName => {
+                "a slave of one cluster file has the same physical name as a slave of the other"
+            }
+            TtpaError::JoinedLimits => {
+                "the joined cluster file has more slaves or bytes than its edition may have, or more bytes than the buffer"
+            }
             TtpaError::Other(_) => "refused on a ground that this version has no text for",
             // .ci/refusals writes to here
         }
@@ -242,7 +254,9 @@ mod tests {
         assert_eq!(TtpaError::ConversionBuffer.number(), 26);
         assert_eq!(TtpaError::Screen.number(), 27);
         assert_eq!(TtpaError::ScreenWaiting.number(), 28);
-        assert_eq!(TtpaError::Other(29).number(), 29);
+        assert_eq!(TtpaError::SharedPhysicalName.number(), 29);
+        assert_eq!(TtpaError::JoinedLimits.number(), 30);
+        assert_eq!(TtpaError::Other(31).number(), 31);
         // .ci/refusals writes to here
     }
 }

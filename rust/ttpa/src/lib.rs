@@ -1,6 +1,6 @@
 //! The TTP/A cluster engine for Rust programs: check a cluster file, read and write frames, carry out
 //! rounds on the file, name its slaves, run captured traces, write the owner file, tell who holds a name, convert the file
-//! between its two editions, serve the reads of several screens in turn.
+//! between its two editions, serve the reads of several screens in turn, join the files of two clusters.
 //!
 //! The engine keeps no state, never allocates and always returns. Everything it works on is lent to it for
 //! the time of one call. A call that refuses alters nothing it was lent.
@@ -27,6 +27,7 @@ pub mod calls;
 mod constants;
 mod edition;
 mod error;
+mod join;
 mod owner;
 mod run;
 mod screens;
@@ -37,6 +38,7 @@ mod version;
 pub use constants::*;
 pub use edition::{to_edition, Edition};
 pub use error::TtpaError;
+pub use join::join;
 pub use owner::{owner, Owners, MOST_OWNER_BYTES};
 pub use run::{End, Run};
 pub use screens::{RecordRead, Screens, Served};

@@ -151,6 +151,10 @@ impl Engine for Wrapper {
             None => *told.screen = calls::NO_SCREEN,
         }))
     }
+
+    fn join(&self, first: &[u8], second: &[u8], buffer: &mut [u8], length: &mut u64) -> u8 {
+        number(ttpa::join(first, second, buffer).map(|written| *length = written as u64))
+    }
 }
 
 /// The summary that owns these names; none where there are fewer than the count, or more than a file has slaves. Such a
@@ -186,6 +190,7 @@ fn the_safe_functions_give_the_kept_results() {
         include_str!("../../model/tests/data/request-10.txt"),
         include_str!("../../model/tests/data/request-11.txt"),
         include_str!("../../model/tests/data/request-12.txt"),
+        include_str!("../../model/tests/data/request-13.txt"),
     ] {
         let held = hold_all(&Wrapper, text);
         assert!(held.passed > 0);
@@ -246,4 +251,9 @@ fn the_edges_of_two_lists_hold() {
 #[test]
 fn the_edges_of_screens_hold() {
     edges::screens::hold(&Wrapper);
+}
+
+#[test]
+fn the_edges_of_joins_hold() {
+    edges::joins::hold(&Wrapper);
 }

@@ -1,8 +1,11 @@
 -- Where the slaves of an accepted file begin in it, and what a form of them at a width asks of a buffer.
 use Prim.Native.Nat.{ℕ, _+_, _*_, _≤_}
 use mathlib.Core.Path.{_≡_}
-use mathlib.Core.List.{List}
+use mathlib.Core.List.{List, map}
+use mathlib.Core.Bool.{Bool, cond}
 use lib.ListN.{length, take}
+use lib.Dec.{ltb}
+use Rattle.file.specs.Rules.Order.{either}
 use Rattle.file.specs.Rules.Layout.{OffsetWidth, widthIn, entrySize, maxSlaves, maxLength}
 use Rattle.file.specs.Rules.Cluster.{Slave, Cluster}
 use Rattle.file.specs.Rules.Encode.{directory, slaveSize, slavesSize, slavesPlace, fileLength}
@@ -15,6 +18,17 @@ slaveStart w c s = slavesPlace w (c .slaves) + slavesSize w (take s (c .slaves))
 -- a slave's directory that stands at a place, its files behind it
 abbrev pub directoryOf : ℕ → ℕ → Slave → List ℕ
 directoryOf w at s = directory w (at + entrySize w * length (s .files)) (s .files)
+
+-- a slave as a table lists it, with its sleep byte or awake; and all the slaves of one
+unfoldable pub listedAs : Bool → Slave → Slave
+listedAs kept s = record { asleep = cond kept (s .asleep) 0; files = s .files }
+
+abbrev pub listed : Bool → List Slave → List Slave
+listed kept ss = map (listedAs kept) ss
+
+-- so many slaves or so many bytes are too many for the edition of that width
+unfoldable pub isOver : ℕ → ℕ → ℕ → Bool
+isOver w count size = either (ltb (maxSlaves w) count) (ltb (maxLength w) size)
 
 -- where a slave starts in a file, by the width of its edition
 pub record StartsAt (f : List ℕ) (s at : ℕ) : Type 0 where

@@ -14,7 +14,7 @@ use Rattle.file.specs.Rules.Editions.{inEdition, exceeds}
 use Rattle.cluster.specs.Claims.Editions.{Convertible}
 use Rattle.naming.specs.Rules.Run.{bits}
 use Rattle.ttpa.specs.Rules.Calls.{checkCall, startCall, stepCall, stepKeepingCall, roundCall, roundKeepingCall, traceCall, turnCall}
-use Rattle.ttpa.specs.Rules.Calls.{ownerCall, convertCall, fillCall, positionIn}
+use Rattle.ttpa.specs.Rules.Calls.{ownerCall, convertCall, joinCall, fillCall, positionIn}
 use Rattle.demand.specs.Claims.Calls.{CCall, GivenBytes, Memory, returned, memoryAfter, afterCalls, permittedCall, halfwayOn, permitted, TakenByRounds, CallsDemand, started}
 
 -- ---- each call
@@ -76,6 +76,8 @@ pub record CallsAlike (f : List ℕ) (e : ℕ) : Type 0 where
   pub owner : (master : ℕ) (buffer : List ℕ) (length : ℕ) → ownerCall (inEdition f e) master buffer length ≡ ownerCall f master buffer length
   -- to either edition
   pub convert : (d : ℕ) (out : List ℕ) (length : ℕ) → convertCall d (inEdition f e) out length ≡ convertCall d f out length
+  -- as the second file of a join; the first file's edition is the result's (`ttpa/specs/Claims/Join` JoinsConverted)
+  pub joinSecond : (first out : List ℕ) (length : ℕ) → joinCall first (inEdition f e) out length ≡ joinCall first f out length
   pub fill : (held : List ℕ) (count : ℕ) → fillCall (inEdition f e) held count ≡ fillCall f held count
 
 abbrev pub AllCallsAlike : Type 0

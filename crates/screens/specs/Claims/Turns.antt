@@ -1,10 +1,10 @@
 -- What a post and a turn do, over files and states of bytes (document 02, job 12).
-use Prim.Native.Nat.{ℕ, _+_, _-_, _%_, _<_}
+use Prim.Native.Nat.{ℕ, _+_, _-_, _*_, _%_, _<_}
 use mathlib.Core.Path.{_≡_}
 use mathlib.Core.Logic.{_≢_, _↔_}
 use mathlib.Core.List.{List}
 use mathlib.Core.Bool.{true, false}
-use lib.ListN.{length}
+use lib.ListN.{length, getD}
 use Rattle.file.specs.Rules.Bytes.{Bytes}
 use Rattle.file.specs.Rules.Results.{done}
 use Rattle.file.specs.Rules.Decode.{decode}
@@ -13,8 +13,35 @@ use Rattle.cluster.specs.Rules.MasterSlave.{addressSent, roundSent}
 use Rattle.cluster.specs.Rules.Summary.{Summary}
 use Rattle.cluster.specs.Claims.Renaming.{namesOf}
 use Rattle.cluster.specs.Claims.Summary.{Matches}
-use Rattle.screens.specs.Rules.Screens.{screens, lastServed, isWaiting, Read, readOf, fresh, nobody, screen, due, postOn}
+use Rattle.screens.specs.Rules.Screens.{screens, lastServed, isWaiting, Read, readBy, readOf, fresh, nobody, screen, due, postOn}
 use Rattle.screens.specs.Rules.Turn.{idle, served, readSent, afterServing, turnGround, turnOn}
+
+-- ---- the state's bytes
+
+-- of a state of any content: byte 0 is the screen last served, and of the i-th screen byte 1 + 4 i says whether it waits, 0 no and any other
+-- value yes, before the name, file and record of its read
+pub record LaidOut (state : List ℕ) (i : ℕ) : Type 0 where
+  pub last : lastServed state ≡ getD state 0 0
+  pub waits : (isWaiting state i ≡ true) ↔ (getD state (1 + 4 * i) 0 ≢ 0)
+  pub read : readOf state i ≡ readBy (getD state (1 + 4 * i + 1) 0) (getD state (1 + 4 * i + 2) 0) (getD state (1 + 4 * i + 3) 0)
+
+abbrev pub StatesLaidOut : Type 0
+StatesLaidOut = (state : List ℕ) (i : ℕ) → LaidOut state i
+
+-- a post makes the waiting byte 1 and writes the three behind it, a turn that serves makes it 0 and byte 0 the screen's number; every other
+-- byte stays
+pub record OthersStay (state : List ℕ) (i : ℕ) (after : List ℕ) : Type 0 where
+  pub waiting : getD after (1 + 4 * i) 0 ≡ 1
+  pub before : (k : ℕ) → k < 1 + 4 * i → getD after k 0 ≡ getD state k 0
+  pub behind : (k : ℕ) → 1 + 4 * i + 3 < k → getD after k 0 ≡ getD state k 0
+
+abbrev pub PostBytes : Type 0
+PostBytes = (state : List ℕ) (i : ℕ) (r : Read) → length state ≡ 33 → postOn state i r .0 ≡ done tt → OthersStay state i (postOn state i r .1)
+
+abbrev pub ServedBytes : Type 0
+ServedBytes =
+    (state file buffer : List ℕ) (i mask : ℕ) → turnOn state file buffer .0 ≡ done (served i mask) →
+    (k : ℕ) → k ≢ 0 → k ≢ 1 + 4 * i → getD (turnOn state file buffer .1) k 0 ≡ getD state k 0
 
 -- ---- a post
 

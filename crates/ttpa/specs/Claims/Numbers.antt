@@ -4,7 +4,7 @@ use Prim.Native.Nat.{ℕ}
 use mathlib.Core.Path.{_≡_}
 use mathlib.Core.List.{List, [], _∷_, _++_}
 use Rattle.file.specs.Rules.Bytes.{Bytes}
-use Rattle.ttpa.specs.Rules.Calls.{checkCall, readAddressCall, writeAddressCall, writeDataCall, roundCall, traceCall, ownerCall, convertCall, startCall, stepCall, fillCall, holderCall, roundKeepingCall, stepKeepingCall, screensCall, postCall, turnCall}
+use Rattle.ttpa.specs.Rules.Calls.{checkCall, readAddressCall, writeAddressCall, writeDataCall, roundCall, traceCall, ownerCall, convertCall, startCall, stepCall, fillCall, holderCall, roundKeepingCall, stepKeepingCall, screensCall, postCall, turnCall, joinCall}
 
 pub data OneOf : ℕ → List ℕ → Type 0 where
   here : {n : ℕ} {ns : List ℕ} → OneOf n (n ∷ ns)
@@ -35,6 +35,8 @@ pub record RefusedByNumbers : Type 0 where
   -- 25 and 26 "in this order after 8" (document 02, job 10); 25 refuses narrowing alone, a lent file being bytes
   pub toOne : (file out : List ℕ) (length : ℕ) → ZeroOr (convertCall 1 file out length .0) (fileNumbers ++ 25 ∷ 26 ∷ [])
   pub toTwo : (file out : List ℕ) (length : ℕ) → Bytes file → ZeroOr (convertCall 2 file out length .0) (fileNumbers ++ 26 ∷ [])
+  -- 29 and 30 "in this order after 8, the first file being checked before the second" (document 02, job 13)
+  pub join : (first second out : List ℕ) (length : ℕ) → ZeroOr (joinCall first second out length .0) (fileNumbers ++ 29 ∷ 30 ∷ [])
   pub start : (names run : List ℕ) → ZeroOr (startCall names run .0) (15 ∷ 16 ∷ [])
   pub step :
       (file run names answer : List ℕ) (senders : ℕ) →

@@ -5,7 +5,7 @@ use Prim.Native.Nat.{ℕ}
 use mathlib.Core.Path.{_≡_}
 use mathlib.Core.Logic.{_≢_}
 use mathlib.Core.List.{List}
-use Rattle.ttpa.specs.Rules.Calls.{readAddressCall, writeAddressCall, writeDataCall, roundCall, traceCall, ownerCall, convertCall, startCall, stepCall, fillCall, holderCall, roundKeepingCall, stepKeepingCall, postCall, turnCall}
+use Rattle.ttpa.specs.Rules.Calls.{readAddressCall, writeAddressCall, writeDataCall, roundCall, traceCall, ownerCall, convertCall, startCall, stepCall, fillCall, holderCall, roundKeepingCall, stepKeepingCall, postCall, turnCall, joinCall}
 
 pub record RefusalsAlterNothing : Type 0 where
   -- the five parts
@@ -28,6 +28,9 @@ pub record RefusalsAlterNothing : Type 0 where
   pub convert :
       (edition : ℕ) (file out : List ℕ) (length n : ℕ) → n ≢ 0 →
       convertCall edition file out length .0 ≡ n → convertCall edition file out length ≡ (n, length, out)
+  pub join :
+      (first second out : List ℕ) (length n : ℕ) → n ≢ 0 →
+      joinCall first second out length .0 ≡ n → joinCall first second out length ≡ (n, length, out)
   -- the run
   pub start : (names run : List ℕ) (n : ℕ) → n ≢ 0 → startCall names run .0 ≡ n → startCall names run ≡ (n, run)
   -- senders, run, answer buffer and file

@@ -12,6 +12,7 @@ use Rattle.cluster.specs.Rules.Summary.{Summary, without, kept, roundKeeping, f
 use Rattle.trace.specs.Rules.Run.{reportWords, traceOn}
 use Rattle.owner.specs.Rules.Writing.{ownerOn}
 use Rattle.convert.specs.Rules.Convert.{convertOn}
+use Rattle.join.specs.Rules.Join.{joinOn}
 use Rattle.naming.specs.Rules.Run.{Position, startOver}
 use Rattle.naming.specs.Rules.Step.{StepDone, ended, made, stepOn, stepKeeping}
 use Rattle.screens.specs.Rules.Screens.{readBy, fresh, postOn}
@@ -22,7 +23,7 @@ unfoldable pub versionMajor : ℕ
 versionMajor = 0
 
 unfoldable pub versionMinor : ℕ
-versionMinor = 12
+versionMinor = 13
 
 unfoldable pub versionPatch : ℕ
 versionPatch = 0
@@ -73,6 +74,10 @@ ownerCall file master buffer length = let r = ownerOn file master buffer in (num
 -- a file's form in an edition, of a call for each edition: number, length and buffer
 unfoldable pub convertCall : ℕ → List ℕ → List ℕ → ℕ → ℕ × ℕ × List ℕ
 convertCall edition file out length = let r = convertOn file edition out in (numberIn (r .0), lentAfter (r .0) length (λ (written : ℕ). written), r .1)
+
+-- two files joined: number, length and buffer
+unfoldable pub joinCall : List ℕ → List ℕ → List ℕ → ℕ → ℕ × ℕ × List ℕ
+joinCall first second out length = let r = joinOn first second out in (numberIn (r .0), lentAfter (r .0) length (λ (written : ℕ). written), r .1)
 
 -- a run's eight words, by their places: end, index, step, value, rounds, comparisons, and the two halves last written
 unfoldable pub wordsOf : Position → List ℕ

@@ -450,6 +450,17 @@ fn state_length(file: &mut [u8]) {
     }
 }
 
+/// Turned away by its length, its mark or its edition, which damaged files seldom are.
+pub fn with_wrong_front(random: &mut Random) -> Vec<u8> {
+    let mut file = cluster(random).encode();
+    match random.below(3) {
+        0 => return odd_length(random),
+        1 => file[random.below(2)] ^= 1 << random.below(8),
+        _ => file[2] = random.one_of(&[0, 3, 255]),
+    }
+    file
+}
+
 /// The limits of ground 1 in each edition, and bytes of no meaning.
 pub fn odd_length(random: &mut Random) -> Vec<u8> {
     let edition = random.one_of(&Edition::BOTH);

@@ -14,7 +14,7 @@ pub fn conversions(campaign: &mut Campaign, amount: usize, random: &mut Random) 
             0 | 1 => around_narrow_length(random).encode(),
             2 | 3 => around_narrow_slaves(random).encode(),
             4 | 5 => with_equal_names(random).encode(),
-            6 => with_wrong_front(random),
+            6 => clusters::with_wrong_front(random),
             _ => any_file(random),
         };
         let edition = random.one_of(&Edition::BOTH);
@@ -53,17 +53,6 @@ fn with_equal_names(random: &mut Random) -> Cluster {
     let mut cluster = clusters::cluster(random);
     clusters::repeat_a_physical_name(random, &mut cluster);
     cluster
-}
-
-/// Turned away by its length, its mark or its edition, which damaged files seldom are.
-fn with_wrong_front(random: &mut Random) -> Vec<u8> {
-    let mut file = clusters::cluster(random).encode();
-    match random.below(3) {
-        0 => return clusters::odd_length(random),
-        1 => file[random.below(2)] ^= 1 << random.below(8),
-        _ => file[2] = random.one_of(&[0, 3, 255]),
-    }
-    file
 }
 
 /// Around the bytes that the converted file needs, and others.

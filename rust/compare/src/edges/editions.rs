@@ -1,10 +1,12 @@
 //! The edges of the two editions (document 02, request 10): grounds 1 to 8 by each edition's own values, calls on files
 //! that edition 2 alone can hold, and conversions.
 
-use super::files::{answer, changed, hex, parts, refused_files, slave, Slave, UNNAMED};
+use super::files::{
+    answer, changed, hex, least_files, of_length, parts, refused_files, slave, unnamed, Slave, UNNAMED,
+};
 use super::Edge;
 use crate::case::{Call, Outcome, FILL};
-use crate::editions::{Parts, SlaveFile};
+use crate::editions::Parts;
 use crate::engine::Engine;
 use crate::frames::framed;
 use model::{Edition, MSA, MSD};
@@ -61,36 +63,6 @@ fn check(what: &'static str, file: Vec<u8>, number: u8) -> Edge {
     let call = Call::Check { file };
     let expected = Outcome { number, ..call.before() };
     Edge::new(what, call, expected)
-}
-
-/// A slave's files: those it needs, the physical name being 7 and its place, and so many others of the least size.
-fn files(place: usize, name: u8, others: usize) -> Vec<SlaveFile> {
-    let mut files = vec![
-        (0x08, vec![0, 0, 0, 0, 0, 0, 0, name, 0, 0, 0, 0, 0, 0, 0, 0]),
-        (0x3D, vec![0, 0, 0, 0, 0, 0, 0, 7, 0, 0, 0, place as u8]),
-    ];
-    let free = (0..64).filter(|number| ![0x08, 0x3D].contains(number));
-    files.extend(free.take(others).map(|number| (number, vec![0x5A; 8])));
-    files.sort_by_key(|&(number, _)| number);
-    files
-}
-
-/// Unnamed slaves with so many files beside those they need.
-fn unnamed(slaves: usize, others: usize) -> Parts {
-    let awake = |place| (0, files(place, UNNAMED, others));
-    Parts { state: [0; 5], slaves: (0..slaves).map(awake).collect() }
-}
-
-/// The same, files lengthened until there are so many bytes in an edition.
-fn of_length(mut parts: Parts, edition: u8, length: usize) -> Parts {
-    let mut missing = length - parts.laid_out(edition).len();
-    for (_, content) in parts.slaves.iter_mut().flat_map(|(_, files)| files) {
-        let grown = missing.min(4 * 256 - content.len());
-        content.resize(content.len() + grown, 0x5A);
-        missing -= grown;
-    }
-    assert_eq!(parts.laid_out(edition).len(), length);
-    parts
 }
 
 /// Number 1 goes by byte 2 before the mark is looked at; 3 comes after it.
@@ -226,8 +198,8 @@ fn slaves_without_files() -> Vec<Edge> {
 fn equal_names() -> Vec<Edge> {
     let with_last = |physical: u8, logical: u8| {
         let mut parts = unnamed(63, 0);
-        parts.slaves[0] = (0, files(0, 0x05, 0));
-        parts.slaves.push((0, files(usize::from(physical), logical, 0)));
+        parts.slaves[0] = (0, least_files(0, 0x05, 0));
+        parts.slaves.push((0, least_files(usize::from(physical), logical, 0)));
         parts.laid_out(2)
     };
     vec![
@@ -391,8 +363,8 @@ fn both_ways_of(what: &'static str, parts: &Parts) -> Vec<Edge> {
 }
 
 fn converted() -> Vec<Edge> {
-    let mut named = vec![(0, files(0, 0x05, 0)), (0, files(1, 0x05, 0))];
-    named.push((0, files(2, 0x00, 3)));
+    let mut named = vec![(0, least_files(0, 0x05, 0)), (0, least_files(1, 0x05, 0))];
+    named.push((0, least_files(2, 0x00, 3)));
     let alike = Parts { state: [0; 5], slaves: named };
     [
         both_ways("no slaves", &hex(NOBODY), &hex(WIDE_NOBODY)),

@@ -53,6 +53,36 @@ pub fn parts(slaves: &[Slave]) -> Parts {
     Parts { state: [0; 5], slaves: (0..).zip(slaves).map(awake).collect() }
 }
 
+/// A slave's files: those it needs, the physical name being 7 and its place, and so many others of the least size.
+pub fn least_files(place: usize, name: u8, others: usize) -> Vec<SlaveFile> {
+    let mut files = vec![
+        (0x08, vec![0, 0, 0, 0, 0, 0, 0, name, 0, 0, 0, 0, 0, 0, 0, 0]),
+        (0x3D, vec![0, 0, 0, 0, 0, 0, 0, 7, 0, 0, 0, place as u8]),
+    ];
+    let free = (0..64).filter(|number| ![0x08, 0x3D].contains(number));
+    files.extend(free.take(others).map(|number| (number, vec![0x5A; 8])));
+    files.sort_by_key(|&(number, _)| number);
+    files
+}
+
+/// Unnamed slaves with so many files beside those they need.
+pub fn unnamed(slaves: usize, others: usize) -> Parts {
+    let awake = |place| (0, least_files(place, UNNAMED, others));
+    Parts { state: [0; 5], slaves: (0..slaves).map(awake).collect() }
+}
+
+/// The same, files lengthened until there are so many bytes in an edition.
+pub fn of_length(mut parts: Parts, edition: u8, length: usize) -> Parts {
+    let mut missing = length - parts.laid_out(edition).len();
+    for (_, content) in parts.slaves.iter_mut().flat_map(|(_, files)| files) {
+        let grown = missing.min(4 * 256 - content.len());
+        content.resize(content.len() + grown, 0x5A);
+        missing -= grown;
+    }
+    assert_eq!(parts.laid_out(edition).len(), length);
+    parts
+}
+
 /// Where a file keeps what is pending: flag, logical name, PB2 and PB3.
 pub const PENDING: usize = 9;
 

@@ -4,6 +4,7 @@
 
 pub mod editions;
 mod files;
+pub mod joins;
 pub mod logical_names;
 pub mod multiplexed;
 pub mod naming_steps;

@@ -2,6 +2,7 @@
 
 pub mod conversions;
 pub mod grounds;
+pub mod joins;
 pub mod names;
 pub mod owners;
 pub mod passes;
@@ -28,5 +29,6 @@ pub fn of(call: &Call, outcome: &Outcome) -> Vec<Sort> {
     sorts.extend(sleepers::sorts(call, outcome));
     sorts.extend(conversions::sorts(call, outcome));
     sorts.extend(screens::sorts(call, outcome));
+    sorts.extend(joins::sorts(call, outcome));
     sorts
 }

@@ -349,6 +349,54 @@ pub enum Sort {
     BufferKeepsRead,
     /// A turn that serves a screen between two naming steps.
     TurnBetweenSteps,
+    /// A join of files of these editions.
+    JoinedEditions(u8, u8),
+    /// One of which the first alone, or the second alone, has no slaves.
+    JoinedToNobody,
+    JoinedWithNobody,
+    /// One to as many slaves, or bytes, as this edition has at most.
+    JoinedMostSlaves(u8),
+    JoinedMostBytes(u8),
+    /// One into a buffer of exactly its bytes.
+    JoinedFits,
+    /// One to edition 1 that is possible only since the entries of the second are shorter there.
+    JoinedNarrowed,
+    /// One that turns a slave of a name that the first holds, at 0x00, held by sleepers alone, and several of one name.
+    TurnedByName,
+    TurnedByZero,
+    TurnedBySleeper,
+    SeveralTurned,
+    /// One with a slave at 0x00 in the second alone, and with unnamed ones in both files.
+    ZeroKept,
+    UnnamedInBoth,
+    /// One with two slaves of one name that stay, in the first or in the second.
+    EqualKeptInFirst,
+    EqualKeptInSecond,
+    /// One of a file with a sleeper, first or second; with an operation pending; with free pending bytes; with an epoch.
+    JoinWakesFirst,
+    JoinWakesSecond,
+    JoinDropsPending,
+    JoinDropsSecondPending,
+    JoinDropsFreeBytes,
+    JoinDropsEpoch,
+    /// One that was made in the other edition too, one of two files that load, and one after which a turned slave was named.
+    JoinedInOtherEdition,
+    JoinedLoads,
+    TurnedAndNamed,
+    /// A join refused by 29 for the last slaves alone, and of a file with itself; where 30 holds for slaves, length or buffer.
+    SharedByTheLast,
+    JoinedWithItself,
+    SharedBeforeSlaves,
+    SharedBeforeLength,
+    SharedBeforeBuffer,
+    /// One refused by 30 for one slave or one record beyond this edition, the buffer being long enough; for a byte of buffer.
+    JoinedSlaveTooMany(u8),
+    JoinedRecordTooLong(u8),
+    JoinedOneShort,
+    /// One of two files that are turned away by different numbers; one of which the first or the second is, with no buffer.
+    FirstBeforeSecond,
+    FirstBeforeJoin,
+    SecondBeforeJoin,
 }
 
 /// A sort, one in how many calls has to be of it, and what is printed of it.
@@ -613,8 +661,53 @@ impl Sort {
         (Sort::BufferKeepsRead, 40, "turns refused by 9 for a byte, the read waiting on"),
     ];
 
+    /// Sorts of joins, with one in how many of those asked for.
+    pub const REACHED_BY_JOINS: [Reached; 41] = [
+        (Sort::JoinedEditions(1, 1), 20, "joins of edition 1 and 1"),
+        (Sort::JoinedEditions(1, 2), 20, "joins of edition 1 and 2"),
+        (Sort::JoinedEditions(2, 1), 20, "joins of edition 2 and 1"),
+        (Sort::JoinedEditions(2, 2), 20, "joins of edition 2 and 2"),
+        (Sort::JoinedToNobody, 100, "joins of a first file without slaves"),
+        (Sort::JoinedWithNobody, 100, "joins of a second file without slaves"),
+        (Sort::JoinedMostSlaves(1), 100, "joins to 32 slaves in edition 1"),
+        (Sort::JoinedMostSlaves(2), 100, "joins to 64 slaves in edition 2"),
+        (Sort::JoinedMostBytes(1), 400, "joins to 32,768 bytes in edition 1"),
+        (Sort::JoinedMostBytes(2), 400, "joins to 65,536 bytes in edition 2"),
+        (Sort::JoinedFits, 20, "joins, the buffer just long enough"),
+        (Sort::JoinedNarrowed, 800, "joins to edition 1 that the wider entries of the second would exceed"),
+        (Sort::TurnedByName, 40, "joins that turn a slave of a name that the first holds"),
+        (Sort::TurnedByZero, 40, "joins that turn a slave at 0x00"),
+        (Sort::TurnedBySleeper, 200, "joins that turn a slave whose name only sleepers hold"),
+        (Sort::SeveralTurned, 100, "joins that turn several slaves of one name"),
+        (Sort::ZeroKept, 40, "joins that leave a slave of the second at 0x00"),
+        (Sort::UnnamedInBoth, 10, "joins with unnamed slaves in both files"),
+        (Sort::EqualKeptInFirst, 40, "joins that leave equal names in the first"),
+        (Sort::EqualKeptInSecond, 100, "joins that leave equal names in the second"),
+        (Sort::JoinWakesFirst, 40, "joins that wake slaves of the first"),
+        (Sort::JoinWakesSecond, 40, "joins that wake slaves of the second"),
+        (Sort::JoinDropsPending, 10, "joins with an operation pending in the first"),
+        (Sort::JoinDropsSecondPending, 10, "joins with an operation pending in the second"),
+        (Sort::JoinDropsFreeBytes, 10, "joins with free pending bytes in the first"),
+        (Sort::JoinDropsEpoch, 10, "joins with an epoch in the first"),
+        (Sort::JoinedInOtherEdition, 20, "joins made in the other edition too"),
+        (Sort::JoinedLoads, 40, "joins of files that load"),
+        (Sort::SharedByTheLast, 80, "joins refused by 29 for the last slaves alone"),
+        (Sort::JoinedWithItself, 40, "joins of a file with itself refused by 29"),
+        (Sort::SharedBeforeSlaves, 100, "joins refused by 29 with too many slaves"),
+        (Sort::SharedBeforeLength, 800, "joins refused by 29 with too many bytes"),
+        (Sort::SharedBeforeBuffer, 100, "joins refused by 29 with a short buffer"),
+        (Sort::JoinedSlaveTooMany(1), 200, "joins refused by 30 for 33 slaves in edition 1"),
+        (Sort::JoinedSlaveTooMany(2), 200, "joins refused by 30 for 65 slaves in edition 2"),
+        (Sort::JoinedRecordTooLong(1), 800, "joins refused by 30 for 32,772 bytes in edition 1"),
+        (Sort::JoinedRecordTooLong(2), 800, "joins refused by 30 for 65,540 bytes in edition 2"),
+        (Sort::JoinedOneShort, 20, "joins refused by 30 where one byte of buffer more would do"),
+        (Sort::FirstBeforeSecond, 100, "joins of two files that are turned away by different numbers"),
+        (Sort::FirstBeforeJoin, 200, "joins of a first file that is turned away, no buffer"),
+        (Sort::SecondBeforeJoin, 200, "joins of a second file that is turned away, no buffer"),
+    ];
+
     /// Sorts of calls in naming runs, with one in how many of the runs asked for.
-    pub const REACHED_BY_RUNS: [Reached; 8] = [
+    pub const REACHED_BY_RUNS: [Reached; 9] = [
         (Sort::RunOverMoreSlaves, 10, "naming runs over more than 32 slaves"),
         (Sort::TraceBetweenSteps, 1, "traces run between naming steps, with a round and a refused frame"),
         (
@@ -624,6 +717,7 @@ impl Sort {
         ),
         (Sort::MultiplexedBetweenSteps, 1, "rounds between naming steps in which a multiplexed entry acts"),
         (Sort::TurnBetweenSteps, 1, "turns that serve a screen between naming steps"),
+        (Sort::TurnedAndNamed, 8, "naming runs on joined files in which a slave was turned"),
         (Sort::RunInTurn, 4, "naming runs made in turn"),
         (Sort::RunKept, 4, "naming runs given a summary"),
         (Sort::RunOverSleepers, 10, "naming runs begun over unnamed sleepers"),
@@ -676,8 +770,8 @@ impl Sort {
     ];
 
     /// What a call is an example of; logical names, naming steps, their grounds, multiplexed entries, traces, owner files,
-    /// summaries, sleepers, conversions and screens are sorted in `names`, `passes`, `grounds`, `turns`, `traces`, `owners`,
-    /// `summaries`, `sleepers`, `conversions` and `screens`.
+    /// summaries, sleepers, conversions, screens and joins are sorted in `names`, `passes`, `grounds`, `turns`, `traces`,
+    /// `owners`, `summaries`, `sleepers`, `conversions`, `screens` and `joins`.
     pub fn of(call: &Call, outcome: &Outcome) -> Option<Sort> {
         match call {
             Call::Read { frame } if outcome.number == 12 && is_unfolded(frame) => Some(Sort::UnfoldedNotRead),

@@ -3,12 +3,12 @@
 use crate::case::{Call, Outcome};
 use crate::engine::{ReportWords, RunWords, NO_SCREEN};
 use crate::two_lists::{Runs, TwoLists, TWO};
-use model::{check, Edition, End, FileNumber, Pending, MSA, MSD};
+use model::{check, Cluster, Edition, End, FileNumber, Pending, Slave, MSA, MSD};
 use std::collections::BTreeMap;
 
 /// Each kind of call with what it can do when it is carried out, and the numbers that can refuse it. A whole run is a
 /// kind of its own, and so are the runs over two lists.
-const OUTCOMES: [(&str, &[&str], &[u8]); 20] = [
+const OUTCOMES: [(&str, &[&str], &[u8]); 21] = [
     ("check", &[PLAIN], CHECK_NUMBERS),
     ("read", &["read", "write", "execute"], READ_NUMBERS),
     ("write", &["read", "write", "execute"], WRITE_NUMBERS),
@@ -27,6 +27,7 @@ const OUTCOMES: [(&str, &[&str], &[u8]); 20] = [
     ("screens", &[PLAIN], &[]),
     ("post", &[PLAIN], POST_NUMBERS),
     ("turn", &["answered", "silent", "none-waiting"], TURN_NUMBERS),
+    ("join", &["no-slave", "none-turned", "some-turned"], JOIN_NUMBERS),
     (TWO, &[EMPTY_LIST, ALL_NAMED, USED_UP], &[]),
     (RUN, &[ALL_NAMED, USED_UP], &[]),
 ];
@@ -73,7 +74,8 @@ const IN_A_STEP: &[&str] = &[
 /// What a conversion does: the file has the other edition, or that one already.
 const IN_A_CONVERSION: &[&str] = &["converted", "copied"];
 
-// The numbers of each call in the order in which it checks them.
+// The numbers of each call in the order in which it checks them; one of two files has each number for the first file, and then
+// for the second.
 // .ci/refusals writes from here: calls
 const CHECK_NUMBERS: &[u8] = &[1, 2, 3, 4, 5, 6, 7, 8, 22];
 const READ_NUMBERS: &[u8] = &[10, 11, 12, 13, 14];
@@ -92,6 +94,7 @@ const TO_EDITION_1_NUMBERS: &[u8] = &[1, 2, 3, 4, 5, 6, 7, 8, 25, 26];
 const TO_EDITION_2_NUMBERS: &[u8] = &[1, 2, 3, 4, 5, 6, 7, 8, 26];
 const POST_NUMBERS: &[u8] = &[27, 28, 18, 14];
 const TURN_NUMBERS: &[u8] = &[27, 18, 14, 1, 2, 3, 4, 5, 6, 7, 8, 9];
+const JOIN_NUMBERS: &[u8] = &[1, 2, 3, 4, 5, 6, 7, 8, 1, 2, 3, 4, 5, 6, 7, 8, 29, 30];
 // .ci/refusals writes to here
 
 /// A call that does one thing only.
@@ -100,8 +103,11 @@ const RUN: &str = "run";
 const ALL_NAMED: &str = "all-named";
 const USED_UP: &str = "names-used-up";
 const EMPTY_LIST: &str = "empty-list";
+/// Which of two files was refused.
+const FIRST: &str = "first";
+const SECOND: &str = "second";
 
-/// A call's kind and number, and what it did if it was carried out.
+/// A call's kind and number, and what it did if it was carried out, or of two files which was refused.
 type Came = (&'static str, u8, &'static str);
 
 #[derive(Default)]
@@ -111,7 +117,7 @@ pub struct Tally {
 
 impl Tally {
     pub fn note(&mut self, call: &Call, outcome: &Outcome) {
-        let done = if outcome.number == 0 { done(call, outcome) } else { PLAIN };
+        let done = if outcome.number == 0 { done(call, outcome) } else { refused(call, outcome.number) };
         self.add(call.kind(), outcome.number, done);
     }
 
@@ -156,7 +162,7 @@ impl Tally {
             .collect()
     }
 
-    /// `made KIND N` for each kind, and `outcome KIND NUMBER N` or `outcome KIND 0/DONE N` for each outcome.
+    /// `made KIND N` for each kind, and `outcome KIND NUMBER N` or `outcome KIND NUMBER/DONE N` for each outcome.
     pub fn print(&self) {
         self.kinds().iter().for_each(|(kind, count)| println!("made {kind} {count}"));
         for outcome in outcomes() {
@@ -171,8 +177,26 @@ impl Tally {
 fn outcomes() -> impl Iterator<Item = Came> {
     OUTCOMES.into_iter().flat_map(|(kind, dones, numbers)| {
         let carried_out = dones.iter().map(move |&done| (kind, 0, done));
-        carried_out.chain(numbers.iter().map(move |&number| (kind, number, PLAIN)))
+        carried_out.chain((0..numbers.len()).map(move |place| (kind, numbers[place], whose(numbers, place))))
     })
+}
+
+/// For which of two files a number stands at this place of a call's numbers: it is there once more for the other.
+fn whose(numbers: &[u8], place: usize) -> &'static str {
+    let number = numbers[place];
+    if numbers[..place].contains(&number) {
+        SECOND
+    } else {
+        either(numbers[place + 1..].contains(&number), FIRST, PLAIN)
+    }
+}
+
+/// Which of a call's two files was refused.
+fn refused(call: &Call, number: u8) -> &'static str {
+    match call {
+        Call::Join { first, .. } if number <= 8 => either(check(first).is_err(), FIRST, SECOND),
+        _ => PLAIN,
+    }
 }
 
 fn shown((kind, number, done): Came) -> String {
@@ -205,7 +229,23 @@ fn done(call: &Call, outcome: &Outcome) -> &'static str {
         Call::Keeping { call, .. } => done(call, outcome),
         Call::Turn { .. } if outcome.served() == Some(NO_SCREEN) => "none-waiting",
         Call::Turn { .. } => either(outcome.mask() != 0, "answered", "silent"),
+        Call::Join { second, .. } => in_join(second, outcome.bytes_written()),
     }
+}
+
+/// Whether a slave of the second that had a name is unnamed in the joined file, which ends with its slaves.
+fn in_join(second: &[u8], joined: Option<&[u8]>) -> &'static str {
+    let unnamed = |file: &[u8]| check(file).map_or(Vec::new(), |cluster| is_unnamed(&cluster));
+    let (before, after) = (unnamed(second), unnamed(joined.unwrap_or_default()));
+    if after.is_empty() {
+        return "no-slave";
+    }
+    either(after.ends_with(&before), "none-turned", "some-turned")
+}
+
+/// Of each slave whether it is unnamed.
+fn is_unnamed(cluster: &Cluster) -> Vec<bool> {
+    cluster.slaves.iter().map(Slave::is_unnamed).collect()
 }
 
 fn in_filling(room: u64, count: Option<u64>) -> &'static str {

@@ -153,3 +153,17 @@ fn mask_and_screen_of_a_turn_are_written_on_success_only() {
     assert_eq!(calls::turn(&mut file, &mut state, &mut answer, &mut senders, &mut screen), 0);
     assert_eq!((answer[0], screen, senders, file[8]), (0x49, 6, 0, 2));
 }
+
+#[test]
+fn the_length_of_a_join_is_written_on_success_only() {
+    let mut second = M10.to_vec();
+    let (mut out, mut length) = ([FILL; 180], MASK_BEFORE);
+    assert_eq!(calls::join(M10, &second, &mut out, &mut length), 29);
+    // the serial numbers of the two slaves, which M10 has as 0x10 and 0xA0
+    (second[0x3B], second[0x5F]) = (0x11, 0xA1);
+    assert_eq!(calls::join(M10, &second, &mut out[..175], &mut length), 30);
+    assert_eq!(calls::join(M10, &second[..95], &mut out, &mut length), 4);
+    assert_eq!((out, length), ([FILL; 180], MASK_BEFORE));
+    assert_eq!(calls::join(M10, &second, &mut out, &mut length), 0);
+    assert_eq!((length, out[3], &out[175..]), (176, 4, &[0xA1, FILL, FILL, FILL, FILL][..]));
+}

@@ -6,7 +6,7 @@ use ttpa::TtpaError;
 
 /// Each ground with its number in the documents and a word that its text cannot do without.
 // .ci/refusals writes from here: grounds
-const GROUNDS: [(TtpaError, u8, &str); 29] = [
+const GROUNDS: [(TtpaError, u8, &str); 31] = [
     (TtpaError::FileSize, 1, "65,536"),
     (TtpaError::Mark, 2, "mark"),
     (TtpaError::Edition, 3, "edition"),
@@ -35,7 +35,9 @@ const GROUNDS: [(TtpaError, u8, &str); 29] = [
     (TtpaError::ConversionBuffer, 26, "converted"),
     (TtpaError::Screen, 27, "above 7"),
     (TtpaError::ScreenWaiting, 28, "waiting already"),
-    (TtpaError::Other(29), 29, "no text"),
+    (TtpaError::SharedPhysicalName, 29, "of the other"),
+    (TtpaError::JoinedLimits, 30, "joined"),
+    (TtpaError::Other(31), 31, "no text"),
 ];
 // .ci/refusals writes to here
 

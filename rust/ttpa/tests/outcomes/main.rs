@@ -5,6 +5,7 @@ mod calls;
 mod editions;
 mod errors;
 mod frames;
+mod joins;
 mod owners;
 mod rounds;
 mod runs;

@@ -1,6 +1,6 @@
 -- `convert::convert::convert` meets its contract: a law for each way.
 -- Assumes nothing.
-use Rattle.file.proofs.Surveyed.{survey-placed}
+use Rattle.file.proofs.Surveyed.{survey-becomes}
 use Rattle.convert.specs.Inner.Answers.{convertedOf}
 use Rattle.convert.proofs.EditionLaws.{width-there}
 use Rattle.convert.proofs.Calls.{call-refused, call-over, call-short, call-fits, call-written}
@@ -9,14 +9,7 @@ use Rattle.convert.proofs.convert.convert.Statement.{statement}
 use Rattle.convert.proofs.convert.convert.Tie as tie
 
 length-in-requires : tie.Need-length-in-requires
-length-in-requires c κs =
-    let told = c .before in
-    (survey-placed (told .before .before .survey .ensures) (told .enum-told .given .1) .file, width-there _ (c .width-in .ensures))
-
-is-over-requires : tie.Need-is-over-requires
-is-over-requires c κs =
-    let told = c .before .before in
-    (survey-placed (told .before .before .survey .ensures) (told .enum-told .given .1) .file, width-there _ (c .before .width-in .ensures), c .length-in .ensures)
+length-in-requires c κs = search (needs, survey-becomes, width-there)
 
 returns : tie.Need-returns
 unfolding convertedOf
@@ -27,9 +20,7 @@ unfolding convertedOf
 returns-2 c = search (needs, call-short)
 
 put-form-requires : tie.Need-put-form-requires
-put-form-requires c κs =
-    let told = c .before .before .before .before .before .before in
-    (survey-placed (told .before .before .survey .ensures) (told .enum-told .given .1) .file, search (needs, call-fits))
+put-form-requires c κs = search (needs, survey-becomes, call-fits)
 
 returns-3 : tie.Need-returns-3
 unfolding convertedOf
@@ -48,7 +39,8 @@ convert-spec =
     (λ c. search needs)
     (λ c κs. search needs)
     length-in-requires
-    is-over-requires
+    (λ c κs. search (needs, survey-becomes))
+    (λ c κs. search (needs, width-there))
     returns
     returns-2
     put-form-requires

@@ -11,7 +11,6 @@ is-over-spec =
     tie.close
     (tie.spec
     (λ c. omega arith)
-    (λ c κs. search needs)
     (λ c. search (needs, over-many))
     (λ c. omega arith)
     (λ c. search (needs, over-long)))

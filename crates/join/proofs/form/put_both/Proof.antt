@@ -1,0 +1,28 @@
+-- `join::form::put_both` meets its contract: the first file's slaves, then the second's.
+-- Assumes nothing.
+use Rattle.convert.proofs.ReadLaws.{table-fits, front-fits}
+use Rattle.join.proofs.TurnLaws.{shape-turned}
+use Rattle.join.proofs.BodyLaws.{place-fits, second-fits, first-slaves, second-slaves, both-put}
+use borrow.Author.Needs.{needs}
+use Rattle.join.proofs.form.put_both.Statement.{statement}
+use Rattle.join.proofs.form.put_both.Tie as tie
+
+pub put-both-spec : {M : Type 1} → statement M
+put-both-spec =
+    tie.close
+    (tie.spec
+    (λ c. search needs)
+    (λ c. search needs)
+    (λ c. search needs)
+    (λ c κs. search needs)
+    (λ c. search (needs, table-fits))
+    (λ c. search (needs, front-fits))
+    (λ c. search needs)
+    (λ c κs. search needs)
+    (λ c. search (needs, table-fits))
+    (λ c. search (needs, place-fits))
+    (λ c κs. search (needs, first-slaves))
+    (λ c. search (needs, second-fits))
+    (λ c κs. search (needs, second-slaves))
+    (λ c. search needs)
+    (λ c. search (needs, both-put, shape-turned)))
