@@ -5,8 +5,8 @@
  * the last one by a second list, while other rounds go on in between, tells before and after it who holds a name, runs a
  * captured trace, plans who sends in which slot, has a slot multiplexed, puts the cluster to sleep and wakes it, converts
  * the file to edition 2 and back, serves three screens in turn, joins the file with that of a second segment and names
- * whom the join left unnamed, and prints what happened. examples/demo.rs of the Rust crate does the same and prints the
- * same. */
+ * whom the join left unnamed, reads the patterns of a frame on the line, and prints what happened. examples/demo.rs of the
+ * Rust crate does the same and prints the same. */
 #include <inttypes.h>
 #include <stdio.h>
 #include <string.h>
@@ -473,6 +473,24 @@ static void show_join(void)
     print_bytes("names held", held, (size_t)held_count);
 }
 
+/* An address frame as the line monitor hands it over, each byte with its parity bit: 55 02 01 F4 01 A3. A bit of the fourth is
+ * flipped, so that it is broken. Then a number that is no pattern. */
+static void show_line(void)
+{
+    static const uint16_t line[] = {0x155, 0x102, 0x101, 0x1F5, 0x101, 0x0A3, 0x200};
+    static const char *const classes[] = {"data byte", "firework", "broken"};
+    for (size_t i = 0; i < sizeof line / sizeof *line; i++) {
+        uint8_t kind = TTPA_BROKEN;
+        uint8_t number = ttpa_pattern(line[i], &kind);
+        printf("pattern %03X: ", (unsigned)line[i]);
+        if (number == TTPA_ACCEPTED) {
+            printf("%s\n", classes[kind]);
+        } else {
+            printf("refused %u: %s\n", (unsigned)number, ttpa_refusal_text(number));
+        }
+    }
+}
+
 int main(int count, char **arguments)
 {
     static const uint8_t names[] = {0x01, 0x02};
@@ -538,6 +556,7 @@ int main(int count, char **arguments)
     show_editions();
     show_screens();
     show_join();
+    show_line();
     print_verdict("a short answer buffer", ttpa_round(cluster, length, round, sizeof round, answer,
                                                       TTPA_ANSWER_BYTES - 1, &senders));
     print_verdict("the file as it is now", ttpa_check(cluster, length));

@@ -61,6 +61,7 @@ VALUE(TTPA_REFUSED_SCREEN, 27);
 VALUE(TTPA_REFUSED_SCREEN_WAITING, 28);
 VALUE(TTPA_REFUSED_SHARED_PHYSICAL_NAME, 29);
 VALUE(TTPA_REFUSED_JOINED_LIMITS, 30);
+VALUE(TTPA_REFUSED_PATTERN, 31);
 /* .ci/refusals writes to here */
 
 VALUE(TTPA_FILE_BYTES, 65536);
@@ -129,6 +130,10 @@ VALUE(TTPA_NOBODY, UINT64_C(0xFFFFFFFFFFFFFFFF));
 VALUE(TTPA_SCREENS_BYTES, 33);
 VALUE(TTPA_NO_SCREEN, 8);
 
+VALUE(TTPA_DATA_BYTE, 0);
+VALUE(TTPA_FIREWORK, 1);
+VALUE(TTPA_BROKEN, 2);
+
 /* ---- the prototypes */
 
 typedef const char *text_type(uint8_t);
@@ -154,6 +159,7 @@ typedef uint8_t screens_type(uint8_t *);
 typedef uint8_t post_type(uint8_t *, uint8_t, uint8_t, uint8_t, uint8_t);
 typedef uint8_t turn_type(uint8_t *, size_t, uint8_t *, uint8_t *, size_t, uint64_t *, uint8_t *);
 typedef uint8_t join_type(const uint8_t *, size_t, const uint8_t *, size_t, uint8_t *, size_t, uint64_t *);
+typedef uint8_t pattern_type(uint16_t, uint8_t *);
 
 PROTOTYPE(ttpa_refusal_text, text_type);
 PROTOTYPE(ttpa_version, version_type);
@@ -176,6 +182,7 @@ PROTOTYPE(ttpa_screens, screens_type);
 PROTOTYPE(ttpa_post, post_type);
 PROTOTYPE(ttpa_turn, turn_type);
 PROTOTYPE(ttpa_join, join_type);
+PROTOTYPE(ttpa_pattern, pattern_type);
 
 /* ---- the comparisons */
 
@@ -301,6 +308,7 @@ static const struct {
     {TTPA_REFUSED_SCREEN_WAITING, "waiting already"},
     {TTPA_REFUSED_SHARED_PHYSICAL_NAME, "of the other"},
     {TTPA_REFUSED_JOINED_LIMITS, "joined"},
+    {TTPA_REFUSED_PATTERN, "above 511"},
     /* .ci/refusals writes to here */
 };
 
@@ -1579,6 +1587,62 @@ static void joined_files(void)
     most_joined();
 }
 
+/* ---- patterns of the line */
+
+/* Each firework's byte with its odd parity, and with its even one. */
+static void firework_patterns(void)
+{
+    static const uint16_t fireworks[] = {0x178, 0x049, 0x0BA, 0x18B, 0x064, 0x155, 0x1A6, 0x097};
+    for (size_t i = 0; i < sizeof fireworks / sizeof *fireworks; i++) {
+        uint8_t kind = OLD;
+        EXPECT(ttpa_pattern(fireworks[i], &kind) == TTPA_ACCEPTED && kind == TTPA_FIREWORK);
+        EXPECT(ttpa_pattern(fireworks[i] ^ 0x100, &kind) == TTPA_ACCEPTED && kind == TTPA_DATA_BYTE);
+    }
+}
+
+/* The last pattern has nine ones; above it nothing is told, also where the lower nine bits are a firework's. */
+static void patterns(void)
+{
+    uint8_t kind = OLD;
+    EXPECT(ttpa_pattern(512, &kind) == TTPA_REFUSED_PATTERN && kind == OLD);
+    EXPECT(ttpa_pattern(0x155 + 512, &kind) == TTPA_REFUSED_PATTERN && kind == OLD);
+    EXPECT(ttpa_pattern(65535, &kind) == TTPA_REFUSED_PATTERN && kind == OLD);
+    EXPECT(ttpa_pattern(511, &kind) == TTPA_ACCEPTED && kind == TTPA_BROKEN);
+    EXPECT(ttpa_pattern(0, &kind) == TTPA_ACCEPTED && kind == TTPA_DATA_BYTE);
+    EXPECT(ttpa_pattern(0x100, &kind) == TTPA_ACCEPTED && kind == TTPA_BROKEN);
+}
+
+/* How many of the nine bits are 1. */
+static int ones(uint16_t pattern)
+{
+    int count = 0;
+    for (int bit = 0; bit < 9; bit++) {
+        count += pattern >> bit & 1;
+    }
+    return count;
+}
+
+/* An MSA with one to four of its bits flipped: four make one of four other fireworks of it. */
+static void flipped_patterns(void)
+{
+    int reached[5] = {0};
+    for (uint16_t flips = 1; flips < 512; flips++) {
+        uint8_t kind = OLD;
+        if (ones(flips) <= 4) {
+            EXPECT(ttpa_pattern(0x155 ^ flips, &kind) == TTPA_ACCEPTED);
+            reached[ones(flips)] += kind == TTPA_FIREWORK;
+        }
+    }
+    EXPECT(reached[1] == 0 && reached[2] == 0 && reached[3] == 0 && reached[4] == 4);
+}
+
+static void line_patterns(void)
+{
+    firework_patterns();
+    patterns();
+    flipped_patterns();
+}
+
 int main(void)
 {
     EXPECT(ttpa_version() == TTPA_VERSION);
@@ -1611,6 +1675,7 @@ int main(void)
     in_both_editions();
     shared_turns();
     joined_files();
+    line_patterns();
     printf("%d comparisons, %d failed\n", comparisons, failures);
     return failures == 0 ? 0 : 1;
 }

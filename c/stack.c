@@ -4,8 +4,8 @@
  * another value afterwards is the deepest that was used. The calls are made on a cluster file of the
  * greatest length with the most slaves in each edition: every kind of frame, a whole naming run over all names, both
  * without and with a summary, the frames again as a trace, owner files, conversions, turns of all screens, joins, and
- * refusals. All of it runs three times: first to have the linker's work done, then with two different fillings, since a
- * byte may be written with the value that it has. */
+ * refusals; and every pattern of the line is told. All of it runs three times: first to have the linker's work done, then
+ * with two different fillings, since a byte may be written with the value that it has. */
 #define _XOPEN_SOURCE 700
 #include <stdio.h>
 #include <string.h>
@@ -44,6 +44,8 @@ static size_t converted_room;
 static uint64_t converted_length;
 static uint8_t state[TTPA_SCREENS_BYTES];
 static uint8_t screen;
+static uint16_t pattern;
+static uint8_t kind_of_pattern;
 static uint8_t number;
 static uint32_t version;
 
@@ -266,6 +268,11 @@ static void turn_call(void)
     number = ttpa_turn(cluster, cluster_bytes, state, answer, sizeof answer, &senders, &screen);
 }
 
+static void pattern_call(void)
+{
+    number = ttpa_pattern(pattern, &kind_of_pattern);
+}
+
 enum kind {
     NOTHING,
     VERSION,
@@ -288,6 +295,7 @@ enum kind {
     POST,
     TURN,
     JOIN,
+    PATTERN,
     KINDS
 };
 
@@ -318,6 +326,7 @@ static const struct call calls[KINDS] = {
     [POST] = {"ttpa_post", post_call},
     [TURN] = {"ttpa_turn", turn_call},
     [JOIN] = {"ttpa_join", join_call},
+    [PATTERN] = {"ttpa_pattern", pattern_call},
 };
 
 /* The most stack that a call of each kind has used. */
@@ -648,6 +657,15 @@ static void serve_screens(void)
     make(TURN, TTPA_REFUSED_SCREEN);
 }
 
+/* Every pattern, and one that is refused. */
+static void tell_patterns(void)
+{
+    for (pattern = 0; pattern < 512; pattern++) {
+        make(PATTERN, TTPA_ACCEPTED);
+    }
+    make(PATTERN, TTPA_REFUSED_PATTERN);
+}
+
 static void all_calls_on(uint8_t of_edition)
 {
     edition = of_edition;
@@ -675,6 +693,7 @@ static void all_calls(void)
     make(NOTHING, TTPA_ACCEPTED);
     make(VERSION, TTPA_ACCEPTED);
     failed |= version != TTPA_VERSION;
+    tell_patterns();
     all_calls_on(1);
     all_calls_on(2);
 }

@@ -1,7 +1,8 @@
 /* The TTP/A cluster engine for C and C++: check a cluster file, read and write frames, carry out rounds on
  * the file, name its slaves, run captured traces, write the owner file, tell who holds a logical name, convert a
- * file between its two editions, serve the reads of several screens in turn and join the files of two clusters. The
- * words and rules are those of document 01, the scope document, and of document 02, the change requests.
+ * file between its two editions, serve the reads of several screens in turn, join the files of two clusters and tell
+ * the class of a pattern of the line. The words and rules are those of document 01, the scope document, and of document
+ * 02, the change requests.
  *
  * Numbers. Every call but ttpa_version returns 0 or the number of the ground on which it refused, see enum
  * ttpa_refusal. The comment of a call gives its numbers in the order in which it checks them; the first that
@@ -10,8 +11,8 @@
  * Memory. All memory is the caller's, lent until the call returns; no pointer is kept. No byte is read or
  * written outside the length that is given with a pointer.
  * - NULL: a pointer with length 0 is not followed and may be NULL. With any other length it points to that
- *   many bytes. parts, run, senders, report, length, place, state, screen and the count that ttpa_fill writes are
- *   lent without a length and are never NULL, not in a refused call either.
+ *   many bytes. parts, run, senders, report, length, place, state, screen, kind and the count that ttpa_fill writes
+ *   are lent without a length and are never NULL, not in a refused call either.
  * - Alignment: run, senders, report, length, place and that count as uint64_t has it, so not inside a packed
  *   structure; all others none.
  * - Overlap: what a call may write (each pointer without const) overlaps nothing else of the same call.
@@ -39,10 +40,9 @@ extern "C" {
  *     if (ttpa_version() != TTPA_VERSION) { .. }
  *
  * A call that is lent an array of another size than before gets another name, so that a program with an older header
- * does not link; this is so from 0.8.0 on. Older headers have no ttpa_version, and those before 0.6.0 have fewer words
- * in a run, which a linked program does not notice: what was compiled with them is to be compiled again. */
-#define TTPA_VERSION_MAJOR 0
-#define TTPA_VERSION_MINOR 13
+ * does not link (docs/DECISIONS.md has what was before 1.0.0). */
+#define TTPA_VERSION_MAJOR 1
+#define TTPA_VERSION_MINOR 0
 #define TTPA_VERSION_PATCH 0
 #define TTPA_VERSION (10000 * TTPA_VERSION_MAJOR + 100 * TTPA_VERSION_MINOR + TTPA_VERSION_PATCH)
 
@@ -97,7 +97,9 @@ enum ttpa_refusal {
     TTPA_REFUSED_SCREEN_WAITING = 28,
     /* a join of two cluster files, after both files' 1 to 8 */
     TTPA_REFUSED_SHARED_PHYSICAL_NAME = 29,
-    TTPA_REFUSED_JOINED_LIMITS = 30
+    TTPA_REFUSED_JOINED_LIMITS = 30,
+    /* a nine-bit pattern of the line */
+    TTPA_REFUSED_PATTERN = 31
     /* .ci/refusals writes to here */
 };
 
@@ -169,6 +171,8 @@ static inline const char *ttpa_refusal_text(uint8_t number)
         return "a slave of one cluster file has the same physical name as a slave of the other";
     case TTPA_REFUSED_JOINED_LIMITS:
         return "the joined cluster file has more slaves or bytes than its edition may have, or more bytes than the buffer";
+    case TTPA_REFUSED_PATTERN:
+        return "the line pattern is above 511, and so has more than nine bits";
     default:
         return "refused on a ground that this version has no text for";
     /* .ci/refusals writes to here */
@@ -379,6 +383,15 @@ static inline const char *ttpa_refusal_text(uint8_t number)
 /* What ttpa_turn tells in the place of a screen where none waited. */
 #define TTPA_NO_SCREEN 8
 
+/* A line monitor hands over nine bits, the byte in bits 7 to 0 and the parity bit in bit 8. Each of these 512 patterns is
+ * of one class: a data byte if its count of ones, the parity bit among them, is even, whatever the byte; a firework if
+ * the count is odd and the byte opens a round, as TTPA_FIREWORK_MSA and seven others do; else broken. No firework with
+ * one to three of its nine bits flipped is read as a firework. Four can make another of it: 0x178 (round 0) of 0x155
+ * (MSA), say. */
+#define TTPA_DATA_BYTE 0
+#define TTPA_FIREWORK 1
+#define TTPA_BROKEN 2
+
 /* The version of the library, as TTPA_VERSION is that of the header. Refuses nothing. */
 uint32_t ttpa_version(void);
 
@@ -540,6 +553,9 @@ uint8_t ttpa_turn(uint8_t *file, size_t n, uint8_t state[TTPA_SCREENS_BYTES], ui
  * *length bytes of out, and no other, are written. */
 uint8_t ttpa_join(const uint8_t *first, size_t n, const uint8_t *second, size_t m, uint8_t *out, size_t room,
                   uint64_t *length);
+/* Tells the class of a pattern of the line.
+ * Refuses by 31, for a pattern above 511. On 0 *kind is TTPA_DATA_BYTE, TTPA_FIREWORK or TTPA_BROKEN. */
+uint8_t ttpa_pattern(uint16_t pattern, uint8_t *kind);
 
 #ifdef __cplusplus
 }

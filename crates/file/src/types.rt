@@ -121,6 +121,8 @@ impl Refusal {
     pub const SHARED_NAME: Refusal = Refusal(29);
 
     pub const JOINED_LIMITS: Refusal = Refusal(30);
+
+    pub const PATTERN: Refusal = Refusal(31);
 }
 
 // The slaves that an array has room for: the most of either edition.

@@ -1,18 +1,19 @@
 -- Joins of converted files: the second file may be in either edition, and a joined file's form is the join of forms.
 -- Assumes nothing.
-use Prim.Native.Nat.{ℕ}
+use Prim.Native.Nat.{ℕ, _+_, _*_}
 use native.Mathlib.Omega.{arith}
 use mathlib.Core.Path.{_≡_, refl, sym, ap, ap₂, _∙_, subst}
 use mathlib.Core.List.{List, [], _∷_}
 use mathlib.Core.Bool.{false, cond}
-use lib.ListN.{length}
+use lib.ListN.{length, getD}
 use lib.Dec.{eqb, ltb}
 use borrow.Author.Tests.{eqb-true, eqb-false, le-ltb}
+use Rattle.file.specs.Rules.Bytes.{Bytes}
 use Rattle.file.specs.Rules.Order.{Ground, firstOf, either}
-use Rattle.file.specs.Rules.Layout.{widthIn, maxSlaves, maxLength}
+use Rattle.file.specs.Rules.Layout.{OffsetWidth, widthIn, maxSlaves, maxLength}
 use Rattle.file.specs.Rules.Cluster.{Cluster, logicalNames}
 use Rattle.file.specs.Rules.Results.{Result, refused, done, writtenIn}
-use Rattle.file.specs.Rules.Encode.{fileLength, encode}
+use Rattle.file.specs.Rules.Encode.{slavesPlace, fileLength, encode}
 use Rattle.file.specs.Rules.Decode.{decode}
 use Rattle.file.specs.Rules.Changes.{withEdition}
 use Rattle.file.specs.Rules.Editions.{inEdition, exceeds}
@@ -21,14 +22,18 @@ use Rattle.file.specs.Claims.Editions.{Converts}
 use Rattle.file.proofs.Order.{byCase, either-false}
 use Rattle.file.proofs.Appended.{fileLength-append}
 use Rattle.file.proofs.Shape.{shape-fileLength}
-use Rattle.file.proofs.Editions.{converts}
+use Rattle.file.proofs.Width.{two-widths}
+use Rattle.file.proofs.EditionOne.{edition-at}
+use Rattle.file.proofs.Editions.{converts, copies}
 use Rattle.convert.proofs.Calls.{Within, within}
 use Rattle.convert.proofs.Grounds.{form-length}
 use Rattle.join.specs.Rules.Joined.{slavesJoined, joined, joinedFile, sharesName}
 use Rattle.join.specs.Rules.Join.{joinGround, joinOn}
+use Rattle.join.specs.Claims.Grounds.{JoinedLength}
 use Rattle.join.specs.Claims.Editions.{HasForm, SecondInEither, JoinedForms}
 use Rattle.join.proofs.Joining.{joined-count, joined-shape}
 use Rattle.join.proofs.Order.{over, first-decides, after-both, none-holds, join-written}
+use Rattle.join.proofs.Grounds.{joined-long}
 use Rattle.join.proofs.Result.{no-ground, first-accepted, names-apart-in, joins-legal, joined-decoded}
 
 -- ---- the second file
@@ -152,3 +157,33 @@ joined-forms f g e d out room n b h is form fits =
         (ap (λ (x : Cluster). encode (joined x (decode g))) (there .cluster)
         ∙ ap encode (joined-first-edition (decode f) (decode g) e)
         ∙ ap (λ (x : Cluster). encode (withEdition x e)) (sym decoded))
+
+-- ---- the length
+
+length-in :
+    (f g : List ℕ) (e : ℕ) → Bytes f → fileGround f ≡ 0 → getD f 2 0 ≡ e → OffsetWidth (widthIn e)
+    → length (joinedFile f g) + (8 + 4 * widthIn e) ≡ length f + length (inEdition g e)
+unfolding fileLength slavesPlace
+length-in f g e bytes accepted is width =
+    let edition : decode f .edition ≡ e = edition-at f accepted ∙ is in
+    let own : length f ≡ fileLength (widthIn e) (decode f .slaves) =
+    sym (ap length (ap (inEdition f) (sym is) ∙ copies f bytes accepted)) ∙ form-length f e width
+    in
+    let long : length (joinedFile f g) ≡ fileLength (widthIn e) (joined (decode f) (decode g) .slaves) =
+    joined-long f g ∙ ap (λ (k : ℕ). fileLength (widthIn k) (joined (decode f) (decode g) .slaves)) edition
+    in
+    omega (
+      arith,
+      own,
+      long,
+      form-length g e width,
+      shape-fileLength (widthIn e) (joined-shape (decode f) (decode g)),
+      fileLength-append (widthIn e) (decode f .slaves) (decode g .slaves),
+    )
+
+pub lengths-joined : JoinedLength
+lengths-joined =
+    record {
+      inOne = λ f g bytes accepted is. length-in f g 1 bytes accepted is (two-widths .0);
+      inTwo = λ f g bytes accepted is. length-in f g 2 bytes accepted is (two-widths .1);
+    }

@@ -4,7 +4,7 @@
 use Prim.Native.Nat.{ℕ}
 use mathlib.Core.Path.{_≡_, refl}
 use mathlib.Core.List.{List, [], _∷_, _++_}
-use lib.ListN.{replicate}
+use lib.ListN.{replicate, set}
 use Rattle.file.specs.Rules.Layout.{widthOf}
 use Rattle.file.specs.Rules.Order.{firstOf, both, either}
 use Rattle.file.specs.Rules.Bytes.{numberOf, bytesOf, part, allZero}
@@ -29,6 +29,9 @@ records name serial =
 -- epoch, pending flag, logical name, PB2 and PB3: a write that is pending, and nothing
 abbrev pub pending : List ℕ
 pending = 0x0C ∷ 0x01 ∷ 0x05 ∷ 0x21 ∷ 0x02 ∷ []
+
+abbrev pub free : List ℕ
+free = 0x00 ∷ 0x00 ∷ 0x05 ∷ 0x21 ∷ 0x02 ∷ []
 
 abbrev pub nothing : List ℕ
 nothing = 0x00 ∷ 0x00 ∷ 0x00 ∷ 0x00 ∷ 0x00 ∷ []
@@ -88,6 +91,11 @@ pub record Joins : Type 0 where
   pub unnamedBoth : joinOn (one nothing 0 0xFF 0x10) (one nothing 0 0xFF 0x11) (room 96) ≡ (done 96, two 0xFF 0x10 0xFF 0x11)
   pub unnamedFirst : joinOn (one nothing 0 0xFF 0x10) (one nothing 0 0x04 0x11) (room 96) ≡ (done 96, two 0xFF 0x10 0x04 0x11)
   pub unnamedSecond : joinOn (one nothing 0 0x04 0x10) (one nothing 0 0xFF 0x11) (room 96) ≡ (done 96, two 0x04 0x10 0xFF 0x11)
+  -- names are compared by all eight bits, and each with those of all places
+  pub nearly : joinOn (one nothing 0 0x04 0x10) (one nothing 0 0x84 0x11) (room 96) ≡ (done 96, two 0x04 0x10 0x84 0x11)
+  pub crossed : logicalNames (decode (joinedFile (two 0x04 0x10 0x05 0x11) (two 0x05 0x12 0x04 0x13))) ≡ 0x04 ∷ 0x05 ∷ 0xFF ∷ 0xFF ∷ []
+  -- bytes that stand where no operation is pending
+  pub freeBytes : joinOn (one free 0 0x04 0x10) (one free 0 0x05 0x11) (room 96) ≡ (done 96, two 0x04 0x10 0x05 0x11)
   -- equal names of the second are both turned where the first holds that name, and both kept where it does not; those of the first stay
   pub bothTurned : logicalNames (decode (joinedFile (one nothing 0 0x04 0x10) (two 0x04 0x11 0x04 0x12))) ≡ 0x04 ∷ 0xFF ∷ 0xFF ∷ []
   pub bothKept : logicalNames (decode (joinedFile (one nothing 0 0x04 0x10) (two 0x05 0x11 0x05 0x12))) ≡ 0x04 ∷ 0x05 ∷ 0x05 ∷ []
@@ -98,6 +106,7 @@ pub record Joins : Type 0 where
   pub wideBoth : joinOn (oneWide nothing 0 0x04 0x10) (oneWide nothing 0 0x05 0x11) (room 128) ≡ (done 128, twoWide 0x04 0x10 0x05 0x11)
   -- either file empty, and both
   pub emptyFirst : joinOn (empty nothing) (one pending 1 0x04 0x10) (room 56) ≡ (done 56, one nothing 0 0x04 0x10)
+  pub emptyNarrow : joinOn (empty nothing) (oneWide pending 1 0x04 0x10) (room 56) ≡ (done 56, one nothing 0 0x04 0x10)
   pub emptySecond : joinOn (one pending 1 0x04 0x10) (empty nothing) (room 56) ≡ (done 56, one nothing 0 0x04 0x10)
   pub emptyBoth : joinOn (empty pending) (empty pending) (room 16) ≡ (done 16, empty nothing)
 
@@ -106,6 +115,13 @@ pub record Joins : Type 0 where
 pub record Refusals : Type 0 where
   -- 29, also where the buffer is too short; 30 by the buffer
   pub sameName : joinOn (one nothing 0 0x04 0x10) (one nothing 0 0x05 0x10) (room 96) ≡ (refused 29, room 96)
+  -- also of sleepers of one logical name, at other places, and in files of two editions
+  pub asleep : joinGround (one nothing 1 0x04 0x10) (one nothing 1 0x04 0x10) (room 96) ≡ 29
+  pub elsewhere : joinGround (two 0x04 0x10 0x05 0x11) (two 0x06 0x12 0x07 0x10) (room 176) ≡ 29
+  pub acrossEditions : joinGround (one nothing 0 0x04 0x10) (oneWide nothing 0 0x05 0x10) (room 96) ≡ 29
+  -- and of no others: another series with the same serial number (byte 51 of `one`), or with the same remainder by 255
+  pub otherSeries : joinGround (one nothing 0 0x04 0x10) (set (one nothing 0 0x05 0x10) 51 0x08) (room 96) ≡ 0
+  pub sameRemainder : joinGround (one nothing 0 0x04 0x10) (set (one nothing 0 0x05 0x0F) 51 0x08) (room 96) ≡ 0
   pub namesFirst : joinGround (one nothing 0 0x04 0x10) (one nothing 0 0x05 0x10) [] ≡ 29
   pub tooShort : joinOn (one nothing 0 0x04 0x10) (one nothing 0 0x05 0x11) (room 95) ≡ (refused 30, room 95)
   pub tooShortWide : joinGround (oneWide nothing 0 0x04 0x10) (one nothing 0 0x05 0x11) (room 127) ≡ 30
@@ -134,6 +150,9 @@ joins =
       unnamedBoth = refl;
       unnamedFirst = refl;
       unnamedSecond = refl;
+      nearly = refl;
+      crossed = refl;
+      freeBytes = refl;
       bothTurned = refl;
       bothKept = refl;
       firstKept = refl;
@@ -141,6 +160,7 @@ joins =
       wideSecond = refl;
       wideBoth = refl;
       emptyFirst = refl;
+      emptyNarrow = refl;
       emptySecond = refl;
       emptyBoth = refl;
     }
@@ -150,6 +170,11 @@ unfolding joinOn joinGround joinGrounds joinedFile joined slavesJoined turned aw
 refusals =
     record {
       sameName = refl;
+      asleep = refl;
+      elsewhere = refl;
+      acrossEditions = refl;
+      otherSeries = refl;
+      sameRemainder = refl;
       namesFirst = refl;
       tooShort = refl;
       tooShortWide = refl;

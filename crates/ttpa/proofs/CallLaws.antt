@@ -60,12 +60,19 @@ use Rattle.screens.specs.declared.post.Posted.{Posted}
 use Rattle.screens.specs.declared.post.Posted.the-variants as posts
 use Rattle.screens.specs.declared.turn.Turned.{Turned}
 use Rattle.screens.specs.declared.turn.Turned.the-variants as turns
+use Rattle.line.specs.Rules.Patterns.{patternOn}
+use Rattle.line.specs.Inner.Answers.{classIn, readOf}
+use Rattle.line.specs.declared.pattern.PatternAnswer.{PatternAnswer}
+use Rattle.line.specs.declared.pattern.PatternAnswer.the-variants as patterns
+use Rattle.line.specs.declared.pattern.PatternClass.{PatternClass}
+use Rattle.line.specs.declared.pattern.PatternClass.the-variants as classes
 use Rattle.summary.specs.Inner.Answers.{filledOf, holderOf}
 use Rattle.summary.specs.declared.fill.Filling.{Filling}
 use Rattle.summary.specs.declared.fill.Filling.the-variants as fillings
 use Rattle.summary.specs.declared.holder.Holder.{Holder}
 use Rattle.summary.specs.declared.holder.Holder.the-variants as holders
 use Rattle.ttpa.specs.Rules.Calls.{lentAfter, checkCall, partBytes, readAddressCall, writeAddressCall, writeDataCall, roundCall, traceCall, ownerCall, convertCall, wordsOf, positionIn, startCall, stepSenders, stepWords, stepCall, fillCall, nobodyPlace, placeOf, holderCall, sliceOf, roundKeepingCall, stepKeepingCall, screensCall, postCall, noneWaited, turnScreen, turnSenders, turnCall, joinCall}
+use Rattle.ttpa.specs.Rules.Calls.{classNumber, patternCall}
 use Rattle.ttpa.specs.Inner.Told.{roundTold, stepTold}
 
 -- ---- the checker
@@ -356,3 +363,28 @@ module _ (file state answer : List ℕ) (senders screen : ℕ) {state′ answer�
   turn-serves {i} {mask} e =
       let r : (done (served i mask), state′, answer′, file′) ≡ turnOn state file answer = rw e at is in
       rw (← r)
+
+-- ---- a pattern of the line
+
+module _ {c : PatternClass} where
+  pub data-number : c ≡ classes.DataByte → 0 ≡ classNumber (classIn c)
+  unfolding classNumber classIn
+  data-number e = rw e
+
+  pub firework-number : c ≡ classes.Firework → 1 ≡ classNumber (classIn c)
+  unfolding classNumber classIn
+  firework-number e = rw e
+
+  pub broken-number : c ≡ classes.Broken → 2 ≡ classNumber (classIn c)
+  unfolding classNumber classIn
+  broken-number e = rw e
+
+module _ (pattern kind : ℕ) {a : PatternAnswer} (is : readOf a ≡ patternOn pattern) where
+  pub pattern-refuses : {why : Refusal} → a ≡ patterns.Refused why → (why .0, kind) ≡ patternCall pattern kind
+  unfolding patternCall numberIn lentAfter readOf
+  pattern-refuses {why} e = let r : refused (why .0) ≡ patternOn pattern = rw e at is in rw (← r)
+
+  pub pattern-reads :
+      {c : PatternClass} {n : ℕ} → a ≡ patterns.Read c → n ≡ classNumber (classIn c) → (0, n) ≡ patternCall pattern kind
+  unfolding patternCall numberIn lentAfter readOf
+  pattern-reads {c} e same = let r : done (classIn c) ≡ patternOn pattern = rw e at is in rw (← r, same)

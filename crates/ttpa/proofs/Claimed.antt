@@ -6,6 +6,7 @@ use Rattle.ttpa.specs.Claims.Conversion.{ConversionWritten, ConversionsC
 use Rattle.ttpa.specs.Claims.Turns.{ScreensStart, PostNumbers, TurnNumbers, PostTaken, ServedWaitsNoMore}
 use Rattle.ttpa.specs.Claims.Turns.{TurnsAreRounds, TurnKeepsSummary, FairOverCalls, PostedIsServed}
 use Rattle.ttpa.specs.Claims.Join.{JoinNumbers, JoinWritten, JoinLeft, JoinsConverted}
+use Rattle.ttpa.specs.Claims.Patterns.{PatternsTold, ParityTold, FlippedIsNotTold, ToldFireworksApart}
 use Rattle.ttpa.proofs.HolderLaws.{holder-tells-first}
 use Rattle.ttpa.proofs.Numbers.{refused-by-numbers}
 use Rattle.ttpa.proofs.Refusals.{refusals-alter-nothing}
@@ -13,6 +14,7 @@ use Rattle.ttpa.proofs.Conversion.{conversion-written, conversions-come
 use Rattle.ttpa.proofs.Turns.{screens-start, post-numbers, turn-numbers, post-taken-call, served-waits-no-more-call}
 use Rattle.ttpa.proofs.Turns.{turns-are-rounds, turn-keeps-summary-call, fair-over-calls, posted-is-served}
 use Rattle.ttpa.proofs.Joins.{join-numbers, join-written-call, join-left-call, joins-converted}
+use Rattle.ttpa.proofs.Patterns.{patterns-told, parity-told, flipped-is-not-told, told-fireworks-apart}
 
 pub held-refused-by-numbers : RefusedByNumbers
 held-refused-by-numbers = refused-by-numbers
@@ -73,3 +75,15 @@ held-join-left = join-left-call
 
 pub held-joins-converted : JoinsConverted
 held-joins-converted = joins-converted
+
+pub held-patterns-told : PatternsTold
+held-patterns-told = patterns-told
+
+pub held-parity-told : ParityTold
+held-parity-told = parity-told
+
+pub held-flipped-is-not-told : FlippedIsNotTold
+held-flipped-is-not-told = flipped-is-not-told
+
+pub held-told-fireworks-apart : ToldFireworksApart
+held-told-fireworks-apart = told-fireworks-apart

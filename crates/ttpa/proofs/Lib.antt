@@ -10,5 +10,8 @@ pub mod Turns
 pub mod TurnExamples
 -- what a join leaves
 pub mod Joins
+-- patterns of the line
+pub mod Patterns
+pub mod PatternExamples
 -- each claim with its theorem
 pub mod Claimed

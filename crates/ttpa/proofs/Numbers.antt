@@ -33,6 +33,8 @@ use Rattle.naming.specs.Rules.Step.{StepDone, stepGround, stepMade, stepOn, ste
 use Rattle.screens.specs.Rules.Screens.{Due, nobody, screen, readBy, due, readGrounds, postGround, postOn}
 use Rattle.screens.specs.Rules.Turn.{dueGrounds, stateGrounds, turnGround, turnMade, turnOn}
 use Rattle.ttpa.specs.Rules.Calls.{checkCall, readAddressCall, writeAddressCall, writeDataCall, roundCall, traceCall, ownerCall, convertCall, positionIn, startCall, stepCall, fillCall, holderCall, roundKeepingCall, stepKeepingCall, screensCall, postCall, turnCall, joinCall}
+use Rattle.line.specs.Rules.Patterns.{classOf, patternGround, patternOn}
+use Rattle.ttpa.specs.Rules.Calls.{patternCall}
 use Rattle.ttpa.specs.Claims.Numbers.{OneOf, here, later, ZeroOr, fileNumbers, RefusedByNumbers}
 
 -- ---- the first ground that holds
@@ -282,6 +284,10 @@ turn-numbers : (file state answer : List ℕ) → ZeroOr (turnGround state file 
 unfolding turnGround stateGrounds
 turn-numbers file state answer = due-numbers (due state) state file answer _
 
+pattern-returns : (pattern kind : ℕ) → ZeroOr (patternCall pattern kind .0) (31 ∷ [])
+unfolding patternCall patternOn patternGround numbersOf
+pattern-returns pattern kind = rw (result-number (patternGround pattern) (classOf pattern)) (first-number _)
+
 pub refused-by-numbers : RefusedByNumbers
 unfolding screensCall
 refused-by-numbers =
@@ -305,4 +311,5 @@ refused-by-numbers =
       screens = λ state. refl;
       post = λ state i name file record′. rw (post-number state i name file record′) (post-numbers state i name file record′);
       turn = λ file state answer senders told. rw (turn-number file state answer senders told) (turn-numbers file state answer);
+      pattern = pattern-returns;
     }

@@ -25,6 +25,8 @@ use Rattle.screens.specs.Rules.Screens.{readBy, postGround, postOn}
 use Rattle.screens.specs.Rules.Turn.{turnGround}
 use Rattle.screens.proofs.Grounds.{turn-refused}
 use Rattle.ttpa.specs.Rules.Calls.{lentAfter, partBytes, readAddressCall, writeAddressCall, writeDataCall, roundCall, traceCall, ownerCall, convertCall, positionIn, wordsOf, startCall, stepSenders, stepWords, stepCall, fillCall, placeOf, holderCall, sliceOf, roundKeepingCall, stepKeepingCall, postCall, turnScreen, turnSenders, turnCall, joinCall}
+use Rattle.line.specs.Rules.Patterns.{patternOn}
+use Rattle.ttpa.specs.Rules.Calls.{classNumber, patternCall}
 use Rattle.ttpa.specs.Claims.Refusals.{RefusalsAlterNothing}
 use Rattle.ttpa.proofs.Numbers.{turn-number}
 
@@ -161,7 +163,7 @@ turn-kept file state answer senders screen n some e =
     rw (turned, is)
 
 pub refusals-alter-nothing : RefusalsAlterNothing
-unfolding readAddressCall writeAddressCall writeAddress writeDataCall writeData startCall holderCall
+unfolding readAddressCall writeAddressCall writeAddress writeDataCall writeData startCall holderCall patternCall
 refusals-alter-nothing =
     record {
       readAddress = λ frame parts n some e. lent-kept (readAddress frame) parts partBytes n some e;
@@ -182,4 +184,5 @@ refusals-alter-nothing =
       stepKeeping = step-keeping-kept;
       post = post-kept;
       turn = turn-kept;
+      pattern = λ pattern kind n some e. lent-kept (patternOn pattern) kind classNumber n some e;
     }

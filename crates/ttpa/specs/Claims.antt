@@ -1,8 +1,9 @@
 -- Statements of theorems: that a refusal alters nothing lent, the numbers that the calls return, what the question tells, what conversions
--- leave, turns shared between screens, and what a join leaves.
+-- leave, turns shared between screens, what a join leaves, and the class of a line pattern.
 pub mod Refusals
 pub mod Numbers
 pub mod Holder
 pub mod Conversion
 pub mod Turns
 pub mod Join
+pub mod Patterns

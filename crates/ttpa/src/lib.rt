@@ -2,13 +2,14 @@
 // return. Each is the call of the layer below, with the answer as a number.
 ghost use mathlib.Core.Path.{_≡_};
 ghost use mathlib.Core.List.{[], _∷_};
-ghost use Rattle.ttpa.specs.Rules.Calls.{versionCall, checkCall, readAddressCall, writeAddressCall, writeDataCall, roundCall, traceCall, ownerCall, convertCall, wordsOf, positionIn, startCall, stepCall, fillCall, holderCall, roundKeepingCall, stepKeepingCall, screensCall, postCall, turnCall, joinCall};
+ghost use Rattle.ttpa.specs.Rules.Calls.{versionCall, checkCall, readAddressCall, writeAddressCall, writeDataCall, roundCall, traceCall, ownerCall, convertCall, wordsOf, positionIn, startCall, stepCall, fillCall, holderCall, roundKeepingCall, stepKeepingCall, screensCall, postCall, turnCall, joinCall, classNumber, patternCall};
 ghost use Rattle.ttpa.specs.Inner.Told.{roundTold, stepTold};
 ghost use Rattle.cluster.specs.Inner.Answers.{answerOf};
 ghost use Rattle.convert.specs.Inner.Answers.{editionIn};
 ghost use Rattle.naming.specs.Inner.Answers.{positionOf, steppedOf, runAfter};
 ghost use Rattle.file.specs.Rules.Results.{numberIn};
 ghost use Rattle.frame.specs.Inner.Answers.{writingOf};
+ghost use Rattle.line.specs.Inner.Answers.{classIn};
 ghost use Rattle.trace.specs.Rules.Run.{reportWords};
 ghost use Rattle.trace.specs.Inner.Answers.{reportIn};
 ghost use Rattle.trace.specs.Inner.Sent.{FewFrames};
@@ -31,6 +32,9 @@ use frame::writer::write_address;
 use frame::writer::write_data;
 use join::join::Joining;
 use join::join::join;
+use line::pattern::PatternAnswer;
+use line::pattern::PatternClass;
+use line::pattern::read_pattern;
 use naming::position::RunPosition;
 use naming::run::Started;
 use naming::run::Stepped;
@@ -55,7 +59,7 @@ use trace::run::TraceAnswer;
 use trace::run::run_trace;
 
 // The version, as one number: its three numbers stand in specs/Rules/Calls.
-const VERSION: u32 = 1300;
+const VERSION: u32 = 10000;
 
 // The parts of an address frame.
 pub const PARTS: usize = 5;
@@ -468,6 +472,37 @@ pub extern "C" fn ttpa_turn(
         } => {
             *senders = mask;
             *screen = served;
+            0
+        }
+    }
+}
+
+// The classes of a line pattern, as the header numbers them.
+const DATA_BYTE: u8 = 0;
+
+const FIREWORK: u8 = 1;
+
+const BROKEN: u8 = 2;
+
+fn class_number(class: PatternClass) -> u8
+    ensures { λ r. ⌜ r ≡ classNumber (classIn class) ⌝ }
+{
+    match class {
+        PatternClass::DataByte => DATA_BYTE,
+        PatternClass::Firework => FIREWORK,
+        PatternClass::Broken => BROKEN,
+    }
+}
+
+#[no_mangle]
+pub extern "C" fn ttpa_pattern(pattern: u16, kind: &mut u8) -> u8
+    ensures { λ r. ⌜ (r, now (kind .exit)) ≡ patternCall pattern (now (kind .entry)) ⌝ }
+{
+    let read = read_pattern(pattern);
+    match read {
+        PatternAnswer::Refused(why) => why.0,
+        PatternAnswer::Read(class) => {
+            *kind = class_number(class);
             0
         }
     }

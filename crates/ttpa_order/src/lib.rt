@@ -3,7 +3,7 @@
 // which has none, is not here.
 ghost use mathlib.Core.Path.{_≡_};
 ghost use mathlib.Core.List.{[], _∷_};
-ghost use Rattle.ttpa.specs.Rules.Calls.{checkCall, readAddressCall, writeAddressCall, writeDataCall, roundCall, traceCall, ownerCall, convertCall, startCall, stepCall, fillCall, holderCall, roundKeepingCall, stepKeepingCall, screensCall, postCall, turnCall, joinCall};
+ghost use Rattle.ttpa.specs.Rules.Calls.{checkCall, readAddressCall, writeAddressCall, writeDataCall, roundCall, traceCall, ownerCall, convertCall, startCall, stepCall, fillCall, holderCall, roundKeepingCall, stepKeepingCall, screensCall, postCall, turnCall, joinCall, patternCall};
 use screens::state::ScreenState;
 use ttpa::PARTS;
 use ttpa::REPORT_WORDS;
@@ -13,6 +13,7 @@ use ttpa::ttpa_fill;
 use ttpa::ttpa_holder;
 use ttpa::ttpa_join;
 use ttpa::ttpa_owner;
+use ttpa::ttpa_pattern;
 use ttpa::ttpa_post;
 use ttpa::ttpa_read_address;
 use ttpa::ttpa_round;
@@ -174,4 +175,10 @@ pub fn turn(
     ensures { λ r. ⌜ (r, now (senders .exit), now (screen .exit), now (state .exit), now (answer .exit), now (file .exit)) ≡ turnCall (now (file .entry)) (now (state .entry)) (now (answer .entry)) (now (senders .entry)) (now (screen .entry)) ⌝ }
 {
     ttpa_turn(file, state, answer, senders, screen)
+}
+
+pub fn pattern(pattern: u16, kind: &mut u8) -> u8
+    ensures { λ r. ⌜ (r, now (kind .exit)) ≡ patternCall pattern (now (kind .entry)) ⌝ }
+{
+    ttpa_pattern(pattern, kind)
 }

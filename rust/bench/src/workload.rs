@@ -7,7 +7,7 @@ use model::{closed_figures, encode_trace, post, screens, to_edition, Edition, MS
 use std::hint::black_box;
 
 /// The lines of the table.
-pub const TABLE: [&str; 51] = [
+pub const TABLE: [&str; 54] = [
     "check-32-2",
     "check-named-32",
     "check-most",
@@ -47,6 +47,9 @@ pub const TABLE: [&str; 51] = [
     "turn-none-32",
     "turn-as-rounds-32",
     "join-16-16",
+    "pattern-data",
+    "pattern-firework",
+    "pattern-broken",
     "wide-check-32-2",
     "wide-check-64-2",
     "wide-check-most",
@@ -144,6 +147,10 @@ pub enum Workload {
         second: Vec<u8>,
         buffer: Vec<u8>,
     },
+    /// The class of a pattern of the line.
+    Pattern {
+        pattern: u16,
+    },
 }
 
 pub enum WithSummary {
@@ -206,6 +213,7 @@ impl Workload {
             ["rounds", reads, slaves] => reads_as_rounds(number(reads)?, number(slaves)?),
             ["fill" | "holder" | "keeping", ..] => Workload::WithSummary(WithSummary::of(name)?),
             ["post" | "turn", ..] => Workload::of_screens(&words)?,
+            ["pattern", class] => Workload::Pattern { pattern: pattern_of(class)? },
             _ => return None,
         })
     }
@@ -312,6 +320,11 @@ impl Workload {
                     let mut length = 0;
                     accepted(engine.join(black_box(first), black_box(second), buffer, &mut length));
                     black_box((buffer, length));
+                }
+                Workload::Pattern { pattern } => {
+                    let mut kind = 0;
+                    accepted(engine.pattern(black_box(*pattern), &mut kind));
+                    black_box(kind);
                 }
             }
         }
@@ -421,6 +434,16 @@ fn reads_as_rounds(reads: usize, slaves: usize) -> Workload {
 
 /// The read that screens post: record 1 of 0x3D of one slave.
 const SHOWN: [u8; 3] = [0x11, 0x3D, 1];
+
+/// A pattern of this class: a data byte 0x55, an MSA, and 0x54 with an odd count of ones.
+fn pattern_of(class: &str) -> Option<u16> {
+    match class {
+        "data" => Some(0x055),
+        "firework" => Some(0x155),
+        "broken" => Some(0x054),
+        _ => None,
+    }
+}
 
 /// The screen that is next at the start, or the last one.
 fn screen(which: &str) -> Option<u8> {

@@ -3,7 +3,8 @@
 use crate::case::{Call, Outcome};
 use crate::draws::random::Random;
 use crate::draws::{
-    clusters, conversions, inputs, joins, owners, runs, screens, sleepers, summaries, traces, two_lists,
+    clusters, conversions, inputs, joins, owners, patterns, runs, screens, sleepers, summaries, traces,
+    two_lists,
 };
 use crate::engine::{Engine, Model};
 use crate::frames::MULTIPARTNER;
@@ -40,6 +41,7 @@ pub struct Amounts {
     /// Posts, and turns.
     pub screens: usize,
     pub joins: usize,
+    pub patterns: usize,
     pub runs: usize,
 }
 
@@ -58,6 +60,7 @@ impl Amounts {
         conversions: 10_000,
         screens: 40_000,
         joins: 10_000,
+        patterns: 20_000,
         runs: 65,
     };
 
@@ -76,6 +79,7 @@ impl Amounts {
             conversions: self.conversions * factor,
             screens: self.screens * factor,
             joins: self.joins * factor,
+            patterns: self.patterns * factor,
             runs: self.runs * factor,
         }
     }
@@ -95,6 +99,7 @@ impl Amounts {
             conversions: self.conversions / divisor,
             screens: self.screens / divisor,
             joins: self.joins / divisor,
+            patterns: self.patterns / divisor,
             runs: self.runs / divisor,
         }
     }
@@ -179,6 +184,7 @@ impl<'a> Campaign<'a> {
         conversions::conversions(self, amounts.conversions, &mut Random::from_seed(seed ^ 18));
         screens::posts_and_turns(self, amounts.screens, &mut Random::from_seed(seed ^ 19));
         joins::joins(self, amounts.joins, &mut Random::from_seed(seed ^ 20));
+        patterns::patterns(self, amounts.patterns, &mut Random::from_seed(seed ^ 21));
         self.runs(amounts.runs, seed);
         self.sorts_reached(&Sort::REACHED, amounts.rounds);
         self.sorts_reached(&Sort::REACHED_ABOUT_NAMES, amounts.rounds);
@@ -192,6 +198,7 @@ impl<'a> Campaign<'a> {
         self.sorts_reached(&Sort::REACHED_BY_CONVERSIONS, amounts.conversions);
         self.sorts_reached(&Sort::REACHED_BY_SCREENS, amounts.screens);
         self.sorts_reached(&Sort::REACHED_BY_JOINS, amounts.joins);
+        self.sorts_reached(&Sort::REACHED_BY_PATTERNS, amounts.patterns);
         self.sorts_reached(&Sort::REACHED_BY_RUNS, amounts.runs);
         self.sorts_reached(&Sort::REACHED_BY_TWO_LISTS, amounts.runs);
         self.reached();
@@ -499,6 +506,8 @@ fn difference(call: &Call, expected: &Outcome, got: &Outcome) -> Option<&'static
         Some("state")
     } else if expected.screen != got.screen {
         Some("screen")
+    } else if expected.class != got.class {
+        Some("class")
     } else {
         None
     }

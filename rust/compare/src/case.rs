@@ -30,6 +30,8 @@ const ROUND_KEEPING: &str = "round-keeping";
 const STEP_KEEPING: &str = "step-keeping";
 const TO_EDITION_1: &str = "to-edition-1";
 const TO_EDITION_2: &str = "to-edition-2";
+/// The kind of a case that holds the classes of the patterns from one on.
+const PATTERNS: &str = "patterns";
 /// The kind of a case that holds what the listing program writes.
 pub const LISTING: &str = "list";
 
@@ -111,6 +113,10 @@ pub enum Call {
         second: Vec<u8>,
         buffer_length: usize,
     },
+    /// A nine-bit pattern of the line.
+    Pattern {
+        pattern: u16,
+    },
 }
 
 /// Everything a call answers and leaves in lent memory; None is memory that was not lent.
@@ -132,6 +138,8 @@ pub struct Outcome {
     pub state: Option<FencedState>,
     /// The screen that a turn served.
     pub screen: Option<u8>,
+    /// The class of a line pattern.
+    pub class: Option<u8>,
 }
 
 impl Outcome {
@@ -188,6 +196,11 @@ impl Outcome {
         self.screen.filter(|_| self.number == 0)
     }
 
+    /// The class of a line pattern that was told.
+    pub fn told(&self) -> Option<u8> {
+        self.class.filter(|_| self.number == 0)
+    }
+
     /// Whether a byte of a slave's files is another than before: what lies behind the table, whose bytes tell who sleeps.
     pub fn alters_slaves(&self, before: &[u8]) -> bool {
         let files = slaves_place(before);
@@ -224,6 +237,7 @@ impl Call {
             Call::Post { .. } => "post",
             Call::Turn { .. } => "turn",
             Call::Join { .. } => "join",
+            Call::Pattern { .. } => "pattern",
         }
     }
 
@@ -246,7 +260,8 @@ impl Call {
             | Call::Start { .. }
             | Call::Holder { .. }
             | Call::Screens
-            | Call::Post { .. } => None,
+            | Call::Post { .. }
+            | Call::Pattern { .. } => None,
         }
     }
 
@@ -313,6 +328,7 @@ impl Call {
             Call::Join { first, second, .. } => {
                 engine.join(first, second, lent_bytes(&mut outcome.buffer), lent(&mut outcome.length))
             }
+            Call::Pattern { pattern } => engine.pattern(*pattern, lent(&mut outcome.class)),
         };
         outcome
     }
@@ -390,6 +406,7 @@ impl Call {
             Call::Screens => Outcome { state: Some(STATE_BEFORE), ..nothing },
             Call::Post { state, .. } => nothing.with_state(*state),
             Call::Turn { file, state, answer_length } => before_turn(file, *answer_length).with_state(*state),
+            Call::Pattern { .. } => Outcome { class: Some(FILL), ..nothing },
         }
     }
 
@@ -434,6 +451,10 @@ impl Call {
             Call::Screens => hex(&outcome.state_left()),
             Call::Post { .. } => told(hex(&outcome.state_left())),
             Call::Turn { .. } => turn_words(outcome),
+            Call::Pattern { .. } => match outcome.told() {
+                Some(class) => format!("{number} {class}"),
+                None => format!("{number}"),
+            },
         }
     }
 
@@ -512,6 +533,7 @@ impl Call {
                 second: bytes(second)?,
                 buffer_length: length.parse().ok()?,
             }),
+            ["pattern", pattern] => Some(Call::Pattern { pattern: pattern.parse().ok()? }),
             _ => None,
         }
     }
@@ -559,6 +581,7 @@ impl Call {
             Call::Join { first, second, buffer_length } => {
                 format!("{} {} {buffer_length}", hex(first), hex(second))
             }
+            Call::Pattern { pattern } => pattern.to_string(),
         }
     }
 }
@@ -582,6 +605,7 @@ pub fn hold_all(engine: &dyn Engine, text: &str) -> Held {
     for line in text.lines().filter(|line| kind_of(line) != LISTING) {
         let turned = match kind_of(line) {
             TWO => held.two_lists(engine, line),
+            PATTERNS => held.patterns(engine, line),
             _ => held.call(engine, line),
         };
         match turned {
@@ -612,6 +636,17 @@ impl Held {
         let (lists, runs) = two_lists::hold_against(engine, line)?;
         self.tally.note_two_lists(&lists, &runs);
         Ok(two_lists::hold_in_other_edition(engine, &lists, &runs))
+    }
+
+    /// A case about the patterns from one on: the class of each is a digit, and each is a call of its own.
+    fn patterns(&mut self, engine: &dyn Engine, line: &str) -> Result<Option<bool>, String> {
+        let (left, classes) = line.split_once(" = ").ok_or("a case has a '='")?;
+        let from = left.split_once(' ').and_then(|(_, from)| from.parse::<u16>().ok()).ok_or("no pattern")?;
+        for (pattern, class) in (from..).zip(classes.trim_end().chars()) {
+            let (call, outcome) = hold_against(engine, &format!("pattern {pattern} = 0 {class}"))?;
+            self.tally.note(&call, &outcome);
+        }
+        Ok(None)
     }
 }
 

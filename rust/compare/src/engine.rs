@@ -25,7 +25,12 @@ pub struct Turn<'a> {
 /// The screen served where none waited.
 pub const NO_SCREEN: u8 = 8;
 
-/// One implementation of the nineteen calls. 0 is "carried out", every other number a refusal.
+/// The classes of a line pattern.
+pub const DATA_BYTE: u8 = 0;
+pub const FIREWORK: u8 = 1;
+pub const BROKEN: u8 = 2;
+
+/// One implementation of the twenty-one calls. 0 is "carried out", every other number a refusal.
 pub trait Engine {
     /// What the comparison says it ran against.
     fn name(&self) -> &'static str;
@@ -70,6 +75,7 @@ pub trait Engine {
     fn post(&self, state: &mut State, screen: u8, read: [u8; 3]) -> u8;
     fn turn(&self, file: &mut [u8], state: &mut State, answer: &mut [u8], told: Turn) -> u8;
     fn join(&self, first: &[u8], second: &[u8], buffer: &mut [u8], length: &mut u64) -> u8;
+    fn pattern(&self, pattern: u16, kind: &mut u8) -> u8;
 }
 
 /// The documents read as plain Rust.
@@ -195,6 +201,10 @@ impl Engine for Model {
 
     fn join(&self, first: &[u8], second: &[u8], buffer: &mut [u8], length: &mut u64) -> u8 {
         number(model::join(first, second, buffer).map(|bytes| *length = bytes as u64))
+    }
+
+    fn pattern(&self, pattern: u16, kind: &mut u8) -> u8 {
+        number(model::pattern(pattern).map(|class| *kind = class.number()))
     }
 }
 
@@ -327,6 +337,10 @@ impl Engine for Plain {
     fn join(&self, first: &[u8], second: &[u8], buffer: &mut [u8], length: &mut u64) -> u8 {
         plain::join(first, second, buffer, length)
     }
+
+    fn pattern(&self, pattern: u16, kind: &mut u8) -> u8 {
+        plain::pattern(pattern, kind)
+    }
 }
 
 /// The engine as it is linked.
@@ -434,5 +448,9 @@ impl Engine for Library {
 
     fn join(&self, first: &[u8], second: &[u8], buffer: &mut [u8], length: &mut u64) -> u8 {
         ttpa::calls::join(first, second, buffer, length)
+    }
+
+    fn pattern(&self, pattern: u16, kind: &mut u8) -> u8 {
+        ttpa::calls::pattern(pattern, kind)
     }
 }

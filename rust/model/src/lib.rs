@@ -1,5 +1,5 @@
-//! Document 01 ("The TTP/A cluster tester: file, rounds and naming run"), with the requests of document 02
-//! that have landed, as plain safe Rust.
+//! Document 01 ("The TTP/A cluster tester: file, rounds and naming run"), with the fourteen requests of
+//! document 02, as plain safe Rust.
 //!
 //! Written from the documents, in the order of document 01, for reading and not for speed: a cluster file is
 //! taken apart into a [`Cluster`], the rules work on slaves and records, and the cluster is written out again.
@@ -18,6 +18,7 @@ mod listing;
 mod multipartner;
 mod naming;
 mod owner;
+mod pattern;
 mod round;
 mod screens;
 mod slaves;
@@ -37,6 +38,7 @@ pub use join::join;
 pub use listing::listing;
 pub use naming::{start, step, End, Run};
 pub use owner::{owner, senders_of};
+pub use pattern::{pattern, PatternClass};
 pub use round::{round, Answer, ANSWER_BYTES};
 pub use screens::{post, screens, turn, Served, State, SCREENS, STATE_BYTES};
 pub use summary::{fill, first_holder, holder, round_keeping, step_keeping};

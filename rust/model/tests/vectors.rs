@@ -141,6 +141,15 @@ fn vectors_of_request_13_hold() {
 }
 
 #[test]
+fn vectors_of_request_14_hold() {
+    let about_summaries = ["fill", "holder", "round-keeping", "step-keeping"];
+    let about_editions = ["to-edition-1", "to-edition-2"];
+    let others = ["join", "owner", "pattern", "post", "step", "trace", "turn", "two"];
+    let kinds = [&about_summaries[..], &about_editions, &others].concat();
+    assert_eq!(kinds_that_hold(include_str!("data/request-14.txt")), with(&kinds));
+}
+
+#[test]
 fn cases_of_our_own_hold() {
     assert!(!kinds_that_hold(include_str!("data/cases.txt")).is_empty());
 }

@@ -1,4 +1,4 @@
-//! The calls of document 01, with the requests of document 02 that have landed, as an engineer who cares for
+//! The calls of document 01, with the fourteen requests of document 02, as an engineer who cares for
 //! speed writes them: on the bytes in place, one walk over the file a call, no copy of it and no allocation.
 //! It is the measure for the engine's speed, and is itself compared with the model.
 //!
@@ -15,6 +15,7 @@ mod multipartner;
 mod naming;
 mod nested;
 mod owner;
+mod pattern;
 mod screens;
 mod summary;
 mod survey;
@@ -25,6 +26,7 @@ pub use frames::{read_address, write_address, write_data};
 pub use join::join;
 pub use naming::{start, step};
 pub use owner::owner;
+pub use pattern::pattern;
 pub use screens::{post, screens, turn};
 pub use summary::{fill, holder, round_keeping, step_keeping};
 pub use trace::{trace, trace_in_nested_loops};

@@ -80,3 +80,8 @@ fn the_edges_of_screens_hold() {
 fn the_edges_of_joins_hold() {
     edges::joins::hold(&Plain { nested: false });
 }
+
+#[test]
+fn the_edges_of_patterns_hold() {
+    edges::patterns::hold(&Plain { nested: false });
+}

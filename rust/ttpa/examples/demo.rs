@@ -5,16 +5,18 @@
 //! the last one by a second list, while other rounds go on in between, tells before and after it who holds a name, runs a
 //! captured trace, plans who sends in which slot, has a slot multiplexed, puts the cluster to sleep and wakes it, converts
 //! the file to edition 2 and back, serves three screens in turn, joins the file with that of a second segment and names
-//! whom the join left unnamed, and prints what happened. c/demo.c does the same and prints the same.
+//! whom the join left unnamed, reads the patterns of a frame on the line, and prints what happened. c/demo.c does the same
+//! and prints the same.
 
 use std::fs::File;
 use std::io::Read;
 use std::process::ExitCode;
 use ttpa::{
-    join, to_edition, Address, Edition, End, Owners, RecordRead, Report, Run, Screens, Senders, Summary,
-    TtpaError, ANSWER_BYTES, EDITION_1_FILE_BYTES, FILE_CONFIGURATION, FILE_DOCUMENTATION, FIREWORK_MSA,
-    FIREWORK_MSD, FIREWORK_ROUND_2, FRAME_BYTES, MOST_FILE_BYTES, MOST_OWNER_BYTES, NAME_BROADCAST,
-    NAME_UNNAMED, OPERATION_EXECUTE, OPERATION_READ, OPERATION_WRITE, RECORD_SLEEP, WIDENED_BYTES,
+    join, pattern, to_edition, Address, Edition, End, Owners, PatternClass, RecordRead, Report, Run, Screens,
+    Senders, Summary, TtpaError, ANSWER_BYTES, EDITION_1_FILE_BYTES, FILE_CONFIGURATION, FILE_DOCUMENTATION,
+    FIREWORK_MSA, FIREWORK_MSD, FIREWORK_ROUND_2, FRAME_BYTES, MOST_FILE_BYTES, MOST_OWNER_BYTES,
+    NAME_BROADCAST, NAME_UNNAMED, OPERATION_EXECUTE, OPERATION_READ, OPERATION_WRITE, RECORD_SLEEP,
+    WIDENED_BYTES,
 };
 
 const ROUND_2: [u8; 1] = [FIREWORK_ROUND_2];
@@ -334,6 +336,20 @@ fn post(screens: &mut Screens, screen: u8, name: u8) -> Result<(), TtpaError> {
     screens.post(screen, &RecordRead { name, file: FILE_DOCUMENTATION, record: 2 })
 }
 
+/// An address frame as the line monitor hands it over, each byte with its parity bit: 55 02 01 F4 01 A3. A bit of the fourth
+/// is flipped, so that it is broken. Then a number that is no pattern.
+fn show_line() {
+    for nine_bits in [0x155, 0x102, 0x101, 0x1F5, 0x101, 0x0A3, 0x200] {
+        let told = match pattern(nine_bits) {
+            Ok(PatternClass::DataByte) => "data byte".to_string(),
+            Ok(PatternClass::Firework) => "firework".to_string(),
+            Ok(PatternClass::Broken) => "broken".to_string(),
+            Err(error) => error.to_string(),
+        };
+        println!("pattern {nine_bits:03X}: {told}");
+    }
+}
+
 /// What a tester that knows edition 1 alone says of a file with the right mark: 1 by its length, or 3 by byte 2.
 fn older_ground(file: &[u8]) -> u8 {
     let ground = match file {
@@ -426,6 +442,7 @@ fn main() -> ExitCode {
     }
     cluster.show_screens();
     cluster.show_join();
+    show_line();
     let mut short = [0; ANSWER_BYTES - 1];
     print_verdict("a short answer buffer", ttpa::round(&mut cluster.file, &ROUND_2, &mut short));
     print_verdict("the file as it is now", ttpa::check(&cluster.file));

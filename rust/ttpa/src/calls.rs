@@ -67,6 +67,13 @@ pub const NOBODY: u64 = u64::MAX;
 /// The screen that [`turn`] writes where none waited.
 pub const NO_SCREEN: u8 = 8;
 
+/// The class that [`pattern`] writes of a data byte.
+pub const DATA_BYTE: u8 = 0;
+/// The class that it writes of a firework.
+pub const FIREWORK: u8 = 1;
+/// The class that it writes of a broken pattern.
+pub const BROKEN: u8 = 2;
+
 mod c {
     extern "C" {
         pub fn ttpa_version() -> u32;
@@ -160,6 +167,7 @@ mod c {
             room: usize,
             length: *mut u64,
         ) -> u8;
+        pub fn ttpa_pattern(pattern: u16, kind: *mut u8) -> u8;
     }
 }
 
@@ -363,4 +371,9 @@ pub fn join(first: &[u8], second: &[u8], out: &mut [u8], length: &mut u64) -> u8
             length,
         )
     }
+}
+
+/// Tells the class of a nine-bit pattern of the line: 0, or 31. On 0 it is [`DATA_BYTE`], [`FIREWORK`] or [`BROKEN`].
+pub fn pattern(pattern: u16, kind: &mut u8) -> u8 {
+    unsafe { c::ttpa_pattern(pattern, kind) }
 }

@@ -65,6 +65,8 @@ pub enum TtpaError {
     SharedPhysicalName,
     /// 30: the joined file has more slaves or bytes than its edition, which is the first file's, or than the buffer has bytes.
     JoinedLimits,
+    /// 31: the pattern is above 511.
+    Pattern,
     // .ci/refusals writes to here
     /// A number that this edition of the crate does not know.
     Other(u8),
@@ -72,7 +74,7 @@ pub enum TtpaError {
 
 /// The variants in the order of their numbers, from 1.
 // .ci/refusals writes from here: numbered
-const NUMBERED: [TtpaError; 30] = [
+const NUMBERED: [TtpaError; 31] = [
     TtpaError::FileSize,
     TtpaError::Mark,
     TtpaError::Edition,
@@ -103,6 +105,7 @@ const NUMBERED: [TtpaError; 30] = [
     TtpaError::ScreenWaiting,
     TtpaError::SharedPhysicalName,
     TtpaError::JoinedLimits,
+    TtpaError::Pattern,
 ];
 // .ci/refusals writes to here
 
@@ -189,6 +192,7 @@ impl TtpaError {
             TtpaError::JoinedLimits => {
                 "the joined cluster file has more slaves or bytes than its edition may have, or more bytes than the buffer"
             }
+            TtpaError::Pattern => "the line pattern is above 511, and so has more than nine bits",
             TtpaError::Other(_) => "refused on a ground that this version has no text for",
             // .ci/refusals writes to here
         }
@@ -256,7 +260,8 @@ mod tests {
         assert_eq!(TtpaError::ScreenWaiting.number(), 28);
         assert_eq!(TtpaError::SharedPhysicalName.number(), 29);
         assert_eq!(TtpaError::JoinedLimits.number(), 30);
-        assert_eq!(TtpaError::Other(31).number(), 31);
+        assert_eq!(TtpaError::Pattern.number(), 31);
+        assert_eq!(TtpaError::Other(32).number(), 32);
         // .ci/refusals writes to here
     }
 }

@@ -1,6 +1,7 @@
 //! The TTP/A cluster engine for Rust programs: check a cluster file, read and write frames, carry out
 //! rounds on the file, name its slaves, run captured traces, write the owner file, tell who holds a name, convert the file
-//! between its two editions, serve the reads of several screens in turn, join the files of two clusters.
+//! between its two editions, serve the reads of several screens in turn, join the files of two clusters, tell the class of a
+//! nine-bit pattern of the line.
 //!
 //! The engine keeps no state, never allocates and always returns. Everything it works on is lent to it for
 //! the time of one call. A call that refuses alters nothing it was lent.
@@ -29,6 +30,7 @@ mod edition;
 mod error;
 mod join;
 mod owner;
+mod pattern;
 mod run;
 mod screens;
 mod summary;
@@ -40,6 +42,7 @@ pub use edition::{to_edition, Edition};
 pub use error::TtpaError;
 pub use join::join;
 pub use owner::{owner, Owners, MOST_OWNER_BYTES};
+pub use pattern::{pattern, PatternClass};
 pub use run::{End, Run};
 pub use screens::{RecordRead, Screens, Served};
 pub use summary::{round_keeping, Summary};

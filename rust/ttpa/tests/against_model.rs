@@ -5,7 +5,9 @@ use compare::campaign::agrees_with_model;
 use compare::case::hold_all;
 use compare::edges;
 use compare::engine::{self, Engine, ReportWords, RunWords, State, Summary, Turn};
-use ttpa::{calls, Address, Edition, End, RecordRead, Report, Run, Screens, Senders, Served, TtpaError};
+use ttpa::{
+    calls, Address, Edition, End, PatternClass, RecordRead, Report, Run, Screens, Senders, Served, TtpaError,
+};
 
 /// The safe functions in the form of the C calls.
 struct Wrapper;
@@ -155,6 +157,16 @@ impl Engine for Wrapper {
     fn join(&self, first: &[u8], second: &[u8], buffer: &mut [u8], length: &mut u64) -> u8 {
         number(ttpa::join(first, second, buffer).map(|written| *length = written as u64))
     }
+
+    fn pattern(&self, pattern: u16, kind: &mut u8) -> u8 {
+        number(ttpa::pattern(pattern).map(|class| {
+            *kind = match class {
+                PatternClass::DataByte => engine::DATA_BYTE,
+                PatternClass::Firework => engine::FIREWORK,
+                PatternClass::Broken => engine::BROKEN,
+            }
+        }))
+    }
 }
 
 /// The summary that owns these names; none where there are fewer than the count, or more than a file has slaves. Such a
@@ -191,6 +203,7 @@ fn the_safe_functions_give_the_kept_results() {
         include_str!("../../model/tests/data/request-11.txt"),
         include_str!("../../model/tests/data/request-12.txt"),
         include_str!("../../model/tests/data/request-13.txt"),
+        include_str!("../../model/tests/data/request-14.txt"),
     ] {
         let held = hold_all(&Wrapper, text);
         assert!(held.passed > 0);
@@ -256,4 +269,9 @@ fn the_edges_of_screens_hold() {
 #[test]
 fn the_edges_of_joins_hold() {
     edges::joins::hold(&Wrapper);
+}
+
+#[test]
+fn the_edges_of_patterns_hold() {
+    edges::patterns::hold(&Wrapper);
 }

@@ -20,7 +20,7 @@ use Rattle.demand.specs.Claims.Calls.{CCall, GivenBytes, Memory, returne
 -- ---- each call
 
 -- the number returned and all lent memory are the same, but for the file, which is the converted form of the one that the call leaves on
--- the file itself. The calls that take no file are the three of frames, ttpa_start, ttpa_holder, ttpa_screens, ttpa_post
+-- the file itself. The calls that take no file are the three of frames, ttpa_start, ttpa_holder, ttpa_screens, ttpa_post, ttpa_pattern
 -- and ttpa_version.
 pub record CallsAlike (f : List ℕ) (e : ℕ) : Type 0 where
   pub check : checkCall (inEdition f e) ≡ checkCall f

@@ -6,8 +6,10 @@ use mathlib.Core.Path.{_≡_}
 use mathlib.Core.Logic.{_≢_}
 use mathlib.Core.List.{List}
 use lib.ListN.{length, getD, take}
+use Rattle.file.specs.Rules.Bytes.{Bytes}
 use Rattle.file.specs.Rules.Cluster.{Slave, noSlave, physicalName}
 use Rattle.file.specs.Rules.Decode.{decode}
+use Rattle.file.specs.Rules.Editions.{inEdition}
 use Rattle.file.specs.Rules.Grounds.{fileGround}
 use Rattle.file.specs.Claims.Edition.{NoEdition}
 use Rattle.join.specs.Rules.Joined.{joinedFile}
@@ -36,6 +38,12 @@ pub data TooLarge (f g out : List ℕ) : Type 0 where
   bytesOfOne : getD f 2 0 ≡ 1 → 32768 < length (joinedFile f g) → TooLarge f g out
   bytesOfTwo : getD f 2 0 ≡ 2 → 65536 < length (joinedFile f g) → TooLarge f g out
   buffer : length out < length (joinedFile f g) → TooLarge f g out
+
+-- the joined file's length, whether or not 30 refuses it: the first's, and that of the second's form in the first's edition, one header of
+-- 16 or of 24 bytes less
+pub record JoinedLength : Type 0 where
+  pub inOne : (f g : List ℕ) → Bytes f → fileGround f ≡ 0 → getD f 2 0 ≡ 1 → length (joinedFile f g) + 16 ≡ length f + length (inEdition g 1)
+  pub inTwo : (f g : List ℕ) → Bytes f → fileGround f ≡ 0 → getD f 2 0 ≡ 2 → length (joinedFile f g) + 24 ≡ length f + length (inEdition g 2)
 
 -- the first file's own grounds, then the second's, then 29, then 30
 pub record GroundsInOrder : Type 0 where

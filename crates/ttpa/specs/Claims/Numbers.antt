@@ -4,7 +4,7 @@ use Prim.Native.Nat.{ℕ}
 use mathlib.Core.Path.{_≡_}
 use mathlib.Core.List.{List, [], _∷_, _++_}
 use Rattle.file.specs.Rules.Bytes.{Bytes}
-use Rattle.ttpa.specs.Rules.Calls.{checkCall, readAddressCall, writeAddressCall, writeDataCall, roundCall, traceCall, ownerCall, convertCall, startCall, stepCall, fillCall, holderCall, roundKeepingCall, stepKeepingCall, screensCall, postCall, turnCall, joinCall}
+use Rattle.ttpa.specs.Rules.Calls.{checkCall, readAddressCall, writeAddressCall, writeDataCall, roundCall, traceCall, ownerCall, convertCall, startCall, stepCall, fillCall, holderCall, roundKeepingCall, stepKeepingCall, screensCall, postCall, turnCall, joinCall, patternCall}
 
 pub data OneOf : ℕ → List ℕ → Type 0 where
   here : {n : ℕ} {ns : List ℕ} → OneOf n (n ∷ ns)
@@ -58,3 +58,5 @@ pub record RefusedByNumbers : Type 0 where
   pub turn :
       (file state answer : List ℕ) (senders screen : ℕ) →
       ZeroOr (turnCall file state answer senders screen .0) (27 ∷ 18 ∷ 14 ∷ fileNumbers ++ 9 ∷ [])
+  -- "31, a pattern above 511, checked first" (document 02, job 14)
+  pub pattern : (pattern kind : ℕ) → ZeroOr (patternCall pattern kind .0) (31 ∷ [])

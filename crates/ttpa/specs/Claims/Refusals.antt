@@ -5,7 +5,7 @@ use Prim.Native.Nat.{ℕ}
 use mathlib.Core.Path.{_≡_}
 use mathlib.Core.Logic.{_≢_}
 use mathlib.Core.List.{List}
-use Rattle.ttpa.specs.Rules.Calls.{readAddressCall, writeAddressCall, writeDataCall, roundCall, traceCall, ownerCall, convertCall, startCall, stepCall, fillCall, holderCall, roundKeepingCall, stepKeepingCall, postCall, turnCall, joinCall}
+use Rattle.ttpa.specs.Rules.Calls.{readAddressCall, writeAddressCall, writeDataCall, roundCall, traceCall, ownerCall, convertCall, startCall, stepCall, fillCall, holderCall, roundKeepingCall, stepKeepingCall, postCall, turnCall, joinCall, patternCall}
 
 pub record RefusalsAlterNothing : Type 0 where
   -- the five parts
@@ -60,3 +60,5 @@ pub record RefusalsAlterNothing : Type 0 where
       (file state answer : List ℕ) (senders screen n : ℕ) → n ≢ 0 →
       turnCall file state answer senders screen .0 ≡ n →
       turnCall file state answer senders screen ≡ (n, senders, screen, state, answer, file)
+  -- the class
+  pub pattern : (pattern kind n : ℕ) → n ≢ 0 → patternCall pattern kind .0 ≡ n → patternCall pattern kind ≡ (n, kind)

@@ -17,13 +17,14 @@ use Rattle.naming.specs.Rules.Run.{Position, startOver}
 use Rattle.naming.specs.Rules.Step.{StepDone, ended, made, stepOn, stepKeeping}
 use Rattle.screens.specs.Rules.Screens.{readBy, fresh, postOn}
 use Rattle.screens.specs.Rules.Turn.{Turn, idle, served, turnOn}
+use Rattle.line.specs.Rules.Patterns.{PatternClass, dataByte, firework, broken, patternOn}
 
 -- the version of these definitions, which is that of include/ttpa.h: the gate compares the three numbers
 unfoldable pub versionMajor : ℕ
-versionMajor = 0
+versionMajor = 1
 
 unfoldable pub versionMinor : ℕ
-versionMinor = 13
+versionMinor = 0
 
 unfoldable pub versionPatch : ℕ
 versionPatch = 0
@@ -169,3 +170,15 @@ unfoldable pub turnCall : List ℕ → List ℕ → List ℕ → ℕ → ℕ →
 turnCall file state answer senders screen =
     let r = turnOn state file answer in
     (numberIn (r .0), turnSenders (r .0) senders, turnScreen (r .0) screen, r .1, r .2, r .3)
+
+-- ---- a nine-bit pattern of the line (document 02, job 14)
+
+-- its class by the header's TTPA_DATA_BYTE, TTPA_FIREWORK and TTPA_BROKEN
+unfoldable pub classNumber : PatternClass → ℕ
+classNumber dataByte = 0
+classNumber firework = 1
+classNumber broken = 2
+
+-- number and class
+unfoldable pub patternCall : ℕ → ℕ → ℕ × ℕ
+patternCall pattern kind = let r = patternOn pattern in (numberIn r, lentAfter r kind classNumber)

@@ -1,11 +1,12 @@
 //! Random inputs: numbers, clusters, frames, positions, traces, owner files, summaries, sleepers, conversions, screens,
-//! pairs of files to be joined, whole naming runs and pairs of lists.
+//! pairs of files to be joined, line patterns, whole naming runs and pairs of lists.
 
 pub mod clusters;
 pub mod conversions;
 pub mod inputs;
 pub mod joins;
 pub mod owners;
+pub mod patterns;
 pub mod random;
 pub mod runs;
 pub mod screens;

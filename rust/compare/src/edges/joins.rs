@@ -15,7 +15,7 @@ const ROOM: usize = 65_536;
 const EDITIONS: [u8; 2] = [1, 2];
 
 /// So many edges there are, runs and calls on the same memory aside.
-const EDGES: usize = 1_154;
+const EDGES: usize = 1_155;
 
 pub fn hold(engine: &dyn Engine) {
     let groups = [
@@ -396,7 +396,17 @@ fn nearly_shared() -> Vec<Edge> {
         let (first, second) = cut(&all, 1);
         becomes("names that differ in a bit", &first.laid_out(1), &second.laid_out(2), &all.laid_out(1))
     };
-    (0..64).map(edge).collect()
+    (0..64).map(edge).chain([alike()]).collect()
+}
+
+/// 32 and 32 names that are equal modulo 255, by which a search may tell names apart at first sight, and not equal.
+fn alike() -> Edge {
+    let mut all = unnamed(64, 0);
+    for (slave, place) in all.slaves.iter_mut().zip(1u32..) {
+        slave.1[1].1[8..12].copy_from_slice(&(255 * place * place).to_be_bytes());
+    }
+    let (first, second) = cut(&all, 32);
+    becomes("names alike and not equal", &first.laid_out(2), &second.laid_out(2), &all.laid_out(2))
 }
 
 /// Files that 1 to 8 turn away: the first one's number, then the second's, then 29 and 30.

@@ -9,6 +9,7 @@ pub mod logical_names;
 pub mod multiplexed;
 pub mod naming_steps;
 pub mod owners;
+pub mod patterns;
 pub mod screens;
 pub mod sleepers;
 pub mod step_grounds;

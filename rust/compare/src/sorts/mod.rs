@@ -6,6 +6,7 @@ pub mod joins;
 pub mod names;
 pub mod owners;
 pub mod passes;
+pub mod patterns;
 pub mod screens;
 pub mod sleepers;
 mod sort;
@@ -18,7 +19,7 @@ pub mod two_lists;
 use crate::case::{Call, Outcome};
 pub use sort::{Reached, Sort};
 
-/// What any call is an example of. Traces, owner files and pairs of lists are sorted where they are drawn.
+/// What any call is an example of. Traces, owner files, pairs of lists and flipped bits are sorted where they are drawn.
 pub fn of(call: &Call, outcome: &Outcome) -> Vec<Sort> {
     let mut sorts = Vec::from_iter(Sort::of(call, outcome));
     sorts.extend(names::sorts(call, outcome));
@@ -30,5 +31,6 @@ pub fn of(call: &Call, outcome: &Outcome) -> Vec<Sort> {
     sorts.extend(conversions::sorts(call, outcome));
     sorts.extend(screens::sorts(call, outcome));
     sorts.extend(joins::sorts(call, outcome));
+    sorts.extend(patterns::sorts(call, outcome));
     sorts
 }

@@ -397,6 +397,18 @@ pub enum Sort {
     FirstBeforeSecond,
     FirstBeforeJoin,
     SecondBeforeJoin,
+    /// A firework's pattern with so many of its bits flipped.
+    Flipped(u8),
+    /// One of them with four flipped, which is read as a firework.
+    FlippedToFirework,
+    /// A pattern with the byte of a firework and an even count of ones.
+    FireworkByteAsData,
+    /// 511, 512 and 65,535.
+    LastPattern,
+    FirstAbove,
+    GreatestPattern,
+    /// A pattern above 511 whose lower nine bits are a firework's.
+    FireworkAbove,
 }
 
 /// A sort, one in how many calls has to be of it, and what is printed of it.
@@ -706,6 +718,21 @@ impl Sort {
         (Sort::SecondBeforeJoin, 200, "joins of a second file that is turned away, no buffer"),
     ];
 
+    /// Sorts of line patterns, with one in how many of those asked for.
+    pub const REACHED_BY_PATTERNS: [Reached; 11] = [
+        (Sort::Flipped(0), 20, "fireworks on the line"),
+        (Sort::Flipped(1), 20, "fireworks with one bit flipped"),
+        (Sort::Flipped(2), 20, "fireworks with two bits flipped"),
+        (Sort::Flipped(3), 20, "fireworks with three bits flipped"),
+        (Sort::Flipped(4), 20, "fireworks with four bits flipped"),
+        (Sort::FlippedToFirework, 1_000, "fireworks that four flipped bits make another of"),
+        (Sort::FireworkByteAsData, 200, "bytes of fireworks with even parity"),
+        (Sort::LastPattern, 1_000, "patterns of nine ones"),
+        (Sort::FirstAbove, 1_000, "patterns 512"),
+        (Sort::GreatestPattern, 1_000, "patterns 65,535"),
+        (Sort::FireworkAbove, 20, "patterns above 511 whose nine bits are a firework's"),
+    ];
+
     /// Sorts of calls in naming runs, with one in how many of the runs asked for.
     pub const REACHED_BY_RUNS: [Reached; 9] = [
         (Sort::RunOverMoreSlaves, 10, "naming runs over more than 32 slaves"),
@@ -770,8 +797,8 @@ impl Sort {
     ];
 
     /// What a call is an example of; logical names, naming steps, their grounds, multiplexed entries, traces, owner files,
-    /// summaries, sleepers, conversions, screens and joins are sorted in `names`, `passes`, `grounds`, `turns`, `traces`,
-    /// `owners`, `summaries`, `sleepers`, `conversions`, `screens` and `joins`.
+    /// summaries, sleepers, conversions, screens, joins and line patterns are sorted in `names`, `passes`, `grounds`, `turns`,
+    /// `traces`, `owners`, `summaries`, `sleepers`, `conversions`, `screens`, `joins` and `patterns`.
     pub fn of(call: &Call, outcome: &Outcome) -> Option<Sort> {
         match call {
             Call::Read { frame } if outcome.number == 12 && is_unfolded(frame) => Some(Sort::UnfoldedNotRead),

@@ -1,14 +1,14 @@
 //! How many calls were made, by kind, number and, of those carried out, what they did.
 
 use crate::case::{Call, Outcome};
-use crate::engine::{ReportWords, RunWords, NO_SCREEN};
+use crate::engine::{ReportWords, RunWords, DATA_BYTE, FIREWORK, NO_SCREEN};
 use crate::two_lists::{Runs, TwoLists, TWO};
 use model::{check, Cluster, Edition, End, FileNumber, Pending, Slave, MSA, MSD};
 use std::collections::BTreeMap;
 
 /// Each kind of call with what it can do when it is carried out, and the numbers that can refuse it. A whole run is a
 /// kind of its own, and so are the runs over two lists.
-const OUTCOMES: [(&str, &[&str], &[u8]); 21] = [
+const OUTCOMES: [(&str, &[&str], &[u8]); 22] = [
     ("check", &[PLAIN], CHECK_NUMBERS),
     ("read", &["read", "write", "execute"], READ_NUMBERS),
     ("write", &["read", "write", "execute"], WRITE_NUMBERS),
@@ -28,6 +28,7 @@ const OUTCOMES: [(&str, &[&str], &[u8]); 21] = [
     ("post", &[PLAIN], POST_NUMBERS),
     ("turn", &["answered", "silent", "none-waiting"], TURN_NUMBERS),
     ("join", &["no-slave", "none-turned", "some-turned"], JOIN_NUMBERS),
+    ("pattern", &["data-byte", "firework", "broken"], PATTERN_NUMBERS),
     (TWO, &[EMPTY_LIST, ALL_NAMED, USED_UP], &[]),
     (RUN, &[ALL_NAMED, USED_UP], &[]),
 ];
@@ -95,6 +96,7 @@ const TO_EDITION_2_NUMBERS: &[u8] = &[1, 2, 3, 4, 5, 6, 7, 8, 26];
 const POST_NUMBERS: &[u8] = &[27, 28, 18, 14];
 const TURN_NUMBERS: &[u8] = &[27, 18, 14, 1, 2, 3, 4, 5, 6, 7, 8, 9];
 const JOIN_NUMBERS: &[u8] = &[1, 2, 3, 4, 5, 6, 7, 8, 1, 2, 3, 4, 5, 6, 7, 8, 29, 30];
+const PATTERN_NUMBERS: &[u8] = &[31];
 // .ci/refusals writes to here
 
 /// A call that does one thing only.
@@ -230,6 +232,11 @@ fn done(call: &Call, outcome: &Outcome) -> &'static str {
         Call::Turn { .. } if outcome.served() == Some(NO_SCREEN) => "none-waiting",
         Call::Turn { .. } => either(outcome.mask() != 0, "answered", "silent"),
         Call::Join { second, .. } => in_join(second, outcome.bytes_written()),
+        Call::Pattern { .. } => match outcome.told() {
+            Some(DATA_BYTE) => "data-byte",
+            Some(FIREWORK) => "firework",
+            _ => "broken",
+        },
     }
 }
 

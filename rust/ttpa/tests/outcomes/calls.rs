@@ -167,3 +167,13 @@ fn the_length_of_a_join_is_written_on_success_only() {
     assert_eq!(calls::join(M10, &second, &mut out, &mut length), 0);
     assert_eq!((length, out[3], &out[175..]), (176, 4, &[0xA1, FILL, FILL, FILL, FILL][..]));
 }
+
+#[test]
+fn the_class_of_a_pattern_is_written_on_success_only() {
+    let mut kind = FILL;
+    assert_eq!((calls::pattern(512, &mut kind), kind), (31, FILL));
+    assert_eq!((calls::pattern(0x155, &mut kind), kind), (0, calls::FIREWORK));
+    assert_eq!((calls::pattern(u16::MAX, &mut kind), kind), (31, calls::FIREWORK));
+    assert_eq!((calls::pattern(0x055, &mut kind), kind), (0, calls::DATA_BYTE));
+    assert_eq!((calls::pattern(511, &mut kind), kind), (0, calls::BROKEN));
+}

@@ -6,7 +6,7 @@ use ttpa::TtpaError;
 
 /// Each ground with its number in the documents and a word that its text cannot do without.
 // .ci/refusals writes from here: grounds
-const GROUNDS: [(TtpaError, u8, &str); 31] = [
+const GROUNDS: [(TtpaError, u8, &str); 32] = [
     (TtpaError::FileSize, 1, "65,536"),
     (TtpaError::Mark, 2, "mark"),
     (TtpaError::Edition, 3, "edition"),
@@ -37,7 +37,8 @@ const GROUNDS: [(TtpaError, u8, &str); 31] = [
     (TtpaError::ScreenWaiting, 28, "waiting already"),
     (TtpaError::SharedPhysicalName, 29, "of the other"),
     (TtpaError::JoinedLimits, 30, "joined"),
-    (TtpaError::Other(31), 31, "no text"),
+    (TtpaError::Pattern, 31, "above 511"),
+    (TtpaError::Other(32), 32, "no text"),
 ];
 // .ci/refusals writes to here
 

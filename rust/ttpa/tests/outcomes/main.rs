@@ -7,6 +7,7 @@ mod errors;
 mod frames;
 mod joins;
 mod owners;
+mod patterns;
 mod rounds;
 mod runs;
 mod screens;

@@ -1,0 +1,4 @@
+-- Rules: what a reader must believe of line patterns. Claims: what is proved of them beside the contract. Inner: the code's answers.
+pub mod Rules
+pub mod Claims
+pub mod Inner

@@ -1,0 +1,2 @@
+-- What document 02 says of nine-bit line patterns.
+pub mod Patterns
