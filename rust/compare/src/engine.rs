@@ -30,7 +30,7 @@ pub const DATA_BYTE: u8 = 0;
 pub const FIREWORK: u8 = 1;
 pub const BROKEN: u8 = 2;
 
-/// One implementation of the twenty-one calls. 0 is "carried out", every other number a refusal.
+/// One implementation of the twenty calls, the version's aside. 0 is "carried out", every other number a refusal.
 pub trait Engine {
     /// What the comparison says it ran against.
     fn name(&self) -> &'static str;
