@@ -3,13 +3,17 @@
 #
 #   rust/bench.sh              plain Rust alone
 #   rust/bench.sh library      the library beside it, with ratios (TTPA_LIB_DIR: the folder of libttpa.a)
-#   rust/bench.sh [library] growth    how check, rounds and naming grow
+#   rust/bench.sh [library] growth [PICTURE]
+#                              how the calls grow over slaves, entries, frames and bytes; where a file is named for it,
+#                              also as a picture (SVG), and as tables at the end
 #
 # The column nested is plain Rust with the form that document 01 names for multipartner rounds: loops over
-# slots and entries with a labelled exit; it is told apart in those lines only.
+# slots and entries with a labelled exit; it is told apart in those lines only. The column floor is a limit for
+# programs that test one thing at a time, by the rule of bench/src/floor.rs; it is worked out and not measured.
 #
-# A call's loop and dispatch, about 15 instructions, are counted on both sides.
-set -eu
+# A call's loop and dispatch, about 15 instructions, are counted on both sides, and not in the floor.
+set -euo pipefail
+start=$PWD
 cd "$(dirname "$0")"
 for tool in cargo valgrind; do
     if ! command -v "$tool" >/dev/null; then
@@ -17,16 +21,19 @@ for tool in cargo valgrind; do
         exit 1
     fi
 done
-engines=plain
+library=
 features=()
 if [ "${1:-}" = library ]; then
-    engines="plain library"
+    library=yes
     features=(--features library)
     shift
 fi
 list=--list
+picture=
 if [ "${1:-}" = growth ]; then
     list=--growth
+    picture=${2:-}
+    case $picture in [!/]*) picture=$start/$picture ;; esac
 fi
 cargo build --quiet --offline --release -j1 -p bench "${features[@]}"
 bench=${CARGO_TARGET_DIR:-target}/release/bench
@@ -40,22 +47,49 @@ instructions() {
 # Instructions of one workload.
 cost() {
     local times=20 once twice
-    case $2 in *naming-* | trace-* | rounds-*) times=1 ;; esac
+    case $2 in *naming-* | *trace-* | rounds-*) times=1 ;; esac
     once=$(instructions "$1" "$2" "$times")
     twice=$(instructions "$1" "$2" $((2 * times)))
     echo $(((twice - once) / times))
 }
 
-printf '%-26s %12s %12s' workload plain nested
-[ "$engines" = plain ] && echo || printf ' %12s %8s %8s\n' library /plain /nested
-for workload in $("$bench" $list); do
-    plain=$(cost plain "$workload")
+# A ratio of two numbers.
+ratio() { awk -v a="$1" -v b="$2" 'BEGIN { printf " %13.2f", a / b }'; }
+
+# The columns of one workload.
+line() {
+    local floor plain nested measured
+    floor=$("$bench" --floor "$1")
+    plain=$(cost plain "$1")
     nested=$plain
-    case $workload in partner-* | wide-partner-* | multiplexed-*) nested=$(cost nested "$workload") ;; esac
-    printf '%-26s %12d %12d' "$workload" "$plain" "$nested"
-    if [ "$engines" = plain ]; then
-        echo
-    else
-        cost library "$workload" | awk -v p="$plain" -v n="$nested" '{ printf " %12d %8.2f %8.2f\n", $1, $1 / p, $1 / n }'
+    case $1 in partner-* | wide-partner-* | multiplexed-*) nested=$(cost nested "$1") ;; esac
+    printf '%-26s %10d %10d %10d' "$1" "$floor" "$plain" "$nested"
+    if [ "$library" ]; then
+        measured=$(cost library "$1")
+        printf ' %10d' "$measured"
+        ratio "$measured" "$plain"
+        ratio "$measured" "$nested"
+        ratio "$measured" "$floor"
     fi
-done
+    ratio "$plain" "$floor"
+    echo
+}
+
+table() {
+    local workload
+    printf '%-26s %10s %10s %10s' workload floor plain nested
+    if [ "$library" ]; then printf ' %10s %13s %13s %13s' library library/plain library/nested library/floor; fi
+    printf ' %13s\n' plain/floor
+    for workload in $("$bench" "$list"); do line "$workload"; done
+}
+
+if [ "$picture" ]; then
+    measured=$(mktemp)
+    trap 'rm -f "$measured"' EXIT
+    table | tee "$measured"
+    "$bench" --picture <"$measured" >"$picture"
+    echo
+    "$bench" --tables <"$measured"
+else
+    table
+fi

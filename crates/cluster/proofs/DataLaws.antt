@@ -27,6 +27,7 @@ use Rattle.cluster.specs.Rules.Grounds.{writePending}
 use Rattle.cluster.specs.Inner.Effects.{dataEffect}
 use Rattle.cluster.specs.Inner.Carried.{sendersTo, Heard, Carried}
 use Rattle.cluster.specs.Inner.Duties.{readingAt, writingAt, executionAt, dutyAt, dutyFor, dutyEffect}
+use Rattle.cluster.specs.Inner.Unheard.{putsToSleep}
 use Rattle.cluster.proofs.Bus.{counting-start, counting-done}
 use Rattle.cluster.proofs.Hearing.{heard-nobody, heard-mask, inSlot-nil}
 use Rattle.cluster.proofs.Kept.{kept-raised, after-shape}
@@ -224,7 +225,7 @@ module _ (c : Cluster) (d : CodeDuty) (a : RecordAddress) (bytes : List ℕ) {ol
 -- ---- who is awake afterwards
 
 -- everyone, but after a sleep
-awake-alike : (o : Duty) (c : Cluster) → ((s : Slave) → fallsAsleep o s ≡ false) → rested nothing c ≡ rested o c
+pub awake-alike : (o : Duty) (c : Cluster) → ((s : Slave) → fallsAsleep o s ≡ false) → rested nothing c ≡ rested o c
 unfolding rested
 awake-alike o c up = ap (withSlaves c) (map-alike (c .slaves))
   where
@@ -241,30 +242,31 @@ awake-alike o c up = ap (withSlaves c) (map-alike (c .slaves))
 pub writing-wakes : (name n r : ℕ) (c : Cluster) → rested nothing c ≡ rested (writing name n r) c
 writing-wakes name n r c = awake-alike (writing name n r) c (λ s. unfold fallsAsleep in refl)
 
-module _ (c : Cluster) (d : CodeDuty) (a : RecordAddress) {file : List ℕ} where
-  woken : {e : CodeDuty} → d ≡ e → ((s : Slave) → fallsAsleep (dutyAt e a) s ≡ false) → Becomes file (rested nothing c) → Becomes file (rested (dutyAt d a) c)
-  woken {e} is up h =
-      subst (λ (x : CodeDuty). Becomes file (rested (dutyAt x a) c)) (sym is)
-      (subst (λ (x : Cluster). Becomes file x) (awake-alike (dutyAt e a) c up) h)
+-- by what a duty of the code is
+pub stays-up : (a : RecordAddress) (d : CodeDuty) → putsToSleep d ≡ false → (s : Slave) → fallsAsleep (dutyAt d a) s ≡ false
+unfolding putsToSleep dutyAt fallsAsleep
+stays-up a duties.Nothing up s = refl
+stays-up a duties.Read up s = refl
+stays-up a duties.Write up s = refl
+stays-up a duties.Compare up s = refl
+stays-up a duties.Baptize up s = refl
+stays-up a duties.Sleep up s = clash refl up
 
-  pub nothing-wakes : d ≡ duties.Nothing → Becomes file (rested nothing c) → Becomes file (rested (dutyAt d a) c)
-  nothing-wakes is h = woken is (λ s. unfold dutyAt fallsAsleep in refl) h
+is-sleep : (a : RecordAddress) (d : CodeDuty) → putsToSleep d ≡ true → dutyAt d a ≡ sleeping (nameIn (a .name))
+unfolding putsToSleep dutyAt
+is-sleep a duties.Nothing down = clash down refl
+is-sleep a duties.Read down = clash down refl
+is-sleep a duties.Write down = clash down refl
+is-sleep a duties.Compare down = clash down refl
+is-sleep a duties.Baptize down = clash down refl
+is-sleep a duties.Sleep down = refl
 
-  pub read-wakes : d ≡ duties.Read → Becomes file (rested nothing c) → Becomes file (rested (dutyAt d a) c)
-  read-wakes is h = woken is (λ s. unfold dutyAt fallsAsleep in refl) h
+module _ (c : Cluster) (a : RecordAddress) (d : CodeDuty) {t : Bool} (is : t ≡ putsToSleep d) {file : List ℕ} where
+  pub duty-wakes : t ≡ false → Becomes file (rested nothing c) → Becomes file (rested (dutyAt d a) c)
+  duty-wakes up h = subst (λ (x : Cluster). Becomes file x) (awake-alike (dutyAt d a) c (stays-up a d (sym is ∙ up))) h
 
-  pub write-wakes : d ≡ duties.Write → Becomes file (rested nothing c) → Becomes file (rested (dutyAt d a) c)
-  write-wakes is h = woken is (λ s. unfold dutyAt fallsAsleep in refl) h
-
-  pub compare-wakes : d ≡ duties.Compare → Becomes file (rested nothing c) → Becomes file (rested (dutyAt d a) c)
-  compare-wakes is h = woken is (λ s. unfold dutyAt fallsAsleep in refl) h
-
-  pub baptize-wakes : d ≡ duties.Baptize → Becomes file (rested nothing c) → Becomes file (rested (dutyAt d a) c)
-  baptize-wakes is h = woken is (λ s. unfold dutyAt fallsAsleep in refl) h
-
-  pub sleep-rests : d ≡ duties.Sleep → Becomes file (rested (sleeping (nameIn (a .name))) c) → Becomes file (rested (dutyAt d a) c)
-  unfolding dutyAt
-  sleep-rests is h = rw is h
+  pub duty-rests : t ≡ true → Becomes file (rested (sleeping (nameIn (a .name))) c) → Becomes file (rested (dutyAt d a) c)
+  duty-rests down h = subst (λ (o : Duty). Becomes file (rested o c)) (sym (is-sleep a d (sym is ∙ down))) h
 
 -- ---- the file with the epoch raised
 

@@ -1,17 +1,17 @@
 -- Laws of the code's entries against those of the rules, one for each way through the functions on them.
 -- Assumes nothing.
-use Prim.Native.Nat.{ℕ, suc, _+_, _-_, _%_, _≤_, _<_}
+use Prim.Native.Nat.{ℕ, suc, _+_, _*_, _-_, _/_, _%_, _≤_, _<_}
 use native.Mathlib.Omega.{arith}
 use mathlib.Core.Path.{_≡_, refl, sym, ap, _∙_}
 use mathlib.Core.List.{List}
 use mathlib.Core.Bool.{Bool, true, false, not}
 use lib.ListN.{getD}
-use lib.Dec.{leb, ltb, eqb}
-use borrow.Author.Tests.{lt-ltb, le-ltb, le-leb, lt-leb, leb-true, leb-false, ltb-true, ltb-false, eqb-true, eqb-false, eq-eqb, ne-eqb, not-true, not-false}
+use lib.Dec.{ltb, eqb}
+use borrow.Author.Tests.{lt-ltb, le-ltb, le-leb, lt-leb, leb-false, ltb-true, ltb-false, eqb-true, eqb-false, eq-eqb, ne-eqb}
 use Rattle.file.specs.Rules.Order.{both, either}
-use Rattle.file.proofs.Order.{byCase, clash, both-left, both-right, both-true, both-false-left, both-false-right, both-next, either-right, either-false}
+use Rattle.file.proofs.Order.{byCase, clash, both-right, both-true, both-false-left, both-false-right, both-next, either-right, either-false}
 use Rattle.cluster.specs.Rules.Entries.{Entry, entryOf, entryThere, isMultiplexed, receives, sends, ends, covers, inTurn, outOfTurn, eligible}
-use Rattle.cluster.specs.Inner.EntryForm.{codeOf, multiplexOf, multiplexIn, OperationIs, entryFrom, evaluated, isPast, Action, ending, sending, receiving, resting, actionBy, actionFrom}
+use Rattle.cluster.specs.Inner.EntryForm.{codeOf, multiplexOf, multiplexIn, OperationIs, entryFrom, evaluated, Action, ending, sending, receiving, resting, actionBy, actionFrom}
 use Rattle.cluster.specs.declared.entry.Entry as Code
 use Rattle.cluster.specs.declared.entry.EntryOperation.{EntryOperation}
 use Rattle.cluster.specs.declared.entry.EntryAction.{EntryAction}
@@ -92,22 +92,6 @@ module _ (e : Code.Entry) {a : EntryAction} (is : actionFrom a ≡ actionBy (cod
   unfolding actionFrom isEnding
   rest-goes-on q = end-by e resting is (ap actionFrom q)
 
--- ---- the slots that an entry covers
-
-pub covers-early : (e : Code.Entry) (slot : ℕ) → slot < e .slot → false ≡ covers (entryFrom e) slot
-unfolding covers entryFrom
-covers-early e slot h = sym (both-false-left _ (lt-leb _ _ h))
-
-covers-test : (start count slot : ℕ) → start ≤ slot → ltb (slot - start) count ≡ ltb slot (start + count)
-covers-test start count slot h =
-    byCase (ltb slot (start + count))
-    (λ e. rw e (lt-ltb (slot - start) count (omega (arith, ltb-true slot (start + count) e))))
-    (λ e. rw e (le-ltb (slot - start) count (omega (arith, ltb-false slot (start + count) e))))
-
-pub covers-late : (e : Code.Entry) (slot : ℕ) → e .slot ≤ slot → ltb (slot - e .slot) (e .length) ≡ covers (entryFrom e) slot
-unfolding covers entryFrom
-covers-late e slot h = covers-test (e .slot) (e .length) slot h ∙ sym (both-next _ (le-leb _ _ h))
-
 -- ---- whose turn it is
 
 -- an operation that is not multiplexed is always in turn
@@ -123,26 +107,88 @@ plain-turn epoch operation multiplex plain =
 pub multiplexed-as : {o : EntryOperation} {t : Bool} (v : EntryOperation) → o ≡ v → t ≡ isMultiplexed (codeOf v) → t ≡ isMultiplexed (codeOf o)
 multiplexed-as v q is = is ∙ ap (λ (x : EntryOperation). isMultiplexed (codeOf x)) (sym q)
 
--- an operation is in turn as the one that a match found it to be
-pub turns-as : (epoch : ℕ) {o : EntryOperation} {t : Bool} (v : EntryOperation) → o ≡ v → t ≡ inTurn epoch (codeOf v) (multiplexOf v) → t ≡ inTurn epoch (codeOf o) (multiplexOf o)
-turns-as epoch v q is = is ∙ ap (λ (x : EntryOperation). inTurn epoch (codeOf x) (multiplexOf x)) (sym q)
+-- a law of the multiplexed operations, one by one
+by-operation : (P : ℕ → Type 0) (n : ℕ) → 8 ≤ n → n < 16 → P 8 → P 9 → P 10 → P 11 → P 12 → P 13 → P 14 → P 15 → P n
+by-operation P n low high p₈ p₉ p₁₀ p₁₁ p₁₂ p₁₃ p₁₄ p₁₅ =
+    byCase (eqb n 8) (λ e. rw (eqb-true n 8 e) p₈) (λ e₈.
+    byCase (eqb n 9) (λ e. rw (eqb-true n 9 e) p₉) (λ e₉.
+    byCase (eqb n 10) (λ e. rw (eqb-true n 10 e) p₁₀) (λ e₁₀.
+    byCase (eqb n 11) (λ e. rw (eqb-true n 11 e) p₁₁) (λ e₁₁.
+    byCase (eqb n 12) (λ e. rw (eqb-true n 12 e) p₁₂) (λ e₁₂.
+    byCase (eqb n 13) (λ e. rw (eqb-true n 13 e) p₁₃) (λ e₁₃.
+    byCase (eqb n 14) (λ e. rw (eqb-true n 14 e) p₁₄) (λ e₁₄.
+    let beyond = above 10 (above 9 (above 8 low (eqb-false n 8 e₈)) (eqb-false n 9 e₉)) (eqb-false n 10 e₁₀) in
+    let last = above 14 (above 13 (above 12 (above 11 beyond (eqb-false n 11 e₁₁)) (eqb-false n 12 e₁₂)) (eqb-false n 13 e₁₃)) (eqb-false n 14 e₁₄) in
+    rw (fifteen last) p₁₅)))))))
+  where
+    fifteen : 15 ≤ n → n ≡ 15
+    fifteen l = omega (arith, high)
 
-turn-evaluated : (epoch operation multiplex : ℕ) → inTurn epoch operation (multiplexIn operation multiplex) ≡ inTurn epoch operation multiplex
-unfolding multiplexIn isMultiplexed
-turn-evaluated epoch operation multiplex =
-    byCase (isMultiplexed operation)
-    (λ t. rw t)
-    (λ t. plain-turn epoch operation _ t ∙ sym (plain-turn epoch operation multiplex t))
+-- two tests on numbers agree
+eqb-same : (a b c d : ℕ) → (a ≡ b → c ≡ d) → (c ≡ d → a ≡ b) → eqb a b ≡ eqb c d
+eqb-same a b c d there back =
+    byCase (eqb a b)
+    (λ e. e ∙ sym (eq-eqb c d (there (eqb-true a b e))))
+    (λ e. e ∙ sym (ne-eqb c d (λ q. eqb-false a b e (back q))))
+
+-- the turn of an entry of kind k and multiplex field m, by their bits
+pub turn-plain : (epoch k m : ℕ) → k < 128 → true ≡ inTurn epoch (k / 16) m
+turn-plain epoch k m low = sym (plain-turn epoch (k / 16) m (unfold isMultiplexed in lt-leb 8 (k / 16) (omega arith)))
+
+module _ (epoch k m : ℕ) (high : 128 ≤ k) (byte : k < 256) (field : m < 4) where
+  abbrev Turn : ℕ → Bool → Type 0
+  Turn n t = n ≡ k / 16 → t ≡ inTurn epoch n m
+
+  by-kind : (t : Bool) → Turn 8 t → Turn 9 t → Turn 10 t → Turn 11 t → Turn 12 t → Turn 13 t → Turn 14 t → Turn 15 t → t ≡ inTurn epoch (k / 16) m
+  by-kind t p₈ p₉ p₁₀ p₁₁ p₁₂ p₁₃ p₁₄ p₁₅ =
+      by-operation (λ (n : ℕ). Turn n t) (k / 16) (omega arith) (omega arith) p₈ p₉ p₁₀ p₁₁ p₁₂ p₁₃ p₁₄ p₁₅ refl
+
+  pub turn-other : (m ≡ epoch % 4 → ⊥) → false ≡ inTurn epoch (k / 16) m
+  unfolding inTurn either
+  turn-other other = by-kind false (λ q. fourth) (λ q. fourth) (λ q. low) (λ q. low) (λ q. fourth) (λ q. fourth) (λ q. upper) (λ q. upper)
+    where
+      fourth : false ≡ eqb m (epoch % 4)
+      fourth = sym (ne-eqb m (epoch % 4) other)
+
+      low : false ≡ eqb m (epoch % 8)
+      low = sym (ne-eqb m (epoch % 8) (λ e. other (omega arith)))
+
+      upper : false ≡ eqb (m + 4) (epoch % 8)
+      upper = sym (ne-eqb (m + 4) (epoch % 8) (λ e. other (omega arith)))
+
+  module _ (is : m ≡ epoch % 4) where
+    pub turn-fourth : k / 32 % 2 ≡ 0 → true ≡ inTurn epoch (k / 16) m
+    unfolding inTurn either
+    turn-fourth four =
+        by-kind true (λ q. here) (λ q. here) (λ q. absurd (omega arith)) (λ q. absurd (omega arith)) (λ q. here) (λ q. here) (λ q. absurd (omega arith)) (λ q. absurd (omega arith))
+      where
+        here : true ≡ eqb m (epoch % 4)
+        here = sym (eq-eqb m (epoch % 4) is)
+
+    pub turn-eighth : (k / 32 % 2 ≡ 0 → ⊥) → eqb (epoch / 4 % 2) (k / 64 % 2) ≡ inTurn epoch (k / 16) m
+    unfolding inTurn either
+    turn-eighth eight =
+        by-kind (eqb (epoch / 4 % 2) (k / 64 % 2)) (λ q. absurd (eight (omega arith))) (λ q. absurd (eight (omega arith))) (low (omega arith) (omega arith))
+        (low (omega arith) (omega arith)) (λ q. absurd (eight (omega arith))) (λ q. absurd (eight (omega arith))) (upper (omega arith)) (upper (omega arith))
+      where
+        halves : epoch % 8 ≡ epoch % 4 + 4 * (epoch / 4 % 2)
+        halves = omega arith
+
+        low : {n : ℕ} → 10 ≤ n → n < 12 → n ≡ k / 16 → eqb (epoch / 4 % 2) (k / 64 % 2) ≡ eqb m (epoch % 8)
+        low {n} l h q =
+            let first : k / 64 % 2 ≡ 0 = omega arith in
+            rw first (eqb-same (epoch / 4 % 2) 0 m (epoch % 8) (λ e. omega (arith, halves)) (λ e. omega (arith, halves)))
+
+        upper : {n : ℕ} → 14 ≤ n → n ≡ k / 16 → eqb (epoch / 4 % 2) (k / 64 % 2) ≡ eqb (m + 4) (epoch % 8)
+        upper {n} l q =
+            let second : k / 64 % 2 ≡ 1 = omega arith in
+            rw second (eqb-same (epoch / 4 % 2) 1 (m + 4) (epoch % 8) (λ e. omega (arith, halves)) (λ e. omega (arith, halves)))
 
 -- ---- the entries that may act in a slot
 
 -- the multiplex field plays no part where it is not evaluated
 abbrev pub Blind : (Entry → Bool) → Type 0
 Blind passed = (x : Entry) → passed (evaluated x) ≡ passed x
-
-pub turn-blind : (epoch : ℕ) → Blind (outOfTurn epoch)
-unfolding outOfTurn evaluated
-turn-blind epoch x = ap not (turn-evaluated epoch (x .operation) (x .multiplex))
 
 pub eligible-evaluated : (passed : Entry → Bool) → Blind passed → (x : Entry) (slot : ℕ) → eligible passed (evaluated x) slot ≡ eligible passed x slot
 unfolding eligible
@@ -155,63 +201,75 @@ pub eligible-covers : (passed : Entry → Bool) (e : Entry) (slot : ℕ) → cov
 unfolding eligible
 eligible-covers passed e slot out = both-false-left _ out
 
-module _ (epoch : ℕ) (e : Code.Entry) (slot : ℕ) {t : Bool} (cover : t ≡ covers (entryFrom e) slot) where
-  pub uncovered-not : not t ≡ true → false ≡ eligible (outOfTurn epoch) (entryFrom e) slot
-  uncovered-not out = sym (eligible-covers (outOfTurn epoch) (entryFrom e) slot (sym cover ∙ not-true t out))
+-- ---- an entry by its bytes, where they lie
 
-  pub covered-turn : not t ≡ false → {u : Bool} → u ≡ inTurn epoch (codeOf (e .operation)) (multiplexOf (e .operation)) → u ≡ eligible (outOfTurn epoch) (entryFrom e) slot
-  unfolding eligible outOfTurn entryFrom
-  covered-turn inside {u} turn = turn ∙ sym (both-next _ (sym cover ∙ not-false t inside) ∙ not-twice _)
-    where
-      not-twice : (b : Bool) → not (not b) ≡ b
-      not-twice true = refl
-      not-twice false = refl
+-- an end by its kind
+module _ (f : List ℕ) (at : ℕ) where
+  pub ends-low : getD f (at + 2) 0 < 96 → false ≡ ends (entryThere f at .operation)
+  unfolding ends entryThere entryOf
+  ends-low low =
+      let k : ℕ = getD f (at + 2) 0 in
+      sym (either-false (ne-eqb (k / 16) 6 (λ e. omega arith)) (ne-eqb (k / 16) 7 (λ e. omega arith)))
 
-  pub covered-plain : not t ≡ false → {m : Bool} → m ≡ isMultiplexed (codeOf (e .operation)) → not m ≡ true → true ≡ eligible (outOfTurn epoch) (entryFrom e) slot
-  covered-plain inside {m} is plain =
-      covered-turn inside (sym (plain-turn epoch (codeOf (e .operation)) (multiplexOf (e .operation)) (sym is ∙ not-true m plain)))
+  pub ends-from : 96 ≤ getD f (at + 2) 0 → ltb (getD f (at + 2) 0) 128 ≡ ends (entryThere f at .operation)
+  unfolding ends entryThere entryOf
+  ends-from from =
+      let k : ℕ = getD f (at + 2) 0 in
+      byCase (ltb k 128)
+      (λ t. rw t (byCase (eqb (k / 16) 6)
+      (λ e. rw e (unfold either in refl))
+      (λ e. sym (either-right _ (eq-eqb (k / 16) 7 (omega (arith, ltb-true k 128 t, eqb-false (k / 16) 6 e)))))))
+      (λ t. rw t (sym (either-false (ne-eqb (k / 16) 6 (λ e. omega (arith, ltb-false k 128 t))) (ne-eqb (k / 16) 7 (λ e. omega (arith, ltb-false k 128 t))))))
+
+  pub begun-there : {slot : ℕ} → entryThere f at .start ≤ slot → getD f (at + 3) 0 % 64 ≤ slot
+  unfolding entryThere entryOf
+  begun-there begun = begun
+
+  -- in a slot before its first, past its last, and in one that it covers
+  module _ (epoch : ℕ) (slot : ℕ) where
+    pub acts-early : slot < getD f (at + 3) 0 % 64 → false ≡ eligible (outOfTurn epoch) (entryThere f at) slot
+    acts-early early = sym (eligible-covers (outOfTurn epoch) (entryThere f at) slot (unfold covers entryThere entryOf in both-false-left _ (lt-leb (getD f (at + 3) 0 % 64) slot early)))
+
+    module _ (begun : getD f (at + 3) 0 % 64 ≤ slot) where
+      pub acts-late : getD f (at + 2) 0 % 16 < slot - getD f (at + 3) 0 % 64 → false ≡ eligible (outOfTurn epoch) (entryThere f at) slot
+      acts-late late = sym (eligible-covers (outOfTurn epoch) (entryThere f at) slot uncovered)
+        where
+          uncovered : covers (entryThere f at) slot ≡ false
+          uncovered = unfold covers entryThere entryOf in both-false-right _ (le-ltb slot (getD f (at + 3) 0 % 64 + (getD f (at + 2) 0 % 16 + 1)) (omega arith))
+
+      pub acts-turn : slot - getD f (at + 3) 0 % 64 ≤ getD f (at + 2) 0 % 16 → {t : Bool} → t ≡ inTurn epoch (getD f (at + 2) 0 / 16) (getD f (at + 3) 0 / 64)
+          → t ≡ eligible (outOfTurn epoch) (entryThere f at) slot
+      unfolding eligible covers outOfTurn entryThere entryOf
+      acts-turn inside turn =
+          let cover = both-true (le-leb (getD f (at + 3) 0 % 64) slot begun) (lt-ltb slot (getD f (at + 3) 0 % 64 + (getD f (at + 2) 0 % 16 + 1)) (omega arith)) in
+          turn ∙ sym (both-next _ cover ∙ not-twice _)
+        where
+          not-twice : (b : Bool) → not (not b) ≡ b
+          not-twice true = refl
+          not-twice false = refl
+
+      pub last-slot : eqb (slot - getD f (at + 3) 0 % 64) (getD f (at + 2) 0 % 16) ≡ eqb (slot - entryThere f at .start + 1) (entryThere f at .length)
+      unfolding entryThere entryOf
+      last-slot = eqb-same (slot - getD f (at + 3) 0 % 64) (getD f (at + 2) 0 % 16) (slot - getD f (at + 3) 0 % 64 + 1) (getD f (at + 2) 0 % 16 + 1) (λ e. omega arith) (λ e. omega arith)
 
 -- ---- the entries that no slot to come needs
 
--- an entry's last slot is small
-pub record Short (e : Code.Entry) : Type 0 where
-  pub some : 1 ≤ e .length
-  pub few : e .slot + e .length < 64 + 16
+module _ (passed : Entry → Bool) (e : Entry) (slot : ℕ) (begun : e .start ≤ slot) where
+  -- one that has begun and does not act never will
+  pub never-again : eligible passed e slot ≡ false → (later : ℕ) → slot ≤ later → eligible passed e later ≡ false
+  unfolding eligible covers
+  never-again rests later l =
+      byCase (ltb slot (e .start + e .length))
+      (λ t. both-false-right _ (both-false-rest (both-true (le-leb (e .start) slot begun) t) rests))
+      (λ t. both-false-left _ (both-false-right _ (le-ltb later (e .start + e .length) (omega (arith, ltb-false slot (e .start + e .length) t)))))
+    where
+      both-false-rest : {a b : Bool} → a ≡ true → both a b ≡ false → b ≡ false
+      both-false-rest {a} {b} holds fails = sym (both-next b holds) ∙ fails
 
-pub entry-short : (f : List ℕ) (at : ℕ) (e : Code.Entry) → entryFrom e ≡ evaluated (entryThere f at) → Short e
-unfolding entryFrom evaluated entryThere entryOf
-entry-short f at e is =
-    let start : e .slot ≡ getD f (at + 3) 0 % 64 = ap (λ (x : Entry). x .start) is in
-    let count : e .length ≡ getD f (at + 2) 0 % 16 + 1 = ap (λ (x : Entry). x .length) is in
-    record { some = omega arith; few = omega arith }
-
-module _ (e : Code.Entry) (slot : ℕ) (short : Short e) where
-  pub past-not-yet : slot ≤ e .slot + (e .length - 1) → isPast (entryFrom e) slot ≡ false
-  unfolding isPast entryFrom
-  past-not-yet l = both-false-left _ (lt-leb (e .slot + e .length) slot (omega (arith, short .some)))
-
-  module _ {t : Bool} (end : t ≡ ends (entryFrom e .operation)) where
-    pub past-end : t ≡ true → isPast (entryFrom e) slot ≡ false
-    unfolding isPast entryFrom
-    past-end stop = both-false-right _ (ap not (sym end ∙ stop))
-
-    pub past-over : t ≡ false → e .slot + (e .length - 1) < slot → isPast (entryFrom e) slot ≡ true
-    unfolding isPast entryFrom
-    past-over goes l = both-true (le-leb (e .slot + e .length) slot (omega (arith, short .some))) (ap not (sym end ∙ goes))
-
-module _ (e : Entry) (slot : ℕ) (past : isPast e slot ≡ true) where
-  pub past-goes-on : ends (e .operation) ≡ false
-  unfolding isPast
-  past-goes-on =
-      byCase (ends (e .operation))
-      (λ t. clash (rw t at (both-right (leb (e .start + e .length) slot) (not (ends (e .operation))) past)) refl)
-      (λ t. t)
-
-  pub past-covers : (later : ℕ) → slot ≤ later → covers e later ≡ false
-  unfolding isPast covers
-  past-covers later l =
-      let over : e .start + e .length ≤ slot = leb-true _ _ (both-left _ _ past) in
-      both-false-right (leb (e .start) later) (le-ltb later (e .start + e .length) (omega arith))
+  -- nor does one past its last slot
+  pub past-last : slot - e .start + 1 ≡ e .length → (later : ℕ) → slot + 1 ≤ later → eligible passed e later ≡ false
+  past-last last later l =
+      eligible-covers passed e later (unfold covers in both-false-right _ (le-ltb later (e .start + e .length) (omega arith)))
 
 -- ---- who sends and who receives
 

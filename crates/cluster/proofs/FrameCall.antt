@@ -2,7 +2,7 @@
 -- were.
 -- Assumes nothing.
 use Prim.Native.Nat.{ℕ, _≤_, _<_}
-use mathlib.Core.Path.{_≡_, refl, sym, _∙_, subst}
+use mathlib.Core.Path.{_≡_, refl, sym, ap, _∙_, subst}
 use mathlib.Core.List.{List, [], _∷_}
 use native.Mathlib.Omega.{arith}
 use borrow.Author.Tests.{eqb-true, eq-eqb, ne-eqb}
@@ -21,7 +21,7 @@ use Rattle.file.specs.declared.survey.FileAnswer.the-variants as answers
 use Rattle.file.specs.declared.types.Refusal.{Refusal}
 use Rattle.file.proofs.Order.{byCase}
 use Rattle.file.proofs.Surveyed.{survey-accepted, survey-becomes, survey-refused, placed-kept}
-use Rattle.frame.specs.Rules.Fireworks.{Round, multipartner, msd, msa, roundOf}
+use Rattle.frame.specs.Rules.Fireworks.{Round, multipartner, msd, msa, dataFirework, addressFirework, roundIn, roundOf}
 use Rattle.frame.specs.Rules.Grounds.{wrongFrameLength}
 use Rattle.frame.specs.Inner.Answers.{fireworkRound}
 use Rattle.frame.specs.declared.firework.Firework.{Firework}
@@ -31,10 +31,10 @@ use Rattle.cluster.specs.Rules.Grounds.{roundBy, groundsOn}
 use Rattle.cluster.specs.Inner.Grounds.{noFirework, fireworkSize, lengthFor, wrongLengthOn, wrongCheckOn, noOperationOn, broadcastReadOn, frameGround}
 use Rattle.cluster.specs.Rules.Round.{Effect, Answer, effectOf, frameOn, roundOn}
 use Rattle.cluster.specs.Inner.Effects.{multipartnerEffect}
-use Rattle.cluster.specs.Inner.Carried.{Carried, exchange, Exchanged}
+use Rattle.cluster.specs.Inner.Carried.{Carried, leftBy, Exchanged}
 use Rattle.cluster.proofs.Kept.{ClusterKept, kept-refl}
 use Rattle.cluster.proofs.Rounds.{frame-kept}
-use Rattle.cluster.proofs.FrameLaws.{exchange-refused, exchange-carried}
+use Rattle.cluster.proofs.FrameLaws.{exchange-refused, exchange-carried, first-of, never-multipartner}
 use Rattle.cluster.proofs.RoundNumbers.{multipartner-low}
 use Rattle.cluster.proofs.RoundCall.{file-refused, buffer-refused, exchanged-round}
 
@@ -45,52 +45,69 @@ unfolding roundBy
 round-by [] some = absurd (some refl)
 round-by (b ∷ bs) some = refl
 
+pub empty-opens : (frame : List ℕ) → length frame ≡ 0 → Round.noRound ≡ roundBy frame
+unfolding roundBy
+empty-opens [] z = refl
+empty-opens (b ∷ bs) z = absurd (omega arith)
+
+module _ (frame : List ℕ) {first : ℕ} (some : length frame ≡ 0 → ⊥) (is : first ≡ getD frame 0 0) where
+  pub address-opens : first ≡ addressFirework → msa ≡ roundBy frame
+  unfolding roundOf roundIn
+  address-opens e = rw (round-by frame some, ← is, e)
+
+  pub data-opens : first ≡ dataFirework → msd ≡ roundBy frame
+  unfolding roundOf roundIn
+  data-opens e = rw (round-by frame some, ← is, e)
+
+  pub byte-opens : (w : Firework) → fireworkRound w ≡ roundOf first → fireworkRound w ≡ roundBy frame
+  byte-opens w e = e ∙ ap roundOf is ∙ sym (round-by frame some)
+
 no-round-ground : (c : Cluster) (frame : List ℕ) → roundBy frame ≡ Round.noRound → 10 ≡ frameGround c frame
 unfolding frameGround groundsOn firstOf noFirework
 no-round-ground c frame e = rw e
 
-empty-round : (frame : List ℕ) → length frame ≡ 0 → roundBy frame ≡ Round.noRound
-unfolding roundBy
-empty-round [] z = refl
-empty-round (b ∷ bs) z = absurd (omega arith)
-
-pub frame-empty : (c : Cluster) (frame buffer : List ℕ) {f : List ℕ} → Becomes f c → length frame ≡ 0 → Exchanged c frame buffer buffer (refused 10) f
-frame-empty c frame buffer h z = exchange-refused c frame buffer h (no-round-ground c frame (empty-round frame z)) (λ e. omega arith)
-
-module _ (frame : List ℕ) (w : Firework) (some : length frame ≡ 0 → ⊥) (is : fireworkRound w ≡ roundOf (getD frame 0 0)) where
-  the-round : roundBy frame ≡ fireworkRound w
-  the-round = round-by frame some ∙ sym is
+module _ (frame : List ℕ) (w : Firework) (is : fireworkRound w ≡ roundBy frame) where
+  pub no-ground-ten : (c : Cluster) → w ≡ fireworks.None → 10 ≡ frameGround c frame
+  unfolding fireworkRound
+  no-ground-ten c e = no-round-ground c frame (sym (rw e at is))
 
   pub frame-none : (c : Cluster) (buffer : List ℕ) {f : List ℕ} → w ≡ fireworks.None → Becomes f c → Exchanged c frame buffer buffer (refused 10) f
-  unfolding fireworkRound
-  frame-none c buffer e h = exchange-refused c frame buffer h (no-round-ground c frame (rw e at the-round)) (λ z. omega arith)
+  frame-none c buffer e h = exchange-refused c frame buffer h (no-ground-ten c e) (λ z. omega arith)
 
   pub frame-address : w ≡ fireworks.Address → roundBy frame ≡ msa
   unfolding fireworkRound
-  frame-address e = rw e at the-round
+  frame-address e = sym (rw e at is)
 
   pub frame-data : w ≡ fireworks.Data → roundBy frame ≡ msd
   unfolding fireworkRound
-  frame-data e = rw e at the-round
+  frame-data e = sym (rw e at is)
 
   module _ {r : ℕ} (e : w ≡ fireworks.Multipartner r) where
-    round-is : roundBy frame ≡ multipartner r
+    pub round-is : roundBy frame ≡ multipartner r
     unfolding fireworkRound
-    round-is = rw e at the-round
+    round-is = sym (rw e at is)
 
     pub round-low : r < 0x10
-    round-low = multipartner-low (getD frame 0 0) (sym (round-by frame some) ∙ round-is)
+    round-low = multipartner-low (getD frame 0 0) (first-of frame (multipartner r) never-multipartner round-is)
+
+    pub ground-eleven : (c : Cluster) → (length frame ≡ fireworkSize → ⊥) → 11 ≡ frameGround c frame
+    unfolding frameGround groundsOn firstOf noFirework wrongLengthOn lengthFor wrongFrameLength
+    ground-eleven c other = rw (round-is, ne-eqb (length frame) fireworkSize other)
+
+    pub ground-none : (c : Cluster) → length frame ≡ fireworkSize → frameGround c frame ≡ 0
+    unfolding frameGround groundsOn firstOf noFirework wrongLengthOn lengthFor wrongFrameLength wrongCheckOn noOperationOn broadcastReadOn
+    ground-none c one = rw (round-is, eq-eqb (length frame) fireworkSize one)
+
+    pub frame-effect : (c : Cluster) → frameOn c frame ≡ multipartnerEffect c r
+    unfolding frameOn effectOf
+    frame-effect c = rw round-is
 
     pub frame-long : (c : Cluster) (buffer : List ℕ) {f : List ℕ} → Becomes f c → (length frame ≡ fireworkSize → ⊥) → Exchanged c frame buffer buffer (refused 11) f
-    unfolding frameGround groundsOn firstOf noFirework wrongLengthOn lengthFor wrongFrameLength
-    frame-long c buffer h other = exchange-refused c frame buffer h (rw (round-is, ne-eqb (length frame) fireworkSize other)) (λ z. omega arith)
+    frame-long c buffer h other = exchange-refused c frame buffer h (ground-eleven c other) (λ z. omega arith)
 
     pub frame-carried : (c : Cluster) (old : List ℕ) {new : List ℕ} {mask : ℕ} {f : List ℕ} → length frame ≡ fireworkSize → Carried (multipartnerEffect c r) (getD frame 0 0) old new mask f → Exchanged c frame old new (done mask) f
-    unfolding frameGround groundsOn firstOf noFirework wrongLengthOn lengthFor wrongFrameLength wrongCheckOn noOperationOn broadcastReadOn frameOn effectOf
     frame-carried c old {new} {mask} {f} one k =
-        let fits : frameGround c frame ≡ 0 = rw (round-is, eq-eqb (length frame) fireworkSize one) in
-        let effect : frameOn c frame ≡ multipartnerEffect c r = rw round-is in
-        exchange-carried c frame old fits (subst (λ (x : Effect). Carried x (getD frame 0 0) old new mask f) (sym effect) k)
+        exchange-carried c frame old (ground-none c one) (subst (λ (x : Effect). Carried x (getD frame 0 0) old new mask f) (sym (frame-effect c)) k)
 
 -- ---- the call from outside, by the answer of the survey
 
@@ -108,20 +125,15 @@ module _ (frame buffer : List ℕ) {file places : List ℕ} {a : FileAnswer} (s 
 -- ---- the places after a frame
 
 -- a frame leaves a cluster of the same edition and shape
-exchange-kept : (c : Cluster) (frame buffer : List ℕ) → Bytes frame → ClusterKept c (exchange c frame buffer .2)
-unfolding exchange
-exchange-kept c frame buffer b =
+left-kept : (c : Cluster) (frame : List ℕ) → Bytes frame → ClusterKept c (leftBy c frame)
+unfolding leftBy
+left-kept c frame b =
     byCase (eqb (frameGround c frame) 0)
     (λ e. rw e (frame-kept c frame b (eqb-true _ _ e)))
     (λ e. rw e (kept-refl c))
 
 -- so the places of the slaves' files are what they were
-pub exchange-placed :
-    {file places frame old new : List ℕ} {answer : Answer} {file′ : List ℕ}
-    → Placed file places
-    → Bytes frame
-    → Exchanged (decode file) frame old new answer file′
-    → Placed file′ places
-exchange-placed {file} {places} {frame} {old} p b x =
-    let kept = exchange-kept (decode file) frame old b in
-    placed-kept p (x .becomes) (kept .edition) (kept .shape)
+pub left-placed : {file places frame file′ : List ℕ} → Placed file places → Bytes frame → Becomes file′ (leftBy (decode file) frame) → Placed file′ places
+left-placed {file} {frame = frame} p b becomes =
+    let kept = left-kept (decode file) frame b in
+    placed-kept p becomes (kept .edition) (kept .shape)

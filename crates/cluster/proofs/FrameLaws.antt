@@ -41,32 +41,65 @@ use Rattle.frame.proofs.Tests as Tests
 use Rattle.cluster.specs.declared.types.DataBytes.{DataBytes}
 use Rattle.cluster.specs.declared.msd.DataReading.{DataReading}
 use Rattle.cluster.specs.declared.msd.DataReading.the-variants as readings
-use Rattle.cluster.specs.Rules.Bus.{answerBytes, answerIn, nobody}
+use Rattle.cluster.specs.Rules.Bus.{senderMask, answerBytes, answerIn, nobody}
 use Rattle.cluster.specs.Rules.Slaves.{withAddress}
 use Rattle.cluster.specs.Rules.Grounds.{roundBy, writePending, groundsOn}
 use Rattle.cluster.specs.Inner.Grounds.{noFirework, fireworkSize, lengthFor, wrongLengthOn, wrongCheckOn, noOperationOn, broadcastReadOn, frameGround}
 use Rattle.cluster.specs.Rules.Round.{Effect, effectOf, frameOn}
 use Rattle.cluster.specs.Inner.Effects.{addressEffect, dataEffect}
-use Rattle.cluster.specs.Inner.Carried.{exchange}
-use Rattle.cluster.specs.Inner.Carried.{Carried, Exchanged}
+use Rattle.cluster.specs.Inner.Carried.{Carried, answerTo, leftBy, heardIn, Exchanged, Taken}
 use Rattle.cluster.specs.Inner.Duties.{dataIn}
-use Rattle.cluster.specs.Inner.Answers.{dataRead}
+use Rattle.cluster.specs.declared.answer.RoundAnswer.{RoundAnswer}
+use Rattle.cluster.specs.declared.answer.RoundAnswer.the-variants as answers
+use Rattle.cluster.specs.Inner.Answers.{answerOf, dataRead}
 use Rattle.cluster.proofs.Bus.{mask-nobody}
 use Rattle.cluster.proofs.Rounds.{Fits, fits-facts, address-pending}
 
--- ---- answer, buffer and file of one frame
+-- ---- answer and file of one frame, and its buffer
 
-pub exchange-refused : (c : Cluster) (frame : List ℕ) {f : List ℕ} (b : List ℕ) {g : ℕ} → Becomes f c → g ≡ frameGround c frame → (g ≡ 0 → ⊥) → Exchanged c frame b b (refused g) f
-unfolding exchange
-exchange-refused c frame b {g} h e n =
-    let no′ : eqb (frameGround c frame) 0 ≡ false = ne-eqb (frameGround c frame) 0 (λ z. n (e ∙ z)) in
-    record { answers = rw no′ (ap refused e); buffer = rw no′; becomes = rw no′ h }
+module _ (c : Cluster) (frame : List ℕ) where
+  pub taken-refused : {f : List ℕ} {g : ℕ} → Becomes f c → g ≡ frameGround c frame → (g ≡ 0 → ⊥) → Taken c frame (refused g) f
+  unfolding answerTo leftBy
+  taken-refused h e n =
+      let no′ : eqb (frameGround c frame) 0 ≡ false = ne-eqb (frameGround c frame) 0 (λ z. n (e ∙ z)) in
+      record { answers = rw no′ (ap refused e); becomes = rw no′ h }
 
-pub exchange-carried : (c : Cluster) (frame : List ℕ) {f : List ℕ} (old : List ℕ) {new : List ℕ} {mask : ℕ} → frameGround c frame ≡ 0 → Carried (frameOn c frame) (getD frame 0 0) old new mask f → Exchanged c frame old new (done mask) f
-unfolding exchange
-exchange-carried c frame old z k =
-    let yes′ : eqb (frameGround c frame) 0 ≡ true = eq-eqb (frameGround c frame) 0 z in
-    record { answers = rw yes′ (ap done (k .senders)); buffer = rw yes′ (k .buffer); becomes = rw yes′ (k .becomes) }
+  pub taken-carried : {f : List ℕ} {mask : ℕ} → frameGround c frame ≡ 0 → mask ≡ senderMask (frameOn c frame .senders) → Becomes f (frameOn c frame .after) → Taken c frame (done mask) f
+  unfolding answerTo leftBy
+  taken-carried z m h =
+      let yes′ : eqb (frameGround c frame) 0 ≡ true = eq-eqb (frameGround c frame) 0 z in
+      record { answers = rw yes′ (ap done m); becomes = rw yes′ h }
+
+  -- by the answer
+  answer-refused : {n : ℕ} → refused n ≡ answerTo c frame → eqb (frameGround c frame) 0 ≡ false
+  unfolding answerTo
+  answer-refused e =
+      byCase (eqb (frameGround c frame) 0)
+      (λ t. let same = rw t at e in let z : _≡_ {A = ℕ} 0 1 = cc in absurd (omega arith))
+      (λ t. t)
+
+  answer-done : {m : ℕ} → done m ≡ answerTo c frame → eqb (frameGround c frame) 0 ≡ true
+  unfolding answerTo
+  answer-done e =
+      byCase (eqb (frameGround c frame) 0)
+      (λ t. t)
+      (λ t. let same = rw t at e in let z : _≡_ {A = ℕ} 0 1 = cc in absurd (omega arith))
+
+  pub taken-alone : {f : List ℕ} (b : List ℕ) {n : ℕ} → Taken c frame (refused n) f → Exchanged c frame b b (refused n) f
+  unfolding heardIn
+  taken-alone b t = record { answers = t .answers; buffer = rw (answer-refused (t .answers)); becomes = t .becomes }
+
+  pub taken-heard : {f old new : List ℕ} {m : ℕ} → Taken c frame (done m) f → new ≡ answerIn old (answerBytes (getD frame 0 0) (frameOn c frame .senders)) → Exchanged c frame old new (done m) f
+  unfolding heardIn
+  taken-heard t b = record { answers = t .answers; buffer = rw (answer-done (t .answers)) b; becomes = t .becomes }
+
+  pub exchange-refused : {f : List ℕ} (b : List ℕ) {g : ℕ} → Becomes f c → g ≡ frameGround c frame → (g ≡ 0 → ⊥) → Exchanged c frame b b (refused g) f
+  exchange-refused b h e n = taken-alone b (taken-refused h e n)
+
+  pub exchange-carried :
+      {f : List ℕ} (old : List ℕ) {new : List ℕ} {mask : ℕ} → frameGround c frame ≡ 0 →
+      Carried (frameOn c frame) (getD frame 0 0) old new mask f → Exchanged c frame old new (done mask) f
+  exchange-carried old z k = taken-heard (taken-carried z (k .senders) (k .becomes)) (k .buffer)
 
 -- ---- the firework of a round
 
@@ -84,7 +117,7 @@ only-in x firework (e ∷ es) b some (allNext p r) h =
     (λ t. eqb-true b (e .0) t ∙ p (rw t at h))
     (λ t. only-in x firework es b some r (rw t at h))
 
-first-of : (frame : List ℕ) (x : Round) → (Round.noRound ≡ x → ⊥) → roundBy frame ≡ x → roundOf (getD frame 0 0) ≡ x
+pub first-of : (frame : List ℕ) (x : Round) → (Round.noRound ≡ x → ⊥) → roundBy frame ≡ x → roundOf (getD frame 0 0) ≡ x
 unfolding roundBy
 first-of [] x some h = absurd (some h)
 first-of (b ∷ bs) x some h = h
@@ -97,6 +130,10 @@ not-empty (b ∷ bs) x some h z = omega arith
 never-msa : Round.noRound ≡ msa → ⊥
 unfolding kindOf
 never-msa e = omega (arith, ap kindOf e)
+
+pub never-multipartner : {r : ℕ} → Round.noRound ≡ multipartner r → ⊥
+unfolding kindOf
+never-multipartner e = omega (arith, ap kindOf e)
 
 pub data-first : (frame : List ℕ) → roundBy frame ≡ msd → getD frame 0 0 ≡ dataFirework
 unfolding roundOf kindOf
@@ -226,11 +263,13 @@ parts-facts frame {e} {n} {m} {o} {r} h =
       pb3 = ap (λ (p : Parts). p .«record») same;
     }
 
-pub address-refused : (c : Cluster) (frame : List ℕ) {f : List ℕ} (b : List ℕ) {x : AddressReading} {why : Refusal} → Becomes f c → roundBy frame ≡ msa → readingOf x ≡ readAddress frame → x ≡ addressReadings.Refused why → Exchanged c frame b b (refused (why .0)) f
+pub address-refused :
+    (c : Cluster) (frame : List ℕ) {f : List ℕ} {x : AddressReading} {why : Refusal} → Becomes f c → roundBy frame ≡ msa →
+    readingOf x ≡ readAddress frame → x ≡ addressReadings.Refused why → Taken c frame (refused (why .0)) f
 unfolding readingOf readAddress
-address-refused c frame b {x} {why} h isAddress e is =
+address-refused c frame {x = x} {why} h isAddress e is =
     let ground = that-ground (partsOf frame) (why .0) (readGround frame) (rw is at e) in
-    exchange-refused c frame b h (ground .0 ∙ sym (address-ground c frame isAddress)) (ground .1)
+    taken-refused c frame h (ground .0 ∙ sym (address-ground c frame isAddress)) (ground .1)
 
 module _ (c : Cluster) (frame : List ℕ) {x : AddressReading} {epoch : ℕ} {name : LogicalName} {number : FileNumber} {operation : Operation} {record′ : RecordNumber} (isAddress : roundBy frame ≡ msa) (e : readingOf x ≡ readAddress frame) (is : x ≡ addressReadings.Address epoch name number operation record′) where
   taken : PartsAre frame epoch (nameIn name) (fileIn number) (operationIn operation) (recordIn record′)
@@ -249,14 +288,25 @@ module _ (c : Cluster) (frame : List ℕ) {x : AddressReading} {epoch : ℕ} {na
       rw (taken .pb0, taken .pb1, taken .pb2, taken .pb3)
       (address-pending c (getD frame 1 0) (getD frame 2 0) (getD frame 3 0) (getD frame 4 0) (byte 1) (byte 2) (byte 3) (byte 4) (facts′ .operation) (facts′ .broadcastRead))
 
-  pub address-taken : {f old new : List ℕ} → Becomes f (withAddress c epoch (nameIn name) (pb2Of (fileIn number) (operationIn operation)) (recordIn record′)) → new ≡ answerIn old (answerBytes addressFirework nobody) → Exchanged c frame old new (done 0) f
+  pub address-taken : {f : List ℕ} → Becomes f (withAddress c epoch (nameIn name) (pb2Of (fileIn number) (operationIn operation)) (recordIn record′)) → Taken c frame (done 0) f
   unfolding frameOn effectOf
-  address-taken {f} {old} {new} h stored =
+  address-taken {f} h =
       let effect : frameOn c frame ≡ addressEffect c frame = rw isAddress in
       let after : Becomes f (addressEffect c frame .after) = rw (← (taken .pb0), ← (taken .pb1), ← (taken .pb2), ← (taken .pb3)) h in
-      let carry : Carried (addressEffect c frame) addressFirework old new 0 f = record { senders = mask-nobody; buffer = stored; becomes = after } in
-      let there : Carried (frameOn c frame) addressFirework old new 0 f = subst (λ (y : Effect). Carried y addressFirework old new 0 f) (sym effect) carry in
-      exchange-carried c frame old fits (subst (λ (b : ℕ). Carried (frameOn c frame) b old new 0 f) (sym (address-first frame isAddress)) there)
+      taken-carried c frame fits (rw effect mask-nobody) (rw effect after)
+
+-- its buffer, by the answer
+module _ (c : Cluster) (frame : List ℕ) {f : List ℕ} {x : RoundAnswer} (t : Taken c frame (answerOf x) f) where
+  pub address-alone : (b : List ℕ) {why : Refusal} → x ≡ answers.Refused why → Exchanged c frame b b (refused (why .0)) f
+  unfolding answerOf
+  address-alone b is = taken-alone c frame b (rw is at t)
+
+  pub address-heard : {old new : List ℕ} {m : ℕ} → roundBy frame ≡ msa → x ≡ answers.Carried m → new ≡ answerIn old (answerBytes addressFirework nobody) → Exchanged c frame old new (done m) f
+  unfolding answerOf frameOn effectOf
+  address-heard {old} {new} isAddress is b =
+      let effect : frameOn c frame ≡ addressEffect c frame = rw isAddress in
+      let there : new ≡ answerIn old (answerBytes (getD frame 0 0) (frameOn c frame .senders)) = rw (address-first frame isAddress, effect) b in
+      taken-heard c frame (rw is at t) there
 
 -- ---- an operation that becomes pending
 

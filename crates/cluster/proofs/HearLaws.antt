@@ -1,6 +1,6 @@
 -- The slaves of a slot, one after the other: what is heard so far, and where the receivers among them store.
 -- Assumes nothing.
-use Prim.Native.Nat.{ℕ, zero, suc, _+_, _-_, _≤_, _<_}
+use Prim.Native.Nat.{ℕ, zero, suc, _+_, _≤_, _<_}
 use native.Mathlib.Omega.{arith}
 use native.Mathlib.Numerals.{add-one}
 use mathlib.Core.Path.{_≡_, refl, sym, ap, _∙_}
@@ -14,17 +14,17 @@ use borrow.Author.Tests.{eqb-true, eqb-false}
 use Rattle.file.specs.Rules.Order.{either}
 use Rattle.file.specs.Rules.Cluster.{Slave, Cluster}
 use Rattle.file.specs.Rules.Decode.{decode}
-use Rattle.file.specs.Inner.Places.{slavesRoom, noSlave, slaveOf}
-use Rattle.file.specs.Inner.Accepted.{Becomes}
+use Rattle.file.specs.Inner.Places.{slavesRoom, noSlave, slaveOf, filePlace}
+use Rattle.file.specs.Inner.Accepted.{Becomes, AcceptedFile}
 use Rattle.file.proofs.Order.{byCase}
-use Rattle.file.proofs.ReaderLaws.{place-within, header-within}
+use Rattle.file.proofs.ReaderLaws.{place-within, length-limit}
 use Rattle.cluster.specs.Rules.Bus.{joined, busByte, anyone}
 use Rattle.cluster.specs.Rules.Entries.{Entry}
 use Rattle.cluster.specs.Rules.Multipartner.{SlaveByte, sendsFrom, storesAt, byteThere, sentBy}
-use Rattle.cluster.specs.Inner.Slots.{placeIn, actSends, actStores, isSender, StoresWithin}
+use Rattle.cluster.specs.Inner.Slots.{placeIn, actSends, actStores, isSender, putStore, storedAt, StoresWithin}
 use Rattle.cluster.specs.declared.multipartner.SlotAct.{SlotAct}
 use Rattle.cluster.specs.declared.multipartner.SlotAct.the-variants as Acts
-use Rattle.cluster.proofs.StoreLaws.{Lands, stays, lands, storesAt-lands}
+use Rattle.cluster.proofs.StoreLaws.{Lands, stays, lands, storesAt-lands, stored-before, storedIn, storedBy, aim}
 use Rattle.cluster.proofs.SearchLaws.{RoundActIs}
 
 -- ---- the bytes sent, with one more slave
@@ -68,66 +68,117 @@ someone-next [] (Acts.Stores p) = refl
 someone-next [] Acts.Rests = refl
 someone-next (x ∷ xs) act = refl
 
+-- ---- where the receivers store
+
+-- an act that stores does so within the file
+land-within : {f : List ℕ} {c : Cluster} (s q : ℕ) {p : SlaveByte} → Becomes f c → Lands (slaveOf c s) p → q ∷ [] ≡ placeIn c s p → q < length f
+unfolding placeIn
+land-within s q h stays e = let z : _≡_ {A = ℕ} 0 1 = cc in absurd (omega arith)
+land-within {c = c} s q h (lands {n = m} {k} low high place inside) e =
+    let is : q ≡ filePlace c s m + k = cc in
+    omega (arith, place-within h s m (omega arith))
+
+pub act-within : {passed : Entry → Bool} {f : List ℕ} {round slot s : ℕ} {act : SlotAct} → Becomes f (decode f) → RoundActIs passed (decode f) round slot s act → (place : ℕ)
+    → act ≡ Acts.Stores place → place < length f
+unfolding actStores
+act-within {passed} {f} {round} {slot} {s} h does place is =
+    land-within s place h (storesAt-lands passed round slot (slaveOf (decode f) s)) (sym (ap actStores is) ∙ does .stores)
+
+-- the places of those among the first n slaves that store
+pub record Aimed (passed : Entry → Bool) (f : List ℕ) (round slot n : ℕ) (stores : List ℕ) (stored : ℕ) : Type 0 where
+  pub room : length stores ≡ slavesRoom
+  pub few : stored ≤ n
+  pub within : (i : ℕ) → i < stored → getD stores i 0 < length f
+  pub aims : (g : List ℕ) (b : ℕ) → storedAt g stores b stored ≡ storedBy g (aim passed (decode f) round slot) b n
+
+module _ {passed : Entry → Bool} {f : List ℕ} {round slot n : ℕ} {stores : List ℕ} {stored : ℕ} (h : Aimed passed f round slot n stores stored) where
+  aimed-none : [] ≡ aim passed (decode f) round slot n → Aimed passed f round slot (n + 1) stores stored
+  unfolding storedBy storedIn
+  aimed-none none =
+      record {
+        room = h .room;
+        few = omega (arith, h .few);
+        within = h .within;
+        aims = λ g b. h .aims g b ∙ rw (add-one, ← none);
+      }
+
+  aimed-one : {p : ℕ} → p < length f → n < slavesRoom → p ∷ [] ≡ aim passed (decode f) round slot n → Aimed passed f round slot (n + 1) (set stores stored p) (stored + 1)
+  unfolding storedAt storedBy storedIn
+  aimed-one {p} low few one =
+      let put : getD (set stores stored p) stored 0 ≡ p = getD-set-same stores stored p 0 (omega (arith, h .room, h .few)) in
+      record {
+        room = length-set stores stored p ∙ h .room;
+        few = omega (arith, h .few);
+        within = λ i l. byCase (eqb i stored)
+            (λ e. let same : i ≡ stored = eqb-true i stored e in rw (same, put) low)
+            (λ e. let other = eqb-false i stored e in rw (getD-set-other stores stored i p 0 other) (h .within i (below i l other)));
+        aims = λ g b.
+            let before : storedAt g (set stores stored p) b stored ≡ storedBy g (aim passed (decode f) round slot) b n = stored-before g stores b p stored stored (omega arith) ∙ h .aims g b in
+            rw (add-one, add-one, put, before, ← one);
+      }
+    where
+      below : (i : ℕ) → i < stored + 1 → (i ≡ stored → ⊥) → i < stored
+      below i l other = omega arith
+
+  moved : {a stores′ : List ℕ} {b stored′ : ℕ} → _≡_ {A = List ℕ × ℕ} (stores′, stored′) (a, b) → Aimed passed f round slot (n + 1) a b → Aimed passed f round slot (n + 1) stores′ stored′
+  moved e q = rw (ap (λ (x : List ℕ × ℕ). x .0) e, ap (λ (x : List ℕ × ℕ). x .1) e) q
+
+  aimed-next : (act : SlotAct) {stores′ : List ℕ} {stored′ : ℕ} → AcceptedFile f → n < length (decode f .slaves) → RoundActIs passed (decode f) round slot n act
+      → (stores′, stored′) ≡ putStore stores stored act
+      → Aimed passed f round slot (n + 1) stores′ stored′
+  unfolding putStore actStores
+  aimed-next (Acts.Sends b) accepted more does put = moved put (aimed-none (does .stores))
+  aimed-next (Acts.Stores p) accepted more does put =
+      moved put (aimed-one (act-within accepted does p refl) (omega (arith, accepted .legal .count)) (does .stores))
+  aimed-next Acts.Rests accepted more does put = moved put (aimed-none (does .stores))
+
 -- ---- the loop over the slaves
 
-pub record SlotHearing (passed : Entry → Bool) (c : Cluster) (round slot n bus : ℕ) (heard : Bool) (stores : List ℕ) : Type 0 where
-  pub most : n ≤ length (c .slaves)
-  pub byte : bus ≡ busByte (sentBy passed round slot (take n (c .slaves)))
-  pub any : heard ≡ someone (sentBy passed round slot (take n (c .slaves)))
-  pub room : length stores ≡ slavesRoom
-  pub aims : (s : ℕ) → s < n → getD stores s 0 ≡ placeIn c s (storesAt passed round slot (slaveOf c s))
+-- the first n slaves are heard
+pub record SlotHearing (passed : Entry → Bool) (f : List ℕ) (round slot n bus : ℕ) (heard : Bool) (stores : List ℕ) (stored : ℕ) : Type 0 where
+  pub most : n ≤ length (decode f .slaves)
+  pub byte : bus ≡ busByte (sentBy passed round slot (take n (decode f .slaves)))
+  pub any : heard ≡ someone (sentBy passed round slot (take n (decode f .slaves)))
+  pub aimed : Aimed passed f round slot n stores stored
 
-pub slot-hearing-start : (passed : Entry → Bool) (c : Cluster) (round slot : ℕ) {stores : List ℕ} → length stores ≡ slavesRoom → SlotHearing passed c round slot 0 255 false stores
-unfolding busByte joined sentBy someone
-slot-hearing-start passed c round slot room =
-    record { most = omega arith; byte = refl; any = refl; room = room; aims = λ s l. absurd (omega arith) }
+pub slot-hearing-start : (passed : Entry → Bool) (f : List ℕ) (round slot : ℕ) {stores : List ℕ} → length stores ≡ slavesRoom → SlotHearing passed f round slot 0 255 false stores 0
+unfolding busByte joined sentBy someone storedAt storedBy
+slot-hearing-start passed f round slot room =
+    record {
+      most = omega arith;
+      byte = refl;
+      any = refl;
+      aimed = record { room = room; few = omega arith; within = λ i l. absurd (omega arith); aims = λ g b. refl };
+    }
 
-module _ {passed : Entry → Bool} {c : Cluster} {round slot n bus : ℕ} {heard : Bool} {stores : List ℕ} (h : SlotHearing passed c round slot n bus heard stores) where
-  module _ {act : SlotAct} (more : n < length (c .slaves)) (does : RoundActIs passed c round slot n act) where
-    sent-act : sentBy passed round slot (take (n + 1) (c .slaves)) ≡ sentBy passed round slot (take n (c .slaves)) ++ actSends act
+module _ {passed : Entry → Bool} {f : List ℕ} {round slot n bus : ℕ} {heard : Bool} {stores : List ℕ} {stored : ℕ} (h : SlotHearing passed f round slot n bus heard stores stored) where
+  module _ {act : SlotAct} (more : n < length (decode f .slaves)) (does : RoundActIs passed (decode f) round slot n act) where
+    sent-act : sentBy passed round slot (take (n + 1) (decode f .slaves)) ≡ sentBy passed round slot (take n (decode f .slaves)) ++ actSends act
     unfolding slaveOf
-    sent-act = rw (add-one, does .sends) (sent-next passed round slot (c .slaves) n more)
+    sent-act = rw (add-one, does .sends) (sent-next passed round slot (decode f .slaves) n more)
 
-    pub slot-hearing-next : {bus′ place : ℕ} {heard′ : Bool} → length (c .slaves) ≤ slavesRoom → bus′ ≡ joined bus (actSends act) → heard′ ≡ either heard (isSender act) → place ≡ actStores act
-        → SlotHearing passed c round slot (n + 1) bus′ heard′ (set stores n place)
-    slot-hearing-next {place = place} few byte any at =
+    pub slot-hearing-next : {bus′ stored′ : ℕ} {heard′ : Bool} {stores′ : List ℕ} → AcceptedFile f → bus′ ≡ joined bus (actSends act) → heard′ ≡ either heard (isSender act)
+        → (stores′, stored′) ≡ putStore stores stored act
+        → SlotHearing passed f round slot (n + 1) bus′ heard′ stores′ stored′
+    slot-hearing-next accepted byte any put =
         record {
           most = omega arith;
-          byte = byte ∙ ap (λ (x : ℕ). joined x (actSends act)) (h .byte) ∙ sym (ap busByte sent-act ∙ busByte-append (sentBy passed round slot (take n (c .slaves))) (actSends act));
-          any = any ∙ ap (λ (x : Bool). either x (isSender act)) (h .any) ∙ sym (ap someone sent-act ∙ someone-next (sentBy passed round slot (take n (c .slaves))) act);
-          room = length-set stores n place ∙ h .room;
-          aims = λ s l. byCase (eqb s n)
-              (λ e. let same : s ≡ n = eqb-true s n e in rw (same, getD-set-same stores n place 0 (omega (arith, h .room))) (at ∙ does .stores))
-              (λ e. let other = eqb-false s n e in rw (getD-set-other stores n s place 0 other) (h .aims s (below s l other)));
+          byte = byte ∙ ap (λ (x : ℕ). joined x (actSends act)) (h .byte) ∙ sym (ap busByte sent-act ∙ busByte-append (sentBy passed round slot (take n (decode f .slaves))) (actSends act));
+          any = any ∙ ap (λ (x : Bool). either x (isSender act)) (h .any) ∙ sym (ap someone sent-act ∙ someone-next (sentBy passed round slot (take n (decode f .slaves))) act);
+          aimed = aimed-next (h .aimed) act accepted more does put;
         }
-      where
-        below : (s : ℕ) → s < n + 1 → (s ≡ n → ⊥) → s < n
-        below s l other = omega arith
 
-  module _ (left : length (c .slaves) ≤ n) where
-    pub heard-byte : bus ≡ busByte (sentBy passed round slot (c .slaves))
-    heard-byte = h .byte ∙ rw (take-all n (c .slaves) left)
+  module _ (left : length (decode f .slaves) ≤ n) where
+    pub heard-byte : bus ≡ busByte (sentBy passed round slot (decode f .slaves))
+    heard-byte = h .byte ∙ rw (take-all n (decode f .slaves) left)
 
-    pub heard-any : heard ≡ someone (sentBy passed round slot (c .slaves))
-    heard-any = h .any ∙ rw (take-all n (c .slaves) left)
+    pub heard-any : heard ≡ someone (sentBy passed round slot (decode f .slaves))
+    heard-any = h .any ∙ rw (take-all n (decode f .slaves) left)
 
-    pub heard-aims : (s : ℕ) → s < length (c .slaves) → getD stores s 0 ≡ placeIn c s (storesAt passed round slot (slaveOf c s))
-    heard-aims s l = h .aims s (omega arith)
+    pub heard-stored : (b : ℕ) → storedAt f stores b stored ≡ storedBy f (aim passed (decode f) round slot) b (length (decode f .slaves))
+    heard-stored b = let all : n ≡ length (decode f .slaves) = omega (arith, h .most) in h .aimed .aims f b ∙ rw all
 
--- ---- the receivers' places lie within the file
-
-land-within : {f : List ℕ} {c : Cluster} (s : ℕ) {p : SlaveByte} → Becomes f c → 0 < length f → Lands (slaveOf c s) p → placeIn c s p < length f
-unfolding placeIn
-land-within s h long stays = long
-land-within s h long (lands {n = m} {k} low high place inside) = omega (arith, place-within h s m (omega arith))
-
-pub aims-within : {passed : Entry → Bool} {f : List ℕ} {round slot count n bus : ℕ} {heard : Bool} {stores : List ℕ} → Becomes f (decode f) → count ≡ length (decode f .slaves) → SlotHearing passed (decode f) round slot n bus heard stores → length (decode f .slaves) ≤ n
-    → StoresWithin f stores count
-aims-within {passed} {f} {round} {slot} b all h left =
-    record {
-      few = omega (arith, all, b .legal .count);
-      within = λ s l.
-          let there : s < length (decode f .slaves) = omega (arith, all) in
-          rw (heard-aims h left s there)
-          (land-within s b (omega (arith, header-within b)) (storesAt-lands passed round slot (slaveOf (decode f) s)));
-    }
+    -- what `store` asks
+    pub heard-within : AcceptedFile f → StoresWithin f stores stored
+    heard-within accepted =
+        record { few = omega (arith, h .aimed .few, h .most, accepted .legal .count); within = h .aimed .within; low = omega (arith, length-limit accepted) }

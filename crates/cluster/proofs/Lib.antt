@@ -49,6 +49,8 @@ pub mod Sent
 pub mod SentAsWritten
 pub mod SentRounds
 pub mod FrameCall
+-- a frame that nobody hears
+pub mod UnheardLaws
 -- both editions
 pub mod Editions
 -- the answers are told apart

@@ -1,26 +1,26 @@
--- The entries that a slave still has to look at: those in front of them can be passed over in every slot to come. What `open_from`
--- keeps, and what the loops around it keep of every slave.
+-- The entries that a slave still has to look at: those in front of them can be passed over in every slot to come.
 -- Assumes nothing.
-use Prim.Native.Nat.{ℕ, zero, suc, _+_, _*_, _-_, _/_, _≤_, _<_}
+use Prim.Native.Nat.{ℕ, zero, suc, _+_, _*_, _-_, _≤_, _<_}
 use native.Mathlib.Omega.{arith}
-use mathlib.Core.Path.{_≡_, refl, sym, ap, _∙_}
+use mathlib.Core.Path.{_≡_, refl, sym, _∙_}
 use mathlib.Core.List.{List}
-use mathlib.Core.Bool.{Bool, true, false}
+use mathlib.Core.Bool.{Bool, true, false, not}
 use lib.ListN.{length, getD, set, length-set}
 use lib.Seq.{getD-set-same, getD-set-other}
 use lib.Dec.{eqb}
-use borrow.Author.Tests.{eq-eqb, ne-eqb, eqb-true, eqb-false}
+use borrow.Author.Tests.{eq-eqb, ne-eqb, eqb-true, eqb-false, not-true, not-false}
+use mir.Val.{Fits}
+use mir.Syntax.{w32}
 use Rattle.file.specs.Rules.Layout.{recordSize}
 use Rattle.file.specs.Rules.Cluster.{Slave, Cluster, isAwake, bytesIn, lastRecord}
 use Rattle.file.specs.Inner.Places.{slavesRoom, slaveOf, filePlace}
 use Rattle.file.specs.Inner.Accepted.{Becomes}
 use Rattle.file.proofs.Order.{byCase}
-use Rattle.file.proofs.ReaderLaws.{byte-there, place-within}
+use Rattle.file.proofs.ReaderLaws.{byte-there, place-within, length-limit, becomes-decoded}
 use Rattle.cluster.specs.Rules.Slaves.{isUnnamed}
 use Rattle.cluster.specs.Rules.Entries.{Entry, entryThere, entryAt, ends, eligible, Acting, noEntry, acts, actingFrom}
-use Rattle.cluster.specs.Inner.EntryForm.{evaluated, isPast}
-use Rattle.cluster.specs.Inner.Slots.{plannedEntries, entriesIn, EntriesLie, RoundFilesAre, EntriesWithin, openFrom}
-use Rattle.cluster.proofs.EntryLaws.{past-goes-on, past-covers, eligible-covers}
+use Rattle.cluster.specs.Inner.Slots.{plannedEntries, entriesIn, EntriesLie, RoundFileIs, RoundFilesAre, EntriesWithin, nextPast, nextAfter}
+use Rattle.cluster.proofs.EntryLaws.{past-last}
 
 -- ---- the first entry before the end that is eligible in the slot, record by record
 
@@ -147,59 +147,36 @@ module _ {f : List ℕ} {c : Cluster} {round s many k left at end : ℕ} (h : Be
         first : (m : ℕ) → m + 0 ≡ m
         first m = omega arith
 
--- ---- the search of `open_from`
+-- where its entries begin and end is no large number
+module _ {f : List ℕ} {c : Cluster} {round s start end : ℕ} (h : Becomes f c) (is : RoundFileIs c round s start end) where
+  within-file : EntriesWithin f start end
+  within-file = rest-within h (rest-start (entries-few round (slaveOf c s)) is)
 
-module _ (f : List ℕ) (slot at : ℕ) where
-  open-past : {n m : ℕ} → n ≡ suc m → isPast (entryThere f at) slot ≡ true → openFrom f slot at n ≡ openFrom f slot (at + 4) m
-  unfolding openFrom
-  open-past more past = rw (more, past)
+  pub end-low : Fits w32 end
+  end-low = omega (arith, within-file .within, length-limit (becomes-decoded h))
 
-  open-here : {n m : ℕ} → n ≡ suc m → isPast (entryThere f at) slot ≡ false → openFrom f slot at n ≡ at
-  unfolding openFrom
-  open-here more here = rw (more, here)
+  pub start-low : Fits w32 start
+  start-low = omega (arith, within-file .rising, within-file .within, length-limit (becomes-decoded h))
 
-  open-none : {n : ℕ} → n ≡ 0 → openFrom f slot at n ≡ at
-  unfolding openFrom
-  open-none over = rw over
+-- ---- where the search of the next slot begins
 
--- it stands at a place where the same is found as from the start
-pub record Opening (f : List ℕ) (slot start end at : ℕ) : Type 0 where
-  pub entries : EntriesWithin f at end
-  pub same : openFrom f slot at ((end - at) / recordSize) ≡ openFrom f slot start ((end - start) / recordSize)
+module _ (next at : ℕ) where
+  pub next-other : (next ≡ at → ⊥) → next ≡ nextPast next at
+  unfolding nextPast
+  next-other other = rw (ne-eqb next at other)
 
-pub opening-start : {f : List ℕ} (slot : ℕ) {start end : ℕ} → EntriesWithin f start end → Opening f slot start end start
-opening-start slot w = record { entries = w; same = refl }
+  pub next-here : next ≡ at → at + 4 ≡ nextPast next at
+  unfolding nextPast
+  next-here same = rw (eq-eqb next at same)
 
-module _ {f : List ℕ} {slot start end at : ℕ} (q : Opening f slot start end at) where
-  pub opening-done : end ≤ at → at ≡ openFrom f slot start ((end - start) / recordSize)
-  opening-done over = sym (open-none f slot at (omega arith)) ∙ q .same
+  module _ (e : Entry) (slot : ℕ) {t : Bool} (last : t ≡ eqb (slot - e .start + 1) (e .length)) where
+    pub after-not-last : not t ≡ true → next ≡ nextAfter e next at slot
+    unfolding nextAfter
+    after-not-last no′ = rw (sym last ∙ not-true t no′)
 
-  module _ (more : at < end) where
-    pub opening-within : at + 4 ≤ length f
-    opening-within = omega (arith, q .entries .whole, q .entries .within)
-
-    another : (end - at) / recordSize ≡ suc ((end - (at + 4)) / recordSize)
-    another = omega (arith, q .entries .whole)
-
-    module _ {e : Entry} (is : e ≡ evaluated (entryThere f at)) where
-      past-there : isPast (entryThere f at) slot ≡ isPast e slot
-      unfolding evaluated isPast entryThere
-      past-there = sym (ap (λ (x : Entry). isPast x slot) is)
-
-      pub opening-next : isPast e slot ≡ true → Opening f slot start end (at + 4)
-      opening-next goes =
-          record {
-            entries =
-                record {
-                  rising = omega (arith, q .entries .whole);
-                  whole = omega (arith, q .entries .whole);
-                  within = q .entries .within;
-                };
-            same = sym (open-past f slot at another (past-there ∙ goes)) ∙ q .same;
-          }
-
-      pub opening-here : isPast e slot ≡ false → at ≡ openFrom f slot start ((end - start) / recordSize)
-      opening-here stays = sym (open-here f slot at another (past-there ∙ stays)) ∙ q .same
+    pub after-last : not t ≡ false → {r : ℕ} → r ≡ nextPast next at → r ≡ nextAfter e next at slot
+    unfolding nextAfter
+    after-last yes′ is = rw (sym last ∙ not-false t yes′) is
 
 -- ---- what the slave's entries that are left say of the slots to come
 
@@ -210,70 +187,94 @@ pub record OpenAt (passed : Entry → Bool) (c : Cluster) (round slot s at end :
   pub rest : Rest c round s k left at end
   pub same : (later : ℕ) → slot ≤ later → actingFrom passed (bytesIn (slaveOf c s) round) later k left ≡ actor passed round later (slaveOf c s)
 
-open-moved : {passed : Entry → Bool} {f : List ℕ} {c : Cluster} {round slot s end : ℕ} (left : ℕ) {k at : ℕ} → Becomes f c → Rest c round s k left at end
-    → ((later : ℕ) → slot ≤ later → actingFrom passed (bytesIn (slaveOf c s) round) later k left ≡ actor passed round later (slaveOf c s))
-    → OpenAt passed c round slot s (openFrom f slot at left) end
-open-moved {f} {slot = slot} zero {k} {at} h q same =
-    rw (open-none f slot at refl) (record { k = k; left = 0; rest = q; same = same })
-open-moved {passed} {f} {c} {round} {slot} {s} (suc left) {k} {at} h q same =
-    byCase (isPast (entryThere f at) slot)
-    (λ t.
-    let past : isPast (entryAt (bytesIn (slaveOf c s) round) k) slot ≡ true = ap (λ (x : Entry). isPast x slot) (sym (rest-entry h q (omega arith))) ∙ t in
-    rw (open-past f slot at {m = left} refl t)
-    (open-moved left h (rest-next h q refl)
-    (λ later l.
-    sym (acting-next passed (bytesIn (slaveOf c s) round) later k {m = left} refl (past-goes-on _ slot past) (eligible-covers passed _ later (past-covers _ slot past later l))) ∙ same later l)))
-    (λ t. rw (open-here f slot at {m = left} refl t) (record { k = k; left = suc left; rest = q; same = same }))
+module _ {passed : Entry → Bool} {c : Cluster} {round slot s at end : ℕ} (o : OpenAt passed c round slot s at end) where
+  pub open-next : OpenAt passed c round (slot + 1) s at end
+  open-next = record { k = o .k; left = o .left; rest = o .rest; same = λ later l. o .same later (omega arith) }
 
-module _ {passed : Entry → Bool} {f : List ℕ} {c : Cluster} {round slot s start end : ℕ} (h : Becomes f c) (o : OpenAt passed c round slot s start end) where
-  -- what `open_from` asks
-  pub open-within : EntriesWithin f start end
-  open-within = rest-within h (o .rest)
+  module _ {f : List ℕ} (h : Becomes f c) where
+    pub open-within : EntriesWithin f at end
+    open-within = rest-within h (o .rest)
 
-  pub open-next : {at : ℕ} → at ≡ openFrom f slot start ((end - start) / recordSize) → OpenAt passed c round slot s at end
-  open-next is =
-      let many : (end - start) / recordSize ≡ o .left = omega (arith, o .rest .span) in
-      rw (is, many) (open-moved (o .left) h (o .rest) (o .same))
+    -- the first of them is over
+    open-over : at < end → ends (entryThere f at .operation) ≡ false → ((later : ℕ) → slot ≤ later → eligible passed (entryThere f at) later ≡ false) → OpenAt passed c round slot s (at + 4) end
+    open-over more goes never =
+        let some : 0 < o .left = omega (arith, o .rest .span) in
+        let fewer : o .left ≡ suc (o .left - 1) = omega arith in
+        let here = rest-entry h (o .rest) some in
+        record {
+          k = suc (o .k);
+          left = o .left - 1;
+          rest = rest-next h (o .rest) fewer;
+          same = λ later l.
+              sym (acting-next passed (bytesIn (slaveOf c s) round) later (o .k) fewer (rw here at goes) (rw here at (never later l))) ∙ o .same later l;
+        }
 
--- the same of every slave
-pub record OpenAll (passed : Entry → Bool) (c : Cluster) (round slot : ℕ) (starts ends : List ℕ) : Type 0 where
+-- an entry of the slave is over, or acts in a slot: the search of the next slot begins past it, if it began there
+module _ {passed : Entry → Bool} {f : List ℕ} {c : Cluster} {round s at next end : ℕ} (slot : ℕ) (h : Becomes f c) (o : OpenAt passed c round (slot + 1) s next end) (more : at < end)
+    (goes : ends (entryThere f at .operation) ≡ false) where
+  pub open-past : ((later : ℕ) → slot + 1 ≤ later → eligible passed (entryThere f at) later ≡ false) → OpenAt passed c round (slot + 1) s (nextPast next at) end
+  unfolding nextPast
+  open-past never =
+      byCase (eqb next at)
+      (λ t. let here : next ≡ at = eqb-true next at t in rw t (open-over (rw here at o) h more goes never))
+      (λ t. rw t o)
+
+  pub open-after : entryThere f at .start ≤ slot → OpenAt passed c round (slot + 1) s (nextAfter (entryThere f at) next at slot) end
+  unfolding nextAfter
+  open-after begun =
+      let e : Entry = entryThere f at in
+      byCase (eqb (slot - e .start + 1) (e .length))
+      (λ t. rw t (open-past (past-last passed e slot begun (eqb-true (slot - e .start + 1) (e .length) t))))
+      (λ t. rw t o)
+
+-- the same of every slave; in a slot the first n are through with it
+pub record OpenAll (passed : Entry → Bool) (c : Cluster) (round slot n : ℕ) (starts ends : List ℕ) : Type 0 where
   pub startsRoom : length starts ≡ slavesRoom
   pub endsRoom : length ends ≡ slavesRoom
-  pub file : (s : ℕ) → s < length (c .slaves) → OpenAt passed c round slot s (getD starts s 0) (getD ends s 0)
+  pub through : (s : ℕ) → s < n → s < length (c .slaves) → OpenAt passed c round (slot + 1) s (getD starts s 0) (getD ends s 0)
+  pub ahead : (s : ℕ) → n ≤ s → s < length (c .slaves) → OpenAt passed c round slot s (getD starts s 0) (getD ends s 0)
 
-pub open-start : {passed : Entry → Bool} {c : Cluster} {round : ℕ} (slot : ℕ) {starts ends : List ℕ} → RoundFilesAre c round starts ends → OpenAll passed c round slot starts ends
+pub open-start : {passed : Entry → Bool} {c : Cluster} {round : ℕ} (slot : ℕ) {starts ends : List ℕ} → RoundFilesAre c round starts ends → OpenAll passed c round slot 0 starts ends
 unfolding actor
 open-start {c} {round} slot are =
     record {
       startsRoom = are .startsRoom;
       endsRoom = are .endsRoom;
-      file = λ s l.
+      through = λ s m l. absurd (omega arith);
+      ahead = λ s m l.
           record {
             k = 1;
             left = entriesIn round (slaveOf c s);
             rest = rest-start (entries-few round (slaveOf c s)) (are .file s l);
-            same = λ later m. refl;
+            same = λ later q. refl;
           };
     }
 
-module _ {passed : Entry → Bool} {c : Cluster} {round slot : ℕ} {starts ends : List ℕ} (o : OpenAll passed c round slot starts ends) where
-  -- one slave's entries are looked at
-  pub open-set : (n : ℕ) {at : ℕ} → n < slavesRoom → OpenAt passed c round slot n at (getD ends n 0) → OpenAll passed c round slot (set starts n at) ends
-  open-set n {at} few now =
+module _ {passed : Entry → Bool} {c : Cluster} {round slot n : ℕ} {starts ends : List ℕ} (o : OpenAll passed c round slot n starts ends) where
+  -- one more slave is through
+  pub open-set : {at : ℕ} → n < slavesRoom → OpenAt passed c round (slot + 1) n at (getD ends n 0) → OpenAll passed c round slot (n + 1) (set starts n at) ends
+  open-set {at} few now =
       record {
         startsRoom = length-set starts n at ∙ o .startsRoom;
         endsRoom = o .endsRoom;
-        file = λ s l. byCase (eqb s n)
+        through = λ s m l. byCase (eqb s n)
             (λ e. let same : s ≡ n = eqb-true s n e in rw (same, getD-set-same starts n at 0 (omega (arith, o .startsRoom))) now)
-            (λ e. rw (getD-set-other starts n s at 0 (eqb-false s n e)) (o .file s l));
+            (λ e. let other = eqb-false s n e in rw (getD-set-other starts n s at 0 other) (o .through s (below s m other) l));
+        ahead = λ s m l. rw (getD-set-other starts n s at 0 (above s m)) (o .ahead s (omega arith) l);
       }
+    where
+      below : (s : ℕ) → s < n + 1 → (s ≡ n → ⊥) → s < n
+      below s l other = omega arith
 
-  pub open-later : OpenAll passed c round (slot + 1) starts ends
-  open-later =
+      above : (s : ℕ) → n + 1 ≤ s → s ≡ n → ⊥
+      above s l e = omega arith
+
+  -- all are
+  pub open-later : length (c .slaves) ≤ n → OpenAll passed c round (slot + 1) 0 starts ends
+  open-later over =
       record {
         startsRoom = o .startsRoom;
         endsRoom = o .endsRoom;
-        file = λ s l.
-            let here = o .file s l in
-            record { k = here .k; left = here .left; rest = here .rest; same = λ later m. here .same later (omega arith) };
+        through = λ s m l. absurd (omega arith);
+        ahead = λ s m l. o .through s (omega arith) l;
       }

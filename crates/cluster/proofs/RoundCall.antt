@@ -17,8 +17,7 @@ use Rattle.cluster.specs.Rules.Bus.{slots}
 use Rattle.cluster.specs.Inner.Grounds.{frameGround}
 use Rattle.cluster.specs.Rules.Round.{Answer, frameOn, roundGround, roundOn}
 use Rattle.cluster.specs.Inner.Effects.{carriedBy, bufferBy}
-use Rattle.cluster.specs.Inner.Carried.{exchange}
-use Rattle.cluster.specs.Inner.Carried.{Exchanged}
+use Rattle.cluster.specs.Inner.Carried.{answerTo, leftBy, heardIn, Exchanged}
 use Rattle.cluster.proofs.Rounds.{file-decides, buffer-decides, others-decide, round-refused, round-accepted}
 
 pub file-refused : (file frame buffer : List ℕ) {n : ℕ} → n ≡ fileGround file → (n ≡ 0 → ⊥) → (refused n, buffer, file) ≡ roundOn file frame buffer
@@ -39,7 +38,7 @@ unfolding roundGround frameGround
 frame-decides file frame buffer accepted long = others-decide file buffer _ accepted long
 
 pub exchanged-round : (file frame : List ℕ) {old new : List ℕ} {answer : Answer} {file′ : List ℕ} → Becomes file (decode file) → slots ≤ length old → Exchanged (decode file) frame old new answer file′ → (answer, new, file′) ≡ roundOn file frame old
-unfolding exchange
+unfolding answerTo leftBy heardIn
 exchanged-round file frame {old} {new} {answer} {file′} h long x =
     let same : roundGround file frame old ≡ frameGround (decode file) frame = frame-decides file frame old (h .accepted) long in
     byCase (eqb (frameGround (decode file) frame) 0)

@@ -5,11 +5,11 @@ use native.Mathlib.Omega.{arith}
 use native.Mathlib.Numerals.{add-one}
 use mathlib.Core.Path.{_≡_, refl, sym, ap, _∙_}
 use mathlib.Core.Logic.{_≢_}
-use mathlib.Core.List.{List, map}
-use mathlib.Core.Bool.{Bool, true, cond}
+use mathlib.Core.List.{List, [], _∷_, map}
+use mathlib.Core.Bool.{Bool, true}
 use lib.ListN.{length, getD, set, length-set}
-use lib.Dec.{eqb}
-use borrow.Author.Tests.{eq-eqb, ne-eqb, ltb-true}
+use lib.Seq.{getD-set-other}
+use borrow.Author.Tests.{ltb-true}
 use Rattle.file.specs.Rules.Bytes.{Byte}
 use Rattle.file.specs.Rules.Order as Order
 use Rattle.file.specs.Rules.Layout.{recordSize}
@@ -23,44 +23,51 @@ use Rattle.file.proofs.StoreLaws.{becomes-byte}
 use Rattle.cluster.specs.Rules.Slaves.{isUnnamed}
 use Rattle.cluster.specs.Rules.Entries.{Entry, Acting, acts, acting, bytePlace, receives}
 use Rattle.cluster.specs.Rules.Multipartner.{SlaveByte, nowhere, byteOf, within, mayStore, storePlace, storesAt, storedThere}
-use Rattle.cluster.specs.Inner.Slots.{placeIn, storedBelow}
+use Rattle.cluster.specs.Inner.Slots.{placeIn, storedAt}
 use Rattle.cluster.proofs.Kept.{SlaveKept, storesAt-stores, stored-kept}
 use Rattle.cluster.proofs.Changing.{firstChanged, changed-all, changed-next, changed-same, changed-at, changed-shape}
 
 -- ---- the loop
 
-pub stored-length : (f places : List ℕ) (b n : ℕ) → length (storedBelow f places b n) ≡ length f
-unfolding storedBelow
+pub stored-length : (f places : List ℕ) (b n : ℕ) → length (storedAt f places b n) ≡ length f
+unfolding storedAt
 stored-length f places b zero = refl
-stored-length f places b (suc n) =
-    byCase (eqb (getD places n 0) 0)
-    (λ t. rw t (stored-length f places b n))
-    (λ t. rw t (length-set (storedBelow f places b n) (getD places n 0) b ∙ stored-length f places b n))
+stored-length f places b (suc n) = length-set (storedAt f places b n) (getD places n 0) b ∙ stored-length f places b n
 
 pub record Storing (f places : List ℕ) (b count n : ℕ) (g : List ℕ) : Type 0 where
   pub most : n ≤ count
-  pub stored : g ≡ storedBelow f places b n
+  pub stored : g ≡ storedAt f places b n
 
 pub storing-start : (f places : List ℕ) (b count : ℕ) → Storing f places b count 0 f
-unfolding storedBelow
+unfolding storedAt
 storing-start f places b count = record { most = omega arith; stored = refl }
 
 module _ {f places : List ℕ} {b count n : ℕ} {g : List ℕ} (h : Storing f places b count n g) where
   pub storing-length : length g ≡ length f
   storing-length = ap length (h .stored) ∙ stored-length f places b n
 
-  pub storing-here : {new : List ℕ} → n < count → (getD places n 0 ≡ 0 → ⊥) → new ≡ set g (getD places n 0) b → Storing f places b count (n + 1) new
-  unfolding storedBelow
-  storing-here more some is =
-      record { most = omega arith; stored = rw (is, add-one, ne-eqb (getD places n 0) 0 some, h .stored) }
+  pub storing-next : n < count → Storing f places b count (n + 1) (set g (getD places n 0) b)
+  unfolding storedAt
+  storing-next more = record { most = omega arith; stored = rw (add-one, h .stored) }
 
-  pub storing-past : {new : List ℕ} → n < count → getD places n 0 ≡ 0 → new ≡ g → Storing f places b count (n + 1) new
-  unfolding storedBelow
-  storing-past more none is =
-      record { most = omega arith; stored = rw (is, add-one, eq-eqb (getD places n 0) 0 none) (h .stored) }
-
-  pub storing-done : count ≤ n → g ≡ storedBelow f places b count
+  pub storing-done : count ≤ n → g ≡ storedAt f places b count
   storing-done left = let e : n ≡ count = omega (arith, h .most) in rw e at (h .stored)
+
+-- a place put behind the first n changes nothing of what they store
+pub stored-before : (f places : List ℕ) (b p n m : ℕ) → n ≤ m → storedAt f (set places m p) b n ≡ storedAt f places b n
+unfolding storedAt
+stored-before f places b p zero m l = refl
+stored-before f places b p (suc n) m l =
+    rw (getD-set-other places m n p 0 (λ e. omega arith), stored-before f places b p n m (omega arith))
+
+-- the byte stored by one slave, and by the first n, each at its place, where it has one
+unfoldable pub storedIn : List ℕ → List ℕ → ℕ → List ℕ
+storedIn f [] b = f
+storedIn f (p ∷ ps) b = set f p b
+
+unfoldable pub storedBy : List ℕ → (ℕ → List ℕ) → ℕ → ℕ → List ℕ
+storedBy f place b zero = f
+storedBy f place b (suc n) = storedIn (storedBy f place b n) (place n) b
 
 -- ---- where a receive stores lies within the slave's file
 
@@ -91,6 +98,10 @@ storesAt-lands passed round slot s =
     byCase (isAwake s)
     (λ a. byCase (isUnnamed s) (λ t. rw (a, t) stays) (λ t. rw (a, t) (store-lands s slot (acting passed (bytesIn s round) slot))))
     (λ a. rw a stays)
+
+-- where the slave at index s stores in a slot
+abbrev pub aim : (Entry → Bool) → Cluster → ℕ → ℕ → ℕ → List ℕ
+aim passed c round slot s = placeIn c s (storesAt passed round slot (slaveOf c s))
 
 -- ---- the file after the stores
 
@@ -147,27 +158,23 @@ module _ (passed : Entry → Bool) (c : Cluster) (round slot b : ℕ) (byte : By
   unfolding receivedBy firstChanged withSlaves
   stored-none h = h
 
-  module _ (stores : List ℕ) (aimed : (s : ℕ) → s < length (c .slaves) → getD stores s 0 ≡ placeIn c s (storesAt passed round slot (slaveOf c s))) where
-    store-there : {f : List ℕ} {m k : ℕ} (n : ℕ) → n < length (c .slaves) → Becomes f (receivedBy passed c round slot b n) → storesAt passed round slot (slaveOf c n) ≡ byteOf m k → m ≢ documentation
-        → k < length (bytesIn (slaveOf c n) m) → Becomes (set f (filePlace c n m + k) b) (receivedBy passed c round slot b (suc n))
-    store-there {f} {m} {k} n l h at other inside =
-        let d : Cluster = receivedBy passed c round slot b n in
-        let fits : k < length (bytesIn (slaveOf d n) m) = rw (received-slave n) inside in
-        let there : filePlace d n m ≡ filePlace c n m = received-place n n m in
-        let put : putByte d n m k b ≡ receivedBy passed c round slot b (suc n) = put-next n m k l at in
-        rw (← there, ← put) (becomes-byte h n m k b other byte fits)
+  store-there : {f : List ℕ} {m k : ℕ} (n : ℕ) → n < length (c .slaves) → Becomes f (receivedBy passed c round slot b n) → storesAt passed round slot (slaveOf c n) ≡ byteOf m k → m ≢ documentation
+      → k < length (bytesIn (slaveOf c n) m) → Becomes (set f (filePlace c n m + k) b) (receivedBy passed c round slot b (suc n))
+  store-there {f} {m} {k} n l h at other inside =
+      let d : Cluster = receivedBy passed c round slot b n in
+      let fits : k < length (bytesIn (slaveOf d n) m) = rw (received-slave n) inside in
+      let there : filePlace d n m ≡ filePlace c n m = received-place n n m in
+      let put : putByte d n m k b ≡ receivedBy passed c round slot b (suc n) = put-next n m k l at in
+      rw (← there, ← put) (becomes-byte h n m k b other byte fits)
 
-    store-next : {f : List ℕ} (p : SlaveByte) (n : ℕ) → n < length (c .slaves) → Lands (slaveOf c n) p → storesAt passed round slot (slaveOf c n) ≡ p → Becomes f (receivedBy passed c round slot b n)
-        → Becomes (cond (eqb (placeIn c n p) 0) f (set f (placeIn c n p) b)) (receivedBy passed c round slot b (suc n))
-    unfolding placeIn
-    store-next p n l stays at h = rw (← keep-next n at) h
-    store-next p n l (lands {n = m} {k} low high place inside) at h =
-        rw (ne-eqb (filePlace c n m + k) 0 (λ e. omega arith))
-        (store-there n l h at (λ e. omega (arith, e)) inside)
+  store-next : {f : List ℕ} (p : SlaveByte) (n : ℕ) → n < length (c .slaves) → Lands (slaveOf c n) p → storesAt passed round slot (slaveOf c n) ≡ p → Becomes f (receivedBy passed c round slot b n)
+      → Becomes (storedIn f (placeIn c n p) b) (receivedBy passed c round slot b (suc n))
+  unfolding placeIn storedIn
+  store-next p n l stays at h = rw (← keep-next n at) h
+  store-next p n l (lands {n = m} {k} low high place inside) at h = store-there n l h at (λ e. omega (arith, e)) inside
 
-    pub stored-becomes : {f : List ℕ} → Becomes f c → (n : ℕ) → n ≤ length (c .slaves) → Becomes (storedBelow f stores b n) (receivedBy passed c round slot b n)
-    unfolding storedBelow
-    stored-becomes h zero l = stored-none h
-    stored-becomes h (suc n) l =
-        rw (aimed n (omega arith))
-        (store-next (storesAt passed round slot (slaveOf c n)) n (omega arith) (storesAt-lands passed round slot (slaveOf c n)) refl (stored-becomes h n (omega arith)))
+  pub stored-becomes : {f : List ℕ} → Becomes f c → (n : ℕ) → n ≤ length (c .slaves) → Becomes (storedBy f (aim passed c round slot) b n) (receivedBy passed c round slot b n)
+  unfolding storedBy
+  stored-becomes h zero l = stored-none h
+  stored-becomes h (suc n) l =
+      store-next (storesAt passed round slot (slaveOf c n)) n (omega arith) (storesAt-lands passed round slot (slaveOf c n)) refl (stored-becomes h n (omega arith))

@@ -1,5 +1,5 @@
 -- Words of the contracts between functions: a frame's grounds one by one, a frame carried out, the code's entries, the slots of a round,
--- the code's duties, the sending of a complete round and the code's answers.
+-- the code's duties, the sending of a complete round, the code's answers and a frame that nobody hears.
 pub mod Grounds
 pub mod Effects
 pub mod Carried
@@ -8,3 +8,4 @@ pub mod Slots
 pub mod Duties
 pub mod Sending
 pub mod Answers
+pub mod Unheard

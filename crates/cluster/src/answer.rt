@@ -8,6 +8,8 @@ ghost use Rattle.file.specs.Rules.Layout.{recordSize};
 ghost use Rattle.cluster.specs.Rules.Bus.{slots, senderMask, answerBytes, answerIn, nobody};
 ghost use Rattle.cluster.specs.Rules.Slaves.{readReply};
 ghost use Rattle.cluster.specs.Inner.Carried.{sendersTo, said};
+ghost use Rattle.cluster.specs.Inner.Answers.{answerOf};
+ghost use Rattle.cluster.specs.Inner.Unheard.{isDone};
 use file::layout::RECORD_SIZE;
 use file::types::Refusal;
 use frame::check::data_check;
@@ -16,6 +18,22 @@ use frame::check::data_check;
 pub enum RoundAnswer {
     Refused(Refusal),
     Carried(u64),
+}
+
+// Whether a frame was carried out.
+pub fn is_carried(answer: RoundAnswer) -> bool
+    ensures { λ r. ⌜ r ≡ isDone (answerOf answer) ⌝ }
+{
+    match answer {
+        RoundAnswer::Refused(_) => false,
+        RoundAnswer::Carried(_) => true,
+    }
+}
+
+// What came of a frame that nobody hears: whether it was carried out, and whether someone may be asleep afterwards.
+pub struct Unheard {
+    pub carried: bool,
+    pub sleepers: bool,
 }
 
 // Slots 0 to 63; slot 0 is the firework's.

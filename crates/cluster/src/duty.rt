@@ -11,6 +11,7 @@ ghost use Rattle.cluster.specs.Rules.Bus.{slots};
 ghost use Rattle.cluster.specs.Rules.Slaves.{nothing, comparing, baptizing, sleeping, pendingDuty, mayWrite, sentTo, slavesAfter, rested};
 ghost use Rattle.cluster.specs.Inner.Carried.{Heard, Carried};
 ghost use Rattle.cluster.specs.Inner.Duties.{readingAt, writingAt, executionAt, dutyAt, dutyFor, dataIn, dutyEffect};
+ghost use Rattle.cluster.specs.Inner.Unheard.{putsToSleep, leavesSlaves};
 use crate::answer::NOBODY;
 use crate::answer::mask_to;
 use crate::answer::silence;
@@ -246,17 +247,42 @@ fn sleep_round(file: &mut [u8], places: &SlavePlaces, name: LogicalName)
     }
 }
 
+// Whether a duty puts slaves to sleep.
+pub fn puts_to_sleep(duty: Duty) -> bool
+    ensures { λ r. ⌜ r ≡ putsToSleep duty ⌝ }
+{
+    match duty {
+        Duty::Nothing => false,
+        Duty::Read => false,
+        Duty::Write => false,
+        Duty::Compare => false,
+        Duty::Baptize => false,
+        Duty::Sleep => true,
+    }
+}
+
 // Who is awake after a round with that duty: all but those that it puts to sleep.
 pub fn rest_slaves(file: &mut [u8], places: &SlavePlaces, duty: Duty, address: RecordAddress)
     requires { ⌜ Placed (now file) (now places) ⌝ }
     ensures { λ _. ⌜ Becomes (now (file .exit)) (rested (dutyAt duty address) (decode (now (file .entry)))) ⌝ }
 {
+    if puts_to_sleep(duty) {
+        sleep_round(file, places, address.name);
+        return;
+    }
+    wake_slaves(file);
+}
+
+// Whether a duty leaves slaves that are awake as they are: they send, or do nothing.
+pub fn leaves_slaves(duty: Duty) -> bool
+    ensures { λ r. ⌜ r ≡ leavesSlaves duty ⌝ }
+{
     match duty {
-        Duty::Nothing => wake_slaves(file),
-        Duty::Read => wake_slaves(file),
-        Duty::Write => wake_slaves(file),
-        Duty::Compare => wake_slaves(file),
-        Duty::Baptize => wake_slaves(file),
-        Duty::Sleep => sleep_round(file, places, address.name),
+        Duty::Nothing => true,
+        Duty::Read => true,
+        Duty::Write => false,
+        Duty::Compare => true,
+        Duty::Baptize => false,
+        Duty::Sleep => false,
     }
 }

@@ -1,10 +1,11 @@
 // A round file's entries, the round descriptor list of 002.
 ghost use mathlib.Core.Path.{_≡_};
-ghost use Prim.Native.Nat.{_+_, _≤_, _<_};
+ghost use Prim.Native.Nat.{_+_, _-_, _/_, _≤_, _<_};
 ghost use lib.ListN.{length};
+ghost use lib.Dec.{eqb, ltb};
 ghost use Rattle.file.specs.Rules.Layout.{recordSize};
-ghost use Rattle.cluster.specs.Rules.Entries.{entryOf, entryThere, isMultiplexed, ends, covers, inTurn, outOfTurn, eligible, bytePlace};
-ghost use Rattle.cluster.specs.Inner.EntryForm.{operationCodes, OperationIs, codeOf, multiplexOf, entryFrom, evaluated, Reaches, actionBy, actionFrom};
+ghost use Rattle.cluster.specs.Rules.Entries.{entryOf, entryThere, isMultiplexed, ends, inTurn, outOfTurn, eligible, bytePlace};
+ghost use Rattle.cluster.specs.Inner.EntryForm.{operationCodes, OperationIs, codeOf, entryFrom, evaluated, Reaches, actionBy, actionFrom};
 use file::layout::RECORD_SIZE;
 use file::types::FileNumber;
 use file::types::RecordNumber;
@@ -176,15 +177,6 @@ pub fn is_end(entry: Entry) -> bool
     }
 }
 
-fn is_covering(entry: Entry, slot: usize) -> bool
-    ensures { λ r. ⌜ r ≡ covers (entryFrom entry) slot ⌝ }
-{
-    if slot < entry.slot {
-        return false;
-    }
-    slot - entry.slot < entry.length
-}
-
 pub fn is_multiplexed(operation: EntryOperation) -> bool
     ensures { λ r. ⌜ r ≡ isMultiplexed (codeOf operation) ⌝ }
 {
@@ -208,51 +200,86 @@ pub fn is_multiplexed(operation: EntryOperation) -> bool
     }
 }
 
-// By how many epochs later a multiplexed operation is in turn again; the second half of eight turns is that of the High ones.
-const TURNS_OF_4: u8 = 4;
+// Of every entry that a round comes to it asks only what its bytes 2 and 3 tell, where they lie. Byte 2 is the kind: the operation
+// above the length less one. Byte 3 is the start: the multiplex field above the first slot.
+const KIND_PLACE: usize = 2;
 
-const TURNS_OF_8: u8 = 8;
+const START_PLACE: usize = 3;
 
-const HIGH_TURNS: u16 = 4;
+const FIRST_END_KIND: u8 = END_OF_ROUND * LENGTH_VALUES;
 
-// Whether an operation is in turn in a round of that epoch. Those that are not multiplexed always are.
-fn is_in_turn(operation: EntryOperation, epoch: u8) -> bool
-    ensures { λ r. ⌜ r ≡ inTurn epoch (codeOf operation) (multiplexOf operation) ⌝ }
+const FIRST_MULTIPLEXED_KIND: u8 = RECEIVE_MUX_4 * LENGTH_VALUES;
+
+// Whether the entry at a place ends the round.
+pub fn ends_at(file: &[u8], at: usize) -> bool
+    requires { ⌜ at + recordSize ≤ length (now file) ⌝ }
+    ensures { λ r. ⌜ r ≡ ends (entryThere (now (file .entry)) at .operation) ⌝ }
 {
-    let eighth = (epoch % TURNS_OF_8) as u16;
-    match operation {
-        EntryOperation::Receive => true,
-        EntryOperation::Send => true,
-        EntryOperation::ReceiveSync => true,
-        EntryOperation::Execute => true,
-        EntryOperation::ReceiveSpeedup => true,
-        EntryOperation::SendSpeedup => true,
-        EntryOperation::EndOfRound => true,
-        EntryOperation::ExecuteAndEnd => true,
-        EntryOperation::ReceiveMux4(field) => field == epoch % TURNS_OF_4,
-        EntryOperation::SendMux4(field) => field == epoch % TURNS_OF_4,
-        EntryOperation::ReceiveMux8(field) => field == epoch % TURNS_OF_8,
-        EntryOperation::SendMux8(field) => field == epoch % TURNS_OF_8,
-        EntryOperation::ReceiveSpeedupMux4(field) => field == epoch % TURNS_OF_4,
-        EntryOperation::SendSpeedupMux4(field) => field == epoch % TURNS_OF_4,
-        EntryOperation::ReceiveMux8High(field) => field as u16 + HIGH_TURNS == eighth,
-        EntryOperation::SendMux8High(field) => field as u16 + HIGH_TURNS == eighth,
-    }
-}
-
-// Whether an entry acts in a slot if none before it does: it covers the slot and is in turn. Most entries are not multiplexed, and are
-// told apart first.
-pub fn is_eligible(entry: Entry, slot: usize, epoch: u8) -> bool
-    ensures { λ r. ⌜ r ≡ eligible (outOfTurn epoch) (entryFrom entry) slot ⌝ }
-{
-    if !is_covering(entry, slot) {
+    let kind = file[at + KIND_PLACE];
+    if kind < FIRST_END_KIND {
         return false;
     }
-    let operation = entry.operation;
-    if !is_multiplexed(operation) {
+    kind < FIRST_MULTIPLEXED_KIND
+}
+
+// Whether its first slot is yet to come.
+pub fn waits_at(file: &[u8], at: usize, slot: usize) -> bool
+    requires { ⌜ at + recordSize ≤ length (now file) ⌝ }
+    ensures { λ r. ⌜ r ≡ ltb slot (entryThere (now (file .entry)) at .start) ⌝ }
+{
+    let start = file[at + START_PLACE];
+    slot < (start % START_VALUES) as usize
+}
+
+// A multiplexed operation's field is the epoch modulo 4. Of each four codes the upper two go by the epoch modulo 8, in whose
+// second half the codes of the upper four are in turn.
+const TURNS: u8 = 4;
+
+const BY_EIGHT: u8 = 2 * LENGTH_VALUES;
+
+const SECOND_HALF: u8 = 4 * LENGTH_VALUES;
+
+// Whether an entry of that kind and start is in turn in a round of that epoch. Those that are not multiplexed always are.
+fn is_in_turn(kind: u8, start: u8, epoch: u8) -> bool
+    ensures { λ r. ⌜ r ≡ inTurn epoch (kind / 16) (start / 64) ⌝ }
+{
+    if kind < FIRST_MULTIPLEXED_KIND {
         return true;
     }
-    is_in_turn(operation, epoch)
+    if start / START_VALUES != epoch % TURNS {
+        return false;
+    }
+    if kind / BY_EIGHT % 2 == 0 {
+        return true;
+    }
+    epoch / TURNS % 2 == kind / SECOND_HALF % 2
+}
+
+// Whether the entry at a place acts in a slot if none before it does: it covers the slot and is in turn.
+pub fn acts_at(file: &[u8], at: usize, slot: usize, epoch: u8) -> bool
+    requires { ⌜ at + recordSize ≤ length (now file) ⌝ }
+    ensures { λ r. ⌜ r ≡ eligible (outOfTurn epoch) (entryThere (now (file .entry)) at) slot ⌝ }
+{
+    let kind = file[at + KIND_PLACE];
+    let start = file[at + START_PLACE];
+    let first = (start % START_VALUES) as usize;
+    if slot < first {
+        return false;
+    }
+    if ((kind % LENGTH_VALUES) as usize) < slot - first {
+        return false;
+    }
+    is_in_turn(kind, start, epoch)
+}
+
+// Whether a slot is its last, for an entry that has begun.
+pub fn is_last(file: &[u8], at: usize, slot: usize) -> bool
+    requires { ⌜ (at + recordSize ≤ length (now file)) × (entryThere (now file) at .start ≤ slot) ⌝ }
+    ensures { λ r. ⌜ r ≡ eqb (slot - entryThere (now (file .entry)) at .start + 1) (entryThere (now (file .entry)) at .length) ⌝ }
+{
+    let kind = file[at + KIND_PLACE];
+    let start = file[at + START_PLACE];
+    slot - (start % START_VALUES) as usize == (kind % LENGTH_VALUES) as usize
 }
 
 // The byte of the entry's file that a slot is about.

@@ -11,7 +11,7 @@ ghost use Rattle.frame.specs.Rules.Fireworks.{msa};
 ghost use Rattle.cluster.specs.Rules.Bus.{slots};
 ghost use Rattle.cluster.specs.Rules.Slaves.{withAddress};
 ghost use Rattle.cluster.specs.Rules.Grounds.{roundBy};
-ghost use Rattle.cluster.specs.Inner.Carried.{Exchanged};
+ghost use Rattle.cluster.specs.Inner.Carried.{Exchanged, Taken};
 ghost use Rattle.cluster.specs.Inner.Answers.{answerOf};
 use crate::answer::NOBODY;
 use crate::answer::RoundAnswer;
@@ -42,9 +42,10 @@ pub fn become_pending(
     set_pending(file, name, number, operation, record);
 }
 
-pub fn take_address(file: &mut [u8], frame: &[u8], buffer: &mut [u8]) -> RoundAnswer
-    requires { ⌜ AcceptedFile (now file) × (roundBy (now frame) ≡ msa) × (slots ≤ length (now buffer)) ⌝ }
-    ensures { λ r. ⌜ Exchanged (decode (now (file .entry))) (now (frame .entry)) (now (buffer .entry)) (now (buffer .exit)) (answerOf r) (now (file .exit)) ⌝ }
+// An address frame, whoever hears.
+pub fn pend_address(file: &mut [u8], frame: &[u8]) -> RoundAnswer
+    requires { ⌜ AcceptedFile (now file) × (roundBy (now frame) ≡ msa) ⌝ }
+    ensures { λ r. ⌜ Taken (decode (now (file .entry))) (now (frame .entry)) (answerOf r) (now (file .exit)) ⌝ }
 {
     let reading = read_address(frame);
     match reading {
@@ -57,8 +58,22 @@ pub fn take_address(file: &mut [u8], frame: &[u8], buffer: &mut [u8]) -> RoundAn
             record,
         } => {
             become_pending(file, epoch, name, number, operation, record);
-            silence(buffer, MSA);
             RoundAnswer::Carried(NOBODY)
+        }
+    }
+}
+
+// The same with its buffer.
+pub fn take_address(file: &mut [u8], frame: &[u8], buffer: &mut [u8]) -> RoundAnswer
+    requires { ⌜ AcceptedFile (now file) × (roundBy (now frame) ≡ msa) × (slots ≤ length (now buffer)) ⌝ }
+    ensures { λ r. ⌜ Exchanged (decode (now (file .entry))) (now (frame .entry)) (now (buffer .entry)) (now (buffer .exit)) (answerOf r) (now (file .exit)) ⌝ }
+{
+    let answer = pend_address(file, frame);
+    match answer {
+        RoundAnswer::Refused(why) => RoundAnswer::Refused(why),
+        RoundAnswer::Carried(mask) => {
+            silence(buffer, MSA);
+            RoundAnswer::Carried(mask)
         }
     }
 }

@@ -14,9 +14,13 @@ ghost use Rattle.cluster.specs.Inner.Effects.{dataEffect};
 ghost use Rattle.cluster.specs.Inner.Carried.{Carried, Exchanged};
 ghost use Rattle.cluster.specs.Inner.Duties.{dataIn};
 ghost use Rattle.cluster.specs.Inner.Answers.{answerOf, dataRead};
+ghost use Rattle.cluster.specs.Inner.Unheard.{MaySleep, Left, LeftUnheard};
 use crate::answer::RoundAnswer;
+use crate::answer::Unheard;
 use crate::duty::do_duty;
+use crate::duty::leaves_slaves;
 use crate::duty::pending_duty;
+use crate::duty::puts_to_sleep;
 use crate::duty::rest_slaves;
 use crate::epoch::raise_epoch;
 use crate::types::DataBytes;
@@ -107,6 +111,57 @@ pub fn take_data(
         DataReading::Data(bytes) => {
             let mask = carry_data(file, places, bytes, buffer);
             RoundAnswer::Carried(mask)
+        }
+    }
+}
+
+// The data part of a round that nobody hears. Whether someone may be asleep, before and afterwards: where nobody is, a duty that leaves the
+// slaves as they are raises the epoch alone.
+fn carry_unheard(
+    file: &mut [u8],
+    places: &SlavePlaces,
+    bytes: DataBytes,
+    buffer: &mut [u8],
+    sleepers: bool,
+) -> bool
+    requires { ⌜ Placed (now file) (now places) × (slots ≤ length (now buffer)) × MaySleep sleepers (decode (now file)) ⌝ }
+    ensures { λ r. ⌜ Left (dataEffect (decode (now (file .entry))) (dataIn bytes) .after) r (now (file .exit)) ⌝ }
+{
+    let pending = pending_duty(file);
+    let duty = pending.duty;
+    if leaves_slaves(duty) {
+        if !sleepers {
+            raise_epoch(file);
+            return false;
+        }
+    }
+    carry_data(file, places, bytes, buffer);
+    puts_to_sleep(duty)
+}
+
+// A data frame that nobody hears.
+pub fn take_unheard(
+    file: &mut [u8],
+    places: &SlavePlaces,
+    frame: &[u8],
+    buffer: &mut [u8],
+    sleepers: bool,
+) -> Unheard
+    requires { ⌜ Placed (now file) (now places) × (roundBy (now frame) ≡ msd) × (slots ≤ length (now buffer)) × MaySleep sleepers (decode (now file)) ⌝ }
+    ensures { λ r. ⌜ LeftUnheard (decode (now (file .entry))) (now (frame .entry)) (r .carried) (r .sleepers) (now (file .exit)) ⌝ }
+{
+    let reading = read_data(file, frame);
+    match reading {
+        DataReading::Refused(_) => Unheard {
+            carried: false,
+            sleepers,
+        },
+        DataReading::Data(bytes) => {
+            let asleep = carry_unheard(file, places, bytes, buffer, sleepers);
+            Unheard {
+                carried: true,
+                sleepers: asleep,
+            }
         }
     }
 }

@@ -1,19 +1,20 @@
 // Multipartner rounds: slots 1 to 63 over the slaves' round files.
 ghost use mathlib.Core.Path.{_≡_};
-ghost use Prim.Native.Nat.{_+_, _-_, _/_, _≤_, _<_};
+ghost use Prim.Native.Nat.{_+_, _^_, _≤_, _<_};
 ghost use lib.ListN.{length};
 ghost use Rattle.file.specs.Rules.Order.{either};
 ghost use Rattle.file.specs.Inner.Typed.{fileIn};
 ghost use Rattle.file.specs.Rules.Layout.{recordSize};
 ghost use Rattle.file.specs.Rules.Decode.{decode};
+ghost use Rattle.file.specs.Inner.Places.{slavesRoom};
 ghost use Rattle.file.specs.Inner.Accepted.{AcceptedFile, slaveCount, Placed};
 ghost use Rattle.cluster.specs.Rules.Bus.{slots, joined};
-ghost use Rattle.cluster.specs.Rules.Entries.{Acting, outOfTurn};
+ghost use Rattle.cluster.specs.Rules.Entries.{entryThere, outOfTurn};
 ghost use Rattle.cluster.specs.Rules.Multipartner.{mayStore};
 ghost use Rattle.cluster.specs.Inner.EntryForm.{entryFrom, Reaches};
 ghost use Rattle.cluster.specs.Inner.Carried.{Carried};
 ghost use Rattle.cluster.specs.Inner.Effects.{multipartnerEffect};
-ghost use Rattle.cluster.specs.Inner.Slots.{slotsEffect, PlannedFileIs, RoundFileIs, RoundFilesAre, EntriesWithin, openFrom, findByte, foundByte, SlotActIs, actSends, actStores, isSender, storedBelow, StoresWithin};
+ghost use Rattle.cluster.specs.Inner.Slots.{slotsEffect, PlannedFileIs, RoundFileIs, RoundFilesAre, nextPast, nextAfter, fileNumbers, FileIs, FilesKept, KeptFor, EntryActIs, ActedAt, actSends, isSender, StoresLow, putStore, storedAt, StoresWithin};
 use crate::answer::FIREWORK_SLOT;
 use crate::answer::FIRST_SLOT;
 use crate::answer::NOBODY;
@@ -24,12 +25,15 @@ use crate::duty::wake_slaves;
 use crate::entry::Entry;
 use crate::entry::EntryAction;
 use crate::entry::action_of;
+use crate::entry::acts_at;
 use crate::entry::byte_place;
+use crate::entry::ends_at;
 use crate::entry::entry_at;
-use crate::entry::is_eligible;
-use crate::entry::is_end;
+use crate::entry::is_last;
+use crate::entry::waits_at;
 use crate::epoch::raise_epoch;
 use file::layout::RECORD_SIZE;
+use file::readers::FileBytes;
 use file::readers::FilePlace;
 use file::readers::find_file;
 use file::readers::is_awake;
@@ -48,12 +52,6 @@ pub struct RoundFile {
 }
 
 const NO_ROUND_FILE: RoundFile = RoundFile { start: 0, end: 0 };
-
-// The same of every slave.
-pub struct RoundFiles {
-    pub starts: [usize; SLAVES_ROOM],
-    pub ends: [usize; SLAVES_ROOM],
-}
 
 // The entries planned for a slave, awake or asleep.
 pub fn planned_file(file: &[u8], places: &SlavePlaces, slave: usize, round: FileNumber) -> RoundFile
@@ -85,64 +83,86 @@ fn round_file(file: &[u8], places: &SlavePlaces, slave: usize, round: FileNumber
     planned_file(file, places, slave, round)
 }
 
-fn round_files(file: &[u8], places: &SlavePlaces, round: FileNumber) -> RoundFiles
-    requires { ⌜ Placed (now file) (now places) ⌝ }
-    ensures { λ r. ⌜ RoundFilesAre (decode (now (file .entry))) (fileIn round) (r .starts) (r .ends) ⌝ }
+// The same of every slave, put in front of whatever else the lent arrays hold.
+fn round_files(
+    file: &[u8],
+    places: &SlavePlaces,
+    round: FileNumber,
+    starts: &mut [u32; SLAVES_ROOM],
+    ends: &mut [u32; SLAVES_ROOM],
+)
+    requires { ⌜ Placed (now file) (now places) × (length (now starts) ≡ slavesRoom) × (length (now ends) ≡ slavesRoom) ⌝ }
+    ensures { λ _. ⌜ RoundFilesAre (decode (now (file .entry))) (fileIn round) (now (starts .exit)) (now (ends .exit)) ⌝ }
 {
-    let mut starts = [0usize; SLAVES_ROOM];
-    let mut ends = [0usize; SLAVES_ROOM];
     let count = slave_count(file);
     let mut slave = 0;
     while slave < count {
         let found = round_file(file, places, slave, round);
-        starts[slave] = found.start;
-        ends[slave] = found.end;
+        starts[slave] = found.start as u32;
+        ends[slave] = found.end as u32;
         slave = slave + 1;
     }
-    RoundFiles { starts, ends }
 }
 
-// Where the search of a slot begins: at the first entry that covers this slot or a later one, or ends the round. Slots rise, so
-// those in front of it never act again.
-fn open_from(file: &[u8], start: usize, end: usize, slot: usize) -> usize
-    requires { ⌜ EntriesWithin (now file) start end ⌝ }
-    ensures { λ r. ⌜ r ≡ openFrom (now (file .entry)) slot start ((end - start) / recordSize) ⌝ }
+// Where the search of the next slot begins, with one more entry over: past it, if the search began there.
+fn next_past(next: usize, at: usize) -> usize
+    requires { ⌜ at < 2 ^ 32 ⌝ }
+    ensures { λ r. ⌜ r ≡ nextPast next at ⌝ }
 {
-    let mut at = start;
-    while at < end {
-        let entry = entry_at(file, at);
-        if slot <= entry.slot + (entry.length - 1) {
-            return at;
-        }
-        if is_end(entry) {
-            return at;
-        }
-        at = at + RECORD_SIZE;
+    if next != at {
+        return next;
     }
-    at
+    at + RECORD_SIZE
 }
 
-// Where in the cluster file a byte lies.
-pub enum BytePlace {
-    At(usize),
-    Outside,
-}
-
-// The byte that a slot is about, for an entry that covers it.
-fn find_byte(file: &[u8], slave: usize, entry: Entry, slot: usize) -> BytePlace
-    requires { ⌜ AcceptedFile (now file) × (slave < slaveCount (now file)) × Reaches entry slot ⌝ }
-    ensures { λ r. ⌜ foundByte r ≡ findByte (decode (now (file .entry))) slave (entryFrom entry) slot ⌝ }
+// The same after a slot in which the entry acts: it is over if that slot is its last.
+fn next_after(file: &[u8], next: usize, at: usize, slot: usize) -> usize
+    requires { ⌜ (at < 2 ^ 32) × (at + recordSize ≤ length (now file)) × (entryThere (now file) at .start ≤ slot) ⌝ }
+    ensures { λ r. ⌜ r ≡ nextAfter (entryThere (now (file .entry)) at) next at slot ⌝ }
 {
-    let number = entry.address.file;
+    if !is_last(file, at, slot) {
+        return next;
+    }
+    next_past(next, at)
+}
+
+// Where a slave keeps a file, and how many bytes it has: none where it is not there.
+fn bytes_of(file: &[u8], slave: usize, number: FileNumber) -> FileBytes
+    requires { ⌜ AcceptedFile (now file) × (slave < slaveCount (now file)) ⌝ }
+    ensures { λ r. ⌜ FileIs (now (file .entry)) slave (fileIn number) (r .place) (r .size) ⌝ }
+{
     let found = find_file(file, slave, number);
     let FilePlace::Bytes(bytes) = found else {
-        return BytePlace::Outside;
+        return FileBytes { place: 0, size: 0 };
     };
-    let byte = byte_place(entry, slot);
-    if bytes.size <= byte {
-        return BytePlace::Outside;
+    bytes
+}
+
+// No file has that number: a slave whose entries have named none yet.
+const NO_FILE: u8 = 0xFF;
+
+// Neighbouring entries often name one file: of each slave the file named last is kept, by its number, place and size. Looked for is
+// another one only. No round moves or resizes a file.
+fn keep_file(
+    file: &[u8],
+    slave: usize,
+    number: FileNumber,
+    numbers: &mut [u8; SLAVES_ROOM],
+    froms: &mut [u32; SLAVES_ROOM],
+    sizes: &mut [u32; SLAVES_ROOM],
+)
+    requires { ⌜ AcceptedFile (now file) × (slave < slaveCount (now file)) × (fileIn number < fileNumbers) × FilesKept (now file) (now numbers) (now froms) (now sizes) ⌝ }
+    ensures { λ _. ⌜ KeptFor (now (file .entry)) slave (fileIn number) (now (numbers .exit)) (now (froms .exit)) (now (sizes .exit)) ⌝ }
+{
+    if numbers[slave] == number.0 {
+        return;
     }
-    BytePlace::At(bytes.place + byte)
+    let bytes = bytes_of(file, slave, number);
+    let place = bytes.place as u32;
+    let size = bytes.size as u32;
+    numbers[slave] = number.0;
+    froms[slave] = place;
+    sizes[slave] = size;
 }
 
 // "a receive stores only in files 0x10 to 0x3C, outside record 0x00".
@@ -170,34 +190,57 @@ pub enum SlotAct {
     Rests,
 }
 
-// What the acting entry makes a slave do.
-fn slot_act(file: &[u8], slave: usize, entry: Entry, slot: usize) -> SlotAct
-    requires { ⌜ AcceptedFile (now file) × (slave < slaveCount (now file)) × Reaches entry slot ⌝ }
-    ensures { λ r. ⌜ SlotActIs (decode (now (file .entry))) slave slot (Acting.acts (entryFrom entry)) r ⌝ }
+// What an entry that covers a slot makes its slave do, by where its file lies and how many bytes that has.
+fn slot_act(file: &[u8], entry: Entry, slot: usize, place: usize, size: usize) -> SlotAct
+    requires { ⌜ Reaches entry slot × (place + size ≤ length (now file)) × (length (now file) < 2 ^ 32) ⌝ }
+    ensures { λ r. ⌜ EntryActIs (now (file .entry)) (entryFrom entry) slot place size r ⌝ }
 {
+    let byte = byte_place(entry, slot);
     let operation = entry.operation;
     let action = action_of(operation);
     match action {
         EntryAction::Receives => {
+            if size <= byte {
+                return SlotAct::Rests;
+            }
             if !may_store(entry, slot) {
                 return SlotAct::Rests;
             }
-            let found = find_byte(file, slave, entry, slot);
-            match found {
-                BytePlace::At(place) => SlotAct::Stores(place),
-                BytePlace::Outside => SlotAct::Rests,
-            }
+            SlotAct::Stores(place + byte)
         }
         EntryAction::Sends => {
-            let found = find_byte(file, slave, entry, slot);
-            match found {
-                BytePlace::At(place) => SlotAct::Sends(file[place]),
-                BytePlace::Outside => SlotAct::Rests,
+            if size <= byte {
+                return SlotAct::Rests;
             }
+            SlotAct::Sends(file[place + byte])
         }
         EntryAction::Ends => SlotAct::Rests,
         EntryAction::Rests => SlotAct::Rests,
     }
+}
+
+// What the entry at a place makes its slave do.
+fn act_at(
+    file: &[u8],
+    slave: usize,
+    at: usize,
+    slot: usize,
+    numbers: &mut [u8; SLAVES_ROOM],
+    froms: &mut [u32; SLAVES_ROOM],
+    sizes: &mut [u32; SLAVES_ROOM],
+) -> SlotAct
+    requires { ⌜ AcceptedFile (now file) × (slave < slaveCount (now file)) × (at + recordSize ≤ length (now file)) × (entryThere (now file) at .start ≤ slot) × (slot < slots) × FilesKept (now file) (now numbers) (now froms) (now sizes) ⌝ }
+    ensures { λ r. ⌜ ActedAt (now (file .entry)) slave at slot r (now (numbers .exit)) (now (froms .exit)) (now (sizes .exit)) ⌝ }
+{
+    let entry = entry_at(file, at);
+    keep_file(file, slave, entry.address.file, numbers, froms, sizes);
+    slot_act(
+        file,
+        entry,
+        slot,
+        froms[slave] as usize,
+        sizes[slave] as usize,
+    )
 }
 
 // The bus byte with what a slave sends.
@@ -222,37 +265,37 @@ fn heard_with(heard: bool, act: SlotAct) -> bool
     }
 }
 
-// Where a slave stores, or that it does not: at the file's first byte no slave's file lies.
-const NO_PLACE: usize = 0;
-
-fn store_place(act: SlotAct) -> usize
-    ensures { λ r. ⌜ r ≡ actStores act ⌝ }
+// The places that the slot's byte is stored at, with what a slave does, and how many they are.
+fn put_store(stores: &mut [u32; SLAVES_ROOM], stored: usize, act: SlotAct) -> usize
+    requires { ⌜ (stored < slavesRoom) × StoresLow act ⌝ }
+    ensures { λ r. ⌜ (now (stores .exit), r) ≡ putStore (now (stores .entry)) stored act ⌝ }
 {
     match act {
-        SlotAct::Sends(_) => NO_PLACE,
-        SlotAct::Stores(place) => place,
-        SlotAct::Rests => NO_PLACE,
+        SlotAct::Sends(_) => stored,
+        SlotAct::Stores(place) => {
+            stores[stored] = place as u32;
+            stored + 1
+        }
+        SlotAct::Rests => stored,
     }
 }
 
-// The slot's byte stored by every slave that receives it.
-fn store(file: &mut [u8], stores: &[usize; SLAVES_ROOM], count: usize, byte: u8)
+// The slot's byte stored at each of those places.
+fn store(file: &mut [u8], stores: &[u32; SLAVES_ROOM], count: usize, byte: u8)
     requires { ⌜ StoresWithin (now file) (now stores) count ⌝ }
-    ensures { λ _. ⌜ now (file .exit) ≡ storedBelow (now (file .entry)) (now (stores .entry)) byte count ⌝ }
+    ensures { λ _. ⌜ now (file .exit) ≡ storedAt (now (file .entry)) (now (stores .entry)) byte count ⌝ }
 {
-    let mut slave = 0;
-    while slave < count {
-        let place = stores[slave];
-        if place != NO_PLACE {
-            file[place] = byte;
-        }
-        slave = slave + 1;
+    let mut i = 0;
+    while i < count {
+        let place = stores[i] as usize;
+        file[place] = byte;
+        i = i + 1;
     }
 }
 
 // Slots 1 to 63 of a multipartner round. Where each slave's entries lie is found once, before the first slot: no receive stores
-// in a round file or in 0x08. From slot to slot `starts` leaves out the entries that cannot act again. Multiplexed entries go by the
-// round's epoch.
+// in a round file or in 0x08. From slot to slot `starts` leaves out the entries in front that cannot act again: those that cover no
+// later slot, and multiplexed ones out of turn, which go by the round's epoch.
 fn run_slots(
     file: &mut [u8],
     places: &SlavePlaces,
@@ -265,42 +308,56 @@ fn run_slots(
     ensures { λ r. ⌜ Carried (slotsEffect (outOfTurn epoch) (decode (now (file .entry))) round) firework (now (buffer .entry)) (now (buffer .exit)) r (now (file .exit)) ⌝ }
 {
     let count = slave_count(file);
-    let files = round_files(file, places, FileNumber(round));
-    let mut starts = files.starts;
-    let ends = files.ends;
-    let mut stores = [NO_PLACE; SLAVES_ROOM];
+    let mut starts = [0u32; SLAVES_ROOM];
+    let mut ends = [0u32; SLAVES_ROOM];
+    round_files(file, places, FileNumber(round), &mut starts, &mut ends);
+    let mut numbers = [NO_FILE; SLAVES_ROOM];
+    let mut froms = [0u32; SLAVES_ROOM];
+    let mut sizes = [0u32; SLAVES_ROOM];
+    let mut stores = [0u32; SLAVES_ROOM];
     let mut mask = NOBODY;
     buffer[FIREWORK_SLOT] = firework;
     let mut slot = FIRST_SLOT;
     'slots: while slot < SLOTS {
         let mut bus = SILENT_BYTE;
         let mut heard = false;
+        let mut stored = 0;
         let mut slave = 0;
         'slaves: while slave < count {
-            let mut act = SlotAct::Rests;
-            let end = ends[slave];
-            let mut at = open_from(file, starts[slave], end, slot);
-            starts[slave] = at;
+            let end = ends[slave] as usize;
+            let mut at = starts[slave] as usize;
+            let mut next = at;
             'entries: while at < end {
-                let entry = entry_at(file, at);
-                if is_eligible(entry, slot, epoch) {
-                    // Where it is an end entry, the slave rests.
-                    act = slot_act(file, slave, entry, slot);
+                if ends_at(file, at) {
                     break 'entries;
                 }
-                if is_end(entry) {
-                    break 'entries;
+                if !waits_at(file, at, slot) {
+                    if acts_at(file, at, slot, epoch) {
+                        let act = act_at(
+                            file,
+                            slave,
+                            at,
+                            slot,
+                            &mut numbers,
+                            &mut froms,
+                            &mut sizes,
+                        );
+                        bus = bus_with(bus, act);
+                        heard = heard_with(heard, act);
+                        stored = put_store(&mut stores, stored, act);
+                        next = next_after(file, next, at, slot);
+                        break 'entries;
+                    }
+                    next = next_past(next, at);
                 }
                 at = at + RECORD_SIZE;
             }
-            bus = bus_with(bus, act);
-            heard = heard_with(heard, act);
-            stores[slave] = store_place(act);
+            starts[slave] = next as u32;
             slave = slave + 1;
         }
         if heard {
             mask = with_sender(mask, slot as u64);
-            store(file, &stores, count, bus);
+            store(file, &stores, stored, bus);
         }
         buffer[slot] = bus;
         slot = slot + 1;

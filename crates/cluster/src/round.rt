@@ -4,15 +4,22 @@ ghost use Prim.Native.Nat.{_≤_};
 ghost use lib.ListN.{length};
 ghost use Rattle.file.specs.Rules.Decode.{decode};
 ghost use Rattle.file.specs.Inner.Accepted.{Placed};
+ghost use Rattle.frame.specs.Inner.Answers.{fireworkRound};
 ghost use Rattle.cluster.specs.Rules.Bus.{slots};
+ghost use Rattle.cluster.specs.Rules.Grounds.{roundBy};
 ghost use Rattle.cluster.specs.Rules.Round.{roundOn};
 ghost use Rattle.cluster.specs.Inner.Carried.{Exchanged};
 ghost use Rattle.cluster.specs.Inner.Answers.{answerOf};
+ghost use Rattle.cluster.specs.Inner.Unheard.{MaySleep, LeftUnheard};
 use crate::answer::RoundAnswer;
 use crate::answer::SLOTS;
+use crate::answer::Unheard;
+use crate::answer::is_carried;
+use crate::msa::pend_address;
 use crate::msa::take_address;
 use crate::msd::FIREWORK_SIZE;
 use crate::msd::take_data;
+use crate::msd::take_unheard;
 use crate::multipartner::carry_multipartner;
 use file::survey::FileAnswer;
 use file::survey::survey;
@@ -20,8 +27,27 @@ use file::types::PLACES;
 use file::types::Refusal;
 use file::types::SlavePlaces;
 use frame::firework::Firework;
+use frame::firework::MSA;
+use frame::firework::MSD;
 use frame::firework::firework_of;
 use frame::frames::FIREWORK_PLACE;
+
+// The round that a frame opens. Most frames are address and data frames, which one comparison each tells.
+pub fn firework_in(frame: &[u8]) -> Firework
+    ensures { λ r. ⌜ fireworkRound r ≡ roundBy (now (frame .entry)) ⌝ }
+{
+    if frame.len() == 0 {
+        return Firework::None;
+    }
+    let first = frame[FIREWORK_PLACE];
+    if first == MSA {
+        return Firework::Address;
+    }
+    if first == MSD {
+        return Firework::Data;
+    }
+    firework_of(first)
+}
 
 // One frame of any bytes on a file that is known to be accepted, with the places that its survey handed back.
 pub fn one_frame(
@@ -33,11 +59,7 @@ pub fn one_frame(
     requires { ⌜ Placed (now file) (now places) × (slots ≤ length (now buffer)) ⌝ }
     ensures { λ r. ⌜ Exchanged (decode (now (file .entry))) (now (frame .entry)) (now (buffer .entry)) (now (buffer .exit)) (answerOf r) (now (file .exit)) ⌝ }
 {
-    if frame.len() == 0 {
-        return RoundAnswer::Refused(Refusal::FIREWORK);
-    }
-    let first = frame[FIREWORK_PLACE];
-    let firework = firework_of(first);
+    let firework = firework_in(frame);
     match firework {
         Firework::None => RoundAnswer::Refused(Refusal::FIREWORK),
         Firework::Address => take_address(file, frame, buffer),
@@ -46,8 +68,49 @@ pub fn one_frame(
             if frame.len() != FIREWORK_SIZE {
                 return RoundAnswer::Refused(Refusal::FRAME_LENGTH);
             }
-            let mask = carry_multipartner(file, places, round, first, buffer);
+            let mask = carry_multipartner(file, places, round, frame[FIREWORK_PLACE], buffer);
             RoundAnswer::Carried(mask)
+        }
+    }
+}
+
+// The same of a frame that nobody hears, by the round that it opens. Whether someone may be asleep before it, and afterwards.
+pub fn one_unheard(
+    file: &mut [u8],
+    places: &SlavePlaces,
+    firework: Firework,
+    frame: &[u8],
+    buffer: &mut [u8],
+    sleepers: bool,
+) -> Unheard
+    requires { ⌜ Placed (now file) (now places) × (fireworkRound firework ≡ roundBy (now frame)) × (slots ≤ length (now buffer)) × MaySleep sleepers (decode (now file)) ⌝ }
+    ensures { λ r. ⌜ LeftUnheard (decode (now (file .entry))) (now (frame .entry)) (r .carried) (r .sleepers) (now (file .exit)) ⌝ }
+{
+    match firework {
+        Firework::None => Unheard {
+            carried: false,
+            sleepers,
+        },
+        Firework::Address => {
+            let answer = pend_address(file, frame);
+            Unheard {
+                carried: is_carried(answer),
+                sleepers,
+            }
+        }
+        Firework::Data => take_unheard(file, places, frame, buffer, sleepers),
+        Firework::Multipartner(round) => {
+            if frame.len() != FIREWORK_SIZE {
+                return Unheard {
+                    carried: false,
+                    sleepers,
+                };
+            }
+            carry_multipartner(file, places, round, frame[FIREWORK_PLACE], buffer);
+            Unheard {
+                carried: true,
+                sleepers: false,
+            }
         }
     }
 }

@@ -21,7 +21,7 @@ use Rattle.file.proofs.AtWidth.{at-edition}
 use Rattle.file.proofs.ReaderLaws.{length-limit}
 use Rattle.file.proofs.Appended.{contents-append, directory-append}
 use Rattle.convert.specs.Inner.Putting.{Put, OffsetFits, directoryEntryOf}
-use Rattle.convert.specs.Inner.Slaves.{slaveStart, directoryOf, StartsAt, SlaveFits}
+use Rattle.convert.specs.Inner.Slaves.{slaveStart, StartsAt, SlaveFits, DirectoryDone}
 use Rattle.convert.proofs.Putting.{put-none, put-room, put-same, put-then}
 use Rattle.convert.proofs.SlaveLaws.{noFile, slave-stands, file-legal, number-stated, last-stated}
 use Rattle.convert.proofs.SizeLaws.{entries-below}
@@ -84,8 +84,14 @@ module _ {v at : ℕ} {f : List ℕ} {s : ℕ} {old new : List ℕ} {entry to pl
   directory-kept : length new ≡ length old
   directory-kept = put-room (t .put)
 
-  pub directory-done : n ≤ k → Put old at (directoryOf v at (slaveOf (decode f) s)) new
-  directory-done done = put-same (ap (directory v (at + entrySize v * length xs)) (take-all k xs (omega (arith, count)))) (t .put)
+  pub directory-done : n ≤ k → DirectoryDone v at (slaveOf (decode f) s) old new place
+  unfolding slaveSize
+  directory-done done =
+      let all : take k xs ≡ xs = take-all k xs (omega (arith, count)) in
+      record {
+        put = put-same (ap (directory v (at + entrySize v * length xs)) all) (t .put);
+        ends = omega (arith, t .begins, ap (λ (ys : List File). length (contents ys)) all);
+      }
 
   module _ (more : k < n) where
     below : k < length (slaveOf (decode f) s .files)

@@ -1,18 +1,22 @@
 -- A whole form: the header, the slave table, the slaves.
 -- Assumes nothing.
-use Prim.Native.Nat.{ℕ, _+_, _*_}
+use Prim.Native.Nat.{ℕ, _+_, _*_, _-_, _≤_}
 use native.Mathlib.Omega.{arith}
-use mathlib.Core.Path.{_≡_, ap, _∙_}
-use mathlib.Core.List.{List, _++_, append-assoc}
+use mathlib.Core.Path.{_≡_, sym, ap, ap₂, _∙_}
+use mathlib.Core.List.{List, _++_}
 use mathlib.Core.Bool.{true}
-use lib.ListN.{length, length-append}
+use lib.ListN.{length, take}
+use lib.Seq.{take-length}
+use Rattle.file.specs.Rules.Bytes.{part}
 use Rattle.file.specs.Rules.Encode.{slavesBytes, table, slavesPlace, fileLength, header, encodeAt}
 use Rattle.file.specs.Rules.Decode.{decode}
-use Rattle.file.specs.Inner.Accepted.{slaveCount}
+use Rattle.file.specs.Inner.Accepted.{AcceptedFile, WidthOf, slaveCount}
 use Rattle.file.proofs.Sizes.{header-length, table-length}
+use Rattle.file.proofs.AtWidth.{becomes-at}
 use Rattle.convert.specs.Inner.Putting.{Put}
-use Rattle.convert.specs.Inner.Slaves.{listed, TableFits, SlavesFit, FormFits}
-use Rattle.convert.proofs.Putting.{put-room, put-same, put-then}
+use Rattle.convert.specs.Inner.Slaves.{listed, BodyFits, FormFits, BodyDone}
+use Rattle.convert.proofs.Putting.{put-room, put-same, put-then, put-both}
+use Rattle.convert.proofs.ReadLaws.{own-form}
 use Rattle.convert.proofs.TableLaws.{listed-kept}
 
 module _ (f : List ℕ) {old : List ℕ} {v n size : ℕ} (fits : FormFits v old size (decode f .slaves)) (count : n ≡ slaveCount f) where
@@ -20,40 +24,47 @@ module _ (f : List ℕ) {old : List ℕ} {v n size : ℕ} (fits : FormFits v old
   unfolding slavesPlace
   place-is = ap (λ (k : ℕ). 8 + 4 * v + 2 * v * k) count
 
-  pub form-table : {new bs : List ℕ} {at : ℕ} → Put old at bs new → TableFits v new (8 + 4 * v) (8 + 4 * v + 2 * v * n) (decode f .slaves)
-  unfolding fileLength slavesPlace
-  form-table p =
+  -- behind the header
+  pub form-body : {new bs : List ℕ} {at : ℕ} → Put old at bs new → BodyFits v new (8 + 4 * v) (8 + 4 * v + 2 * v * n) (decode f .slaves)
+  unfolding fileLength
+  form-body p =
       record {
-        width = fits .width;
-        room = omega (arith, fits .room, put-room p);
         before = rw count (omega arith);
-        short = rw place-is (fits .short);
+        slaves = record { width = fits .width; room = rw place-is (omega (arith, fits .room, put-room p)); short = rw place-is (fits .short) };
       }
 
-  module _ {new mid bs cs : List ℕ} {at next : ℕ} (p : Put old at bs new) (q : Put new next cs mid) where
-    pub form-slaves : SlavesFit v mid (8 + 4 * v + 2 * v * n) (decode f .slaves)
-    unfolding fileLength
-    form-slaves =
-        record {
-          width = fits .width;
-          room = rw place-is (omega (arith, fits .room, put-room p, put-room q));
-          short = rw place-is (fits .short);
-        }
-
-  pub form-put : {new mid out : List ℕ} → Put old 0 (header v (decode f)) new
-      → Put new (8 + 4 * v) (table v (8 + 4 * v + 2 * v * n) (listed true (decode f .slaves))) mid
-      → Put mid (8 + 4 * v + 2 * v * n) (slavesBytes v (8 + 4 * v + 2 * v * n) (decode f .slaves)) out
-      → Put old 0 (encodeAt v (decode f)) out
+  pub form-put : {new out : List ℕ} → Put old 0 (header v (decode f)) new
+      → BodyDone true v (8 + 4 * v) (8 + 4 * v + 2 * v * n) (decode f .slaves) new out → Put old 0 (encodeAt v (decode f)) out
   unfolding encodeAt
-  form-put {new} {mid} {out} first second third =
+  form-put {new} {out} first body =
       let c = decode f in
       let place = slavesPlace v (c .slaves) in
-      let entries : Put new (8 + 4 * v) (table v place (c .slaves)) mid = put-same (ap (table v (8 + 4 * v + 2 * v * n)) (listed-kept (c .slaves)) ∙ ap (λ (k : ℕ). table v k (c .slaves)) place-is) second in
-      let bodies : Put mid (8 + 4 * v + 2 * v * n) (slavesBytes v place (c .slaves)) out = put-same (ap (λ (k : ℕ). slavesBytes v k (c .slaves)) place-is) third in
       let two = fits .width .least in
-      let behind : 8 + 4 * v ≡ 0 + length (header v c) = omega (arith, header-length two c) in
-      let there : 8 + 4 * v + 2 * v * n ≡ 0 + length (header v c ++ table v place (c .slaves)) =
-      omega (arith, ap (λ (k : ℕ). 2 * v * k) count, header-length two c, table-length two place (c .slaves), length-append (header v c) (table v place (c .slaves)))
+      let entries : table v (8 + 4 * v + 2 * v * n) (listed true (c .slaves)) ≡ table v place (c .slaves) =
+      ap (table v (8 + 4 * v + 2 * v * n)) (listed-kept (c .slaves)) ∙ ap (λ (k : ℕ). table v k (c .slaves)) place-is
       in
-      put-same (append-assoc (header v c) (table v place (c .slaves)) (slavesBytes v place (c .slaves)))
-      (put-then (put-then first behind entries) there bodies)
+      let behind : 8 + 4 * v ≡ 0 + length (header v c) = omega (arith, header-length two c) in
+      let there : 8 + 4 * v + 2 * v * n ≡ 8 + 4 * v + length (table v (8 + 4 * v + 2 * v * n) (listed true (c .slaves))) =
+      omega (arith, ap (λ (k : ℕ). 2 * v * k) count, table-length two place (c .slaves), ap length entries)
+      in
+      put-then first behind
+      (put-same (ap₂ (λ (x y : List ℕ). x ++ y) entries (ap (λ (k : ℕ). slavesBytes v k (c .slaves)) place-is))
+      (put-both new (table v (8 + 4 * v + 2 * v * n) (listed true (c .slaves))) (8 + 4 * v) (body .put) there))
+
+-- the file's own form is the file
+module _ {f : List ℕ} {v w size : ℕ} {old : List ℕ} (h : AcceptedFile f) (o : WidthOf f w) (fits : FormFits v old size (decode f .slaves)) (same : v ≡ w) where
+  own-size : size ≡ length f
+  own-size = fits .is ∙ sym (own-form h o same)
+
+  pub copy-inside : size ≤ length f
+  copy-inside = omega (arith, own-size)
+
+  pub copy-fits : 0 + (size - 0) ≤ length old
+  copy-fits = omega (arith, fits .is, fits .room)
+
+  pub copy-put : {new : List ℕ} → Put old 0 (part f 0 (size - 0)) new → Put old 0 (encodeAt v (decode f)) new
+  unfolding part
+  copy-put p =
+      let whole : size - 0 ≡ length f = omega (arith, own-size) in
+      let form : f ≡ encodeAt v (decode f) = becomes-at o h .encoded ∙ ap (λ (k : ℕ). encodeAt k (decode f)) (sym same) in
+      put-same (ap (λ (k : ℕ). take k f) whole ∙ take-length f ∙ form) p

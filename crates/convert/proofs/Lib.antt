@@ -16,6 +16,7 @@ pub mod EntryLaws
 pub mod TableLaws
 pub mod DirectoryLaws
 pub mod SlavePutLaws
+pub mod BodyLaws
 pub mod FormLaws
 -- the call, by its answers
 pub mod Calls

@@ -6,9 +6,10 @@ use native.Mathlib.Nat.{add-zero, zero-add}
 use mathlib.Core.Path.{_≡_, refl, sym, ap, ap₂, _∙_, subst}
 use mathlib.Core.List.{List, [], _∷_, _++_, append-nil, append-assoc}
 use lib.ListN.{length, take, drop, set, replicate, length-replicate, length-drop, drop-of-length-le}
-use lib.Seq.{sets, length-sets, sets-eq, take-length, drop-drop, length-take-le}
+use lib.Seq.{sets, length-sets, sets-eq, set-set, set-comm, take-length, drop-drop, length-take-le}
 use borrow.Rule.Slice.PartMut.{putMid}
 use Rattle.file.specs.Rules.Bytes.{bytesOf}
+use Rattle.file.specs.Rules.Layout.{OffsetWidth}
 use Rattle.file.specs.Rules.Results.{writtenIn}
 use Rattle.file.proofs.Sizes.{bytesOf-length}
 use Rattle.convert.specs.Inner.Putting.{Put, OffsetFits}
@@ -38,6 +39,80 @@ put-then {l} {bs = bs} {cs = cs} {at = at} first there second =
 -- one byte behind them
 pub put-next : {l m bs : List ℕ} {at next : ℕ} (b : ℕ) → Put l at bs m → next ≡ at + length bs → Put l at (bs ++ (b ∷ [])) (set m next b)
 put-next b first there = put-then first there (record { is = refl })
+
+-- ---- bytes put at two places
+
+set-behind : (bs l : List ℕ) (i j b : ℕ) → i + length bs ≤ j → set (sets l i bs) j b ≡ sets (set l j b) i bs
+set-behind [] l i j b apart = refl
+set-behind (c ∷ bs) l i j b apart =
+    set-behind bs (set l i c) (suc i) j b (omega arith) ∙ ap (λ (m : List ℕ). sets m (suc i) bs) (set-comm l i j c b (λ e. omega (arith, e)))
+
+set-before : (bs l : List ℕ) (i j b : ℕ) → j < i → set (sets l i bs) j b ≡ sets (set l j b) i bs
+set-before [] l i j b apart = refl
+set-before (c ∷ bs) l i j b apart =
+    set-before bs (set l i c) (suc i) j b (omega arith) ∙ ap (λ (m : List ℕ). sets m (suc i) bs) (set-comm l i j c b (λ e. omega (arith, e)))
+
+-- in either order, where the first lie before the others
+pub sets-swap : (cs l bs : List ℕ) (i j : ℕ) → i + length bs ≤ j → sets (sets l i bs) j cs ≡ sets (sets l j cs) i bs
+sets-swap [] l bs i j apart = refl
+sets-swap (c ∷ cs) l bs i j apart =
+    ap (λ (m : List ℕ). sets m (suc j) cs) (set-behind bs l i j c apart) ∙ sets-swap cs (set l j c) bs i (suc j) (omega arith)
+
+-- as many bytes put over others
+sets-over : (bs cs l : List ℕ) (i : ℕ) → length bs ≡ length cs → sets (sets l i bs) i cs ≡ sets l i cs
+sets-over [] [] l i same = refl
+sets-over [] (c ∷ cs) l i same = absurd (omega (arith, same))
+sets-over (b ∷ bs) [] l i same = absurd (omega (arith, same))
+sets-over (b ∷ bs) (c ∷ cs) l i same =
+    ap (λ (m : List ℕ). sets m (suc i) cs) (set-before bs (set l i b) (suc i) i c (omega arith) ∙ ap (λ (m : List ℕ). sets m (suc i) bs) (set-set l i b c))
+    ∙ sets-over bs cs (set l i c) (suc i) (omega (arith, same))
+
+-- bytes behind the first of two, before the second
+pub put-between : (l bs : List ℕ) (at : ℕ) {m n cs es : List ℕ} {next place : ℕ} → Put (sets l at bs) place cs m → next ≡ at + length bs → next + length es ≤ place
+    → Put m next es n → Put (sets l at (bs ++ es)) place cs n
+put-between l bs at {cs = cs} {es = es} {next = next} {place = place} both there apart more =
+    record {
+      is = more .is
+          ∙ ap (λ (x : List ℕ). sets x next es) (both .is)
+          ∙ sym (sets-swap cs (sets l at bs) es next place apart)
+          ∙ ap (λ (x : List ℕ). sets x place cs) (ap (λ (k : ℕ). sets (sets l at bs) k es) there ∙ sets-append bs es l at);
+    }
+
+-- as many bytes over some of those that are put
+pub put-over : {l m n : List ℕ} (xs ds es rs : List ℕ) {at next : ℕ} → Put l at (xs ++ (ds ++ rs)) m → next ≡ at + length xs → length ds ≡ length es
+    → Put m next es n → Put l at (xs ++ (es ++ rs)) n
+put-over {l} xs ds es rs {at} {next} whole there same more =
+    let front : List ℕ = sets l at xs in
+    let laid : (bs : List ℕ) → sets l at (xs ++ (bs ++ rs)) ≡ sets (sets front next bs) (next + length bs) rs =
+    λ (bs : List ℕ). sym (rw there (sets-append bs rs front (at + length xs) ∙ sets-append xs (bs ++ rs) l at))
+    in
+    record {
+      is = more .is
+          ∙ ap (λ (x : List ℕ). sets x next es) (whole .is ∙ laid ds)
+          ∙ sym (sets-swap rs (sets front next ds) es next (next + length ds) (omega (arith, same)))
+          ∙ ap (λ (x : List ℕ). sets x (next + length ds) rs) (sets-over ds es front next same)
+          ∙ ap (λ (k : ℕ). sets (sets front next es) (next + k) rs) same
+          ∙ sym (laid es);
+    }
+
+-- bytes before those that are put
+pub put-first : {l m n bs cs : List ℕ} {at next : ℕ} → Put l next cs m → next ≡ at + length bs → Put m at bs n → Put l at (bs ++ cs) n
+put-first {l} {bs = bs} {cs = cs} {at = at} {next = next} second there first =
+    record {
+      is = first .is ∙ ap (λ (x : List ℕ). sets x at bs) (second .is) ∙ sym (sets-swap cs l bs at next (omega (arith, there)))
+          ∙ ap (λ (k : ℕ). sets (sets l at bs) k cs) there
+          ∙ sets-append bs cs l at;
+    }
+
+-- what is put at the second place lies behind the first
+pub put-both : (l bs : List ℕ) (at : ℕ) {m cs : List ℕ} {place : ℕ} → Put (sets l at bs) place cs m → place ≡ at + length bs → Put l at (bs ++ cs) m
+put-both l bs at both there = put-then {bs = bs} (record { is = refl }) there both
+
+pub put-split : (l bs : List ℕ) (at : ℕ) {m cs : List ℕ} {place : ℕ} → Put l at (bs ++ cs) m → place ≡ at + length bs → Put (sets l at bs) place cs m
+put-split l bs at {cs = cs} whole there = record { is = whole .is ∙ sym (rw there (sets-append bs cs l at)) }
+
+pub both-room : (l bs : List ℕ) (at : ℕ) {m cs : List ℕ} {place : ℕ} → Put (sets l at bs) place cs m → length m ≡ length l
+both-room l bs at both = put-room both ∙ length-sets l at bs
 
 -- from the buffer's start on: what a call leaves that writes them
 pub put-written : {l m bs : List ℕ} → Put l 0 bs m → length bs ≤ length l → m ≡ writtenIn l bs
@@ -77,6 +152,19 @@ zero-next n {at = at} p =
     let one : suc n ≡ n + 1 = omega arith in
     let there : at + n ≡ at + length (replicate {A = ℕ} n 0) = ap (λ (k : ℕ). at + k) (sym (length-replicate {A = ℕ} n 0)) in
     put-same (replicate-next n ∙ ap (λ (k : ℕ). replicate k 0) one) (put-next 0 p there)
+
+-- those that fill an entry up
+pub fill-none : {w : ℕ} {l : List ℕ} {at : ℕ} → w ≡ 2 → Put l at (replicate (w - 2) 0) l
+fill-none {w} {l} {at} is = let none : 0 ≡ w - 2 = omega arith in rw (sym none) (put-none l at)
+
+pub fill-two : {w : ℕ} {l m : List ℕ} {at : ℕ} → OffsetWidth w → (w ≡ 2 → ⊥) → Put l at (bytesOf 2 0) m → Put l at (replicate (w - 2) 0) m
+unfolding bytesOf
+fill-two {w} {l} {m} {at} width other p =
+    let two : 2 ≡ w - 2 = omega (arith, width .least, width .most, width .even) in
+    rw (sym two) p
+
+pub fill-fits : {w : ℕ} (at : ℕ) {n : ℕ} → OffsetWidth w → (w ≡ 2 → ⊥) → at + (w - 2) ≤ n → at + 2 ≤ n
+fill-fits at width other room = omega (arith, width .least, width .most, width .even)
 
 -- ---- a run that is copied into a part of the buffer
 

@@ -2,27 +2,25 @@
 -- Assumes nothing.
 use Prim.Native.Nat.{ℕ, suc, _+_, _*_, _-_, _≤_, _<_}
 use native.Mathlib.Omega.{arith}
-use mathlib.Core.Path.{_≡_, sym, ap, _∙_}
+use mathlib.Core.Path.{_≡_, refl, sym, ap, _∙_}
 use mathlib.Core.List.{List}
 use mir.Syntax.{w8, w64}
 use mir.Val.{Fits}
 use lib.ListN.{length, getD, take}
 use lib.Seq.{take-all}
-use Rattle.file.specs.Rules.Layout.{OffsetWidth, widthIn, headerSize}
-use Rattle.file.specs.Rules.Cluster.{Cluster}
+use Rattle.file.specs.Rules.Layout.{OffsetWidth, headerSize}
 use Rattle.file.specs.Rules.Encode.{contents, slaveSize, slavesSize, slavesPlace, fileLength}
 use Rattle.file.specs.Rules.Decode.{decode}
-use Rattle.file.specs.Inner.Numbers.{ByteAt, NumberAt}
+use Rattle.file.specs.Inner.Numbers.{ByteAt}
 use Rattle.file.specs.Inner.Places.{slaveOf}
-use Rattle.file.specs.Inner.Accepted.{AcceptedFile, WidthOf, SleepAt, slaveCount}
+use Rattle.file.specs.Inner.Accepted.{AcceptedFile, WidthOf, slaveCount}
 use Rattle.file.proofs.Width.{Which, narrow, wide, which}
 use Rattle.file.proofs.AtWidth.{BecomesAt, at-edition, becomes-at}
-use Rattle.file.proofs.ReaderLaws.{length-limit}
+use Rattle.file.proofs.ReaderLaws.{length-limit, entry-within}
 use Rattle.file.proofs.Slaves.{slave-end}
-use Rattle.file.proofs.Appended.{slavesSize-next}
-use Rattle.convert.specs.Inner.Slaves.{slaveStart, StartsAt}
-use Rattle.convert.proofs.SlaveLaws.{own-length, slave-stands, start-within, start-stated, count-stated, sleep-stated, few-files, start-next, end-start}
-use Rattle.convert.proofs.SizeLaws.{first-slaves, form-double}
+use Rattle.convert.specs.Inner.Slaves.{slaveStart, filesIn, StartsAt, SlaveRead}
+use Rattle.convert.proofs.SlaveLaws.{own-length, slave-stands, count-stated, sleep-stated, few-files, start-next}
+use Rattle.convert.proofs.SizeLaws.{form-double, contentsIn, filesIn-next, files-first, form-parts, files-size}
 
 -- ---- numbers that fit the machine's
 
@@ -42,6 +40,10 @@ module _ {f : List ℕ} (h : AcceptedFile f) where
       let b = at-edition h in
       omega (arith, form-double width (b .legal .width) (decode f .slaves), own-length b, length-limit h)
 
+  pub files-few : filesIn (decode f .slaves) ≤ 65536
+  unfolding fileLength
+  files-few = let b = at-edition h in omega (arith, files-size (b .legal .width) (decode f .slaves), own-length b, length-limit h)
+
   module _ {v n : ℕ} (width : OffsetWidth v) (count : n ≡ slaveCount f) where
     table-most : 2 * v * n ≤ 512
     table-most = entries-most width n (omega (arith, count-few))
@@ -56,22 +58,23 @@ module _ {f : List ℕ} (h : AcceptedFile f) where
 pub below-count : (f : List ℕ) {s n : ℕ} → n ≡ slaveCount f → s < n → s < slaveCount f
 below-count f count less = omega (arith, count)
 
-pub more-slaves : (f : List ℕ) {s n : ℕ} → n ≡ slaveCount f → s ≤ slaveCount f → (s ≡ n → ⊥) → s < slaveCount f
-more-slaves f count most other = omega (arith, count)
-
--- ---- where a slave starts, its file count and its sleep byte
+-- ---- the file count and the sleep byte of a slave
 
 module _ {f : List ℕ} {w : ℕ} (h : AcceptedFile f) (v : WidthOf f w) (s : ℕ) (l : s < slaveCount f) where
   here : BecomesAt w f (decode f)
   here = becomes-at v h
 
-  pub start-read : {r : ℕ} → NumberAt f (headerSize w + 2 * w * s) w r → StartsAt f s r
-  start-read r =
-      let is = r .is ∙ start-stated here s l in
-      record { is = is ∙ ap (λ (m : ℕ). slaveStart m (decode f) s) (v .is); within = omega (arith, is, start-within here s l) }
-
   pub count-read : {r : ℕ} → ByteAt f (headerSize w + 2 * w * s + w) r → r ≡ length (slaveOf (decode f) s .files)
   count-read r = r .is ∙ count-stated here s l
+
+  pub sleep-read : getD f (headerSize w + 2 * w * s + w + 1) 0 ≡ slaveOf (decode f) s .asleep
+  sleep-read = sleep-stated here s l
+
+  pub sleep-inside : headerSize w + 2 * w * s + w + 1 < length f
+  sleep-inside = omega (arith, entry-within h v s l, v .width .least)
+
+  pub sleep-fits : Fits w64 (headerSize w + 2 * w * s + w + 1)
+  sleep-fits = record { fits = omega (arith, sleep-inside, length-limit h) }
 
 module _ {f : List ℕ} (h : AcceptedFile f) (s : ℕ) (l : s < slaveCount f) where
   pub files-byte : {n : ℕ} → n ≡ length (slaveOf (decode f) s .files) → Fits w8 n
@@ -80,89 +83,97 @@ module _ {f : List ℕ} (h : AcceptedFile f) (s : ℕ) (l : s < slaveCount f) wh
   pub files-fit : {v n : ℕ} → OffsetWidth v → n ≡ length (slaveOf (decode f) s .files) → Fits w64 (2 * v * n)
   files-fit {n = n} width is = record { fits = omega (arith, entries-most width n (omega (arith, is, few-files (at-edition h) s l))) }
 
-  pub sleep-read : {at : ℕ} → SleepAt f s at → getD f at 0 ≡ slaveOf (decode f) s .asleep
-  sleep-read p = ap (λ (k : ℕ). getD f k 0) (p .is) ∙ sleep-stated (at-edition h) s l
+-- ---- where a slave starts, and what is read of it
 
-pub end-read : {f : List ℕ} → AcceptedFile f → {s n : ℕ} → n ≡ slaveCount f → s ≡ n → StartsAt f s (length f)
-end-read {f} h {s} is last =
-    record { is = sym (end-start (at-edition h)) ∙ ap (λ (k : ℕ). slaveStart (widthIn (decode f .edition)) (decode f) k) (sym (last ∙ is)); within = omega arith }
+pub first-start : {f : List ℕ} {w n : ℕ} → AcceptedFile f → WidthOf f w → n ≡ slaveCount f → StartsAt f 0 (8 + 4 * w + 2 * w * n)
+unfolding slaveStart slavesPlace slavesSize fileLength
+first-start {f} {w} {n} h o count =
+    let c = decode f in
+    let here : 8 + 4 * w + 2 * w * n ≡ slaveStart w c 0 = rw count (omega arith) in
+    record {
+      is = here ∙ ap (λ (m : ℕ). slaveStart m c 0) (o .is);
+      within = rw count (omega (arith, own-length (becomes-at o h)));
+    }
 
--- ---- a slave's size at either width
+module _ {f : List ℕ} {w s a : ℕ} (r : SlaveRead f w s a) where
+  pub start-is : a ≡ slaveStart w (decode f) s
+  start-is = r .starts .is ∙ ap (λ (m : ℕ). slaveStart m (decode f) s) (sym (r .width .is))
 
--- the next slave starts behind it
-pub start-order : {f : List ℕ} → AcceptedFile f → (s : ℕ) → s < slaveCount f → {a b : ℕ} → StartsAt f s a → StartsAt f (s + 1) b → a ≤ b
-start-order {f} h s l starts ends =
-    let one : s + 1 ≡ suc s = omega arith in
-    let next : slaveStart (widthIn (decode f .edition)) (decode f) (s + 1) ≡ slaveStart (widthIn (decode f .edition)) (decode f) (suc s) = ap (slaveStart (widthIn (decode f .edition)) (decode f)) one in
-    omega (arith, starts .is, ends .is, next, start-next (at-edition h) s l)
+  next-is : slaveStart w (decode f) (s + 1) ≡ a + slaveSize w (slaveOf (decode f) s)
+  next-is = let one : s + 1 ≡ suc s = omega arith in rw one (omega (arith, start-is, start-next (becomes-at (r .width) (r .file)) s (r .there)))
 
-module _ {f : List ℕ} {w : ℕ} (h : AcceptedFile f) (o : WidthOf f w) (s : ℕ) (l : s < slaveCount f) {a b k : ℕ}
-    (starts : StartsAt f s a) (ends : StartsAt f (s + 1) b) (files : k ≡ length (slaveOf (decode f) s .files)) where
-  behind : b ≡ a + slaveSize w (slaveOf (decode f) s)
-  behind =
-      let one : s + 1 ≡ suc s = omega arith in
-      let c = decode f in
-      let begins : a ≡ slaveStart w c s = starts .is ∙ ap (λ (m : ℕ). slaveStart m c s) (sym (o .is)) in
-      let next : b ≡ slaveStart w c (suc s) = ends .is ∙ ap (λ (m : ℕ). slaveStart m c (s + 1)) (sym (o .is)) ∙ ap (slaveStart w c) one in
-      next ∙ start-next (becomes-at o h) s l ∙ ap (λ (m : ℕ). m + slaveSize w (slaveOf c s)) (sym begins)
+  pub run-within : slaveStart w (decode f) (s + 1) ≤ length f
+  run-within = omega (arith, next-is, start-is, slave-end (slave-stands (becomes-at (r .width) (r .file)) s (r .there)))
 
-  pub run-is : b ≡ a + 2 * w * k + length (contents (slaveOf (decode f) s .files))
-  unfolding slaveSize
-  run-is = rw files (omega (arith, behind))
+  pub next-starts : {b : ℕ} → b ≡ slaveStart w (decode f) (s + 1) → StartsAt f (s + 1) b
+  next-starts is =
+      record { is = is ∙ ap (λ (m : ℕ). slaveStart m (decode f) (s + 1)) (r .width .is); within = omega (arith, is, run-within) }
 
-  pub directory-inside : 2 * w * k ≤ b - a
-  directory-inside = omega (arith, run-is)
-
-  pub run-order : a + 2 * w * k ≤ b
-  run-order = omega (arith, run-is)
-
-  pub own-entries-fit : Fits w64 (2 * w * k)
-  own-entries-fit = record { fits = omega (arith, run-is, ends .within, length-limit h) }
-
-  module _ {v : ℕ} (width : OffsetWidth v) where
-    pub size-fits : Fits w64 (b - a - 2 * w * k + 2 * v * k)
-    size-fits =
-        record { fits = omega (arith, run-is, ends .within, length-limit h, entries-most width k (omega (arith, files, few-files (becomes-at o h) s l))) }
-
-    pub size-read : b - a - 2 * w * k + 2 * v * k ≡ slaveSize v (slaveOf (decode f) s)
+  module _ {k : ℕ} (files : k ≡ length (slaveOf (decode f) s .files)) where
+    -- the next slave starts behind its directory and its files
+    pub run-is : slaveStart w (decode f) (s + 1) ≡ a + 2 * w * k + length (contents (slaveOf (decode f) s .files))
     unfolding slaveSize
-    size-read =
-        let left : b - a - 2 * w * k ≡ length (contents (slaveOf (decode f) s .files)) = omega (arith, run-is) in
-        let same : 2 * v * k ≡ 2 * v * length (slaveOf (decode f) s .files) = ap (λ (n : ℕ). 2 * v * n) files in
-        omega (arith, left, same)
+    run-is = rw files (omega (arith, next-is))
 
--- its files start within the file
-pub files-start-fits : {f : List ℕ} {w : ℕ} → AcceptedFile f → WidthOf f w → (s : ℕ) → s < slaveCount f → {a k : ℕ} → StartsAt f s a
-    → k ≡ length (slaveOf (decode f) s .files) → Fits w64 (a + 2 * w * k)
-unfolding slaveSize
-files-start-fits {f} {w} h o s l starts files =
-    let begins = ap (λ (m : ℕ). slaveStart m (decode f) s) (sym (o .is)) in
-    record { fits = rw files (omega (arith, starts .is, begins, slave-end (slave-stands (becomes-at o h) s l), length-limit h)) }
+    pub files-start-fits : Fits w64 (a + 2 * w * k)
+    files-start-fits = record { fits = omega (arith, run-is, run-within, length-limit (r .file)) }
 
--- ---- the length of a form: the sum over the slaves so far
+-- ---- how many files the slaves so far have
 
-pub record Summing (f : List ℕ) (v i total : ℕ) : Type 0 where
+pub record Counting (f : List ℕ) (i total : ℕ) : Type 0 where
   pub few : i ≤ slaveCount f
-  pub is : total ≡ slavesPlace v (decode f .slaves) + slavesSize v (take i (decode f .slaves))
+  pub is : total ≡ filesIn (take i (decode f .slaves))
 
-pub summing-start : {f : List ℕ} (v : ℕ) {n : ℕ} → n ≡ slaveCount f → Summing f v 0 (8 + 4 * v + 2 * v * n)
-unfolding slavesPlace slavesSize
-summing-start {f} v {n} count = record { few = omega arith; is = rw count (omega arith) }
+pub counting-start : (f : List ℕ) → Counting f 0 0
+unfolding filesIn
+counting-start f = record { few = omega arith; is = refl }
 
-module _ {f : List ℕ} {v i total : ℕ} (t : Summing f v i total) where
-  pub summing-done : {n : ℕ} → n ≡ slaveCount f → n ≤ i → total ≡ fileLength v (decode f .slaves)
-  unfolding fileLength
-  summing-done count done =
-      t .is ∙ ap (λ (x : List Rattle.file.specs.Rules.Cluster.Slave). slavesPlace v (decode f .slaves) + slavesSize v x) (take-all i (decode f .slaves) (omega (arith, count)))
+module _ {f : List ℕ} {i total : ℕ} (t : Counting f i total) where
+  pub counting-done : {n : ℕ} → n ≡ slaveCount f → n ≤ i → total ≡ filesIn (decode f .slaves)
+  counting-done count done = t .is ∙ ap filesIn (take-all i (decode f .slaves) (omega (arith, count)))
 
-  module _ (l : i < slaveCount f) {size : ℕ} (is : size ≡ slaveSize v (slaveOf (decode f) i)) where
-    pub summing-next : Summing f v (i + 1) (total + size)
+  module _ (l : i < slaveCount f) {k : ℕ} (is : k ≡ length (slaveOf (decode f) i .files)) where
+    pub counting-next : Counting f (i + 1) (total + k)
     unfolding slaveOf
-    summing-next =
+    counting-next =
         let one : i + 1 ≡ suc i = omega arith in
-        record { few = omega arith; is = rw one (omega (arith, t .is, is, slavesSize-next v (decode f .slaves) i l)) }
+        record { few = omega arith; is = rw one (omega (arith, t .is, is, filesIn-next (decode f .slaves) i l)) }
 
-    pub summing-fits : AcceptedFile f → OffsetWidth v → Fits w64 (total + size)
-    unfolding fileLength
-    summing-fits h width =
-        record { fits = omega (arith, summing-next .is, first-slaves v (decode f .slaves) (i + 1), form-most h width) }
+    pub counting-fits : AcceptedFile f → Fits w64 (total + k)
+    counting-fits h = record { fits = omega (arith, counting-next .is, files-first (decode f .slaves) (i + 1), files-few h) }
+
+-- ---- the length of a form, by the slaves and their files
+
+pub own-form : {f : List ℕ} {v w : ℕ} → AcceptedFile f → WidthOf f w → v ≡ w → length f ≡ fileLength v (decode f .slaves)
+own-form {f} h o same = sym (own-length (becomes-at o h)) ∙ ap (λ (m : ℕ). fileLength m (decode f .slaves)) (sym same)
+
+module _ {f : List ℕ} {v w n m : ℕ} (h : AcceptedFile f) (o : WidthOf f w) (width : OffsetWidth v) (count : n ≡ slaveCount f) (files : m ≡ filesIn (decode f .slaves)) where
+  own-parts : length f ≡ 8 + 4 * w + 2 * w * (n + m) + contentsIn (decode f .slaves)
+  own-parts = rw (count, files) (sym (own-length (becomes-at o h)) ∙ form-parts (o .width) (decode f .slaves))
+
+  parts : fileLength v (decode f .slaves) ≡ 8 + 4 * v + 2 * v * (n + m) + contentsIn (decode f .slaves)
+  parts = rw (count, files) (form-parts width (decode f .slaves))
+
+  pub entries-fit : Fits w64 (n + m)
+  entries-fit = record { fits = omega (arith, count, files, count-few h, files-few h) }
+
+  pub own-table-fits : Fits w64 (2 * w * (n + m))
+  own-table-fits = record { fits = omega (arith, own-parts, length-limit h) }
+
+  pub own-front-fits : Fits w64 (8 + 4 * w + 2 * w * (n + m))
+  own-front-fits = record { fits = omega (arith, own-parts, length-limit h) }
+
+  pub front-inside : 8 + 4 * w + 2 * w * (n + m) ≤ length f
+  front-inside = omega (arith, own-parts)
+
+  pub other-table-fits : Fits w64 (2 * v * (n + m))
+  other-table-fits = record { fits = omega (arith, parts, form-most h width) }
+
+  pub other-front-fits : Fits w64 (8 + 4 * v + 2 * v * (n + m))
+  other-front-fits = record { fits = omega (arith, parts, form-most h width) }
+
+  pub other-form-fits : Fits w64 (length f - (8 + 4 * w + 2 * w * (n + m)) + (8 + 4 * v + 2 * v * (n + m)))
+  other-form-fits = record { fits = omega (arith, own-parts, parts, form-most h width) }
+
+  pub other-form : length f - (8 + 4 * w + 2 * w * (n + m)) + (8 + 4 * v + 2 * v * (n + m)) ≡ fileLength v (decode f .slaves)
+  other-form = omega (arith, own-parts, parts)

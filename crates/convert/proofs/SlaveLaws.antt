@@ -4,16 +4,16 @@
 use Prim.Native.Nat.{ℕ, zero, suc, _+_, _*_, _≤_, _<_}
 use native.Mathlib.Omega.{arith}
 use native.Mathlib.Nat.{add-zero}
-use mathlib.Core.Path.{_≡_, sym, subst}
+use mathlib.Core.Path.{_≡_, sym, ap, _∙_, subst}
 use mathlib.Core.List.{List, [], _∷_}
 use lib.ListN.{length, getD, take}
-use lib.Seq.{take-length}
 use Rattle.file.specs.Rules.Bytes.{numberOf, part}
 use Rattle.file.specs.Rules.Layout.{headerSize, entrySize}
 use Rattle.file.specs.Rules.Cluster.{File, Slave, Cluster, lastRecord, noSlave}
-use Rattle.file.specs.Rules.Encode.{contents, slaveSize, slavesSize, fileLength}
+use Rattle.file.specs.Rules.Encode.{contents, slaveSize, slavesSize, slavesPlace, slavesBytes, fileLength}
 use Rattle.file.specs.Rules.Legal.{LegalFile, LegalSlave}
 use Rattle.file.specs.Inner.Places.{slaveOf}
+use Rattle.file.proofs.Sizes.{slavesBytes-length}
 use Rattle.file.proofs.Bytes.{all-at, all-map}
 use Rattle.file.proofs.Width.{wide-enough, place-fits}
 use Rattle.file.proofs.Stands.{stands-part, number-stands}
@@ -120,7 +120,8 @@ module _ {w : ℕ} {f : List ℕ} {c : Cluster} (h : BecomesAt w f c) where
       pub last-stated : getD f (slaveStart w c s + entrySize w * k + 1) 0 ≡ lastRecord (x .bytes)
       last-stated = entry-there .1 .last
 
-  -- behind the last slave the file ends
-  pub end-start : slaveStart w c (length (c .slaves)) ≡ length f
-  unfolding slaveStart fileLength
-  end-start = rw (take-length (c .slaves)) own-length
+  -- all the slaves are the run behind the table
+  pub slaves-there : part f (slavesPlace w (c .slaves)) (slavesSize w (c .slaves)) ≡ slavesBytes w (slavesPlace w (c .slaves)) (c .slaves)
+  slaves-there =
+      ap (part f (slavesPlace w (c .slaves))) (sym (slavesBytes-length (h .legal .width .least) (slavesPlace w (c .slaves)) (c .slaves)))
+      ∙ stands-part (encoding .slaves .bytes)

@@ -11,16 +11,17 @@ ghost use Rattle.convert.specs.Rules.Convert.{convertOn};
 use crate::editions::Edition;
 use crate::editions::width_in;
 use crate::header::put_header;
+use crate::put::put_run;
 use crate::sizes::length_in;
 use crate::slaves::put_slaves;
 use crate::table::SLEEP_KEPT;
-use crate::table::put_table;
 use file::layout::ENTRY_OFFSETS;
 use file::layout::HEADER_BYTES;
 use file::layout::HEADER_OFFSETS;
 use file::layout::LONGEST_BY_WIDTH;
 use file::layout::MOST_SLAVES_BY_WIDTH;
 use file::readers::slave_count;
+use file::readers::width_of;
 use file::survey::FileAnswer;
 use file::survey::survey;
 use file::types::PLACES;
@@ -43,7 +44,7 @@ pub fn is_over(width: usize, count: usize, size: usize) -> bool
     LONGEST_BY_WIDTH * width < size
 }
 
-// A file's form at a width, of that length, front to back.
+// A file's form at a width other than its own, of that length, front to back.
 fn put_form(out: &mut [u8], width: usize, size: usize, file: &[u8])
     requires { ⌜ AcceptedFile (now file) × FormFits width (now out) size (decode (now file) .slaves) ⌝ }
     ensures { λ _. ⌜ Put (now (out .entry)) 0 (encodeAt width (decode (now (file .entry)))) (now (out .exit)) ⌝ }
@@ -51,8 +52,19 @@ fn put_form(out: &mut [u8], width: usize, size: usize, file: &[u8])
     let table = HEADER_BYTES + HEADER_OFFSETS * width;
     let place = table + ENTRY_OFFSETS * width * slave_count(file);
     put_header(out, width, size, file);
-    put_table(out, width, table, place, file, SLEEP_KEPT);
-    put_slaves(out, width, place, file);
+    put_slaves(out, width, table, place, file, SLEEP_KEPT);
+}
+
+// A file's form at a width, of that length: "Converting to the edition a file already has copies it."
+fn put_file(out: &mut [u8], width: usize, size: usize, file: &[u8])
+    requires { ⌜ AcceptedFile (now file) × FormFits width (now out) size (decode (now file) .slaves) ⌝ }
+    ensures { λ _. ⌜ Put (now (out .entry)) 0 (encodeAt width (decode (now (file .entry)))) (now (out .exit)) ⌝ }
+{
+    if width == width_of(file) {
+        put_run(out, 0, file, 0, size);
+        return;
+    }
+    put_form(out, width, size, file);
 }
 
 // The file's form in an edition, written into the buffer: refused by its number, with the buffer as it was, or written, with how many
@@ -73,7 +85,7 @@ pub fn convert(file: &[u8], edition: Edition, out: &mut [u8]) -> Conversion
             if out.len() < size {
                 return Conversion::Refused(Refusal::CONVERSION_BUFFER);
             }
-            put_form(out, width, size, file);
+            put_file(out, width, size, file);
             Conversion::Written(size)
         }
     }

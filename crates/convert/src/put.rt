@@ -2,6 +2,7 @@
 ghost use Prim.Native.Nat.{_+_, _-_, _≤_, _<_};
 ghost use lib.ListN.{length, replicate};
 ghost use Rattle.file.specs.Rules.Bytes.{bytesOf, part};
+ghost use Rattle.file.specs.Rules.Layout.{OffsetWidth};
 ghost use Rattle.file.specs.Inner.Layout.{shortWidth};
 ghost use Rattle.convert.specs.Inner.Putting.{Put, OffsetFits};
 use bytes::copy;
@@ -32,6 +33,17 @@ pub fn put_offset(out: &mut [u8], width: usize, at: usize, offset: usize)
         put_u16(out, at, offset / SHORT_VALUES);
         put_u16(out, at + OFFSET_WIDTH, offset % SHORT_VALUES);
     }
+}
+
+// The zeros that fill an entry up: none in edition 1, two in edition 2. Two stores, where a loop of that length is compiled to a call.
+pub fn put_fill(out: &mut [u8], width: usize, at: usize)
+    requires { ⌜ OffsetWidth width × (at + (width - 2) ≤ length (now out)) ⌝ }
+    ensures { λ _. ⌜ Put (now (out .entry)) at (replicate (width - 2) 0) (now (out .exit)) ⌝ }
+{
+    if width == OFFSET_WIDTH {
+        return;
+    }
+    put_u16(out, at, 0);
 }
 
 // Zeros.

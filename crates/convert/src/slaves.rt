@@ -1,43 +1,108 @@
-// The directories and files of an accepted file's slaves at a width.
-ghost use Prim.Native.Nat.{_<_};
-ghost use Rattle.file.specs.Rules.Encode.{slaveBytes, slavesBytes};
+// The slave table of an accepted file's form at a width, and its slaves: directories and files.
+ghost use mathlib.Core.Bool.{false};
 ghost use Rattle.file.specs.Rules.Decode.{decode};
 ghost use Rattle.file.specs.Inner.Places.{slaveOf};
-ghost use Rattle.file.specs.Inner.Accepted.{AcceptedFile, slaveCount};
-ghost use Rattle.convert.specs.Inner.Putting.{Put};
-ghost use Rattle.convert.specs.Inner.Slaves.{SlaveFits, SlavesFit};
+ghost use Rattle.file.specs.Inner.Accepted.{AcceptedFile, WidthOf};
+ghost use Rattle.convert.specs.Inner.Slaves.{SlaveRead, SlaveFits, SlaveDone, BodyFits, BodyDone};
 use crate::directory::put_directory;
 use crate::put::put_run;
 use crate::sizes::file_count;
-use crate::sizes::slave_size;
-use crate::sizes::slave_start;
+use crate::table::listed_sleep;
+use crate::table::put_table_entry;
+use file::layout::AWAKE;
 use file::layout::ENTRY_OFFSETS;
+use file::layout::HEADER_BYTES;
+use file::layout::HEADER_OFFSETS;
+use file::layout::OFFSET_WIDTH;
+use file::layout::WIDE_OFFSET_WIDTH;
 use file::readers::slave_count;
 use file::readers::width_of;
 
-// A slave's directory and, behind it, its files: in both editions they lie in one run.
-pub fn put_slave(out: &mut [u8], width: usize, at: usize, file: &[u8], slave: usize)
-    requires { ⌜ AcceptedFile (now file) × (slave < slaveCount (now file)) × SlaveFits width (now out) at (slaveOf (decode (now file)) slave) ⌝ }
-    ensures { λ _. ⌜ Put (now (out .entry)) at (slaveBytes width at (slaveOf (decode (now (file .entry))) slave)) (now (out .exit)) ⌝ }
-{
-    let count = file_count(file, slave);
-    let start = slave_start(file, slave) + ENTRY_OFFSETS * width_of(file) * count;
-    let end = slave_start(file, slave + 1);
-    put_directory(out, width, at, file, slave);
-    put_run(out, at + ENTRY_OFFSETS * width * count, file, start, end);
+// Where a slave ends, in the file and in the buffer.
+pub struct SlaveEnds {
+    pub file: usize,
+    pub out: usize,
 }
 
-// All the slaves of a file, one behind the other from a place on.
-pub fn put_slaves(out: &mut [u8], width: usize, at: usize, file: &[u8])
-    requires { ⌜ AcceptedFile (now file) × SlavesFit width (now out) at (decode (now file) .slaves) ⌝ }
-    ensures { λ _. ⌜ Put (now (out .entry)) at (slavesBytes width at (decode (now (file .entry)) .slaves)) (now (out .exit)) ⌝ }
+// A slave of a file, put from a place on: its directory and, behind it, its files, which in both editions lie in one run.
+fn put_slave(
+    out: &mut [u8],
+    width: usize,
+    at: usize,
+    file: &[u8],
+    own: usize,
+    slave: usize,
+    start: usize,
+) -> SlaveEnds
+    requires { ⌜ SlaveRead (now file) own slave start × SlaveFits width (now out) at (slaveOf (decode (now file)) slave) ⌝ }
+    ensures { λ r. ⌜ SlaveDone width (now (file .entry)) slave at (now (out .entry)) (now (out .exit)) (r .file) (r .out) ⌝ }
 {
+    let count = file_count(file, own, slave);
+    let from = start + ENTRY_OFFSETS * own * count;
+    let files = at + ENTRY_OFFSETS * width * count;
+    let end = put_directory(out, width, at, file, own, slave, start);
+    let behind = from + (end - files);
+    put_run(out, files, file, from, behind);
+    SlaveEnds {
+        file: behind,
+        out: end,
+    }
+}
+
+// The table of a file's slaves from one place on, and the slaves from another on, one behind the other.
+pub fn put_slaves(out: &mut [u8], width: usize, at: usize, place: usize, file: &[u8], kept: bool)
+    requires { ⌜ AcceptedFile (now file) × BodyFits width (now out) at place (decode (now file) .slaves) ⌝ }
+    ensures { λ _. ⌜ BodyDone kept width at place (decode (now (file .entry)) .slaves) (now (out .entry)) (now (out .exit)) ⌝ }
+{
+    let own = width_of(file);
     let count = slave_count(file);
-    let mut place = at;
+    let mut entry = at;
+    let mut start = HEADER_BYTES + HEADER_OFFSETS * own + ENTRY_OFFSETS * own * count;
+    let mut to = place;
     let mut slave = 0;
     while slave < count {
-        put_slave(out, width, place, file, slave);
-        place = place + slave_size(file, slave, width);
+        let files = file_count(file, own, slave) as u8;
+        let asleep = listed_sleep(file, own, slave, kept);
+        let ends = put_slave(out, width, to, file, own, slave, start);
+        put_table_entry(out, width, entry, to, files, asleep);
+        entry = entry + ENTRY_OFFSETS * width;
+        start = ends.file;
+        to = ends.out;
         slave = slave + 1;
     }
+}
+
+// The same at the file's own width, all slaves awake: the slaves are copied at once, then their directories are put over the copied ones.
+fn put_moved_at(out: &mut [u8], width: usize, at: usize, place: usize, file: &[u8])
+    requires { ⌜ AcceptedFile (now file) × WidthOf (now file) width × BodyFits width (now out) at place (decode (now file) .slaves) ⌝ }
+    ensures { λ _. ⌜ BodyDone false width at place (decode (now (file .entry)) .slaves) (now (out .entry)) (now (out .exit)) ⌝ }
+{
+    let count = slave_count(file);
+    let body = HEADER_BYTES + HEADER_OFFSETS * width + ENTRY_OFFSETS * width * count;
+    put_run(out, place, file, body, file.len());
+    let mut entry = at;
+    let mut start = body;
+    let mut to = place;
+    let mut slave = 0;
+    while slave < count {
+        let files = file_count(file, width, slave) as u8;
+        let end = put_directory(out, width, to, file, width, slave, start);
+        put_table_entry(out, width, entry, to, files, AWAKE);
+        entry = entry + ENTRY_OFFSETS * width;
+        start = start + (end - to);
+        to = end;
+        slave = slave + 1;
+    }
+}
+
+// The same with the width as a literal in each call: the compiler then writes the loop once for each edition, with its numbers.
+pub fn put_moved(out: &mut [u8], width: usize, at: usize, place: usize, file: &[u8])
+    requires { ⌜ AcceptedFile (now file) × WidthOf (now file) width × BodyFits width (now out) at place (decode (now file) .slaves) ⌝ }
+    ensures { λ _. ⌜ BodyDone false width at place (decode (now (file .entry)) .slaves) (now (out .entry)) (now (out .exit)) ⌝ }
+{
+    if width == OFFSET_WIDTH {
+        put_moved_at(out, OFFSET_WIDTH, at, place, file);
+        return;
+    }
+    put_moved_at(out, WIDE_OFFSET_WIDTH, at, place, file);
 }

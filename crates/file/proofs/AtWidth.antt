@@ -7,6 +7,7 @@ use mathlib.Core.Logic.{_≢_}
 use mathlib.Core.List.{List}
 use lib.ListN.{length, getD, List·getD-eq-default}
 use Rattle.file.specs.Rules.Layout.{widthIn, widthOf, headerSize, maxLength}
+use Rattle.file.specs.Inner.Numbers.{ByteAt}
 use Rattle.file.specs.Inner.Layout.{epochPlace}
 use Rattle.file.specs.Rules.Cluster.{Cluster}
 use Rattle.file.specs.Rules.Encode.{encodeAt, encode}
@@ -101,6 +102,14 @@ module _ {w : ℕ} {f : List ℕ} {c : Cluster} (h : BecomesAt w f c) where
 
   pub length-at : length f ≤ maxLength w
   length-at = accepted w f .0 (h .accepted) .size .high
+
+-- and the width by its third byte
+pub accepted-width : {f : List ℕ} {b : ℕ} → AcceptedFile f → ByteAt f 2 b → WidthOf f (2 * b)
+accepted-width {f} {b} h read =
+    let v = edition-width f in
+    let here = becomes-at v h in
+    let same : 2 * b ≡ widthOf f = omega (arith, accepted (widthOf f) f .0 (here .accepted) .edition, v .width .even, read .is) in
+    subst (WidthOf f) (sym same) v
 
 pub epoch-at : {f : List ℕ} {w : ℕ} → AcceptedFile f → WidthOf f w → EpochAt f (4 + 2 * w)
 epoch-at h v =

@@ -1,7 +1,7 @@
 -- One law for each way through the checks of the header: what the tests on the way say, and the ground that follows.
 -- Assumes nothing.
 use Prim.Native.Nat.{ℕ, suc, _+_, _*_, _-_, _/_, _≤_, _<_}
-use mathlib.Core.Path.{_≡_, refl, sym, _∙_}
+use mathlib.Core.Path.{_≡_, refl, sym, subst, _∙_}
 use mathlib.Core.List.{List, [], _∷_}
 use mathlib.Core.Bool.{Bool, true, false, not}
 use native.Mathlib.Omega.{arith}
@@ -186,3 +186,14 @@ module _ (flag name pb2 : ℕ) where
 
       pub pending-known : {u : Bool} → t ≡ false → u ≡ broadcastRead operation name → u ≡ wrongPending flag name pb2
       pending-known e reads = reads ∙ sym (by-operation ∙ either-next _ e)
+
+-- ---- the width as a literal
+
+module _ {w : ℕ} (width : OffsetWidth w) {f : List ℕ} {n : ℕ} where
+  pub narrow-checked : w ≡ 2 → HeaderChecked 2 f n → HeaderChecked w f n
+  narrow-checked two h = subst (λ (v : ℕ). HeaderChecked v f n) (sym two) h
+
+  pub wide-checked : (w ≡ 2 → ⊥) → HeaderChecked 4 f n → HeaderChecked w f n
+  wide-checked other h =
+      let four : 4 ≡ w = omega (arith, width .least, width .most, width .even) in
+      subst (λ (v : ℕ). HeaderChecked v f n) four h

@@ -1,4 +1,4 @@
--- The slaves' logical names, read one after the other into the front of a list; and ground 22 by them.
+-- The slaves' logical names, read one after the other into the front of a list.
 -- Assumes nothing.
 use Prim.Native.Nat.{ℕ, suc, _+_, _≤_, _<_}
 use native.Mathlib.Omega.{arith}
@@ -51,15 +51,3 @@ module _ {c : Cluster} {old new : List ℕ} {i : ℕ} (h : NamesPut c old new i)
       let w = h .within in
       let all : i ≡ length (c .slaves) = omega arith in
       h .are ∙ rw (all, take-all (length (c .slaves)) (logicalNames c) (omega (arith, names-count c)))
-
--- ---- ground 22 by a list with the names in front
-
-module _ (f old : List ℕ) {new : List ℕ} {n : ℕ} (are : new ≡ logicalNames (decode f) ++ drop (slaveCount f) old) (is : n ≡ slaveCount f) where
-  front : take n new ≡ logicalNames (decode f)
-  front = rw (are, is) (take-at (logicalNames (decode f)) (drop (slaveCount f) old) (slaveCount f) (names-count (decode f)))
-
-  pub front-count : n ≡ length (take n new)
-  front-count = is ∙ sym (ap length front ∙ names-count (decode f))
-
-  pub names-decide : {t : Bool} → t ≡ hasRepeat (heldNames (take n new)) → t ≡ hasRepeat (heldNames (logicalNames (decode f)))
-  names-decide test = test ∙ ap (λ (l : List ℕ). hasRepeat (heldNames l)) front

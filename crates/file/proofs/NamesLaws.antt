@@ -7,14 +7,16 @@ use mathlib.Core.Bool.{Bool, true, false}
 use native.Mathlib.Omega.{arith}
 use lib.ListN.{length, getD, take, drop, set, replicate, length-set, length-drop, length-replicate, drop-of-length-le}
 use lib.Seq.{drop-cons, drop-length, take-all}
+use lib.Dec.{eqb}
 use Rattle.file.specs.Rules.Bytes.{All}
-use Rattle.file.specs.Inner.Numbers.{NumberAt}
+use Rattle.file.specs.Inner.Numbers.{ByteAt}
 use Rattle.file.specs.Rules.Grounds.{isAmong, hasRepeat}
 use Rattle.file.specs.Inner.Layout.{physicalNamePlace, longWidth}
 use Rattle.file.specs.Inner.Places.{placesEach, documentationIndex}
-use Rattle.file.specs.Inner.Checked.{documentationPlaces, nameAt, NameStands, namesAt, NamesStand}
+use Rattle.file.specs.Inner.Checked.{documentationPlaces, nameAt, NameStands, namesAt, NamesStand, RemainderAt, repeatsName}
 use Rattle.file.proofs.Bytes.{all-at}
-use Rattle.file.proofs.LookingLaws.{Looking, looking-here, looking-next, looking-end, few-once, repeat-after}
+use Rattle.file.proofs.NumberLaws.{number-last}
+use Rattle.file.proofs.LookingLaws.{Looking, looking-start, looking-here, looking-next, looking-end, few-once, two-once, repeat-after}
 use Rattle.file.specs.Inner.Marked.{Marked, remainder}
 use Rattle.file.proofs.Marks.{marked-none, marked-add, marked-new}
 use Rattle.file.proofs.Order.{either-left, either-false}
@@ -45,36 +47,36 @@ few-names f docs h = few-once (map (nameAt f) docs) (rw (length-names f docs) h)
 
 -- ---- a search among the names
 
-module _ (f docs : List ℕ) {name i : ℕ} (h : Looking name (map (nameAt f) docs) i) where
-  pub named-end : length docs ≤ i → false ≡ isAmong name (map (nameAt f) docs)
+module _ (f docs : List ℕ) {name from i : ℕ} (h : Looking name (map (nameAt f) docs) from i) where
+  named-end : length docs ≤ i → false ≡ isAmong name (drop from (map (nameAt f) docs))
   named-end past = looking-end h (rw (length-names f docs) past)
 
   module _ (more : i < length docs) {here : ℕ} (is : here ≡ nameAt f (getD docs i 0)) where
     there : i < length (map (nameAt f) docs)
     there = rw (length-names f docs) more
 
-    pub named-here : here ≡ name → true ≡ isAmong name (map (nameAt f) docs)
+    named-here : here ≡ name → true ≡ isAmong name (drop from (map (nameAt f) docs))
     named-here e = looking-here h there (name-of f docs i more ∙ sym is ∙ e)
 
-    pub named-next : (here ≡ name → ⊥) → Looking name (map (nameAt f) docs) (i + 1)
+    named-next : (here ≡ name → ⊥) → Looking name (map (nameAt f) docs) from (i + 1)
     named-next other = looking-next h there (λ e. other (is ∙ sym (name-of f docs i more) ∙ e))
 
 -- ---- the comparison: the marks are the remainders of the names from i on, and none of these names occurs twice
 
 pub record Comparing (l : List ℕ) (seen : List Bool) (i : ℕ) : Type 0 where
-  pub room : length seen ≡ 255
+  pub room : length seen ≡ 256
   pub within : i ≤ length l
   pub marks : Marked seen (map remainder (drop i l))
   pub single : hasRepeat (drop i l) ≡ false
 
-pub comparing-start : (l : List ℕ) {i : ℕ} → i ≡ length l → Comparing l (replicate 255 false) i
+pub comparing-start : (l : List ℕ) {i : ℕ} → i ≡ length l → Comparing l (replicate 256 false) i
 unfolding hasRepeat
 comparing-start l {i} last =
     let none : drop i l ≡ [] = rw (last, drop-length l) in
     record {
-      room = length-replicate 255 false;
+      room = length-replicate 256 false;
       within = omega arith;
-      marks = rw none (marked-none 255);
+      marks = rw none (marked-none 256);
       single = rw none;
     }
 
@@ -144,15 +146,35 @@ length-names-at f places = length-names f (documentationPlaces places) ∙ docum
 pub few-names-at : (f places : List ℕ) → length places / placesEach < 2 → false ≡ hasRepeat (namesAt f places)
 few-names-at f places h = few-names f (documentationPlaces places) (rw (documents-length places) h)
 
+module _ (f places : List ℕ) (two : length places / placesEach ≡ 2) where
+  name-at-place : (i : ℕ) → i < 2 → getD (namesAt f places) i 0 ≡ nameAt f (getD places (documentationIndex i) 0)
+  name-at-place i below =
+      let there : i < length (documentationPlaces places) = rw (documents-length places, two) below in
+      name-of f (documentationPlaces places) i there ∙ rw (document-of places i (rw two below))
+
+  pub two-names-at : {a b : ℕ} → a ≡ nameAt f (getD places (documentationIndex 0) 0) → b ≡ nameAt f (getD places (documentationIndex 1) 0) → eqb a b ≡ hasRepeat (namesAt f places)
+  two-names-at first second =
+      rw (first, second, ← name-at-place 0 (omega arith), ← name-at-place 1 (omega arith)) (two-once (namesAt f places) (length-names-at f places ∙ two))
+
 -- each slave's name stands within the bytes, at a place that is a number of the machine
 pub name-within : (f places : List ℕ) (i : ℕ) → NamesStand f places → i < length places / placesEach → getD places (documentationIndex i) 0 + physicalNamePlace + longWidth ≤ length f
 name-within f places i h l =
     let there : i < length (documentationPlaces places) = rw (documents-length places) l in
     rw (document-of places i l) at (all-at 0 (h .all) there .within)
 
+-- its remainder is its last byte
+pub remainder-there : (f places : List ℕ) {i r : ℕ} → NamesStand f places → i < length places / placesEach → ByteAt f (getD places (documentationIndex i) 0 + physicalNamePlace + 7) r
+    → RemainderAt f (getD places (documentationIndex i) 0) r
+unfolding nameAt
+remainder-there f places {i} h l byte =
+    record { is = number-last (getD places (documentationIndex i) 0 + physicalNamePlace) 7 (omega (arith, name-within f places i h l)) byte }
+
 -- a search among them
-module _ (f places : List ℕ) {name i : ℕ} (h : Looking name (namesAt f places) i) where
-  pub searched-end : length places / placesEach ≤ i → false ≡ isAmong name (namesAt f places)
+pub search-start : (f places : List ℕ) (name from : ℕ) → from ≤ length places / placesEach → Looking name (namesAt f places) from from
+search-start f places name from h = looking-start name (namesAt f places) from (rw (length-names-at f places) h)
+
+module _ (f places : List ℕ) {name from i : ℕ} (h : Looking name (namesAt f places) from i) where
+  pub searched-end : length places / placesEach ≤ i → false ≡ isAmong name (drop from (namesAt f places))
   searched-end past = named-end f (documentationPlaces places) h (rw (documents-length places) past)
 
   module _ (more : i < length places / placesEach) {here : ℕ} (is : here ≡ nameAt f (getD places (documentationIndex i) 0)) where
@@ -162,63 +184,72 @@ module _ (f places : List ℕ) {name i : ℕ} (h : Looking name (namesAt f place
     in-list : i < length (documentationPlaces places)
     in-list = rw (documents-length places) more
 
-    pub searched-here : here ≡ name → true ≡ isAmong name (namesAt f places)
+    pub searched-here : here ≡ name → true ≡ isAmong name (drop from (namesAt f places))
     searched-here e = named-here f (documentationPlaces places) h in-list there-is e
 
-    pub searched-next : (here ≡ name → ⊥) → Looking name (namesAt f places) (i + 1)
+    pub searched-next : (here ≡ name → ⊥) → Looking name (namesAt f places) from (i + 1)
     searched-next other = named-next f (documentationPlaces places) h in-list there-is other
-
--- the places of the slaves after one, as the code lends them
-after : (places : List ℕ) (i : ℕ) → i ≤ length places / placesEach → documentationPlaces (take (length places - placesEach * i) (drop (placesEach * i) places)) ≡ drop i (documentationPlaces places)
-after places i h =
-    rw (take-all (length places - placesEach * i) (drop (placesEach * i) places) (simp length-drop (omega arith))) (documents-after places i)
 
 -- a name whose remainder is new
 pub unseen : {b : Bool} (name : ℕ) (l : List ℕ) → (b ≡ false → isAmong name l ≡ false) → b ≡ false → false ≡ isAmong name l
 unseen name l none e = sym (none e)
 
+pub unrepeated : {b : Bool} (f places : List ℕ) (s : ℕ) → (b ≡ false → repeatsName f places s ≡ false) → b ≡ false → false ≡ repeatsName f places s
+unrepeated f places s none e = sym (none e)
+
+pub repeats-search : (f places : List ℕ) (s : ℕ) {name : ℕ} → name ≡ nameAt f (getD places (documentationIndex s) 0) → {t : Bool} → t ≡ isAmong name (drop (s + 1) (namesAt f places)) → t ≡ repeatsName f places s
+unfolding repeatsName
+repeats-search f places s is found = found ∙ ap (λ (n : ℕ). isAmong n (drop (s + 1) (namesAt f places))) is
+
 -- what the loop from the last slave to the first keeps
 pub record Compared (f places : List ℕ) (seen : List Bool) (i : ℕ) : Type 0 where
   pub inside : i ≤ length places / placesEach
-  pub room : length seen ≡ 255
+  pub room : length seen ≡ 256
   pub names : Comparing (namesAt f places) seen i
 
-pub compared-start : (f places : List ℕ) {i : ℕ} → i ≡ length places / placesEach → Compared f places (replicate 255 false) i
+pub compared-start : (f places : List ℕ) {i : ℕ} → i ≡ length places / placesEach → Compared f places (replicate 256 false) i
 compared-start f places e =
     record {
       inside = omega arith;
-      room = length-replicate 255 false;
+      room = length-replicate 256 false;
       names = comparing-start (namesAt f places) (e ∙ sym (length-names-at f places));
     }
 
 pub compared-end : {f places : List ℕ} {seen : List Bool} {i : ℕ} → Compared f places seen i → i ≤ 0 → false ≡ hasRepeat (namesAt f places)
 compared-end h past = comparing-end (h .names) past
 
-module _ {f places : List ℕ} {seen : List Bool} {i : ℕ} (h : Compared f places seen i) (more : 0 < i) {name : ℕ}
-    (is : name ≡ nameAt f (getD places (documentationIndex (i - 1)) 0)) where
-  pub stand-after : NamesStand f places → NamesStand f (take (length places - placesEach * i) (drop (placesEach * i) places))
-  stand-after all = record { all = rw (after places i (h .inside)) (stand-from i (all .all)) }
+module _ {f places : List ℕ} {seen : List Bool} {i : ℕ} (h : Compared f places seen i) (more : 0 < i) where
+  abbrev name : ℕ
+  name = nameAt f (getD places (documentationIndex (i - 1)) 0)
+
+  pub compared-below : i - 1 < length places / placesEach
+  compared-below = omega (arith, h .inside)
 
   in-order : name ≡ getD (namesAt f places) (i - 1) 0
   in-order =
       let w = h .inside in
       let there : i - 1 < length (documentationPlaces places) = rw (documents-length places) (omega arith) in
-      is ∙ sym (name-of f (documentationPlaces places) (i - 1) there ∙ rw (document-of places (i - 1) (omega arith)))
+      sym (name-of f (documentationPlaces places) (i - 1) there ∙ rw (document-of places (i - 1) (omega arith)))
 
-  among : isAmong name (namesAt f (take (length places - placesEach * i) (drop (placesEach * i) places))) ≡ isAmong name (drop i (namesAt f places))
-  among = rw (after places i (h .inside), names-after f (documentationPlaces places) i)
+  among : repeatsName f places (i - 1) ≡ isAmong name (drop i (namesAt f places))
+  unfolding repeatsName
+  among = let back : i - 1 + 1 ≡ i = omega arith in rw back
 
-  pub equal-new : getD seen (name % 255) false ≡ false → isAmong name (namesAt f (take (length places - placesEach * i) (drop (placesEach * i) places))) ≡ false
-  equal-new e = among ∙ comparing-new (h .names) more in-order e
+  module _ {r : ℕ} (is : RemainderAt f (getD places (documentationIndex (i - 1)) 0) r) where
+    pub remainder-fits : r < 256
+    remainder-fits = omega (arith, is .is)
 
-  module _ {t : Bool} (found : t ≡ isAmong name (namesAt f (take (length places - placesEach * i) (drop (placesEach * i) places)))) where
-    pub equal-here : t ≡ true → true ≡ hasRepeat (namesAt f places)
-    equal-here e = comparing-here (h .names) more in-order (sym among ∙ sym found ∙ e)
+    pub equal-new : getD seen r false ≡ false → repeatsName f places (i - 1) ≡ false
+    equal-new e = among ∙ comparing-new (h .names) more in-order (rw (← (is .is)) e)
 
-    pub equal-next : t ≡ false → Compared f places (set seen (name % 255) true) (i - 1)
-    equal-next e =
-        record {
-          inside = omega (arith, h .inside);
-          room = length-set seen (name % 255) true ∙ h .room;
-          names = comparing-next (h .names) more in-order (sym among ∙ sym found ∙ e);
-        }
+    module _ {t : Bool} (found : t ≡ repeatsName f places (i - 1)) where
+      pub equal-here : t ≡ true → true ≡ hasRepeat (namesAt f places)
+      equal-here e = comparing-here (h .names) more in-order (sym among ∙ sym found ∙ e)
+
+      pub equal-next : t ≡ false → Compared f places (set seen r true) (i - 1)
+      equal-next e =
+          record {
+            inside = omega (arith, h .inside);
+            room = length-set seen r true ∙ h .room;
+            names = rw (is .is) (comparing-next (h .names) more in-order (sym among ∙ sym found ∙ e));
+          }

@@ -56,6 +56,15 @@ number-join {l} {at} {m} {n} {a} {b} h p q =
       below = subst (λ (k : ℕ). a * 256 ^ n + b < k) (sym (pow-add 256 m n)) (digits-lt (p .below) (q .below));
     }
 
+-- the remainder of a number is its last byte
+last-of : (x b : ℕ) → b < 256 → b ≡ (x * 256 ^ 1 + b) % 256
+last-of x b h = omega arith
+
+pub number-last : {l : List ℕ} (at n : ℕ) {b : ℕ} → at + n < length l → ByteAt l (at + n) b → b ≡ numberOf (part l at (n + 1)) % 256
+number-last {l} at n {b} h q =
+    rw (part-add l at n 1, number-append (part l at n) (part l (at + n) 1), part-length l (at + n) 1 (omega arith), ← (byte-number h q .is))
+    (last-of (numberOf (part l at n)) b (q .byte))
+
 -- the same of two numbers of one width, joined by a shift of k bits and or
 pub number-or : {l : List ℕ} {at : ℕ} (n k : ℕ) {a b : ℕ} → 2 ^ k ≡ 256 ^ n → k + k ≤ 64 → at + n + n ≤ length l → NumberAt l at n a → NumberAt l (at + n) n b →
     NumberAt l at (n + n) (bitOr ((a * 2 ^ k) % 2 ^ 64) b)

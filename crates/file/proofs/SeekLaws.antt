@@ -16,8 +16,9 @@ use Rattle.file.specs.Rules.Grounds.{to, walkDirectory}
 use Rattle.file.specs.Inner.Checked.{EntriesFit, states, statedPlace, Arrives}
 use Rattle.file.proofs.Order.{both-left, both-next, both-false-left}
 use Rattle.file.proofs.Arrivals.{Step, walk-took}
-use Rattle.file.proofs.WalkLaws.{stated-step, stated-last, more-left, none-left, entry-fits}
+use Rattle.file.proofs.WalkLaws.{stated-step, stated-last, more-left, none-left, entry-fits, walking-first}
 use Rattle.file.proofs.Stated.{walk-skips}
+use Rattle.file.proofs.Width.{place-fits, wide-enough}
 
 -- ---- the test of an entry
 
@@ -114,6 +115,33 @@ module _ {w : ℕ} {f : List ℕ} {d k n least entry : ℕ} (fit : EntriesFit w 
           let first : statedPlace w f n least (offsetAt w f (entry + w)) (entry + 2 * w) (h .left - 1) ≡ statedPlace w f n least 0 d k = rw (sym is ∙ e) at stepped in
           let skips = walk-skips w f n least (offsetAt w f (entry + w)) (entry + 2 * w) (suc (getD f entry 0)) (h .place + fileSize (getD f (entry + 1) 0)) (h .left - 1) (h .end) (omega (arith, number)) (step .rest) in
           o .is ∙ (sym skips ∙ first)
+
+-- the first entry: its file lies behind the directory
+module _ {w : ℕ} {f : List ℕ} {d k : ℕ} (fit : EntriesFit w f d k) (h : Arrives w f d k) (some : k ≡ 0 → ⊥) where
+  first-there : d < d + 2 * w * k
+  first-there = walking-first w d k (fit .width .least) some
+
+  pub first-two : d + 2 ≤ length f
+  first-two = seeking-two fit (seeking-start 0 0 h) first-there
+
+  first-behind : offsetAt w f (d + w) ≡ d + 2 * w * k
+  first-behind =
+      let m : suc (k - 1) ≡ k = omega arith in
+      walk-took w f d 0 (d + 2 * w * k) (k - 1) (h .end) (rw m (h .walk)) .facts .offset
+
+  first-number : NumberAt f (d + w) w (d + 2 * w * k)
+  unfolding offsetAt
+  first-number = record { is = sym first-behind; below = place-fits (wide-enough (fit .width)) (omega (arith, fit .within, fit .short)) }
+
+  pub first-short : d + 2 * w * k < 65536
+  first-short = seeking-short fit (seeking-start 0 0 h) first-there first-number
+
+  pub first-here : (n least : ℕ) {t : Bool} → t ≡ states f n least d → t ≡ true → d + 2 * w * k ≡ statedPlace w f n least 0 d k
+  first-here n least is e = seeking-here fit (seeking-start n least h) first-there is e first-number
+
+pub none-stated : (w : ℕ) (f : List ℕ) (n least d : ℕ) {k : ℕ} → k ≡ 0 → 0 ≡ statedPlace w f n least 0 d k
+unfolding statedPlace
+none-stated w f n least d none = rw none
 
 -- ---- from the back: the entries before state what the whole directory states
 

@@ -18,8 +18,9 @@ use Rattle.file.specs.Rules.Cluster.{configuration, documentation}
 use Rattle.file.specs.Rules.Decode.{offsetAt}
 use Rattle.file.specs.Rules.Grounds.{broken, to, andThen, goodTableEntry, walkDirectory, walkSlave, walkSlaves}
 use Rattle.file.specs.Inner.Places.{placesEach}
-use Rattle.file.specs.Inner.Checked.{EntriesFit, statedPlace, statedIn, statedPlaces, walkOf, DirectoryWalked, FilesWalked, Arrives, SlaveWalked, SlavesWalked}
+use Rattle.file.specs.Inner.Checked.{EntriesFit, statedPlace, statedIn, statedPlaces, walkOf, DirectoryWalked, EntryWalked, Arrives, SlaveWalked, SlavesWalked}
 use Rattle.file.proofs.Order.{clash}
+use Rattle.file.proofs.Arrivals.{SlaveStep, slave-took}
 use Rattle.file.proofs.Facts.{false-unless, TableEntryFacts, table-entry-facts, table-entry-yes}
 
 -- ---- one slave
@@ -33,40 +34,37 @@ pub slave-step : (w : ℕ) (f : List ℕ) (t place : ℕ) → goodTableEntry w f
 unfolding walkSlave
 slave-step w f t place e = rw e
 
-refused : {w : ℕ} {f : List ℕ} {t place : ℕ} → (TableEntryFacts w f t place → ⊥) → SlaveWalked w f t place false 0 0 0
+refused : {w : ℕ} {f : List ℕ} {t place : ℕ} → (TableEntryFacts w f t place → ⊥) → EntryWalked w f t place false 0
 unfolding walkOf
 refused {w} {f} {t} {place} not-so =
     record {
       walk = sym (slave-stop w f t place (false-unless (λ e. not-so (table-entry-facts w f t place e))));
-      config = λ e. clash e refl;
-      document = λ e. clash e refl;
       within = λ e. clash e refl;
     }
 
-pub slave-elsewhere : {w : ℕ} {f : List ℕ} {t place n : ℕ} → NumberAt f t w n → (n ≡ place → ⊥) → SlaveWalked w f t place false 0 0 0
+pub slave-elsewhere : {w : ℕ} {f : List ℕ} {t place n : ℕ} → NumberAt f t w n → (n ≡ place → ⊥) → EntryWalked w f t place false 0
 unfolding offsetAt
 slave-elsewhere k h = refused (λ g. h (k .is ∙ g .offset))
 
-pub slave-sleep : {w : ℕ} {f : List ℕ} {t : ℕ} (place : ℕ) {n : ℕ} → ByteAt f (t + w + 1) n → 1 < n → SlaveWalked w f t place false 0 0 0
+pub slave-sleep : {w : ℕ} {f : List ℕ} {t : ℕ} (place : ℕ) {n : ℕ} → ByteAt f (t + w + 1) n → 1 < n → EntryWalked w f t place false 0
 slave-sleep place k h = refused (λ g. omega (arith, g .sleeps, k .is))
 
-pub slave-unfilled : {w : ℕ} {f : List ℕ} {t : ℕ} (place : ℕ) {filled : Bool} → filled ≡ allZero (part f (t + w + 2) (w - 2)) → filled ≡ false → SlaveWalked w f t place false 0 0 0
+pub slave-unfilled : {w : ℕ} {f : List ℕ} {t : ℕ} (place : ℕ) {filled : Bool} → filled ≡ allZero (part f (t + w + 2) (w - 2)) → filled ≡ false → EntryWalked w f t place false 0
 slave-unfilled place is e = refused (λ g. clash (g .zeros) (sym is ∙ e))
 
-pub slave-past : {w : ℕ} {f : List ℕ} {t place n : ℕ} → ByteAt f (t + w) n → length f < place + 2 * w * n → SlaveWalked w f t place false 0 0 0
+pub slave-past : {w : ℕ} {f : List ℕ} {t place n : ℕ} → ByteAt f (t + w) n → length f < place + 2 * w * n → EntryWalked w f t place false 0
 slave-past {w} {f} {t} {place} {n} k h =
     let past : length f < place + 2 * w * getD f (t + w) 0 = rw (← (k .is)) h in
     refused (λ g. omega (arith, g .within, past))
 
-module _ {w : ℕ} {f : List ℕ} {t place n offset asleep : ℕ} {filled good : Bool} {end conf doc : ℕ} (count : ByteAt f (t + w) n) (o : NumberAt f t w offset) (here : offset ≡ place)
+module _ {w : ℕ} {f : List ℕ} {t place n offset asleep : ℕ} {filled good : Bool} {end : ℕ} (count : ByteAt f (t + w) n) (o : NumberAt f t w offset) (here : offset ≡ place)
     (z : ByteAt f (t + w + 1) asleep) (few : asleep ≤ 1) (is : filled ≡ allZero (part f (t + w + 2) (w - 2))) (all : filled ≡ true)
-    (fits : place + 2 * w * n ≤ length f) (h : FilesWalked w f place n good end conf doc) where
+    (fits : place + 2 * w * n ≤ length f) (h : DirectoryWalked w f place n good end) where
   offset-there : offsetAt w f t ≡ place
   unfolding offsetAt
   offset-there = sym (o .is) ∙ here
 
-  pub slave-walked : SlaveWalked w f t place good end conf doc
-  unfolding statedIn
+  pub slave-walked : EntryWalked w f t place good end
   slave-walked =
       let within : place + 2 * w * getD f (t + w) 0 ≤ length f = rw (← (count .is)) fits in
       let facts : TableEntryFacts w f t place = record {
@@ -76,31 +74,45 @@ module _ {w : ℕ} {f : List ℕ} {t place n offset asleep : ℕ} {filled good :
         within = within;
       } in
       record {
-        walk = sym (slave-step w f t place (table-entry-yes w f t place facts) ∙ rw (← (count .is)) (sym (h .walked .walk)));
-        config = λ e. rw (offset-there, ← (count .is)) (h .config e);
-        document = λ e. rw (offset-there, ← (count .is)) (h .document e);
-        within = h .walked .within;
+        walk = sym (slave-step w f t place (table-entry-yes w f t place facts) ∙ rw (← (count .is)) (sym (h .walk)));
+        within = h .within;
       }
 
--- ---- its files
+-- ---- its places
 
-module _ {w : ℕ} {f : List ℕ} {d k : ℕ} {good : Bool} {end : ℕ} (h : DirectoryWalked w f d k good end) where
-  pub files-broken : good ≡ false → FilesWalked w f d k false 0 0 0
-  unfolding walkOf
-  files-broken e =
-      record {
-        walked = record { walk = rw e at (h .walk); within = λ q. clash q refl };
-        config = λ q. clash q refl;
-        document = λ q. clash q refl;
-      }
-
-  pub files-walked : {conf doc : ℕ} → good ≡ true → conf ≡ statedPlace w f configuration 3 0 d k → doc ≡ statedPlace w f documentation 2 0 d k → FilesWalked w f d k true end conf doc
-  files-walked e conf-is doc-is = record { walked = rw e at h; config = λ _. conf-is; document = λ _. doc-is }
-
--- a good directory comes to an end
-pub directory-arrives : {w : ℕ} {f : List ℕ} {d k : ℕ} {good : Bool} {end : ℕ} → DirectoryWalked w f d k good end → good ≡ true → Arrives w f d k
+pub slave-broken : {w : ℕ} {f : List ℕ} {t place : ℕ} {good : Bool} {end : ℕ} → EntryWalked w f t place good end → good ≡ false → SlaveWalked w f t place false 0 0 0
 unfolding walkOf
-directory-arrives {end = end} h e = record { end = end; walk = sym (rw e at (h .walk)) }
+slave-broken h e =
+    record {
+      walk = rw e at (h .walk);
+      config = λ q. clash q refl;
+      document = λ q. clash q refl;
+      within = λ q. clash q refl;
+    }
+
+pub slave-good : {w : ℕ} {f : List ℕ} {t place : ℕ} {good : Bool} {end : ℕ} → EntryWalked w f t place good end → good ≡ true → EntryWalked w f t place true end
+slave-good h e = rw e at h
+
+module _ {w : ℕ} {f : List ℕ} {t place end : ℕ} (fit : EntriesFit w f t 1) (h : EntryWalked w f t place true end) {n : ℕ} (count : ByteAt f (t + w) n) where
+  took : SlaveStep w f t place end
+  unfolding walkOf
+  took = slave-took w f t place end (sym (h .walk))
+
+  pub slave-entries : EntriesFit w f place n
+  slave-entries = record { width = fit .width; within = rw (count .is) (took .facts .within); short = fit .short }
+
+  pub slave-arrives : Arrives w f place n
+  slave-arrives = record { end = end; walk = rw (count .is) (took .files) }
+
+  pub slave-stated : {conf doc : ℕ} → conf ≡ statedPlace w f configuration 3 0 place n → doc ≡ statedPlace w f documentation 2 0 place n → SlaveWalked w f t place true end conf doc
+  unfolding statedIn
+  slave-stated conf-is doc-is =
+      record {
+        walk = h .walk;
+        config = λ _. rw (took .facts .offset, ← (count .is)) conf-is;
+        document = λ _. rw (took .facts .offset, ← (count .is)) doc-is;
+        within = h .within;
+      }
 
 -- the width as a literal: it is 2, or 4
 module _ {w : ℕ} {f : List ℕ} {d k : ℕ} (fit : EntriesFit w f d k) where
@@ -110,15 +122,21 @@ module _ {w : ℕ} {f : List ℕ} {d k : ℕ} (fit : EntriesFit w f d k) where
   pub narrow-fits : w ≡ 2 → EntriesFit 2 f d k
   narrow-fits two = subst (λ (v : ℕ). EntriesFit v f d k) two fit
 
+  pub narrow-place : {place : ℕ} → w ≡ 2 → place ≤ 16384 * w → place ≤ 16384 * 2
+  narrow-place two h = omega arith
+
   pub wide-fits : (w ≡ 2 → ⊥) → EntriesFit 4 f d k
   wide-fits other = subst (λ (v : ℕ). EntriesFit v f d k) (other-is other) fit
 
-  module _ {good : Bool} {end conf doc : ℕ} where
-    pub narrow-walked : w ≡ 2 → FilesWalked 2 f d k good end conf doc → FilesWalked w f d k good end conf doc
-    narrow-walked two h = subst (λ (v : ℕ). FilesWalked v f d k good end conf doc) (sym two) h
+  pub wide-place : {place : ℕ} → place ≤ 16384 * w → place ≤ 16384 * 4
+  wide-place h = omega (arith, fit .width .most)
 
-    pub wide-walked : (w ≡ 2 → ⊥) → FilesWalked 4 f d k good end conf doc → FilesWalked w f d k good end conf doc
-    wide-walked other h = subst (λ (v : ℕ). FilesWalked v f d k good end conf doc) (sym (other-is other)) h
+  module _ {place : ℕ} {good : Bool} {end conf doc : ℕ} where
+    pub narrow-walked : w ≡ 2 → SlaveWalked 2 f d place good end conf doc → SlaveWalked w f d place good end conf doc
+    narrow-walked two h = subst (λ (v : ℕ). SlaveWalked v f d place good end conf doc) (sym two) h
+
+    pub wide-walked : (w ≡ 2 → ⊥) → SlaveWalked 4 f d place good end conf doc → SlaveWalked w f d place good end conf doc
+    wide-walked other h = subst (λ (v : ℕ). SlaveWalked v f d place good end conf doc) (sym (other-is other)) h
 
 -- the entries of a slave's directory fit
 pub directory-fits : {w : ℕ} {f : List ℕ} {t : ℕ} (place n : ℕ) → EntriesFit w f t 1 → place + 2 * w * n ≤ length f → EntriesFit w f place n

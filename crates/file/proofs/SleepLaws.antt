@@ -2,8 +2,7 @@
 -- Assumes nothing.
 use Prim.Native.Nat.{ℕ, _+_, _*_, _≤_, _<_}
 use native.Mathlib.Omega.{arith}
-use mathlib.Core.Path.{_≡_, refl, ap, subst, _∙_}
-use mathlib.Core.Logic.{_≢_}
+use mathlib.Core.Path.{_≡_, refl, sym, ap, subst, _∙_}
 use mathlib.Core.List.{List}
 use lib.Dec.{eqb}
 use lib.ListN.{length, getD, set}
@@ -13,10 +12,19 @@ use Rattle.file.specs.Rules.Decode.{decode}
 use Rattle.file.specs.Rules.Changes.{withSlaves}
 use Rattle.file.specs.Inner.Places.{slaveOf, sleepPlace, putSleep, slavesRoom}
 use Rattle.file.specs.Inner.Accepted.{Becomes, AcceptedFile, WidthOf, SleepAt, slaveCount}
-use Rattle.file.proofs.Width.{few-slaves}
-use Rattle.file.proofs.AtWidth.{BecomesAt, at-edition, becomes-in, becomes-as, other-width, wide-width, header-room-at}
+use Rattle.file.proofs.Width.{Which, narrow, wide, which, few-slaves}
+use Rattle.file.proofs.AtWidth.{BecomesAt, at-edition, becomes-in, becomes-as, header-room-at}
 use Rattle.file.proofs.ReaderLaws.{entry-within}
 use Rattle.file.proofs.SleepStores.{read-sleep, store-sleep, legal-putSleep}
+
+-- a product of the width for all of its summands
+sleep-sum : {w : ℕ} (s : ℕ) → Which w → 9 + w * (5 + 2 * s) ≡ headerSize w + w + 1 + 2 * w * s
+sleep-sum s narrow = omega arith
+sleep-sum s wide = omega arith
+
+sleep-most : {w : ℕ} (s : ℕ) → Which w → w * (5 + 2 * s) ≤ 4 * (5 + 2 * s)
+sleep-most s narrow = omega arith
+sleep-most s wide = omega arith
 
 module _ {f : List ℕ} {w : ℕ} (h : AcceptedFile f) (v : WidthOf f w) (s : ℕ) (l : s < slaveCount f) where
   sleep-at : SleepAt f s (headerSize w + w + 1 + 2 * w * s)
@@ -24,19 +32,18 @@ module _ {f : List ℕ} {w : ℕ} (h : AcceptedFile f) (v : WidthOf f w) (s : �
       let same : headerSize w + w + 1 + 2 * w * s ≡ sleepPlace w s = omega arith in
       record { is = same ∙ ap (λ (m : ℕ). sleepPlace m s) (v .is); within = omega (arith, entry-within h v s l, v .width .least) }
 
--- in each edition, by the file's third byte
-module _ {f : List ℕ} (h : AcceptedFile f) (s : ℕ) (l : s < slaveCount f) where
+  pub sleep-there : SleepAt f s (9 + w * (5 + 2 * s))
+  sleep-there = subst (SleepAt f s) (sym (sleep-sum s (which (v .width)))) sleep-at
+
+  pub sleep-fits : w * (5 + 2 * s) ≤ 4 * (5 + 2 * slavesRoom)
+  sleep-fits = omega (arith, sleep-most s (which (v .width)), few-slaves (decode f) (h .legal), l)
+
+module _ {f : List ℕ} (h : AcceptedFile f) where
   pub edition-there : 2 < length f
   edition-there = omega (arith, header-room-at (at-edition h))
 
-  pub slave-fits : s < slavesRoom
-  slave-fits = omega (arith, few-slaves (decode f) (h .legal), l)
-
-  pub sleep-narrow : getD f 2 0 ≢ 2 → SleepAt f s (19 + 4 * s)
-  sleep-narrow other = let same : 16 + 2 + 1 + 2 * 2 * s ≡ 19 + 4 * s = omega arith in subst (SleepAt f s) same (sleep-at h (other-width other) s l)
-
-  pub sleep-wide : getD f 2 0 ≡ 2 → SleepAt f s (29 + 8 * s)
-  sleep-wide is = let same : 24 + 4 + 1 + 2 * 4 * s ≡ 29 + 8 * s = omega arith in subst (SleepAt f s) same (sleep-at h (wide-width is) s l)
+  pub slave-fits : (s : ℕ) → s < slaveCount f → s < slavesRoom
+  slave-fits s l = omega (arith, few-slaves (decode f) (h .legal), l)
 
 module _ {f : List ℕ} {s at : ℕ} (h : AcceptedFile f) (l : s < slaveCount f) (p : SleepAt f s at) where
   abbrev w : ℕ

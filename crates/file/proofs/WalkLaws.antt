@@ -162,6 +162,18 @@ walking-start {w} {f} {d} {k} fit =
     let all : fitsSoFar f 0 (d + 2 * w * k) ≡ true = both-true (le-leb 0 64 (omega arith)) (le-leb (d + 2 * w * k) (length f) h) in
     record { left = k; at = refl; small = omega (arith, h, fit .short, fit .width .most); walk = rw all }
 
+-- a directory without entries
+pub walking-none : {w : ℕ} {f : List ℕ} {d k : ℕ} → EntriesFit w f d k → k ≡ 0 → DirectoryWalked w f d k true d
+unfolding walkOf walkDirectory
+walking-none {w} {f} {d} {k} fit none =
+    let here : d + 2 * w * 0 ≡ d = omega arith in
+    record { walk = rw (none, here); within = λ _. omega (arith, fit .within) }
+
+-- the first entry of one that has some
+pub walking-first : (w d k : ℕ) → 2 ≤ w → (k ≡ 0 → ⊥) → d < d + 2 * w * k
+walking-first w d zero least some = absurd (some refl)
+walking-first w d (suc k) least some = omega arith
+
 module _ {w : ℕ} {f : List ℕ} {d k entry low place : ℕ} (fit : EntriesFit w f d k) (h : Walking w f d k entry low place) where
   -- the entry of a turn lies within the bytes
   pub walking-entry : entry < d + 2 * w * k → EntriesFit w f entry 1
@@ -215,6 +227,30 @@ module _ {w : ℕ} {f : List ℕ} {d k entry low place : ℕ} (fit : EntriesFit 
         small = omega (arith, h .small, b .byte);
         walk = rw (add-one number, a .is, b .is, ← twice, ← (walk-next w f entry low place (h .left) some (sym is ∙ e))) (h .walk);
       }
+
+-- the first turn, of a directory that has entries
+module _ {w : ℕ} {f : List ℕ} {d k : ℕ} (fit : EntriesFit w f d k) (some : k ≡ 0 → ⊥) where
+  one-there : d < d + 2 * w * k
+  one-there = walking-first w d k (fit .width .least) some
+
+  pub first-entry : EntriesFit w f d 1
+  first-entry = walking-entry fit (walking-start fit) one-there
+
+  pub first-number : d < length f
+  first-number = omega (arith, first-entry .within, fit .width .least)
+
+  pub first-records : d + 1 < length f
+  first-records = omega (arith, first-entry .within, fit .width .least)
+
+  pub first-stop : {t : Bool} → t ≡ nextEntry w f d 0 (d + 2 * w * k) → t ≡ false → DirectoryWalked w f d k false 0
+  first-stop is e = walking-stop fit (walking-start fit) one-there is e
+
+  pub first-fits : {at last : ℕ} → ByteAt f at last → Fits w64 (d + 2 * w * k + 4 * (last + 1))
+  first-fits b = walking-fits fit (walking-start fit) b
+
+  pub first-next : {t : Bool} {number last : ℕ} → t ≡ nextEntry w f d 0 (d + 2 * w * k) → t ≡ true →
+      ByteAt f d number → ByteAt f (d + 1) last → Walking w f d k (d + 2 * w) (number + 1) (d + 2 * w * k + 4 * (last + 1))
+  first-next is e a b = walking-next fit (walking-start fit) one-there is e a b
 
 -- ---- the tests of an entry
 

@@ -25,6 +25,7 @@ use crate::layout::PENDING;
 use crate::layout::PENDING_NAME_FIELD;
 use crate::layout::PENDING_PB2_FIELD;
 use crate::layout::TABLE_PLACE;
+use crate::layout::WIDE_OFFSET_WIDTH;
 use crate::layout::ZERO_FIELD_0;
 use crate::layout::ZERO_FIELD_1;
 use crate::layout::ZERO_FIELD_2;
@@ -130,7 +131,7 @@ fn wrong_header(file: &[u8], width: usize) -> bool
 }
 
 // The first of grounds 1 to 5 that holds, or 0.
-pub fn header_ground(file: &[u8], width: usize) -> u8
+fn header_ground_at(file: &[u8], width: usize) -> u8
     requires { ⌜ OffsetWidth width ⌝ }
     ensures { λ r. ⌜ HeaderChecked width (now (file .entry)) r ⌝ }
 {
@@ -150,4 +151,15 @@ pub fn header_ground(file: &[u8], width: usize) -> u8
         return Refusal::HEADER.0;
     }
     0
+}
+
+// The same with the width as a literal in each call: the compiler then writes the tests once for each edition, with its numbers.
+pub fn header_ground(file: &[u8], width: usize) -> u8
+    requires { ⌜ OffsetWidth width ⌝ }
+    ensures { λ r. ⌜ HeaderChecked width (now (file .entry)) r ⌝ }
+{
+    if width == OFFSET_WIDTH {
+        return header_ground_at(file, OFFSET_WIDTH);
+    }
+    header_ground_at(file, WIDE_OFFSET_WIDTH)
 }

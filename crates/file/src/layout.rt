@@ -68,21 +68,10 @@ pub const SLEEP_FIELD: usize = 1;
 
 pub const TABLE_FILL_FIELD: usize = 2;
 
-// An entry in each edition.
-pub const ENTRY_SIZE: usize = ENTRY_OFFSETS * OFFSET_WIDTH;
+// The first slave's sleep byte: behind the header, an offset and a file count.
+pub const SLEEP_BYTES: usize = HEADER_BYTES + SLEEP_FIELD;
 
-pub const WIDE_ENTRY_SIZE: usize = ENTRY_OFFSETS * WIDE_OFFSET_WIDTH;
-
-// The first slave's sleep byte in each edition: behind the header, an offset and a file count.
-pub const SLEEP_PLACE: usize = HEADER_BYTES
-    + HEADER_OFFSETS * OFFSET_WIDTH
-    + OFFSET_WIDTH
-    + SLEEP_FIELD;
-
-pub const WIDE_SLEEP_PLACE: usize = HEADER_BYTES
-    + HEADER_OFFSETS * WIDE_OFFSET_WIDTH
-    + WIDE_OFFSET_WIDTH
-    + SLEEP_FIELD;
+pub const SLEEP_OFFSETS: usize = HEADER_OFFSETS + 1;
 
 // "The zero at the end of a table entry becomes 0 awake or 1 asleep." (document 02, job 9)
 pub const AWAKE: u8 = 0;

@@ -15,7 +15,6 @@ use crate::layout::COMPARISON_VALUE_PLACE;
 use crate::layout::COUNT_PLACE;
 use crate::layout::EDITION_PLACE;
 use crate::layout::ENTRY_OFFSETS;
-use crate::layout::ENTRY_SIZE;
 use crate::layout::EPOCH_OFFSETS;
 use crate::layout::FLAG_FIELD;
 use crate::layout::HEADER_BYTES;
@@ -30,12 +29,11 @@ use crate::layout::PENDING_PB3_FIELD;
 use crate::layout::PHYSICAL_NAME_PLACE;
 use crate::layout::RECORD_COUNT_PLACE;
 use crate::layout::RECORD_SIZE;
-use crate::layout::SLEEP_PLACE;
+use crate::layout::SLEEP_BYTES;
+use crate::layout::SLEEP_OFFSETS;
 use crate::layout::TABLE_PLACE;
 use crate::layout::WIDE_EDITION;
-use crate::layout::WIDE_ENTRY_SIZE;
 use crate::layout::WIDE_OFFSET_WIDTH;
-use crate::layout::WIDE_SLEEP_PLACE;
 use crate::numbers::byte_at;
 use crate::numbers::offset_at;
 use crate::numbers::u64_at;
@@ -61,12 +59,21 @@ pub fn width_of(file: &[u8]) -> usize
     WIDE_OFFSET_WIDTH
 }
 
+// The same of an accepted file: its third byte is 1 or 2, and an offset has twice as many bytes. It is a product and no choice, since a round
+// asks it of every slave.
+pub fn accepted_width(file: &[u8]) -> usize
+    requires { ⌜ AcceptedFile (now file) ⌝ }
+    ensures { λ r. ⌜ WidthOf (now (file .entry)) r ⌝ }
+{
+    OFFSET_WIDTH * byte_at(file, EDITION_PLACE)
+}
+
 // Where the header keeps the epoch. The pending operation stands behind it.
 pub fn epoch_place(file: &[u8]) -> usize
     requires { ⌜ AcceptedFile (now file) ⌝ }
     ensures { λ r. ⌜ EpochAt (now (file .entry)) r ⌝ }
 {
-    TABLE_PLACE + EPOCH_OFFSETS * width_of(file)
+    TABLE_PLACE + EPOCH_OFFSETS * accepted_width(file)
 }
 
 // The number of slaves.
@@ -118,16 +125,14 @@ pub fn logical_name(file: &[u8], places: &SlavePlaces, slave: usize) -> LogicalN
     LogicalName::new(file[at])
 }
 
-// Where the slave table keeps a slave's sleep byte: behind its directory's offset and its file count. Each width as a literal, since a round
-// asks it of every slave: an accepted file has a third byte, and the place is a sum.
+// Where the slave table keeps a slave's sleep byte: behind the header, the entries before, its directory's offset and its file count.
 pub fn sleep_place(file: &[u8], slave: usize) -> usize
     requires { ⌜ AcceptedFile (now file) × (slave < slaveCount (now file)) ⌝ }
     ensures { λ r. ⌜ SleepAt (now (file .entry)) slave r ⌝ }
 {
-    if file[EDITION_PLACE] == WIDE_EDITION {
-        return WIDE_SLEEP_PLACE + WIDE_ENTRY_SIZE * slave;
-    }
-    SLEEP_PLACE + ENTRY_SIZE * slave
+    let width = accepted_width(file);
+    let offsets = SLEEP_OFFSETS + ENTRY_OFFSETS * slave;
+    SLEEP_BYTES + width * offsets
 }
 
 // Whether a slave is awake.

@@ -1,11 +1,8 @@
 // The checker: grounds 1 to 8, with where each slave keeps 0x08 and 0x3D; and 22, on loading.
 ghost use mathlib.Core.Path.{_≡_};
 ghost use Rattle.file.specs.Rules.Layout.{OffsetWidth};
-ghost use Rattle.file.specs.Rules.Cluster.{logicalNames};
-ghost use Rattle.file.specs.Rules.Decode.{decode};
-ghost use Rattle.file.specs.Rules.Grounds.{isAmong, hasRepeat, heldNames, loadVerdict};
+ghost use Rattle.file.specs.Rules.Grounds.{isAmong, loadVerdict};
 ghost use Rattle.file.specs.Inner.Checked.{GoodHeader, BodyWalked, PlacesFit, WholeWalk, slavesGround};
-ghost use Rattle.file.specs.Inner.Accepted.{Placed};
 ghost use Rattle.file.specs.Inner.Surveyed.{Surveyed};
 ghost use Rattle.file.specs.Inner.Answers.{checkedOf};
 use crate::header::header_ground;
@@ -16,13 +13,10 @@ use crate::layout::HEADER_BYTES;
 use crate::layout::HEADER_OFFSETS;
 use crate::names::equal_names;
 use crate::numbers::byte_at;
-use crate::readers::logical_names;
-use crate::readers::slave_count;
 use crate::readers::width_of;
 use crate::types::PLACES;
 use crate::types::PLACES_EACH;
 use crate::types::Refusal;
-use crate::types::SLAVES_ROOM;
 use crate::types::SlavePlaces;
 use crate::walk::walk_slaves;
 
@@ -35,14 +29,15 @@ pub enum FileAnswer {
 fn is_missing(places: &[u16]) -> bool
     ensures { λ r. ⌜ r ≡ isAmong 0 (now (places .entry)) ⌝ }
 {
+    let mut missing = false;
     let mut at = 0;
     while at < places.len() {
         if places[at] == 0 {
-            return true;
+            missing = true;
         }
         at = at + 1;
     }
-    false
+    missing
 }
 
 // Ground 6 after a good header: whether the layout is whole; the places that its directories state are put into the lent array.
@@ -100,17 +95,6 @@ pub fn survey(file: &[u8], places: &mut SlavePlaces) -> FileAnswer
     FileAnswer::Accepted
 }
 
-// Ground 22, of an accepted file: whether a logical name other than 0xFF is held twice.
-fn equal_logical_names(file: &[u8], places: &SlavePlaces) -> bool
-    requires { ⌜ Placed (now file) (now places) ⌝ }
-    ensures { λ r. ⌜ r ≡ hasRepeat (heldNames (logicalNames (decode (now (file .entry))))) ⌝ }
-{
-    let mut names = [0u8; SLAVES_ROOM];
-    logical_names(file, places, &mut names);
-    let count = slave_count(file);
-    is_held_twice(&names[..count])
-}
-
 // The checker's call: a file from outside is accepted, or refused by the first of its grounds that holds.
 pub fn check(file: &[u8]) -> FileAnswer
     ensures { λ r. ⌜ checkedOf r ≡ loadVerdict (now (file .entry)) ⌝ }
@@ -120,7 +104,7 @@ pub fn check(file: &[u8]) -> FileAnswer
     match surveyed {
         FileAnswer::Refused(why) => FileAnswer::Refused(why),
         FileAnswer::Accepted => {
-            if equal_logical_names(file, &places) {
+            if is_held_twice(file, &places) {
                 return FileAnswer::Refused(Refusal::LOGICAL_NAMES);
             }
             FileAnswer::Accepted

@@ -1,13 +1,16 @@
 // Ground 6: the walk along table and directories. An offset is followed only after it was compared with the running place.
 ghost use mathlib.Core.Path.{_≡_};
+ghost use mathlib.Core.Bool.{true};
 ghost use Prim.Native.Nat.{_+_, _*_, _-_, _≤_};
 ghost use lib.ListN.{length};
 ghost use Rattle.file.specs.Inner.Numbers.{ByteAt};
 ghost use Rattle.file.specs.Rules.Bytes.{part, allZero};
 ghost use Rattle.file.specs.Rules.Layout.{OffsetWidth, headerSize, maxLength};
+ghost use Rattle.file.specs.Rules.Cluster.{configuration};
+ghost use Rattle.file.specs.Inner.Layout.{neededConfiguration};
 ghost use Rattle.file.specs.Inner.Typed.{fileIn};
 ghost use Rattle.file.specs.Inner.Places.{placesEach};
-ghost use Rattle.file.specs.Inner.Checked.{EntriesFit, nextEntry, fitsSoFar, states, statedPlace, Arrives, DirectoryWalked, FilesWalked, SlaveWalked, SlavesWalked};
+ghost use Rattle.file.specs.Inner.Checked.{EntriesFit, nextEntry, fitsSoFar, states, statedPlace, Arrives, DirectoryWalked, EntryWalked, SlaveWalked, SlavesWalked};
 use crate::layout::ENTRY_OFFSETS;
 use crate::layout::FILE_NUMBERS;
 use crate::layout::FILL_PLACE;
@@ -83,24 +86,37 @@ fn fits_so_far(file: &[u8], low: usize, place: usize) -> bool
     place <= file.len()
 }
 
-// The directory at a place that the running place has come to, of count entries.
+const BROKEN_WALK: Walk = Walk {
+    good: false,
+    end: 0,
+};
+
+// The directory at a place that the running place has come to, of count entries. The first one follows no file number.
 fn walk_directory(file: &[u8], width: usize, directory: usize, count: usize) -> Walk
     requires { ⌜ EntriesFit width (now file) directory count ⌝ }
     ensures { λ r. ⌜ DirectoryWalked width (now (file .entry)) directory count (r .good) (r .end) ⌝ }
 {
+    if count == 0 {
+        return Walk {
+            good: true,
+            end: directory,
+        };
+    }
     let size = ENTRY_OFFSETS * width;
     let end = directory + size * count;
-    let mut entry = directory;
-    let mut low = 0;
-    let mut place = end;
+    let first = byte_at(file, directory);
+    let records = byte_at(file, directory + RECORD_COUNT_PLACE);
+    if !is_next(file, width, directory, first, records, 0, end) {
+        return BROKEN_WALK;
+    }
+    let mut entry = directory + size;
+    let mut low = first + 1;
+    let mut place = end + RECORD_SIZE * (records + 1);
     while entry < end {
         let number = byte_at(file, entry);
         let last = byte_at(file, entry + RECORD_COUNT_PLACE);
         if !is_next(file, width, entry, number, last, low, place) {
-            return Walk {
-                good: false,
-                end: 0,
-            };
+            return BROKEN_WALK;
         }
         low = number + 1;
         place = place + RECORD_SIZE * (last + 1);
@@ -170,6 +186,22 @@ fn stated_from_back(
     0
 }
 
+// Where a walked directory states 0x08 to lie in the needed size. Mostly it is the first file, which lies behind the directory.
+fn configuration_place(file: &[u8], width: usize, directory: usize, count: usize) -> u16
+    requires { ⌜ EntriesFit width (now file) directory count × Arrives width (now file) directory count ⌝ }
+    ensures { λ r. ⌜ r ≡ statedPlace width (now (file .entry)) configuration neededConfiguration 0 directory count ⌝ }
+{
+    if count == 0 {
+        return 0;
+    }
+    let number = FileNumber::CONFIGURATION;
+    if is_stated(file, directory, number, NEEDED_CONFIGURATION) {
+        let size = ENTRY_OFFSETS * width;
+        return (directory + size * count) as u16;
+    }
+    stated_from_front(file, width, directory, count, number, NEEDED_CONFIGURATION)
+}
+
 // What the walk of a slave found: whether it is good, where its files end, and where 0x08 and 0x3D lie in the needed size, 0
 // where they do not.
 pub struct SlaveWalk {
@@ -179,37 +211,50 @@ pub struct SlaveWalk {
     pub documentation: u16,
 }
 
-const BROKEN: SlaveWalk = SlaveWalk {
+const BROKEN_SLAVE: SlaveWalk = SlaveWalk {
     good: false,
     end: 0,
     configuration: 0,
     documentation: 0,
 };
 
-// The files of the directory at a place that the running place has come to, and where it states 0x08 and 0x3D.
-fn walk_files_at(file: &[u8], width: usize, directory: usize, count: usize) -> SlaveWalk
-    requires { ⌜ EntriesFit width (now file) directory count ⌝ }
-    ensures { λ r. ⌜ FilesWalked width (now (file .entry)) directory count (r .good) (r .end) (r .configuration) (r .documentation) ⌝ }
+// The slave of a table entry, its directory at the running place.
+fn walk_entry(file: &[u8], width: usize, entry: usize, place: usize) -> Walk
+    requires { ⌜ EntriesFit width (now file) entry 1 × (place ≤ maxLength width) ⌝ }
+    ensures { λ r. ⌜ EntryWalked width (now (file .entry)) entry place (r .good) (r .end) ⌝ }
 {
-    let files = walk_directory(file, width, directory, count);
-    if !files.good {
-        return BROKEN;
+    let after = entry + width;
+    let count = byte_at(file, after);
+    if offset_at(file, width, entry) != place {
+        return BROKEN_WALK;
     }
+    if MOST_SLEEP < byte_at(file, after + SLEEP_FIELD) {
+        return BROKEN_WALK;
+    }
+    if !is_filled(file, width, after + TABLE_FILL_FIELD) {
+        return BROKEN_WALK;
+    }
+    let size = ENTRY_OFFSETS * width;
+    if file.len() < place + size * count {
+        return BROKEN_WALK;
+    }
+    walk_directory(file, width, place, count)
+}
+
+// The same with where its directory states 0x08 and 0x3D, of a walked slave.
+fn with_places(file: &[u8], width: usize, entry: usize, place: usize, end: usize) -> SlaveWalk
+    requires { ⌜ EntriesFit width (now file) entry 1 × EntryWalked width (now file) entry place true end ⌝ }
+    ensures { λ r. ⌜ SlaveWalked width (now (file .entry)) entry place (r .good) (r .end) (r .configuration) (r .documentation) ⌝ }
+{
+    let count = byte_at(file, entry + width);
     SlaveWalk {
         good: true,
-        end: files.end,
-        configuration: stated_from_front(
-            file,
-            width,
-            directory,
-            count,
-            FileNumber::CONFIGURATION,
-            NEEDED_CONFIGURATION,
-        ),
+        end,
+        configuration: configuration_place(file, width, place, count),
         documentation: stated_from_back(
             file,
             width,
-            directory,
+            place,
             count,
             FileNumber::DOCUMENTATION,
             NEEDED_DOCUMENTATION,
@@ -217,38 +262,38 @@ fn walk_files_at(file: &[u8], width: usize, directory: usize, count: usize) -> S
     }
 }
 
-// The same with the width as a literal in each call: the compiler then writes the walk once for each edition, with its numbers.
-fn walk_files(file: &[u8], width: usize, directory: usize, count: usize) -> SlaveWalk
-    requires { ⌜ EntriesFit width (now file) directory count ⌝ }
-    ensures { λ r. ⌜ FilesWalked width (now (file .entry)) directory count (r .good) (r .end) (r .configuration) (r .documentation) ⌝ }
+// A slave in each edition, with the width as a literal: the compiler then writes the walk once for each, with its numbers. In one function
+// both are more than it writes twice.
+fn walk_narrow(file: &[u8], entry: usize, place: usize) -> SlaveWalk
+    requires { ⌜ EntriesFit 2 (now file) entry 1 × (place ≤ maxLength 2) ⌝ }
+    ensures { λ r. ⌜ SlaveWalked 2 (now (file .entry)) entry place (r .good) (r .end) (r .configuration) (r .documentation) ⌝ }
 {
-    if width == OFFSET_WIDTH {
-        return walk_files_at(file, OFFSET_WIDTH, directory, count);
+    let walk = walk_entry(file, OFFSET_WIDTH, entry, place);
+    if !walk.good {
+        return BROKEN_SLAVE;
     }
-    walk_files_at(file, WIDE_OFFSET_WIDTH, directory, count)
+    with_places(file, OFFSET_WIDTH, entry, place, walk.end)
 }
 
-// The slave of a table entry, its directory at the running place.
+fn walk_wide(file: &[u8], entry: usize, place: usize) -> SlaveWalk
+    requires { ⌜ EntriesFit 4 (now file) entry 1 × (place ≤ maxLength 4) ⌝ }
+    ensures { λ r. ⌜ SlaveWalked 4 (now (file .entry)) entry place (r .good) (r .end) (r .configuration) (r .documentation) ⌝ }
+{
+    let walk = walk_entry(file, WIDE_OFFSET_WIDTH, entry, place);
+    if !walk.good {
+        return BROKEN_SLAVE;
+    }
+    with_places(file, WIDE_OFFSET_WIDTH, entry, place, walk.end)
+}
+
 fn walk_slave(file: &[u8], width: usize, entry: usize, place: usize) -> SlaveWalk
     requires { ⌜ EntriesFit width (now file) entry 1 × (place ≤ maxLength width) ⌝ }
     ensures { λ r. ⌜ SlaveWalked width (now (file .entry)) entry place (r .good) (r .end) (r .configuration) (r .documentation) ⌝ }
 {
-    let after = entry + width;
-    let count = byte_at(file, after);
-    if offset_at(file, width, entry) != place {
-        return BROKEN;
+    if width == OFFSET_WIDTH {
+        return walk_narrow(file, entry, place);
     }
-    if MOST_SLEEP < byte_at(file, after + SLEEP_FIELD) {
-        return BROKEN;
-    }
-    if !is_filled(file, width, after + TABLE_FILL_FIELD) {
-        return BROKEN;
-    }
-    let size = ENTRY_OFFSETS * width;
-    if file.len() < place + size * count {
-        return BROKEN;
-    }
-    walk_files(file, width, place, count)
+    walk_wide(file, entry, place)
 }
 
 // All slaves, their places put in front of the lent ones.
@@ -263,10 +308,7 @@ pub fn walk_slaves(file: &[u8], width: usize, count: usize, places: &mut [u16]) 
     while slave < count {
         let walk = walk_slave(file, width, entry, place);
         if !walk.good {
-            return Walk {
-                good: false,
-                end: 0,
-            };
+            return BROKEN_WALK;
         }
         places[PLACES_EACH * slave] = walk.configuration;
         places[PLACES_EACH * slave + 1] = walk.documentation;

@@ -1,25 +1,28 @@
 -- The parts of a joined file: its header, the table and the slaves of both files.
 -- Assumes nothing.
-use Prim.Native.Nat.{ℕ, _+_, _*_, _-_, _≤_}
+use Prim.Native.Nat.{ℕ, _+_, _*_, _-_}
 use native.Mathlib.Omega.{arith}
-use mathlib.Core.Path.{_≡_, refl, sym, ap, _∙_}
-use mathlib.Core.List.{List, [], _∷_, _++_, map-append}
+use mathlib.Core.Path.{_≡_, refl, sym, ap, ap₂, _∙_, subst}
+use mathlib.Core.List.{List, [], _∷_, _++_, map-append, append-assoc}
 use mathlib.Core.Bool.{false}
 use mir.Syntax.{w64}
 use mir.Val.{Fits}
 use lib.ListN.{length, replicate, length-append, length-map}
+use lib.Seq.{sets}
 use Rattle.file.specs.Rules.Layout.{zerosLength}
 use Rattle.file.specs.Rules.Cluster.{Slave}
 use Rattle.file.specs.Rules.Encode.{slavesSize, slavesBytes, table, slavesPlace, fileLength}
 use Rattle.file.specs.Inner.Places.{SameShape, noSlaves, sameSlave}
+use Rattle.file.specs.Inner.Accepted.{WidthOf}
 use Rattle.file.proofs.Sizes.{table-length, slavesBytes-length}
 use Rattle.file.proofs.Shape.{files-refl, SameSleep, noSleep, sameSleep, shape-table, shape-slavesPlace}
 use Rattle.file.proofs.Appended.{slavesSize-append, table-append, slavesBytes-append}
 use Rattle.convert.specs.Inner.Putting.{Put, OffsetFits, headerFront}
-use Rattle.convert.specs.Inner.Slaves.{listedAs, listed, TableFits, SlavesFit}
-use Rattle.convert.proofs.Putting.{put-room, put-same, put-then}
+use Rattle.convert.specs.Inner.Slaves.{listedAs, listed, SlavesFit, BodyFits, BodyDone}
+use Rattle.convert.proofs.Putting.{put-room, put-same, put-then, put-between, put-both, put-split, both-room}
 use Rattle.convert.proofs.HeaderLaws.{front-length}
 use Rattle.convert.proofs.TableLaws.{listed-size}
+use Rattle.join.specs.Inner.Turned.{Turned}
 use Rattle.join.specs.Inner.Form.{joinedHeader, joinedTable, joinedSlaves, joinedBody, JoinFits}
 
 -- ---- the header
@@ -49,102 +52,115 @@ listed-sleep (sameSlave same rest) = sameSleep refl (listed-sleep rest)
 
 -- ---- both files, one behind the other
 
-module _ (ss us : List Slave) {v own n m : ℕ} {old : List ℕ} (fits : JoinFits v old own ss us) (first : n ≡ length ss) (second : m ≡ length us) where
-  place-is : 8 + 4 * v + 2 * v * n + 2 * v * m ≡ slavesPlace v (ss ++ us)
-  unfolding slavesPlace
-  place-is = rw (first, second, length-append ss us) (omega arith)
-
-  own-is : own ≡ 8 + 4 * v + 2 * v * n + slavesSize v ss
-  unfolding fileLength slavesPlace
-  own-is = rw first (fits .first)
-
+module _ (ss us : List Slave) {v own m : ℕ} {old : List ℕ} (fits : JoinFits v old own ss us) (second : m ≡ length us) where
   behind-is : own + 2 * v * m ≡ slavesPlace v (ss ++ us) + slavesSize v ss
-  behind-is = omega (arith, own-is, place-is)
+  unfolding fileLength slavesPlace
+  behind-is = rw (second, length-append ss us) (omega (arith, fits .first))
 
-  whole-is : fileLength v (ss ++ us) ≡ 8 + 4 * v + 2 * v * n + 2 * v * m + slavesSize v ss + slavesSize v us
+  whole-is : fileLength v (ss ++ us) ≡ own + 2 * v * m + slavesSize v us
   unfolding fileLength
-  whole-is = omega (arith, place-is, slavesSize-append v ss us)
-
-  most : 8 + 4 * v + 2 * v * n + 2 * v * m + slavesSize v ss + slavesSize v us ≤ 65536
-  most = omega (arith, whole-is, fits .short, fits .width .most)
-
-  pub place-fits : Fits w64 (8 + 4 * v + 2 * v * n + 2 * v * m)
-  place-fits = record { fits = omega (arith, most) }
+  whole-is = omega (arith, behind-is, slavesSize-append v ss us)
 
   pub second-fits : Fits w64 (own + 2 * v * m)
-  second-fits = record { fits = omega (arith, most, own-is) }
+  second-fits = record { fits = omega (arith, whole-is, fits .short, fits .width .most) }
 
-  -- the tables
-  pub first-table : TableFits v old (8 + 4 * v) (8 + 4 * v + 2 * v * n + 2 * v * m) ss
-  first-table =
-      record {
-        width = fits .width;
-        room = rw (sym first) (omega (arith, whole-is, fits .room));
-        before = rw (sym first) (omega arith);
-        short = omega (arith, whole-is, fits .short);
-      }
+  pub second-slaves : {mid bs : List ℕ} {at : ℕ} → Put old at bs mid → SlavesFit v mid (own + 2 * v * m) us
+  second-slaves p =
+      record { width = fits .width; room = omega (arith, whole-is, fits .room, put-room p); short = omega (arith, whole-is, fits .short) }
 
-  module _ {mid bs : List ℕ} {at : ℕ} (p : Put old at bs mid) where
-    pub second-table : TableFits v mid (8 + 4 * v + 2 * v * n) (own + 2 * v * m) us
-    second-table =
+  module _ {n : ℕ} (first : n ≡ length ss) where
+    place-is : 8 + 4 * v + 2 * v * n + 2 * v * m ≡ slavesPlace v (ss ++ us)
+    unfolding slavesPlace
+    place-is = rw (first, second, length-append ss us) (omega arith)
+
+    pub place-fits : Fits w64 (8 + 4 * v + 2 * v * n + 2 * v * m)
+    place-fits = record { fits = omega (arith, place-is, behind-is, whole-is, fits .short, fits .width .most) }
+
+    -- the first file's slaves and their entries, then the second's
+    pub first-body : BodyFits v old (8 + 4 * v) (8 + 4 * v + 2 * v * n + 2 * v * m) ss
+    first-body =
         record {
-          width = fits .width;
-          room = rw (sym second) (omega (arith, whole-is, fits .room, put-room p));
-          before = rw (sym second) (omega (arith, own-is));
-          short = omega (arith, whole-is, fits .short, own-is);
+          before = rw (sym first) (omega arith);
+          slaves =
+              record {
+                width = fits .width;
+                room = omega (arith, place-is, behind-is, whole-is, fits .room);
+                short = omega (arith, place-is, behind-is, whole-is, fits .short);
+              };
         }
 
-    pub second-slaves : SlavesFit v mid (own + 2 * v * m) us
-    second-slaves =
-        record { width = fits .width; room = omega (arith, whole-is, fits .room, put-room p, own-is); short = omega (arith, whole-is, fits .short, own-is) }
+    module _ {mid : List ℕ} (p : BodyDone false v (8 + 4 * v) (8 + 4 * v + 2 * v * n + 2 * v * m) ss old mid) where
+      pub second-body : BodyFits v mid (8 + 4 * v + 2 * v * n) (own + 2 * v * m) us
+      second-body =
+          record {
+            before = rw (sym second) (omega (arith, place-is, behind-is));
+            slaves =
+                record {
+                  width = fits .width;
+                  room = omega (arith, whole-is, fits .room, both-room old (table v (8 + 4 * v + 2 * v * n + 2 * v * m) (listed false ss)) (8 + 4 * v) (p .put));
+                  short = omega (arith, whole-is, fits .short);
+                };
+          }
 
-  pub first-slaves : SlavesFit v old (8 + 4 * v + 2 * v * n + 2 * v * m) ss
-  first-slaves = record { width = fits .width; room = omega (arith, whole-is, fits .room); short = omega (arith, whole-is, fits .short) }
+      pub both-put : {new : List ℕ} → BodyDone false v (8 + 4 * v + 2 * v * n) (own + 2 * v * m) us mid new → Put old (8 + 4 * v) (joinedBody v (ss ++ us)) new
+      unfolding joinedBody joinedTable joinedSlaves
+      both-put {new} q =
+          let two = fits .width .least in
+          let at : ℕ = 8 + 4 * v + 2 * v * n + 2 * v * m in
+          let to : ℕ = own + 2 * v * m in
+          let place : ℕ = slavesPlace v (ss ++ us) in
+          let ones : List ℕ = table v at (listed false ss) in
+          let others : List ℕ = table v to (listed false us) in
+          let bodies : List ℕ = slavesBytes v at ss in
+          let entries : length ones ≡ 2 * v * n = table-length two at (listed false ss) ∙ ap (λ (k : ℕ). 2 * v * k) (length-map ss (listedAs false) ∙ sym first) in
+          let more : length others ≡ 2 * v * m = table-length two to (listed false us) ∙ ap (λ (k : ℕ). 2 * v * k) (length-map us (listedAs false) ∙ sym second) in
+          let tables : Put (sets old (8 + 4 * v) (ones ++ others)) at bodies (sets mid (8 + 4 * v + 2 * v * n) others) =
+          put-between old ones (8 + 4 * v) (p .put) (omega (arith, entries)) (omega (arith, more)) (record { is = refl })
+          in
+          let there : to ≡ at + length bodies = omega (arith, behind-is, place-is, slavesBytes-length two at ss) in
+          let whole = put-both old (ones ++ others) (8 + 4 * v) (put-then tables there (q .put)) (omega (arith, entries, more, length-append ones others)) in
+          let begins : to ≡ place + slavesSize v (listed false ss) = omega (arith, behind-is, listed-size false v ss) in
+          let listing : ones ++ others ≡ table v place (listed false (ss ++ us)) =
+          ap₂ (λ (x y : List ℕ). x ++ y) (ap (λ (k : ℕ). table v k (listed false ss)) place-is) (ap (λ (k : ℕ). table v k (listed false us)) begins)
+          ∙ sym (ap (table v place) (map-append (listedAs false) ss us) ∙ table-append v place (listed false ss) (listed false us))
+          in
+          let laid : bodies ++ slavesBytes v to us ≡ slavesBytes v place (ss ++ us) =
+          ap₂ (λ (x y : List ℕ). x ++ y) (ap (λ (k : ℕ). slavesBytes v k ss) place-is) (ap (λ (k : ℕ). slavesBytes v k us) behind-is)
+          ∙ sym (slavesBytes-append v place ss us)
+          in
+          put-same (ap₂ (λ (x y : List ℕ). x ++ y) listing laid) whole
 
-  pub tables-put : {mid new : List ℕ} → Put old (8 + 4 * v) (table v (8 + 4 * v + 2 * v * n + 2 * v * m) (listed false ss)) mid
-      → Put mid (8 + 4 * v + 2 * v * n) (table v (own + 2 * v * m) (listed false us)) new
-      → Put old (8 + 4 * v) (joinedTable v (ss ++ us)) new
-  unfolding joinedTable
-  tables-put p q =
+  -- the second's with other bytes
+  pub body-turned : {ts : List Slave} → SameShape us ts → {mid new : List ℕ} → Put old (8 + 4 * v) (joinedBody v (ss ++ us)) mid
+      → Turned v (own + 2 * v * m) us ts mid new → Put old (8 + 4 * v) (joinedBody v (ss ++ ts)) new
+  unfolding joinedBody joinedTable joinedSlaves slavesPlace
+  body-turned {ts} same {mid} {new} p t =
+      let two = fits .width .least in
+      let shape : SameShape (ss ++ us) (ss ++ ts) = shape-behind ss same in
       let place : ℕ = slavesPlace v (ss ++ us) in
-      let there : 8 + 4 * v + 2 * v * n ≡ 8 + 4 * v + length (table v place (listed false ss)) =
-      omega (arith, table-length (fits .width .least) place (listed false ss), ap (λ (k : ℕ). 2 * v * k) (length-map ss (listedAs false) ∙ sym first))
+      let to : ℕ = own + 2 * v * m in
+      let entries : List ℕ = table v place (listed false (ss ++ us)) in
+      let bodies : List ℕ = slavesBytes v place ss in
+      let apart : (xs : List Slave) → entries ++ slavesBytes v place (ss ++ xs) ≡ (entries ++ bodies) ++ slavesBytes v to xs =
+      λ (xs : List Slave).
+      ap (λ (x : List ℕ). entries ++ x) (slavesBytes-append v place ss xs ∙ ap (λ (k : ℕ). bodies ++ slavesBytes v k xs) (sym behind-is))
+      ∙ sym (append-assoc entries bodies (slavesBytes v to xs))
       in
-      let begins : own + 2 * v * m ≡ place + slavesSize v (listed false ss) = omega (arith, behind-is, listed-size false v ss) in
-      put-same (sym (ap (table v place) (map-append (listedAs false) ss us) ∙ table-append v place (listed false ss) (listed false us)))
-      (put-then (put-same (ap (λ (k : ℕ). table v k (listed false ss)) place-is) p) there (put-same (ap (λ (k : ℕ). table v k (listed false us)) begins) q))
+      let there : to ≡ 8 + 4 * v + length (entries ++ bodies) =
+      let count : 2 * v * length (listed false (ss ++ us)) ≡ 2 * v * length (ss ++ us) = ap (λ (k : ℕ). 2 * v * k) (length-map (ss ++ us) (listedAs false)) in
+      omega (arith, behind-is, length-append entries bodies, table-length two place (listed false (ss ++ us)), count, slavesBytes-length two place ss)
+      in
+      let listing : entries ≡ table v (slavesPlace v (ss ++ ts)) (listed false (ss ++ ts)) =
+      shape-table v place (listed-shape shape) (listed-sleep shape) ∙ ap (λ (k : ℕ). table v k (listed false (ss ++ ts))) (shape-slavesPlace v shape)
+      in
+      put-same
+      (sym (apart ts) ∙ ap₂ (λ (x y : List ℕ). x ++ y) listing (ap (λ (k : ℕ). slavesBytes v k (ss ++ ts)) (shape-slavesPlace v shape)))
+      (put-both old (entries ++ bodies) (8 + 4 * v)
+      (t .turns (sets old (8 + 4 * v) (entries ++ bodies)) (put-split old (entries ++ bodies) (8 + 4 * v) (put-same (apart us) p) there)) there)
 
-  -- the slaves, the second's with other bytes
-  module _ {ts : List Slave} (same : SameShape us ts) where
-    place-same : slavesPlace v (ss ++ us) ≡ slavesPlace v (ss ++ ts)
-    place-same = shape-slavesPlace v (shape-behind ss same)
-
-    pub both-put : {mid new : List ℕ} → Put old (8 + 4 * v + 2 * v * n + 2 * v * m) (slavesBytes v (8 + 4 * v + 2 * v * n + 2 * v * m) ss) mid
-        → Put mid (own + 2 * v * m) (slavesBytes v (own + 2 * v * m) ts) new
-        → Put old (slavesPlace v (ss ++ us)) (joinedSlaves v (ss ++ ts)) new
-    unfolding joinedSlaves
-    both-put {mid} {new} p q =
-        let place : ℕ = slavesPlace v (ss ++ us) in
-        let front : Put old place (slavesBytes v place ss) mid = rw place-is at p in
-        let there : own + 2 * v * m ≡ place + length (slavesBytes v place ss) = omega (arith, behind-is, slavesBytes-length (fits .width .least) place ss) in
-        put-same (sym (ap (λ (k : ℕ). slavesBytes v k (ss ++ ts)) (sym place-same) ∙ slavesBytes-append v place ss ts))
-        (put-then front there (put-same (ap (λ (k : ℕ). slavesBytes v k ts) behind-is) q))
-
--- all that stands behind the header
-pub body-put : (ss us : List Slave) {v own : ℕ} {ts : List Slave} → SameShape us ts → {l m k : List ℕ} → JoinFits v l own ss us
-    → Put l (8 + 4 * v) (joinedTable v (ss ++ us)) m → Put m (slavesPlace v (ss ++ us)) (joinedSlaves v (ss ++ ts)) k
-    → Put l (8 + 4 * v) (joinedBody v (ss ++ ts)) k
-unfolding joinedBody joinedTable slavesPlace
-body-put ss us {v} {ts = ts} same fits p q =
-    let shape : SameShape (ss ++ us) (ss ++ ts) = shape-behind ss same in
-    let place : ℕ = slavesPlace v (ss ++ us) in
-    let entries : table v place (listed false (ss ++ us)) ≡ table v (slavesPlace v (ss ++ ts)) (listed false (ss ++ ts)) =
-    shape-table v place (listed-shape shape) (listed-sleep shape) ∙ ap (λ (k : ℕ). table v k (listed false (ss ++ ts))) (shape-slavesPlace v shape)
-    in
-    let there : slavesPlace v (ss ++ us) ≡ 8 + 4 * v + length (table v place (listed false (ss ++ us))) =
-    omega (arith, table-length (fits .width .least) place (listed false (ss ++ us)), ap (λ (k : ℕ). 2 * v * k) (length-map (ss ++ us) (listedAs false)))
-    in
-    put-then (put-same entries p) (there ∙ ap (λ (l : List ℕ). 8 + 4 * v + length l) entries) q
+-- the width asked for is the file's own
+pub own-width : {f : List ℕ} {v w : ℕ} → WidthOf f w → v ≡ w → WidthOf f v
+own-width {f} o same = subst (WidthOf f) (sym same) o
 
 -- the room stays
 pub fits-kept : {v own : ℕ} {ss us : List Slave} {old new bs : List ℕ} {at : ℕ} → JoinFits v old own ss us → Put old at bs new → JoinFits v new own ss us

@@ -119,9 +119,9 @@ pub record Refusals : Type 0 where
   pub asleep : joinGround (one nothing 1 0x04 0x10) (one nothing 1 0x04 0x10) (room 96) ≡ 29
   pub elsewhere : joinGround (two 0x04 0x10 0x05 0x11) (two 0x06 0x12 0x07 0x10) (room 176) ≡ 29
   pub acrossEditions : joinGround (one nothing 0 0x04 0x10) (oneWide nothing 0 0x05 0x10) (room 96) ≡ 29
-  -- and of no others: another series with the same serial number (byte 51 of `one`), or with the same remainder by 255
+  -- and of no others: another series (byte 51 of `one`) with the same serial number, so with the same remainder, or with another
   pub otherSeries : joinGround (one nothing 0 0x04 0x10) (set (one nothing 0 0x05 0x10) 51 0x08) (room 96) ≡ 0
-  pub sameRemainder : joinGround (one nothing 0 0x04 0x10) (set (one nothing 0 0x05 0x0F) 51 0x08) (room 96) ≡ 0
+  pub otherRemainder : joinGround (one nothing 0 0x04 0x10) (set (one nothing 0 0x05 0x0F) 51 0x08) (room 96) ≡ 0
   pub namesFirst : joinGround (one nothing 0 0x04 0x10) (one nothing 0 0x05 0x10) [] ≡ 29
   pub tooShort : joinOn (one nothing 0 0x04 0x10) (one nothing 0 0x05 0x11) (room 95) ≡ (refused 30, room 95)
   pub tooShortWide : joinGround (oneWide nothing 0 0x04 0x10) (one nothing 0 0x05 0x11) (room 127) ≡ 30
@@ -174,7 +174,7 @@ refusals =
       elsewhere = refl;
       acrossEditions = refl;
       otherSeries = refl;
-      sameRemainder = refl;
+      otherRemainder = refl;
       namesFirst = refl;
       tooShort = refl;
       tooShortWide = refl;

@@ -57,6 +57,6 @@ unfolding logicalNames
 names-done h past = marking-done h past
 
 -- of the remainders of the physical names
-pub remainder-next : {c : Cluster} {seen : List Bool} {i : ℕ} → Marking remainderOf c 255 seen i → 0 < i → {name : ℕ} → name ≡ physicalName (slaveOf c (i - 1))
-    → Marking remainderOf c 255 (set seen (name % 255) true) (i - 1)
-remainder-next h more is = marking-next h more (unfold remainderOf in ap (λ (n : ℕ). n % 255) is) (omega arith)
+pub remainder-next : {c : Cluster} {seen : List Bool} {i : ℕ} → Marking remainderOf c 256 seen i → 0 < i → {name : ℕ} → name ≡ physicalName (slaveOf c (i - 1))
+    → Marking remainderOf c 256 (set seen (name % 256) true) (i - 1)
+remainder-next h more is = marking-next h more (unfold remainderOf in ap (λ (n : ℕ). n % 256) is) (omega arith)

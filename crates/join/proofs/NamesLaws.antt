@@ -78,7 +78,7 @@ module _ {f places : List ℕ} (h : Placed f places) {n : ℕ} (count : n ≡ sl
       }
 
   -- a name whose remainder is new is none of theirs
-  pub new-name : {seen : List Bool} → MarksOf 255 seen (map remainderOf (decode f .slaves)) → (name : ℕ) → getD seen (name % 255) false ≡ false
+  pub new-name : {seen : List Bool} → MarksOf 256 seen (map remainderOf (decode f .slaves)) → (name : ℕ) → getD seen (name % 256) false ≡ false
       → isAmong name (namesAt f stated) ≡ false
   new-name marks name e =
       rw names-stated (marked-new remainder name (map physicalName (decode f .slaves)) (rw (remainders (decode f .slaves)) at (marks .are)) (omega (arith, marks .long)) e)

@@ -3,13 +3,13 @@
 use Prim.Native.Nat.{ℕ, zero, suc, _+_, _*_, _-_, _≤_, _<_}
 use native.Mathlib.Omega.{arith}
 use native.Mathlib.Nat.{add-zero}
-use mathlib.Core.Path.{_≡_, refl, sym, ap, _∙_, subst}
-use mathlib.Core.List.{List, [], _∷_, _++_, map, append-assoc}
+use mathlib.Core.Path.{_≡_, refl, sym, ap, _∙_}
+use mathlib.Core.List.{List, [], _∷_, _++_, map, map-append, append-assoc, append-nil}
 use mathlib.Core.Bool.{Bool, true, false}
 use mir.Syntax.{w64}
 use mir.Val.{Fits}
-use lib.ListN.{length, getD, take, drop, set, length-append, length-set}
-use lib.Seq.{sets, sets-eq, length-take-le, set-append-left}
+use lib.ListN.{length, getD, take, drop, set, length-append, length-set, drop-of-length-le, take-append-drop}
+use lib.Seq.{sets, sets-eq, length-take-le, take-all, take-suc, drop-cons, set-append-left}
 use lib.Dec.{eqb}
 use Rattle.file.specs.Rules.Layout.{OffsetWidth, widthIn, entrySize, recordSize}
 use Rattle.file.specs.Rules.Cluster.{File, Slave, Cluster, bytesAmong, bytesIn, configuration, unnamed, logicalName}
@@ -17,19 +17,20 @@ use Rattle.file.specs.Rules.Encode.{contents, slaveSize, slavesSize, slavesPlac
 use Rattle.file.specs.Rules.Decode.{decode}
 use Rattle.file.specs.Rules.Changes.{putInSlave, withSlaves}
 use Rattle.file.specs.Inner.Places.{noSlave, slaveOf, placeAmong, filePlaceFrom, filePlaceAt, filePlace, configurationIndex, SameFiles, SameShape, noSlaves, sameSlave}
-use Rattle.file.specs.Inner.Accepted.{slaveCount, Placed}
+use Rattle.file.specs.Inner.Accepted.{AcceptedFile, WidthOf, slaveCount, Placed}
 use Rattle.file.proofs.Order.{byCase}
-use Rattle.file.proofs.Sizes.{slaveBytes-length}
-use Rattle.file.proofs.Shape.{files-refl, slave-size, slave-put, shape-count, shape-size}
-use Rattle.file.proofs.Stores.{Stands, slave-stands, stands-store, set-append-add}
-use Rattle.file.proofs.AtWidth.{at-edition}
+use Rattle.file.proofs.Sizes.{slavesBytes-length}
+use Rattle.file.proofs.Shape.{files-refl, slave-size, slave-put, shape-size}
+use Rattle.file.proofs.Stores.{Stands, before, after, slave-stands, stands-fits, stands-store, set-append-add}
 use Rattle.file.proofs.ReaderLaws.{configuration-room}
+use Rattle.file.proofs.PlaceLaws.{configuration-byte-fits}
+use Rattle.file.proofs.Appended.{slavesSize-append, slavesSize-next, slavesBytes-append}
 use Rattle.convert.specs.Inner.Putting.{Put}
-use Rattle.convert.specs.Inner.Slaves.{slaveStart, StartsAt, SlaveFits, SlavesFit}
-use Rattle.convert.proofs.Putting.{put-room}
-use Rattle.convert.proofs.SlaveLaws.{start-next}
-use Rattle.convert.proofs.SlavePutLaws.{SlavesPut, slave-fits, slaves-again, slaves-done}
-use Rattle.join.specs.Inner.Turned.{turnedBy, turnedIn, NameBack, PutUpTo}
+use Rattle.convert.specs.Inner.Slaves.{slaveStart, filesIn, SlavesFit}
+use Rattle.convert.proofs.Putting.{put-room, put-same}
+use Rattle.convert.proofs.SizeLaws.{first-slaves, contentsIn, size-parts, files-first, filesIn-next}
+use Rattle.convert.proofs.ReadLaws.{first-start}
+use Rattle.join.specs.Inner.Turned.{turnedBy, turnedIn, turnedAt, Turned}
 
 -- ---- a file's place among the files of a slave, and where it ends
 
@@ -64,9 +65,8 @@ module _ (n : ℕ) where
       file-place w (place + slaveSize w x) xs s (omega arith)
       ∙ ap (λ (k : ℕ). placeAmong (k + entrySize w * length (getD xs s noSlave .files)) (getD xs s noSlave .files) n) there
 
--- ---- how far before its slave's end a logical name stands
-
-module _ {f places : List ℕ} (h : Placed f places) (s : ℕ) (l : s < slaveCount f) {b : ℕ} (end : StartsAt f (s + 1) b) where
+-- where a slave's file 0x08 lies in the file, by its directory and its files
+module _ {f places : List ℕ} (h : Placed f places) (s : ℕ) (l : s < slaveCount f) where
   abbrev x : Slave
   x = slaveOf (decode f) s
 
@@ -84,27 +84,7 @@ module _ {f places : List ℕ} (h : Placed f places) (s : ℕ) (l : s < slaveCou
       h .at .config s l ∙ file-place configuration w (slavesPlace w ss) ss s l
       ∙ place-shift configuration (slavesPlace w ss + slavesSize w (take s ss) + entrySize w * length (x .files)) (x .files) (omega (arith, long))
 
-  end-is : b ≡ slaveStart w (decode f) s + entrySize w * length (x .files) + length (contents (x .files))
-  unfolding slaveSize
-  end-is =
-      let one : s + 1 ≡ suc s = omega arith in
-      let next : slaveStart w (decode f) (s + 1) ≡ slaveStart w (decode f) (suc s) = ap (slaveStart w (decode f)) one in
-      omega (arith, end .is, next, start-next (at-edition (h .file)) s l)
-
-  pub back-order : getD places (configurationIndex s) 0 + 7 ≤ b
-  back-order = omega (arith, place-is, end-is, place-inside configuration (x .files) (omega (arith, long)), long)
-
-  pub back-is : NameBack (slaveOf (decode f) s) (b - (getD places (configurationIndex s) 0 + 7))
-  unfolding bytesIn
-  back-is =
-      let inside = place-inside configuration (x .files) (omega (arith, long)) in
-      record {
-        is = omega (arith, place-is, end-is, inside, long);
-        some = omega (arith, place-is, end-is, inside, long);
-        there = omega (arith, long);
-      }
-
--- ---- a slave that is put and then turned
+-- ---- a byte stored among bytes that are put
 
 set-in-put : (l : List ℕ) (at : ℕ) (bs : List ℕ) (j b : ℕ) → at + length bs ≤ length l → j < length bs → set (sets l at bs) (at + j) b ≡ sets l at (set bs j b)
 set-in-put l at bs j b fits inside =
@@ -120,38 +100,14 @@ set-in-put l at bs j b fits inside =
     ∙ ap (λ (m : List ℕ). front ++ m) (set-append-left bs behind j b inside)
     ∙ sym (new ∙ append-assoc front (set bs j b) behind)
 
-abbrev turned′ : Slave → Slave
-turned′ s = putInSlave s configuration (recordSize + 3) unnamed
+-- one byte of it
+pub stays-at : (at : ℕ) (l : List ℕ) {isHeld : Bool} → isHeld ≡ false → l ≡ turnedAt isHeld at l
+unfolding turnedAt
+stays-at at l is = rw is
 
-module _ {v : ℕ} (at : ℕ) (width : OffsetWidth v) (s : Slave) {back : ℕ} (n : NameBack s back) where
-  stands : Stands (slaveBytes v at s) (slaveBytes v at (turned′ s)) 0 (entrySize v * length (s .files) + placeAmong 0 (s .files) configuration) (bytesIn s configuration) (set (bytesIn s configuration) (recordSize + 3) unnamed)
-  unfolding bytesIn
-  stands =
-      let some : 0 < length (bytesIn s configuration) = omega (arith, n .there) in
-      let r = slave-stands configuration (recordSize + 3) unnamed (width .least) at s some in
-      record {
-        front = r .front;
-        behind = r .behind;
-        old = r .old;
-        new = r .new;
-        starts = omega (arith, r .starts, place-shift configuration (at + entrySize v * length (s .files)) (s .files) some);
-      }
-
-  pub turn-put : {end : ℕ} {old new : List ℕ} → at + slaveSize v s ≤ length old → Put old at (slaveBytes v at s) new → end ≡ at + slaveSize v s
-      → Put old at (slaveBytes v at (turned′ s)) (set new (end - back) unnamed)
-  unfolding slaveSize
-  turn-put {end} {old} {new} room p ends =
-      let bs : List ℕ = slaveBytes v at s in
-      let size : length bs ≡ slaveSize v s = slaveBytes-length (width .least) at s in
-      let distance : ℕ = entrySize v * length (s .files) + placeAmong 0 (s .files) configuration in
-      let there : end - back ≡ at + (distance + 7) = omega (arith, ends, n .is) in
-      let inside : distance + 7 < length bs = omega (arith, size, n .is, n .some) in
-      record {
-        is = ap (λ (m : List ℕ). set m (end - back) unnamed) (p .is)
-            ∙ ap (λ (k : ℕ). set (sets old at bs) k unnamed) there
-            ∙ set-in-put old at bs (distance + 7) unnamed (omega (arith, size)) inside
-            ∙ ap (sets old at) (stands-store stands 7 unnamed (n .there) refl);
-      }
+pub turns-at : (at : ℕ) (l : List ℕ) {isHeld : Bool} → isHeld ≡ true → set l at unnamed ≡ turnedAt isHeld at l
+unfolding turnedAt
+turns-at at l is = rw is
 
 -- ---- the slaves by the marks
 
@@ -175,82 +131,211 @@ module _ (held : List Bool) (d : Cluster) where
   unfolding turnedIn withSlaves
   shape-turned = turned-shape held (d .slaves)
 
-  pub turned-count : length (turnedIn held d .slaves) ≡ length (d .slaves)
-  turned-count = sym (shape-count shape-turned)
+-- ---- the slaves below i are turned
 
-  pub turned-at : (s : ℕ) → s < length (d .slaves) → slaveOf (turnedIn held d) s ≡ turnedBy held (slaveOf d s)
-  unfolding turnedIn withSlaves slaveOf
-  turned-at s l = go (d .slaves) s l
-    where
-      go : (ss : List Slave) (i : ℕ) → i < length ss → getD (map (turnedBy held) ss) i noSlave ≡ turnedBy held (getD ss i noSlave)
-      go [] i h = absurd (omega arith)
-      go (s ∷ ss) zero h = refl
-      go (s ∷ ss) (suc i) h = go ss i (omega arith)
+-- those of the marks up to i, then the others as they are
+pub mixed : List Bool → Cluster → ℕ → List Slave
+mixed held d i = map (turnedBy held) (take i (d .slaves)) ++ drop i (d .slaves)
 
-  turned-size : (v s : ℕ) → s < length (d .slaves) → slaveSize v (slaveOf (turnedIn held d) s) ≡ slaveSize v (slaveOf d s)
-  turned-size v s l = ap (slaveSize v) (turned-at s l) ∙ sym (slave-size (slaveOf d s) (turnedBy held (slaveOf d s)) v (turned-files held (slaveOf d s)))
+-- the next slave in the buffer, as it is and with its logical name turned
+module _ {v : ℕ} (width : OffsetWidth v) (at : ℕ) (first rest : List Slave) (s : Slave) (there : 16 ≤ length (bytesAmong (s .files) configuration)) where
+  abbrev s′ : Slave
+  s′ = putInSlave s configuration (recordSize + 3) unnamed
 
--- ---- one of them put: as it is, or with its name turned
+  abbrev near : ℕ
+  near = slavesSize v first + (2 * v * length (s .files) + placeAmong 0 (s .files) configuration)
 
-module _ (held : List Bool) (d : Cluster) (s : ℕ) (l : s < length (d .slaves)) {v at name size : ℕ} {old new : List ℕ}
-    (fits : SlaveFits v old at (slaveOf d s)) (p : Put old at (slaveBytes v at (slaveOf d s)) new)
-    (is : size ≡ slaveSize v (slaveOf d s)) (named : name ≡ logicalName (slaveOf d s)) where
-  pub end-fits : Fits w64 (at + size)
-  end-fits = record { fits = omega (arith, is, fits .short, fits .width .most) }
+  among : Stands (slavesBytes v at (first ++ (s ∷ rest))) (slavesBytes v at (first ++ (s′ ∷ rest))) 0 near (bytesIn s configuration) (set (bytesIn s configuration) (recordSize + 3) unnamed)
+  unfolding bytesIn slavesBytes
+  among =
+      let q : ℕ = at + slavesSize v first in
+      let two = width .least in
+      let some : 0 < length (bytesIn s configuration) = omega (arith, there) in
+      let bs : List ℕ = bytesIn s configuration in
+      let behind : List ℕ = slavesBytes v (q + slaveSize v s) rest in
+      let place : ℕ = placeAmong (q + entrySize v * length (s .files)) (s .files) configuration in
+      let own : Stands (slaveBytes v q s ++ behind) (slaveBytes v q s′ ++ behind) q place bs (set bs (recordSize + 3) unnamed) =
+      before behind (slave-stands configuration (recordSize + 3) unnamed two q s some)
+      in
+      let whole : Stands (slavesBytes v at first ++ (slaveBytes v q s ++ behind)) (slavesBytes v at first ++ (slaveBytes v q s′ ++ behind)) at place bs (set bs (recordSize + 3) unnamed) =
+      after (slavesBytes v at first) (rw (slavesBytes-length two at first) own)
+      in
+      let size : slaveSize v s ≡ slaveSize v s′ = slave-size s s′ v (slave-put s configuration (recordSize + 3) unnamed) in
+      record {
+        front = whole .front;
+        behind = whole .behind;
+        old = slavesBytes-append v at first (s ∷ rest) ∙ whole .old;
+        new = slavesBytes-append v at first (s′ ∷ rest) ∙ ap (λ (n : ℕ). slavesBytes v at first ++ (slaveBytes v q s′ ++ slavesBytes v (q + n) rest)) (sym size) ∙ whole .new;
+        starts = omega (arith, whole .starts, place-shift configuration (q + 2 * v * length (s .files)) (s .files) some);
+      }
 
-  pub put-kept : length new ≡ length old
-  put-kept = put-room p
+  turn-put : {l new : List ℕ} → at + length (slavesBytes v at (first ++ (s ∷ rest))) ≤ length l → Put l at (slavesBytes v at (first ++ (s ∷ rest))) new
+      → Put l at (slavesBytes v at (first ++ (s′ ∷ rest))) (set new (at + (near + 7)) unnamed)
+  unfolding bytesIn
+  turn-put {l} {new} room p =
+      let bs : List ℕ = slavesBytes v at (first ++ (s ∷ rest)) in
+      let inside : near + 7 < length bs = omega (arith, stands-fits among, there) in
+      record {
+        is = ap (λ (m : List ℕ). set m (at + (near + 7)) unnamed) (p .is)
+            ∙ set-in-put l at bs (near + 7) unnamed room inside
+            ∙ ap (sets l at) (stands-store among 7 unnamed (omega (arith, there)) refl);
+      }
 
-  stays : getD held name false ≡ false → slaveOf (turnedIn held d) s ≡ slaveOf d s
-  unfolding turnedBy
-  stays no′ = turned-at held d s l ∙ rw (ap (λ (k : ℕ). getD held k false) (sym named) ∙ no′)
+module _ (held : List Bool) (d : Cluster) (i : ℕ) (more : i < length (d .slaves)) {v at : ℕ} (width : OffsetWidth v)
+    (there : 16 ≤ length (bytesAmong (slaveOf d i .files) configuration)) {old new : List ℕ} (room : at + slavesSize v (d .slaves) ≤ length old)
+    (t : Turned v at (d .slaves) (mixed held d i) old new) where
+  abbrev before′ : List Slave
+  before′ = map (turnedBy held) (take i (d .slaves))
 
-  pub put-stays : getD held name false ≡ false → PutUpTo v at (slaveOf (turnedIn held d) s) old new (at + size)
-  put-stays no′ = rw (stays no′) record { put = p; ends = ap (λ (k : ℕ). at + k) is }
+  abbrev behind′ : List Slave
+  behind′ = drop (suc i) (d .slaves)
 
-  module _ {back : ℕ} (n : NameBack (slaveOf d s) back) where
-    pub back-fits : back ≤ at + size
-    unfolding slaveSize
-    back-fits = omega (arith, is, n .is)
+  mixed-here : mixed held d i ≡ before′ ++ (slaveOf d i ∷ behind′)
+  unfolding mixed slaveOf
+  mixed-here = ap (λ (xs : List Slave). before′ ++ xs) (drop-cons (d .slaves) i noSlave more)
 
-    pub back-inside : at + size - back < length new
-    unfolding slaveSize
-    back-inside = omega (arith, is, n .is, n .some, fits .room, put-room p)
+  mixed-next : mixed held d (i + 1) ≡ before′ ++ (turnedBy held (slaveOf d i) ∷ behind′)
+  unfolding mixed slaveOf
+  mixed-next =
+      let one : i + 1 ≡ suc i = omega arith in
+      let s : Slave = getD (d .slaves) i noSlave in
+      rw (one, take-suc (d .slaves) i noSlave more, map-append (turnedBy held) (take i (d .slaves)) (s ∷ []))
+      (append-assoc before′ (turnedBy held s ∷ []) behind′)
 
-    turns : getD held name false ≡ true → slaveOf (turnedIn held d) s ≡ putInSlave (slaveOf d s) configuration (recordSize + 3) unnamed
-    unfolding turnedBy
-    turns yes′ = turned-at held d s l ∙ rw (ap (λ (k : ℕ). getD held k false) (sym named) ∙ yes′)
+  mixed-size : slavesSize v (mixed held d i) ≡ slavesSize v (d .slaves)
+  unfolding mixed
+  mixed-size =
+      slavesSize-append v before′ (drop i (d .slaves))
+      ∙ ap (λ (n : ℕ). n + slavesSize v (drop i (d .slaves))) (sym (shape-size v (turned-shape held (take i (d .slaves)))))
+      ∙ sym (slavesSize-append v (take i (d .slaves)) (drop i (d .slaves)))
+      ∙ ap (slavesSize v) (take-append-drop i (d .slaves))
 
-    pub put-turns : getD held name false ≡ true → PutUpTo v at (slaveOf (turnedIn held d) s) old (set new (at + size - back) unnamed) (at + size)
-    put-turns yes′ =
-        let ends : at + size ≡ at + slaveSize v (slaveOf d s) = ap (λ (k : ℕ). at + k) is in
-        rw (turns yes′)
+  pub turned-next : {name : ℕ} {isHeld : Bool} {mid : List ℕ} → name ≡ logicalName (slaveOf d i) → isHeld ≡ getD held name false
+      → mid ≡ turnedAt isHeld (at + (slavesSize v (take i (d .slaves)) + (2 * v * length (slaveOf d i .files) + placeAmong 0 (slaveOf d i .files) configuration) + 7)) new
+      → Turned v at (d .slaves) (mixed held d (i + 1)) old mid
+  unfolding turnedAt turnedBy
+  turned-next {name} {isHeld} {mid} named asked is =
+      let mark : getD held (logicalName (slaveOf d i)) false ≡ isHeld = ap (λ (n : ℕ). getD held n false) (sym named) ∙ sym asked in
+      let size : slavesSize v (take i (d .slaves)) ≡ slavesSize v before′ = shape-size v (turned-shape held (take i (d .slaves))) in
+      byCase isHeld
+      (λ e.
+      let yes : getD held (logicalName (slaveOf d i)) false ≡ true = mark ∙ e in
+      record {
+        long = ap length is ∙ rw e (length-set new _ unnamed) ∙ t .long;
+        turns =
+            λ l p.
+            let was : Put l at (slavesBytes v at (before′ ++ (slaveOf d i ∷ behind′))) new = put-same (ap (slavesBytes v at) mixed-here) (t .turns l p) in
+            let fits : at + length (slavesBytes v at (before′ ++ (slaveOf d i ∷ behind′))) ≤ length l =
+            omega (arith, room, put-room p, slavesBytes-length (width .least) at (before′ ++ (slaveOf d i ∷ behind′)), ap (slavesSize v) mixed-here, mixed-size)
+            in
+            let done = turn-put width at before′ behind′ (slaveOf d i) there fits was in
+            rw (is, e, mixed-next, yes, size) done;
+      })
+      (λ e.
+      let no′ : getD held (logicalName (slaveOf d i)) false ≡ false = mark ∙ e in
+      record {
+        long = ap length is ∙ rw e refl ∙ t .long;
+        turns = λ l p. rw (is, e, mixed-next, no′) (put-same (ap (slavesBytes v at) mixed-here) (t .turns l p));
+      })
+
+pub record Turning (v at : ℕ) (f : List ℕ) (held : List Bool) (old new : List ℕ) (lost gained i : ℕ) : Type 0 where
+  pub few : i ≤ slaveCount f
+  pub less : lost ≡ slaveStart (widthIn (decode f .edition)) (decode f) 0 + 2 * widthIn (decode f .edition) * filesIn (take i (decode f .slaves))
+  pub more : gained ≡ at + 2 * v * filesIn (take i (decode f .slaves))
+  pub turned : Turned v at (decode f .slaves) (mixed held (decode f) i) old new
+
+pub turning-start : {f : List ℕ} {w n : ℕ} (v at : ℕ) (held : List Bool) (old : List ℕ) → AcceptedFile f → WidthOf f w → n ≡ slaveCount f
+    → Turning v at f held old old (8 + 4 * w + 2 * w * n) at 0
+unfolding mixed filesIn
+turning-start v at held old h o count =
+    record {
+      few = omega arith;
+      less = omega (arith, first-start h o count .is);
+      more = omega arith;
+      turned = record { long = refl; turns = λ l p. p };
+    }
+
+module _ {v at : ℕ} {f : List ℕ} {held : List Bool} {old new : List ℕ} {lost gained i : ℕ} (t : Turning v at f held old new lost gained i) where
+  abbrev ss : List Slave
+  ss = decode f .slaves
+
+  pub turning-kept : length new ≡ length old
+  turning-kept = t .turned .long
+
+  pub turning-done : {n : ℕ} → n ≡ slaveCount f → n ≤ i → Turned v at (decode f .slaves) (turnedIn held (decode f) .slaves) old new
+  unfolding mixed
+  turning-done count done =
+      let all : take i ss ≡ ss = take-all i ss (omega (arith, count)) in
+      let none : drop i ss ≡ [] = drop-of-length-le ss {i = i} (omega (arith, count)) in
+      let same : mixed held (decode f) i ≡ turnedIn held (decode f) .slaves =
+      ap (λ (xs : List Slave). map (turnedBy held) xs ++ drop i ss) all ∙ ap (λ (xs : List Slave). map (turnedBy held) ss ++ xs) none
+      ∙ append-nil (map (turnedBy held) ss) ∙ sym (turned-slaves held (decode f))
+      in
+      record { long = t .turned .long; turns = λ l p. put-same (ap (slavesBytes v at) same) (t .turned .turns l p) }
+
+  module _ {places : List ℕ} (h : Placed f places) (fits : SlavesFit v old at (decode f .slaves)) (more : i < slaveCount f) {w k : ℕ} (o : WidthOf f w)
+      (files : k ≡ length (slaveOf (decode f) i .files)) where
+    -- the directories of the slaves up to this one
+    files-next : filesIn (take (i + 1) ss) ≡ filesIn (take i ss) + k
+    unfolding slaveOf
+    files-next = let one : i + 1 ≡ suc i = omega arith in rw one (omega (arith, filesIn-next ss i more, files))
+
+    lost-now : lost ≡ slaveStart w (decode f) 0 + 2 * w * filesIn (take i ss)
+    lost-now = rw (o .is) (t .less)
+
+    lost-is : lost + 2 * w * k ≡ slaveStart w (decode f) 0 + 2 * w * filesIn (take (i + 1) ss)
+    lost-is = rw files-next (omega (arith, lost-now))
+
+    gained-is : gained + 2 * v * k ≡ at + 2 * v * filesIn (take (i + 1) ss)
+    gained-is = rw files-next (omega (arith, t .more))
+
+    abbrev s : Slave
+    s = slaveOf (decode f) i
+
+    -- where its logical name lies in the buffer
+    abbrev distance : ℕ
+    distance = slavesSize v (take i ss) + (2 * v * length (s .files) + placeAmong 0 (s .files) configuration)
+
+    place-own : getD places (configurationIndex i) 0 ≡ slaveStart w (decode f) 0 + slavesSize w (take i ss) + 2 * w * k + placeAmong 0 (s .files) configuration
+    unfolding slaveStart slavesSize
+    place-own = rw (files, o .is) (omega (arith, place-is h i more))
+
+    own-parts : slavesSize w (take i ss) ≡ 2 * w * filesIn (take i ss) + contentsIn (take i ss)
+    own-parts = size-parts (o .width) (take i ss)
+
+    pub lost-order : lost + 2 * w * k ≤ getD places (configurationIndex i) 0 + 7
+    lost-order = omega (arith, place-own, own-parts, lost-now)
+
+    pub name-there : getD places (configurationIndex i) 0 + 7 - (lost + 2 * w * k) + (gained + 2 * v * k) ≡ at + (distance + 7)
+    name-there = rw (sym files) (omega (arith, place-own, own-parts, size-parts (fits .width) (take i ss), lost-now, t .more))
+
+    name-inside : distance + 7 < slavesSize v ss
+    unfolding slaveSize slaveOf bytesIn
+    name-inside =
+        let one : i + 1 ≡ suc i = omega arith in
+        let up : slavesSize v (take (i + 1) ss) ≡ slavesSize v (take i ss) + slaveSize v s = rw one (slavesSize-next v ss i more) in
+        omega (arith, up, first-slaves v ss (i + 1), place-inside configuration (s .files) (omega (arith, long h i more)), long h i more)
+
+    pub name-fits : Fits w64 (getD places (configurationIndex i) 0 + 7 - (lost + 2 * w * k) + (gained + 2 * v * k))
+    name-fits = record { fits = omega (arith, name-there, name-inside, fits .short, fits .width .most) }
+
+    pub name-room : getD places (configurationIndex i) 0 + 7 - (lost + 2 * w * k) + (gained + 2 * v * k) < length new
+    name-room = omega (arith, name-there, name-inside, fits .room, t .turned .long)
+
+    pub lost-fits : Fits w64 (lost + 2 * w * k)
+    lost-fits = record { fits = omega (arith, lost-order, configuration-byte-fits h i more 7 (omega arith) .fits) }
+
+    pub gained-fits : Fits w64 (gained + 2 * v * k)
+    gained-fits = record { fits = omega (arith, name-there, name-inside, lost-order, fits .short, fits .width .most) }
+
+    -- this slave is turned too
+    pub turning-next : {name : ℕ} {isHeld : Bool} {mid : List ℕ} → name ≡ logicalName (slaveOf (decode f) i) → isHeld ≡ getD held name false
+        → mid ≡ turnedAt isHeld (getD places (configurationIndex i) 0 + 7 - (lost + 2 * w * k) + (gained + 2 * v * k)) new
+        → Turning v at f held old mid (lost + 2 * w * k) (gained + 2 * v * k) (i + 1)
+    turning-next {isHeld = isHeld} named asked is =
         record {
-          put = turn-put at (fits .width) (slaveOf d s) n (fits .room) p ends;
-          ends = ends ∙ ap (λ (k : ℕ). at + k) (slave-size (slaveOf d s) (putInSlave (slaveOf d s) configuration (recordSize + 3) unnamed) v (slave-put (slaveOf d s) configuration (recordSize + 3) unnamed));
+          few = omega arith;
+          less = lost-is ∙ ap (λ (m : ℕ). slaveStart m (decode f) 0 + 2 * m * filesIn (take (i + 1) ss)) (o .is);
+          more = gained-is;
+          turned = turned-next held (decode f) i more (fits .width) (long h i more) (fits .room) (t .turned) named asked (is ∙ ap (λ (j : ℕ). turnedAt isHeld j new) name-there);
         }
-
--- ---- all of them
-
-turned-fit : (held : List Bool) (d : Cluster) {v at : ℕ} {out : List ℕ} → SlavesFit v out at (d .slaves) → SlavesFit v out at (turnedIn held d .slaves)
-turned-fit held d {v} fits =
-    let same = shape-size v (shape-turned held d) in
-    record { width = fits .width; room = omega (arith, fits .room, same); short = omega (arith, fits .short, same) }
-
-module _ {v at : ℕ} (held : List Bool) (d : Cluster) {old new : List ℕ} {place i : ℕ} (t : SlavesPut v at (turnedIn held d) old new place i) where
-  pub turned-done : {n : ℕ} → n ≡ length (d .slaves) → n ≤ i → Put old at (slavesBytes v at (turnedIn held d .slaves)) new
-  turned-done count done = slaves-done t (count ∙ sym (turned-count held d)) done
-
-  module _ (fits : SlavesFit v old at (d .slaves)) (more : i < length (d .slaves)) where
-    there : i < length (turnedIn held d .slaves)
-    there = omega (arith, turned-count held d)
-
-    pub turned-fits : SlaveFits v new place (slaveOf d i)
-    turned-fits =
-        let r = slave-fits t (turned-fit held d fits) there in
-        let same = turned-size held d v i more in
-        record { width = r .width; room = omega (arith, r .room, same); short = omega (arith, r .short, same) }
-
-    pub turned-again : {out : List ℕ} {end : ℕ} → PutUpTo v place (slaveOf (turnedIn held d) i) new out end → SlavesPut v at (turnedIn held d) old out end (i + 1)
-    turned-again {out} p =
-        subst (λ (k : ℕ). SlavesPut v at (turnedIn held d) old out k (i + 1)) (sym (p .ends)) (slaves-again t (turned-fit held d fits) there refl (p .put))

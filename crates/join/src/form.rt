@@ -1,23 +1,24 @@
 // The parts of a joined file: its header, the slave table of both files, the slaves of both.
 ghost use mathlib.Core.Path.{_≡_};
 ghost use mathlib.Core.List.{_++_};
+ghost use mathlib.Core.Bool.{false};
 ghost use Rattle.file.specs.Rules.Layout.{widthIn, headerSize};
 ghost use Rattle.file.specs.Rules.Results.{writtenIn};
-ghost use Rattle.file.specs.Rules.Encode.{slavesPlace};
 ghost use Rattle.file.specs.Rules.Decode.{decode};
-ghost use Rattle.file.specs.Inner.Accepted.{AcceptedFile, Placed};
+ghost use Rattle.file.specs.Inner.Accepted.{AcceptedFile, WidthOf, Placed};
 ghost use Rattle.convert.specs.Inner.Putting.{Put};
+ghost use Rattle.convert.specs.Inner.Slaves.{BodyFits, BodyDone};
 ghost use Rattle.join.specs.Rules.Joined.{joinedFile};
 ghost use Rattle.join.specs.Inner.Turned.{turnedIn};
-ghost use Rattle.join.specs.Inner.Form.{joinedHeader, joinedTable, joinedSlaves, joinedBody, HeaderFits, JoinFits, JoinedFits};
+ghost use Rattle.join.specs.Inner.Form.{joinedHeader, joinedBody, HeaderFits, JoinFits, JoinedFits};
 use crate::names::NameMarks;
 use crate::names::mark_names;
-use crate::slaves::put_turned_slaves;
+use crate::slaves::turn_names;
 use convert::header::put_front;
 use convert::put::put_zeros;
+use convert::slaves::put_moved;
 use convert::slaves::put_slaves;
 use convert::table::ALL_AWAKE;
-use convert::table::put_table;
 use file::held::NAME_VALUES;
 use file::layout::ENTRY_OFFSETS;
 use file::layout::EPOCH_OFFSETS;
@@ -39,40 +40,32 @@ fn put_joined_header(out: &mut [u8], width: usize, count: usize, size: usize)
     put_zeros(out, fields, ZERO_FIELD_0 + EPOCH_OFFSETS * width - 1);
 }
 
-// The table of both files' slaves, all awake. The first's form alone has `own` bytes: the second's slaves begin behind these and its own
-// table entries.
-fn put_tables(out: &mut [u8], width: usize, own: usize, first: &[u8], second: &[u8])
-    requires { ⌜ AcceptedFile (now first) × AcceptedFile (now second) × JoinFits width (now out) own (decode (now first) .slaves) (decode (now second) .slaves) ⌝ }
-    ensures { λ _. ⌜ Put (now (out .entry)) (headerSize width) (joinedTable width (decode (now (first .entry)) .slaves ++ decode (now (second .entry)) .slaves)) (now (out .exit)) ⌝ }
+// The second file's slaves with their table, all awake, at the first's width.
+fn put_second(out: &mut [u8], width: usize, at: usize, place: usize, second: &[u8])
+    requires { ⌜ AcceptedFile (now second) × BodyFits width (now out) at place (decode (now second) .slaves) ⌝ }
+    ensures { λ _. ⌜ BodyDone false width at place (decode (now (second .entry)) .slaves) (now (out .entry)) (now (out .exit)) ⌝ }
+{
+    if width == width_of(second) {
+        put_moved(out, width, at, place, second);
+        return;
+    }
+    put_slaves(out, width, at, place, second, ALL_AWAKE);
+}
+
+// The table of both files' slaves, all awake, and the slaves of both as they are. The first's form alone has `own` bytes: the second's
+// slaves begin behind these and its own table entries.
+fn put_both(out: &mut [u8], width: usize, own: usize, first: &[u8], second: &[u8])
+    requires { ⌜ AcceptedFile (now first) × WidthOf (now first) width × AcceptedFile (now second) × JoinFits width (now out) own (decode (now first) .slaves) (decode (now second) .slaves) ⌝ }
+    ensures { λ _. ⌜ Put (now (out .entry)) (headerSize width) (joinedBody width (decode (now (first .entry)) .slaves ++ decode (now (second .entry)) .slaves)) (now (out .exit)) ⌝ }
 {
     let table = HEADER_BYTES + HEADER_OFFSETS * width;
     let behind = table + ENTRY_OFFSETS * width * slave_count(first);
     let more = ENTRY_OFFSETS * width * slave_count(second);
-    put_table(out, width, table, behind + more, first, ALL_AWAKE);
-    put_table(out, width, behind, own + more, second, ALL_AWAKE);
+    put_moved(out, width, table, behind + more, first);
+    put_second(out, width, behind, own + more, second);
 }
 
-// The slaves of both files, those of the second by the names that the first holds.
-fn put_both(
-    out: &mut [u8],
-    width: usize,
-    own: usize,
-    first: &[u8],
-    second: &[u8],
-    places: &SlavePlaces,
-    held: &NameMarks,
-)
-    requires { ⌜ AcceptedFile (now first) × Placed (now second) (now places) × JoinFits width (now out) own (decode (now first) .slaves) (decode (now second) .slaves) ⌝ }
-    ensures { λ _. ⌜ Put (now (out .entry)) (slavesPlace width (decode (now (first .entry)) .slaves ++ decode (now (second .entry)) .slaves)) (joinedSlaves width (decode (now (first .entry)) .slaves ++ turnedIn (now (held .entry)) (decode (now (second .entry))) .slaves)) (now (out .exit)) ⌝ }
-{
-    let table = HEADER_BYTES + HEADER_OFFSETS * width;
-    let behind = table + ENTRY_OFFSETS * width * slave_count(first);
-    let more = ENTRY_OFFSETS * width * slave_count(second);
-    put_slaves(out, width, behind + more, first);
-    put_turned_slaves(out, width, own + more, second, places, held);
-}
-
-// All that stands behind the header.
+// All that stands behind the header: both files, and the second's slaves by the names that the first holds.
 fn put_joined_body(
     out: &mut [u8],
     width: usize,
@@ -82,11 +75,12 @@ fn put_joined_body(
     places: &SlavePlaces,
     held: &NameMarks,
 )
-    requires { ⌜ AcceptedFile (now first) × Placed (now second) (now places) × JoinFits width (now out) own (decode (now first) .slaves) (decode (now second) .slaves) ⌝ }
+    requires { ⌜ AcceptedFile (now first) × WidthOf (now first) width × Placed (now second) (now places) × JoinFits width (now out) own (decode (now first) .slaves) (decode (now second) .slaves) ⌝ }
     ensures { λ _. ⌜ Put (now (out .entry)) (headerSize width) (joinedBody width (decode (now (first .entry)) .slaves ++ turnedIn (now (held .entry)) (decode (now (second .entry))) .slaves)) (now (out .exit)) ⌝ }
 {
-    put_tables(out, width, own, first, second);
-    put_both(out, width, own, first, second, places, held);
+    put_both(out, width, own, first, second);
+    let place = own + ENTRY_OFFSETS * width * slave_count(second);
+    turn_names(out, width, place, second, places, held);
 }
 
 // The two files' join in the first's edition, in front of whatever else the buffer holds: of `size` bytes, the first's form alone of `own`.

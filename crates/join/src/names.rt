@@ -38,8 +38,8 @@ pub fn mark_names(file: &[u8], places: &SlavePlaces, held: &mut NameMarks)
 
 // Marks the remainders of their physical names.
 fn mark_remainders(file: &[u8], places: &SlavePlaces, seen: &mut RemainderMarks)
-    requires { ⌜ Placed (now file) (now places) × MarksOf 255 (now seen) [] ⌝ }
-    ensures { λ _. ⌜ MarksOf 255 (now (seen .exit)) (map remainderOf (decode (now (file .entry)) .slaves)) ⌝ }
+    requires { ⌜ Placed (now file) (now places) × MarksOf 256 (now seen) [] ⌝ }
+    ensures { λ _. ⌜ MarksOf 256 (now (seen .exit)) (map remainderOf (decode (now (file .entry)) .slaves)) ⌝ }
 {
     let mut slave = slave_count(file);
     while 0 < slave {
@@ -58,7 +58,7 @@ fn is_any_named(
     second_places: &SlavePlaces,
     seen: &RemainderMarks,
 ) -> bool
-    requires { ⌜ Placed (now first) (now «first_places») × (placesEach * slaveCount (now first) ≤ length (now «first_places»)) × Placed (now second) (now «second_places») × MarksOf 255 (now seen) (map remainderOf (decode (now first) .slaves)) ⌝ }
+    requires { ⌜ Placed (now first) (now «first_places») × (placesEach * slaveCount (now first) ≤ length (now «first_places»)) × Placed (now second) (now «second_places») × MarksOf 256 (now seen) (map remainderOf (decode (now first) .slaves)) ⌝ }
     ensures { λ r. ⌜ r ≡ sharesName (decode (now (first .entry))) (decode (now (second .entry))) ⌝ }
 {
     let stated = &first_places[..PLACES_EACH * slave_count(first)];

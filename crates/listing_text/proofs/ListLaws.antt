@@ -2,11 +2,12 @@
 -- Assumes nothing.
 use Prim.Native.Nat.{ℕ, zero, suc, _+_, _-_, _≤_, _<_}
 use mathlib.Core.Path.{_≡_, refl, sym, ap, _∙_}
+use mathlib.Core.Logic.{_≢_}
 use mathlib.Core.List.{List, [], _∷_, _++_}
 use mathlib.Core.Bool.{Bool, true, false}
 use native.Mathlib.Omega.{arith}
 use native.Mathlib.Numerals.{add-one}
-use borrow.Author.Tests.{eq-eqb, ne-eqb, eqb-true}
+use borrow.Author.Tests.{eq-eqb, ne-eqb, eqb-true, eqb-false}
 use lib.ListN.{length, getD, take, drop, set, replicate, length-set, length-append, length-replicate}
 use lib.Seq.{sets-eq, take-all, take-suc-set, take-at, drop-at, drop-drop, length-take-le}
 use lib.Dec.{eqb}
@@ -18,17 +19,20 @@ use Rattle.cluster.proofs.Rounds.{none-holds}
 use Rattle.naming.specs.Rules.Run.{Position, running, fresh, runGrounds, PassPlace, PassPlace.poll, ask, giveName, giveHigh, giveLow, PassPlace.baptize, least, bit, high, low, reply, placeOf, roundHere, onto, wrote, moveOn, onward, nextName, endAllNamed, passAdvance, isExtra, countRaised, advance, lastStep}
 use Rattle.naming.specs.Rules.Rounds.{RunRound, RunRound.poll as pollOf, writeName, writeHigh, writeLow, compare, RunRound.baptize as baptizeAll}
 use Rattle.naming.specs.Rules.Step.{StepDone, ended, made, stepGround, stepMade, stepOn}
+use Rattle.naming.specs.Rules.Steps.{isMade as isStepMade, begun, nextStep}
 use Rattle.naming.specs.Inner.Answers.{positionOf, steppedOf, runAfter}
 use Rattle.file.specs.declared.types.Refusal.{Refusal}
 use Rattle.file.specs.Rules.Grounds.{loadGround, loadVerdict}
 use Rattle.file.specs.Inner.Answers.{checkedOf}
-use Rattle.file.proofs.Results.{no-ground, that-ground}
+use Rattle.file.proofs.Results.{that-ground}
 use Rattle.file.specs.declared.survey.FileAnswer.{FileAnswer}
 use Rattle.file.specs.declared.survey.FileAnswer.the-variants as verdicts
 use Rattle.naming.specs.declared.run.Stepped.{Stepped}
 use Rattle.naming.specs.declared.run.Stepped.the-variants as steps
 use Rattle.naming.specs.declared.position.RunPosition.{RunPosition}
 use Rattle.naming.proofs.RunLaws.{Runs, runs}
+use Rattle.naming.proofs.StepsLaws.{made-makes}
+use Rattle.naming.proofs.StepsInARow.{still}
 use Rattle.naming.proofs.PositionLaws.{last-place, last-real, onto-same, stays}
 use Rattle.naming.proofs.RoundsMade.{some-counted, moved-counts}
 use Rattle.naming.proofs.PassRounds.{onto-counts}
@@ -331,6 +335,45 @@ module _ {names : List ℕ} {name i : ℕ} (h : Naming names name i) where
       let e : i ≡ nameCount = omega arith in
       sym (take-all i names (rw (h .room) past)) ∙ h .first ∙ rw e
 
+-- both texts of the rules mean the same by a step that made its round
+made-same : (r : Result StepDone) → isMade r ≡ isStepMade r
+unfolding isMade isStepMade
+made-same (refused n) = refl
+made-same (done ended) = refl
+made-same (done (made mask)) = refl
+
+-- ---- a step that makes no round leaves the listing as it is
+
+module _ (t : ListState) (e : isStepMade (stepOn (t .file) (t .run) allNames (t .buffer) .0) ≡ false) where
+  list-idle : listStep t ≡ t
+  unfolding listStep givesName both withoutName
+  list-idle =
+      let same = still (t .file) (t .run) allNames (t .buffer) e in
+      rw (made-same (stepOn (t .file) (t .run) allNames (t .buffer) .0) ∙ e)
+      (ap (λ (s : Position × List ℕ × List ℕ). record { file = s .2; run = s .0; buffer = s .1; begun = t .begun; given = t .given; lines = t .lines }) same)
+
+pub list-stuck : (n : ℕ) (t : ListState) → isStepMade (stepOn (t .file) (t .run) allNames (t .buffer) .0) ≡ false → listSteps n t ≡ t
+unfolding listSteps
+list-stuck zero t e = refl
+list-stuck (suc n) t e =
+    byCase (eqb (t .run .end) running)
+    (λ r. rw (r, list-idle t e) (list-stuck n t e))
+    (λ r. rw r)
+
+-- one step more, ended or not
+pub list-next : (n : ℕ) (t : ListState) → listSteps (suc n) t ≡ listSteps n (listStep t)
+unfolding listSteps begun
+list-next n t =
+    byCase (eqb (t .run .end) running)
+    (λ r. rw r)
+    (λ r. rw r (over (eqb-false _ _ r)))
+  where
+    over : t .run .end ≢ running → t ≡ listSteps n (listStep t)
+    over n′ =
+        let idle : isStepMade (stepOn (t .file) (t .run) allNames (t .buffer) .0) ≡ false =
+        byCase (isStepMade (stepOn (t .file) (t .run) allNames (t .buffer) .0)) (λ m. absurd (n′ (made-makes allNames (begun (t .file) (t .run) (t .buffer)) (unfold nextStep in m) .runs))) (λ m. m) in
+        sym (rw (list-idle t idle) (list-stuck n t idle))
+
 -- ---- all steps
 
 pub record Going (wanted : ListState) (old : List ℕ) (at : ℕ) (state : ListProgress) (left : ℕ) (file answer text : List ℕ) : Type 0 where
@@ -347,13 +390,8 @@ module _ {wanted : ListState} {old : List ℕ} {at : ℕ} {state : ListProgress}
   reached : stateOf state file answer text ≡ wanted → StateIs wanted old at state file answer text
   reached e = record { is = e; rest = h .rest; onward = h .onward; same = h .same; room = h .room }
 
-  pub going-ended : 0 < left → (state .run .end ≡ 0 → ⊥) → StateIs wanted old at state file answer text
-  going-ended some n =
-      let back : left ≡ suc (left - 1) = omega arith in
-      reached (stopped (left - 1) (rw back at (h .is)))
-    where
-      stopped : (k : ℕ) → listSteps (suc k) (stateOf state file answer text) ≡ wanted → stateOf state file answer text ≡ wanted
-      stopped k e = unfold listSteps in rw (ne-eqb (state .run .end) running n) at e
+  pub going-stuck : isStepMade (stepOn file (positionOf (state .run)) allNames answer .0) ≡ false → StateIs wanted old at state file answer text
+  going-stuck e = reached (sym (list-stuck left (stateOf state file answer text) e) ∙ h .is)
 
   pub going-done : left ≤ 0 → StateIs wanted old at state file answer text
   going-done past =
@@ -364,9 +402,9 @@ module _ {wanted : ListState} {old : List ℕ} {at : ℕ} {state : ListProgress}
       none e = unfold listSteps in e
 
   pub going-next :
-      {after : ListProgress} {file′ answer′ text′ : List ℕ} → 0 < left → state .run .end ≡ 0 →
+      {after : ListProgress} {file′ answer′ text′ : List ℕ} → 0 < left →
       StateIs (listStep (stateOf state file answer text)) text (state .at) after file′ answer′ text′ → Going wanted old at after (left - 1) file′ answer′ text′
-  going-next {after} {file′} {answer′} {text′} some m t =
+  going-next {after} {file′} {answer′} {text′} some t =
       let back : left ≡ suc (left - 1) = omega arith in
       let x = h .onward in
       let y = t .onward in
@@ -379,7 +417,7 @@ module _ {wanted : ListState} {old : List ℕ} {at : ℕ} {state : ListProgress}
       }
     where
       went : (k : ℕ) → listSteps (suc k) (stateOf state file answer text) ≡ wanted → listSteps k (listStep (stateOf state file answer text)) ≡ wanted
-      went k e = unfold listSteps in rw (eq-eqb (state .run .end) running m) at e
+      went k e = sym (list-next k (stateOf state file answer text)) ∙ e
 
       further : drop (after .at) text ≡ drop (after .at) old
       further =
@@ -423,7 +461,7 @@ listed-refused f {old = old} {w = w} is e h =
     let by = that-ground tt (w .0) (loadGround f) (rw e at is) in
     rw (← (by .0), ne-eqb (w .0) 0 (by .1)) (in-front (refusedLine (w .0)) old f (front-length h) (apart h))
 
-module _ (f : List ℕ) {old mid new answer file : List ℕ} {a : FileAnswer} {run : RunPosition} {done : ListProgress} {r : ℕ} (is : checkedOf a ≡ loadVerdict f) (e : a ≡ verdicts.Accepted) {names : List ℕ} (all : names ≡ allNames) (fresh-run : positionOf run ≡ fresh names)
+module _ (f : List ℕ) {old mid new answer file : List ℕ} {run : RunPosition} {done : ListProgress} {r : ℕ} (accepted : loadGround f ≡ 0) {names : List ℕ} (all : names ≡ allNames) (fresh-run : positionOf run ≡ fresh names)
     (t : StateIs (listSteps mostSteps (stateOf (record { run = run; begun = 0; given = 0; at = 0 }) f (replicate slots 0) old)) old 0 done file answer mid)
     (h : Puts (totalsLine (done .given) (done .run .comparisons) (done .run .rounds)) mid (done .at) new r) where
   begins : stateOf (record { run = run; begun = 0; given = 0; at = 0 }) f (replicate slots 0) old ≡ startState f
@@ -439,10 +477,6 @@ module _ (f : List ℕ) {old mid new answer file : List ℕ} {a : FileAnswer} {r
       let p = h .place in
       let further : r ≡ done .at + (r - done .at) = omega arith in
       rw (further, ← drop-drop (r - done .at) (done .at) mid, ← drop-drop (r - done .at) (done .at) old, t .rest)
-
-  accepted : loadGround f ≡ 0
-  unfolding checkedOf loadVerdict
-  accepted = no-ground tt (loadGround f) (rw e at is)
 
   pub listed-accepted : (r, new, file) ≡ listed f old
   unfolding listed listing fileListed withTotals

@@ -1,16 +1,20 @@
--- No two answers of a call are taken to the same: the maps of `specs/Inner/Answers.antt` can be undone, of a step's answers together
+-- No two answers of a call are taken to the same: the maps of `specs/Inner/Answers.antt` and `specs/Inner/Steps.antt` can be undone, of a step's answers together
 -- with the run after it.
 -- Assumes nothing.
 use mathlib.Core.Path.{_≡_, refl, sym, _∙_, ap}
 use Rattle.file.specs.Rules.Results.{Result, refused, done}
 use Rattle.naming.specs.Rules.Run.{Position}
 use Rattle.naming.specs.Rules.Step.{StepDone, ended, made}
+use Rattle.naming.specs.Rules.Steps.{StepsDone, StepsDone.steps as several}
 use Rattle.naming.specs.Inner.Answers.{startedOf, steppedOf, runAfter}
+use Rattle.naming.specs.Inner.Steps.{stepsOf, runThen}
 use Rattle.naming.specs.declared.position.RunPosition.{RunPosition}
 use Rattle.naming.specs.declared.run.Started.{Started}
 use Rattle.naming.specs.declared.run.Started.the-variants as starts
 use Rattle.naming.specs.declared.run.Stepped.{Stepped}
 use Rattle.naming.specs.declared.run.Stepped.the-variants as steps
+use Rattle.naming.specs.declared.steps.StepsAnswer.{StepsAnswer}
+use Rattle.naming.specs.declared.steps.StepsAnswer.the-variants as answers
 
 run : Position → RunPosition
 run p =
@@ -52,4 +56,19 @@ pub steps-distinct : (p : Position) (a b : Stepped) → steppedOf a ≡ steppedO
 steps-distinct p a b h g = sym (stepped-back p a) ∙ (alike ∙ stepped-back p b)
   where
     alike : stepped (steppedOf a, runAfter p a) ≡ stepped (steppedOf b, runAfter p b)
+    alike = rw (h, g)
+
+severally : Result StepsDone × Position → StepsAnswer
+severally (refused n, p) = answers.Refused (record { 0 = n })
+severally (done (several n mask), p) = answers.Made (record { steps = n; senders = mask; run = run p })
+
+severally-back : (p : Position) (a : StepsAnswer) → severally (stepsOf a, runThen p a) ≡ a
+unfolding severally stepsOf runThen run
+severally-back p (answers.Refused why) = refl
+severally-back p (answers.Made m) = refl
+
+pub several-distinct : (p : Position) (a b : StepsAnswer) → stepsOf a ≡ stepsOf b → runThen p a ≡ runThen p b → a ≡ b
+several-distinct p a b h g = sym (severally-back p a) ∙ (alike ∙ severally-back p b)
+  where
+    alike : severally (stepsOf a, runThen p a) ≡ severally (stepsOf b, runThen p b)
     alike = rw (h, g)

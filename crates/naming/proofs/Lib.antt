@@ -31,11 +31,15 @@ pub mod TwoLists
 pub mod TwoRuns
 pub mod TwoListsExamples
 pub mod PositionLaws
+pub mod WritingLaws
 pub mod NameLaws
 pub mod SendLaws
 pub mod RunLaws
 pub mod StepCode
 pub mod StepFrames
+pub mod Moves
+pub mod StepsLaws
+pub mod StepsInARow
 pub mod Sleep
 pub mod RoundsMade
 pub mod Renaming
@@ -44,6 +48,7 @@ pub mod Editions
 pub mod Unasked
 pub mod SummaryExamples
 pub mod Witnesses
+pub mod StepsExamples
 pub mod WriteWitnesses
 pub mod EditionWitnesses
 pub mod Cases

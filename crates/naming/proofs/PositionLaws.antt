@@ -5,19 +5,16 @@ use mathlib.Core.Path.{_≡_, refl, sym, _∙_}
 use mathlib.Core.Logic.{_⊎_, inl, inr}
 use mathlib.Core.Bool.{Bool, true, false, cond, not}
 use native.Mathlib.Omega.{arith}
-use native.Mathlib.Numerals.{add-one}
 use borrow.Author.Tests.{lt-ltb, le-ltb, ltb-true, ltb-false, eq-eqb, ne-eqb, le-leb, lt-leb}
 use Rattle.file.proofs.Order.{byCase, clash}
 use lib.Bits.{bitOr}
 use lib.Pow.{shl-exact}
 use lib.ListN.{length, getD}
 use lib.Dec.{leb, ltb, eqb}
-use mathlib.Core.List.{List, []}
+use mathlib.Core.List.{List}
 use Rattle.file.specs.Rules.Order.{both, either}
-use Rattle.naming.specs.Inner.Answers.{heard, GoesOn, partAt, valueAt, Wrote, NeedlessAt, PassedOver, Settled}
-use Rattle.naming.specs.declared.position.Reply.{Reply}
-use Rattle.naming.specs.declared.position.Reply.the-variants as replies
-use Rattle.naming.specs.Rules.Run.{Position, Question, least, bit, PassPlace, poll, giveName, giveHigh, giveLow, baptize, high, low, reply, questionOf, partOf, tried, ask, bits, placeOf, askOrGive, giveOf, giveStep, roundAt, roundHere, isFirst, isRepeated, isNeedless, atStep, passOver, onto, wrote, onward, nextName, moveOn, unfitPosition, countLimit, lastStep, running, namesUsedUp}
+use Rattle.naming.specs.Inner.Answers.{FitCounts, GoesOn, partAt, valueAt, Wrote}
+use Rattle.naming.specs.Rules.Run.{Position, least, PassPlace, poll, giveName, giveHigh, giveLow, baptize, high, low, reply, questionOf, partOf, tried, ask, bits, placeOf, askOrGive, giveOf, giveStep, roundAt, roundHere, isFirst, isRepeated, isNeedless, atStep, passOver, onto, wrote, unfitPosition, countLimit, lastStep, running, namesUsedUp}
 use Rattle.naming.specs.Rules.Rounds.{comparisonRounds, half, RunRound, RunRound.poll as pollOf, writeName, writeHigh, writeLow, compare, RunRound.baptize as baptizeAll}
 
 -- ---- the value that a comparison sends
@@ -47,6 +44,10 @@ pub place-give : (k : ℕ) → giveStep ≤ k → placeOf k ≡ giveOf (k - give
 unfolding placeOf askOrGive
 place-give zero h = absurd (omega arith)
 place-give (suc k) h = rw (le-ltb (suc k) giveStep h)
+
+pub first-place : {k : ℕ} → k ≡ comparisonRounds → placeOf k ≡ ask least reply
+unfolding placeOf askOrGive questionOf partOf
+first-place e = rw e
 
 -- ---- the half that a round writes, and the value that it is a half of
 
@@ -97,7 +98,7 @@ value-given v k h = rw (place-give k h) (giving (k - giveStep))
 
 -- what it writes
 module _ (n v : ℕ) where
-  writes-high : (l : PassPlace) → partAt l ≡ high → roundAt l n v ≡ writeHigh (valueAt l v / half)
+  pub writes-high : (l : PassPlace) → partAt l ≡ high → roundAt l n v ≡ writeHigh (valueAt l v / half)
   unfolding partAt valueAt roundAt
   writes-high poll e = cc
   writes-high (ask q high) e = refl
@@ -108,7 +109,7 @@ module _ (n v : ℕ) where
   writes-high giveLow e = cc
   writes-high baptize e = cc
 
-  writes-low : (l : PassPlace) → partAt l ≡ low → roundAt l n v ≡ writeLow (valueAt l v % half)
+  pub writes-low : (l : PassPlace) → partAt l ≡ low → roundAt l n v ≡ writeLow (valueAt l v % half)
   unfolding partAt valueAt roundAt
   writes-low poll e = cc
   writes-low (ask q high) e = cc
@@ -153,14 +154,14 @@ module _ (p : Position) {r x : ℕ} (part : partOf r ≡ partAt (placeOf (p .ste
   wrote-none m l n = sym (writes-none n (p .value) p (placeOf (p .step)) (sym part ∙ third-part r m l))
 
 -- all else stays
-pub wrote-goes : (o : RunRound) {count : ℕ} {p : Position} → GoesOn count p → GoesOn count (wrote o p)
+pub wrote-fits : (o : RunRound) {p : Position} → FitCounts p → FitCounts (wrote o p)
 unfolding wrote
-wrote-goes (pollOf n) g = g
-wrote-goes (writeName n) g = g
-wrote-goes (writeHigh h) g = record { within = g .within; counts = record { place = g .counts .place; few = g .counts .few; fewer = g .counts .fewer } }
-wrote-goes (writeLow l) g = record { within = g .within; counts = record { place = g .counts .place; few = g .counts .few; fewer = g .counts .fewer } }
-wrote-goes compare g = g
-wrote-goes baptizeAll g = g
+wrote-fits (pollOf n) f = f
+wrote-fits (writeName n) f = f
+wrote-fits (writeHigh h) f = record { place = f .place; few = f .few; fewer = f .fewer }
+wrote-fits (writeLow l) f = record { place = f .place; few = f .few; fewer = f .fewer }
+wrote-fits compare f = f
+wrote-fits baptizeAll f = f
 
 pub wrote-step : (o : RunRound) (p : Position) → wrote o p .step ≡ p .step
 unfolding wrote
@@ -171,7 +172,20 @@ wrote-step (writeLow l) p = refl
 wrote-step compare p = refl
 wrote-step baptizeAll p = refl
 
+pub wrote-value : (r : RunRound) (p : Position) → wrote r p .value ≡ p .value
+unfolding wrote
+wrote-value (pollOf n) p = refl
+wrote-value (writeName n) p = refl
+wrote-value (writeHigh h) p = refl
+wrote-value (writeLow l) p = refl
+wrote-value compare p = refl
+wrote-value baptizeAll p = refl
+
 -- ---- needless writes
+
+-- whether the write at a position's step is needless, whatever the names
+abbrev pub NeedlessAt : Position → Bool → Type 0
+NeedlessAt p t = (names : List ℕ) → t ≡ isNeedless names p
 
 -- none before the first comparison is over
 early-place : (k : ℕ) → k ≤ comparisonRounds → (placeOf k ≡ poll) ⊎ (isFirst (placeOf k) ≡ true)
@@ -243,15 +257,6 @@ module _ (p : Position) (late : comparisonRounds < p .step) {r x : ℕ} (part : 
   needless-none m l names =
       sym (needless-late p late names ∙ writes-nothing (getD names (p .index) 0) (p .value) p (placeOf (p .step)) (sym part ∙ third-part r m l))
 
--- passed over or not
-pub passed : (p : Position) {t : Bool} → NeedlessAt p t → t ≡ true → PassedOver p (atStep (p .step + 1) p)
-unfolding passOver atStep
-passed p is t names = rw (← is names, t, add-one)
-
-pub not-passed : (p : Position) {t : Bool} → NeedlessAt p t → t ≡ false → PassedOver p p
-unfolding passOver
-not-passed p is f names = rw (← is names, f)
-
 -- the last round of a pass is no write
 pub last-place : {k : ℕ} → k ≡ lastStep → placeOf k ≡ baptize
 unfolding placeOf askOrGive giveOf
@@ -274,18 +279,6 @@ pass-over-goes names {p} g =
     let on : suc (p .step) ≤ lastStep = omega arith in
     rw t (record { within = g .within; counts = record { place = on; few = g .counts .few; fewer = g .counts .fewer } }))
     (λ f. rw f g)
-
-pub passed-within : (p : Position) {q : Position} → p .step ≤ lastStep → PassedOver p q → q .step ≤ lastStep
-unfolding passOver atStep
-passed-within p {q} h is =
-    rw (is [])
-    (byCase (isNeedless [] p)
-    (λ t. let inside : p .step ≡ lastStep → ⊥ = needless-inside [] p t in rw t (omega arith))
-    (λ f. rw f h))
-
-pub passed-twice : (p q : Position) {r : Position} → PassedOver p q → PassedOver q r → Settled p r
-unfolding onto
-passed-twice p q first second names = second names ∙ rw (first names)
 
 pub onto-goes : {count : ℕ} (names : List ℕ) {p : Position} → GoesOn count p → GoesOn count (onto names p)
 unfolding onto
@@ -316,61 +309,6 @@ onto-value names p = pass-over-value names (passOver names p) ∙ pass-over-valu
 pub stays : (names : List ℕ) (p : Position) → isNeedless names p ≡ false → onto names p ≡ p
 unfolding onto passOver
 stays names p f = rw (f, f)
-
--- ---- how a position moves on
-
-module _ (count : ℕ) (p : Position) where
-  give-quiet : (j : ℕ) (b : Bool) → j < 3 → onward p (p .value) 0 ≡ moveOn (giveOf j) count p b
-  unfolding moveOn giveOf
-  give-quiet zero b h = refl
-  give-quiet (suc zero) b h = refl
-  give-quiet (suc (suc zero)) b h = refl
-  give-quiet (suc (suc (suc j))) b h = absurd (omega arith)
-
-  ask-quiet : (q : Question) (r : ℕ) (b : Bool) → (r ≡ 2 → ⊥) → r < 3 → onward p (p .value) 0 ≡ moveOn (ask q (partOf r)) count p b
-  unfolding moveOn partOf
-  ask-quiet q zero b n h = refl
-  ask-quiet q (suc zero) b n h = refl
-  ask-quiet q (suc (suc zero)) b n h = absurd (n refl)
-  ask-quiet q (suc (suc (suc r))) b n h = absurd (omega arith)
-
-  reply-at : (q : Question) {r : ℕ} (b : Bool) → r ≡ 2 → moveOn (ask q reply) 0 p b ≡ moveOn (ask q (partOf r)) count p b
-  unfolding moveOn partOf
-  reply-at least b e = rw e
-  reply-at (bit c) b e = rw e
-
-module _ (count : ℕ) (p : Position) {r : Position} where
-  pub moved-last : {k : ℕ} (b : Bool) → k ≡ lastStep → r ≡ nextName count p → r ≡ moveOn (placeOf k) count p b
-  unfolding placeOf moveOn askOrGive giveOf
-  moved-last b e is = rw e is
-
-  pub moved-giving : {k : ℕ} (b : Bool) → giveStep ≤ k → (k ≡ lastStep → ⊥) → k ≤ lastStep → r ≡ onward p (p .value) 0 → r ≡ moveOn (placeOf k) count p b
-  moved-giving {k} b h n l is = is ∙ rw (place-give k h) (give-quiet count p (k - giveStep) b (few k h n l))
-    where
-      few : (k : ℕ) → giveStep ≤ k → (k ≡ lastStep → ⊥) → k ≤ lastStep → k - giveStep < 3
-      few k h n l = omega arith
-
-  pub moved-asking : {k : ℕ} (b : Bool) → (k ≡ 0 → ⊥) → k < giveStep → ((k - 1) % comparisonRounds ≡ 2 → ⊥) → r ≡ onward p (p .value) 0 → r ≡ moveOn (placeOf k) count p b
-  moved-asking {k} b n h o is =
-      is ∙ rw (place-ask k n h) (ask-quiet count p (questionOf ((k - 1) / comparisonRounds)) ((k - 1) % comparisonRounds) b o (omega arith))
-
-  pub moved-reply : {k : ℕ} (b : Bool) → (k ≡ 0 → ⊥) → k < giveStep → (k - 1) % comparisonRounds ≡ 2 →
-      r ≡ moveOn (ask (questionOf ((k - 1) / comparisonRounds)) reply) 0 p b → r ≡ moveOn (placeOf k) count p b
-  moved-reply {k} b n h o is = is ∙ rw (place-ask k n h) (reply-at count p (questionOf ((k - 1) / comparisonRounds)) b o)
-
--- after a comparison
-module _ (p : Position) {r : Position} where
-  pub bit-silent : (q : ℕ) {a : Reply} → 1 ≤ q → a ≡ replies.Silence → r ≡ onward p (p .value) 1 → r ≡ moveOn (ask (questionOf q) reply) 0 p (heard a)
-  unfolding questionOf moveOn heard
-  bit-silent zero n h is = absurd (omega arith)
-  bit-silent (suc q) n h is = rw h is
-
-  pub bit-heard :
-      (q : ℕ) {t : ℕ} {a : Reply} → 1 ≤ q → a ≡ replies.Heard → t ≡ tried (questionOf q) (p .value) → r ≡ onward p t 1 →
-      r ≡ moveOn (ask (questionOf q) reply) 0 p (heard a)
-  unfolding questionOf moveOn heard
-  bit-heard zero n h e is = absurd (omega arith)
-  bit-heard (suc q) n h e is = is ∙ rw (h, e)
 
 -- ---- ground 17, part by part
 

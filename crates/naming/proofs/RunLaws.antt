@@ -16,12 +16,11 @@ use Rattle.file.specs.Inner.Accepted.{Placed}
 use Rattle.file.proofs.Order.{byCase, either-false-left, either-false-right, both-false-next, first-none}
 use Rattle.file.proofs.Bytes.{byte-at}
 use Rattle.naming.specs.Rules.Rounds.{half, comparisonRounds, RunRound, sent}
-use Rattle.naming.specs.Rules.Run.{Position, running, unfitName, namesGrounds, startGround, runGrounds, unfitPosition, Question, questionOf, tried, Part, high, low, reply, partOf, giveOf, ask, bits, giveStep, PassPlace, poll, giveName, giveHigh, giveLow, baptize, least, bit, lastStep, askOrGive, placeOf, roundAt, roundHere, onto, passRound, nextRound, wrote, onward, nextName, endAllNamed, moveOn, passAdvance, isExtra, countRaised, advance}
+use Rattle.naming.specs.Rules.Run.{Position, running, unfitName, namesGrounds, startGround, runGrounds, unfitPosition, Question, questionOf, tried, Part, high, low, reply, partOf, giveOf, ask, bits, giveStep, PassPlace, poll, giveName, giveHigh, giveLow, baptize, least, bit, lastStep, placeOf, roundAt, roundHere, onto, passRound, nextRound, wrote, onward, nextName, endAllNamed, moveOn, passAdvance, isExtra, countRaised, advance}
 use Rattle.naming.specs.Rules.Step.{isReply, made, madeBy, stepMade}
 use Rattle.cluster.specs.declared.types.MasterSlaveRound.{MasterSlaveRound}
-use Rattle.naming.specs.declared.position.Reply.{Reply}
 use Rattle.naming.specs.declared.position.Reply.the-variants as replies
-use Rattle.naming.specs.Inner.Answers.{heard, GoesOn, StepGoes, Wrote, Settled, Sends}
+use Rattle.naming.specs.Inner.Answers.{heard, GoesOn, StepGoes, Settled, Advances, Sends}
 use Rattle.cluster.specs.Rules.MasterSlave.{roundSent}
 use Rattle.cluster.specs.Inner.Sending.{sentFor, MaySend}
 use Rattle.naming.proofs.Facts.{Fit}
@@ -29,7 +28,7 @@ use Rattle.naming.proofs.Places.{LegalQuestion, of-least, of-bit}
 use Rattle.naming.proofs.Search.{tried-small}
 use Rattle.naming.proofs.Abstract.{Sendable, of-poll, of-name, of-high, of-low, of-compare, of-baptize}
 use Rattle.naming.proofs.StepRound.{may-send}
-use Rattle.naming.proofs.PositionLaws.{place-ask, place-give, last-place, wrote-goes, wrote-step, needless-early, onto-goes, onto-same, onto-value, stays}
+use Rattle.naming.proofs.PositionLaws.{place-ask, place-give, last-place, onto-goes, onto-same, onto-value, wrote-value}
 
 -- ---- grounds 15 to 17
 
@@ -96,10 +95,6 @@ runs {names} {p} e m =
         };
       };
     }
-
--- so it does once its round is made
-pub goes-wrote : {count : ℕ} {p w : Position} → GoesOn count p → Wrote p w → GoesOn count w
-goes-wrote {p = p} g is = rw (is 0) (wrote-goes (roundAt (placeOf (p .step)) 0 (p .value)) g)
 
 fit-at : (names : List ℕ) (i : ℕ) → unfitName names ≡ false → i < length names → getD names i 0 < 256 → Fit (getD names i 0)
 unfolding unfitName
@@ -182,36 +177,6 @@ poll-place : {k : ℕ} → k ≡ 0 → placeOf k ≡ poll
 unfolding placeOf
 poll-place e = rw e
 
-first-place : {k : ℕ} → k ≡ comparisonRounds → placeOf k ≡ ask least reply
-unfolding placeOf askOrGive questionOf partOf
-first-place e = rw e
-
-module _ (names : List ℕ) (w : Position) where
-  -- a position that begins a pass, or has ended, is not moved on
-  next-stays : onto names (nextName (length names) w) ≡ nextName (length names) w
-  unfolding nextName
-  next-stays = stays names (nextName (length names) w) (sym (needless-early (nextName (length names) w) (omega arith) names))
-
-  ended-stays : w .step ≡ comparisonRounds → onto names (endAllNamed w) ≡ endAllNamed w
-  unfolding endAllNamed
-  ended-stays e = stays names (endAllNamed w) (sym (needless-early (endAllNamed w) (omega arith) names))
-
-module _ (names : List ℕ) (w : Position) {q : Position} where
-  pub after-taken : {a : Reply} → w .step ≡ 0 → a ≡ replies.Heard → q ≡ nextName (length names) w → q ≡ onto names (moveOn (placeOf (w .step)) (length names) w (heard a))
-  after-taken e h is = is ∙ rw (poll-place e, h) (unfold moveOn heard in sym (next-stays names w))
-
-  pub after-free : {a : Reply} {v : Position} → w .step ≡ 0 → a ≡ replies.Silence → v ≡ onward w (w .value) 0 → Settled v q → q ≡ onto names (moveOn (placeOf (w .step)) (length names) w (heard a))
-  after-free e h is settled = settled names ∙ rw (poll-place e, h, is) (unfold moveOn heard in refl)
-
-  pub after-silence : {a : Reply} → w .step ≡ comparisonRounds → a ≡ replies.Silence → q ≡ endAllNamed w → q ≡ onto names (moveOn (placeOf (w .step)) (length names) w (heard a))
-  after-silence e h is = is ∙ rw (first-place e, h) (unfold moveOn heard in sym (ended-stays names w e))
-
-  pub after-first : {a : Reply} {v : Position} → w .step ≡ comparisonRounds → a ≡ replies.Heard → v ≡ onward w 0 1 → Settled v q → q ≡ onto names (moveOn (placeOf (w .step)) (length names) w (heard a))
-  after-first e h is settled = settled names ∙ rw (first-place e, h, is) (unfold moveOn heard in refl)
-
-  pub after-other : (b : Bool) {v : Position} → v ≡ moveOn (placeOf (w .step)) (length names) w b → Settled v q → q ≡ onto names (moveOn (placeOf (w .step)) (length names) w b)
-  after-other b is settled = settled names ∙ rw is
-
 -- its step is one of a pass again
 one-more : (l : PassPlace) (count : ℕ) (p : Position) (b : Bool) → moveOn l count p b .step ≤ suc (p .step)
 unfolding moveOn onward nextName endAllNamed
@@ -233,11 +198,6 @@ moved-within count p b h is =
     (byCase (eqb (p .step) lastStep)
     (λ t. rw (last-place (eqb-true (p .step) lastStep t)) (unfold moveOn nextName in omega arith))
     (λ f. let n = eqb-false (p .step) lastStep f in omega (arith, one-more (placeOf (p .step)) count p b)))
-
--- so is that of a position that goes on from the first rounds of a pass
-pub went-within : (p : Position) (x more : ℕ) {v : Position} → p .step ≤ comparisonRounds → v ≡ onward p x more → v .step ≤ lastStep
-unfolding onward
-went-within p x more h is = rw is (omega arith)
 
 -- its value is one of 64 bits again
 module _ (count : ℕ) (w : Position) (b : Bool) (small : w .value < 2 ^ bits) where
@@ -268,15 +228,6 @@ module _ (count : ℕ) (w : Position) (b : Bool) (small : w .value < 2 ^ bits) w
       byCase (ltb k giveStep)
       (λ e. rw (place-ask k some (ltb-true k giveStep e)) (asked-small (partOf ((k - 1) % comparisonRounds)) (question-legal ((k - 1) / comparisonRounds) (few-questions k (ltb-true k giveStep e)))))
       (λ e. rw (place-give k (ltb-false k giveStep e)) (gave-small (k - giveStep))))
-
-wrote-value : (r : RunRound) (p : Position) → wrote r p .value ≡ p .value
-unfolding wrote
-wrote-value (RunRound.poll n) p = refl
-wrote-value (RunRound.writeName n) p = refl
-wrote-value (RunRound.writeHigh h) p = refl
-wrote-value (RunRound.writeLow l) p = refl
-wrote-value RunRound.compare p = refl
-wrote-value RunRound.baptize p = refl
 
 passed-small : (names : List ℕ) (p : Position) (b : Bool) → p .value < 2 ^ bits → passAdvance names p b .value < 2 ^ bits
 unfolding passAdvance
@@ -328,11 +279,9 @@ module _
     send-may = rw (sends .parts) (may-send (here-sendable names (runs (step .accepted) (step .runs) .fit) here-goes byte small))
 
     pub step-is :
-        {new file : List ℕ} {mask : ℕ} {w q : Position} {b : Bool} → 0 < p .rounds →
-        (done mask, new, file) ≡ roundSent f (sentFor r) buffer → Wrote s w → b ≡ isReply (done mask) →
-        q ≡ onto names (moveOn (placeOf (w .step)) (length names) w b) → (done (made mask), q, new, file) ≡ stepMade f p names buffer
-    unfolding stepMade nextRound advance passAdvance madeBy wrote
-    step-is {w = w} {q} {b} some carry written replied moved =
-        let is : w ≡ wrote (roundHere names s) s = unfold roundHere in written (getD names (s .index) 0) in
-        let on : q ≡ onto names (moveOn (placeOf (s .step)) (length names) (wrote (roundHere names s) s) b) = rw (is, wrote-step (roundHere names s) s) at moved in
-        rw (counted-some p some, next-here, ← (sends .parts), ← carry, ← replied, ← settled names, on)
+        {new file : List ℕ} {mask : ℕ} {q : Position} {b : Bool} → 0 < p .rounds →
+        (done mask, new, file) ≡ roundSent f (sentFor r) buffer → b ≡ isReply (done mask) → Advances (length names) s b q →
+        (done (made mask), q, new, file) ≡ stepMade f p names buffer
+    unfolding stepMade nextRound advance passAdvance madeBy
+    step-is {q = q} {b} some carry replied moved =
+        rw (counted-some p some, next-here, ← (sends .parts), ← carry, ← replied, ← settled names, moved names refl)

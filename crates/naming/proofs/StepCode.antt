@@ -7,12 +7,13 @@ use borrow.Author.Tests.{eq-eqb, ne-eqb}
 use lib.ListN.{length}
 use Rattle.file.specs.Rules.Order.{firstOf}
 use Rattle.file.specs.Rules.Results.{Result, refused, done}
+use Rattle.file.specs.Inner.Accepted.{Placed}
 use Rattle.file.specs.Inner.Surveyed.{Surveyed}
 use Rattle.file.specs.Inner.Answers.{checkedOf}
 use Rattle.file.specs.declared.types.Refusal.{Refusal}
 use Rattle.file.specs.declared.survey.FileAnswer.{FileAnswer}
 use Rattle.file.specs.declared.survey.FileAnswer.the-variants as answers
-use Rattle.file.proofs.Surveyed.{survey-accepted, survey-refused}
+use Rattle.file.proofs.Surveyed.{survey-refused}
 use Rattle.cluster.specs.Rules.Bus.{slots}
 use Rattle.cluster.proofs.Rounds.{file-decides, buffer-decides, others-decide}
 use Rattle.naming.specs.Rules.Run.{Position, running, runGrounds}
@@ -32,25 +33,25 @@ module _ (f : List ℕ) (p : Position) (names buffer : List ℕ) {a : FileAnswer
       let here = file-decides f buffer (runGrounds names p) (λ z. by .1 (by .0 ∙ z)) in
       sym (step-refused f p names buffer (λ z. by .1 (by .0 ∙ sym here ∙ z)) ∙ rw (here, by .0))
 
-  module _ (accepted : a ≡ answers.Accepted) where
-    pub step-short : length buffer < slots → (refused 9, p, buffer, f) ≡ stepOn f p names buffer
-    unfolding stepOn stepGround
-    step-short h = rw (buffer-decides f buffer (runGrounds names p) (survey-accepted s accepted) h)
+module _ (f : List ℕ) (p : Position) (names buffer : List ℕ) {places : List ℕ} (placed : Placed f places) where
+  pub step-short : length buffer < slots → (refused 9, p, buffer, f) ≡ stepOn f p names buffer
+  unfolding stepOn stepGround
+  step-short h = rw (buffer-decides f buffer (runGrounds names p) (placed .file .accepted) h)
 
-    module _ (long : slots ≤ length buffer) {g : ℕ} (is : g ≡ firstOf (runGrounds names p)) where
-      ground-is : stepGround f p names buffer ≡ g
-      unfolding stepGround
-      ground-is = others-decide f buffer (runGrounds names p) (survey-accepted s accepted) long ∙ sym is
+  module _ (long : slots ≤ length buffer) {g : ℕ} (is : g ≡ firstOf (runGrounds names p)) where
+    ground-is : stepGround f p names buffer ≡ g
+    unfolding stepGround
+    ground-is = others-decide f buffer (runGrounds names p) (placed .file .accepted) long ∙ sym is
 
-      pub step-unfit : (g ≡ 0 → ⊥) → (refused g, p, buffer, f) ≡ stepOn f p names buffer
+    pub step-unfit : (g ≡ 0 → ⊥) → (refused g, p, buffer, f) ≡ stepOn f p names buffer
+    unfolding stepOn
+    step-unfit n = rw (ground-is, ne-eqb g 0 n)
+
+    module _ (fits : g ≡ 0) where
+      pub step-over : (p .end ≡ running → ⊥) → (done ended, p, buffer, f) ≡ stepOn f p names buffer
       unfolding stepOn
-      step-unfit n = rw (ground-is, ne-eqb g 0 n)
+      step-over n = rw (ground-is, eq-eqb g 0 fits, ne-eqb (p .end) running n)
 
-      module _ (fits : g ≡ 0) where
-        pub step-over : (p .end ≡ running → ⊥) → (done ended, p, buffer, f) ≡ stepOn f p names buffer
-        unfolding stepOn
-        step-over n = rw (ground-is, eq-eqb g 0 fits, ne-eqb (p .end) running n)
-
-        pub step-goes : {r : Result StepDone × Position × List ℕ × List ℕ} → p .end ≡ running → r ≡ stepMade f p names buffer → r ≡ stepOn f p names buffer
-        unfolding stepOn
-        step-goes runs h = h ∙ rw (ground-is, eq-eqb g 0 fits, eq-eqb (p .end) running runs)
+      pub step-goes : {r : Result StepDone × Position × List ℕ × List ℕ} → p .end ≡ running → r ≡ stepMade f p names buffer → r ≡ stepOn f p names buffer
+      unfolding stepOn
+      step-goes runs h = h ∙ rw (ground-is, eq-eqb g 0 fits, eq-eqb (p .end) running runs)

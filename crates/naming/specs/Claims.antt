@@ -1,4 +1,4 @@
--- Statements of theorems: demand 3, the lists that it permits, two lists of names, a step and its two frames, the rounds really made, a pass
+-- Statements of theorems: demand 3, the lists that it permits, two lists of names, a step and its two frames, several steps, the rounds really made, a pass
 -- written out, who is renamed, who is awake, the summary of job 8, an unknown edition, both editions, and the marked cases.
 pub mod Demand
 pub mod Throughout
@@ -6,6 +6,7 @@ pub mod Permitted
 pub mod PermittedRounds
 pub mod TwoLists
 pub mod StepFrames
+pub mod Steps
 pub mod RoundsMade
 pub mod Renaming
 pub mod Sleep

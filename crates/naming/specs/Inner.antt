@@ -2,3 +2,4 @@
 pub mod View
 pub mod PassPlaces
 pub mod Answers
+pub mod Steps

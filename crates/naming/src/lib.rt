@@ -1,5 +1,6 @@
-// The naming run: its position, its rounds, and a step of it on a cluster file.
+// The naming run: its position, its rounds, and steps of it on a cluster file.
 mod names;
 pub mod position;
 pub mod run;
 mod sending;
+pub mod steps;

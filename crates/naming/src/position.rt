@@ -1,9 +1,8 @@
 // The position of a naming run, and how it moves on.
 ghost use mathlib.Core.Path.{_≡_};
-ghost use Prim.Native.Nat.{_≤_};
-ghost use Rattle.naming.specs.Rules.Run.{endAt, fresh, onward, countRaised, nextName, endAllNamed, ask, reply, bits, questionOf, partOf, tried, placeOf, moveOn, unfitPosition, lastStep};
-ghost use Rattle.naming.specs.Rules.Rounds.{comparisonRounds};
-ghost use Rattle.naming.specs.Inner.Answers.{positionOf, heard, FitCounts, GoesOn, partAt, valueAt, Wrote, NeedlessAt, PassedOver, Settled};
+ghost use Prim.Native.Nat.{ℕ, _+_, _≤_, _<_};
+ghost use Rattle.naming.specs.Rules.Run.{endAt, fresh, onward, countRaised, nextName, endAllNamed, poll, reply, bits, questionOf, partOf, tried, placeOf, atStep, moveOn, unfitPosition, giveStep, lastStep};
+ghost use Rattle.naming.specs.Inner.Answers.{positionOf, heard, FitCounts, GoesOn, partAt, WritesAt, NeedlessFrom, Settled, Stands, Wrote, Asks, Advances, Writes};
 
 // The caller keeps it between steps, and may hand in any content.
 pub struct RunPosition {
@@ -27,7 +26,7 @@ pub const NAMES_USED_UP: u64 = 2;
 const BITS: u64 = 64;
 
 // "A comparison is three rounds": the two halves of its value, and the execute that is answered.
-pub const COMPARISON_ROUNDS: u64 = 3;
+const COMPARISON_ROUNDS: u64 = 3;
 
 pub const HIGH: u64 = 0;
 
@@ -43,15 +42,18 @@ pub const HALF: u64 = BYTE * BYTE * BYTE * BYTE;
 // The steps of a pass: the poll, the comparisons with 0 and with each bit, then the four rounds that give the name.
 pub const POLL: u64 = 0;
 
-pub const FIRST_REPLY: u64 = COMPARISON_ROUNDS;
+const FIRST_REPLY: u64 = COMPARISON_ROUNDS;
 
 pub const GIVE_NAME: u64 = 1 + COMPARISON_ROUNDS * (1 + BITS);
 
-pub const GIVE_HIGH: u64 = GIVE_NAME + 1;
+const GIVE_HIGH: u64 = GIVE_NAME + 1;
 
-pub const GIVE_LOW: u64 = GIVE_NAME + 2;
+const GIVE_LOW: u64 = GIVE_NAME + 2;
 
 pub const LAST_STEP: u64 = GIVE_NAME + 3;
+
+// No step of a pass.
+pub const NO_STEP: u64 = LAST_STEP + 1;
 
 // "either count 1,000,000 or more".
 const COUNT_LIMIT: u64 = 1000000;
@@ -114,7 +116,7 @@ pub fn is_unfit(names: &[u8], run: RunPosition) -> bool
 }
 
 // To the pass's next round, with a value and so many more comparisons made.
-pub fn go_on(run: RunPosition, value: u64, more: u64) -> RunPosition
+fn go_on(run: RunPosition, value: u64, more: u64) -> RunPosition
     requires { ⌜ FitCounts (positionOf run) × (more ≤ 1) ⌝ }
     ensures { λ r. ⌜ positionOf r ≡ onward (positionOf run) value more ⌝ }
 {
@@ -148,7 +150,7 @@ pub fn count_raised(run: RunPosition) -> RunPosition
 }
 
 // The name is done.
-pub fn next_name(run: RunPosition, count: u64) -> RunPosition
+fn next_name(run: RunPosition, count: u64) -> RunPosition
     requires { ⌜ GoesOn count (positionOf run) ⌝ }
     ensures { λ r. ⌜ positionOf r ≡ nextName count (positionOf run) ⌝ }
 {
@@ -164,7 +166,7 @@ pub fn next_name(run: RunPosition, count: u64) -> RunPosition
     }
 }
 
-pub fn all_named(run: RunPosition) -> RunPosition
+fn all_named(run: RunPosition) -> RunPosition
     requires { ⌜ FitCounts (positionOf run) ⌝ }
     ensures { λ r. ⌜ positionOf r ≡ endAllNamed (positionOf run) ⌝ }
 {
@@ -191,17 +193,18 @@ pub fn tried_value(question: u64, value: u64) -> u64
     value | (1u64 << (BITS - question))
 }
 
-// The half that the round at a step writes, REPLY where it writes none.
-pub fn part_at(step: u64) -> u64
-    requires { ⌜ step ≤ lastStep ⌝ }
-    ensures { λ r. ⌜ partOf r ≡ partAt (placeOf step) ⌝ }
+// What the round at a step writes: which half, REPLY where none, and the value that it is a half of; at the execute of a comparison the value
+// that is compared with.
+pub struct Writing {
+    pub part: u64,
+    pub value: u64,
+}
+
+// The half that a round of the four that give a name writes.
+fn given_part(step: u64) -> u64
+    requires { ⌜ giveStep ≤ step ⌝ }
+    ensures { λ r. ⌜ (partOf r ≡ partAt (placeOf step)) × (r ≤ 2) ⌝ }
 {
-    if step == POLL {
-        return REPLY;
-    }
-    if step < GIVE_NAME {
-        return (step - 1) % COMPARISON_ROUNDS;
-    }
     if step == GIVE_HIGH {
         return HIGH;
     }
@@ -211,126 +214,198 @@ pub fn part_at(step: u64) -> u64
     REPLY
 }
 
-// The value that it is a half of.
-pub fn value_at(step: u64, value: u64) -> u64
+fn writing_at(step: u64, value: u64) -> Writing
     requires { ⌜ step ≤ lastStep ⌝ }
-    ensures { λ r. ⌜ r ≡ valueAt (placeOf step) value ⌝ }
+    ensures { λ r. ⌜ WritesAt step value (r .part) (r .value) ⌝ }
 {
     if step == POLL {
-        return value;
+        return Writing { part: REPLY, value };
     }
-    if step < GIVE_NAME {
-        return tried_value((step - 1) / COMPARISON_ROUNDS, value);
-    }
-    value
-}
-
-// With the half that the round at its step writes.
-pub fn wrote(run: RunPosition) -> RunPosition
-    requires { ⌜ run .step ≤ lastStep ⌝ }
-    ensures { λ r. ⌜ Wrote (positionOf run) (positionOf r) ⌝ }
-{
-    let part = part_at(run.step);
-    let value = value_at(run.step, run.value);
-    if part == HIGH {
-        return RunPosition {
-            end: run.end,
-            index: run.index,
-            step: run.step,
-            value: run.value,
-            rounds: run.rounds,
-            comparisons: run.comparisons,
-            high: value / HALF,
-            low: run.low,
+    if GIVE_NAME <= step {
+        return Writing {
+            part: given_part(step),
+            value,
         };
     }
-    if part == LOW {
-        return RunPosition {
-            end: run.end,
-            index: run.index,
-            step: run.step,
-            value: run.value,
-            rounds: run.rounds,
-            comparisons: run.comparisons,
-            high: run.high,
-            low: value % HALF,
-        };
+    let asked = step - 1;
+    Writing {
+        part: asked % COMPARISON_ROUNDS,
+        value: tried_value(asked / COMPARISON_ROUNDS, value),
     }
-    run
 }
 
-// Whether the write at its step is needless: after the first comparison of a pass, a half that is the one last written.
-fn is_needless(run: RunPosition) -> bool
-    requires { ⌜ run .step ≤ lastStep ⌝ }
-    ensures { λ r. ⌜ NeedlessAt (positionOf run) r ⌝ }
+// How many needless writes follow one another from its step on: after the first comparison of a pass, a half that is the one last written.
+fn needless_writes(run: RunPosition, writing: Writing) -> u64
+    requires { ⌜ (run .step ≤ lastStep) × WritesAt (run .step) (run .value) (writing .part) (writing .value) ⌝ }
+    ensures { λ r. ⌜ NeedlessFrom (positionOf run) (writing .part) r ⌝ }
 {
     if run.step <= FIRST_REPLY {
-        return false;
+        return 0;
     }
-    let part = part_at(run.step);
-    let value = value_at(run.step, run.value);
-    if part == HIGH {
-        return value / HALF == run.high;
+    if writing.part == HIGH {
+        if writing.value / HALF != run.high {
+            return 0;
+        }
+        if writing.value % HALF != run.low {
+            return 1;
+        }
+        return 2;
     }
-    if part == LOW {
-        return value % HALF == run.low;
+    if writing.part != LOW {
+        return 0;
     }
-    false
+    if writing.value % HALF != run.low {
+        return 0;
+    }
+    1
 }
 
-// Past the write at its step, if that is needless.
-fn pass_over(run: RunPosition) -> RunPosition
-    requires { ⌜ run .step ≤ lastStep ⌝ }
-    ensures { λ r. ⌜ PassedOver (positionOf run) (positionOf r) ⌝ }
+// So many steps on.
+fn passed_over(run: RunPosition, steps: u64) -> RunPosition
+    requires { ⌜ run .step + steps ≤ lastStep ⌝ }
+    ensures { λ r. ⌜ positionOf r ≡ atStep (run .step + steps) (positionOf run) ⌝ }
 {
-    if is_needless(run) {
-        return RunPosition {
-            end: run.end,
-            index: run.index,
-            step: run.step + 1,
-            value: run.value,
-            rounds: run.rounds,
-            comparisons: run.comparisons,
-            high: run.high,
-            low: run.low,
-        };
+    RunPosition {
+        end: run.end,
+        index: run.index,
+        step: run.step + steps,
+        value: run.value,
+        rounds: run.rounds,
+        comparisons: run.comparisons,
+        high: run.high,
+        low: run.low,
     }
-    run
 }
 
-// At the next round really made: at most two writes of halves follow one another.
-pub fn settled(run: RunPosition) -> RunPosition
+// At the next round really made.
+fn settled(run: RunPosition) -> RunPosition
     requires { ⌜ run .step ≤ lastStep ⌝ }
     ensures { λ r. ⌜ Settled (positionOf run) (positionOf r) ⌝ }
 {
-    pass_over(pass_over(run))
+    let writing = writing_at(run.step, run.value);
+    let needless = needless_writes(run, writing);
+    passed_over(run, needless)
 }
 
-// After the replies to the comparison of a bit, by its number in the pass: a reply keeps the bit.
-fn compared(run: RunPosition, question: u64, answer: Reply) -> RunPosition
-    requires { ⌜ (1 ≤ question) × (question ≤ bits) × FitCounts (positionOf run) ⌝ }
-    ensures { λ r. ⌜ positionOf r ≡ moveOn (ask (questionOf question) reply) 0 (positionOf run) (heard answer) ⌝ }
+// A position at the next round really made, and what that round writes.
+pub struct Standing {
+    pub run: RunPosition,
+    pub writing: Writing,
+}
+
+pub fn standing_at(run: RunPosition) -> Standing
+    requires { ⌜ run .step ≤ lastStep ⌝ }
+    ensures { λ r. ⌜ Stands (positionOf run) (positionOf (r .run)) (r .writing .part) (r .writing .value) ⌝ }
+{
+    let writing = writing_at(run.step, run.value);
+    let needless = needless_writes(run, writing);
+    Standing {
+        run: passed_over(run, needless),
+        writing: Writing {
+            part: writing.part + needless,
+            value: writing.value,
+        },
+    }
+}
+
+// With the half that its round wrote.
+fn wrote(at: Standing) -> RunPosition
+    requires { ⌜ WritesAt (at .run .step) (at .run .value) (at .writing .part) (at .writing .value) ⌝ }
+    ensures { λ r. ⌜ Wrote (positionOf (at .run)) (positionOf r) ⌝ }
+{
+    let run = at.run;
+    if at.writing.part == HIGH {
+        return RunPosition {
+            end: run.end,
+            index: run.index,
+            step: run.step,
+            value: run.value,
+            rounds: run.rounds,
+            comparisons: run.comparisons,
+            high: at.writing.value / HALF,
+            low: run.low,
+        };
+    }
+    if at.writing.part == LOW {
+        return RunPosition {
+            end: run.end,
+            index: run.index,
+            step: run.step,
+            value: run.value,
+            rounds: run.rounds,
+            comparisons: run.comparisons,
+            high: run.high,
+            low: at.writing.value % HALF,
+        };
+    }
+    run
+}
+
+// After a round that writes a half, at the next round really made: the next step is about the same value.
+fn written(at: Standing) -> RunPosition
+    requires { ⌜ FitCounts (positionOf (at .run)) × WritesAt (at .run .step) (at .run .value) (at .writing .part) (at .writing .value) × (at .writing .part < 2) ⌝ }
+    ensures { λ r. ⌜ Writes (positionOf (at .run)) (positionOf r) ⌝ }
+{
+    let run = wrote(at);
+    let next = go_on(run, run.value, 0);
+    let writing = Writing {
+        part: at.writing.part + 1,
+        value: at.writing.value,
+    };
+    let needless = needless_writes(next, writing);
+    passed_over(next, needless)
+}
+
+// After the poll: a name that is taken ends its pass.
+fn polled(run: RunPosition, count: u64, answer: Reply) -> RunPosition
+    requires { ⌜ GoesOn count (positionOf run) ⌝ }
+    ensures { λ r. ⌜ positionOf r ≡ moveOn poll count (positionOf run) (heard answer) ⌝ }
 {
     let Reply::Heard = answer else {
-        return go_on(run, run.value, 1);
+        return go_on(run, run.value, 0);
     };
-    go_on(run, tried_value(question, run.value), 1)
+    next_name(run, count)
 }
 
-// The position after the round of a running one, by its answer, at a place where no answer ends the pass or the run.
-pub fn moved(run: RunPosition, count: u64, answer: Reply) -> RunPosition
-    requires { ⌜ GoesOn count (positionOf run) × (run .step ≡ 0 → ⊥) × (run .step ≡ comparisonRounds → ⊥) ⌝ }
-    ensures { λ r. ⌜ positionOf r ≡ moveOn (placeOf (run .step)) count (positionOf run) (heard answer) ⌝ }
+// After the execute of a comparison with a value: a reply keeps the value, silence at the first one ends the run.
+fn compared(run: RunPosition, value: u64, answer: Reply) -> RunPosition
+    requires { ⌜ FitCounts (positionOf run) × Asks (run .step) (run .value) value ⌝ }
+    ensures { λ r. ⌜ ((count : ℕ) → positionOf r ≡ moveOn (placeOf (run .step)) count (positionOf run) (heard answer)) ⌝ }
 {
+    let Reply::Silence = answer else {
+        return go_on(run, value, 1);
+    };
+    if run.step == FIRST_REPLY {
+        return all_named(run);
+    }
+    go_on(run, run.value, 1)
+}
+
+// After a round that writes no half, by the answer.
+fn moved(at: Standing, count: u64, answer: Reply) -> RunPosition
+    requires { ⌜ GoesOn count (positionOf (at .run)) × WritesAt (at .run .step) (at .run .value) (at .writing .part) (at .writing .value) × (2 ≤ at .writing .part) ⌝ }
+    ensures { λ r. ⌜ positionOf r ≡ moveOn (placeOf (at .run .step)) count (positionOf (at .run)) (heard answer) ⌝ }
+{
+    let run = at.run;
+    if run.step == POLL {
+        return polled(run, count, answer);
+    }
+    if run.step < GIVE_NAME {
+        return compared(run, at.writing.value, answer);
+    }
     if run.step == LAST_STEP {
         return next_name(run, count);
     }
-    if GIVE_NAME <= run.step {
-        return go_on(run, run.value, 0);
+    go_on(run, run.value, 0)
+}
+
+// From its round really made to the next one, by the answer.
+pub fn advanced(at: Standing, count: u64, answer: Reply) -> RunPosition
+    requires { ⌜ GoesOn count (positionOf (at .run)) × WritesAt (at .run .step) (at .run .value) (at .writing .part) (at .writing .value) ⌝ }
+    ensures { λ r. ⌜ Advances count (positionOf (at .run)) (heard answer) (positionOf r) ⌝ }
+{
+    if at.writing.part < REPLY {
+        return written(at);
     }
-    let asked = run.step - 1;
-    if asked % COMPARISON_ROUNDS != REPLY {
-        return go_on(run, run.value, 0);
-    }
-    compared(run, asked / COMPARISON_ROUNDS, answer)
+    settled(moved(at, count, answer))
 }

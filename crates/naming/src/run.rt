@@ -2,25 +2,19 @@
 ghost use mathlib.Core.Path.{_≡_};
 ghost use Prim.Native.Nat.{_<_};
 ghost use Rattle.file.specs.Rules.Order.{firstOf};
+ghost use Rattle.file.specs.Rules.Results.{done};
 ghost use Rattle.file.specs.Inner.Accepted.{Placed};
 ghost use Rattle.naming.specs.Rules.Run.{startOver, runGrounds};
-ghost use Rattle.naming.specs.Rules.Step.{stepMade, stepOn};
+ghost use Rattle.naming.specs.Rules.Step.{made, stepMade, stepOn};
 ghost use Rattle.naming.specs.Inner.Answers.{positionOf, startedOf, steppedOf, runAfter, StepGoes};
 use crate::names::names_ground;
-use crate::position::FIRST_REPLY;
-use crate::position::POLL;
 use crate::position::RUNNING;
-use crate::position::Reply;
 use crate::position::RunPosition;
-use crate::position::all_named;
+use crate::position::advanced;
 use crate::position::count_raised;
 use crate::position::first_position;
-use crate::position::go_on;
 use crate::position::is_unfit;
-use crate::position::moved;
-use crate::position::next_name;
-use crate::position::settled;
-use crate::position::wrote;
+use crate::position::standing_at;
 use crate::sending::poll_round;
 use crate::sending::reply_in;
 use crate::sending::round_at;
@@ -70,6 +64,12 @@ pub fn run_ground(names: &[u8], run: RunPosition) -> u8
     0
 }
 
+// A step that made its round: the mask of its data frame, and the run.
+pub struct MadeStep {
+    pub senders: u64,
+    pub run: RunPosition,
+}
+
 // The extra read that a run begins with, at its first name: its reply is ignored, and only the count of rounds changes.
 fn extra_step(
     file: &mut [u8],
@@ -77,54 +77,35 @@ fn extra_step(
     run: RunPosition,
     names: &[u8],
     answer: &mut [u8],
-) -> Stepped
+) -> MadeStep
     requires { ⌜ Placed (now file) (now places) × StepGoes (now names) (positionOf run) (now answer) × (run .rounds ≡ 0) ⌝ }
-    ensures { λ r. ⌜ (steppedOf r, runAfter (positionOf run) r, now (answer .exit), now (file .exit)) ≡ stepMade (now (file .entry)) (positionOf run) (now (names .entry)) (now (answer .entry)) ⌝ }
+    ensures { λ r. ⌜ (done (made (r .senders)), positionOf (r .run), now (answer .exit), now (file .exit)) ≡ stepMade (now (file .entry)) (positionOf run) (now (names .entry)) (now (answer .entry)) ⌝ }
 {
     let first = LogicalName::new(names[0]);
     let next = poll_round(first);
     let senders = send(file, places, next, answer);
     let run = count_raised(run);
-    Stepped::Made { senders, run }
+    MadeStep { senders, run }
 }
 
-// A step that makes a round of its pass. A name that is taken ends its pass, silence at the comparison with 0 the run.
+// A step that makes a round of its pass.
 fn pass_step(
     file: &mut [u8],
     places: &SlavePlaces,
     run: RunPosition,
     names: &[u8],
     answer: &mut [u8],
-) -> Stepped
+) -> MadeStep
     requires { ⌜ Placed (now file) (now places) × StepGoes (now names) (positionOf run) (now answer) × (0 < run .rounds) ⌝ }
-    ensures { λ r. ⌜ (steppedOf r, runAfter (positionOf run) r, now (answer .exit), now (file .exit)) ≡ stepMade (now (file .entry)) (positionOf run) (now (names .entry)) (now (answer .entry)) ⌝ }
+    ensures { λ r. ⌜ (done (made (r .senders)), positionOf (r .run), now (answer .exit), now (file .exit)) ≡ stepMade (now (file .entry)) (positionOf run) (now (names .entry)) (now (answer .entry)) ⌝ }
 {
-    let run = settled(run);
-    let index = run.index as usize;
+    let at = standing_at(run);
+    let index = at.run.index as usize;
     let name = LogicalName::new(names[index]);
-    let next = round_at(run.step, name, run.value);
+    let next = round_at(at, name);
     let senders = send(file, places, next, answer);
-    let run = wrote(run);
-    let count = names.len() as u64;
-    let reply = reply_in(senders);
-    if run.step == POLL {
-        let Reply::Silence = reply else {
-            let run = next_name(run, count);
-            return Stepped::Made { senders, run };
-        };
-        let run = settled(go_on(run, run.value, 0));
-        return Stepped::Made { senders, run };
-    }
-    if run.step == FIRST_REPLY {
-        let Reply::Heard = reply else {
-            let run = all_named(run);
-            return Stepped::Made { senders, run };
-        };
-        let run = settled(go_on(run, 0, 1));
-        return Stepped::Made { senders, run };
-    }
-    let run = settled(moved(run, count, reply));
-    Stepped::Made { senders, run }
+    let run = advanced(at, names.len() as u64, reply_in(senders));
+    MadeStep { senders, run }
 }
 
 // A step of a running position, on an accepted file and with the places of its slaves: the extra read while it counts no round.
@@ -134,14 +115,41 @@ pub fn make_step(
     run: RunPosition,
     names: &[u8],
     answer: &mut [u8],
-) -> Stepped
+) -> MadeStep
     requires { ⌜ Placed (now file) (now places) × StepGoes (now names) (positionOf run) (now answer) ⌝ }
-    ensures { λ r. ⌜ (steppedOf r, runAfter (positionOf run) r, now (answer .exit), now (file .exit)) ≡ stepMade (now (file .entry)) (positionOf run) (now (names .entry)) (now (answer .entry)) ⌝ }
+    ensures { λ r. ⌜ (done (made (r .senders)), positionOf (r .run), now (answer .exit), now (file .exit)) ≡ stepMade (now (file .entry)) (positionOf run) (now (names .entry)) (now (answer .entry)) ⌝ }
 {
     if run.rounds == 0 {
         return extra_step(file, places, run, names, answer);
     }
     pass_step(file, places, run, names, answer)
+}
+
+// A step on an accepted file, with the places of its slaves.
+pub fn step_on(
+    file: &mut [u8],
+    places: &SlavePlaces,
+    run: RunPosition,
+    names: &[u8],
+    answer: &mut [u8],
+) -> Stepped
+    requires { ⌜ Placed (now file) (now places) ⌝ }
+    ensures { λ r. ⌜ (steppedOf r, runAfter (positionOf run) r, now (answer .exit), now (file .exit)) ≡ stepOn (now (file .entry)) (positionOf run) (now (names .entry)) (now (answer .entry)) ⌝ }
+{
+    if answer.len() < SLOTS {
+        return Stepped::Refused(Refusal::BUFFER);
+    }
+    let ground = run_ground(names, run);
+    if ground != 0 {
+        return Stepped::Refused(Refusal(ground));
+    }
+    if run.end != RUNNING {
+        return Stepped::Ended;
+    }
+    let made = make_step(file, places, run, names, answer);
+    let senders = made.senders;
+    let run = made.run;
+    Stepped::Made { senders, run }
 }
 
 // One step: the file is checked once, and its round is carried out on it.
@@ -153,15 +161,5 @@ pub fn step(file: &mut [u8], run: RunPosition, names: &[u8], answer: &mut [u8]) 
     if let FileAnswer::Refused(why) = verdict {
         return Stepped::Refused(why);
     }
-    if answer.len() < SLOTS {
-        return Stepped::Refused(Refusal::BUFFER);
-    }
-    let ground = run_ground(names, run);
-    if ground != 0 {
-        return Stepped::Refused(Refusal(ground));
-    }
-    if run.end != RUNNING {
-        return Stepped::Ended;
-    }
-    make_step(file, &places, run, names, answer)
+    step_on(file, &places, run, names, answer)
 }

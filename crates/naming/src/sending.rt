@@ -1,27 +1,25 @@
 // The round that a run sends next, and the reply to it.
 ghost use mathlib.Core.Path.{_≡_};
 ghost use mathlib.Core.List.{[], _∷_};
-ghost use Prim.Native.Nat.{_≤_, _<_, _/_, _%_};
+ghost use Prim.Native.Nat.{ℕ, _≤_, _<_, _/_, _%_};
 ghost use Rattle.file.specs.Rules.Bytes.{bytesOf};
 ghost use Rattle.file.specs.Rules.Layout.{recordSize};
 ghost use Rattle.file.specs.Rules.Results.{done};
 ghost use Rattle.file.specs.Rules.Cluster.{writeOperation, executeOperation};
 ghost use Rattle.file.specs.Inner.Typed.{recordIn, nameIn};
 ghost use Rattle.naming.specs.Rules.Rounds.{half, poll, writeHigh, writeLow, sent, atUnnamed};
-ghost use Rattle.naming.specs.Rules.Run.{placeOf, partOf, roundAt, giveStep, lastStep};
+ghost use Rattle.naming.specs.Rules.Run.{placeOf, reply, roundAt, lastStep};
 ghost use Rattle.naming.specs.Rules.Step.{isReply};
-ghost use Rattle.naming.specs.Inner.Answers.{heard, Sends, askedBy};
+ghost use Rattle.naming.specs.Inner.Answers.{heard, Sends, partAt, WritesAt};
 use crate::position::BYTE;
-use crate::position::COMPARISON_ROUNDS;
-use crate::position::GIVE_HIGH;
-use crate::position::GIVE_LOW;
 use crate::position::GIVE_NAME;
 use crate::position::HALF;
 use crate::position::HIGH;
+use crate::position::LAST_STEP;
 use crate::position::LOW;
 use crate::position::POLL;
 use crate::position::Reply;
-use crate::position::tried_value;
+use crate::position::Standing;
 use cluster::answer::FIRST_SLOT;
 use cluster::types::MasterSlaveRound;
 use file::types::FileNumber;
@@ -104,50 +102,35 @@ fn execute_round(record: RecordNumber) -> MasterSlaveRound
     }
 }
 
-// A round of a comparison, by its place in it and the value that is compared with.
-fn compare_round(part: u64, value: u64) -> MasterSlaveRound
-    ensures { λ r. ⌜ Sends r (sent (askedBy (partOf part) value)) ⌝ }
-{
-    if part == HIGH {
-        return high_round(value);
-    }
-    if part == LOW {
-        return low_round(value);
-    }
-    execute_round(RecordNumber::COMPARISON_HIGH)
-}
-
-// A round of the four that give a name.
-fn give_round(step: u64, name: LogicalName, value: u64) -> MasterSlaveRound
-    requires { ⌜ giveStep ≤ step ⌝ }
-    ensures { λ r. ⌜ Sends r (sent (roundAt (placeOf step) (nameIn name) value)) ⌝ }
-{
-    if step == GIVE_NAME {
-        return write_round(RecordNumber::NAMES, 0, 0, name.0, LogicalName::UNNAMED.0);
-    }
-    if step == GIVE_HIGH {
-        return high_round(value);
-    }
-    if step == GIVE_LOW {
-        return low_round(value);
-    }
-    execute_round(RecordNumber::NAMES)
-}
-
-// The round at a step of a pass, for a name and the value so far.
-pub fn round_at(step: u64, name: LogicalName, value: u64) -> MasterSlaveRound
-    requires { ⌜ step ≤ lastStep ⌝ }
-    ensures { λ r. ⌜ Sends r (sent (roundAt (placeOf step) (nameIn name) value)) ⌝ }
+// The round at a step of a pass that writes no half.
+fn other_round(step: u64, name: LogicalName) -> MasterSlaveRound
+    requires { ⌜ (step ≤ lastStep) × (partAt (placeOf step) ≡ reply) ⌝ }
+    ensures { λ r. ⌜ ((value : ℕ) → Sends r (sent (roundAt (placeOf step) (nameIn name) value))) ⌝ }
 {
     if step == POLL {
         return poll_round(name);
     }
-    if step < GIVE_NAME {
-        let asked = step - 1;
-        let tried = tried_value(asked / COMPARISON_ROUNDS, value);
-        return compare_round(asked % COMPARISON_ROUNDS, tried);
+    if step == GIVE_NAME {
+        return write_round(RecordNumber::NAMES, 0, 0, name.0, LogicalName::UNNAMED.0);
     }
-    give_round(step, name, value)
+    if step == LAST_STEP {
+        return execute_round(RecordNumber::NAMES);
+    }
+    execute_round(RecordNumber::COMPARISON_HIGH)
+}
+
+// The round at a position that stands there, for a name.
+pub fn round_at(at: Standing, name: LogicalName) -> MasterSlaveRound
+    requires { ⌜ (at .run .step ≤ lastStep) × WritesAt (at .run .step) (at .run .value) (at .writing .part) (at .writing .value) ⌝ }
+    ensures { λ r. ⌜ Sends r (sent (roundAt (placeOf (at .run .step)) (nameIn name) (at .run .value))) ⌝ }
+{
+    if at.writing.part == HIGH {
+        return high_round(at.writing.value);
+    }
+    if at.writing.part == LOW {
+        return low_round(at.writing.value);
+    }
+    other_round(at.run.step, name)
 }
 
 // Whether someone sent in slot 1.

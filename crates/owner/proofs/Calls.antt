@@ -79,11 +79,11 @@ module _ {ss : List Slave} {master : ℕ} {head rows : List ℕ} {size : ℕ} {c
   pub written-whole : head ++ take size rows ≡ ownerFile master ss
   unfolding ownerFile
   written-whole =
-      rw (h .begins, append-nil (indexBelow master ss rounds), rows-written h)
+      rw (h .begins, append-nil (indexBelow master ss rounds), rows-written (h .written))
       (append-assoc (replicate recordSize noOwner) (indexBelow master ss rounds) (rowsBelow master ss rounds))
 
   pub written-size : size ≡ length (take size rows)
-  written-size = h .long ∙ ap length (sym (rows-written h))
+  written-size = h .written .long ∙ ap length (sym (rows-written (h .written)))
 
   pub written-length : 12 + size ≡ length (ownerFile master ss)
   written-length =
@@ -95,11 +95,11 @@ module _ {ss : List Slave} {master : ℕ} {head rows : List ℕ} {size : ℕ} {c
 
   pub written-clash : clash ≡ twoSend ss
   unfolding twoSend
-  written-clash = h .twice
+  written-clash = h .written .twice
 
   pub written-multiplexed : multiplexed ≡ multiplexedSend ss
   unfolding multiplexedSend
-  written-multiplexed = h .multiplexes
+  written-multiplexed = h .written .multiplexes
 
 -- ---- the ways of the call, by the answer of the survey
 

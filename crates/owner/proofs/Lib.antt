@@ -3,9 +3,10 @@
 
 -- owner files computed from the rules
 pub mod Examples
--- masks bit by bit; an entry's slots as masks
+-- masks bit by bit; what an entry adds to a plan; the rounds that a slave has a file for
 pub mod MaskLaws
 pub mod EntryMasks
+pub mod HeldLaws
 -- one slave entry by entry; a round slave by slave; the rows round by round
 pub mod SlavePlan
 pub mod RoundLaws

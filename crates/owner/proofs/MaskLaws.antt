@@ -5,15 +5,16 @@ use native.Mathlib.Omega.{arith}
 use native.Mathlib.Nat.{pow-suc, mod-lt, mod-eq-of-lt}
 use mathlib.Core.Path.{_≡_, refl, sym, ap, _∙_}
 use mathlib.Core.Bool.{Bool, true, false, not, _||_}
-use lib.Bits.{bitAnd, bitOr, bitXor, differ, and-step, or-step, xor-step, and-shr, or-shr, xor-shr}
-use lib.Pow.{pow-pos, pow-mono, shl-exact, shr-shr, shr-lt, high, split, field, mod-mod-pow}
+use lib.Bits.{bitAnd, bitOr, bitXor, differ, and-step, or-step, xor-step, and-shr, or-shr, xor-shr, and-self}
+use lib.Count.{leadingZeros, leading-top, trailingZeros}
+use lib.Pow.{pow-pos, pow-mono, shl-exact, shr-shr, shr-lt, high, split, field, mod-mod-pow, high-ones}
 use lib.Dec.{eqb, leb, ltb}
-use borrow.Author.Tests.{lt-ltb, ne-eqb, eqb-true, eqb-false, leb-true, leb-false, ltb-true, ltb-false}
+use borrow.Author.Tests.{lt-ltb, eq-eqb, ne-eqb, eqb-true, eqb-false, leb-true, leb-false, ltb-true, ltb-false}
 use Rattle.file.specs.Rules.Order.{both, either}
-use Rattle.file.proofs.Order.{byCase, both-true, both-false-left, both-false-right}
+use Rattle.file.proofs.Order.{byCase, both-true, both-false-left, both-false-right, both-next}
 use Rattle.cluster.specs.Rules.Bus.{slots}
 use Rattle.owner.specs.Rules.Plan.{someBelow}
-use Rattle.owner.specs.Inner.Masks.{isSet, Marks, between, LastIs}
+use Rattle.owner.specs.Inner.Masks.{isSet, Marks, between, longestEntry, LastIs}
 
 -- ---- truth values
 
@@ -194,24 +195,8 @@ one-shifted k l = shl-exact 1 k 64 (omega arith) (omega arith) ∙ single (2 ^ k
     single : (p : ℕ) → 1 * p ≡ p
     single p = omega arith
 
-module _ {first end : ℕ} (low : first < slots) where
-  pub run-cut : slots ≤ end → Marks (0xFFFFFFFFFFFFFFFF - ((1 * 2 ^ first) % 2 ^ 64 - 1)) (between first end)
-  unfolding between
-  run-cut over =
-      let whole : 0xFFFFFFFFFFFFFFFF - (2 ^ first - 1) ≡ 2 ^ 64 - 2 ^ first = omega (arith, pow-pos first) in
-      record {
-        each = λ slot l.
-            rw (one-shifted first low, whole)
-            (run-bit first 64 slot (omega arith) ∙ ap (both (leb first slot)) (lt-ltb slot 64 l ∙ sym (lt-ltb slot end (omega arith))));
-      }
-
-  pub run-whole : first ≤ end → end < slots → Marks ((1 * 2 ^ end) % 2 ^ 64 - (1 * 2 ^ first) % 2 ^ 64) (between first end)
-  run-whole rises inside =
-      record { each = λ slot l. rw (one-shifted first low, one-shifted end inside) (run-bit first end slot rises) }
-
--- ---- whether a mask has a slot
-
-low-bit : (n m slot : ℕ) → slot < n → isSet (m % 2 ^ n) slot ≡ isSet m slot
+-- a bit of a number is one of its low ones
+pub low-bit : (n m slot : ℕ) → slot < n → isSet (m % 2 ^ n) slot ≡ isSet m slot
 unfolding isSet
 low-bit n m slot l =
     let up : n ≡ suc (n - slot - 1) + slot = omega arith in
@@ -222,6 +207,26 @@ low-bit n m slot l =
   where
     last-bit : (q k : ℕ) → q % 2 ^ suc k % 2 ≡ q % 2
     last-bit q k = let next : suc k ≡ k + 1 = omega arith in rw next (mod-mod-pow q k 1)
+
+pub run-from : {start long : ℕ} → start < slots → long ≤ longestEntry → Marks ((((1 * 2 ^ long) % 2 ^ 64 - 1) * 2 ^ start) % 2 ^ 64) (between start (start + long))
+run-from {start} {long} first few =
+    let end : long + start ≡ start + long = omega arith in
+    record {
+      each = λ slot l.
+          rw (one-shifted long (omega arith))
+          (low-bit 64 ((2 ^ long - 1) * 2 ^ start) slot l
+          ∙ (ap (λ (n : ℕ). isSet n slot) (sym (high-ones long start))
+          ∙ (run-bit start (long + start) slot (omega arith) ∙ ap (λ (n : ℕ). between start n slot) end)));
+    }
+
+-- one slot
+pub one-bit : (k slot : ℕ) → isSet (2 ^ k) slot ≡ between k (k + 1) slot
+one-bit k slot =
+    let next : k + 1 ≡ suc k = omega arith in
+    let whole : 2 ^ (k + 1) - 2 ^ k ≡ 2 ^ k = rw (next, pow-suc 2 k) (omega arith) in
+    ap (λ (n : ℕ). isSet n slot) (sym whole) ∙ run-bit k (k + 1) slot (omega arith)
+
+-- ---- whether a mask has a slot
 
 some-low : (m n k : ℕ) → k ≤ n → someBelow (isSet (m % 2 ^ n)) k ≡ someBelow (isSet m) k
 unfolding someBelow
@@ -256,58 +261,108 @@ some-set (suc n) m l =
         (λ z. rw z (let none : m ≡ 0 = eqb-true m 0 z in rw none (small-none 0 n (pow-pos n))))
         (λ z. rw (z, top (eqb-false m 0 z) e))
 
--- ---- a mask shifted down
-
-pub shifted-few : (mask slot : ℕ) → mask < 2 ^ 64 → (mask / 2 ^ slot ≡ 0 → ⊥) → slot < slots
-shifted-few mask slot small some =
-    byCase (ltb slot slots) (λ e. ltb-true slot slots e) (λ e. absurd (some (div-small mask slot (omega (arith, pow-mono (ltb-false slot slots e))))))
-
-pub shifted-none : (mask slot later : ℕ) → slot ≤ later → mask / 2 ^ slot ≡ 0 → isSet mask later ≡ false
-unfolding isSet
-shifted-none mask slot later l none =
-    let up : later ≡ slot + (later - slot) = omega arith in
-    let nought : mask / 2 ^ later ≡ 0 =
-    ap (λ (n : ℕ). mask / 2 ^ n) up ∙ (sym (shr-shr mask slot (later - slot)) ∙ (ap (λ (n : ℕ). n / 2 ^ (later - slot)) none ∙ div-small 0 (later - slot) (pow-pos (later - slot))))
-    in
-    rw nought
-
 -- ---- the last slot
 
-pub record Halving (mask rest last : ℕ) : Type 0 where
-  pub is : rest ≡ mask / 2 ^ last
-  pub some : 0 < last → 1 ≤ rest
+pub last-none : {mask : ℕ} → mask ≡ 0 → LastIs mask 0
+last-none e = rw e (record { few = omega arith; here = λ l. absurd (omega arith); above = λ slot l m. set-none slot })
 
-pub halving-start : (mask : ℕ) → Halving mask mask 0
-halving-start mask = record { is = omega arith; some = λ l. absurd (omega arith) }
+pub last-few : (mask : ℕ) → (mask ≡ 0 → ⊥) → mask < 2 ^ 64 → leadingZeros 64 mask ≤ 63
+last-few mask some small = let top = leading-top 64 mask (omega arith) small in omega (arith, top .1)
 
-half-shift : (mask last : ℕ) → mask / 2 ^ last / 2 ≡ mask / 2 ^ (last + 1)
-half-shift mask last = shr-shr mask last 1
+pub last-top : (mask : ℕ) → (mask ≡ 0 → ⊥) → mask < 2 ^ 64 → LastIs mask (63 - leadingZeros 64 mask)
+last-top mask some small =
+    let top = leading-top 64 mask (omega arith) small in
+    let is : 63 - leadingZeros 64 mask ≡ top .0 = omega (arith, top .1) in
+    rw is
+    (record {
+      few = omega (arith, top .1);
+      here = λ l. unfold isSet in ap (λ (n : ℕ). eqb (n % 2) 1) (highest (top .0) (top .2) (top .3));
+      above = λ slot l m. small-none mask slot (omega (arith, top .3, pow-mono l));
+    })
+  where
+    highest : (j : ℕ) → 2 ^ j ≤ mask → mask < 2 ^ suc j → mask / 2 ^ j ≡ 1
+    highest j least most =
+        let below : mask - 2 ^ j < 2 ^ j = rest (rw (pow-suc 2 j) at most) in
+        let parts : mask ≡ 1 * 2 ^ j + (mask - 2 ^ j) = omega arith in
+        ap (λ (n : ℕ). n / 2 ^ j) parts ∙ high 1 j below
+      where
+        rest : mask < 2 ^ j * 2 → mask - 2 ^ j < 2 ^ j
+        rest l = omega arith
 
-module _ {mask rest last : ℕ} (h : Halving mask rest last) where
-  pub halving-next : 1 < rest → Halving mask (rest / 2) (last + 1)
-  halving-next more = record { is = ap (λ (n : ℕ). n / 2) (h .is) ∙ half-shift mask last; some = λ l. omega arith }
+-- ---- the first slot, and the mask without it
 
-  pub halving-few : mask < 2 ^ 64 → 1 ≤ rest → last < slots
-  halving-few small some = shifted-few mask last small (λ e. omega (arith, h .is, e))
+and-half : (a b : ℕ) → bitAnd a b / 2 ≡ bitAnd (a / 2) (b / 2)
+and-half a b = and-shr a b 1
 
-  pub halving-done : mask < 2 ^ 64 → rest ≤ 1 → LastIs mask last
-  unfolding isSet
-  halving-done small over =
-      record {
-        few = byCase (eqb last 0) (λ e. omega (arith, eqb-true last 0 e)) (λ e. halving-few small (h .some (positive (eqb-false last 0 e))));
-        here = λ l.
-            let one : mask / 2 ^ last ≡ 1 = sym (h .is) ∙ only (h .some l) in rw one;
-        above = λ slot l m. rw (later slot l);
-      }
-    where
-      positive : (last ≡ 0 → ⊥) → 0 < last
-      positive other = omega arith
+and-last : (a b : ℕ) → bitAnd a b % 2 ≡ min (a % 2) (b % 2)
+and-last a b =
+    ap (λ (n : ℕ). n % 2) (and-step a b) ∙ digit (bitAnd (a / 2) (b / 2)) (min-small (a % 2) (b % 2) (last-digit a) (last-digit b))
 
-      only : 1 ≤ rest → rest ≡ 1
-      only some = omega arith
+min-none : (n : ℕ) → min 0 n ≡ 0
+min-none n = omega arith
 
-      later : (slot : ℕ) → last < slot → mask / 2 ^ slot ≡ 0
-      later slot l =
-          let up : slot ≡ last + (slot - last) = omega arith in
-          let small : rest < 2 ^ (slot - last) = omega (arith, pow-two (slot - last) (omega arith)) in
-          ap (λ (n : ℕ). mask / 2 ^ n) up ∙ (sym (shr-shr mask last (slot - last)) ∙ (ap (λ (n : ℕ). n / 2 ^ (slot - last)) (sym (h .is)) ∙ div-small rest (slot - last) small))
+first-bit : (n : ℕ) → isSet n 0 ≡ eqb (n % 2) 1
+unfolding isSet
+first-bit n = let whole : n / 1 ≡ n = omega arith in rw whole
+
+-- t is the first slot of a mask
+pub record FirstIs (mask t : ℕ) : Type 0 where
+  pub here : isSet mask t ≡ true
+  pub others : (slot : ℕ) → isSet (bitAnd mask (mask - 1)) slot ≡ both (not (eqb slot t)) (isSet mask slot)
+
+first-odd : (a : ℕ) → a % 2 ≡ 1 → FirstIs a 0
+first-odd a odd = record { here = first-bit a ∙ ap (λ (n : ℕ). eqb n 1) odd; others = each }
+  where
+    before : (a - 1) / 2 ≡ a / 2
+    before = omega arith
+
+    even : (a - 1) % 2 ≡ 0
+    even = omega arith
+
+    each : (slot : ℕ) → isSet (bitAnd a (a - 1)) slot ≡ both (not (eqb slot 0)) (isSet a slot)
+    each zero = first-bit (bitAnd a (a - 1)) ∙ (rw (and-last a (a - 1), odd, even) (unfold both in refl))
+    each (suc slot) =
+        half-bit (bitAnd a (a - 1)) slot
+        ∙ (ap (λ (n : ℕ). isSet n slot) (and-half a (a - 1) ∙ (ap (bitAnd (a / 2)) before ∙ and-self (a / 2)))
+        ∙ (sym (half-bit a slot) ∙ sym (both-next _ (ap not (ne-eqb (suc slot) 0 (λ e. omega (arith, e)))))))
+
+same-next : (a b : ℕ) → eqb (suc a) (suc b) ≡ eqb a b
+same-next a b =
+    byCase (eqb a b)
+    (λ e. eq-eqb (suc a) (suc b) (ap suc (eqb-true a b e)) ∙ sym e)
+    (λ e. ne-eqb (suc a) (suc b) (λ q. eqb-false a b e (omega (arith, q))) ∙ sym e)
+
+first-even : (a t : ℕ) → 0 < a → a % 2 ≡ 0 → FirstIs (a / 2) t → FirstIs a (suc t)
+first-even a t some even rest = record { here = half-bit a t ∙ rest .here; others = each }
+  where
+    before : (a - 1) / 2 ≡ a / 2 - 1
+    before = omega arith
+
+    each : (slot : ℕ) → isSet (bitAnd a (a - 1)) slot ≡ both (not (eqb slot (suc t))) (isSet a slot)
+    each zero =
+        first-bit (bitAnd a (a - 1))
+        ∙ (rw (and-last a (a - 1), even, min-none ((a - 1) % 2)) (sym (both-false-right (not (eqb 0 (suc t))) (first-bit a ∙ ap (λ (n : ℕ). eqb n 1) even))))
+    each (suc slot) =
+        half-bit (bitAnd a (a - 1)) slot
+        ∙ (ap (λ (n : ℕ). isSet n slot) (and-half a (a - 1) ∙ ap (bitAnd (a / 2)) before)
+        ∙ (rest .others slot ∙ rw (same-next slot t) (ap (both (not (eqb slot t))) (sym (half-bit a slot)))))
+
+first-slot : (k a : ℕ) → 0 < a → a < 2 ^ k → FirstIs a (trailingZeros k a) × (trailingZeros k a < k)
+unfolding trailingZeros
+first-slot zero a some small = absurd (omega arith)
+first-slot (suc k) a some small =
+    byCase (eqb (a % 2) 1)
+    (λ e. let odd : a % 2 ≡ 1 = eqb-true (a % 2) 1 e in rw odd (first-odd a odd, omega arith))
+    (λ e.
+    let even : a % 2 ≡ 0 = other (eqb-false (a % 2) 1 e) in
+    let rest = first-slot k (a / 2) (omega (arith, even)) (half-lt k small) in
+    rw even (first-even a (trailingZeros k (a / 2)) some even (rest .0), omega (arith, rest .1)))
+  where
+    other : (a % 2 ≡ 1 → ⊥) → a % 2 ≡ 0
+    other none = omega arith
+
+    half-lt : (k : ℕ) → a < 2 ^ suc k → a / 2 < 2 ^ k
+    half-lt k l = let twice : a < 2 ^ k * 2 = rw (pow-suc 2 k) at l in omega arith
+
+pub first-of : (mask : ℕ) → (mask ≡ 0 → ⊥) → mask < 2 ^ 64 → FirstIs mask (trailingZeros 64 mask) × (trailingZeros 64 mask < 64)
+first-of mask some small = first-slot 64 mask (omega arith) small

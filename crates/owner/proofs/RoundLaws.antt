@@ -1,27 +1,31 @@
 -- A round's owners and masks, slave by slave.
 -- Assumes nothing.
-use Prim.Native.Nat.{ℕ, zero, suc, _+_, _≤_, _<_}
+use Prim.Native.Nat.{ℕ, zero, suc, _+_, _/_, _%_, _^_, _≤_, _<_}
 use native.Mathlib.Omega.{arith}
 use native.Mathlib.Numerals.{add-one}
-use mathlib.Core.Path.{_≡_, refl, sym, ap, _∙_}
+use mathlib.Core.Path.{_≡_, refl, sym, ap, _∙_, subst}
 use mathlib.Core.List.{List, [], _∷_, _++_}
 use mathlib.Core.Bool.{Bool, true, false, not, cond, _||_}
 use lib.ListN.{length, getD, set, take, replicate, length-set, length-replicate, getD-replicate}
 use lib.Seq.{getD-set-other, take-all}
 use lib.Dec.{eqb, leb}
 use borrow.Author.Tests.{ne-eqb, le-leb}
-use lib.Bits.{bitAnd, bitOr, bitXor}
+use lib.Bits.{bitAnd, bitOr, bitXor, and-zero-l, and-zero-r, or-zero-r}
 use Rattle.file.specs.Rules.Order.{both, either}
-use Rattle.file.specs.Rules.Cluster.{Slave, logicalName}
-use Rattle.file.specs.Inner.Places.{noSlave}
-use Rattle.file.proofs.Order.{byCase}
+use Rattle.file.specs.Rules.Cluster.{Slave, Cluster, bytesIn, lastRecord, logicalName}
+use Rattle.file.specs.Inner.Places.{noSlave, slaveOf}
+use Rattle.file.proofs.Order.{byCase, both-false-right}
 use Rattle.cluster.specs.Rules.Bus.{slots}
-use Rattle.cluster.specs.Rules.Entries.{Entry}
-use Rattle.owner.specs.Rules.Plan.{sendsIn, sendersAmong, sendersIn, someEntry, someEntryOf, isMultiplexedSend}
+use Rattle.cluster.specs.Rules.Slaves.{isUnnamed}
+use Rattle.cluster.specs.Rules.Entries.{Entry, actingFrom, acting}
+use Rattle.cluster.specs.Rules.Multipartner.{sendPlace, plansFrom}
+use Rattle.owner.specs.Rules.Plan.{rounds, isThere, sendsIn, sendersAmong, sendersIn, someEntryFrom, someEntry, someEntryOf, isMultiplexedSend}
 use Rattle.owner.specs.Rules.OwnerFile.{noOwner, nameOf, ownerOf}
 use Rattle.owner.specs.Inner.Masks.{isSet, Marks}
-use Rattle.owner.specs.Inner.Planned.{plannedIn, SlavePlanned, OwnerPut, someone, twoThere, RoundPlanned}
-use Rattle.owner.proofs.MaskLaws.{or-either, set-or, set-and, set-free, set-none}
+use Rattle.owner.specs.Inner.Held.{AllHold}
+use Rattle.owner.specs.declared.plan.RoundPlan.{RoundPlan}
+use Rattle.owner.specs.Inner.Planned.{plannedIn, SlavePlanned, OwnerPut, someone, twoThere, RoundPlanned, RoundPlanning, SlaveAdded}
+use Rattle.owner.proofs.MaskLaws.{or-either, either-false, set-or, set-and, set-free, set-none}
 
 -- ---- one slave more
 
@@ -82,12 +86,28 @@ some-one-more test round (s ∷ ss) zero l = byCase (someEntry test round s) (λ
 some-one-more test round (s ∷ ss) (suc n) l =
     byCase (someEntry test round s) (λ e. rw e) (λ e. rw e (some-one-more test round ss n (omega arith)))
 
--- ---- the loop
+-- ---- a slave without a file for the round
 
--- of the slaves before index n
-pub record RoundPlanning (ss : List Slave) (master round : ℕ) (row : List ℕ) (senders clashes : ℕ) (multiplexed : Bool) (n : ℕ) : Type 0 where
-  pub most : n ≤ length ss
-  pub planned : RoundPlanned (take n ss) master round row senders clashes multiplexed
+absent-plan : (round : ℕ) (s : Slave) → length (bytesIn s round) ≡ 0 → SlavePlanned round s 0 false
+absent-plan round s none =
+    record { slots = record { each = λ slot l. set-none slot ∙ sym (planned slot) }; multiplexes = sym sought }
+  where
+    no-record : lastRecord (bytesIn s round) ≡ 0
+    no-record = unfold lastRecord in rw none
+
+    planned : (slot : ℕ) → plannedIn round s slot ≡ false
+    planned zero = unfold plannedIn in refl
+    planned (suc slot) =
+        unfold plannedIn sendsIn plansFrom acting in
+        rw no-record (unfold actingFrom sendPlace in byCase (isUnnamed s) (λ t. rw t (unfold isThere in refl)) (λ t. rw t (unfold isThere in refl)))
+
+    sought : someEntry isMultiplexedSend round s ≡ false
+    sought = unfold someEntry in rw no-record (unfold someEntryFrom in both-false-right _ refl)
+
+put-none : (row : List ℕ) (free name : ℕ) → OwnerPut row row (bitAnd 0 free) name
+put-none row free name = record { room = refl; at = λ slot l. rw (and-zero-l free, set-none slot) }
+
+-- ---- the loop
 
 pub round-start : (ss : List Slave) (round : ℕ) (zeros : List ℕ) (master : ℕ) → zeros ≡ replicate slots noOwner
     → RoundPlanning ss (getD (set zeros 0 master) 0 0) round (set zeros 0 master) 0 0 false 0
@@ -177,5 +197,30 @@ module _ {ss : List Slave} {master round : ℕ} {row : List ℕ} {senders clashe
               };
         })
 
+  -- a slave without a file for the round adds nothing
+  pub round-skip : n < length ss → length (bytesIn (getD ss n noSlave) round) ≡ 0 → RoundPlanning ss master round row senders clashes multiplexed (n + 1)
+  round-skip more none =
+      let next = round-next {mask = 0} {found = false} more (absent-plan round (getD ss n noSlave) none) refl (put-none row (bitXor senders 0xFFFFFFFFFFFFFFFF) (logicalName (getD ss n noSlave))) in
+      rw (or-zero-r senders, and-zero-r senders, or-zero-r clashes, or-either multiplexed false, either-false multiplexed) at next
+
   pub round-done : {first : ℕ} → length ss ≤ n → first ≡ master → RoundPlanned ss first round row senders clashes multiplexed
   round-done over is = rw (is, ← take-all n ss over) (h .planned)
+
+-- the loop's turn, by the code's plan: the slave is added, or has no file for the round
+pub turn-added : {ss : List Slave} {master round : ℕ} {row row′ new : List ℕ} {plan r next : RoundPlan} {n : ℕ}
+    → RoundPlanning ss master round row (plan .senders) (plan .clashes) (plan .multiplexed) n
+    → SlaveAdded ss round n row (plan .senders) (plan .clashes) (plan .multiplexed) row′ (r .senders) (r .clashes) (r .multiplexed)
+    → new ≡ row′ → next ≡ r → RoundPlanning ss master round new (next .senders) (next .clashes) (next .multiplexed) (n + 1)
+turn-added {ss} {master} {round} {row′ = row′} {n = n} h added rows plans =
+    rw rows (subst (λ (p : RoundPlan). RoundPlanning ss master round row′ (p .senders) (p .clashes) (p .multiplexed) (n + 1)) (sym plans) (added .planned master h))
+
+pub turn-skipped : (c : Cluster) {master round : ℕ} {row new held : List ℕ} {plan next : RoundPlan} {n : ℕ}
+    → RoundPlanning (c .slaves) master round row (plan .senders) (plan .clashes) (plan .multiplexed) n
+    → AllHold c held → n < length (c .slaves) → round < rounds → (getD held n 0 / 2 ^ round % 2 ≡ 1 → ⊥)
+    → new ≡ row → next ≡ plan → RoundPlanning (c .slaves) master round new (next .senders) (next .clashes) (next .multiplexed) (n + 1)
+turn-skipped c {master} {round} {row} {held = held} {n = n} h all more few unset rows plans =
+    rw rows
+    (subst (λ (p : RoundPlan). RoundPlanning (c .slaves) master round row (p .senders) (p .clashes) (p .multiplexed) (n + 1)) (sym plans) (round-skip h more none))
+  where
+    none : length (bytesIn (getD (c .slaves) n noSlave) round) ≡ 0
+    none = unfold slaveOf isSet in all .each n more .none round few (ne-eqb (getD held n 0 / 2 ^ round % 2) 1 unset)

@@ -19,7 +19,7 @@ use Rattle.cluster.specs.Rules.Bus.{slots}
 use Rattle.owner.specs.Rules.Plan.{rounds, isOwned, sendersIn, someBelow, twoSendIn, someEntryOf, isMultiplexedSend}
 use Rattle.owner.specs.Rules.OwnerFile.{noOwner, nameOf, ownerOf, lastOwned, ownersBelow, ownersOf, padded, rowOf, rowsBelow, indexOf, indexBelow}
 use Rattle.owner.specs.Inner.Masks.{isSet, Marks, LastIs}
-use Rattle.owner.specs.Inner.Planned.{someone, twoThere, RoundPlanned, RowWritten, headRoom, rowsRoom, RoundsWritten}
+use Rattle.owner.specs.Inner.Planned.{someone, twoThere, RoundPlanned, RowWritten, headRoom, rowsRoom, indexByte, RowsWritten, RoundsWritten}
 use Rattle.owner.proofs.MaskLaws.{or-either, either-false, some-set}
 
 -- ---- the rounds that have a row
@@ -111,7 +111,8 @@ some-alike p q (suc n) same = rw (some-alike p q n (λ k l. same k (omega arith)
 row-size : (last : ℕ) → (last + 1) + (4 - (last + 1) % 4) % 4 ≡ 4 * (last / 4 + 1)
 row-size last = omega arith
 
-module _ {ss : List Slave} {master round : ℕ} {row : List ℕ} {senders clashes : ℕ} {multiplexed : Bool} (p : RoundPlanned ss master round row senders clashes multiplexed) {last : ℕ} (is : LastIs senders last) where
+module _ {ss : List Slave} {master round : ℕ} {row : List ℕ} {senders clashes : ℕ} {multiplexed : Bool} (p : RoundPlanned ss master round row senders clashes multiplexed)
+    {last : ℕ} (is : LastIs senders last) where
   ends-at : lastOwned round ss 63 ≡ last
   ends-at = last-owned round ss (p .sends) is 63 (omega (arith, is .few)) (omega arith)
 
@@ -204,7 +205,7 @@ pub rounds-start : (ss : List Slave) (master : ℕ) {head rows : List ℕ} → h
     → RoundsWritten ss master 0 head rows 0 false false
 unfolding rowsBelow indexBelow someBelow
 rounds-start ss master begins bytes =
-    record { few = omega arith; most = omega arith; long = refl; begins = begins; bytes = bytes; twice = refl; multiplexes = refl }
+    record { begins = begins; written = record { few = omega arith; most = omega arith; long = refl; bytes = bytes; twice = refl; multiplexes = refl } }
 
 pub index-length : (master : ℕ) (ss : List Slave) (n : ℕ) → length (indexBelow master ss n) ≡ n
 unfolding indexBelow
@@ -223,16 +224,12 @@ module _ (test : ℕ → Bool) (n : ℕ) where
   below-more : {a b : Bool} → isOwned n ≡ true → a ≡ owned-below n → b ≡ test n → (a || b) ≡ owned-below (suc n)
   below-more {a} {b} owned before here = or-either a b ∙ (unfold someBelow both in rw (owned, before, here))
 
-pub rows-written : {ss : List Slave} {master n : ℕ} {head rows : List ℕ} {size : ℕ} {clash multiplexed : Bool} → RoundsWritten ss master n head rows size clash multiplexed → take size rows ≡ rowsBelow master ss n
-rows-written {ss} {master} {n} {size = size} h =
-    ap (take size) (h .bytes) ∙ take-at (rowsBelow master ss n) (replicate (rowsRoom - size) noOwner) size (sym (h .long))
+-- ---- the rows
 
-module _ {ss : List Slave} {master n : ℕ} {head rows : List ℕ} {size : ℕ} {clash multiplexed : Bool} (h : RoundsWritten ss master n head rows size clash multiplexed) where
-  pub head-room : length head ≡ 12
-  head-room =
-      ap length (h .begins)
-      ∙ (length-append (replicate recordSize noOwner) (indexBelow master ss n ++ replicate (rounds - n) noOwner)
-      ∙ (rw (length-append (indexBelow master ss n) (replicate (rounds - n) noOwner), index-length master ss n, length-replicate (rounds - n) noOwner) (omega (arith, h .few))))
+module _ {ss : List Slave} {master n : ℕ} {rows : List ℕ} {size : ℕ} {clash multiplexed : Bool} (h : RowsWritten ss master n rows size clash multiplexed) where
+  pub rows-written : take size rows ≡ rowsBelow master ss n
+  rows-written =
+      ap (take size) (h .bytes) ∙ take-at (rowsBelow master ss n) (replicate (rowsRoom - size) noOwner) size (sym (h .long))
 
   pub rows-room : length rows ≡ 512
   rows-room =
@@ -241,34 +238,13 @@ module _ {ss : List Slave} {master n : ℕ} {head rows : List ℕ} {size : ℕ} 
       ∙ (rw (← h .long, length-replicate (rowsRoom - size) noOwner) (omega (arith, h .most, h .few))))
 
   module _ (more : n < rounds) where
-    one-less : rounds - n ≡ suc (rounds - suc n)
-    one-less = omega arith
-
-    -- the index byte stands after those of the rounds before
-    head-split : head ≡ (replicate recordSize noOwner ++ indexBelow master ss n) ++ (noOwner ∷ replicate (rounds - suc n) noOwner)
-    head-split =
-        h .begins
-        ∙ (ap (λ (k : ℕ). replicate recordSize noOwner ++ (indexBelow master ss n ++ replicate k noOwner)) one-less
-        ∙ sym (append-assoc (replicate recordSize noOwner) (indexBelow master ss n) (noOwner ∷ replicate (rounds - suc n) noOwner)))
-
-    head-length : length (replicate recordSize noOwner ++ indexBelow master ss n) ≡ 4 + n
-    head-length =
-        length-append (replicate recordSize noOwner) (indexBelow master ss n) ∙ (rw (index-length master ss n))
-
-    head-joined : (b : ℕ) → (replicate recordSize noOwner ++ indexBelow master ss n) ++ (b ∷ replicate (rounds - suc n) noOwner)
-        ≡ replicate recordSize noOwner ++ ((indexBelow master ss n ++ (b ∷ [])) ++ replicate (rounds - suc n) noOwner)
-    head-joined b =
-        append-assoc (replicate recordSize noOwner) (indexBelow master ss n) (b ∷ replicate (rounds - suc n) noOwner)
-        ∙ ap (λ (x : List ℕ). replicate recordSize noOwner ++ x) (sym (append-assoc (indexBelow master ss n) (b ∷ []) (replicate (rounds - suc n) noOwner)))
-
-    pub rounds-skip : {t : Bool} → t ≡ isOwned n → not t ≡ true → RoundsWritten ss master (n + 1) head rows size clash multiplexed
-    rounds-skip {t} is skips =
+    pub rows-skip : {t : Bool} → t ≡ isOwned n → not t ≡ true → RowsWritten ss master (n + 1) rows size clash multiplexed
+    rows-skip {t} is skips =
         rw add-one
         (record {
           few = more;
           most = omega (arith, h .most);
           long = h .long ∙ ap length (sym same);
-          begins = head-split ∙ (head-joined noOwner ∙ ap (λ (x : List ℕ). replicate recordSize noOwner ++ (x ++ replicate (rounds - suc n) noOwner)) index);
           bytes = h .bytes ∙ ap (λ (x : List ℕ). x ++ replicate (rowsRoom - size) noOwner) (sym same);
           twice = h .twice ∙ below-skip (λ (round : ℕ). twoSendIn round ss) n out;
           multiplexes = h .multiplexes ∙ below-skip (λ (round : ℕ). someEntryOf isMultiplexedSend round ss) n out;
@@ -279,9 +255,6 @@ module _ {ss : List Slave} {master n : ℕ} {head rows : List ℕ} {size : ℕ} 
 
         same : rowsBelow master ss (suc n) ≡ rowsBelow master ss n
         same = unfold rowsBelow rowOf in rw out (append-nil (rowsBelow master ss n))
-
-        index : indexBelow master ss n ++ (noOwner ∷ []) ≡ indexBelow master ss (suc n)
-        index = unfold indexBelow indexOf in rw out
 
     -- the row's place is all zeros
     zeros-there : drop size rows ≡ replicate (64 + (448 - size)) noOwner
@@ -308,7 +281,7 @@ module _ {ss : List Slave} {master n : ℕ} {head rows : List ℕ} {size : ℕ} 
 
       rows-next : putMid size ((size + 64) - size) rows row ≡ rowsBelow master ss (suc n) ++ replicate (rowsRoom - (size + size₁)) noOwner
       rows-next =
-          rw (rows-written h, sixty, zeros-there, zeros-drop 64 (448 - size) noOwner, w .bytes)
+          rw (rows-written, sixty, zeros-there, zeros-drop 64 (448 - size) noOwner, w .bytes)
           (ap (λ (x : List ℕ). rowsBelow master ss n ++ x)
           (append-assoc (padded (ownersOf master n ss)) (replicate (slots - size₁) noOwner) (replicate (448 - size) noOwner)
           ∙ ap (λ (x : List ℕ). padded (ownersOf master n ss) ++ x) (replicate-append-replicate (slots - size₁) (448 - size) noOwner ∙ ap (λ (k : ℕ). replicate k noOwner) rest))
@@ -321,17 +294,13 @@ module _ {ss : List Slave} {master n : ℕ} {head rows : List ℕ} {size : ℕ} 
           joined : rowsBelow master ss n ++ padded (ownersOf master n ss) ≡ rowsBelow master ss (suc n)
           joined = unfold rowsBelow in ap (λ (x : List ℕ). rowsBelow master ss n ++ x) (sym row-there)
 
-      pub rounds-row : RoundsWritten ss master (n + 1) (set head (4 + n) (3 + size / 4)) (putMid size ((size + 64) - size) rows row) (size + size₁) (clash || clash₁) (multiplexed || multiplexed₁)
-      rounds-row =
+      pub rows-row : RowsWritten ss master (n + 1) (putMid size ((size + 64) - size) rows row) (size + size₁) (clash || clash₁) (multiplexed || multiplexed₁)
+      rows-row =
           rw add-one
           (record {
             few = more;
             most = omega (arith, h .most, w .most);
             long = longer;
-            begins =
-                ap (λ (x : List ℕ). set x (4 + n) (3 + size / 4)) head-split
-                ∙ (set-at (replicate recordSize noOwner ++ indexBelow master ss n) noOwner (replicate (rounds - suc n) noOwner) (3 + size / 4) (4 + n) head-length
-                ∙ (head-joined (3 + size / 4) ∙ ap (λ (x : List ℕ). replicate recordSize noOwner ++ (x ++ replicate (rounds - suc n) noOwner)) index));
             bytes = rows-next;
             twice = below-more (λ (round : ℕ). twoSendIn round ss) n owned (h .twice) (w .twice);
             multiplexes = below-more (λ (round : ℕ). someEntryOf isMultiplexedSend round ss) n owned (h .multiplexes) (w .multiplexes);
@@ -340,10 +309,60 @@ module _ {ss : List Slave} {master n : ℕ} {head rows : List ℕ} {size : ℕ} 
           longer : size + size₁ ≡ length (rowsBelow master ss (suc n))
           longer = unfold rowsBelow in sym (length-append (rowsBelow master ss n) (rowOf master ss n) ∙ rw (row-there, ← h .long, ← w .long))
 
-          index : indexBelow master ss n ++ ((3 + size / 4) ∷ []) ≡ indexBelow master ss (suc n)
-          index = unfold indexBelow indexOf in rw (owned, h .long)
+-- ---- the index
+
+pub index-none : (round size : ℕ) {t : Bool} → t ≡ isOwned round → not t ≡ true → 0 ≡ indexByte round size
+unfolding indexByte
+index-none round size {t} is skips = let out = sym is ∙ not-true t skips in rw out
+
+pub index-some : (round size : ℕ) {t : Bool} → t ≡ isOwned round → not t ≡ false → 3 + size / 4 ≡ indexByte round size
+unfolding indexByte
+index-some round size {t} is has = let owned = sym is ∙ not-false t has in rw owned
+
+module _ {ss : List Slave} {master n : ℕ} {head rows : List ℕ} {size : ℕ} {clash multiplexed : Bool} (h : RoundsWritten ss master n head rows size clash multiplexed) where
+  pub head-room : length head ≡ 12
+  head-room =
+      ap length (h .begins)
+      ∙ (length-append (replicate recordSize noOwner) (indexBelow master ss n ++ replicate (rounds - n) noOwner)
+      ∙ (rw (length-append (indexBelow master ss n) (replicate (rounds - n) noOwner), index-length master ss n, length-replicate (rounds - n) noOwner) (omega (arith, h .written .few))))
+
+  module _ (more : n < rounds) where
+    one-less : rounds - n ≡ suc (rounds - suc n)
+    one-less = omega arith
+
+    -- the index byte stands after those of the rounds before
+    head-split : head ≡ (replicate recordSize noOwner ++ indexBelow master ss n) ++ (noOwner ∷ replicate (rounds - suc n) noOwner)
+    head-split =
+        h .begins
+        ∙ (ap (λ (k : ℕ). replicate recordSize noOwner ++ (indexBelow master ss n ++ replicate k noOwner)) one-less
+        ∙ sym (append-assoc (replicate recordSize noOwner) (indexBelow master ss n) (noOwner ∷ replicate (rounds - suc n) noOwner)))
+
+    head-length : length (replicate recordSize noOwner ++ indexBelow master ss n) ≡ 4 + n
+    head-length =
+        length-append (replicate recordSize noOwner) (indexBelow master ss n) ∙ (rw (index-length master ss n))
+
+    head-joined : (b : ℕ) → (replicate recordSize noOwner ++ indexBelow master ss n) ++ (b ∷ replicate (rounds - suc n) noOwner)
+        ≡ replicate recordSize noOwner ++ ((indexBelow master ss n ++ (b ∷ [])) ++ replicate (rounds - suc n) noOwner)
+    head-joined b =
+        append-assoc (replicate recordSize noOwner) (indexBelow master ss n) (b ∷ replicate (rounds - suc n) noOwner)
+        ∙ ap (λ (x : List ℕ). replicate recordSize noOwner ++ x) (sym (append-assoc (indexBelow master ss n) (b ∷ []) (replicate (rounds - suc n) noOwner)))
+
+    pub rounds-next : {b : ℕ} {new : List ℕ} {size′ : ℕ} {clash′ multiplexed′ : Bool} → b ≡ indexByte n size → RowsWritten ss master (n + 1) new size′ clash′ multiplexed′
+        → RoundsWritten ss master (n + 1) (set head (4 + n) b) new size′ clash′ multiplexed′
+    rounds-next {b} {new} {size′} {clash′} {multiplexed′} is rows =
+        record {
+          begins =
+              rw add-one
+              (ap (λ (x : List ℕ). set x (4 + n) b) head-split
+              ∙ (set-at (replicate recordSize noOwner ++ indexBelow master ss n) noOwner (replicate (rounds - suc n) noOwner) b (4 + n) head-length
+              ∙ (head-joined b ∙ ap (λ (x : List ℕ). replicate recordSize noOwner ++ (x ++ replicate (rounds - suc n) noOwner)) index)));
+          written = rows;
+        }
+      where
+        index : indexBelow master ss n ++ (b ∷ []) ≡ indexBelow master ss (suc n)
+        index = unfold indexBelow indexOf indexByte in rw (is, h .written .long)
 
 pub rounds-done : {ss : List Slave} {master n : ℕ} {head rows : List ℕ} {size : ℕ} {clash multiplexed : Bool} → RoundsWritten ss master n head rows size clash multiplexed → rounds ≤ n
     → RoundsWritten ss master rounds head rows size clash multiplexed
 rounds-done {ss} {master} {n} {head} {rows} {size} {clash} {multiplexed} h over =
-    let all : n ≡ rounds = omega (arith, h .few) in subst (λ (k : ℕ). RoundsWritten ss master k head rows size clash multiplexed) all h
+    let all : n ≡ rounds = omega (arith, h .written .few) in subst (λ (k : ℕ). RoundsWritten ss master k head rows size clash multiplexed) all h

@@ -1,36 +1,37 @@
 -- The slots in which one slave sends, entry by entry; and its name put into a row.
 -- Assumes nothing.
-use Prim.Native.Nat.{ℕ, zero, suc, _+_, _-_, _/_, _%_, _^_, _≤_, _<_}
+use Prim.Native.Nat.{ℕ, zero, suc, _+_, _-_, _/_, _^_, _≤_, _<_}
 use native.Mathlib.Omega.{arith}
-use mathlib.Core.Path.{_≡_, refl, sym, ap, _∙_}
+use mathlib.Core.Path.{_≡_, refl, sym, ap, _∙_, subst}
 use mathlib.Core.List.{List}
 use mathlib.Core.Bool.{Bool, true, false, not, cond, _||_}
 use lib.ListN.{length, getD, set, length-set}
 use lib.Seq.{getD-set-same, getD-set-other}
 use lib.Dec.{eqb, ltb}
-use lib.Bits.{bitOr, bitXor}
-use borrow.Author.Tests.{eq-eqb, ne-eqb, eqb-true, eqb-false, lt-ltb, le-ltb, ltb-true, ltb-false}
+use lib.Bits.{bitAnd, and-le-l}
+use borrow.Author.Tests.{eq-eqb, ne-eqb, eqb-true, eqb-false, ltb-true}
 use Rattle.file.specs.Rules.Order.{both, either}
 use Rattle.file.specs.Rules.Layout.{recordSize}
 use Rattle.file.specs.Rules.Cluster.{Slave, bytesIn}
 use Rattle.file.specs.Rules.Decode.{decode}
 use Rattle.file.specs.Inner.Places.{slaveOf}
-use Rattle.file.specs.Inner.Accepted.{AcceptedFile}
-use Rattle.file.proofs.Order.{byCase, both-false-left, both-false-right}
+use Rattle.file.specs.Inner.Accepted.{AcceptedFile, slaveCount}
+use Rattle.file.proofs.Order.{byCase, both-left, both-right, both-false-left, both-false-right}
 use Rattle.file.proofs.ReaderLaws.{length-limit}
 use Rattle.cluster.specs.Rules.Bus.{slots}
 use Rattle.cluster.specs.Rules.Slaves.{isUnnamed}
-use Rattle.cluster.specs.Rules.Entries.{Entry, entryThere, entryAt, isMultiplexed, ends, covers, sends, eligible, bytePlace, Acting, noEntry, acts, actingFrom}
+use Rattle.cluster.specs.Rules.Entries.{Entry, entryOf, entryThere, entryAt, isMultiplexed, ends, covers, sends, eligible, Acting, noEntry, acts, actingFrom}
 use Rattle.cluster.specs.Rules.Multipartner.{within, sendPlace}
-use Rattle.cluster.specs.Inner.EntryForm.{evaluated}
 use Rattle.cluster.specs.Inner.Slots.{PlannedFileIs, plannedEntries}
-use Rattle.cluster.proofs.EntryLaws.{sends-deaf, Blind, eligible-evaluated}
+use Rattle.cluster.proofs.EntryLaws.{sends-deaf}
 use Rattle.cluster.proofs.OpenLaws.{acting-end, acting-none, planned-few, RestOf, rest-start, rest-within, rest-next, rest-entry}
 use Rattle.cluster.proofs.SearchLaws.{planned-sends}
 use Rattle.owner.specs.Rules.Plan.{isMultiplexedReceive, isThere, sendsIn, someEntryFrom, someEntry, isMultiplexedSend}
 use Rattle.owner.specs.Inner.Masks.{isSet, Marks}
-use Rattle.owner.specs.Inner.Planned.{EntryPlanned, wouldSend, sendsFree, plannedIn, SlavePlanned, OwnerPut}
-use Rattle.owner.proofs.MaskLaws.{or-either, either-false, both-all, set-or, set-free, set-none, set-first, set-later, shifted-none, shifted-few}
+use Rattle.owner.specs.Inner.Entries.{isSingle, Kept, wouldSend, EntryOf, hiddenWith, sendsWith, EntryTaken}
+use Rattle.owner.specs.declared.entries.SlavePlan.{SlavePlan}
+use Rattle.owner.specs.Inner.Planned.{plannedIn, SlavePlanned, OwnerPut}
+use Rattle.owner.proofs.MaskLaws.{either-false, both-all, set-none, set-first, set-later, FirstIs}
 
 -- ---- the acting entry, by the slots that are covered
 
@@ -89,10 +90,6 @@ either-more false b c = refl
 
 -- ---- the entries that are passed over
 
-receive-blind : Blind isMultiplexedReceive
-unfolding isMultiplexedReceive evaluated
-receive-blind x = refl
-
 -- who sends is not passed over
 covered-sends : (x : Entry) (slot : ℕ) (inside : Bool)
     → both (covers x slot) (both (sends (x .operation)) inside) ≡ both (eligible isMultiplexedReceive x slot) (both (sends (x .operation)) inside)
@@ -104,11 +101,10 @@ covered-sends x slot inside =
     taken : sends (x .operation) ≡ true → eligible isMultiplexedReceive x slot ≡ covers x slot
     taken t = unfold eligible isMultiplexedReceive in rw (both-false-right (isMultiplexed (x .operation)) (sends-deaf (x .operation) t)) (both-all (covers x slot))
 
--- what an entry sends in a free slot, by an entry that would send alike
-free-sends : (s : Slave) (e x : Entry) (free slot : ℕ) {open′ : Bool} → wouldSend s e slot ≡ wouldSend s x slot → isSet free slot ≡ open′
-    → sendsFree s e free slot ≡ both (both (covers x slot) (both (sends (x .operation)) (within s x slot))) open′
-unfolding sendsFree wouldSend
-free-sends s e x free slot same is = rw (same, is)
+-- an operation below the ends is none
+low-goes : (n : ℕ) → n < 6 → ends n ≡ false
+unfolding ends either
+low-goes n l = rw (ne-eqb n 6 (λ e. omega (arith, e)), ne-eqb n 7 (λ e. omega (arith, e)))
 
 -- with the entries that are left from record k on: a slot is planned if it is so already, or no entry so far hides it and the one that
 -- acts among those that are left sends there; and there is a multiplexed send if one was found already, or is left
@@ -125,12 +121,20 @@ pub record Planning (f : List ℕ) (round s covered planned : ℕ) (multiplexed 
 
 pub planning-start : {f : List ℕ} {round s start end : ℕ} → AcceptedFile f → PlannedFileIs (decode f) round s start end → Planning f round s 1 0 false start end
 planning-start {f} {round} {s} h is =
-    record { becomes = h; k = 1; left = plannedEntries round (slaveOf (decode f) s); rest = rest-start (planned-few round (slaveOf (decode f) s)) is; same = first; sought = unfold either in some-runs isMultiplexedSend round (slaveOf (decode f) s) }
+    record {
+      becomes = h;
+      k = 1;
+      left = plannedEntries round (slaveOf (decode f) s);
+      rest = rest-start (planned-few round (slaveOf (decode f) s)) is;
+      same = first;
+      sought = unfold either in some-runs isMultiplexedSend round (slaveOf (decode f) s);
+    }
   where
     first : (slot : ℕ) → slot < slots
         → plannedIn round (slaveOf (decode f) s) slot
         ≡ either (isSet 0 slot)
-        (both (not (isSet 1 slot)) (isThere (sendPlace (slaveOf (decode f) s) slot (actingFrom isMultiplexedReceive (bytesIn (slaveOf (decode f) s) round) slot 1 (plannedEntries round (slaveOf (decode f) s))))))
+        (both (not (isSet 1 slot))
+        (isThere (sendPlace (slaveOf (decode f) s) slot (actingFrom isMultiplexedReceive (bytesIn (slaveOf (decode f) s) round) slot 1 (plannedEntries round (slaveOf (decode f) s))))))
     first zero l = unfold plannedIn either both in rw (set-none 0, set-first)
     first (suc slot) l =
         unfold plannedIn sendsIn either both in
@@ -175,158 +179,169 @@ module _ {f : List ℕ} {round s covered planned : ℕ} {multiplexed : Bool} {at
     pub entry-low : at < 2 ^ 32
     entry-low = omega (arith, entry-within, length-limit (h .becomes))
 
-    module _ {e : Entry} (is : e ≡ evaluated (entryThere f at)) where
-      entry-there : e ≡ evaluated (entryAt rodl (h .k))
-      entry-there = is ∙ ap evaluated (rest-entry (h .becomes) (h .rest) some-left)
+    same-entry : entryThere f at ≡ entryAt rodl (h .k)
+    same-entry = rest-entry (h .becomes) (h .rest) some-left
 
-      ends-same : ends (e .operation) ≡ ends (entryAt rodl (h .k) .operation)
-      unfolding evaluated
-      ends-same = ap (λ (x : Entry). ends (x .operation)) entry-there
+    operation-there : getD f (at + 2) 0 / 16 ≡ entryAt rodl (h .k) .operation
+    unfolding entryThere entryOf
+    operation-there = ap (λ (x : Entry). x .operation) same-entry
 
-      hides-same : (slot : ℕ) → eligible isMultiplexedReceive e slot ≡ eligible isMultiplexedReceive (entryAt rodl (h .k)) slot
-      hides-same slot =
-          ap (λ (x : Entry). eligible isMultiplexedReceive x slot) entry-there
-          ∙ eligible-evaluated isMultiplexedReceive receive-blind (entryAt rodl (h .k)) slot
+    module _ {t : Bool} (is : t ≡ ends (getD f (at + 2) 0 / 16)) where
+      ends-there : t ≡ ends (entryAt rodl (h .k) .operation)
+      ends-there = is ∙ ap ends operation-there
 
-      multiplexes-same : isMultiplexedSend e ≡ isMultiplexedSend (entryAt rodl (h .k))
-      unfolding evaluated isMultiplexedSend
-      multiplexes-same = ap (λ (x : Entry). isMultiplexedSend x) entry-there
-
-      would-same : (slot : ℕ) → wouldSend own e slot ≡ wouldSend own (entryAt rodl (h .k)) slot
-      unfolding evaluated wouldSend covers within bytePlace
-      would-same slot = ap (λ (x : Entry). wouldSend own x slot) entry-there
-
-      pub planning-end : {t : Bool} → t ≡ ends (e .operation) → t ≡ true → SlavePlanned round own planned multiplexed
-      planning-end end stop =
-          let stops = sym ends-same ∙ sym end ∙ stop in
+      pub planning-end : t ≡ true → SlavePlanned round own planned multiplexed
+      planning-end stop =
+          let stops = sym ends-there ∙ stop in
           planned-all (λ slot. acting-end isMultiplexedReceive rodl slot (h .k) (h .left) some-left stops)
           (some-end isMultiplexedSend rodl (h .k) (h .left) some-left stops)
 
-      -- the entry that acts is this one where it is eligible, else one of those after it
-      acts-next : {n : ℕ} → h .left ≡ suc n → ends (entryAt rodl (h .k) .operation) ≡ false → (slot : ℕ)
-          → isThere (sendPlace own slot (actingFrom isMultiplexedReceive rodl slot (h .k) (h .left)))
-          ≡ cond (eligible isMultiplexedReceive (entryAt rodl (h .k)) slot) (both (sends (entryAt rodl (h .k) .operation)) (within own (entryAt rodl (h .k)) slot))
-          (isThere (sendPlace own slot (actingFrom isMultiplexedReceive rodl slot (suc (h .k)) n)))
-      unfolding actingFrom
-      acts-next fewer goes slot =
-          rw (fewer, goes)
-          (byCase (eligible isMultiplexedReceive (entryAt rodl (h .k)) slot) (λ c. rw c (there-acts own (entryAt rodl (h .k)) slot)) (λ c. rw c))
+    -- the entry that acts is this one where it is eligible, else one of those after it
+    acts-next : {n : ℕ} → h .left ≡ suc n → ends (entryAt rodl (h .k) .operation) ≡ false → (slot : ℕ)
+        → isThere (sendPlace own slot (actingFrom isMultiplexedReceive rodl slot (h .k) (h .left)))
+        ≡ cond (eligible isMultiplexedReceive (entryAt rodl (h .k)) slot) (both (sends (entryAt rodl (h .k) .operation)) (within own (entryAt rodl (h .k)) slot))
+        (isThere (sendPlace own slot (actingFrom isMultiplexedReceive rodl slot (suc (h .k)) n)))
+    unfolding actingFrom
+    acts-next fewer goes slot =
+        rw (fewer, goes)
+        (byCase (eligible isMultiplexedReceive (entryAt rodl (h .k)) slot) (λ c. rw c (there-acts own (entryAt rodl (h .k)) slot)) (λ c. rw c))
 
-      pub planning-next : {t u : Bool} {sent cover : ℕ} → t ≡ ends (e .operation) → t ≡ false → Marks sent (sendsFree own e (bitXor covered 0xFFFFFFFFFFFFFFFF))
-          → EntryPlanned e cover u → Planning f round s (bitOr covered cover) (bitOr planned sent) (multiplexed || u) (at + 4) end
-      planning-next {u = u} {sent = sent} {cover = cover} end goes sendMarks plan =
-          let fewer : h .left ≡ suc (h .left - 1) = omega (arith, some-left) in
-          let goesOn = sym ends-same ∙ sym end ∙ goes in
-          record {
-            becomes = h .becomes;
-            k = suc (h .k);
-            left = h .left - 1;
-            rest = rest-next (h .becomes) (h .rest) fewer;
-            same = λ slot l.
-                h .same slot l
-                ∙ ap (λ (x : Bool). either (isSet planned slot) (both (not (isSet covered slot)) x)) (acts-next fewer goesOn slot)
-                ∙ left-over (isSet planned slot) (isSet covered slot) (eligible isMultiplexedReceive (entryAt rodl (h .k)) slot)
-                (both (sends (entryAt rodl (h .k) .operation)) (within own (entryAt rodl (h .k)) slot))
-                (isThere (sendPlace own slot (actingFrom isMultiplexedReceive rodl slot (suc (h .k)) (h .left - 1))))
-                ∙ sym (bits slot l);
-            sought =
-                h .sought
-                ∙ (ap (either multiplexed) (some-next isMultiplexedSend rodl (h .k) fewer goesOn)
-                ∙ (either-more multiplexed (isMultiplexedSend (entryAt rodl (h .k))) _
-                ∙ ap (λ (b : Bool). either b (someEntryFrom isMultiplexedSend rodl (suc (h .k)) (h .left - 1)))
-                (ap (either multiplexed) (sym (plan .multiplexes ∙ multiplexes-same)) ∙ sym (or-either multiplexed u))));
-          }
-        where
-          sent-bit : (slot : ℕ) → slot < slots
-              → isSet sent slot
-              ≡ both (both (eligible isMultiplexedReceive (entryAt rodl (h .k)) slot) (both (sends (entryAt rodl (h .k) .operation)) (within own (entryAt rodl (h .k)) slot)))
-              (not (isSet covered slot))
-          sent-bit slot l =
-              sendMarks .each slot l
-              ∙ (free-sends own e (entryAt rodl (h .k)) (bitXor covered 0xFFFFFFFFFFFFFFFF) slot (would-same slot) (set-free covered slot l)
-              ∙ ap (λ (b : Bool). both b (not (isSet covered slot))) (covered-sends (entryAt rodl (h .k)) slot (within own (entryAt rodl (h .k)) slot)))
+    -- after an entry that is no end
+    pub planning-next : {u : Bool} {hidden sent number size : ℕ} → ends (entryAt rodl (h .k) .operation) ≡ false
+        → EntryTaken own (entryThere f at) covered planned multiplexed hidden sent u number size → Planning f round s hidden sent u (at + 4) end
+    planning-next {u} {hidden} {sent} {number} {size} goesOn before =
+        let fewer : h .left ≡ suc (h .left - 1) = omega (arith, some-left) in
+        record {
+          becomes = h .becomes;
+          k = suc (h .k);
+          left = h .left - 1;
+          rest = rest-next (h .becomes) (h .rest) fewer;
+          same = λ slot l.
+              h .same slot l
+              ∙ ap (λ (x : Bool). either (isSet planned slot) (both (not (isSet covered slot)) x)) (acts-next fewer goesOn slot)
+              ∙ left-over (isSet planned slot) (isSet covered slot) (eligible isMultiplexedReceive (entryAt rodl (h .k)) slot)
+              (both (sends (entryAt rodl (h .k) .operation)) (within own (entryAt rodl (h .k)) slot))
+              (isThere (sendPlace own slot (actingFrom isMultiplexedReceive rodl slot (suc (h .k)) (h .left - 1))))
+              ∙ sym (bits slot l);
+          sought =
+              h .sought
+              ∙ (ap (either multiplexed) (some-next isMultiplexedSend rodl (h .k) fewer goesOn)
+              ∙ (either-more multiplexed (isMultiplexedSend (entryAt rodl (h .k))) _
+              ∙ ap (λ (b : Bool). either b (someEntryFrom isMultiplexedSend rodl (suc (h .k)) (h .left - 1))) (sym (taken .multiplexes))));
+        }
+      where
+        taken : EntryTaken own (entryAt rodl (h .k)) covered planned multiplexed hidden sent u number size
+        taken = subst (λ (x : Entry). EntryTaken own x covered planned multiplexed hidden sent u number size) same-entry before
 
-          bits : (slot : ℕ) → slot < slots
-              → either (isSet (bitOr planned sent) slot)
-              (both (not (isSet (bitOr covered cover) slot)) (isThere (sendPlace own slot (actingFrom isMultiplexedReceive rodl slot (suc (h .k)) (h .left - 1)))))
-              ≡ either
-              (either (isSet planned slot)
-              (both (both (eligible isMultiplexedReceive (entryAt rodl (h .k)) slot) (both (sends (entryAt rodl (h .k) .operation)) (within own (entryAt rodl (h .k)) slot)))
-              (not (isSet covered slot))))
-              (both (not (either (isSet covered slot) (eligible isMultiplexedReceive (entryAt rodl (h .k)) slot))) (isThere (sendPlace own slot (actingFrom isMultiplexedReceive rodl slot (suc (h .k)) (h .left - 1)))))
-          bits slot l = rw (set-or planned sent slot, set-or covered cover slot, sent-bit slot l, plan .slots .each slot l ∙ hides-same slot)
+        sent-bit : (slot : ℕ) → slot < slots
+            → isSet sent slot
+            ≡ either (isSet planned slot)
+            (both (both (eligible isMultiplexedReceive (entryAt rodl (h .k)) slot) (both (sends (entryAt rodl (h .k) .operation)) (within own (entryAt rodl (h .k)) slot)))
+            (not (isSet covered slot)))
+        sent-bit slot l =
+            taken .sending .each slot l
+            ∙ (unfold sendsWith wouldSend in
+            ap (λ (b : Bool). either (isSet planned slot) (both b (not (isSet covered slot)))) (covered-sends (entryAt rodl (h .k)) slot (within own (entryAt rodl (h .k)) slot)))
+
+        hidden-bit : (slot : ℕ) → slot < slots → isSet hidden slot ≡ either (isSet covered slot) (eligible isMultiplexedReceive (entryAt rodl (h .k)) slot)
+        hidden-bit slot l = taken .hides .each slot l ∙ (unfold hiddenWith in refl)
+
+        bits : (slot : ℕ) → slot < slots
+            → either (isSet sent slot) (both (not (isSet hidden slot)) (isThere (sendPlace own slot (actingFrom isMultiplexedReceive rodl slot (suc (h .k)) (h .left - 1)))))
+            ≡ either
+            (either (isSet planned slot)
+            (both (both (eligible isMultiplexedReceive (entryAt rodl (h .k)) slot) (both (sends (entryAt rodl (h .k) .operation)) (within own (entryAt rodl (h .k)) slot)))
+            (not (isSet covered slot))))
+            (both (not (either (isSet covered slot) (eligible isMultiplexedReceive (entryAt rodl (h .k)) slot)))
+            (isThere (sendPlace own slot (actingFrom isMultiplexedReceive rodl slot (suc (h .k)) (h .left - 1)))))
+        bits slot l = rw (sent-bit slot l, hidden-bit slot l)
+
+    -- one of one slot is no end
+    single-goes : isSingle (getD f (at + 2) 0) ≡ true → ends (entryAt rodl (h .k) .operation) ≡ false
+    unfolding isSingle
+    single-goes single = ap ends (sym operation-there) ∙ low-goes (getD f (at + 2) 0 / 16) (ltb-true (getD f (at + 2) 0 / 16) 6 (both-left _ _ single))
+
+    module _ {u : Bool} {hidden sent number size : ℕ} (taken : EntryTaken own (entryThere f at) covered planned multiplexed hidden sent u number size) where
+      pub planning-single : {t : Bool} → t ≡ isSingle (getD f (at + 2) 0) → t ≡ true → Planning f round s hidden sent u (at + 4) end
+      planning-single is one = planning-next (single-goes (sym is ∙ one)) taken
+
+      pub planning-other : {t : Bool} → t ≡ ends (getD f (at + 2) 0 / 16) → t ≡ false → Planning f round s hidden sent u (at + 4) end
+      planning-other is goes = planning-next (ap ends (sym operation-there) ∙ (sym is ∙ goes)) taken
+
+-- the loop along a slave's entries, for whatever round they are planned, with the size that is kept
+pub record Working (f : List ℕ) (s start end : ℕ) (plan : SlavePlan) (at : ℕ) : Type 0 where
+  pub planning : (round : ℕ) → PlannedFileIs (decode f) round s start end → Planning f round s (plan .hidden) (plan .sends) (plan .multiplexed) at end
+  pub kept : Kept (slaveOf (decode f) s) (plan .number) (plan .size)
+
+pub working-start : (f : List ℕ) (s start end : ℕ) → AcceptedFile f → Working f s start end (record { hidden = 1; sends = 0; multiplexed = false; number = 64; size = 0 }) start
+working-start f s start end h = record { planning = λ round is. planning-start h is; kept = record { known = λ l. absurd (omega arith) } }
+
+module _ {f : List ℕ} {s start end : ℕ} {plan : SlavePlan} {at : ℕ} (h : Working f s start end plan at) where
+  module _ {round : ℕ} (is : PlannedFileIs (decode f) round s start end) where
+    pub working-done : end ≤ at → SlavePlanned round (slaveOf (decode f) s) (plan .sends) (plan .multiplexed)
+    working-done over = planning-done (h .planning round is) over
+
+    module _ (more : at < end) where
+      pub working-within : at + 4 ≤ length f
+      working-within = entry-within (h .planning round is) more
+
+      pub working-low : at < 2 ^ 32
+      working-low = entry-low (h .planning round is) more
+
+      pub working-entry : AcceptedFile f → s < slaveCount f → EntryOf f s at (plan .number) (plan .size)
+      working-entry accepted listed = record { accepted = accepted; listed = listed; inside = working-within; kept = h .kept }
+
+      pub working-end : {t : Bool} → t ≡ ends (getD f (at + 2) 0 / 16) → t ≡ true → SlavePlanned round (slaveOf (decode f) s) (plan .sends) (plan .multiplexed)
+      working-end = planning-end (h .planning round is) more
+
+  -- one entry more
+  module _ (more : at < end) {r new : SlavePlan}
+      (taken : EntryTaken (slaveOf (decode f) s) (entryThere f at) (plan .hidden) (plan .sends) (plan .multiplexed) (r .hidden) (r .sends) (r .multiplexed) (r .number) (r .size))
+      (same : new ≡ r) where
+    pub working-single : {t : Bool} → t ≡ isSingle (getD f (at + 2) 0) → t ≡ true → Working f s start end new (at + 4)
+    working-single is one =
+        subst (λ (p : SlavePlan). Working f s start end p (at + 4)) (sym same)
+        (record { planning = λ round lies. planning-single (h .planning round lies) more taken is one; kept = taken .kept })
+
+    pub working-other : {t : Bool} → t ≡ ends (getD f (at + 2) 0 / 16) → t ≡ false → Working f s start end new (at + 4)
+    working-other is goes =
+        subst (λ (p : SlavePlan). Working f s start end p (at + 4)) (sym same)
+        (record { planning = λ round lies. planning-other (h .planning round lies) more taken is goes; kept = taken .kept })
 
 -- ---- a name put into a row
 
-pub record Putting (old row : List ℕ) (mask name rest slot : ℕ) : Type 0 where
-  pub shifted : rest ≡ mask / 2 ^ slot
+pub record Putting (old row : List ℕ) (mask name rest : ℕ) : Type 0 where
   pub room : length row ≡ length old
-  pub put : (t : ℕ) → t < slots → getD row t 0 ≡ cond (both (ltb t slot) (isSet mask t)) name (getD old t 0)
+  pub small : rest ≤ mask
+  pub among : (t : ℕ) → isSet rest t ≡ true → isSet mask t ≡ true
+  pub put : (t : ℕ) → t < slots → getD row t 0 ≡ cond (both (isSet mask t) (not (isSet rest t))) name (getD old t 0)
 
-pub putting-start : (row : List ℕ) (mask name : ℕ) → Putting row row mask name mask 0
+pub putting-start : (row : List ℕ) (mask name : ℕ) → Putting row row mask name mask
 putting-start row mask name =
     record {
-      shifted = omega arith;
       room = refl;
-      put = λ t l. unfold both in rw (le-ltb t 0 (omega arith));
+      small = omega arith;
+      among = λ t is. is;
+      put = λ t l. byCase (isSet mask t) (λ e. rw e (unfold both in refl)) (λ e. rw e (unfold both in refl));
     }
 
-module _ {old row : List ℕ} {mask name rest slot : ℕ} (h : Putting old row mask name rest slot) where
-  pub putting-few : mask < 2 ^ 64 → (rest ≡ 0 → ⊥) → slot < slots
-  putting-few small some = shifted-few mask slot small (λ e. some (h .shifted ∙ e))
-
-  half : rest / 2 ≡ mask / 2 ^ (slot + 1)
-  half = ap (λ (n : ℕ). n / 2) (h .shifted) ∙ lib.Pow.shr-shr mask slot 1
-
-  bit : isSet mask slot ≡ eqb (rest % 2) 1
-  unfolding isSet
-  bit = rw (h .shifted)
-
-  pub putting-here : {new : List ℕ} → length old ≡ slots → slot < slots → rest % 2 ≡ 1 → new ≡ set row slot name → Putting old new mask name (rest / 2) (slot + 1)
-  putting-here {new} long few one is =
+module _ {old row : List ℕ} {mask name rest : ℕ} (h : Putting old row mask name rest) where
+  pub putting-next : {first : ℕ} → length old ≡ slots → first < slots → FirstIs rest first → Putting old (set row first name) mask name (bitAnd rest (rest - 1))
+  putting-next {first} long few is =
       record {
-        shifted = half;
-        room = ap length is ∙ (length-set row slot name ∙ h .room);
-        put = λ t l. byCase (eqb t slot)
-            (λ e. here t (eqb-true t slot e))
-            (λ e. other t l (eqb-false t slot e));
+        room = length-set row first name ∙ h .room;
+        small = omega (arith, h .small, and-le-l rest (rest - 1));
+        among = λ t still. h .among t (both-right _ _ (sym (is .others t) ∙ still));
+        put = λ t l. byCase (eqb t first) (λ e. here t (eqb-true t first e)) (λ e. other t l e);
       }
     where
-      here : (t : ℕ) → t ≡ slot → getD new t 0 ≡ cond (both (ltb t (slot + 1)) (isSet mask t)) name (getD old t 0)
+      here : (t : ℕ) → t ≡ first → getD (set row first name) t 0 ≡ cond (both (isSet mask t) (not (isSet (bitAnd rest (rest - 1)) t))) name (getD old t 0)
       here t e =
-          unfold both in
-          rw (is, e, getD-set-same row slot name 0 (omega (arith, h .room)), lt-ltb slot (slot + 1) (omega arith), bit, eq-eqb (rest % 2) 1 one)
+          rw (e, getD-set-same row first name 0 (omega (arith, h .room)), is .others first, eq-eqb first first refl, h .among first (is .here)) (unfold both in refl)
 
-      other : (t : ℕ) → t < slots → (t ≡ slot → ⊥) → getD new t 0 ≡ cond (both (ltb t (slot + 1)) (isSet mask t)) name (getD old t 0)
+      other : (t : ℕ) → t < slots → eqb t first ≡ false → getD (set row first name) t 0 ≡ cond (both (isSet mask t) (not (isSet (bitAnd rest (rest - 1)) t))) name (getD old t 0)
       other t l e =
-          rw (is, getD-set-other row slot t name 0 e)
-          (h .put t l ∙ ap (λ (x : Bool). cond (both x (isSet mask t)) name (getD old t 0)) (passed t e))
-        where
-          passed : (t : ℕ) → (t ≡ slot → ⊥) → ltb t slot ≡ ltb t (slot + 1)
-          passed t e =
-              byCase (ltb t slot)
-              (λ m. m ∙ sym (lt-ltb t (slot + 1) (omega (arith, ltb-true t slot m))))
-              (λ m. m ∙ sym (le-ltb t (slot + 1) (omega (arith, ltb-false t slot m))))
-
-  pub putting-past : {new : List ℕ} → (rest % 2 ≡ 1 → ⊥) → new ≡ row → Putting old new mask name (rest / 2) (slot + 1)
-  putting-past {new} none is =
-      record {
-        shifted = half;
-        room = ap length is ∙ h .room;
-        put = λ t l. rw is (h .put t l ∙ ap (λ (x : Bool). cond x name (getD old t 0)) (passed t));
-      }
-    where
-      passed : (t : ℕ) → both (ltb t slot) (isSet mask t) ≡ both (ltb t (slot + 1)) (isSet mask t)
-      passed t =
-          byCase (eqb t slot)
-          (λ e. rw (eqb-true t slot e) (unfold both in rw (bit, ne-eqb (rest % 2) 1 none, le-ltb slot slot (omega arith), lt-ltb slot (slot + 1) (omega arith))))
-          (λ e.
-          byCase (ltb t slot)
-          (λ m. rw (m, lt-ltb t (slot + 1) (omega (arith, ltb-true t slot m))))
-          (λ m. rw (m, le-ltb t (slot + 1) (later t (ltb-false t slot m) (eqb-false t slot e)))))
-        where
-          later : (t : ℕ) → slot ≤ t → (t ≡ slot → ⊥) → slot + 1 ≤ t
-          later t l e = omega arith
+          rw (getD-set-other row first t name 0 (eqb-false t first e), is .others t, e) (unfold both in h .put t l)
 
   pub putting-done : rest ≡ 0 → OwnerPut old row mask name
   putting-done over =
@@ -335,8 +350,5 @@ module _ {old row : List ℕ} {mask name rest slot : ℕ} (h : Putting old row m
         at = λ t l. h .put t l ∙ ap (λ (x : Bool). cond x name (getD old t 0)) (all t);
       }
     where
-      all : (t : ℕ) → both (ltb t slot) (isSet mask t) ≡ isSet mask t
-      all t =
-          byCase (ltb t slot)
-          (λ m. unfold both in rw m)
-          (λ m. both-false-left _ m ∙ sym (shifted-none mask slot t (ltb-false t slot m) (sym (h .shifted) ∙ over)))
+      all : (t : ℕ) → both (isSet mask t) (not (isSet rest t)) ≡ isSet mask t
+      all t = rw (over, set-none t) (both-all (isSet mask t))

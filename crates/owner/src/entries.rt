@@ -1,114 +1,200 @@
-// The slots that an entry of a round file covers, and those in which it would send a byte.
+// What an entry of a round file adds to the plan of its slave, by the entry's four bytes.
 ghost use mathlib.Core.Path.{_≡_};
-ghost use Prim.Native.Nat.{_<_};
+ghost use mathlib.Core.Bool.{true};
+ghost use Prim.Native.Nat.{_+_, _/_, _≤_, _<_};
+ghost use lib.ListN.{length};
+ghost use Rattle.file.specs.Rules.Layout.{recordSize};
+ghost use Rattle.file.specs.Rules.Cluster.{bytesIn};
 ghost use Rattle.file.specs.Rules.Decode.{decode};
 ghost use Rattle.file.specs.Inner.Places.{slaveOf};
 ghost use Rattle.file.specs.Inner.Accepted.{AcceptedFile, slaveCount};
-ghost use Rattle.cluster.specs.Rules.Entries.{covers, sends};
-ghost use Rattle.cluster.specs.Inner.EntryForm.{entryFrom};
-ghost use Rattle.owner.specs.Inner.Masks.{Marks};
-ghost use Rattle.owner.specs.Inner.Planned.{ShortEntry, EntryPlanned, bytesLeft, wouldSend, sendsFree};
+ghost use Rattle.cluster.specs.Rules.Entries.{entryThere, ends, sends, bytePlace};
+ghost use Rattle.cluster.specs.Inner.EntryForm.{firstMultiplexed};
+ghost use Rattle.owner.specs.Inner.Masks.{Marks, longestEntry};
+ghost use Rattle.owner.specs.Inner.Entries.{kindAt, isSingle, fileNumbers, Kept, wouldSend, EntryOf, EntryTaken};
+use crate::masks::ALL_SLOTS;
 use crate::masks::NO_SLOTS;
-use crate::masks::slots_between;
-use cluster::entry::Entry;
-use cluster::entry::EntryAction;
-use cluster::entry::action_of;
-use cluster::entry::byte_place;
-use cluster::entry::is_multiplexed;
+use crate::masks::slots_from;
+use file::layout::RECORD_SIZE;
+use file::numbers::byte_at;
 use file::readers::FilePlace;
 use file::readers::find_file;
+use file::types::FileNumber;
 
-// The slots that an entry covers, by its start and its length.
-fn covered_slots(entry: Entry) -> u64
-    requires { ⌜ ShortEntry entry ⌝ }
-    ensures { λ r. ⌜ Marks r (covers (entryFrom entry)) ⌝ }
-{
-    slots_between(entry.slot, entry.slot + entry.length)
-}
+// Where an entry has its bytes: record; operation and length less one; multiplex and start. Byte 0 is file number and align.
+const RECORD_PLACE: usize = 1;
 
-fn is_send(entry: Entry) -> bool
-    ensures { λ r. ⌜ r ≡ sends (entryFrom entry .operation) ⌝ }
-{
-    let operation = entry.operation;
-    let action = action_of(operation);
-    match action {
-        EntryAction::Receives => false,
-        EntryAction::Sends => true,
-        EntryAction::Ends => false,
-        EntryAction::Rests => false,
-    }
-}
+pub const KIND_PLACE: usize = 2;
 
-// What an entry means to the plan: the slots in which none after it acts, and whether it is a multiplexed send.
-pub struct EntryPlan {
+const START_PLACE: usize = 3;
+
+// How many values the low bits of its bytes 0, 2 and 3 have.
+const ALIGN_VALUES: u8 = 4;
+
+const LENGTH_VALUES: u8 = 16;
+
+const START_VALUES: u8 = 64;
+
+// The codes of 002, table 4: the sends that are not multiplexed, the ends, and the first that is multiplexed.
+const SEND: u8 = 1;
+
+const SEND_SPEEDUP: u8 = 5;
+
+const END_OF_ROUND: u8 = 6;
+
+const EXECUTE_AND_END: u8 = 7;
+
+const FIRST_MULTIPLEXED: u8 = 8;
+
+// No file has this number.
+pub const NO_FILE: u8 = 64;
+
+// The slots that a slave's entries hide from later ones, those in which it sends, whether it has a multiplexed send, and the file that
+// was looked for last, with its size.
+pub struct SlavePlan {
     pub hidden: u64,
+    pub sends: u64,
     pub multiplexed: bool,
+    pub number: u8,
+    pub size: usize,
 }
 
-// An entry hides the slots that it covers, but a multiplexed receive is passed over. Most entries are not multiplexed, and are told
-// apart first.
-pub fn plan_entry(entry: Entry) -> EntryPlan
-    requires { ⌜ ShortEntry entry ⌝ }
-    ensures { λ r. ⌜ EntryPlanned (entryFrom entry) (r .hidden) (r .multiplexed) ⌝ }
+// By byte 2: one slot, neither multiplexed nor an end. The byte's halves exchanged, one comparison tells.
+pub fn is_single(kind: u8) -> bool
+    ensures { λ r. ⌜ r ≡ isSingle kind ⌝ }
 {
-    let operation = entry.operation;
-    if !is_multiplexed(operation) {
-        return EntryPlan {
-            hidden: covered_slots(entry),
-            multiplexed: false,
-        };
+    kind % LENGTH_VALUES * LENGTH_VALUES + kind / LENGTH_VALUES < END_OF_ROUND
+}
+
+pub fn is_end(kind: u8) -> bool
+    ensures { λ r. ⌜ r ≡ ends (kind / longestEntry) ⌝ }
+{
+    let operation = kind / LENGTH_VALUES;
+    if operation == END_OF_ROUND {
+        return true;
     }
-    if is_send(entry) {
-        return EntryPlan {
-            hidden: covered_slots(entry),
-            multiplexed: true,
-        };
+    operation == EXECUTE_AND_END
+}
+
+// Of the operations that are not multiplexed.
+fn is_plain_send(operation: u8) -> bool
+    requires { ⌜ operation < firstMultiplexed ⌝ }
+    ensures { λ r. ⌜ r ≡ sends operation ⌝ }
+{
+    if operation == SEND {
+        return true;
     }
-    EntryPlan {
-        hidden: NO_SLOTS,
-        multiplexed: false,
+    operation == SEND_SPEEDUP
+}
+
+fn is_send(operation: u8) -> bool
+    ensures { λ r. ⌜ r ≡ sends operation ⌝ }
+{
+    if FIRST_MULTIPLEXED <= operation {
+        return operation % 2 == 1;
+    }
+    is_plain_send(operation)
+}
+
+// How many bytes a slave's file has, 0 where there is none.
+fn file_size(file: &[u8], slave: usize, number: u8) -> usize
+    requires { ⌜ AcceptedFile (now file) × (slave < slaveCount (now file)) ⌝ }
+    ensures { λ r. ⌜ r ≡ length (bytesIn (slaveOf (decode (now (file .entry))) slave) number) ⌝ }
+{
+    let found = find_file(file, slave, FileNumber(number));
+    match found {
+        FilePlace::Bytes(bytes) => bytes.size,
+        FilePlace::NoFile => 0,
     }
 }
 
-// How many bytes of the entry's file there are from the entry's first byte on.
-fn bytes_left(file: &[u8], slave: usize, entry: Entry) -> usize
-    requires { ⌜ AcceptedFile (now file) × (slave < slaveCount (now file)) × ShortEntry entry ⌝ }
-    ensures { λ r. ⌜ r ≡ bytesLeft (slaveOf (decode (now (file .entry))) slave) (entryFrom entry) ⌝ }
+// The same: the size of the file that was looked for last is known.
+fn known_size(file: &[u8], slave: usize, number: u8, plan: SlavePlan) -> usize
+    requires { ⌜ AcceptedFile (now file) × (slave < slaveCount (now file)) × (number < fileNumbers) × Kept (slaveOf (decode (now file)) slave) (plan .number) (plan .size) ⌝ }
+    ensures { λ r. ⌜ r ≡ length (bytesIn (slaveOf (decode (now (file .entry))) slave) number) ⌝ }
 {
-    let number = entry.address.file;
-    let found = find_file(file, slave, number);
-    let FilePlace::Bytes(bytes) = found else {
-        return 0;
-    };
-    let first = byte_place(entry, entry.slot);
-    if bytes.size <= first {
-        return 0;
+    if plan.number == number {
+        return plan.size;
     }
-    bytes.size - first
+    file_size(file, slave, number)
 }
 
-// The slots in which an entry would send a byte, if it acted there: those that it covers, as far as its file has bytes for them.
-fn sending_slots(file: &[u8], slave: usize, entry: Entry) -> u64
-    requires { ⌜ AcceptedFile (now file) × (slave < slaveCount (now file)) × ShortEntry entry ⌝ }
-    ensures { λ r. ⌜ Marks r (wouldSend (slaveOf (decode (now (file .entry))) slave) (entryFrom entry)) ⌝ }
+// The byte of its file that an entry's first slot is about.
+fn first_byte(file: &[u8], at: usize) -> usize
+    requires { ⌜ at + recordSize ≤ length (now file) ⌝ }
+    ensures { λ r. ⌜ r ≡ bytePlace (entryThere (now (file .entry)) at) (entryThere (now (file .entry)) at .start) ⌝ }
 {
-    if !is_send(entry) {
+    let record = byte_at(file, at + RECORD_PLACE);
+    let align = byte_at(file, at) % (ALIGN_VALUES as usize);
+    RECORD_SIZE * record + align
+}
+
+// An entry of one slot, neither multiplexed nor an end, as most are. Where its slot is hidden, nothing more is read of it.
+pub fn with_slot(file: &[u8], slave: usize, at: usize, plan: SlavePlan) -> SlavePlan
+    requires { ⌜ EntryOf (now file) slave at (plan .number) (plan .size) × (isSingle (kindAt (now file) at) ≡ true) ⌝ }
+    ensures { λ r. ⌜ EntryTaken (slaveOf (decode (now (file .entry))) slave) (entryThere (now (file .entry)) at) (plan .hidden) (plan .sends) (plan .multiplexed) (r .hidden) (r .sends) (r .multiplexed) (r .number) (r .size) ⌝ }
+{
+    let start = (file[at + START_PLACE] % START_VALUES) as u64;
+    if (plan.hidden >> start) % 2 == 1 {
+        return plan;
+    }
+    let slot = 1u64 << start;
+    let mut next = plan;
+    next.hidden = plan.hidden | slot;
+    if !is_plain_send(file[at + KIND_PLACE] / LENGTH_VALUES) {
+        return next;
+    }
+    let number = file[at] / ALIGN_VALUES;
+    let size = known_size(file, slave, number, plan);
+    next.number = number;
+    next.size = size;
+    if size <= first_byte(file, at) {
+        return next;
+    }
+    next.sends = plan.sends | slot;
+    next
+}
+
+// The slots in which a send would send a byte, if it acted there: as far as its file has bytes for them.
+fn sending_slots(file: &[u8], slave: usize, at: usize) -> u64
+    requires { ⌜ AcceptedFile (now file) × (slave < slaveCount (now file)) × (at + recordSize ≤ length (now file)) × (sends (entryThere (now file) at .operation) ≡ true) ⌝ }
+    ensures { λ r. ⌜ Marks r (wouldSend (slaveOf (decode (now (file .entry))) slave) (entryThere (now (file .entry)) at)) ⌝ }
+{
+    let start = (file[at + START_PLACE] % START_VALUES) as usize;
+    let length = (file[at + KIND_PLACE] % LENGTH_VALUES) as usize + 1;
+    let size = file_size(file, slave, file[at] / ALIGN_VALUES);
+    let first = first_byte(file, at);
+    if size <= first {
         return NO_SLOTS;
     }
-    let left = bytes_left(file, slave, entry);
-    if left < entry.length {
-        return slots_between(entry.slot, entry.slot + left);
+    if size - first < length {
+        return slots_from(start, size - first);
     }
-    covered_slots(entry)
+    slots_from(start, length)
 }
 
-// The same of the slots that are free. Where none of the entry's is, its file is not looked for.
-pub fn free_slots(file: &[u8], slave: usize, entry: Entry, free: u64) -> u64
-    requires { ⌜ AcceptedFile (now file) × (slave < slaveCount (now file)) × ShortEntry entry ⌝ }
-    ensures { λ r. ⌜ Marks r (sendsFree (slaveOf (decode (now (file .entry))) slave) (entryFrom entry) free) ⌝ }
+// Any other entry. A multiplexed receive is passed over.
+pub fn with_slots(file: &[u8], slave: usize, at: usize, plan: SlavePlan) -> SlavePlan
+    requires { ⌜ EntryOf (now file) slave at (plan .number) (plan .size) ⌝ }
+    ensures { λ r. ⌜ EntryTaken (slaveOf (decode (now (file .entry))) slave) (entryThere (now (file .entry)) at) (plan .hidden) (plan .sends) (plan .multiplexed) (r .hidden) (r .sends) (r .multiplexed) (r .number) (r .size) ⌝ }
 {
-    if covered_slots(entry) & free == NO_SLOTS {
-        return NO_SLOTS;
+    let kind = file[at + KIND_PLACE];
+    let operation = kind / LENGTH_VALUES;
+    let multiplexed = FIRST_MULTIPLEXED <= operation;
+    let start = (file[at + START_PLACE] % START_VALUES) as usize;
+    let slots = slots_from(start, (kind % LENGTH_VALUES) as usize + 1);
+    let hidden = plan.hidden | slots;
+    let mut next = plan;
+    if is_send(operation) {
+        let sending = sending_slots(file, slave, at);
+        next.hidden = hidden;
+        next.sends = plan.sends | (sending & (plan.hidden ^ ALL_SLOTS));
+        next.multiplexed = plan.multiplexed | multiplexed;
+        return next;
     }
-    sending_slots(file, slave, entry) & free
+    if multiplexed {
+        return plan;
+    }
+    next.hidden = hidden;
+    next
 }

@@ -7,16 +7,21 @@ ghost use Rattle.file.specs.Inner.Places.{slaveOf};
 ghost use Rattle.file.specs.Inner.Typed.{fileIn, nameIn};
 ghost use Rattle.file.specs.Inner.Accepted.{Placed, slaveCount};
 ghost use Rattle.cluster.specs.Rules.Bus.{slots};
+ghost use Rattle.owner.specs.Rules.Plan.{rounds};
 ghost use Rattle.owner.specs.Rules.OwnerFile.{noOwner};
-ghost use Rattle.owner.specs.Inner.Planned.{SlavePlanned, OwnerPut, RoundPlanned};
-use crate::entries::free_slots;
-use crate::entries::plan_entry;
+ghost use Rattle.owner.specs.Inner.Held.{AllHold};
+ghost use Rattle.owner.specs.Inner.Planned.{SlavePlanned, OwnerPut, SlaveAdded, RoundPlanned};
+use crate::entries::KIND_PLACE;
+use crate::entries::NO_FILE;
+use crate::entries::SlavePlan;
+use crate::entries::is_end;
+use crate::entries::is_single;
+use crate::entries::with_slot;
+use crate::entries::with_slots;
 use crate::masks::ALL_SLOTS;
 use crate::masks::FIREWORK_SLOTS;
 use crate::masks::NO_SLOTS;
 use cluster::answer::FIREWORK_SLOT;
-use cluster::entry::entry_at;
-use cluster::entry::is_end;
 use cluster::multipartner::planned_file;
 use file::layout::RECORD_SIZE;
 use file::readers::logical_name;
@@ -25,36 +30,35 @@ use file::types::FileNumber;
 use file::types::LogicalName;
 use file::types::SlavePlaces;
 
-// The slots in which a slave sends, and whether it has a multiplexed send.
-pub struct SlavePlan {
-    pub sends: u64,
-    pub multiplexed: bool,
-}
-
-// Its entries are read once, first to last: a slot that an earlier one covers is not free for a later one, so the entry that finds its
-// slot free is the one that acts there. An entry that is passed over takes no slot.
+// Its entries are read once, first to last: a slot that an earlier one covers is hidden from a later one, so the entry that finds its
+// slot free is the one that acts there. An entry that is passed over hides no slot.
 fn plan_slave(file: &[u8], places: &SlavePlaces, slave: usize, round: FileNumber) -> SlavePlan
     requires { ⌜ Placed (now file) (now places) × (slave < slaveCount (now file)) ⌝ }
     ensures { λ r. ⌜ SlavePlanned (fileIn round) (slaveOf (decode (now (file .entry))) slave) (r .sends) (r .multiplexed) ⌝ }
 {
     let found = planned_file(file, places, slave, round);
     let end = found.end;
-    let mut covered = FIREWORK_SLOTS;
-    let mut sends = NO_SLOTS;
-    let mut multiplexed = false;
+    let mut plan = SlavePlan {
+        hidden: FIREWORK_SLOTS,
+        sends: NO_SLOTS,
+        multiplexed: false,
+        number: NO_FILE,
+        size: 0,
+    };
     let mut at = found.start;
     while at < end {
-        let entry = entry_at(file, at);
-        if is_end(entry) {
-            return SlavePlan { sends, multiplexed };
+        let kind = file[at + KIND_PLACE];
+        if is_single(kind) {
+            plan = with_slot(file, slave, at, plan);
+        } else {
+            if is_end(kind) {
+                return plan;
+            }
+            plan = with_slots(file, slave, at, plan);
         }
-        sends = sends | free_slots(file, slave, entry, covered ^ ALL_SLOTS);
-        let plan = plan_entry(entry);
-        covered = covered | plan.hidden;
-        multiplexed = multiplexed | plan.multiplexed;
         at = at + RECORD_SIZE;
     }
-    SlavePlan { sends, multiplexed }
+    plan
 }
 
 // A name put into a row at every slot of a mask.
@@ -63,13 +67,10 @@ fn put_name(row: &mut [u8], mask: u64, name: LogicalName)
     ensures { λ _. ⌜ OwnerPut (now (row .entry)) (now (row .exit)) mask (nameIn name) ⌝ }
 {
     let mut rest = mask;
-    let mut slot = 0;
-    while rest != 0 {
-        if rest % 2 == 1 {
-            row[slot] = name.0;
-        }
-        rest = rest / 2;
-        slot = slot + 1;
+    while rest != NO_SLOTS {
+        let slot = u64::trailing_zeros(rest) as usize;
+        row[slot] = name.0;
+        rest = rest & (rest - 1);
     }
 }
 
@@ -80,36 +81,54 @@ pub struct RoundPlan {
     pub multiplexed: bool,
 }
 
-// A round's owners put into a row of zeros.
+// One slave more. Its name is put where it sends and none before it does.
+fn add_slave(
+    file: &[u8],
+    places: &SlavePlaces,
+    slave: usize,
+    round: FileNumber,
+    before: RoundPlan,
+    row: &mut [u8],
+) -> RoundPlan
+    requires { ⌜ Placed (now file) (now places) × (slave < slaveCount (now file)) × (length (now row) ≡ slots) ⌝ }
+    ensures { λ r. ⌜ SlaveAdded (decode (now (file .entry)) .slaves) (fileIn round) slave (now (row .entry)) (before .senders) (before .clashes) (before .multiplexed) (now (row .exit)) (r .senders) (r .clashes) (r .multiplexed) ⌝ }
+{
+    let plan = plan_slave(file, places, slave, round);
+    let sends = plan.sends;
+    let name = logical_name(file, places, slave);
+    put_name(row, sends & (before.senders ^ ALL_SLOTS), name);
+    RoundPlan {
+        senders: before.senders | sends,
+        clashes: before.clashes | (before.senders & sends),
+        multiplexed: before.multiplexed | plan.multiplexed,
+    }
+}
+
+// A round's owners put into a row of zeros. A slave without a file for the round sends nothing.
 pub fn plan_round(
     file: &[u8],
     places: &SlavePlaces,
     master: LogicalName,
     round: FileNumber,
+    held: &[u8],
     row: &mut [u8],
 ) -> RoundPlan
-    requires { ⌜ Placed (now file) (now places) × (now row ≡ replicate slots noOwner) ⌝ }
+    requires { ⌜ Placed (now file) (now places) × AllHold (decode (now file)) (now held) × (fileIn round < rounds) × (now row ≡ replicate slots noOwner) ⌝ }
     ensures { λ r. ⌜ RoundPlanned (decode (now (file .entry)) .slaves) (nameIn master) (fileIn round) (now (row .exit)) (r .senders) (r .clashes) (r .multiplexed) ⌝ }
 {
     let count = slave_count(file);
-    let mut senders = NO_SLOTS;
-    let mut clashes = NO_SLOTS;
-    let mut multiplexed = false;
+    let mut plan = RoundPlan {
+        senders: NO_SLOTS,
+        clashes: NO_SLOTS,
+        multiplexed: false,
+    };
     row[FIREWORK_SLOT] = master.0;
     let mut slave = 0;
     while slave < count {
-        let plan = plan_slave(file, places, slave, round);
-        let sends = plan.sends;
-        let name = logical_name(file, places, slave);
-        put_name(row, sends & (senders ^ ALL_SLOTS), name);
-        clashes = clashes | (senders & sends);
-        senders = senders | sends;
-        multiplexed = multiplexed | plan.multiplexed;
+        if (held[slave] >> round.0) % 2 == 1 {
+            plan = add_slave(file, places, slave, round, plan, row);
+        }
         slave = slave + 1;
     }
-    RoundPlan {
-        senders,
-        clashes,
-        multiplexed,
-    }
+    plan
 }

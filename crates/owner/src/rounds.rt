@@ -1,6 +1,6 @@
 // The rows of all rounds, and the index of where they begin.
 ghost use mathlib.Core.Path.{_≡_};
-ghost use Prim.Native.Nat.{_+_, _<_};
+ghost use Prim.Native.Nat.{_+_, _≤_, _<_};
 ghost use lib.ListN.{replicate};
 ghost use Rattle.file.specs.Rules.Decode.{decode};
 ghost use Rattle.file.specs.Inner.Typed.{fileIn, nameIn};
@@ -8,7 +8,9 @@ ghost use Rattle.file.specs.Inner.Accepted.{Placed};
 ghost use Rattle.cluster.specs.Rules.Bus.{slots};
 ghost use Rattle.owner.specs.Rules.Plan.{rounds, isOwned};
 ghost use Rattle.owner.specs.Rules.OwnerFile.{noOwner};
-ghost use Rattle.owner.specs.Inner.Planned.{RowWritten, headRoom, rowsRoom, RoundsWritten};
+ghost use Rattle.owner.specs.Inner.Held.{AllHold};
+ghost use Rattle.owner.specs.Inner.Planned.{RowWritten, headRoom, rowsRoom, indexByte, RowsWritten, RoundsWritten};
+use crate::held::all_held;
 use crate::masks::NO_SLOTS;
 use crate::masks::last_slot;
 use crate::plan::plan_round;
@@ -16,6 +18,7 @@ use cluster::answer::SLOTS;
 use file::layout::RECORD_SIZE;
 use file::types::FileNumber;
 use file::types::LogicalName;
+use file::types::SLAVES_ROOM;
 use file::types::SlavePlaces;
 
 // "the eight index bytes"
@@ -58,12 +61,13 @@ fn write_row(
     places: &SlavePlaces,
     master: LogicalName,
     round: FileNumber,
+    held: &[u8],
     row: &mut [u8],
 ) -> Rows
-    requires { ⌜ Placed (now file) (now places) × (now row ≡ replicate slots noOwner) ⌝ }
+    requires { ⌜ Placed (now file) (now places) × AllHold (decode (now file)) (now held) × (fileIn round < rounds) × (now row ≡ replicate slots noOwner) ⌝ }
     ensures { λ r. ⌜ RowWritten (decode (now (file .entry)) .slaves) (nameIn master) (fileIn round) (now (row .exit)) (r .length) (r .clash) (r .multiplexed) ⌝ }
 {
-    let plan = plan_round(file, places, master, round, row);
+    let plan = plan_round(file, places, master, round, held, row);
     let last = last_slot(plan.senders);
     Rows {
         length: RECORD_SIZE * (last / RECORD_SIZE + 1),
@@ -72,30 +76,41 @@ fn write_row(
     }
 }
 
-// One round more: its index byte and its row. Rounds 1 and 5 have no row, and their index byte stays 0x00.
+// A round's index byte, by how many bytes the rows before it have. That of rounds 1 and 5 is 0x00.
+fn index_byte(round: usize, start: usize) -> u8
+    requires { ⌜ start ≤ rowsRoom ⌝ }
+    ensures { λ r. ⌜ r ≡ indexByte round start ⌝ }
+{
+    if !is_owned(round) {
+        return 0;
+    }
+    (FIRST_ROW_RECORD + start / RECORD_SIZE) as u8
+}
+
+// One round's row more. Rounds 1 and 5 have none.
 fn write_round(
     file: &[u8],
     places: &SlavePlaces,
     master: LogicalName,
     round: usize,
+    held: &[u8],
     before: Rows,
-    head: &mut [u8],
     rows: &mut [u8],
 ) -> Rows
-    requires { ⌜ Placed (now file) (now places) × (round < rounds) × RoundsWritten (decode (now file) .slaves) (nameIn master) round (now head) (now rows) (before .length) (before .clash) (before .multiplexed) ⌝ }
-    ensures { λ r. ⌜ RoundsWritten (decode (now (file .entry)) .slaves) (nameIn master) (round + 1) (now (head .exit)) (now (rows .exit)) (r .length) (r .clash) (r .multiplexed) ⌝ }
+    requires { ⌜ Placed (now file) (now places) × AllHold (decode (now file)) (now held) × (round < rounds) × RowsWritten (decode (now file) .slaves) (nameIn master) round (now rows) (before .length) (before .clash) (before .multiplexed) ⌝ }
+    ensures { λ r. ⌜ RowsWritten (decode (now (file .entry)) .slaves) (nameIn master) (round + 1) (now (rows .exit)) (r .length) (r .clash) (r .multiplexed) ⌝ }
 {
     if !is_owned(round) {
         return before;
     }
     let start = before.length;
     let end = start + SLOTS;
-    head[RECORD_SIZE + round] = (FIRST_ROW_RECORD + start / RECORD_SIZE) as u8;
     let row = write_row(
         file,
         places,
         master,
         FileNumber(round as u8),
+        held,
         &mut rows[start..end],
     );
     Rows {
@@ -116,6 +131,8 @@ pub fn write_rounds(
     requires { ⌜ Placed (now file) (now places) × (now head ≡ replicate headRoom noOwner) × (now rows ≡ replicate rowsRoom noOwner) ⌝ }
     ensures { λ r. ⌜ RoundsWritten (decode (now (file .entry)) .slaves) (nameIn master) rounds (now (head .exit)) (now (rows .exit)) (r .length) (r .clash) (r .multiplexed) ⌝ }
 {
+    let mut held = [0u8; SLAVES_ROOM];
+    all_held(file, &mut held);
     let mut written = Rows {
         length: 0,
         clash: false,
@@ -123,7 +140,8 @@ pub fn write_rounds(
     };
     let mut round = 0;
     while round < ROUNDS {
-        written = write_round(file, places, master, round, written, head, rows);
+        head[RECORD_SIZE + round] = index_byte(round, written.length);
+        written = write_round(file, places, master, round, &held, written, rows);
         round = round + 1;
     }
     written

@@ -6,7 +6,6 @@ pub mod HolderLaws
 -- ground 24, and a summary that matches
 pub mod MatchLaws
 -- a round and a naming step given a summary
-pub mod Moves
 pub mod RoundLaws
 pub mod StepLaws
 -- the answers are told apart

@@ -38,7 +38,7 @@ use Rattle.cluster.proofs.RoundCall.{exchanged-round}
 use Rattle.cluster.proofs.FrameCall.{call-short}
 use Rattle.summary.specs.Inner.Kept.{namesPut, sliceAfter, RoundKept}
 use Rattle.summary.proofs.MatchLaws.{matches-room}
-use Rattle.summary.proofs.Moves.{Moved, round-moved}
+use Rattle.naming.proofs.Moves.{Moved, round-moved}
 
 -- ---- the slice after a call
 

@@ -1,15 +1,13 @@
 -- A naming step given a summary: one law for each way. Given one that matches, it is the step without it, and the summary behind it.
 -- Assumes nothing.
-use Prim.Native.Nat.{ℕ, _≤_, _<_}
+use Prim.Native.Nat.{ℕ}
 use native.Mathlib.Omega.{arith}
 use mathlib.Core.Path.{_≡_, refl, sym, ap, _∙_}
 use mathlib.Core.Logic.{_≢_}
 use mathlib.Core.List.{List}
 use mathlib.Core.Bool.{Bool, true, false}
-use lib.ListN.{length}
 use lib.Dec.{eqb}
 use borrow.Author.Tests.{eqb-true, eqb-false}
-use Rattle.file.specs.Rules.Order.{firstOf}
 use Rattle.file.specs.Rules.Results.{Result, refused, done}
 use Rattle.file.specs.Rules.Cluster.{logicalNames}
 use Rattle.file.specs.Rules.Decode.{decode}
@@ -20,27 +18,39 @@ use Rattle.file.specs.declared.survey.FileAnswer.{FileAnswer}
 use Rattle.file.specs.declared.survey.FileAnswer.the-variants as answers
 use Rattle.file.proofs.Order.{byCase}
 use Rattle.file.proofs.Surveyed.{survey-accepted, survey-refused}
-use Rattle.cluster.specs.Rules.Bus.{slots}
 use Rattle.cluster.specs.Rules.Summary.{kept, wrongSummary, keptFor}
 use Rattle.cluster.specs.Claims.Renaming.{namesOf}
 use Rattle.cluster.specs.Claims.Summary.{Matches}
 use Rattle.cluster.proofs.SummaryLaws.{right-matches, given-wrong}
-use Rattle.naming.specs.Rules.Run.{Position, running, runGrounds}
-use Rattle.naming.specs.Rules.Step.{StepDone, ended, stepGround, stepMade, stepOn, stepKeepingGround, stepKeeping}
+use Rattle.naming.specs.Rules.Run.{Position, running}
+use Rattle.naming.specs.Rules.Step.{StepDone, stepGround, stepOn, stepKeepingGround, stepKeeping}
 use Rattle.naming.proofs.StepLaws.{step-refused, step-ended, step-made}
 use Rattle.naming.proofs.StepKeeping.{file-step, matched-step, step-keeping-refused, step-keeping-accepted}
-use Rattle.naming.proofs.StepCode.{step-short, step-unfit, step-over, step-goes}
-use Rattle.summary.specs.Inner.Kept.{namesPut, sliceAfter, StepKept}
-use Rattle.summary.proofs.MatchLaws.{matches-kept}
+use Rattle.summary.specs.Inner.Kept.{namesPut, sliceAfter, isRefused, StepKept}
 use Rattle.summary.proofs.RoundLaws.{slice-carried, slice-refused}
 
 abbrev Answered : Type 0
 Answered = Result StepDone × Position × List ℕ × List ℕ
 
--- the slice of a step that makes its round
-made-slice : {answer : Result StepDone} (file slice : List ℕ) {slice′ : List ℕ} {r : StepDone} → answer ≡ done r → slice′ ≡ namesPut file slice → slice′ ≡ sliceAfter answer file slice
-unfolding sliceAfter
-made-slice file slice e put = rw e put
+-- the slice behind a step, by its answer
+slice-same : {A : Type 0} (answer : Result A) (file slice : List ℕ) → isRefused answer ≡ true → slice ≡ sliceAfter answer file slice
+unfolding isRefused sliceAfter
+slice-same (refused n) file slice e = refl
+slice-same (done a) file slice e = cc
+
+slice-new : {A : Type 0} (answer : Result A) (file slice : List ℕ) → isRefused answer ≡ false → namesPut file slice ≡ sliceAfter answer file slice
+unfolding isRefused sliceAfter
+slice-new (refused n) file slice e = cc
+slice-new (done a) file slice e = refl
+
+module _
+    (file : List ℕ) (p : Position) (names buffer slice : List ℕ) {answer : Result StepDone} {p′ : Position} {buffer′ file′ : List ℕ}
+    (is : (answer, p′, buffer′, file′) ≡ stepOn file p names buffer) {t : Bool} (test : t ≡ isRefused answer) where
+  pub slice-turned : t ≡ true → StepKept file p names buffer slice answer p′ buffer′ file′ slice
+  slice-turned e = record { step = is; put = slice-same answer file′ slice (sym test ∙ e) }
+
+  pub slice-put : t ≡ false → {slice′ : List ℕ} → slice′ ≡ namesPut file′ slice → StepKept file p names buffer slice answer p′ buffer′ file′ slice′
+  slice-put e put = record { step = is; put = put ∙ slice-new answer file′ slice (sym test ∙ e) }
 
 module _ (file : List ℕ) (p : Position) (names buffer slice : List ℕ) (count : ℕ) where
   turned : {n : ℕ} → stepKeepingGround file p names (kept count slice) buffer ≡ n → n ≢ 0 → (refused n, p, buffer, file, kept count slice) ≡ stepKeeping file p names (kept count slice) buffer
@@ -87,27 +97,7 @@ module _ (file : List ℕ) (p : Position) (names buffer slice : List ℕ) (count
             rw (slice-refused file′ slice (ap (λ (r : Answered). r .0) told))
             (ap (λ (r : Answered). (r .0, r .1, r .2, r .3, kept count slice)) told ∙ turned ground-same some))
 
-        pub stepping-short : length buffer < slots → (refused 9, p, buffer, file, kept count slice) ≡ stepKeeping file p names (kept count slice) buffer
-        unfolding sliceAfter
-        stepping-short short = same-step (step-short file p names buffer s accepted short)
-
-        module _ (long : slots ≤ length buffer) {g : ℕ} (is : g ≡ firstOf (runGrounds names p)) where
-          pub stepping-unfit : (g ≡ 0 → ⊥) → (refused g, p, buffer, file, kept count slice) ≡ stepKeeping file p names (kept count slice) buffer
-          unfolding sliceAfter
-          stepping-unfit n = same-step (step-unfit file p names buffer s accepted long is n)
-
-          module _ (fits : g ≡ 0) where
-            -- the names of an ended run's file stand in the slice already
-            pub stepping-over : (p .end ≡ running → ⊥) → (done ended, p, buffer, file, kept count slice) ≡ stepKeeping file p names (kept count slice) buffer
-            stepping-over n =
-                let same : kept count (sliceAfter (done ended) file slice) ≡ kept count slice = slice-carried {answer = done ended} count file slice refl ∙ matches-kept file matched in
-                rw same at (same-step (step-over file p names buffer s accepted long is fits n))
-
-            pub stepping-goes :
-                {answer : Result StepDone} {p′ : Position} {buffer′ file′ slice′ : List ℕ} → p .end ≡ running →
-                StepKept file p names buffer slice answer p′ buffer′ file′ slice′ →
-                (answer, p′, buffer′, file′, kept count slice′) ≡ stepKeeping file p names (kept count slice) buffer
-            unfolding stepMade
-            stepping-goes {answer} {p′} {buffer′} {file′} {slice′} runs k =
-                let put = made-slice file′ slice (ap (λ (r : Answered). r .0) (k .step)) (k .put) in
-                rw put (same-step (step-goes file p names buffer s accepted long is fits runs (k .step)))
+        pub stepping-kept :
+            {answer : Result StepDone} {p′ : Position} {buffer′ file′ slice′ : List ℕ} → StepKept file p names buffer slice answer p′ buffer′ file′ slice′ →
+            (answer, p′, buffer′, file′, kept count slice′) ≡ stepKeeping file p names (kept count slice) buffer
+        stepping-kept k = rw (k .put) (same-step (k .step))

@@ -5,24 +5,31 @@ ghost use lib.ListN.{length};
 ghost use Rattle.file.specs.Inner.Accepted.{Placed, slaveCount};
 ghost use Rattle.cluster.specs.Rules.Summary.{kept};
 ghost use Rattle.naming.specs.Rules.Step.{stepKeeping};
-ghost use Rattle.naming.specs.Inner.Answers.{positionOf, steppedOf, runAfter, StepGoes};
-ghost use Rattle.summary.specs.Inner.Kept.{StepKept};
+ghost use Rattle.naming.specs.Inner.Answers.{positionOf, steppedOf, runAfter};
+ghost use Rattle.summary.specs.Inner.Kept.{isRefused, StepKept};
 use crate::matching::is_wrong;
-use cluster::answer::SLOTS;
 use file::readers::logical_names;
 use file::survey::FileAnswer;
 use file::survey::survey;
 use file::types::PLACES;
 use file::types::Refusal;
 use file::types::SlavePlaces;
-use naming::position::RUNNING;
 use naming::position::RunPosition;
 use naming::run::Stepped;
-use naming::run::make_step;
-use naming::run::run_ground;
+use naming::run::step_on;
 
-// A step of a running position, on a file that is known to be accepted; the names that the file then holds are put into the slice.
-fn make_keeping(
+fn is_refused(stepped: Stepped) -> bool
+    ensures { λ r. ⌜ r ≡ isRefused (steppedOf stepped) ⌝ }
+{
+    match stepped {
+        Stepped::Refused(_) => true,
+        Stepped::Ended => false,
+        Stepped::Made { senders: _, run: _ } => false,
+    }
+}
+
+// A step on a file that is known to be accepted; unless it is refused the names that the file then holds are put into the slice.
+fn keep_step(
     file: &mut [u8],
     places: &SlavePlaces,
     run: RunPosition,
@@ -30,10 +37,13 @@ fn make_keeping(
     answer: &mut [u8],
     held: &mut [u8],
 ) -> Stepped
-    requires { ⌜ Placed (now file) (now places) × StepGoes (now names) (positionOf run) (now answer) × (slaveCount (now file) ≤ length (now held)) ⌝ }
+    requires { ⌜ Placed (now file) (now places) × (slaveCount (now file) ≤ length (now held)) ⌝ }
     ensures { λ r. ⌜ StepKept (now (file .entry)) (positionOf run) (now (names .entry)) (now (answer .entry)) (now (held .entry)) (steppedOf r) (runAfter (positionOf run) r) (now (answer .exit)) (now (file .exit)) (now (held .exit)) ⌝ }
 {
-    let stepped = make_step(file, places, run, names, answer);
+    let stepped = step_on(file, places, run, names, answer);
+    if is_refused(stepped) {
+        return stepped;
+    }
     logical_names(file, places, held);
     stepped
 }
@@ -57,15 +67,5 @@ pub fn step_keeping(
     if is_wrong(file, &places, held, count) {
         return Stepped::Refused(Refusal::SUMMARY);
     }
-    if answer.len() < SLOTS {
-        return Stepped::Refused(Refusal::BUFFER);
-    }
-    let ground = run_ground(names, run);
-    if ground != 0 {
-        return Stepped::Refused(Refusal(ground));
-    }
-    if run.end != RUNNING {
-        return Stepped::Ended;
-    }
-    make_keeping(file, &places, run, names, answer, held)
+    keep_step(file, &places, run, names, answer, held)
 }

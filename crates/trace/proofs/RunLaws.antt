@@ -5,46 +5,74 @@ use native.Mathlib.Nat.{add-zero}
 use native.Mathlib.Omega.{arith}
 use mathlib.Core.Path.{_≡_, refl, sym, ap, ap₂, _∙_, subst}
 use mathlib.Core.List.{List, [], _∷_}
-use mathlib.Core.Bool.{true, false}
-use lib.ListN.{length, take, drop}
+use mathlib.Core.Bool.{Bool, true, false, cond}
+use lib.ListN.{length, getD, take, drop, replicate, length-replicate}
+use lib.Dec.{eqb}
 use borrow.Author.Tests.{eqb-true}
-use Rattle.file.specs.Rules.Bytes.{Bytes, part}
+use mir.Val.{Fits}
+use mir.Syntax.{w8}
+use Rattle.file.specs.Rules.Bytes.{part}
 use Rattle.file.specs.Inner.Numbers.{ByteAt, NumberAt}
 use Rattle.file.specs.Rules.Decode.{decode}
-use Rattle.file.specs.Inner.Accepted.{Placed}
+use Rattle.file.specs.Rules.Cluster.{Cluster}
+use Rattle.file.specs.Inner.Accepted.{Becomes, Placed}
+use Rattle.file.proofs.Order.{byCase, clash}
+use Rattle.file.proofs.SurveyLaws.{bytes-known}
 use Rattle.file.proofs.NumberLaws.{byte-number}
 use Rattle.cluster.specs.Rules.Bus.{slots}
 use Rattle.cluster.specs.Rules.Grounds.{roundBy}
 use Rattle.cluster.specs.Rules.Round.{Answer}
-use Rattle.cluster.specs.Inner.Carried.{Exchanged}
+use Rattle.cluster.specs.Inner.Grounds.{frameGround}
+use Rattle.cluster.specs.Inner.Carried.{answerTo, leftBy, heardIn, Exchanged}
+use Rattle.cluster.specs.Inner.Unheard.{MaySleep, LeftUnheard}
 use Rattle.cluster.proofs.RoundCall.{exchanged-round}
-use Rattle.cluster.proofs.FrameCall.{exchange-placed}
+use Rattle.cluster.proofs.FrameCall.{left-placed}
+use Rattle.frame.specs.Rules.Fireworks.{Round}
+use Rattle.frame.specs.Inner.Answers.{fireworkRound}
+use Rattle.frame.specs.declared.firework.Firework.{Firework}
 use Rattle.trace.specs.Rules.Layout.{headerSize, rowSize}
 use Rattle.trace.specs.Rules.Trace.{frameCount, dataLength, offsetIn, lengthIn, dataPlace, wholeRows, brokenTrace, framesFrom, framesOf}
-use Rattle.trace.specs.Rules.Run.{sent, afterFrames, Report, noFrames, sumOf, counted, reportFrom}
+use Rattle.trace.specs.Rules.Run.{sent, afterFrames, Report, noFrames, sumOf, oneRefused, oneCarried, counted, reportFrom}
 use Rattle.trace.specs.Inner.Sent.{FewFrames, FrameSent, TraceSent}
 use Rattle.trace.proofs.Facts.{row-here, row-rest, rows-end, TraceFacts, trace-facts}
-use Rattle.trace.proofs.Runs.{sent-any, counted-sum}
+use Rattle.trace.proofs.Runs.{counted-sum}
 
 -- ---- one frame
 
--- a frame exchanged with a buffer of 64 bytes or more is sent
+-- it is counted by its answer
+counted-answer : (c : Cluster) (frame : List ℕ) (round : Round) (r : Report) → cond (eqb (frameGround c frame) 0) (oneCarried round r) (oneRefused r) ≡ counted (answerTo c frame) round r
+unfolding answerTo counted
+counted-answer c frame round r = byCase (eqb (frameGround c frame) 0) (λ e. rw e) (λ e. rw e)
+
+-- what it leaves is what it leaves where a buffer of 64 bytes is lent
 pub frame-sent :
-    {file places frame old new : List ℕ} {answer : Answer} {file′ : List ℕ} {r r′ : Report}
+    {file places frame file′ : List ℕ} (w : Firework) {carried sleepers : Bool} {r r′ : Report}
     → Placed file places
-    → Bytes frame
-    → slots ≤ length old
-    → Exchanged (decode file) frame old new answer file′
-    → r′ ≡ counted answer (roundBy frame) r
+    → ((k : ℕ) → Fits w8 (getD frame k 0))
+    → fireworkRound w ≡ roundBy frame
+    → LeftUnheard (decode file) frame carried sleepers file′
+    → r′ ≡ cond carried (oneCarried (fireworkRound w) r) (oneRefused r)
     → FrameSent file places frame r r′ file′
-frame-sent {file} {places} {frame} {old} {new} {answer} {file′} {r} {r′} p b long x is =
-    let all = exchanged-round file frame (p .file) long x in
-    let same = sent-any file frame old long in
+unfolding sent
+frame-sent {file} {places} {frame} {file′} w {r = r} {r′} p fit opens left is =
+    let c : Cluster = decode file in
+    let buffer : List ℕ = replicate slots 0 in
+    let becomes : Becomes file′ (leftBy c frame) = left .left .becomes in
+    let exchanged : Exchanged c frame buffer (heardIn c frame buffer) (answerTo c frame) file′ = record { answers = refl; buffer = refl; becomes = becomes } in
+    let all = exchanged-round file frame (p .file) (omega (arith, length-replicate {A = ℕ} slots 0)) exchanged in
+    let count : r′ ≡ counted (answerTo c frame) (roundBy frame) r = (is ∙ rw (left .fits, opens)) ∙ counted-answer c frame (roundBy frame) r in
     record {
-      report = is ∙ ap (λ (a : Answer). counted a (roundBy frame) r) (ap (λ (z : Answer × List ℕ × List ℕ). z .0) all ∙ same .answer);
-      after = ap (λ (z : Answer × List ℕ × List ℕ). z .2) all ∙ same .file;
-      placed = exchange-placed p b x;
+      report = count ∙ ap (λ (z : Answer × List ℕ × List ℕ). counted (z .0) (roundBy frame) r) all;
+      after = ap (λ (z : Answer × List ℕ × List ℕ). z .2) all;
+      placed = left-placed p (bytes-known frame (λ k. omega (arith, fit k))) becomes;
     }
+
+-- and whether someone may be asleep in the file; before the first frame anyone may
+pub frame-sleepers : {c : Cluster} {frame file′ : List ℕ} {carried sleepers : Bool} → LeftUnheard c frame carried sleepers file′ → MaySleep sleepers (decode file′)
+frame-sleepers {sleepers = sleepers} left = subst (MaySleep sleepers) (sym (left .left .becomes .decoded)) (left .left .awake)
+
+pub anyone-may : (c : Cluster) → MaySleep true c
+anyone-may c none = clash refl none
 
 -- ---- the frames that are left
 

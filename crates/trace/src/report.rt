@@ -1,13 +1,11 @@
 // The report of a run: "the numbers of MSA, MSD, multipartner and refused frames".
 ghost use mathlib.Core.Path.{_≡_};
-ghost use Rattle.cluster.specs.Rules.Grounds.{roundBy};
-ghost use Rattle.cluster.specs.Inner.Answers.{answerOf};
-ghost use Rattle.trace.specs.Rules.Run.{oneRefused, oneCarried, counted};
+ghost use mathlib.Core.Bool.{cond};
+ghost use Rattle.frame.specs.Inner.Answers.{fireworkRound};
+ghost use Rattle.trace.specs.Rules.Run.{oneRefused, oneCarried};
 ghost use Rattle.trace.specs.Inner.Answers.{reportIn};
 ghost use Rattle.trace.specs.Inner.Sent.{FewFrames};
-use cluster::answer::RoundAnswer;
 use frame::firework::Firework;
-use frame::firework::firework_of;
 
 pub struct Report {
     pub msa: u64,
@@ -36,14 +34,10 @@ fn one_refused(report: Report) -> Report
 }
 
 // A frame that was carried out, by its firework. None without one is.
-fn one_carried(report: Report, frame: &[u8]) -> Report
+fn one_carried(report: Report, firework: Firework) -> Report
     requires { ⌜ FewFrames (reportIn report) ⌝ }
-    ensures { λ r. ⌜ reportIn r ≡ oneCarried (roundBy (now (frame .entry))) (reportIn report) ⌝ }
+    ensures { λ r. ⌜ reportIn r ≡ oneCarried (fireworkRound firework) (reportIn report) ⌝ }
 {
-    if frame.len() == 0 {
-        return one_refused(report);
-    }
-    let firework = firework_of(frame[0]);
     match firework {
         Firework::None => one_refused(report),
         Firework::Address => Report {
@@ -68,12 +62,12 @@ fn one_carried(report: Report, frame: &[u8]) -> Report
 }
 
 // One frame more: "a refused frame counting as refused only".
-pub fn counted(report: Report, answer: RoundAnswer, frame: &[u8]) -> Report
+pub fn counted(report: Report, carried: bool, firework: Firework) -> Report
     requires { ⌜ FewFrames (reportIn report) ⌝ }
-    ensures { λ r. ⌜ reportIn r ≡ counted (answerOf answer) (roundBy (now (frame .entry))) (reportIn report) ⌝ }
+    ensures { λ r. ⌜ reportIn r ≡ cond carried (oneCarried (fireworkRound firework) (reportIn report)) (oneRefused (reportIn report)) ⌝ }
 {
-    match answer {
-        RoundAnswer::Refused(_) => one_refused(report),
-        RoundAnswer::Carried(_) => one_carried(report, frame),
+    if !carried {
+        return one_refused(report);
     }
+    one_carried(report, firework)
 }

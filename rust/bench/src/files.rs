@@ -56,14 +56,26 @@ pub fn most_entries(edition: Edition) -> Vec<u8> {
     let slaves = if edition == Edition::One { MOST_SLAVES } else { 62 };
     let mut cluster = model::check(&small(slaves, 64, |_| 0xFF)).expect("a legal file");
     cluster.edition = edition;
-    let mut missing = edition.most_bytes() - cluster.length();
+    grown(cluster, edition.most_bytes())
+}
+
+/// 32 slaves of 8 files in so many bytes.
+pub fn sized(bytes: usize, edition: Edition) -> Vec<u8> {
+    let mut cluster = model::check(&small(MOST_SLAVES, 8, |_| 0xFF)).expect("a legal file");
+    cluster.edition = edition;
+    grown(cluster, bytes)
+}
+
+/// With records behind those there are, file by file, up to so many bytes.
+fn grown(mut cluster: Cluster, bytes: usize) -> Vec<u8> {
+    let mut missing = bytes - cluster.length();
     for file in cluster.slaves.iter_mut().flat_map(|slave| &mut slave.files) {
         let grown = missing.min(4 * (255 - file.last_record()));
         file.bytes.resize(file.bytes.len() + grown, 0);
         missing -= grown;
     }
     let file = cluster.encode();
-    assert_eq!(file.len(), edition.most_bytes());
+    assert_eq!(file.len(), bytes);
     file
 }
 

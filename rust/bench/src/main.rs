@@ -1,44 +1,73 @@
 //! `bench ENGINE WORKLOAD TIMES`: makes the calls of one workload so many times, and nothing else worth
 //! counting. bench.sh runs it under callgrind with k and with 2k times; the difference is k workloads.
 //!
-//! `bench --list` names the workloads, `bench --growth` those that show how the calls grow.
+//! `bench --list` names the workloads, `bench --growth` those that show how the calls grow, `bench --floor WORKLOAD` tells
+//! the floor of one. Of what `bench.sh growth` prints `bench --picture` makes a picture, `bench --tables` tables.
 
 #![forbid(unsafe_code)]
 
 mod files;
+mod floor;
+mod growth;
+mod measured;
+mod picture;
+mod tables;
 mod workload;
 
 use compare::engine::{Engine, Plain};
+use measured::Measured;
 use std::process::ExitCode;
 use workload::Workload;
+
+const USAGE: &str = "usage: bench plain|nested|library WORKLOAD TIMES | --list | --growth | --floor WORKLOAD
+       bench --picture|--tables <WHAT-BENCH.SH-PRINTS";
 
 fn main() -> ExitCode {
     let arguments: Vec<String> = std::env::args().skip(1).collect();
     let words: Vec<&str> = arguments.iter().map(String::as_str).collect();
-    match words[..] {
-        ["--list"] => print_names(&workload::TABLE),
-        ["--growth"] => print_names(&workload::GROWTH),
-        [engine, name, times] => {
-            let (Some(engine), Some(mut workload), Ok(times)) =
-                (engine_of(engine), Workload::of(name), times.parse())
-            else {
-                eprintln!("no such engine or workload, or no number");
-                return ExitCode::from(2);
-            };
-            workload.make(engine, times);
+    let done = match words[..] {
+        ["--list"] => Ok(workload::TABLE.join("\n")),
+        ["--growth"] => Ok(growth::workloads().join("\n")),
+        ["--floor", name] => floor_of(name),
+        ["--picture"] => of_measured(picture::picture),
+        ["--tables"] => of_measured(tables::tables),
+        [engine, name, times] => return make(engine, name, times),
+        _ => Err(USAGE),
+    };
+    match done {
+        Ok(text) => {
+            println!("{}", text.trim_end());
+            ExitCode::SUCCESS
         }
-        _ => {
-            eprintln!("usage: bench plain|nested|library WORKLOAD TIMES | --list | --growth");
-            return ExitCode::from(2);
-        }
+        Err(message) => refuse(message),
     }
+}
+
+fn refuse(message: &str) -> ExitCode {
+    eprintln!("{message}");
+    ExitCode::from(2)
+}
+
+/// The calls, and nothing printed.
+fn make(engine: &str, name: &str, times: &str) -> ExitCode {
+    let (Some(engine), Some(mut workload), Ok(times)) = (engine_of(engine), Workload::of(name), times.parse())
+    else {
+        return refuse("no such engine or workload, or no number");
+    };
+    workload.make(engine, times);
     ExitCode::SUCCESS
 }
 
-fn print_names(names: &[&str]) {
-    for name in names {
-        println!("{name}");
-    }
+fn floor_of(name: &str) -> Result<String, &'static str> {
+    let workload = Workload::of(name).ok_or("no such workload")?;
+    Ok(floor::of(&workload).to_string())
+}
+
+/// What is made of the lines on standard input.
+fn of_measured(made: impl Fn(&Measured) -> String) -> Result<String, &'static str> {
+    let lines = std::io::read_to_string(std::io::stdin()).map_err(|_| "no text")?;
+    let measured = Measured::of(&lines).ok_or("not what bench.sh prints")?;
+    Ok(made(&measured))
 }
 
 fn engine_of(name: &str) -> Option<&'static dyn Engine> {

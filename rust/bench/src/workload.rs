@@ -64,33 +64,9 @@ pub const TABLE: [&str; 54] = [
     "wide-join-32-32",
 ];
 
-/// How the check grows in slaves, and in files of a slave; how a round grows in slaves and entries.
-pub const GROWTH: [&str; 22] = [
-    "check-0-2",
-    "check-1-2",
-    "check-2-2",
-    "check-4-2",
-    "check-8-2",
-    "check-16-2",
-    "check-32-2",
-    "check-32-4",
-    "check-32-8",
-    "check-32-16",
-    "check-32-32",
-    "check-32-64",
-    "partner-1-63",
-    "partner-2-63",
-    "partner-4-63",
-    "partner-8-63",
-    "partner-16-63",
-    "partner-32-63",
-    "partner-32-126",
-    "partner-32-220",
-    "naming-1",
-    "naming-8",
-];
-
-const MOST_OWNER_BYTES: usize = 396;
+pub const MOST_OWNER_BYTES: usize = 396;
+/// The name of slot 0 in an owner file.
+pub const MASTER: u8 = 0x63;
 
 /// The calls of one workload, with the memory they are lent.
 pub enum Workload {
@@ -183,18 +159,11 @@ impl Workload {
         let words: Vec<&str> = name.split('-').collect();
         let number = |word: &str| word.parse::<usize>().ok();
         Some(match words[..] {
-            ["check", "most"] => Workload::Check { file: files::most_entries(Edition::One) },
-            ["wide", "check", "most"] => Workload::Check { file: files::most_entries(Edition::Two) },
-            ["join", first, second] => join(number(first)?, number(second)?, Edition::One),
-            ["wide", "join", first, second] => join(number(first)?, number(second)?, Edition::Two),
-            ["wide", ..] => Workload::of(name.strip_prefix("wide-")?)?.in_edition_2()?,
-            ["widen", "most"] => convert(files::most_entries(Edition::One), Edition::Two),
-            ["narrow", "most"] => convert(widened(&files::most_entries(Edition::One)), Edition::One),
-            ["copy", "most"] => convert(files::most_entries(Edition::Two), Edition::Two),
-            ["check", "named", slaves] => Workload::Check { file: named(number(slaves)?) },
-            ["check", slaves, files] => {
-                Workload::Check { file: files::small(number(slaves)?, number(files)?, |_| 0xFF) }
+            ["check" | "widen" | "narrow" | "copy" | "join", ..] => Workload::of_files(&words, Edition::One)?,
+            ["wide", "check", "most" | "sized", ..] | ["wide", "join", ..] => {
+                Workload::of_files(&words[1..], Edition::Two)?
             }
+            ["wide", ..] => Workload::of(name.strip_prefix("wide-")?)?.in_edition_2()?,
             ["address" | "read" | "write" | "execute" | "sleep", ..] => Workload::of_operation(&words)?,
             ["partner", slaves, entries] => {
                 Workload::Frame { file: files::partners(number(slaves)?, number(entries)?), frame: vec![0xBA] }
@@ -207,13 +176,33 @@ impl Workload {
                 naming(files::small(slaves, 2, |_| 0xFF), (1..=slaves as u8).collect())
             }
             ["trace", reads, slaves] => reads_as_trace(number(reads)?, number(slaves)?),
+            ["rounds", reads, slaves] => reads_as_rounds(number(reads)?, number(slaves)?),
             ["owner", "1"] => Workload::Owner { file: files::owner_of_all() },
             ["owner", "most"] => Workload::Owner { file: files::most_owners() },
             ["owner", "none", slaves] => Workload::Owner { file: named(number(slaves)?) },
-            ["rounds", reads, slaves] => reads_as_rounds(number(reads)?, number(slaves)?),
             ["fill" | "holder" | "keeping", ..] => Workload::WithSummary(WithSummary::of(name)?),
             ["post" | "turn", ..] => Workload::of_screens(&words)?,
             ["pattern", class] => Workload::Pattern { pattern: pattern_of(class)? },
+            _ => return None,
+        })
+    }
+
+    /// A check, a conversion or a join of files of an edition.
+    fn of_files(words: &[&str], edition: Edition) -> Option<Workload> {
+        let number = |word: &str| word.parse::<usize>().ok();
+        Some(match *words {
+            ["check", "most"] => Workload::Check { file: files::most_entries(edition) },
+            ["check", "sized", bytes] => Workload::Check { file: files::sized(number(bytes)?, edition) },
+            ["check", "named", slaves] => Workload::Check { file: named(number(slaves)?) },
+            ["check", slaves, files] => {
+                Workload::Check { file: files::small(number(slaves)?, number(files)?, |_| 0xFF) }
+            }
+            ["widen", "most"] => convert(files::most_entries(Edition::One), Edition::Two),
+            ["narrow", "most"] => convert(widened(&files::most_entries(Edition::One)), Edition::One),
+            ["copy", "most"] => convert(files::most_entries(Edition::Two), Edition::Two),
+            ["widen", "sized", bytes] => convert(files::sized(number(bytes)?, Edition::One), Edition::Two),
+            ["narrow", "sized", bytes] => convert(files::sized(number(bytes)?, Edition::Two), Edition::One),
+            ["join", first, second] => join(number(first)?, number(second)?, edition),
             _ => return None,
         })
     }
@@ -267,6 +256,9 @@ impl Workload {
             Workload::Naming { file, names, rounds } => {
                 Some(Workload::Naming { file: widened(&file), names, rounds })
             }
+            Workload::Trace { file, trace, frames } => {
+                Some(Workload::Trace { file: widened(&file), trace, frames })
+            }
             _ => None,
         }
     }
@@ -280,52 +272,30 @@ impl Workload {
                 Workload::Frame { file, frame } => {
                     accepted(engine.round(black_box(file), black_box(frame), &mut answer, &mut senders));
                 }
-                Workload::Naming { file, names, rounds } => {
-                    assert_eq!(naming_run(engine, &mut file.clone(), names), *rounds);
-                }
-                Workload::Trace { file, trace, frames } => {
-                    let mut report: ReportWords = [0; 5];
-                    accepted(engine.trace(black_box(file), black_box(trace), &mut report));
-                    assert_eq!(report, [*frames / 2, *frames / 2, 0, 0, *frames]);
-                }
-                Workload::Owner { file } => {
-                    let mut buffer = [0; MOST_OWNER_BYTES];
-                    let mut length = 0;
-                    accepted(engine.owner(black_box(file), 0x63, &mut buffer, &mut length));
-                    black_box((buffer, length));
-                }
-                Workload::Convert { file, edition, buffer } => {
-                    let mut length = 0;
-                    accepted(engine.to_edition(black_box(file), *edition, buffer, &mut length));
-                    black_box((buffer, length));
-                }
                 Workload::Frames { file, frames } => {
                     for frame in frames {
                         accepted(engine.round(black_box(file), black_box(frame), &mut answer, &mut senders));
                     }
                 }
-                Workload::WithSummary(workload) => workload.make(engine, &mut answer, &mut senders),
-                Workload::Post { state, screen } => {
-                    let mut state = *state;
-                    accepted(engine.post(black_box(&mut state), black_box(*screen), SHOWN));
-                    black_box(state);
+                Workload::Naming { file, names, rounds } => {
+                    assert_eq!(naming_run(engine, &mut file.clone(), names), *rounds);
                 }
-                Workload::Turn { file, state } => {
-                    let (mut state, mut screen) = (*state, 0);
-                    let told = Turn { senders: &mut senders, screen: &mut screen };
-                    accepted(engine.turn(black_box(file), black_box(&mut state), &mut answer, told));
-                    black_box((state, screen));
+                Workload::Trace { file, trace, frames } => run_trace(engine, file, trace, *frames),
+                Workload::Owner { file } => write_owner_file(engine, file),
+                Workload::Convert { file, edition, buffer } => {
+                    write_file(buffer, |buffer, length| {
+                        engine.to_edition(black_box(file), *edition, buffer, length)
+                    });
                 }
                 Workload::Join { first, second, buffer } => {
-                    let mut length = 0;
-                    accepted(engine.join(black_box(first), black_box(second), buffer, &mut length));
-                    black_box((buffer, length));
+                    write_file(buffer, |buffer, length| {
+                        engine.join(black_box(first), black_box(second), buffer, length)
+                    });
                 }
-                Workload::Pattern { pattern } => {
-                    let mut kind = 0;
-                    accepted(engine.pattern(black_box(*pattern), &mut kind));
-                    black_box(kind);
-                }
+                Workload::WithSummary(workload) => workload.make(engine, &mut answer, &mut senders),
+                Workload::Post { state, screen } => post_read(engine, *state, *screen),
+                Workload::Turn { file, state } => take_turn(engine, file, *state, &mut answer, &mut senders),
+                Workload::Pattern { pattern } => tell_class(engine, *pattern),
             }
         }
         black_box(senders);
@@ -478,6 +448,42 @@ fn naming(file: Vec<u8>, names: Vec<u8>) -> Workload {
     let cluster = model::check(&file).expect("an accepted file");
     let rounds = closed_figures(&cluster, &names).rounds;
     Workload::Naming { file, names, rounds }
+}
+
+fn run_trace(engine: &dyn Engine, file: &mut [u8], trace: &[u8], frames: u64) {
+    let mut report: ReportWords = [0; 5];
+    accepted(engine.trace(black_box(file), black_box(trace), &mut report));
+    assert_eq!(report, [frames / 2, frames / 2, 0, 0, frames]);
+}
+
+fn write_owner_file(engine: &dyn Engine, file: &[u8]) {
+    let mut buffer = [0; MOST_OWNER_BYTES];
+    write_file(&mut buffer, |buffer, length| engine.owner(black_box(file), MASTER, buffer, length));
+}
+
+/// A call that writes a file into a buffer and tells its length.
+fn write_file(buffer: &mut [u8], call: impl Fn(&mut [u8], &mut u64) -> u8) {
+    let mut length = 0;
+    accepted(call(buffer, &mut length));
+    black_box((buffer, length));
+}
+
+fn post_read(engine: &dyn Engine, mut state: State, screen: u8) {
+    accepted(engine.post(black_box(&mut state), black_box(screen), SHOWN));
+    black_box(state);
+}
+
+fn take_turn(engine: &dyn Engine, file: &mut [u8], mut state: State, answer: &mut [u8], senders: &mut u64) {
+    let mut screen = 0;
+    let told = Turn { senders, screen: &mut screen };
+    accepted(engine.turn(black_box(file), black_box(&mut state), answer, told));
+    black_box((state, screen));
+}
+
+fn tell_class(engine: &dyn Engine, pattern: u16) {
+    let mut kind = 0;
+    accepted(engine.pattern(black_box(pattern), &mut kind));
+    black_box(kind);
 }
 
 /// Makes the run; the rounds it counts.

@@ -1,106 +1,133 @@
 //! Between the editions: header, table and directories are written anew, the files of a slave copied in one piece.
 
-use crate::edition::{Edition, NARROW, WIDE};
-use crate::survey::{file_in, Survey};
+use crate::edition::{bytes_of, in_edition, Edition, NARROW_ENTRY, WIDE_ENTRY};
+use crate::survey::{file_count, place_in, range_in, Survey};
 
 const EDITION_LIMITS: u8 = 25;
 const SHORT_BUFFER: u8 = 26;
 /// Epoch, flag and the three pending bytes.
 const STATE_BYTES: usize = 5;
-const MARK: [u8; 2] = [0x54, 0x41];
+/// Long copies are made in pieces of so many bytes.
+const PIECE: usize = 1024;
 
 pub fn to_edition_1(file: &[u8], buffer: &mut [u8], length: &mut u64) -> u8 {
-    convert(file, &NARROW, buffer, length)
+    in_edition!(file, to_narrow(file, buffer, length))
 }
 
 pub fn to_edition_2(file: &[u8], buffer: &mut [u8], length: &mut u64) -> u8 {
-    convert(file, &WIDE, buffer, length)
+    in_edition!(file, to_wide(file, buffer, length))
 }
 
-fn convert(file: &[u8], to: &Edition, buffer: &mut [u8], length: &mut u64) -> u8 {
-    let mut survey = Survey::new();
+#[inline(always)]
+fn to_narrow<const FROM: usize>(file: &[u8], buffer: &mut [u8], length: &mut u64) -> u8 {
+    convert::<FROM, NARROW_ENTRY>(file, buffer, length)
+}
+
+#[inline(always)]
+fn to_wide<const FROM: usize>(file: &[u8], buffer: &mut [u8], length: &mut u64) -> u8 {
+    convert::<FROM, WIDE_ENTRY>(file, buffer, length)
+}
+
+#[inline(always)]
+fn convert<const FROM: usize, const TO: usize>(file: &[u8], buffer: &mut [u8], length: &mut u64) -> u8 {
+    let mut survey = Survey::<FROM>::new();
     let ground = survey.walk(file);
     if ground != 0 {
         return ground;
     }
-    let converted = converted_length(file, &survey, to);
+    let converted = converted_length::<FROM, TO>(file, &survey);
+    let to = Edition::of::<TO>();
     if survey.slaves().len() > usize::from(to.most_slaves) || converted > to.most_bytes {
         return EDITION_LIMITS;
     }
     let Some(front) = buffer.get_mut(..converted) else {
         return SHORT_BUFFER;
     };
-    if to.number == survey.edition().number {
-        front.copy_from_slice(file);
-    } else if to.number == NARROW.number {
-        put::<8, 4>(file, &survey, to, front);
+    if FROM == TO {
+        copy(file, front);
     } else {
-        put::<4, 8>(file, &survey, to, front);
+        put::<FROM, TO>(file, &survey, front);
     }
     *length = converted as u64;
     0
 }
 
 /// Header and entries change their size, the bytes of files do not.
-#[inline]
-pub fn converted_length(file: &[u8], survey: &Survey, to: &Edition) -> usize {
-    let from = survey.edition();
-    let entries: usize = survey.slaves().map(|slave| 1 + survey.file_count(file, slave)).sum();
-    let without_entries = file.len() - from.header_bytes - from.entry_bytes() * entries;
-    to.header_bytes + to.entry_bytes() * entries + without_entries
+#[inline(always)]
+pub fn converted_length<const FROM: usize, const TO: usize>(file: &[u8], survey: &Survey<FROM>) -> usize {
+    if FROM == TO {
+        return file.len();
+    }
+    let entries: usize = survey.table(file).iter().map(|entry| 1 + file_count(entry)).sum();
+    let without_entries = file.len() - Edition::of::<FROM>().header_bytes - FROM * entries;
+    Edition::of::<TO>().header_bytes + TO * entries + without_entries
 }
 
 /// The front is as long as the converted file. Entries of FROM bytes become such of TO bytes.
-fn put<const FROM: usize, const TO: usize>(file: &[u8], survey: &Survey, to: &Edition, front: &mut [u8]) {
-    let from = survey.edition();
-    let slaves = survey.slaves().len();
-    put_header(to, slaves as u8, front);
+#[inline(always)]
+fn put<const FROM: usize, const TO: usize>(file: &[u8], survey: &Survey<FROM>, front: &mut [u8]) {
+    let (from, to) = (Edition::of::<FROM>(), Edition::of::<TO>());
+    Edition::put_header::<TO>(survey.slaves().len(), front);
     front[to.epoch..to.epoch + STATE_BYTES].copy_from_slice(&file[from.epoch..from.epoch + STATE_BYTES]);
-    let mut place = to.header_bytes + TO * slaves;
-    for slave in survey.slaves() {
-        let directory = survey.directory_of::<FROM>(file, slave);
-        let count = directory.len() as u64;
-        let sleep = u64::from(file[from.sleep_place(slave)]);
-        let entry = (place as u64) << (4 * TO) | count << (4 * TO - 8) | sleep << (4 * TO - 16);
-        let table = to.header_bytes + TO * slave;
-        front[table..table + TO].copy_from_slice(&bytes_of::<TO>(entry));
-        place = put_slave::<FROM, TO>(file, directory, &mut front[place..], place);
+    let (table, place) = (to.header_bytes, to.header_bytes + TO * survey.slaves().len());
+    put_slaves::<FROM, TO>(file, survey, front, table, place, |_, _, _| ());
+}
+
+/// Writes the slaves one by one: the table entries at their place of the front, directories and files at theirs. Behind each one
+/// the front is handed on with the slave and with how much the places of its files have risen, which may wrap.
+#[inline(always)]
+pub fn put_slaves<const FROM: usize, const TO: usize>(
+    file: &[u8],
+    survey: &Survey<FROM>,
+    front: &mut [u8],
+    table: usize,
+    mut place: usize,
+    mut finish: impl FnMut(&mut [u8], usize, usize),
+) {
+    for (slave, entry) in survey.table(file).iter().enumerate() {
+        let directory = survey.directory(file, slave);
+        let at = table + TO * slave;
+        front[at..at + TO].copy_from_slice(&table_entry::<TO>(place, directory.len(), entry[FROM / 2 + 1]));
+        // Each slave has two files at least.
+        let [first, .., last] = directory else { continue };
+        let files = range_in(first).start..range_in(last).end;
+        let rise = (place + TO * directory.len()).wrapping_sub(files.start);
+        place = put_directory::<FROM, TO>(directory, front, place, rise);
+        let end = place + files.len();
+        copy(&file[files], &mut front[place..end]);
+        place = end;
+        finish(front, slave, rise);
     }
 }
 
-/// The header of a file that fills the front; epoch, flag and pending bytes are 0.
-pub fn put_header(to: &Edition, slaves: u8, front: &mut [u8]) {
-    let length = front.len();
-    front[..to.header_bytes].fill(0);
-    front[..4].copy_from_slice(&[MARK[0], MARK[1], to.number, slaves]);
-    to.put_offset(&mut front[4..], to.header_bytes);
-    to.put_offset(&mut front[4 + to.width..], length);
+#[inline(always)]
+pub fn table_entry<const ENTRY: usize>(directory: usize, count: usize, sleep: u8) -> [u8; ENTRY] {
+    let end = (count as u64) << 8 | u64::from(sleep);
+    bytes_of((directory as u64) << (4 * ENTRY) | end << (4 * ENTRY - 16))
 }
 
-/// A slave's directory in the front, which begins at this place, and its files behind it, which stand in one piece in both
-/// editions; the place behind them.
+/// A slave's directory at this place of the front. Its files stand in one piece in both editions, so that all their places rise
+/// by the same number. Returns the place behind the directory.
 #[inline(always)]
-pub fn put_slave<const FROM: usize, const TO: usize>(
-    file: &[u8],
+fn put_directory<const FROM: usize, const TO: usize>(
     directory: &[[u8; FROM]],
     front: &mut [u8],
     place: usize,
+    rise: usize,
 ) -> usize {
-    let (converted, behind) = front.split_at_mut(TO * directory.len());
-    let mut place = place + converted.len();
-    for (entry, into) in directory.iter().zip(converted.as_chunks_mut::<TO>().0) {
-        let number_and_records = u64::from(entry[0]) << 8 | u64::from(entry[1]);
-        *into = bytes_of(number_and_records << (8 * TO - 16) | place as u64);
-        place += file_in(entry).1.len();
+    let files = place + TO * directory.len();
+    for (entry, into) in directory.iter().zip(front[place..files].as_chunks_mut::<TO>().0) {
+        (into[0], into[1]) = (entry[0], entry[1]);
+        into[2..TO - 2].fill(0);
+        [into[TO - 2], into[TO - 1]] = place_in(entry).wrapping_add(rise as u16).to_be_bytes();
     }
-    let (first, last) = (directory.first().map(file_in), directory.last().map(file_in));
-    if let (Some((_, first)), Some((_, last))) = (first, last) {
-        behind[..last.end - first.start].copy_from_slice(&file[first.start..last.end]);
-    }
-    place
+    files
 }
 
-/// The number that an entry is, in its bytes.
-pub fn bytes_of<const ENTRY: usize>(entry: u64) -> [u8; ENTRY] {
-    *entry.to_be_bytes().last_chunk().expect("four bytes or eight")
+/// Copies in pieces: a long copy by the processor's own instruction counts as many instructions as it has bytes.
+#[inline(always)]
+pub fn copy(from: &[u8], to: &mut [u8]) {
+    for (from, to) in from.chunks(PIECE).zip(to.chunks_mut(PIECE)) {
+        to.copy_from_slice(from);
+    }
 }

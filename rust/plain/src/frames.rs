@@ -5,6 +5,7 @@ pub const MSD: u8 = 0x49;
 const FRAME_BYTES: usize = 6;
 
 /// The round of a firework of a multipartner frame.
+#[inline(always)]
 pub fn round_of(firework: u8) -> Option<u8> {
     match firework {
         0x78 => Some(0),
@@ -56,6 +57,7 @@ pub fn write_data(frame: &mut [u8], b0: u8, b1: u8, b2: u8, b3: u8) -> u8 {
 }
 
 /// Grounds 11 to 14 of a frame that begins with 0x55.
+#[inline(always)]
 pub fn address_ground(frame: &[u8]) -> u8 {
     let ground = data_ground(frame);
     if ground != 0 {
@@ -69,6 +71,7 @@ pub fn address_ground(frame: &[u8]) -> u8 {
 }
 
 /// Grounds 11 and 12 of a frame of six bytes.
+#[inline(always)]
 pub fn data_ground(frame: &[u8]) -> u8 {
     let &[firework, a, b, c, d, check] = frame else {
         return 11;
@@ -80,7 +83,7 @@ pub fn data_ground(frame: &[u8]) -> u8 {
     }
 }
 
-/// The check byte after four bytes, given as one number: the round's firework is folded in.
+/// The check byte after four bytes, given as one number in either order: the round's firework is folded in.
 #[inline]
 pub fn check_of(firework: u8, bytes: u32) -> u8 {
     let halves = bytes ^ bytes >> 16;

@@ -1,108 +1,181 @@
-//! Multipartner rounds. Each round descriptor list is read once: a 64-bit number holds the slots that an
-//! entry already covers, and for each slot stands who sends, who receives and from or to which place.
+//! Multipartner rounds. Each round descriptor list is read once, and each slot has a row of the places that are stored to and
+//! sent from.
 
-use crate::survey::{Survey, MOST_SLAVES};
-use crate::{ANSWER_BYTES, UNNAMED};
+use crate::edition::Edition;
+use crate::survey::{find_in, for_each_bit, Survey, MOST_SLAVES};
+use crate::{ANSWER_BYTES, BROADCAST};
+use std::array;
 
-/// As many as edition 1 has at most.
-const FEW_SLAVES: usize = 32;
-/// Operations 1 and 5 and the odd ones from 8 on, and 0, 2 and 4 and the even ones from 8 on, as sets of bits.
-const SENDS: u32 = 0b1010_1010_0010_0010;
-const RECEIVES: u32 = 0b0101_0101_0001_0101;
-/// Set in the operations from 8 on.
-const MULTIPLEXED: u32 = 0x8000;
+/// An entry's kind is its operation, and above that the length less one. So are the kinds of one slot that are not
+/// multiplexed and do not end, and all kinds of one slot.
+const SIMPLE_KINDS: u8 = 6;
+const ONE_SLOT_KINDS: u8 = 16;
+/// Operations 6 and 7 end the list: of these bits they have those.
+const END_BITS: u8 = 0b1110;
+const END: u8 = 0b0110;
+/// Operation 3 covers its slots and does nothing.
+const NOTHING: u8 = 3;
 /// Outside record 0x00.
-const LEAST_STORED: usize = 4;
+const LEAST_STORED: u32 = 4;
+/// The files that a receive stores in.
+const STORED: std::ops::RangeInclusive<u8> = 0x10..=0x3C;
+/// An address byte is a file number and below it the align; no such byte differs from the second one here in the align alone.
+const ALIGN_BITS: u32 = 3;
+const NO_ADDRESS: u32 = 0x100;
 
-/// Who acts in each slot, a bit a slave, and each slave's place for it.
+/// What stands in a row before a place does. Its two bytes differ: rows of one byte would be filled by an instruction that counts
+/// as many times as there are bytes.
+const NOT_READ: u16 = 1;
+
+/// The places of each slot, in a row of so many as there are slaves: from the front those that are stored to, from the back
+/// those that are sent from. A slave has at most one of them in a slot.
 struct Plan<const SLAVES: usize> {
-    senders: [u64; ANSWER_BYTES],
-    receivers: [u64; ANSWER_BYTES],
-    places: [[u16; ANSWER_BYTES]; SLAVES],
+    rows: [[u16; SLAVES]; ANSWER_BYTES],
+    /// Where the next one comes, as an index into all rows.
+    next_store: [u16; ANSWER_BYTES],
+    next_send: [u16; ANSWER_BYTES],
 }
 
-/// Runs the round, puts what was sent into the answer and returns the mask. A plan costs its size, so that of the few
-/// slaves that most clusters have is a smaller one.
-pub fn run(file: &mut [u8], survey: &Survey, round: u8, answer: &mut [u8; ANSWER_BYTES]) -> u64 {
-    if survey.slaves().len() <= FEW_SLAVES {
-        run_planned::<FEW_SLAVES>(file, survey, round, answer)
-    } else {
-        run_planned::<MOST_SLAVES>(file, survey, round, answer)
-    }
+/// A round descriptor list that is being read: the slots that its entries cover, and the file of which the last one spoke, since
+/// neighbouring entries often speak of one.
+struct List<'a, const ENTRY: usize> {
+    directory: &'a [[u8; ENTRY]],
+    covered: [bool; ANSWER_BYTES],
+    named: Named,
 }
 
-fn run_planned<const SLAVES: usize>(
+/// A file: its number as an address byte has it, its place, how many bytes it has to send, and how many to store to behind record
+/// 0x00. One that is not there has none.
+struct Named {
+    address: u32,
+    place: u32,
+    sent: u32,
+    stored: u32,
+}
+
+/// Runs the round, puts what was sent into the answer and returns the mask. A plan costs its size, so few slaves have a
+/// smaller one.
+pub fn run<const ENTRY: usize>(
     file: &mut [u8],
-    survey: &Survey,
+    survey: &Survey<ENTRY>,
     round: u8,
     answer: &mut [u8; ANSWER_BYTES],
 ) -> u64 {
-    let turns = turns_of(file[survey.epoch()]);
-    let mut plan: Plan<SLAVES> =
-        Plan { senders: [0; ANSWER_BYTES], receivers: [0; ANSWER_BYTES], places: [[0; ANSWER_BYTES]; SLAVES] };
-    for slave in survey.slaves() {
-        if survey.logical_name(file, slave) != UNNAMED && survey.is_awake(file, slave) {
-            if let Some((place, size)) = survey.find(file, slave, round) {
-                plan.read_list(file, survey, slave, &file[place + 4..place + size], turns);
-            }
-        }
+    match survey.slaves().len() {
+        0..=1 => run_planned::<ENTRY, 1>(file, survey, round, answer),
+        2..=8 => run_planned::<ENTRY, 8>(file, survey, round, answer),
+        9..=32 => run_planned::<ENTRY, 32>(file, survey, round, answer),
+        _ => run_planned::<ENTRY, MOST_SLAVES>(file, survey, round, answer),
     }
+}
+
+#[inline(never)]
+fn run_planned<const ENTRY: usize, const SLAVES: usize>(
+    file: &mut [u8],
+    survey: &Survey<ENTRY>,
+    round: u8,
+    answer: &mut [u8; ANSWER_BYTES],
+) -> u64 {
+    let turns = turns_of(file[Edition::of::<ENTRY>().epoch]);
+    let mut plan = Plan::<SLAVES>::new();
+    // All take part but the unnamed and who sleeps.
+    for_each_bit(survey.addressed(file, BROADCAST), |slave| {
+        let directory = survey.directory(file, slave);
+        if let Some((place, size)) = find_in(directory, round) {
+            let named = Named { address: NO_ADDRESS, place: 0, sent: 0, stored: 0 };
+            let mut list = List { directory, covered: [false; ANSWER_BYTES], named };
+            // Slot 0 never runs.
+            list.covered[0] = true;
+            plan.read_list(&mut list, file[place + 4..place + size].as_chunks().0, turns);
+        }
+    });
     plan.carry_out(file, answer)
 }
 
 impl<const SLAVES: usize> Plan<SLAVES> {
+    #[inline(always)]
+    fn new() -> Plan<SLAVES> {
+        let last = SLAVES as u16 - 1;
+        Plan {
+            rows: [[NOT_READ; SLAVES]; ANSWER_BYTES],
+            next_store: array::from_fn(|slot| (SLAVES * slot) as u16),
+            next_send: array::from_fn(|slot| (SLAVES * slot) as u16 + last),
+        }
+    }
+
     /// On its own, since its loop needs the registers.
     #[inline(never)]
-    fn read_list(&mut self, file: &[u8], survey: &Survey, slave: usize, list: &[u8], turns: u32) {
-        let places = &mut self.places[slave];
-        let slave_bit = 1 << slave;
-        // Slot 0 never runs.
-        let mut covered = 1u64;
-        // Neighbouring entries often speak of one file. A file that is not there has no bytes.
-        let (mut known, mut place, mut size) = (u32::MAX, 0, 0);
-        for entry in list.as_chunks().0 {
-            let entry = u32::from_be_bytes(*entry);
-            let operation = entry >> 12 & 15;
-            if operation == 6 || operation == 7 {
-                return;
+    fn read_list<const ENTRY: usize>(&mut self, list: &mut List<ENTRY>, entries: &[[u8; 4]], turns: u32) {
+        for entry in entries {
+            let kind = entry[2].rotate_left(4);
+            let slot = usize::from(entry[3] & 63);
+            if kind >= SIMPLE_KINDS {
+                if is_out_of_turn(kind, entry[3] >> 6, turns) {
+                    continue;
+                }
+                if kind & END_BITS == END {
+                    return;
+                }
+                if kind >= ONE_SLOT_KINDS {
+                    self.enter_several(list, entry);
+                    continue;
+                }
             }
-            let length_less_one = entry >> 8 & 15;
-            let start = entry & 63;
-            let slots = ((2u64 << length_less_one) - 1) << start;
-            let fresh = slots & !covered;
-            if fresh == 0 || is_out_of_turn(entry, turns) {
-                continue;
-            }
-            covered |= fresh;
-            let number = entry >> 26;
-            if known != number {
-                known = number;
-                (place, size) = survey.find(file, slave, number as u8).unwrap_or((0, 0));
-            }
-            let first = place + offset_of(entry);
-            if 1 << operation & SENDS != 0 {
-                let sends = Span { fresh, start, first, least: place, end: place + size };
-                sends.enter(&mut self.senders, places, slave_bit);
-            } else if 1 << operation & RECEIVES != 0 && (0x10..=0x3C).contains(&number) {
-                let stores = Span { fresh, start, first, least: place + LEAST_STORED, end: place + size };
-                stores.enter(&mut self.receivers, places, slave_bit);
-            }
-            if covered == u64::MAX {
-                return;
+            if !list.covered[slot] {
+                list.covered[slot] = true;
+                let offset = list.offset(entry);
+                self.enter(slot, kind, offset, &list.named);
             }
         }
     }
 
+    /// On its own for the same reason, and called cold.
+    #[cold]
+    #[inline(never)]
+    fn enter_several<const ENTRY: usize>(&mut self, list: &mut List<ENTRY>, entry: &[u8; 4]) {
+        let (operation, length_less_one, start) = (entry[2] >> 4, entry[2] & 15, usize::from(entry[3] & 63));
+        let offset = list.offset(entry);
+        let slots = list.covered[start..].iter_mut().take(usize::from(length_less_one) + 1);
+        for (later, covered) in slots.enumerate().filter(|(_, covered)| !**covered) {
+            *covered = true;
+            self.enter(start + later, operation, offset + later as u32, &list.named);
+        }
+    }
+
+    #[inline(always)]
+    fn enter(&mut self, slot: usize, operation: u8, offset: u32, named: &Named) {
+        let slot = slot & (ANSWER_BYTES - 1);
+        let index_bits = SLAVES * ANSWER_BYTES - 1;
+        let place = (named.place + offset) as u16;
+        if operation & 1 == 0 {
+            if offset.wrapping_sub(LEAST_STORED) < named.stored {
+                let index = usize::from(self.next_store[slot]) & index_bits;
+                self.rows.as_flattened_mut()[index] = place;
+                self.next_store[slot] = index as u16 + 1;
+            }
+        } else if operation != NOTHING && offset < named.sent {
+            let index = usize::from(self.next_send[slot]) & index_bits;
+            self.rows.as_flattened_mut()[index] = place;
+            self.next_send[slot] = (index as u16).wrapping_sub(1);
+        }
+    }
+
     /// Slot by slot, senders before receivers: a later slot sees what an earlier one stored.
+    #[inline(always)]
     fn carry_out(&self, file: &mut [u8], answer: &mut [u8; ANSWER_BYTES]) -> u64 {
         let mut mask = 0;
-        for (slot, (&senders, &receivers)) in self.senders.iter().zip(&self.receivers).enumerate() {
-            if senders == 0 {
+        for slot in 1..ANSWER_BYTES {
+            let first = SLAVES * slot;
+            let row = &self.rows[slot];
+            let sends = first + SLAVES - 1 - usize::from(self.next_send[slot]);
+            if sends == 0 {
                 continue;
             }
             let mut byte = 0xFF;
-            for_each_bit(senders, |slave| byte &= file[usize::from(self.places[slave % SLAVES][slot])]);
-            for_each_bit(receivers, |slave| file[usize::from(self.places[slave % SLAVES][slot])] = byte);
+            for &place in &row[SLAVES - sends..] {
+                byte &= file[usize::from(place)];
+            }
+            store(file, &row[..usize::from(self.next_store[slot]) - first], byte);
             answer[slot] = byte;
             mask |= 1 << slot;
         }
@@ -110,34 +183,40 @@ impl<const SLAVES: usize> Plan<SLAVES> {
     }
 }
 
-/// The slots that an entry is the first to cover, the place of its start slot, and where it may act.
-struct Span {
-    fresh: u64,
-    start: u32,
-    first: usize,
-    least: usize,
-    end: usize,
+/// Puts a byte to all these places, four at a time.
+#[inline(always)]
+fn store(file: &mut [u8], places: &[u16], byte: u8) {
+    let (fours, rest) = places.as_chunks::<4>();
+    for four in fours {
+        four.iter().for_each(|&place| file[usize::from(place)] = byte);
+    }
+    rest.iter().for_each(|&place| file[usize::from(place)] = byte);
 }
 
-impl Span {
-    #[inline]
-    fn enter(self, acting: &mut [u64; ANSWER_BYTES], places: &mut [u16; ANSWER_BYTES], slave_bit: u64) {
-        for_each_bit(self.fresh, |slot| {
-            let place = self.first + slot - self.start as usize;
-            if self.least <= place && place < self.end {
-                acting[slot] |= slave_bit;
-                places[slot] = place as u16;
-            }
-        });
+impl<const ENTRY: usize> List<'_, ENTRY> {
+    /// Where an entry's start slot is in its file, which is kept.
+    #[inline(always)]
+    fn offset(&mut self, &[address, record, ..]: &[u8; 4]) -> u32 {
+        if u32::from(address) ^ self.named.address > ALIGN_BITS {
+            self.find(address >> 2);
+        }
+        4 * u32::from(record) + (u32::from(address) ^ self.named.address)
+    }
+
+    #[cold]
+    #[inline(never)]
+    fn find(&mut self, number: u8) {
+        let (place, size) = find_in(self.directory, number).unwrap_or((0, 0));
+        let sent = size as u32;
+        let stored = if STORED.contains(&number) { sent.saturating_sub(LEAST_STORED) } else { 0 };
+        self.named = Named { address: u32::from(number << 2), place: place as u32, sent, stored };
     }
 }
 
 /// A multiplexed entry, one of operations 8 to 15, that is not among these turns.
-#[inline]
-pub fn is_out_of_turn(entry: u32, turns: u32) -> bool {
-    let operation_less_8 = entry >> 12 & 7;
-    let field = entry >> 6 & 3;
-    entry & MULTIPLEXED != 0 && turns >> (4 * operation_less_8 + field) & 1 == 0
+#[inline(always)]
+fn is_out_of_turn(operation: u8, field: u8, turns: u32) -> bool {
+    operation & 8 != 0 && turns >> (4 * (operation & 7) + field) & 1 == 0
 }
 
 /// The turns of an epoch, four bits for each of operations 8 to 15, one for each field: of 8, 9, 12 and 13 the field
@@ -147,17 +226,4 @@ pub fn turns_of(epoch: u8) -> u32 {
     let (first, second) = if epoch & 4 == 0 { (field, 0) } else { (0, field) };
     let twice = |fields: u32| fields | fields << 4;
     twice(field) | twice(first) << 8 | twice(field) << 16 | twice(second) << 24
-}
-
-/// Four bytes for each record, and the align.
-fn offset_of(entry: u32) -> usize {
-    (entry >> 14 & 0x3FC | entry >> 24 & 3) as usize
-}
-
-#[inline]
-fn for_each_bit(mut bits: u64, mut act: impl FnMut(usize)) {
-    while bits != 0 {
-        act((bits.trailing_zeros() & 63) as usize);
-        bits &= bits - 1;
-    }
 }

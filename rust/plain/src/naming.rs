@@ -1,10 +1,13 @@
 //! The naming run: the operation of each step is carried out straight on the file, since the frames that
 //! would say it are whole by themselves.
 
+use crate::edition::{in_edition, Edition};
 use crate::frames::MSD;
-use crate::master_slave::{baptize, compare, read, write_configuration, Pending, EXECUTE, READ, WRITE};
+use crate::master_slave::{
+    baptize, compare, read, write_configuration, Pending, BAPTIZE, COMPARE, EXECUTE_CONFIGURATION, READ, WRITE,
+};
 use crate::survey::Survey;
-use crate::{silence, ANSWER_BYTES, CONFIGURATION, DOCUMENTATION, UNNAMED};
+use crate::{silence, ANSWER_BYTES, BROADCAST, CONFIGURATION, DOCUMENTATION, UNNAMED};
 
 const RUNNING: u64 = 0;
 const ALL_NAMED: u64 = 1;
@@ -26,7 +29,18 @@ pub fn start(names: &[u8], run: &mut Run) -> u8 {
 }
 
 pub fn step(file: &mut [u8], run: &mut Run, names: &[u8], answer: &mut [u8], senders: &mut u64) -> u8 {
-    let mut survey = Survey::new();
+    in_edition!(file, step_in(file, run, names, answer, senders))
+}
+
+#[inline(always)]
+fn step_in<const ENTRY: usize>(
+    file: &mut [u8],
+    run: &mut Run,
+    names: &[u8],
+    answer: &mut [u8],
+    senders: &mut u64,
+) -> u8 {
+    let mut survey = Survey::<ENTRY>::new();
     let ground = survey.walk(file);
     if ground != 0 {
         return ground;
@@ -35,10 +49,10 @@ pub fn step(file: &mut [u8], run: &mut Run, names: &[u8], answer: &mut [u8], sen
 }
 
 /// A step on an accepted file: 0, or 9 or 15 to 17.
-#[inline]
-pub fn step_on(
+#[inline(always)]
+pub fn step_on<const ENTRY: usize>(
     file: &mut [u8],
-    survey: &mut Survey,
+    survey: &mut Survey<ENTRY>,
     run: &mut Run,
     names: &[u8],
     answer: &mut [u8],
@@ -64,18 +78,20 @@ pub fn step_on(
 }
 
 /// Grounds 15 and 16 in one pass over the list.
+#[inline(always)]
 fn names_ground(names: &[u8]) -> u8 {
-    let mut seen = [0u64; 4];
-    let mut twice = 0;
-    for &name in names {
-        if name == 0 || name == UNNAMED {
-            return 15;
-        }
-        let word = &mut seen[usize::from(name >> 6)];
-        twice |= *word >> (name & 63);
-        *word |= 1 << (name & 63);
+    if let [only] = *names {
+        return if only == BROADCAST || only == UNNAMED { 15 } else { 0 };
     }
-    if twice & 1 == 1 {
+    let mut seen = [false; 256];
+    let mut twice = false;
+    for &name in names {
+        twice |= seen[usize::from(name)];
+        seen[usize::from(name)] = true;
+    }
+    if seen[usize::from(BROADCAST)] || seen[usize::from(UNNAMED)] {
+        15
+    } else if twice {
         16
     } else {
         0
@@ -91,9 +107,10 @@ fn is_no_position(&[end, index, step, _, rounds, comparisons, ..]: &Run, length:
 }
 
 /// One round of a running position; returns its mask.
-fn carry_on(
+#[inline(always)]
+fn carry_on<const ENTRY: usize>(
     file: &mut [u8],
-    survey: &Survey,
+    survey: &mut Survey<ENTRY>,
     run: &mut Run,
     names: &[u8],
     answer: &mut [u8; ANSWER_BYTES],
@@ -101,7 +118,7 @@ fn carry_on(
     let [end, index, step, value, rounds, _, high, low] = run;
     let name = names[*index as usize];
     // The address frame puts the epoch to one more, the data frame adds one.
-    let epoch = &mut file[survey.epoch()];
+    let epoch = &mut file[Edition::of::<ENTRY>().epoch];
     *epoch = epoch.wrapping_add(2);
     *rounds += 1;
     if *rounds == 1 {
@@ -128,14 +145,24 @@ fn carry_on(
 
 /// Reads the first half of the physical name of whoever holds a name.
 #[inline]
-fn poll(file: &mut [u8], survey: &Survey, name: u8, answer: &mut [u8; ANSWER_BYTES]) -> u64 {
-    Pending { name, pb2: DOCUMENTATION << 2 | READ, record: 1 }.store(file, survey);
+fn poll<const ENTRY: usize>(
+    file: &mut [u8],
+    survey: &Survey<ENTRY>,
+    name: u8,
+    answer: &mut [u8; ANSWER_BYTES],
+) -> u64 {
+    Pending { name, pb2: DOCUMENTATION << 2 | READ, record: 1 }.store::<ENTRY>(file);
     read(file, survey, name, DOCUMENTATION, 1, answer)
 }
 
 /// Places 1 to 195: comparisons of three places each, with 0 and then with each bit from 63 down.
 #[inline]
-fn compare_on(file: &mut [u8], survey: &Survey, run: &mut Run, answer: &mut [u8; ANSWER_BYTES]) -> u64 {
+fn compare_on<const ENTRY: usize>(
+    file: &mut [u8],
+    survey: &Survey<ENTRY>,
+    run: &mut Run,
+    answer: &mut [u8; ANSWER_BYTES],
+) -> u64 {
     let [end, _, step, value, _, comparisons, high, low] = run;
     let comparison = (*step - 1) / 3;
     let first = 1 + 3 * comparison;
@@ -157,7 +184,7 @@ fn compare_on(file: &mut [u8], survey: &Survey, run: &mut Run, answer: &mut [u8;
         }
         _ => {
             *comparisons += 1;
-            execute_unnamed(file, survey, 2);
+            execute_unnamed::<ENTRY>(file, COMPARE);
             let senders = compare(file, survey, UNNAMED, answer);
             if senders != 0 {
                 *value = sent;
@@ -177,7 +204,7 @@ fn compare_on(file: &mut [u8], survey: &Survey, run: &mut Run, answer: &mut [u8;
 
 /// Places 197 to 199: the two halves of the value, and the baptism.
 #[inline]
-fn give(file: &mut [u8], survey: &Survey, run: &mut Run, length: usize) -> u64 {
+fn give<const ENTRY: usize>(file: &mut [u8], survey: &mut Survey<ENTRY>, run: &mut Run, length: usize) -> u64 {
     let [end, index, step, value, _, _, high, low] = run;
     match next_made(*step, 197, *value, *high, *low) {
         197 => {
@@ -189,9 +216,10 @@ fn give(file: &mut [u8], survey: &Survey, run: &mut Run, length: usize) -> u64 {
             write_half(file, survey, 3, low, low_half(*value))
         }
         _ => {
-            execute_unnamed(file, survey, 1);
+            execute_unnamed::<ENTRY>(file, BAPTIZE);
             finish_name(end, index, step, length);
-            baptize(file, survey, UNNAMED)
+            baptize(file, survey, UNNAMED);
+            0
         }
     }
 }
@@ -221,21 +249,32 @@ fn finish_name(end: &mut u64, index: &mut u64, step: &mut u64, length: usize) {
     }
 }
 
-fn execute_unnamed(file: &mut [u8], survey: &Survey, record: u8) {
-    Pending { name: UNNAMED, pb2: CONFIGURATION << 2 | EXECUTE, record }.store(file, survey);
+fn execute_unnamed<const ENTRY: usize>(file: &mut [u8], record: u8) {
+    Pending { name: UNNAMED, pb2: EXECUTE_CONFIGURATION, record }.store::<ENTRY>(file);
 }
 
 /// Writes a half of a comparison value and keeps it.
 #[inline]
-fn write_half(file: &mut [u8], survey: &Survey, record: u8, kept: &mut u64, half: u64) -> u64 {
+fn write_half<const ENTRY: usize>(
+    file: &mut [u8],
+    survey: &Survey<ENTRY>,
+    record: u8,
+    kept: &mut u64,
+    half: u64,
+) -> u64 {
     *kept = half;
     write_unnamed(file, survey, record, (half as u32).to_be_bytes())
 }
 
 /// Nobody sends at a write. Of record 1 the last byte, the logical name, is not written.
 #[inline]
-fn write_unnamed<const BYTES: usize>(file: &mut [u8], survey: &Survey, record: u8, data: [u8; BYTES]) -> u64 {
-    Pending { name: UNNAMED, pb2: CONFIGURATION << 2 | WRITE, record }.store(file, survey);
+fn write_unnamed<const ENTRY: usize, const BYTES: usize>(
+    file: &mut [u8],
+    survey: &Survey<ENTRY>,
+    record: u8,
+    data: [u8; BYTES],
+) -> u64 {
+    Pending { name: UNNAMED, pb2: CONFIGURATION << 2 | WRITE, record }.store::<ENTRY>(file);
     write_configuration(file, survey, UNNAMED, record, data);
     0
 }

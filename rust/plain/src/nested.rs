@@ -1,9 +1,13 @@
 //! Multipartner rounds in the form that document 01 names: nested loops over slots and entries, with a
 //! labelled exit at the covering entry or the end entry. It is here to tell what that form costs by itself.
 
-use crate::multipartner::{is_out_of_turn, turns_of};
-use crate::survey::{Survey, MOST_SLAVES};
-use crate::{ANSWER_BYTES, UNNAMED};
+use crate::edition::Edition;
+use crate::multipartner::turns_of;
+use crate::survey::{for_each_bit, Survey, MOST_SLAVES};
+use crate::{ANSWER_BYTES, BROADCAST};
+
+/// Set in the operations from 8 on.
+const MULTIPLEXED: u32 = 0x8000;
 
 /// A slave that takes part, awake and not unnamed: its number in the table, and where its round descriptor list begins
 /// and ends, which is before its file 0x3D and so below 65,536.
@@ -14,18 +18,21 @@ struct Partner {
 }
 
 /// Runs the round, puts what was sent into the answer and returns the mask.
-pub fn run(file: &mut [u8], survey: &Survey, round: u8, answer: &mut [u8; ANSWER_BYTES]) -> u64 {
+pub fn run<const ENTRY: usize>(
+    file: &mut [u8],
+    survey: &Survey<ENTRY>,
+    round: u8,
+    answer: &mut [u8; ANSWER_BYTES],
+) -> u64 {
     let mut partners = [Partner { slave: 0, list: (0, 0) }; MOST_SLAVES];
     let mut count = 0;
-    for slave in survey.slaves() {
-        if survey.logical_name(file, slave) != UNNAMED && survey.is_awake(file, slave) {
-            if let Some((place, size)) = survey.find(file, slave, round) {
-                partners[count] = Partner { slave, list: (place as u16 + 4, (place + size) as u16) };
-                count += 1;
-            }
+    for_each_bit(survey.addressed(file, BROADCAST), |slave| {
+        if let Some((place, size)) = survey.find(file, slave, round) {
+            partners[count] = Partner { slave, list: (place as u16 + 4, (place + size) as u16) };
+            count += 1;
         }
-    }
-    let turns = turns_of(file[survey.epoch()]);
+    });
+    let turns = turns_of(file[Edition::of::<ENTRY>().epoch]);
     let mut mask = 0;
     for slot in 1..ANSWER_BYTES as u8 {
         if let Some(byte) = run_slot(file, survey, &partners[..count], slot, turns) {
@@ -37,7 +44,13 @@ pub fn run(file: &mut [u8], survey: &Survey, round: u8, answer: &mut [u8; ANSWER
 }
 
 /// Senders read first; then those that receive store, if someone sent.
-fn run_slot(file: &mut [u8], survey: &Survey, partners: &[Partner], slot: u8, turns: u32) -> Option<u8> {
+fn run_slot<const ENTRY: usize>(
+    file: &mut [u8],
+    survey: &Survey<ENTRY>,
+    partners: &[Partner],
+    slot: u8,
+    turns: u32,
+) -> Option<u8> {
     let mut byte = 0xFF;
     let mut someone_sent = false;
     let mut stores = [0u16; MOST_SLAVES];
@@ -93,4 +106,12 @@ fn acting(list: &[u8], slot: u8, turns: u32) -> Option<u32> {
         }
     }
     found
+}
+
+/// A multiplexed entry, one of operations 8 to 15, that is not among these turns.
+#[inline]
+fn is_out_of_turn(entry: u32, turns: u32) -> bool {
+    let operation_less_8 = entry >> 12 & 7;
+    let field = entry >> 6 & 3;
+    entry & MULTIPLEXED != 0 && turns >> (4 * operation_less_8 + field) & 1 == 0
 }

@@ -1,5 +1,6 @@
 //! Screens that share turns: the state's bytes in place, and the read of a turn carried out straight on the file.
 
+use crate::edition::{in_edition, Edition};
 use crate::frames::MSD;
 use crate::master_slave::{read, Pending, READ};
 use crate::survey::Survey;
@@ -37,6 +38,17 @@ pub fn post(state: &mut State, screen: u8, name: u8, file: u8, record: u8) -> u8
 }
 
 pub fn turn(file: &mut [u8], state: &mut State, answer: &mut [u8], senders: &mut u64, screen: &mut u8) -> u8 {
+    in_edition!(file, turn_in(file, state, answer, senders, screen))
+}
+
+#[inline(always)]
+fn turn_in<const ENTRY: usize>(
+    file: &mut [u8],
+    state: &mut State,
+    answer: &mut [u8],
+    senders: &mut u64,
+    screen: &mut u8,
+) -> u8 {
     if state[0] > LAST_SCREEN {
         return NO_SCREEN;
     }
@@ -47,7 +59,7 @@ pub fn turn(file: &mut [u8], state: &mut State, answer: &mut [u8], senders: &mut
             return ground;
         }
     }
-    let mut survey = Survey::new();
+    let mut survey = Survey::<ENTRY>::new();
     let ground = survey.walk(file);
     if ground != 0 {
         return ground;
@@ -60,9 +72,9 @@ pub fn turn(file: &mut [u8], state: &mut State, answer: &mut [u8], senders: &mut
         return 0;
     };
     // The address frame puts the epoch to one more, the data frame adds one.
-    let epoch = &mut file[survey.epoch()];
+    let epoch = &mut file[Edition::of::<ENTRY>().epoch];
     *epoch = epoch.wrapping_add(2);
-    Pending { name, pb2: number << 2 | READ, record }.store(file, &survey);
+    Pending { name, pb2: number << 2 | READ, record }.store::<ENTRY>(file);
     *answer = silence(MSD);
     *senders = read(file, &survey, name, number, record, answer);
     survey.rest(file, 0);

@@ -1,8 +1,11 @@
-//! Running a captured trace: one walk over the file for all frames, each taken from the trace in place.
+//! Running a captured trace: one walk over the file for all frames, each taken from the trace in place. Nobody hears the
+//! answers, so they are not made: a read or a comparison does nothing but raise the epoch.
 
+use crate::edition::in_edition;
 use crate::frames::{MSA, MSD};
+use crate::master_slave::Pending;
 use crate::survey::Survey;
-use crate::{carry_out, multipartner, nested, ANSWER_BYTES};
+use crate::{address_round, data_of, multipartner, nested, partner_round, raise_epoch, ANSWER_BYTES};
 
 const MOST_BYTES: usize = 16_384;
 const HEADER_BYTES: usize = 4;
@@ -15,17 +18,17 @@ const MULTIPARTNER_FRAMES: usize = 2;
 const REFUSED_FRAMES: usize = 3;
 
 pub fn trace(file: &mut [u8], trace: &[u8], report: &mut [u64; 5]) -> u8 {
-    trace_with(multipartner::run, file, trace, report)
+    in_edition!(file, trace_in(multipartner::run, file, trace, report))
 }
 
 /// The same, with multipartner rounds in the form that document 01 names.
 pub fn trace_in_nested_loops(file: &mut [u8], trace: &[u8], report: &mut [u64; 5]) -> u8 {
-    trace_with(nested::run, file, trace, report)
+    in_edition!(file, trace_in(nested::run, file, trace, report))
 }
 
-#[inline]
-fn trace_with(
-    run_partners: impl Fn(&mut [u8], &Survey, u8, &mut [u8; ANSWER_BYTES]) -> u64,
+#[inline(always)]
+fn trace_in<const ENTRY: usize>(
+    run_partners: impl Fn(&mut [u8], &Survey<ENTRY>, u8, &mut [u8; ANSWER_BYTES]) -> u64,
     file: &mut [u8],
     trace: &[u8],
     report: &mut [u64; 5],
@@ -39,23 +42,49 @@ fn trace_with(
         return 19;
     };
     let mut counts = [0; 4];
-    let mut answer = [0; ANSWER_BYTES];
-    let mut senders = 0;
     for &[_, _, length] in table {
         let (frame, rest) = data.split_at(usize::from(length));
         data = rest;
-        let ground = carry_out(&run_partners, file, &mut survey, frame, &mut answer, &mut senders);
-        let kind = match frame {
-            _ if ground != 0 => REFUSED_FRAMES,
-            [MSA, ..] => MSA_FRAMES,
-            [MSD, ..] => MSD_FRAMES,
-            _ => MULTIPARTNER_FRAMES,
-        };
-        counts[kind] += 1;
+        counts[carry_out_unheard(&run_partners, file, &mut survey, frame) & 3] += 1;
     }
     let [msa, msd, multipartner, refused] = counts;
     *report = [msa, msd, multipartner, refused, table.len() as u64];
     0
+}
+
+/// What a frame does to the file; returns as what it counts.
+#[inline(always)]
+fn carry_out_unheard<const ENTRY: usize>(
+    run_partners: impl Fn(&mut [u8], &Survey<ENTRY>, u8, &mut [u8; ANSWER_BYTES]) -> u64,
+    file: &mut [u8],
+    survey: &mut Survey<ENTRY>,
+    frame: &[u8],
+) -> usize {
+    match frame {
+        [MSA, ..] => match address_round::<ENTRY>(file, frame) {
+            0 => MSA_FRAMES,
+            _ => REFUSED_FRAMES,
+        },
+        [MSD, ..] => {
+            let pending = Pending::of::<ENTRY>(file);
+            let Ok(data) = data_of(frame, pending) else {
+                return REFUSED_FRAMES;
+            };
+            raise_epoch::<ENTRY>(file);
+            let sleepers = pending.map_or(0, |pending| pending.alter(file, survey, data));
+            survey.rest(file, sleepers);
+            MSD_FRAMES
+        }
+        _ => {
+            let Ok(round) = partner_round(frame) else {
+                return REFUSED_FRAMES;
+            };
+            raise_epoch::<ENTRY>(file);
+            run_partners(file, survey, round, &mut [0; ANSWER_BYTES]);
+            survey.rest(file, 0);
+            MULTIPARTNER_FRAMES
+        }
+    }
 }
 
 /// The rows of the table and the data, or None where the layout is broken.

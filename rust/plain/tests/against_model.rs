@@ -2,7 +2,7 @@
 
 use compare::campaign::agrees_with_model;
 use compare::edges;
-use compare::engine::Plain;
+use compare::engine::{Engine, Model, Plain};
 
 #[test]
 fn plain_does_what_the_model_does() {
@@ -84,4 +84,33 @@ fn the_edges_of_joins_hold() {
 #[test]
 fn the_edges_of_patterns_hold() {
     edges::patterns::hold(&Plain { nested: false });
+}
+
+/// A file of edition 2 of 65,536 bytes whose second slave has its directory at the end, with places from 0 on as if they went round:
+/// 64 files of 1,024 bytes, which end at 65,536 again.
+#[test]
+fn places_that_go_round_are_refused() {
+    const DIRECTORY_BYTES: usize = 64 * 8;
+    const LENGTH: usize = 65_536;
+    let directory = |first: usize, last_record: fn(usize) -> usize| -> Vec<u8> {
+        let mut place = first;
+        let entry = |number: usize| {
+            let [_, _, high, low] = (place as u32).to_be_bytes();
+            place += 4 * (last_record(number) + 1);
+            [number as u8, last_record(number) as u8, 0, 0, 0, 0, high, low]
+        };
+        (0..64).flat_map(entry).collect()
+    };
+    let (first, second) = (40, LENGTH - DIRECTORY_BYTES);
+    let mut file = vec![0x54, 0x41, 2, 2, 0, 0, 0, 24, 0, 1, 0, 0, 0, 0, 0, 0, 0, 0, 0, 0, 0, 0, 0, 0];
+    for place in [first, second] {
+        file.extend((place as u32).to_be_bytes());
+        file.extend([64, 0, 0, 0]);
+    }
+    file.extend(directory(first + DIRECTORY_BYTES, |number| if number < 62 { 255 } else { 122 }));
+    file.resize(second, 0);
+    file.extend(directory(0, |_| 255));
+    assert_eq!(file.len(), LENGTH);
+    assert_eq!(Model.check(&file), 6);
+    assert_eq!(Plain { nested: false }.check(&file), 6);
 }

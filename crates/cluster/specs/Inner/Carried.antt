@@ -22,18 +22,26 @@ pub record Carried (effect : Effect) (firework : ℕ) (old new : List ℕ) (mask
   pub buffer : new ≡ answerIn old (answerBytes firework (effect .senders))
   pub becomes : Becomes file (effect .after)
 
--- one frame on a cluster, with a buffer of 64 bytes or more: answer, buffer and cluster
-unfoldable pub exchange : Cluster → List ℕ → List ℕ → Answer × List ℕ × Cluster
-exchange c frame buffer =
-    let ground = frameGround c frame in
-    let effect = frameOn c frame in
-    cond (eqb ground 0) (carriedBy effect, bufferBy effect (getD frame 0 0) buffer, effect .after) (refused ground, buffer, c)
+-- one frame on a cluster: its answer and the cluster that it leaves, whoever hears, and a buffer of 64 bytes or more behind it
+unfoldable pub answerTo : Cluster → List ℕ → Answer
+answerTo c frame = cond (eqb (frameGround c frame) 0) (carriedBy (frameOn c frame)) (refused (frameGround c frame))
 
--- one frame of any bytes on an accepted file: answer, buffer and file are those of `exchange`
+unfoldable pub leftBy : Cluster → List ℕ → Cluster
+leftBy c frame = cond (eqb (frameGround c frame) 0) (frameOn c frame .after) c
+
+unfoldable pub heardIn : Cluster → List ℕ → List ℕ → List ℕ
+heardIn c frame buffer = cond (eqb (frameGround c frame) 0) (bufferBy (frameOn c frame) (getD frame 0 0) buffer) buffer
+
+-- one frame of any bytes on an accepted file
 pub record Exchanged (c : Cluster) (frame old new : List ℕ) (answer : Answer) (file : List ℕ) : Type 0 where
-  pub answers : answer ≡ exchange c frame old .0
-  pub buffer : new ≡ exchange c frame old .1
-  pub becomes : Becomes file (exchange c frame old .2)
+  pub answers : answer ≡ answerTo c frame
+  pub buffer : new ≡ heardIn c frame old
+  pub becomes : Becomes file (leftBy c frame)
+
+-- the same without a buffer
+pub record Taken (c : Cluster) (frame : List ℕ) (answer : Answer) (file : List ℕ) : Type 0 where
+  pub answers : answer ≡ answerTo c frame
+  pub becomes : Becomes file (leftBy c frame)
 
 -- someone sends in each of the slots 1 to last, and in no other
 unfoldable pub sendersTo : ℕ → Senders

@@ -1,10 +1,9 @@
 -- The code's entry in the terms of Entries.antt: each operation by its code of 002, table 4. A struct's entry keeps the multiplex
 -- field for the multiplexed operations alone, which alone evaluate it.
-use Prim.Native.Nat.{ℕ, _+_, _≤_, _<_}
+use Prim.Native.Nat.{ℕ, _≤_, _<_}
 use mathlib.Core.Path.{_≡_}
-use mathlib.Core.Bool.{Bool, not, cond}
+use mathlib.Core.Bool.{cond}
 use lib.Dec.{leb}
-use Rattle.file.specs.Rules.Order.{both}
 use Rattle.cluster.specs.Rules.Bus.{slots}
 use Rattle.cluster.specs.Rules.Entries.{Entry, receives, sends, ends}
 use Rattle.cluster.specs.declared.entry.Entry as Code
@@ -121,10 +120,6 @@ pub record Reaches (e : Code.Entry) (slot : ℕ) : Type 0 where
   pub align : e .address .align < 4
   pub begun : e .slot ≤ slot
   pub inRound : slot < slots
-
--- an entry that can be passed over in a slot and in later ones: it is no end, and covers none of them
-unfoldable pub isPast : Entry → ℕ → Bool
-isPast e slot = both (leb (e .start + e .length) slot) (not (ends (e .operation)))
 
 -- what a slave does for an entry that covers a slot, by its operation
 pub data Action : Type 0 where

@@ -1,21 +1,21 @@
 -- What the functions of a multipartner round promise to one another, in the terms of Multipartner.antt.
-use Prim.Native.Nat.{ℕ, zero, suc, _+_, _*_, _-_, _%_, _≤_, _<_}
+use Prim.Native.Nat.{ℕ, zero, suc, _+_, _*_, _-_, _%_, _^_, _≤_, _<_}
 use mathlib.Core.Path.{_≡_}
 use mathlib.Core.List.{List, [], _∷_}
 use mathlib.Core.Bool.{Bool, true, false, cond}
 use lib.ListN.{length, getD, set}
-use lib.Dec.{eqb}
+use lib.Dec.{eqb, ltb}
+use Rattle.file.specs.Rules.Order.{both}
 use Rattle.file.specs.Rules.Layout.{recordSize}
 use Rattle.file.specs.Rules.Cluster.{Slave, Cluster, isAwake, bytesIn, lastRecord}
+use Rattle.file.specs.Rules.Decode.{decode}
 use Rattle.file.specs.Inner.Places.{slavesRoom, slaveOf, filePlace}
+use Rattle.file.specs.Inner.Accepted.{slaveCount}
 use Rattle.cluster.specs.Rules.Bus.{slots}
 use Rattle.cluster.specs.Rules.Slaves.{isUnnamed}
-use Rattle.cluster.specs.Rules.Entries.{Entry, entryThere, Acting, bytePlace}
-use Rattle.cluster.specs.Inner.EntryForm.{isPast}
-use Rattle.cluster.specs.Rules.Multipartner.{SlaveByte, nowhere, byteOf, within, sendPlace, storePlace, byteThere, clusterBelow, sentDuring}
+use Rattle.cluster.specs.Rules.Entries.{Entry, entryThere, Acting, acts, bytePlace, sends, receives}
+use Rattle.cluster.specs.Rules.Multipartner.{SlaveByte, nowhere, byteOf, mayStore, sendPlace, storePlace, byteThere, clusterBelow, sentDuring}
 use Rattle.cluster.specs.Rules.Round.{Effect}
-use Rattle.cluster.specs.declared.multipartner.BytePlace.{BytePlace}
-use Rattle.cluster.specs.declared.multipartner.BytePlace.the-variants.{At, Outside}
 use Rattle.cluster.specs.declared.multipartner.SlotAct.{SlotAct}
 use Rattle.cluster.specs.declared.multipartner.SlotAct.the-variants.{Sends, Stores, Rests}
 
@@ -56,35 +56,45 @@ pub record EntriesWithin (f : List ℕ) (start end : ℕ) : Type 0 where
   pub whole : (end - start) % recordSize ≡ 0
   pub within : end ≤ length f
 
--- of the n entries from a place of the file on, where the first begins that is not past in a slot; where they end, if all are
-unfoldable pub openFrom : List ℕ → ℕ → ℕ → ℕ → ℕ
-openFrom f slot at zero = at
-openFrom f slot at (suc n) =
-    let rest = openFrom f slot (at + recordSize) n in cond (isPast (entryThere f at) slot) rest at
+-- ---- where the search of the next slot begins
 
--- ---- the byte that a slot is about
+-- with the entry at a place over, and after a slot in which it acts
+unfoldable pub nextPast : ℕ → ℕ → ℕ
+nextPast next at = cond (eqb next at) (at + recordSize) next
 
-pub data FoundByte : Type 0 where
-  outside : FoundByte
-  byteAt : ℕ → FoundByte
+unfoldable pub nextAfter : Entry → ℕ → ℕ → ℕ → ℕ
+nextAfter e next at slot = cond (eqb (slot - e .start + 1) (e .length)) (nextPast next at) next
 
-unfoldable pub findByte : Cluster → ℕ → Entry → ℕ → FoundByte
-findByte c s e slot =
-    cond (within (slaveOf c s) e slot) (byteAt (filePlace c s (e .file) + bytePlace e slot)) outside
+-- ---- the file that an entry names
 
-unfoldable pub foundByte : BytePlace → FoundByte
-foundByte (At place) = byteAt place
-foundByte Outside = outside
+-- "file number 0 to 63"
+abbrev pub fileNumbers : ℕ
+fileNumbers = 64
+
+-- where file n of the slave at index s lies, and how many bytes it has: none where it is not there
+pub record FileIs (f : List ℕ) (s n place size : ℕ) : Type 0 where
+  pub has : size ≡ length (bytesIn (slaveOf (decode f) s) n)
+  pub lies : 0 < size → place ≡ filePlace (decode f) s n
+  pub inside : place + size ≤ length f
+
+-- that of one file of each slave, by its number; there may be slaves of which none is known
+pub record FilesKept (f numbers places sizes : List ℕ) : Type 0 where
+  pub numbersRoom : length numbers ≡ slavesRoom
+  pub placesRoom : length places ≡ slavesRoom
+  pub sizesRoom : length sizes ≡ slavesRoom
+  pub file : (s : ℕ) → s < slaveCount f → getD numbers s 0 < fileNumbers → FileIs f s (getD numbers s 0) (getD places s 0) (getD sizes s 0)
+
+-- with file n of the slave at index s among them
+pub record KeptFor (f : List ℕ) (s n : ℕ) (numbers places sizes : List ℕ) : Type 0 where
+  pub kept : FilesKept f numbers places sizes
+  pub named : FileIs f s n (getD places s 0) (getD sizes s 0)
 
 -- ---- what a slave does in a slot
 
--- where in the file a place of the slave at index s lies; the file's first byte, where no slave's file lies, stands for nowhere
-abbrev pub noPlace : ℕ
-noPlace = 0
-
-unfoldable pub placeIn : Cluster → ℕ → SlaveByte → ℕ
-placeIn c s nowhere = noPlace
-placeIn c s (byteOf n k) = filePlace c s n + k
+-- where in the file a place of the slave at index s lies
+unfoldable pub placeIn : Cluster → ℕ → SlaveByte → List ℕ
+placeIn c s nowhere = []
+placeIn c s (byteOf n k) = (filePlace c s n + k) ∷ []
 
 -- the bytes that an act puts on the bus, where it stores the slot's byte, and whether it sends
 unfoldable pub actSends : SlotAct → List ℕ
@@ -92,10 +102,10 @@ actSends (Sends b) = b ∷ []
 actSends (Stores place) = []
 actSends Rests = []
 
-unfoldable pub actStores : SlotAct → ℕ
-actStores (Sends b) = noPlace
-actStores (Stores place) = place
-actStores Rests = noPlace
+unfoldable pub actStores : SlotAct → List ℕ
+actStores (Sends b) = []
+actStores (Stores place) = place ∷ []
+actStores Rests = []
 
 unfoldable pub isSender : SlotAct → Bool
 isSender (Sends b) = true
@@ -107,14 +117,33 @@ pub record SlotActIs (c : Cluster) (s slot : ℕ) (acting : Acting) (act : SlotA
   pub sends : actSends act ≡ byteThere (slaveOf c s) (sendPlace (slaveOf c s) slot acting)
   pub stores : actStores act ≡ placeIn c s (storePlace (slaveOf c s) slot acting)
 
--- the file with a byte stored at the first n of the places, but not at 0
-unfoldable pub storedBelow : List ℕ → List ℕ → ℕ → ℕ → List ℕ
-storedBelow f places b zero = f
-storedBelow f places b (suc n) =
-    let before = storedBelow f places b n in
-    cond (eqb (getD places n 0) noPlace) before (set before (getD places n 0) b)
+-- the act of an entry, by where its file lies and how many bytes that has
+pub record EntryActIs (f : List ℕ) (e : Entry) (slot place size : ℕ) (act : SlotAct) : Type 0 where
+  pub sends : actSends act ≡ cond (both (sends (e .operation)) (ltb (bytePlace e slot) size)) (getD f (place + bytePlace e slot) 0 ∷ []) []
+  pub stores : actStores act ≡ cond (both (receives (e .operation)) (both (mayStore e slot) (ltb (bytePlace e slot) size))) ((place + bytePlace e slot) ∷ []) []
 
--- every place lies in the file, 0 too
+-- the act of the slave at index s by the entry at a place, with the files kept afterwards
+pub record ActedAt (f : List ℕ) (s at slot : ℕ) (act : SlotAct) (numbers places sizes : List ℕ) : Type 0 where
+  pub does : SlotActIs (decode f) s slot (acts (entryThere f at)) act
+  pub kept : FilesKept f numbers places sizes
+
+-- where an act stores is no large number
+pub record StoresLow (act : SlotAct) : Type 0 where
+  pub low : (place : ℕ) → act ≡ Stores place → place < 2 ^ 32
+
+-- the places of the n acts so far that store, with one act more
+unfoldable pub putStore : List ℕ → ℕ → SlotAct → List ℕ × ℕ
+putStore places n (Sends b) = (places, n)
+putStore places n (Stores place) = (set places n place, n + 1)
+putStore places n Rests = (places, n)
+
+-- the file with a byte stored at the first n of the places
+unfoldable pub storedAt : List ℕ → List ℕ → ℕ → ℕ → List ℕ
+storedAt f places b zero = f
+storedAt f places b (suc n) = set (storedAt f places b n) (getD places n 0) b
+
+-- every place lies in the file
 pub record StoresWithin (f places : List ℕ) (count : ℕ) : Type 0 where
   pub few : count ≤ slavesRoom
-  pub within : (s : ℕ) → s < count → getD places s 0 < length f
+  pub within : (i : ℕ) → i < count → getD places i 0 < length f
+  pub low : length f < 2 ^ 32

@@ -3,7 +3,7 @@ use Prim.Native.Nat.{ℕ, zero, suc, _+_, _*_, _≤_}
 use mathlib.Core.Path.{_≡_}
 use mathlib.Core.List.{List, [], _∷_, map}
 use mathlib.Core.Bool.{Bool, true, false, cond}
-use lib.ListN.{length, getD, take}
+use lib.ListN.{length, getD, take, drop}
 use lib.Dec.{eqb, leb}
 use Rattle.file.specs.Rules.Order.{firstOf, both}
 use Rattle.file.specs.Rules.Layout.{OffsetWidth, headerSize, entrySize}
@@ -12,9 +12,10 @@ use Rattle.file.specs.Inner.Layout.{neededConfiguration, neededDocumenta
 use Rattle.file.specs.Rules.Cluster.{configuration, documentation}
 use Rattle.file.specs.Rules.Bytes.{All, numberOf, part, allZero}
 use Rattle.file.specs.Rules.Decode.{offsetAt, fileSize}
-use Rattle.file.specs.Inner.Places.{placesEach}
+use Rattle.file.specs.Inner.Places.{placesEach, documentationIndex}
 use Rattle.file.specs.Inner.Accepted.{FoundFile, fileFound}
-use Rattle.file.specs.Rules.Grounds.{wrongSize, wrongMark, wrongEdition, wrongLength, wrongHeader, fileGroundAt, Walk, broken, to, walkDirectory, walkSlave, walkSlaves, walkFile, brokenLayout, lacksNeeded, equalPhysicalNames}
+use Rattle.file.specs.Inner.Marked.{remainder}
+use Rattle.file.specs.Rules.Grounds.{wrongSize, wrongMark, wrongEdition, wrongLength, wrongHeader, fileGroundAt, Walk, broken, to, walkDirectory, walkSlave, walkSlaves, walkFile, brokenLayout, lacksNeeded, equalPhysicalNames, isAmong}
 
 -- the file has room for its header
 pub record HeaderFits (w : ℕ) (f : List ℕ) : Type 0 where
@@ -74,12 +75,6 @@ pub record DirectoryWalked (w : ℕ) (f : List ℕ) (d k : ℕ) (good : Bool) (e
   pub walk : walkOf good end ≡ walkDirectory w f d 0 (d + entrySize w * k) k
   pub within : good ≡ true → end ≤ length f
 
--- the same, with where its entries state 0x08 and 0x3D to lie in the needed size, 0 where they do not
-pub record FilesWalked (w : ℕ) (f : List ℕ) (d k : ℕ) (good : Bool) (end conf doc : ℕ) : Type 0 where
-  pub walked : DirectoryWalked w f d k good end
-  pub config : good ≡ true → conf ≡ statedPlace w f configuration neededConfiguration 0 d k
-  pub document : good ≡ true → doc ≡ statedPlace w f documentation neededDocumentation 0 d k
-
 -- it comes to an end
 pub record Arrives (w : ℕ) (f : List ℕ) (d k : ℕ) : Type 0 where
   pub end : ℕ
@@ -101,8 +96,12 @@ documentationPlaces [] = []
 documentationPlaces (c ∷ []) = []
 documentationPlaces (c ∷ d ∷ places) = d ∷ documentationPlaces places
 
--- the walk of the slave of the table entry at t, its directory at the place, and where 0x08 and 0x3D lie in the needed size, 0 where
--- they are not there
+-- the walk of the slave of the table entry at t, its directory at the place
+pub record EntryWalked (w : ℕ) (f : List ℕ) (t place : ℕ) (good : Bool) (end : ℕ) : Type 0 where
+  pub walk : walkOf good end ≡ walkSlave w f t place
+  pub within : good ≡ true → end ≤ length f
+
+-- the same, with where 0x08 and 0x3D lie in the needed size, 0 where they are not there
 pub record SlaveWalked (w : ℕ) (f : List ℕ) (t place : ℕ) (good : Bool) (end conf doc : ℕ) : Type 0 where
   pub walk : walkOf good end ≡ walkSlave w f t place
   pub config : good ≡ true → conf ≡ statedIn w f configuration neededConfiguration t
@@ -156,3 +155,11 @@ namesAt f places = map (nameAt f) (documentationPlaces places)
 
 pub record NamesStand (f places : List ℕ) : Type 0 where
   pub all : All (NameStands f) (documentationPlaces places)
+
+-- r is the remainder of the name at a place
+pub record RemainderAt (f : List ℕ) (p r : ℕ) : Type 0 where
+  pub is : r ≡ remainder (nameAt f p)
+
+-- whether a slave's name is among those of the slaves after it
+unfoldable pub repeatsName : List ℕ → List ℕ → ℕ → Bool
+repeatsName f places s = isAmong (nameAt f (getD places (documentationIndex s) 0)) (drop (s + 1) (namesAt f places))

@@ -12,4 +12,4 @@ pub record Marked (seen : List Bool) (marks : List ℕ) : Type 0 where
 
 -- the mark of a physical name: equal names have equal remainders
 abbrev pub remainder : ℕ → ℕ
-remainder n = n % 255
+remainder n = n % 256

@@ -1,15 +1,13 @@
--- The second file's slaves by marks for the names that the first holds, and one of them put into a buffer.
-use Prim.Native.Nat.{ℕ, _+_, _<_}
+-- The second file's slaves by marks for the names that the first holds, and these slaves in a buffer.
+use Prim.Native.Nat.{ℕ, _+_}
 use mathlib.Core.Path.{_≡_}
 use mathlib.Core.List.{List, map}
 use mathlib.Core.Bool.{Bool, false, cond}
-use lib.ListN.{length, getD}
+use lib.ListN.{length, getD, set}
 use Rattle.file.specs.Rules.Layout.{recordSize}
-use Rattle.file.specs.Rules.Cluster.{Slave, Cluster, bytesIn, configuration, unnamed, logicalName}
-use Rattle.file.specs.Rules.Encode.{contents, slaveSize, slaveBytes}
+use Rattle.file.specs.Rules.Cluster.{Slave, Cluster, configuration, unnamed, logicalName}
+use Rattle.file.specs.Rules.Encode.{slavesBytes}
 use Rattle.file.specs.Rules.Changes.{putInSlave, withSlaves}
-use Rattle.file.specs.Inner.Layout.{logicalNamePlace}
-use Rattle.file.specs.Inner.Places.{placeAmong}
 use Rattle.convert.specs.Inner.Putting.{Put}
 
 -- a slave whose logical name is marked becomes 0xFF
@@ -20,13 +18,11 @@ turnedBy held s = cond (getD held (logicalName s) false) (putInSlave s configura
 unfoldable pub turnedIn : List Bool → Cluster → Cluster
 turnedIn held d = withSlaves d (map (turnedBy held) (d .slaves))
 
--- a slave's logical name stands so far before the end of its files
-pub record NameBack (s : Slave) (back : ℕ) : Type 0 where
-  pub is : placeAmong 0 (s .files) configuration + logicalNamePlace + back ≡ length (contents (s .files))
-  pub some : 0 < back
-  pub there : logicalNamePlace < length (bytesIn s configuration)
+-- a byte of a buffer becomes 0xFF, or stays
+unfoldable pub turnedAt : Bool → ℕ → List ℕ → List ℕ
+turnedAt isHeld at l = cond isHeld (set l at unnamed) l
 
--- a slave is put from a place on, up to another
-pub record PutUpTo (w at : ℕ) (s : Slave) (old new : List ℕ) (end : ℕ) : Type 0 where
-  pub put : Put old at (slaveBytes w at s) new
-  pub ends : end ≡ at + slaveSize w s
+-- a buffer that has the first slaves from a place on has the others there then, and is otherwise as it was
+pub record Turned (w at : ℕ) (ss ts : List Slave) (old new : List ℕ) : Type 0 where
+  pub long : length new ≡ length old
+  pub turns : (l : List ℕ) → Put l at (slavesBytes w at ss) old → Put l at (slavesBytes w at ts) new

@@ -1,14 +1,16 @@
 -- What the inner functions of the listing promise to one another.
-use Prim.Native.Nat.{ℕ, suc, _+_, _*_, _≤_, _<_}
+use Prim.Native.Nat.{ℕ, suc, _*_, _≤_, _<_}
 use mathlib.Core.Path.{_≡_}
 use mathlib.Core.List.{List}
-use mathlib.Core.Bool.{cond}
+use mathlib.Core.Bool.{Bool, cond, not}
 use lib.Dec.{eqb}
 use lib.ListN.{length, take, drop}
 use Rattle.naming.specs.Rules.Run.{Position, lastStep, countLimit}
+use Rattle.file.specs.Rules.Order.{either}
 use Rattle.file.specs.Rules.Results.{Result}
 use Rattle.naming.specs.Rules.Step.{StepDone}
 use Rattle.naming.specs.Inner.Answers.{positionOf}
+use Rattle.naming.specs.declared.position.RunPosition.{RunPosition}
 use Rattle.listing_text.specs.Rules.Listing.{ListState, withoutName, withName, nameCount, textSize}
 use Rattle.listing_text.specs.Rules.Text.{lineSize}
 use Rattle.listing_text.specs.declared.run.ListProgress.{ListProgress}
@@ -64,3 +66,11 @@ pub record StepListed (state : ListProgress) (next : Position) (old : List ℕ) 
       file′
       answer′
       new
+
+-- the state with the run elsewhere
+unfoldable pub movedTo : ListProgress → RunPosition → ListProgress
+movedTo state run = record { run = run; begun = state .begun; given = state .given; at = state .at }
+
+-- no step is left, or the next one gives no name
+unfoldable pub noneGiven : ℕ → ℕ → Bool
+noneGiven left step = either (eqb left 0) (not (eqb step lastStep))

@@ -1,7 +1,7 @@
 -- The code's types in the terms of the rules. No two values of one type are taken to the same, but for a round's bytes that are not
 -- sent (`cluster/specs/Inner/Sending` sentFor); of a step's answers, which carry the run, `steppedOf` and `runAfter` together tell any
 -- two apart.
-use Prim.Native.Nat.{ℕ, _/_, _%_, _≤_, _<_}
+use Prim.Native.Nat.{ℕ, _+_, _≤_, _<_}
 use mathlib.Core.Path.{_≡_}
 use mathlib.Core.List.{List}
 use mathlib.Core.Bool.{Bool, true, false}
@@ -12,8 +12,7 @@ use Rattle.cluster.specs.Rules.Bus.{slots}
 use Rattle.cluster.specs.Rules.MasterSlave.{Sent}
 use Rattle.cluster.specs.Inner.Sending.{sentFor}
 use Rattle.cluster.specs.declared.types.MasterSlaveRound.{MasterSlaveRound}
-use Rattle.naming.specs.Rules.Rounds.{RunRound, writeHigh, writeLow, compare, half}
-use Rattle.naming.specs.Rules.Run.{Position, running, PassPlace, poll, ask, giveName, giveHigh, giveLow, baptize, Part, high, low, reply, tried, placeOf, roundAt, isNeedless, passOver, onto, wrote, countLimit, lastStep, runGrounds}
+use Rattle.naming.specs.Rules.Run.{Position, running, PassPlace, poll, ask, giveName, giveHigh, giveLow, baptize, Part, high, low, reply, partOf, tried, placeOf, roundAt, roundHere, atStep, onto, wrote, moveOn, countLimit, giveStep, lastStep, runGrounds}
 use Rattle.naming.specs.Rules.Step.{StepDone, ended, made}
 use Rattle.naming.specs.declared.position.RunPosition.{RunPosition}
 use Rattle.naming.specs.declared.position.Reply.{Reply}
@@ -94,22 +93,43 @@ valueAt baptize value = value
 abbrev pub Wrote : Position → Position → Type 0
 Wrote p q = (n : ℕ) → q ≡ wrote (roundAt (placeOf (p .step)) n (p .value)) p
 
--- whether the write at its step is needless, and the position once it is passed over, whatever the names
-abbrev pub NeedlessAt : Position → Bool → Type 0
-NeedlessAt p t = (names : List ℕ) → t ≡ isNeedless names p
+-- what the round at a step writes, of a position with that value: the half by its number, and the value that it is a half of
+pub record WritesAt (step value part whole : ℕ) : Type 0 where
+  pub which : partOf part ≡ partAt (placeOf step)
+  pub few : part ≤ 2
+  pub halved : whole ≡ valueAt (placeOf step) value
 
-abbrev pub PassedOver : Position → Position → Type 0
-PassedOver p q = (names : List ℕ) → q ≡ passOver names p
-
+-- one position is another at the next round really made, whatever the names
 abbrev pub Settled : Position → Position → Type 0
 Settled p q = (names : List ℕ) → q ≡ onto names p
+
+-- so many needless writes follow one another from its step on, the first of them that of a part
+pub record NeedlessFrom (p : Position) (part n : ℕ) : Type 0 where
+  pub settles : Settled p (atStep (p .step + n) p)
+  pub halves : part + n ≤ 2
+
+-- one position is another at the next round really made, which writes that
+pub record Stands (p s : Position) (part whole : ℕ) : Type 0 where
+  pub settled : Settled p s
+  pub place : s .step ≤ lastStep
+  pub writes : WritesAt (s .step) (s .value) part whole
+
+-- the execute of a comparison with a value, at a step of a position with that value so far
+pub record Asks (step value compared : ℕ) : Type 0 where
+  pub some : step ≡ 0 → ⊥
+  pub before : step < giveStep
+  pub executes : partAt (placeOf step) ≡ reply
+  pub asked : compared ≡ valueAt (placeOf step) value
+
+-- from the round at a position's step, really made, to the next one, by the answer, over a list of that many names
+abbrev pub Advances : ℕ → Position → Bool → Position → Type 0
+Advances count p answered q =
+    (names : List ℕ) → length names ≡ count → q ≡ onto names (moveOn (placeOf (p .step)) count (wrote (roundHere names p) p) answered)
+
+-- the same of a round that writes a half: whatever the answer, and however many names
+abbrev pub Writes : Position → Position → Type 0
+Writes p q = (count : ℕ) (answered : Bool) → Advances count p answered q
 
 -- the struct stands for that round
 pub record Sends (r : MasterSlaveRound) (s : Sent) : Type 0 where
   pub parts : sentFor r ≡ s
-
--- the round at a part of a comparison with a value
-unfoldable pub askedBy : Part → ℕ → RunRound
-askedBy high value = writeHigh (value / half)
-askedBy low value = writeLow (value % half)
-askedBy reply value = compare

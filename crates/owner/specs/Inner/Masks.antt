@@ -16,9 +16,9 @@ pub record Marks (mask : ℕ) (test : ℕ → Bool) : Type 0 where
 unfoldable pub between : ℕ → ℕ → ℕ → Bool
 between first end slot = both (leb first slot) (ltb slot end)
 
--- no entry ends later
-abbrev pub longestRun : ℕ
-longestRun = 64 + 16
+-- the most slots that an entry covers
+abbrev pub longestEntry : ℕ
+longestEntry = 16
 
 -- the last slot of a mask, 0 where it has none
 pub record LastIs (mask last : ℕ) : Type 0 where

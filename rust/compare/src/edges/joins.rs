@@ -399,11 +399,11 @@ fn nearly_shared() -> Vec<Edge> {
     (0..64).map(edge).chain([alike()]).collect()
 }
 
-/// 32 and 32 names that are equal modulo 255, by which a search may tell names apart at first sight, and not equal.
+/// 32 and 32 names that are equal modulo 256, by which a search may tell names apart at first sight, and not equal.
 fn alike() -> Edge {
     let mut all = unnamed(64, 0);
     for (slave, place) in all.slaves.iter_mut().zip(1u32..) {
-        slave.1[1].1[8..12].copy_from_slice(&(255 * place * place).to_be_bytes());
+        slave.1[1].1[8..12].copy_from_slice(&(256 * place * place).to_be_bytes());
     }
     let (first, second) = cut(&all, 32);
     becomes("names alike and not equal", &first.laid_out(2), &second.laid_out(2), &all.laid_out(2))

@@ -4,6 +4,7 @@ use native.Mathlib.Omega.{arith}
 use Prim.Native.Nat.{_-_}
 use Rattle.file.specs.Inner.Typed.{fileIn}
 use Rattle.cluster.proofs.RoundFileLaws.{Finding, finding-start, finding-next, finding-done}
+use Rattle.cluster.proofs.OpenLaws.{start-low, end-low}
 use borrow.Author.Needs.{needs}
 use Rattle.cluster.proofs.multipartner.round_files.Statement.{statement}
 use Rattle.cluster.proofs.multipartner.round_files.Tie as tie
@@ -16,38 +17,11 @@ abbrev μ-loop : tie.MeasureT-loop
 μ-loop file places round starts₀ ends₀ count slave₀ starts ends slave =
     count - slave
 
-slave-count-requires : tie.Need-slave-count-requires Inv-loop μ-loop
-slave-count-requires c κs = search needs
+cast-starts : tie.Need-cast-starts Inv-loop μ-loop
+cast-starts c = start-low (c .before .before .before .loop .inv .becomes) (c .before .round-file .ensures)
 
-loop-holds : tie.Need-loop-holds Inv-loop μ-loop
-loop-holds c = search (needs, finding-start)
-
-round-file-requires : tie.Need-round-file-requires Inv-loop μ-loop
-round-file-requires c κs = search needs
-
-mul-starts : tie.Need-mul-starts Inv-loop μ-loop
-mul-starts c = omega arith
-
-array-write-starts : tie.Need-array-write-starts Inv-loop μ-loop
-array-write-starts c = omega arith
-
-mul-ends : tie.Need-mul-ends Inv-loop μ-loop
-mul-ends c = omega arith
-
-array-write-ends : tie.Need-array-write-ends Inv-loop μ-loop
-array-write-ends c = omega arith
-
-add-slave : tie.Need-add-slave Inv-loop μ-loop
-add-slave c = omega arith
-
-loop-less : tie.Need-loop-less Inv-loop μ-loop
-loop-less c = omega arith
-
-loop-again : tie.Need-loop-again Inv-loop μ-loop
-loop-again c = search (needs, finding-next)
-
-returns : tie.Need-returns Inv-loop μ-loop
-returns c = search (needs, finding-done)
+cast-ends : tie.Need-cast-ends Inv-loop μ-loop
+cast-ends c = end-low (c .before .before .before .before .loop .inv .becomes) (c .before .before .round-file .ensures)
 
 pub round-files-spec : {M : Type 1} → statement M
 round-files-spec =
@@ -55,14 +29,16 @@ round-files-spec =
     (tie.spec
     Inv-loop
     μ-loop
-    slave-count-requires
-    loop-holds
-    round-file-requires
-    mul-starts
-    array-write-starts
-    mul-ends
-    array-write-ends
-    add-slave
-    loop-less
-    loop-again
-    returns)
+    (λ c κs. search needs)
+    (λ c. search (needs, finding-start))
+    (λ c κs. search needs)
+    cast-starts
+    (λ c. omega arith)
+    (λ c. omega arith)
+    cast-ends
+    (λ c. omega arith)
+    (λ c. omega arith)
+    (λ c. omega arith)
+    (λ c. omega arith)
+    (λ c. search (needs, finding-next))
+    (λ c. search (needs, finding-done)))

@@ -1,6 +1,6 @@
 -- `cluster::multipartner::run_slots` meets its contract. The invariants: of the slots `Running`, the round so far; of a slot's
 -- slaves `SlotHeard`, what was sent, who stores where, and that no slave's acting entry was passed over; of a slave's entries
--- `Searching`, that the entry that acts is yet to come.
+-- `Looking`, that the entry that acts is yet to come.
 -- Assumes nothing.
 use Prim.Native.Nat.{_-_}
 use native.Mathlib.Omega.{arith}
@@ -10,47 +10,35 @@ use lib.ListN.{length-set}
 use borrow.Author.Needs.{needs}
 use Rattle.cluster.specs.Rules.Entries.{outOfTurn}
 use Rattle.cluster.proofs.Bus.{filled-length}
-use Rattle.cluster.proofs.EntryLaws.{turn-blind}
-use Rattle.cluster.proofs.SearchLaws.{Searching, round-act-same, entry-within, entry-low, searching-end, searching-here, searching-next, searching-done, eligible-reaches}
-use Rattle.cluster.proofs.SlotLaws.{SlotHeard, heard-none, slave-entries, slave-search, heard-next, stores-within, Running, running-start, mask-small, slot-fits, running-silent, running-heard, running-done}
+use Rattle.cluster.proofs.SearchLaws.{entry-within, entry-low, begun}
+use Rattle.cluster.proofs.SlotLaws.{SlotHeard, heard-none, ends-low, starts-low, stores-within, Looking, looking-start, looking-done, looking-end, looking-wait, looking-over, looking-stores}
+use Rattle.cluster.proofs.SlotLaws.{looking-acts, heard-same, next-low, Running, running-start, mask-small, slot-fits, running-silent, running-heard, running-done}
 use Rattle.cluster.proofs.multipartner.run_slots.Statement.{statement}
 use Rattle.cluster.proofs.multipartner.run_slots.Tie as tie
 
 abbrev Inv-entries : tie.InvT-entries
-Inv-entries file places round epoch firework buffer count starts ends stores mask slot bus heard slave act₀ end at₀ act at =
-    Searching (outOfTurn epoch) file round slot slave act at end
+Inv-entries file _ round epoch _ _ count starts ends _ _ _ _ _ slot _ _ _ slave end _ _ numbers froms sizes stores bus heard stored at next =
+    Looking (outOfTurn epoch) file round count slot slave bus heard starts ends stores stored numbers froms sizes at next end
 
 abbrev μ-entries : tie.MeasureT-entries
-μ-entries file places round epoch firework buffer count starts ends stores mask slot bus heard slave act₀ end at₀ act at =
+μ-entries _ _ _ _ _ _ _ _ _ _ _ _ _ _ _ _ _ _ _ end _ _ _ _ _ _ _ _ _ at _ =
     end - at
 
 abbrev Inv-slaves : tie.InvT-slaves
-Inv-slaves file places round epoch firework buffer count starts₀ ends stores₀ mask slot bus₀ heard₀ slave₀ starts stores bus heard slave =
-    SlotHeard (outOfTurn epoch) file round count slot slave bus heard starts ends stores
+Inv-slaves file _ round epoch _ _ count _ ends _ _ _ _ _ slot _ _ _ _ starts numbers froms sizes stores bus heard stored slave =
+    SlotHeard (outOfTurn epoch) file round count slot slave bus heard starts ends stores stored numbers froms sizes
 
 abbrev μ-slaves : tie.MeasureT-slaves
-μ-slaves file places round epoch firework buffer count starts₀ ends stores₀ mask slot bus₀ heard₀ slave₀ starts stores bus heard slave =
+μ-slaves _ _ _ _ _ _ count _ _ _ _ _ _ _ _ _ _ _ _ _ _ _ _ _ _ _ _ slave =
     count - slave
 
 abbrev Inv-slots : tie.InvT-slots
-Inv-slots file₀ places round epoch firework buffer₀ count starts₀ ends stores₀ mask₀ slot₀ file buffer starts stores mask slot =
-    Running (outOfTurn epoch) file₀ round firework count starts ends stores buffer₀ slot mask buffer file
+Inv-slots file₀ _ round epoch firework buffer₀ count _ ends _ _ _ _ _ _ file buffer starts numbers froms sizes stores mask slot =
+    Running (outOfTurn epoch) file₀ round firework count starts ends stores numbers froms sizes buffer₀ slot mask buffer file
 
 abbrev μ-slots : tie.MeasureT-slots
-μ-slots file₀ places round epoch firework buffer₀ count starts₀ ends stores₀ mask₀ slot₀ file buffer starts stores mask slot =
+μ-slots _ _ _ _ _ _ _ _ _ _ _ _ _ _ _ _ _ _ _ _ _ _ _ slot =
     64 - slot
-
-slave-count-requires :
-    tie.Need-slave-count-requires Inv-entries μ-entries Inv-slaves μ-slaves Inv-slots μ-slots
-slave-count-requires c κs = search needs
-
-round-files-requires :
-    tie.Need-round-files-requires Inv-entries μ-entries Inv-slaves μ-slaves Inv-slots μ-slots
-round-files-requires c κs = search needs
-
-slice-write-buffer :
-    tie.Need-slice-write-buffer Inv-entries μ-entries Inv-slaves μ-slaves Inv-slots μ-slots
-slice-write-buffer c = omega arith
 
 slots-holds : tie.Need-slots-holds Inv-entries μ-entries Inv-slaves μ-slaves Inv-slots μ-slots
 slots-holds c = search (needs, running-start)
@@ -58,114 +46,112 @@ slots-holds c = search (needs, running-start)
 slaves-holds : tie.Need-slaves-holds Inv-entries μ-entries Inv-slaves μ-slaves Inv-slots μ-slots
 slaves-holds c = search (needs, heard-none)
 
-mul-end : tie.Need-mul-end Inv-entries μ-entries Inv-slaves μ-slaves Inv-slots μ-slots
-mul-end c = omega arith
+cast-end : tie.Need-cast-end Inv-entries μ-entries Inv-slaves μ-slaves Inv-slots μ-slots
+cast-end c = omega (arith, ends-low (c .before .slaves .inv) (c .slaves-test .taken))
 
-array-read-end :
-    tie.Need-array-read-end Inv-entries μ-entries Inv-slaves μ-slaves Inv-slots μ-slots
-array-read-end c = omega arith
-
-mul-open-from : tie.Need-mul-open-from Inv-entries μ-entries Inv-slaves μ-slaves Inv-slots μ-slots
-mul-open-from c = omega arith
-
-array-read-open-from :
-    tie.Need-array-read-open-from Inv-entries μ-entries Inv-slaves μ-slaves Inv-slots μ-slots
-array-read-open-from c = omega arith
-
-open-from-requires :
-    tie.Need-open-from-requires Inv-entries μ-entries Inv-slaves μ-slaves Inv-slots μ-slots
-open-from-requires c κs = search (needs, slave-entries)
-
-mul-starts : tie.Need-mul-starts Inv-entries μ-entries Inv-slaves μ-slaves Inv-slots μ-slots
-mul-starts c = omega arith
-
-array-write-starts :
-    tie.Need-array-write-starts Inv-entries μ-entries Inv-slaves μ-slaves Inv-slots μ-slots
-array-write-starts c = omega arith
+cast-at : tie.Need-cast-at Inv-entries μ-entries Inv-slaves μ-slaves Inv-slots μ-slots
+cast-at c = omega (arith, starts-low (c .before .slaves .inv) (c .slaves-test .taken))
 
 entries-holds : tie.Need-entries-holds Inv-entries μ-entries Inv-slaves μ-slaves Inv-slots μ-slots
-entries-holds c =
-    let slave = c .before .before in
-    let slot = slave .before .before in
-    slave-search (slave .before .slaves .inv) (slave .slaves-test .taken) (c .open-from .ensures) (turn-blind _) (slot .slots-test .taken)
+entries-holds c = looking-start (c .before .slaves .inv) (c .slaves-test .taken)
 
-entry-at-requires :
-    tie.Need-entry-at-requires Inv-entries μ-entries Inv-slaves μ-slaves Inv-slots μ-slots
-entry-at-requires c κs = entry-within (c .before .before .entries .inv) (c .before .entries-test .taken)
+ends-at-requires :
+    tie.Need-ends-at-requires Inv-entries μ-entries Inv-slaves μ-slaves Inv-slots μ-slots
+ends-at-requires c κs = entry-within (c .before .before .entries .inv .search) (c .before .entries-test .taken)
 
-is-eligible-requires :
-    tie.Need-is-eligible-requires Inv-entries μ-entries Inv-slaves μ-slaves Inv-slots μ-slots
-is-eligible-requires c κs = search needs
+waits-at-requires :
+    tie.Need-waits-at-requires Inv-entries μ-entries Inv-slaves μ-slaves Inv-slots μ-slots
+waits-at-requires c κs =
+    let pass = c .before .before .before .before in
+    entry-within (pass .before .entries .inv .search) (pass .entries-test .taken)
 
-slot-act-requires :
-    tie.Need-slot-act-requires Inv-entries μ-entries Inv-slaves μ-slaves Inv-slots μ-slots
-slot-act-requires c κs =
-    let able = c .before .before in
-    let read = able .before in
-    let pass = read .before .before in
-    let searching = pass .before .entries .inv in
-    (searching .becomes, searching .slave, eligible-reaches _ _ _ _ (read .entry-at .ensures) (able .is-eligible .ensures) (c .before .if1 .taken) (searching .inRound))
+acts-at-requires :
+    tie.Need-acts-at-requires Inv-entries μ-entries Inv-slaves μ-slaves Inv-slots μ-slots
+acts-at-requires c κs =
+    let pass = c .before .before .before .before .before .before .before in
+    entry-within (pass .before .entries .inv .search) (pass .entries-test .taken)
 
-is-end-requires :
-    tie.Need-is-end-requires Inv-entries μ-entries Inv-slaves μ-slaves Inv-slots μ-slots
-is-end-requires c κs = search needs
+act-at-requires :
+    tie.Need-act-at-requires Inv-entries μ-entries Inv-slaves μ-slaves Inv-slots μ-slots
+act-at-requires c κs =
+    let acts = c .before .before .before .before in
+    let waits = acts .before .before .before in
+    let pass = waits .before .before .before .before .before .before in
+    let looking = pass .before .entries .inv in (
+      looking .search .becomes,
+      looking .search .slave,
+      entry-within (looking .search) (pass .entries-test .taken),
+      begun (waits .before .waits-at .ensures) (waits .if2 .taken),
+      search needs,
+      looking .before .ready .kept,
+    )
+
+put-store-requires :
+    tie.Need-put-store-requires Inv-entries μ-entries Inv-slaves μ-slaves Inv-slots μ-slots
+put-store-requires c κs =
+    let does = c .before .before .before in
+    let acts = does .before .before .before .before .before in
+    let waits = acts .before .before .before in
+    let stops = waits .before .before .before in
+    let pass = stops .before .before .before in
+    looking-stores (pass .before .entries .inv) (pass .entries-test .taken) (stops .before .ends-at .ensures) (stops .if1 .left)
+    (begun (waits .before .waits-at .ensures) (waits .if2 .taken)) (acts .before .acts-at .ensures)
+    (acts .if3 .taken) (does .act-at .ensures .does)
+
+next-after-requires :
+    tie.Need-next-after-requires Inv-entries μ-entries Inv-slaves μ-slaves Inv-slots μ-slots
+next-after-requires c κs =
+    let acts = c .before .before .before .before .before .before .before .before .before .before in
+    let waits = acts .before .before .before in
+    let pass = waits .before .before .before .before .before .before in
+    let looking = pass .before .entries .inv in
+    (entry-low (looking .search) (pass .entries-test .taken), entry-within (looking .search) (pass .entries-test .taken), begun (waits .before .waits-at .ensures) (waits .if2 .taken))
+
+next-past-requires :
+    tie.Need-next-past-requires Inv-entries μ-entries Inv-slaves μ-slaves Inv-slots μ-slots
+next-past-requires c κs =
+    let pass = c .before .before .before .before .before .before .before .before .before in
+    entry-low (pass .before .entries .inv .search) (pass .entries-test .taken)
 
 add-at : tie.Need-add-at Inv-entries μ-entries Inv-slaves μ-slaves Inv-slots μ-slots
 add-at c =
-    let end = c .before .before in
-    let able = end .before .before in
-    let pass = able .before .before in
-    omega (arith, entry-low (pass .before .entries .inv) (pass .entries-test .taken))
-
-entries-less : tie.Need-entries-less Inv-entries μ-entries Inv-slaves μ-slaves Inv-slots μ-slots
-entries-less c = omega arith
+    let pass = c .before .before .before .before .before .before in
+    omega (arith, entry-low (pass .before .entries .inv .search) (pass .entries-test .taken))
 
 entries-again : tie.Need-entries-again Inv-entries μ-entries Inv-slaves μ-slaves Inv-slots μ-slots
-entries-again c = search (needs, searching-next)
-
-bus-with-requires :
-    tie.Need-bus-with-requires Inv-entries μ-entries Inv-slaves μ-slaves Inv-slots μ-slots
-bus-with-requires c κs = search needs
-
-heard-with-requires :
-    tie.Need-heard-with-requires Inv-entries μ-entries Inv-slaves μ-slaves Inv-slots μ-slots
-heard-with-requires c κs = search needs
-
-store-place-requires :
-    tie.Need-store-place-requires Inv-entries μ-entries Inv-slaves μ-slaves Inv-slots μ-slots
-store-place-requires c κs = search needs
-
-mul-stores : tie.Need-mul-stores Inv-entries μ-entries Inv-slaves μ-slaves Inv-slots μ-slots
-mul-stores c = omega arith
-
-array-write-stores :
-    tie.Need-array-write-stores Inv-entries μ-entries Inv-slaves μ-slaves Inv-slots μ-slots
-array-write-stores c = omega arith
-
-add-slave : tie.Need-add-slave Inv-entries μ-entries Inv-slaves μ-slaves Inv-slots μ-slots
-add-slave c = omega arith
-
-slaves-less : tie.Need-slaves-less Inv-entries μ-entries Inv-slaves μ-slaves Inv-slots μ-slots
-slaves-less c = omega arith
+entries-again c =
+    let waits = c .before in
+    let stops = waits .before .before in
+    let pass = stops .before .before .before in
+    let looking = pass .before .entries .inv in
+    ⊎-elim
+    (λ w.
+    looking-over looking (pass .entries-test .taken) (stops .before .ends-at .ensures) (stops .if1 .left) (begun (waits .waits-at .ensures) (w .0 .taken)) (w .2 .ensures) (w .3 .left)
+    (w .5 ∙ w .4 .ensures))
+    (λ w. looking-wait looking (pass .entries-test .taken) (stops .before .ends-at .ensures) (stops .if1 .left) (waits .waits-at .ensures) (w .0 .left) (w .1))
+    (c .if2 .came)
 
 slaves-again : tie.Need-slaves-again Inv-entries μ-entries Inv-slaves μ-slaves Inv-slots μ-slots
 slaves-again c =
-    let bus = c .before .before in
-    let out = bus .before in
-    let opened = out .before .before in
-    let slave = opened .before .before in
-    let searching = out .before .entries .inv in
-    heard-next (slave .before .slaves .inv) (slave .slaves-test .taken) (opened .open-from .ensures)
+    let out = c .before in
+    let looking = out .before .entries .inv in
     -- the three ways out of the search meet here
-    (⊎-elim
-    (λ w. round-act-same (w .1) (searching-done searching (w .0 .left)))
+    ⊎-elim
+    (λ w. heard-same looking (w .1) (w .2) (w .3) (w .4) (w .5) (w .6) (w .7) (w .8) (looking-done looking (w .0 .left)))
     (λ w.
     ⊎-elim
-    (λ v. round-act-same (v .7) (searching-here searching (v .0 .taken) (v .2 .ensures) (v .3 .ensures) (v .4 .taken) (v .6 .ensures)))
-    (λ v. round-act-same (v .7) (searching-end searching (v .0 .taken) (v .2 .ensures) (v .5 .ensures) (v .6 .taken)))
+    (λ v.
+    heard-same looking (v .4) (v .5) (v .6) (v .7) (v .8) (v .9) (v .10) (v .11) (looking-end looking (v .0 .taken) (v .2 .ensures) (v .3 .taken)))
+    (λ v.
+    heard-same looking (v .21) (v .22) (v .23) (v .24) (v .25) (v .26) (v .27) (v .28)
+    (looking-acts looking (v .0 .taken) (v .2 .ensures) (v .3 .left) (begun (v .5 .ensures) (v .6 .taken)) (v .8 .ensures) (v .9 .taken) (v .14 .ensures) (v .15 .ensures) (v .16 .ensures)
+    (v .18 .ensures)
+    (v .20 .ensures)))
     w)
-    (out .entries-test .came))
-    (bus .bus-with .ensures) (c .before .heard-with .ensures) (c .store-place .ensures)
+    (out .entries-test .came)
+
+cast-starts : tie.Need-cast-starts Inv-entries μ-entries Inv-slaves μ-slaves Inv-slots μ-slots
+cast-starts c = omega (arith, next-low (c .before .before .entries .inv) (c .before .entries-test .next) (slaves-again c))
 
 with-sender-requires :
     tie.Need-with-sender-requires Inv-entries μ-entries Inv-slaves μ-slaves Inv-slots μ-slots
@@ -184,12 +170,6 @@ slice-write-buffer-2 c =
     let heard = c .before .before in
     slot-fits (heard .before .before .slots .inv) (heard .before .slots-test .taken)
 
-add-slot : tie.Need-add-slot Inv-entries μ-entries Inv-slaves μ-slaves Inv-slots μ-slots
-add-slot c = omega arith
-
-slots-less : tie.Need-slots-less Inv-entries μ-entries Inv-slaves μ-slaves Inv-slots μ-slots
-slots-less c = omega arith
-
 slots-again : tie.Need-slots-again Inv-entries μ-entries Inv-slaves μ-slaves Inv-slots μ-slots
 slots-again c =
     let heard = c .before in
@@ -198,16 +178,10 @@ slots-again c =
     ⊎-elim
     (λ w. running-heard run (slot .slots-test .taken) (heard .before .slaves .inv) (heard .slaves-test .left) (w .0 .taken) (w .8 ∙ w .1 .ensures) (w .7 ∙ w .4 .ensures))
     (λ w. running-silent run (slot .slots-test .taken) (heard .before .slaves .inv) (heard .slaves-test .left) (w .0 .left) (w .2) (w .1))
-    (c .if3 .came)
-
-same-length : tie.Need-same-length Inv-entries μ-entries Inv-slaves μ-slaves Inv-slots μ-slots
-same-length c = c .before .slots .inv .size
+    (c .if4 .came)
 
 same-length-2 : tie.Need-same-length-2 Inv-entries μ-entries Inv-slaves μ-slaves Inv-slots μ-slots
 same-length-2 c = filled-length (c .before .slots .inv .filled) ∙ simp length-set
-
-returns : tie.Need-returns Inv-entries μ-entries Inv-slaves μ-slaves Inv-slots μ-slots
-returns c = running-done _ (c .before .slots .inv) (c .slots-test .left)
 
 pub run-slots-spec : {M : Type 1} → statement M
 run-slots-spec =
@@ -219,40 +193,42 @@ run-slots-spec =
     μ-slaves
     Inv-slots
     μ-slots
-    slave-count-requires
-    round-files-requires
-    slice-write-buffer
+    (λ c κs. search needs)
+    (λ c κs. search needs)
+    (λ c. omega arith)
     slots-holds
     slaves-holds
-    mul-end
-    array-read-end
-    mul-open-from
-    array-read-open-from
-    open-from-requires
-    mul-starts
-    array-write-starts
+    (λ c. omega arith)
+    (λ c. omega arith)
+    cast-end
+    (λ c. omega arith)
+    (λ c. omega arith)
+    cast-at
     entries-holds
-    entry-at-requires
-    is-eligible-requires
-    slot-act-requires
-    is-end-requires
+    ends-at-requires
+    waits-at-requires
+    acts-at-requires
+    act-at-requires
+    (λ c κs. search needs)
+    (λ c κs. search needs)
+    put-store-requires
+    next-after-requires
+    next-past-requires
     add-at
-    entries-less
+    (λ c. omega arith)
     entries-again
-    bus-with-requires
-    heard-with-requires
-    store-place-requires
-    mul-stores
-    array-write-stores
-    add-slave
-    slaves-less
+    cast-starts
+    (λ c. omega arith)
+    (λ c. omega arith)
+    (λ c. omega arith)
+    (λ c. omega arith)
     slaves-again
     with-sender-requires
     store-requires
     slice-write-buffer-2
-    add-slot
-    slots-less
+    (λ c. omega arith)
+    (λ c. omega arith)
     slots-again
-    same-length
+    (λ c. c .before .slots .inv .size)
     same-length-2
-    returns)
+    (λ c. running-done _ (c .before .slots .inv) (c .slots-test .left)))

@@ -19,8 +19,8 @@ returns-2 : tie.Need-returns-2
 unfolding convertedOf
 returns-2 c = search (needs, call-short)
 
-put-form-requires : tie.Need-put-form-requires
-put-form-requires c κs = search (needs, survey-becomes, call-fits)
+put-file-requires : tie.Need-put-file-requires
+put-file-requires c κs = search (needs, survey-becomes, call-fits)
 
 returns-3 : tie.Need-returns-3
 unfolding convertedOf
@@ -43,7 +43,7 @@ convert-spec =
     (λ c κs. search (needs, width-there))
     returns
     returns-2
-    put-form-requires
+    put-file-requires
     returns-3
     (λ c. search needs)
     returns-4)

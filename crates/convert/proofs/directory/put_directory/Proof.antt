@@ -10,23 +10,17 @@ use Rattle.convert.proofs.directory.put_directory.Statement.{statement}
 use Rattle.convert.proofs.directory.put_directory.Tie as tie
 
 abbrev Inv-loop : tie.InvT-loop
-Inv-loop out₀ width at file slave count from size entry₀ to₀ place₀ done₀ out entry to place done = DirectoryPut width at file slave out₀ out entry to place done
+Inv-loop out₀ width at file own slave start count «from» size entry₀ to₀ place₀ done₀ out entry to place done =
+    DirectoryPut width at file slave out₀ out entry to place done
 
 abbrev μ-loop : tie.MeasureT-loop
-μ-loop out₀ width at file slave count from size entry₀ to₀ place₀ done₀ out entry to place done = count - done
+μ-loop out₀ width at file own slave start count «from» size entry₀ to₀ place₀ done₀ out entry to place done = count - done
 
 put-directory-entry-requires : tie.Need-put-directory-entry-requires Inv-loop μ-loop
 put-directory-entry-requires c κs = (search (needs, directory-offset), search (needs, directory-room))
 
 loop-again : tie.Need-loop-again Inv-loop μ-loop
-loop-again c =
-    let put = c .before .before in
-    let turn = put .before .before .before .before in
-    let widths = turn .before .before .before in
-    let files = widths .before in
-    let pre = files .before .before .before .pre in
-    directory-again (turn .before .loop .inv) (files .file-count .ensures) (turn .loop-test .taken) (pre .0) (pre .1) (widths .width-of .ensures) (pre .2)
-    (put .put-directory-entry .ensures)
+loop-again c = search (needs, directory-again)
 
 same-length : tie.Need-same-length Inv-loop μ-loop
 same-length c = put-room (c .before .loop .inv .put)
@@ -38,10 +32,8 @@ put-directory-spec =
     Inv-loop
     μ-loop
     (λ c κs. search needs)
-    (λ c κs. search needs)
     (λ c. omega arith)
     (λ c. omega arith)
-    (λ c κs. search needs)
     (λ c. search (needs, files-fit))
     (λ c. search (needs, files-place-fits))
     (λ c. search (needs, directory-start))

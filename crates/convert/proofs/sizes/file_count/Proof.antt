@@ -11,7 +11,6 @@ pub file-count-spec : {M : Type 1} → statement M
 file-count-spec =
     tie.close
     (tie.spec
-    (λ c κs. search needs)
     (λ c. omega arith)
     (λ c. omega arith)
     (λ c. omega arith)

@@ -1,36 +1,43 @@
--- `convert::slaves::put_slaves` meets its contract: the slaves so far are put.
+-- `convert::slaves::put_slaves` meets its contract: the slaves so far are listed and put.
 -- Assumes nothing.
 use Prim.Native.Nat.{_-_}
-use Rattle.file.specs.Rules.Decode.{decode}
-use Rattle.convert.proofs.Putting.{put-room}
-use Rattle.convert.proofs.ReadLaws.{below-count}
-use Rattle.convert.proofs.SlavePutLaws.{SlavesPut, slaves-start, slave-fits, place-fits, slaves-again, slaves-done}
+use Rattle.convert.proofs.ReadLaws.{table-fits, front-fits, below-count, files-byte}
+use Rattle.convert.proofs.BodyLaws.{BodyPut, body-start, body-kept, body-offset, body-read, body-slave-fits, body-room, body-entry-fits, body-again, body-done, size-fits}
+use native.Mathlib.Omega.{arith}
 use borrow.Author.Needs.{needs}
 use Rattle.convert.proofs.slaves.put_slaves.Statement.{statement}
 use Rattle.convert.proofs.slaves.put_slaves.Tie as tie
 
 abbrev Inv-loop : tie.InvT-loop
-Inv-loop out₀ width at file count place₀ slave₀ out place slave = SlavesPut width at (decode file) out₀ out place slave
+Inv-loop out₀ width at place file kept own count entry₀ start₀ to₀ slave₀ out entry start to slave =
+    BodyPut kept width at place file out₀ out entry slave start to
 
 abbrev μ-loop : tie.MeasureT-loop
-μ-loop out₀ width at file count place₀ slave₀ out place slave = count - slave
+μ-loop out₀ width at place file kept own count entry₀ start₀ to₀ slave₀ out entry start to slave = count - slave
 
 put-slave-requires : tie.Need-put-slave-requires Inv-loop μ-loop
-put-slave-requires c κs = (search needs, search (needs, below-count), search (needs, slave-fits, below-count))
+put-slave-requires c κs = (search (needs, body-read, below-count), search (needs, body-slave-fits, below-count))
 
-slave-size-requires : tie.Need-slave-size-requires Inv-loop μ-loop
-slave-size-requires c κs = (search needs, search (needs, below-count), search needs)
+put-table-entry-requires : tie.Need-put-table-entry-requires Inv-loop μ-loop
+put-table-entry-requires c κs =
+    let put = c .before .before .before in
+    let turn = put .before .before .before .before in
+    let counted = turn .before .before in
+    let fits = counted .before .before .before .before .pre .1 in
+    let more = below-count _ (counted .slave-count .ensures) (turn .loop-test .taken) in
+    (body-offset (turn .before .loop .inv) fits more, body-room (turn .before .loop .inv) fits more (put .put-slave .ensures))
 
 loop-again : tie.Need-loop-again Inv-loop μ-loop
 loop-again c =
-    let put = c .before .before .before in
-    let turn = put .before .before in
-    let begins = turn .before .before in
-    let pre = begins .before .before .before .pre in
-    slaves-again (turn .before .loop .inv) (pre .1) (below-count _ (begins .slave-count .ensures) (turn .loop-test .taken)) (c .slave-size .ensures) (put .put-slave .ensures)
-
-same-length : tie.Need-same-length Inv-loop μ-loop
-same-length c = put-room (c .before .loop .inv .put)
+    let entry = c .before .before in
+    let put = entry .before .before .before .before in
+    let asleep = put .before .before in
+    let files = asleep .before in
+    let turn = files .before in
+    let counted = turn .before .before in
+    let fits = counted .before .before .before .before .pre .1 in
+    let more = below-count _ (counted .slave-count .ensures) (turn .loop-test .taken) in
+    body-again (turn .before .loop .inv) fits more (put .put-slave .ensures) (files .file-count .ensures) (asleep .listed-sleep .ensures) (entry .put-table-entry .ensures)
 
 pub put-slaves-spec : {M : Type 1} → statement M
 put-slaves-spec =
@@ -39,12 +46,22 @@ put-slaves-spec =
     Inv-loop
     μ-loop
     (λ c κs. search needs)
-    (λ c. slaves-start _ _ _ _)
+    (λ c κs. search needs)
+    (λ c. omega arith)
+    (λ c. omega arith)
+    (λ c. omega arith)
+    (λ c. search (needs, table-fits))
+    (λ c. search (needs, front-fits))
+    (λ c. search (needs, body-start))
+    (λ c κs. search (needs, below-count))
+    (λ c. search (needs, files-byte, below-count))
+    (λ c κs. search (needs, below-count))
     put-slave-requires
-    slave-size-requires
-    (λ c. search (needs, place-fits, below-count))
+    put-table-entry-requires
+    (λ c. search (needs, size-fits))
+    (λ c. search (needs, body-entry-fits, below-count))
     (λ c. search needs)
     (λ c. search needs)
     loop-again
-    same-length
-    (λ c. search (needs, slaves-done)))
+    (λ c. search (needs, body-kept))
+    (λ c. search (needs, body-done)))

@@ -17,7 +17,6 @@ put-table-entry-spec =
     (λ c. search needs)
     (λ c. simp length-set (omega arith))
     (λ c. search needs)
-    (λ c. search needs)
-    (λ c κs. simp length-set (omega arith))
+    (λ c κs. (search needs, simp length-set (omega arith)))
     (λ c. search (needs, table-entry-kept))
     (λ c. search (needs, table-entry-put)))

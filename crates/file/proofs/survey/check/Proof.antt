@@ -15,8 +15,8 @@ enum-known-surveyed c = search needs
 enum-told : tie.Need-enum-told
 enum-told c = search needs
 
-equal-logical-names-requires : tie.Need-equal-logical-names-requires
-equal-logical-names-requires c κs = search (needs, survey-placed)
+is-held-twice-requires : tie.Need-is-held-twice-requires
+is-held-twice-requires c κs = search (needs, survey-placed)
 
 returns : tie.Need-returns
 unfolding checkedOf
@@ -37,7 +37,7 @@ check-spec =
     survey-requires
     enum-known-surveyed
     enum-told
-    equal-logical-names-requires
+    is-held-twice-requires
     returns
     returns-2
     returns-3)

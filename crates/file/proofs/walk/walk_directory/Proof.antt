@@ -4,72 +4,28 @@ use Prim.Native.Nat.{_-_}
 use borrow.Author.Needs.{needs}
 use borrow.Author.Tests.{not-true, not-false}
 use native.Mathlib.Omega.{arith}
-use Rattle.file.proofs.WalkLaws.{Walking, walking-start, walking-fits, walking-entry, walking-stop, walking-next, walking-done}
+use Rattle.file.proofs.WalkLaws.{Walking, walking-none, first-entry, first-number, first-records, first-stop, first-fits, first-next, walking-fits, walking-entry, walking-stop, walking-next, walking-done}
 use Rattle.file.proofs.walk.walk_directory.Statement.{statement}
 use Rattle.file.proofs.walk.walk_directory.Tie as tie
 
 abbrev Inv-loop : tie.InvT-loop
-Inv-loop file width directory count size end entry₀ low₀ place₀ entry low place = Walking width file directory count entry low place
+Inv-loop file width directory count size end first records entry₀ low₀ place₀ entry low place = Walking width file directory count entry low place
 
 abbrev μ-loop : tie.MeasureT-loop
-μ-loop file width directory count size end entry₀ low₀ place₀ entry low place = end - entry
-
-mul-size : tie.Need-mul-size Inv-loop μ-loop
-mul-size c = search needs
-
-mul-end : tie.Need-mul-end Inv-loop μ-loop
-mul-end c = search needs
-
-add-end : tie.Need-add-end Inv-loop μ-loop
-add-end c = search needs
+μ-loop file width directory count size end first records entry₀ low₀ place₀ entry low place = end - entry
 
 loop-holds : tie.Need-loop-holds Inv-loop μ-loop
-loop-holds c = search (needs, walking-start)
-
-byte-at-requires : tie.Need-byte-at-requires Inv-loop μ-loop
-byte-at-requires c κs = omega arith
-
-add-byte-at : tie.Need-add-byte-at Inv-loop μ-loop
-add-byte-at c = omega arith
-
-byte-at-requires-2 : tie.Need-byte-at-requires-2 Inv-loop μ-loop
-byte-at-requires-2 c κs = omega arith
-
-is-next-requires : tie.Need-is-next-requires Inv-loop μ-loop
-is-next-requires c κs = search (needs, walking-entry)
-
-returns : tie.Need-returns Inv-loop μ-loop
-returns c = search (needs, walking-stop, not-true)
-
-add-low : tie.Need-add-low Inv-loop μ-loop
-add-low c = omega arith
-
-add-place : tie.Need-add-place Inv-loop μ-loop
-add-place c = omega arith
-
-mul-place : tie.Need-mul-place Inv-loop μ-loop
-mul-place c = omega arith
-
-add-place-2 : tie.Need-add-place-2 Inv-loop μ-loop
-add-place-2 c = search (needs, walking-fits)
-
-add-entry : tie.Need-add-entry Inv-loop μ-loop
-add-entry c = omega arith
-
-loop-less : tie.Need-loop-less Inv-loop μ-loop
-loop-less c = omega arith
+loop-holds c =
+    let read = c .before .before in
+    let start : tie.Start Inv-loop μ-loop = search in
+    first-next (start .pre) (read .before .before .if1 .left) (c .before .is-next .ensures) (not-false _ (c .if2 .left)) (read .before .byte-at .ensures) (read .byte-at2 .ensures)
 
 loop-again : tie.Need-loop-again Inv-loop μ-loop
 loop-again c =
     let read = c .before .before in
     let turn = read .before .before in
-    walking-next (turn .before .before .before .pre) (turn .before .loop .inv) (turn .loop-test .taken) (c .before .is-next .ensures) (not-false _ (c .if1 .left)) (read .before .byte-at .ensures) (read .byte-at2 .ensures)
-
-fits-so-far-requires : tie.Need-fits-so-far-requires Inv-loop μ-loop
-fits-so-far-requires c κs = search needs
-
-returns-2 : tie.Need-returns-2 Inv-loop μ-loop
-returns-2 c = search (needs, walking-done)
+    let start : tie.Start Inv-loop μ-loop = search in
+    walking-next (start .pre) (turn .before .loop .inv) (turn .loop-test .taken) (c .before .is-next2 .ensures) (not-false _ (c .if3 .left)) (read .before .byte-at3 .ensures) (read .byte-at4 .ensures)
 
 pub walk-directory-spec : {M : Type 1} → statement M
 walk-directory-spec =
@@ -77,21 +33,32 @@ walk-directory-spec =
     (tie.spec
     Inv-loop
     μ-loop
-    mul-size
-    mul-end
-    add-end
+    (λ c. search (needs, walking-none))
+    (λ c. search needs)
+    (λ c. search needs)
+    (λ c. search needs)
+    (λ c κs. search (needs, first-number))
+    (λ c. omega arith)
+    (λ c κs. search (needs, first-records))
+    (λ c κs. search (needs, first-entry))
+    (λ c. search (needs, first-stop, not-true))
+    (λ c. omega arith)
+    (λ c. omega arith)
+    (λ c. omega arith)
+    (λ c. omega arith)
+    (λ c. search (needs, first-fits))
     loop-holds
-    byte-at-requires
-    add-byte-at
-    byte-at-requires-2
-    is-next-requires
-    returns
-    add-low
-    add-place
-    mul-place
-    add-place-2
-    add-entry
-    loop-less
+    (λ c κs. omega arith)
+    (λ c. omega arith)
+    (λ c κs. omega arith)
+    (λ c κs. search (needs, walking-entry))
+    (λ c. search (needs, walking-stop, not-true))
+    (λ c. omega arith)
+    (λ c. omega arith)
+    (λ c. omega arith)
+    (λ c. search (needs, walking-fits))
+    (λ c. omega arith)
+    (λ c. omega arith)
     loop-again
-    fits-so-far-requires
-    returns-2)
+    (λ c κs. search needs)
+    (λ c. search (needs, walking-done)))

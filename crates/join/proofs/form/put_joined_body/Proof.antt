@@ -1,7 +1,9 @@
--- `join::form::put_joined_body` meets its contract: the tables, then the slaves.
+-- `join::form::put_joined_body` meets its contract: both files, then the names of the second.
 -- Assumes nothing.
+use Rattle.convert.proofs.ReadLaws.{table-fits}
 use Rattle.join.proofs.TurnLaws.{shape-turned}
-use Rattle.join.proofs.BodyLaws.{fits-kept, body-put}
+use Rattle.join.proofs.BodyLaws.{second-fits, second-slaves, body-turned}
+use native.Mathlib.Omega.{arith}
 use borrow.Author.Needs.{needs}
 use Rattle.join.proofs.form.put_joined_body.Statement.{statement}
 use Rattle.join.proofs.form.put_joined_body.Tie as tie
@@ -11,6 +13,10 @@ put-joined-body-spec =
     tie.close
     (tie.spec
     (λ c κs. search needs)
-    (λ c κs. search (needs, fits-kept))
+    (λ c. omega arith)
+    (λ c κs. search needs)
+    (λ c. search (needs, table-fits))
+    (λ c. search (needs, second-fits))
+    (λ c κs. search (needs, second-slaves))
     (λ c. search needs)
-    (λ c. search (needs, body-put, shape-turned)))
+    (λ c. search (needs, body-turned, shape-turned)))

@@ -13,6 +13,7 @@ put-joined-body-requires c κs =
     let counts : tie.After-slave-count2 = search in
     let head : tie.After-put-joined-header = search in (
       start .pre .0 .file,
+      width .width-of .ensures,
       start .pre .1,
       form-body (start .pre .0) (start .pre .1) (start .pre .2) (width .width-of .ensures) (counts .before .slave-count .ensures)
           (counts .slave-count2 .ensures) (head .put-joined-header .ensures),

@@ -9,7 +9,7 @@ use Rattle.join.proofs.names.mark_remainders.Statement.{statement}
 use Rattle.join.proofs.names.mark_remainders.Tie as tie
 
 abbrev Inv-loop : tie.InvT-loop
-Inv-loop file places seen₀ slave₀ seen slave = Marking remainderOf (decode file) 255 seen slave
+Inv-loop file places seen₀ slave₀ seen slave = Marking remainderOf (decode file) 256 seen slave
 
 abbrev μ-loop : tie.MeasureT-loop
 μ-loop file places seen₀ slave₀ seen slave = slave

@@ -1,59 +1,92 @@
 -- `listing_text::run::all_steps` meets its contract: what is left of the run is the whole run.
 -- Assumes nothing.
+use Prim.Native.Nat.{_-_, _^_, _≤_, _<_}
 use mathlib.Core.Path.{_≡_, refl}
+use native.Mathlib.Omega.{arith}
 use borrow.Author.Needs.{needs}
 use lib.ListN.{length}
+use Rattle.file.specs.Inner.Accepted.{Placed}
+use Rattle.naming.specs.Rules.Run.{bits}
 use Rattle.listing_text.specs.Rules.Listing.{listSteps, mostSteps}
 use Rattle.listing_text.specs.Inner.ListRuns.{stateOf}
-use Rattle.listing_text.proofs.ListLaws.{Going, going-start, going-ended, going-done, going-next}
+use Rattle.listing_text.proofs.ListLaws.{Going, going-start, going-done, going-next}
+use Rattle.listing_text.proofs.BatchLaws.{all-accepted, batch-few, batch-going, batch-over, some-left, step-placed}
 use Rattle.listing_text.proofs.run.all_steps.Statement.{statement}
 use Rattle.listing_text.proofs.run.all_steps.Tie as tie
 
 abbrev Inv-loop : tie.InvT-loop
-Inv-loop file₀ names answer₀ text₀ state₀ left₀ file answer text state left =
-    Going (listSteps mostSteps (stateOf state₀ file₀ answer₀ text₀)) text₀ (state₀ .at) state left file answer text × (length file ≡ length file₀) × (length answer ≡ length answer₀)
+Inv-loop file₀ places names answer₀ text₀ state₀ left₀ file answer text state left =
+    Going (listSteps mostSteps (stateOf state₀ file₀ answer₀ text₀)) text₀ (state₀ .at) state left file answer text ×
+    (length file ≡ length file₀) × (length answer ≡ length answer₀) × Placed file places
 
 abbrev μ-loop : tie.MeasureT-loop
-μ-loop file₀ names answer₀ text₀ state₀ left₀ file answer text state left = left
+μ-loop file₀ places names answer₀ text₀ state₀ left₀ file answer text state left = left
 
 loop-holds : tie.Need-loop-holds Inv-loop μ-loop
-loop-holds c = let start : tie.Start Inv-loop μ-loop = search in (going-start _ _ _ _ _ (start .pre .1), refl, refl)
+loop-holds c = let start : tie.Start Inv-loop μ-loop = search in (going-start _ _ _ _ _ (start .pre .1), refl, refl, start .pre .2)
 
-same-length : tie.Need-same-length Inv-loop μ-loop
-same-length c = search needs
+make-steps-requires : tie.Need-make-steps-requires Inv-loop μ-loop
+make-steps-requires c κs =
+    let at : tie.At-loop Inv-loop μ-loop = search in
+    let first : tie.Start Inv-loop μ-loop = search in
+    (at .loop .inv .3, omega (arith, first .pre .3, at .loop .inv .2), all-accepted (first .pre .0))
 
-same-length-2 : tie.Need-same-length-2 Inv-loop μ-loop
-same-length-2 c = search needs
+-- the steps made at once, before the state has them, and the loop's test before them
+abbrev made : tie.After-moved-to Inv-loop μ-loop → tie.After-make-steps Inv-loop μ-loop
+made moved = moved .before .before .before .before .before
 
-same-length-3 : tie.Need-same-length-3 Inv-loop μ-loop
-same-length-3 c = search needs
+abbrev looped : tie.After-make-steps Inv-loop μ-loop → tie.At-loop Inv-loop μ-loop
+looped steps = steps .before .before .before .before
 
-returns : tie.Need-returns Inv-loop μ-loop
-returns c = search going-ended
+abbrev start : tie.After-make-steps Inv-loop μ-loop → tie.Start Inv-loop μ-loop
+start steps = looped steps .before .before .before .before .before
 
-one-step-requires : tie.Need-one-step-requires Inv-loop μ-loop
-one-step-requires c κs = let start : tie.Start Inv-loop μ-loop = search in search needs
+few : (steps : tie.After-make-steps Inv-loop μ-loop) → steps .make-steps .result .steps ≤ looped steps .loop .left
+few steps = batch-few (looped steps .loop .inv .0) (start steps .pre .0) (steps .make-steps .ensures)
 
 sub-left : tie.Need-sub-left Inv-loop μ-loop
-sub-left c = search needs
+sub-left c = let steps : tie.After-make-steps Inv-loop μ-loop = search in few steps
+
+returns : tie.Need-returns Inv-loop μ-loop
+returns c =
+    let way : tie.Then1 Inv-loop μ-loop = search in
+    let over = way .before in
+    let moved = over .before .before in
+    let steps = made moved in
+    batch-over (looped steps .loop .inv .0) (start steps .pre .0) (steps .make-steps .ensures) (moved .moved-to .ensures) (over .is-over .ensures) (way .if1 .taken)
+
+one-step-requires : tie.Need-one-step-requires Inv-loop μ-loop
+one-step-requires c κs =
+    let moved = c .before .before .before .before .before .before in
+    let steps = made moved in
+    (start steps .pre .0, batch-going (looped steps .loop .inv .0) (start steps .pre .0) (steps .make-steps .ensures) (moved .moved-to .ensures) .room, steps .make-steps .ensures .placed)
+
+left-some : (way : tie.Else1 Inv-loop μ-loop) → 1 ≤ looped (made (way .before .before .before)) .loop .left - made (way .before .before .before) .make-steps .result .steps
+left-some way = some-left _ _ (way .before .is-over .ensures) (way .if1 .left)
+
+abbrev way : tie.After-one-step Inv-loop μ-loop → tie.Else1 Inv-loop μ-loop
+way one = one .before .before .before .before
+
+sub-left-2 : tie.Need-sub-left-2 Inv-loop μ-loop
+sub-left-2 c = let one : tie.After-one-step Inv-loop μ-loop = search in left-some (way one)
 
 loop-less : tie.Need-loop-less Inv-loop μ-loop
-loop-less c = search needs
+loop-less c = let one : tie.After-one-step Inv-loop μ-loop = search in omega (arith, left-some (way one))
+
+moved-small : (moved : tie.After-moved-to Inv-loop μ-loop) → moved .moved-to .result .run .value < 2 ^ bits
+moved-small moved = omega arith
 
 loop-again : tie.Need-loop-again Inv-loop μ-loop
-loop-again c = (search going-next, search needs, search needs)
-
-same-length-4 : tie.Need-same-length-4 Inv-loop μ-loop
-same-length-4 c = search needs
-
-same-length-5 : tie.Need-same-length-5 Inv-loop μ-loop
-same-length-5 c = search needs
-
-same-length-6 : tie.Need-same-length-6 Inv-loop μ-loop
-same-length-6 c = search needs
-
-returns-2 : tie.Need-returns-2 Inv-loop μ-loop
-returns-2 c = search going-done
+loop-again c =
+    let one : tie.After-one-step Inv-loop μ-loop = search in
+    let moved = way one .before .before .before in
+    let steps = made moved in
+    let inv = looped steps .loop .inv in (
+      going-next (batch-going (inv .0) (start steps .pre .0) (steps .make-steps .ensures) (moved .moved-to .ensures)) (left-some (way one)) (one .one-step .ensures),
+      omega (arith, steps .make-steps .kept .0, one .one-step .kept .0, inv .1),
+      omega (arith, steps .make-steps .kept .1, one .one-step .kept .1, inv .2),
+      step-placed (moved .moved-to .result) _ _ _ (steps .make-steps .ensures .placed) (moved-small moved) (one .one-step .ensures),
+    )
 
 pub all-steps-spec : {M : Type 1} → statement M
 all-steps-spec =
@@ -62,15 +95,19 @@ all-steps-spec =
     Inv-loop
     μ-loop
     loop-holds
-    same-length
-    same-length-2
-    same-length-3
+    make-steps-requires
+    (λ c κs. search needs)
+    sub-left
+    (λ c κs. search needs)
+    (λ c. search needs)
+    (λ c. search needs)
+    (λ c. search needs)
     returns
     one-step-requires
-    sub-left
+    sub-left-2
     loop-less
     loop-again
-    same-length-4
-    same-length-5
-    same-length-6
-    returns-2)
+    (λ c. search needs)
+    (λ c. search needs)
+    (λ c. search needs)
+    (λ c. search going-done))

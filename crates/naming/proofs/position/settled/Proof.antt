@@ -1,18 +1,21 @@
--- `naming::position::settled` meets its contract: two writes at most are passed over.
+-- `naming::position::settled` meets its contract: the needless writes are passed over.
 -- Assumes nothing.
-use Rattle.naming.proofs.PositionLaws.{passed-within, passed-twice}
+use Rattle.naming.proofs.WritingLaws.{passes-within, settles-at}
 use borrow.Author.Needs.{needs}
 use Rattle.naming.proofs.position.settled.Statement.{statement}
 use Rattle.naming.proofs.position.settled.Tie as tie
 
-pass-over-requires : tie.Need-pass-over-requires
-pass-over-requires c κs = search needs
-
-pass-over-requires-2 : tie.Need-pass-over-requires-2
-pass-over-requires-2 c κs = let start : tie.Start = search in passed-within _ (start .pre) (c .pass-over .ensures)
-
-returns : tie.Need-returns
-returns c = let first : tie.After-pass-over = search in passed-twice _ _ (first .pass-over .ensures) (c .pass-over2 .ensures)
+passed-over-requires : tie.Need-passed-over-requires
+passed-over-requires c κs =
+    let start : tie.Start = search in
+    let writes : tie.After-writing-at = search in
+    passes-within _ (start .pre) (writes .writing-at .ensures) (c .needless-writes .ensures)
 
 pub settled-spec : {M : Type 1} → statement M
-settled-spec = tie.close (tie.spec pass-over-requires pass-over-requires-2 returns)
+settled-spec =
+    tie.close
+    (tie.spec
+    (λ c κs. search needs)
+    (λ c κs. search needs)
+    passed-over-requires
+    (λ c. search settles-at))

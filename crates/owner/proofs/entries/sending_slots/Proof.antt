@@ -1,43 +1,38 @@
 -- `owner::entries::sending_slots` meets its contract: a law for each way.
 -- Assumes nothing.
-use Rattle.owner.proofs.EntryMasks.{silent-marks, part-marks, whole-marks}
+use native.Mathlib.Omega.{arith}
 use borrow.Author.Needs.{needs}
+use Rattle.owner.proofs.EntryMasks.{slots-none, slots-part, slots-all}
 use Rattle.owner.proofs.entries.sending_slots.Statement.{statement}
 use Rattle.owner.proofs.entries.sending_slots.Tie as tie
 
-is-send-requires : tie.Need-is-send-requires
-is-send-requires c κs = search needs
-
 returns : tie.Need-returns
-returns c = search (needs, silent-marks)
-
-bytes-left-requires : tie.Need-bytes-left-requires
-bytes-left-requires c κs = search needs
-
-add-slots-between : tie.Need-add-slots-between
-add-slots-between c = search needs
-
-slots-between-requires : tie.Need-slots-between-requires
-slots-between-requires c κs = search needs
+returns c = search (needs, slots-none)
 
 returns-2 : tie.Need-returns-2
-returns-2 c = search (needs, part-marks)
-
-covered-slots-requires : tie.Need-covered-slots-requires
-covered-slots-requires c κs = search needs
+returns-2 c = search (needs, slots-part)
 
 returns-3 : tie.Need-returns-3
-returns-3 c = search (needs, whole-marks)
+returns-3 c = search (needs, slots-all)
 
 pub sending-slots-spec : {M : Type 1} → statement M
 sending-slots-spec =
     tie.close
     (tie.spec
-    is-send-requires
+    (λ c. search needs)
+    (λ c. search needs)
+    (λ c. search needs)
+    (λ c. search needs)
+    (λ c. search needs)
+    (λ c. search needs)
+    (λ c. search needs)
+    (λ c. search needs)
+    (λ c κs. search needs)
+    (λ c κs. search needs)
     returns
-    bytes-left-requires
-    add-slots-between
-    slots-between-requires
+    (λ c. search needs)
+    (λ c. search needs)
+    (λ c κs. search needs)
     returns-2
-    covered-slots-requires
+    (λ c κs. search needs)
     returns-3)

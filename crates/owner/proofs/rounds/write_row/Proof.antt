@@ -12,11 +12,11 @@ plan-round-requires c κs = search needs
 last-slot-requires : tie.Need-last-slot-requires
 last-slot-requires c κs = search needs
 
-add-t11 : tie.Need-add-t11
-add-t11 c = search needs
+add-t12 : tie.Need-add-t12
+add-t12 c = search needs
 
-mul-t12 : tie.Need-mul-t12
-mul-t12 c = search needs
+mul-t13 : tie.Need-mul-t13
+mul-t13 c = search needs
 
 same-length : tie.Need-same-length
 same-length c = search needs
@@ -26,4 +26,4 @@ returns c = row-written (c .before .before .before .before .plan-round .ensures)
 
 pub write-row-spec : {M : Type 1} → statement M
 write-row-spec =
-    tie.close (tie.spec plan-round-requires last-slot-requires add-t11 mul-t12 same-length returns)
+    tie.close (tie.spec plan-round-requires last-slot-requires add-t12 mul-t13 same-length returns)

@@ -7,18 +7,21 @@ use lib.ListN.{length}
 use native.Mathlib.Omega.{arith}
 use borrow.Author.Needs.{needs}
 use Rattle.file.specs.Rules.Bytes.{part}
+use Rattle.file.specs.Rules.Decode.{decode}
+use Rattle.cluster.specs.Inner.Unheard.{MaySleep}
 use Rattle.trace.specs.Inner.Answers.{reportIn}
 use Rattle.trace.proofs.Facts.{trace-facts}
-use Rattle.trace.proofs.RunLaws.{Running, running-start, row-within, frame-within, few-frames, running-next, running-done}
+use Rattle.trace.proofs.RunLaws.{Running, running-start, row-within, frame-within, few-frames, running-next, running-done, anyone-may}
 use Rattle.trace.proofs.run.run_frames.Statement.{statement}
 use Rattle.trace.proofs.run.run_frames.Tie as tie
 
 abbrev Inv-loop : tie.InvT-loop
-Inv-loop file₀ places trace dataPlace buffer₀ report₀ row₀ start₀ file buffer report row start =
-    Running file₀ trace places dataPlace row start (reportIn report) file × (length file ≡ length file₀)
+Inv-loop file₀ places trace dataPlace buffer₀ progress₀ row₀ start₀ file buffer progress row start =
+    Running file₀ trace places dataPlace row start (reportIn (progress .report)) file
+    × (length file ≡ length file₀) × MaySleep (progress .sleepers) (decode file)
 
 abbrev μ-loop : tie.MeasureT-loop
-μ-loop file₀ places trace dataPlace buffer₀ report₀ row₀ start₀ file buffer report row start = dataPlace - row
+μ-loop file₀ places trace dataPlace buffer₀ progress₀ row₀ start₀ file buffer progress row start = dataPlace - row
 
 u16-at-requires : tie.Need-u16-at-requires Inv-loop μ-loop
 u16-at-requires c κs = omega (arith, trace-facts _ (c .before .before .pre .1) .low)
@@ -30,7 +33,7 @@ add-data-place : tie.Need-add-data-place Inv-loop μ-loop
 add-data-place c = omega arith
 
 loop-holds : tie.Need-loop-holds Inv-loop μ-loop
-loop-holds c = search (needs, running-start)
+loop-holds c = search (needs, running-start, anyone-may)
 
 add-byte-at : tie.Need-add-byte-at Inv-loop μ-loop
 add-byte-at c = omega (arith, row-within (c .before .loop .inv .0) (c .loop-test .taken))
@@ -56,8 +59,8 @@ run-frame-requires : tie.Need-run-frame-requires Inv-loop μ-loop
 run-frame-requires c κs =
     let lent = c .before .before in
     let read = lent .before in
-    let inv = read .before .before .loop .inv .0 in
-    (inv .placed, few-frames inv (read .before .loop-test .taken))
+    let inv = read .before .before .loop .inv in
+    (inv .0 .placed, few-frames (inv .0) (read .before .loop-test .taken), inv .2)
 
 add-row : tie.Need-add-row Inv-loop μ-loop
 add-row c = omega arith
@@ -71,11 +74,14 @@ loop-again c =
     let sent = c .before .before in
     let lent = sent .before .before in
     let read = lent .before .before in
-    let inv = read .before .before .loop .inv in
-    (running-next (inv .0) (read .before .loop-test .taken) (read .byte-at .ensures) (sent .run-frame .ensures), sent .run-frame .kept .0 ∙ inv .1)
+    let inv = read .before .before .loop .inv in (
+      running-next (inv .0) (read .before .loop-test .taken) (read .byte-at .ensures) (sent .run-frame .ensures .0),
+      sent .run-frame .kept .0 ∙ inv .1,
+      sent .run-frame .ensures .1,
+    )
 
 same-length : tie.Need-same-length Inv-loop μ-loop
-same-length c = c .before .loop .inv .1
+same-length c = search needs
 
 returns : tie.Need-returns Inv-loop μ-loop
 returns c = search (needs, running-done)
