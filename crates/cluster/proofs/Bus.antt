@@ -6,7 +6,7 @@ use native.Mathlib.Numerals.{add-one}
 use native.Mathlib.Omega.{arith}
 use mathlib.Core.Path.{_≡_, refl, sym, ap, _∙_}
 use mathlib.Core.List.{List, [], _∷_, _++_, append-nil}
-use lib.ListN.{length, getD, set, take, drop, length-append, length-drop, length-set}
+use lib.ListN.{length, getD, set, take, drop, length-append, length-drop}
 use lib.Seq.{set-at, getD-at, append-snoc, drop-nil, drop-cons, drop-set-lt}
 use lib.Bits.{bitAnd, bitOr, and-le-l, or-shifted-r}
 use lib.Pow.{pow-pos, pow-add, high, shl-exact}
@@ -119,12 +119,6 @@ unfoldable pub overlaid : List ℕ → List ℕ → List ℕ
 overlaid xs [] = xs
 overlaid [] (b ∷ bs) = []
 overlaid (x ∷ xs) (b ∷ bs) = bitAnd x b ∷ overlaid xs bs
-
-pub said-length : (buffer : List ℕ) (at : ℕ) (bs : List ℕ) → length (said buffer at bs) ≡ length buffer
-unfolding said
-said-length buffer at [] = refl
-said-length buffer at (b ∷ bs) =
-    said-length (set buffer at (bitAnd (getD buffer at 0) b)) (suc at) bs ∙ length-set buffer at (bitAnd (getD buffer at 0) b)
 
 said-overlaid : (p xs rest : List ℕ) (at : ℕ) (bs : List ℕ) → length p ≡ at → length bs ≤ length xs → said (p ++ (xs ++ rest)) at bs ≡ p ++ (overlaid xs bs ++ rest)
 unfolding said overlaid

@@ -11,11 +11,9 @@ use borrow.Author.Tests.{lt-ltb, le-ltb, le-leb, lt-leb, leb-false, ltb-true, lt
 use Rattle.file.specs.Rules.Order.{both, either}
 use Rattle.file.proofs.Order.{byCase, clash, both-right, both-true, both-false-left, both-false-right, both-next, either-right, either-false}
 use Rattle.cluster.specs.Rules.Entries.{Entry, entryOf, entryThere, isMultiplexed, receives, sends, ends, covers, inTurn, outOfTurn, eligible}
-use Rattle.cluster.specs.Inner.EntryForm.{codeOf, multiplexOf, multiplexIn, OperationIs, entryFrom, evaluated, Action, ending, sending, receiving, resting, actionBy, actionFrom}
+use Rattle.cluster.specs.Inner.EntryForm.{codeOf, multiplexOf, multiplexIn, OperationIs, entryFrom, evaluated, Action, ending, sending, receiving, resting, actionBy}
 use Rattle.cluster.specs.declared.entry.Entry as Code
 use Rattle.cluster.specs.declared.entry.EntryOperation.{EntryOperation}
-use Rattle.cluster.specs.declared.entry.EntryAction.{EntryAction}
-use Rattle.cluster.specs.declared.entry.EntryAction.the-variants.{Receives, Sends, Ends, Rests}
 
 -- ---- the operation of a code
 
@@ -42,12 +40,6 @@ entry-is b₀ b₁ b₂ b₃ is = rw (is .code, is .field)
 
 -- ---- what an operation makes a slave do
 
-unfoldable pub isEnding : Action → Bool
-isEnding ending = true
-isEnding sending = false
-isEnding receiving = false
-isEnding resting = false
-
 unfoldable pub isSending : Action → Bool
 isSending ending = false
 isSending sending = true
@@ -64,34 +56,6 @@ isReceiving resting = false
 pub acts-as : {o : EntryOperation} {a : Action} (v : EntryOperation) → o ≡ v → a ≡ actionBy (codeOf v) → a ≡ actionBy (codeOf o)
 acts-as v q is = is ∙ ap (λ (x : EntryOperation). actionBy (codeOf x)) (sym q)
 
-pub ends-action : (operation : ℕ) → ends operation ≡ isEnding (actionBy operation)
-unfolding actionBy isEnding
-ends-action operation =
-    byCase (ends operation)
-    (λ e. rw e)
-    (λ e. rw e (byCase (sends operation) (λ q. rw q) (λ q. rw q (byCase (receives operation) (λ r. rw r) (λ r. rw r)))))
-
-end-by : (e : Code.Entry) {t : Action} (u : Action) → t ≡ actionBy (codeOf (e .operation)) → t ≡ u → isEnding u ≡ ends (entryFrom e .operation)
-unfolding entryFrom
-end-by e u is q = sym (ends-action (codeOf (e .operation)) ∙ ap isEnding (sym is ∙ q))
-
-module _ (e : Code.Entry) {a : EntryAction} (is : actionFrom a ≡ actionBy (codeOf (e .operation))) where
-  pub receiver-goes-on : a ≡ Receives → false ≡ ends (entryFrom e .operation)
-  unfolding actionFrom isEnding
-  receiver-goes-on q = end-by e receiving is (ap actionFrom q)
-
-  pub sender-goes-on : a ≡ Sends → false ≡ ends (entryFrom e .operation)
-  unfolding actionFrom isEnding
-  sender-goes-on q = end-by e sending is (ap actionFrom q)
-
-  pub end-ends : a ≡ Ends → true ≡ ends (entryFrom e .operation)
-  unfolding actionFrom isEnding
-  end-ends q = end-by e ending is (ap actionFrom q)
-
-  pub rest-goes-on : a ≡ Rests → false ≡ ends (entryFrom e .operation)
-  unfolding actionFrom isEnding
-  rest-goes-on q = end-by e resting is (ap actionFrom q)
-
 -- ---- whose turn it is
 
 -- an operation that is not multiplexed is always in turn
@@ -102,10 +66,6 @@ plain-turn epoch operation multiplex plain =
   where
     other : (k : ℕ) → 8 ≤ k → eqb operation k ≡ false
     other k l = ne-eqb operation k (λ e. omega (arith, leb-false 8 operation plain))
-
--- an operation is multiplexed as the one that a match found it to be
-pub multiplexed-as : {o : EntryOperation} {t : Bool} (v : EntryOperation) → o ≡ v → t ≡ isMultiplexed (codeOf v) → t ≡ isMultiplexed (codeOf o)
-multiplexed-as v q is = is ∙ ap (λ (x : EntryOperation). isMultiplexed (codeOf x)) (sym q)
 
 -- a law of the multiplexed operations, one by one
 by-operation : (P : ℕ → Type 0) (n : ℕ) → 8 ≤ n → n < 16 → P 8 → P 9 → P 10 → P 11 → P 12 → P 13 → P 14 → P 15 → P n
@@ -185,17 +145,6 @@ module _ (epoch k m : ℕ) (high : 128 ≤ k) (byte : k < 256) (field : m < 4) w
             rw second (eqb-same (epoch / 4 % 2) 1 (m + 4) (epoch % 8) (λ e. omega (arith, halves)) (λ e. omega (arith, halves)))
 
 -- ---- the entries that may act in a slot
-
--- the multiplex field plays no part where it is not evaluated
-abbrev pub Blind : (Entry → Bool) → Type 0
-Blind passed = (x : Entry) → passed (evaluated x) ≡ passed x
-
-pub eligible-evaluated : (passed : Entry → Bool) → Blind passed → (x : Entry) (slot : ℕ) → eligible passed (evaluated x) slot ≡ eligible passed x slot
-unfolding eligible
-eligible-evaluated passed blind x slot = rw (blind x, same)
-  where
-    same : covers (evaluated x) slot ≡ covers x slot
-    same = unfold covers evaluated in refl
 
 pub eligible-covers : (passed : Entry → Bool) (e : Entry) (slot : ℕ) → covers e slot ≡ false → eligible passed e slot ≡ false
 unfolding eligible

@@ -2,7 +2,7 @@
 -- were.
 -- Assumes nothing.
 use Prim.Native.Nat.{ℕ, _≤_, _<_}
-use mathlib.Core.Path.{_≡_, refl, sym, ap, _∙_, subst}
+use mathlib.Core.Path.{_≡_, refl, sym, _∙_, subst}
 use mathlib.Core.List.{List, [], _∷_}
 use native.Mathlib.Omega.{arith}
 use borrow.Author.Tests.{eqb-true, eq-eqb, ne-eqb}
@@ -21,7 +21,7 @@ use Rattle.file.specs.declared.survey.FileAnswer.the-variants as answers
 use Rattle.file.specs.declared.types.Refusal.{Refusal}
 use Rattle.file.proofs.Order.{byCase}
 use Rattle.file.proofs.Surveyed.{survey-accepted, survey-becomes, survey-refused, placed-kept}
-use Rattle.frame.specs.Rules.Fireworks.{Round, multipartner, msd, msa, dataFirework, addressFirework, roundIn, roundOf}
+use Rattle.frame.specs.Rules.Fireworks.{Round, multipartner, msd, msa, roundOf}
 use Rattle.frame.specs.Rules.Grounds.{wrongFrameLength}
 use Rattle.frame.specs.Inner.Answers.{fireworkRound}
 use Rattle.frame.specs.declared.firework.Firework.{Firework}
@@ -50,17 +50,8 @@ unfolding roundBy
 empty-opens [] z = refl
 empty-opens (b ∷ bs) z = absurd (omega arith)
 
-module _ (frame : List ℕ) {first : ℕ} (some : length frame ≡ 0 → ⊥) (is : first ≡ getD frame 0 0) where
-  pub address-opens : first ≡ addressFirework → msa ≡ roundBy frame
-  unfolding roundOf roundIn
-  address-opens e = rw (round-by frame some, ← is, e)
-
-  pub data-opens : first ≡ dataFirework → msd ≡ roundBy frame
-  unfolding roundOf roundIn
-  data-opens e = rw (round-by frame some, ← is, e)
-
-  pub byte-opens : (w : Firework) → fireworkRound w ≡ roundOf first → fireworkRound w ≡ roundBy frame
-  byte-opens w e = e ∙ ap roundOf is ∙ sym (round-by frame some)
+pub byte-opens : (frame : List ℕ) (w : Firework) → (length frame ≡ 0 → ⊥) → fireworkRound w ≡ roundOf (getD frame 0 0) → fireworkRound w ≡ roundBy frame
+byte-opens frame w some e = e ∙ sym (round-by frame some)
 
 no-round-ground : (c : Cluster) (frame : List ℕ) → roundBy frame ≡ Round.noRound → 10 ≡ frameGround c frame
 unfolding frameGround groundsOn firstOf noFirework

@@ -28,8 +28,8 @@ use Rattle.file.proofs.ReaderLaws.{byte-there, place-within, length-limit}
 use Rattle.cluster.specs.Rules.Bus.{slots, joined}
 use Rattle.cluster.specs.Rules.Entries.{Entry, entryOf, entryThere, acts, bytePlace, receives, sends}
 use Rattle.cluster.specs.Rules.Multipartner.{within, mayStore, sendPlace, storePlace, byteThere}
-use Rattle.cluster.specs.Inner.EntryForm.{entryFrom, evaluated, Reaches, codeOf, actionBy, actionFrom, Action, ending, sending, receiving, resting}
-use Rattle.cluster.specs.Inner.Slots.{fileNumbers, FileIs, FilesKept, KeptFor, placeIn, actSends, actStores, isSender, SlotActIs, EntryActIs, ActedAt, StoresLow, putStore}
+use Rattle.cluster.specs.Inner.EntryForm.{fileNumbers, entryFrom, evaluated, Reaches, codeOf, actionBy, actionFrom, Action, ending, sending, receiving, resting}
+use Rattle.cluster.specs.Inner.Slots.{FileIs, FilesKept, KeptFor, placeIn, actSends, actStores, isSender, SlotActIs, EntryActIs, ActedAt, StoresLow, putStore}
 use Rattle.cluster.specs.declared.entry.Entry as Code
 use Rattle.cluster.specs.declared.entry.EntryAction.{EntryAction}
 use Rattle.cluster.specs.declared.entry.EntryAction.the-variants as Action

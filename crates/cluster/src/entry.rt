@@ -4,7 +4,7 @@ ghost use Prim.Native.Nat.{_+_, _-_, _/_, _≤_, _<_};
 ghost use lib.ListN.{length};
 ghost use lib.Dec.{eqb, ltb};
 ghost use Rattle.file.specs.Rules.Layout.{recordSize};
-ghost use Rattle.cluster.specs.Rules.Entries.{entryOf, entryThere, isMultiplexed, ends, inTurn, outOfTurn, eligible, bytePlace};
+ghost use Rattle.cluster.specs.Rules.Entries.{entryOf, entryThere, ends, inTurn, outOfTurn, eligible, bytePlace};
 ghost use Rattle.cluster.specs.Inner.EntryForm.{operationCodes, OperationIs, codeOf, entryFrom, evaluated, Reaches, actionBy, actionFrom};
 use file::layout::RECORD_SIZE;
 use file::types::FileNumber;
@@ -48,7 +48,7 @@ pub struct Entry {
 // The codes of 002, table 4.
 const RECEIVE: u8 = 0;
 
-const SEND: u8 = 1;
+pub const SEND: u8 = 1;
 
 const RECEIVE_SYNC: u8 = 2;
 
@@ -56,11 +56,11 @@ const EXECUTE: u8 = 3;
 
 const RECEIVE_SPEEDUP: u8 = 4;
 
-const SEND_SPEEDUP: u8 = 5;
+pub const SEND_SPEEDUP: u8 = 5;
 
-const END_OF_ROUND: u8 = 6;
+pub const END_OF_ROUND: u8 = 6;
 
-const EXECUTE_AND_END: u8 = 7;
+pub const EXECUTE_AND_END: u8 = 7;
 
 const RECEIVE_MUX_4: u8 = 8;
 
@@ -75,6 +75,9 @@ const RECEIVE_SPEEDUP_MUX_4: u8 = 12;
 const SEND_SPEEDUP_MUX_4: u8 = 13;
 
 const RECEIVE_MUX_8_HIGH: u8 = 14;
+
+// The codes from this one on are multiplexed.
+pub const FIRST_MULTIPLEXED: u8 = RECEIVE_MUX_4;
 
 // The one code that is left is 15, SendMux8High.
 fn entry_operation(code: u8, multiplex: u8) -> EntryOperation
@@ -101,12 +104,23 @@ fn entry_operation(code: u8, multiplex: u8) -> EntryOperation
     }
 }
 
-// How many values the low bits of an entry's bytes 0, 2 and 3 have.
-const ALIGN_VALUES: u8 = 4;
+// Where an entry has its bytes: after that of file number and align the record; the kind, which is the operation above the length less
+// one; and the start, which is the multiplex field above the first slot.
+pub const RECORD_PLACE: usize = 1;
 
-const LENGTH_VALUES: u8 = 16;
+pub const KIND_PLACE: usize = 2;
 
-const START_VALUES: u8 = 64;
+pub const START_PLACE: usize = 3;
+
+// How many values the low bits of its bytes 0, 2 and 3 have.
+pub const ALIGN_VALUES: u8 = 4;
+
+pub const LENGTH_VALUES: u8 = 16;
+
+pub const START_VALUES: u8 = 64;
+
+// No file has this number: that of the file named last, where no entry has named one yet.
+pub const NO_FILE: u8 = 0xFF;
 
 // The entry of a record's four bytes.
 pub fn entry_of(b0: u8, b1: u8, b2: u8, b3: u8) -> Entry
@@ -129,7 +143,12 @@ pub fn entry_at(file: &[u8], at: usize) -> Entry
     requires { ⌜ at + recordSize ≤ length (now file) ⌝ }
     ensures { λ r. ⌜ entryFrom r ≡ evaluated (entryThere (now (file .entry)) at) ⌝ }
 {
-    entry_of(file[at], file[at + 1], file[at + 2], file[at + 3])
+    entry_of(
+        file[at],
+        file[at + RECORD_PLACE],
+        file[at + KIND_PLACE],
+        file[at + START_PLACE],
+    )
 }
 
 // What a slave does for an entry in a slot that it covers.
@@ -164,51 +183,10 @@ pub fn action_of(operation: EntryOperation) -> EntryAction
     }
 }
 
-pub fn is_end(entry: Entry) -> bool
-    ensures { λ r. ⌜ r ≡ ends (entryFrom entry .operation) ⌝ }
-{
-    let operation = entry.operation;
-    let action = action_of(operation);
-    match action {
-        EntryAction::Receives => false,
-        EntryAction::Sends => false,
-        EntryAction::Ends => true,
-        EntryAction::Rests => false,
-    }
-}
-
-pub fn is_multiplexed(operation: EntryOperation) -> bool
-    ensures { λ r. ⌜ r ≡ isMultiplexed (codeOf operation) ⌝ }
-{
-    match operation {
-        EntryOperation::Receive => false,
-        EntryOperation::Send => false,
-        EntryOperation::ReceiveSync => false,
-        EntryOperation::Execute => false,
-        EntryOperation::ReceiveSpeedup => false,
-        EntryOperation::SendSpeedup => false,
-        EntryOperation::EndOfRound => false,
-        EntryOperation::ExecuteAndEnd => false,
-        EntryOperation::ReceiveMux4(_) => true,
-        EntryOperation::SendMux4(_) => true,
-        EntryOperation::ReceiveMux8(_) => true,
-        EntryOperation::SendMux8(_) => true,
-        EntryOperation::ReceiveSpeedupMux4(_) => true,
-        EntryOperation::SendSpeedupMux4(_) => true,
-        EntryOperation::ReceiveMux8High(_) => true,
-        EntryOperation::SendMux8High(_) => true,
-    }
-}
-
-// Of every entry that a round comes to it asks only what its bytes 2 and 3 tell, where they lie. Byte 2 is the kind: the operation
-// above the length less one. Byte 3 is the start: the multiplex field above the first slot.
-const KIND_PLACE: usize = 2;
-
-const START_PLACE: usize = 3;
-
+// Of every entry that a round comes to it asks only what kind and start tell, where they lie.
 const FIRST_END_KIND: u8 = END_OF_ROUND * LENGTH_VALUES;
 
-const FIRST_MULTIPLEXED_KIND: u8 = RECEIVE_MUX_4 * LENGTH_VALUES;
+const FIRST_MULTIPLEXED_KIND: u8 = FIRST_MULTIPLEXED * LENGTH_VALUES;
 
 // Whether the entry at a place ends the round.
 pub fn ends_at(file: &[u8], at: usize) -> bool

@@ -11,10 +11,10 @@ ghost use Rattle.file.specs.Inner.Accepted.{AcceptedFile, slaveCount, Placed};
 ghost use Rattle.cluster.specs.Rules.Bus.{slots, joined};
 ghost use Rattle.cluster.specs.Rules.Entries.{entryThere, outOfTurn};
 ghost use Rattle.cluster.specs.Rules.Multipartner.{mayStore};
-ghost use Rattle.cluster.specs.Inner.EntryForm.{entryFrom, Reaches};
+ghost use Rattle.cluster.specs.Inner.EntryForm.{fileNumbers, entryFrom, Reaches};
 ghost use Rattle.cluster.specs.Inner.Carried.{Carried};
 ghost use Rattle.cluster.specs.Inner.Effects.{multipartnerEffect};
-ghost use Rattle.cluster.specs.Inner.Slots.{slotsEffect, PlannedFileIs, RoundFileIs, RoundFilesAre, nextPast, nextAfter, fileNumbers, FileIs, FilesKept, KeptFor, EntryActIs, ActedAt, actSends, isSender, StoresLow, putStore, storedAt, StoresWithin};
+ghost use Rattle.cluster.specs.Inner.Slots.{slotsEffect, PlannedFileIs, RoundFileIs, RoundFilesAre, nextPast, nextAfter, FileIs, FilesKept, KeptFor, EntryActIs, ActedAt, actSends, isSender, StoresLow, putStore, storedAt, StoresWithin};
 use crate::answer::FIREWORK_SLOT;
 use crate::answer::FIRST_SLOT;
 use crate::answer::NOBODY;
@@ -24,6 +24,7 @@ use crate::answer::with_sender;
 use crate::duty::wake_slaves;
 use crate::entry::Entry;
 use crate::entry::EntryAction;
+use crate::entry::NO_FILE;
 use crate::entry::action_of;
 use crate::entry::acts_at;
 use crate::entry::byte_place;
@@ -137,9 +138,6 @@ fn bytes_of(file: &[u8], slave: usize, number: FileNumber) -> FileBytes
     };
     bytes
 }
-
-// No file has that number: a slave whose entries have named none yet.
-const NO_FILE: u8 = 0xFF;
 
 // Neighbouring entries often name one file: of each slave the file named last is kept, by its number, place and size. Looked for is
 // another one only. No round moves or resizes a file.
@@ -295,7 +293,7 @@ fn store(file: &mut [u8], stores: &[u32; SLAVES_ROOM], count: usize, byte: u8)
 
 // Slots 1 to 63 of a multipartner round. Where each slave's entries lie is found once, before the first slot: no receive stores
 // in a round file or in 0x08. From slot to slot `starts` leaves out the entries in front that cannot act again: those that cover no
-// later slot, and multiplexed ones out of turn, which go by the round's epoch.
+// later slot, and multiplexed ones out of turn, which go by the round's epoch. Places and sizes are kept in four bytes each, for the stack.
 fn run_slots(
     file: &mut [u8],
     places: &SlavePlaces,

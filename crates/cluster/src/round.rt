@@ -27,26 +27,17 @@ use file::types::PLACES;
 use file::types::Refusal;
 use file::types::SlavePlaces;
 use frame::firework::Firework;
-use frame::firework::MSA;
-use frame::firework::MSD;
 use frame::firework::firework_of;
 use frame::frames::FIREWORK_PLACE;
 
-// The round that a frame opens. Most frames are address and data frames, which one comparison each tells.
+// The round that a frame opens, by its first byte.
 pub fn firework_in(frame: &[u8]) -> Firework
     ensures { λ r. ⌜ fireworkRound r ≡ roundBy (now (frame .entry)) ⌝ }
 {
     if frame.len() == 0 {
         return Firework::None;
     }
-    let first = frame[FIREWORK_PLACE];
-    if first == MSA {
-        return Firework::Address;
-    }
-    if first == MSD {
-        return Firework::Data;
-    }
-    firework_of(first)
+    firework_of(frame[FIREWORK_PLACE])
 }
 
 // One frame of any bytes on a file that is known to be accepted, with the places that its survey handed back.

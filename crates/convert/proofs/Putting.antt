@@ -186,23 +186,14 @@ put-copied l src at n {new} fits long is =
 
 -- ---- offsets, of either width
 
-pub half-high : {w n : ℕ} → OffsetFits w n → n / 65536 < 65536
-half-high {w} o = omega (arith, o .most, o .width .most)
-
-pub half-low : (n : ℕ) → n % 65536 < 65536
-half-low n = omega arith
-
-pub narrow-most : {w n : ℕ} → OffsetFits w n → w ≡ 2 → n < 65536
-narrow-most o is = omega (arith, o .most, is)
-
-pub wide-four : {w n : ℕ} → OffsetFits w n → (w ≡ 2 → ⊥) → w ≡ 4
-wide-four o other = omega (arith, o .width .least, o .width .most, o .width .even)
+pub wide-is : {w : ℕ} → OffsetWidth w → (w ≡ 2 → ⊥) → w ≡ 4
+wide-is width other = omega (arith, width .least, width .most, width .even)
 
 pub put-narrow : {w : ℕ} (n : ℕ) {l m : List ℕ} {at : ℕ} → w ≡ 2 → Put l at (bytesOf 2 n) m → Put l at (bytesOf w n) m
 put-narrow n {l} {m} {at} is p = rw is p
 
 pub put-wide : {w : ℕ} (n : ℕ) {l m k : List ℕ} {at : ℕ} → OffsetFits w n → (w ≡ 2 → ⊥) → Put l at (bytesOf 2 (n / 65536)) m → Put m (at + 2) (bytesOf 2 (n % 65536)) k → Put l at (bytesOf w n) k
-put-wide n {l} {m} {k} {at} o other high low = rw (wide-four o other) (put-long n high low)
+put-wide n {l} {m} {k} {at} o other high low = rw (wide-is (o .width) other) (put-long n high low)
 
 -- all zeros are put
 pub zeros-done : {n count : ℕ} {l m : List ℕ} {at : ℕ} → n ≤ count → count ≤ n → Put l at (replicate n 0) m → Put l at (replicate count 0) m

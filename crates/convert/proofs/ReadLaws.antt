@@ -2,7 +2,7 @@
 -- Assumes nothing.
 use Prim.Native.Nat.{ℕ, suc, _+_, _*_, _-_, _≤_, _<_}
 use native.Mathlib.Omega.{arith}
-use mathlib.Core.Path.{_≡_, refl, sym, ap, _∙_}
+use mathlib.Core.Path.{_≡_, refl, sym, ap, _∙_, subst}
 use mathlib.Core.List.{List}
 use mir.Syntax.{w8, w64}
 use mir.Val.{Fits}
@@ -16,7 +16,7 @@ use Rattle.file.specs.Inner.Places.{slaveOf}
 use Rattle.file.specs.Inner.Accepted.{AcceptedFile, WidthOf, slaveCount}
 use Rattle.file.proofs.Width.{Which, narrow, wide, which}
 use Rattle.file.proofs.AtWidth.{BecomesAt, at-edition, becomes-at}
-use Rattle.file.proofs.ReaderLaws.{length-limit, entry-within}
+use Rattle.file.proofs.ReaderLaws.{length-limit, entry-within, entry-count}
 use Rattle.file.proofs.Slaves.{slave-end}
 use Rattle.convert.specs.Inner.Slaves.{slaveStart, filesIn, StartsAt, SlaveRead}
 use Rattle.convert.proofs.SlaveLaws.{own-length, slave-stands, count-stated, sleep-stated, few-files, start-next}
@@ -118,29 +118,60 @@ module _ {f : List ℕ} {w s a : ℕ} (r : SlaveRead f w s a) where
     pub files-start-fits : Fits w64 (a + 2 * w * k)
     files-start-fits = record { fits = omega (arith, run-is, run-within, length-limit (r .file)) }
 
--- ---- how many files the slaves so far have
+-- ---- how many files the slaves so far have, by the place of the next one's file count
 
-pub record Counting (f : List ℕ) (i total : ℕ) : Type 0 where
-  pub few : i ≤ slaveCount f
-  pub is : total ≡ filesIn (take i (decode f .slaves))
+entries-less : {w : ℕ} → Which w → (i n : ℕ) → 2 * w * i < 2 * w * n → i < n
+entries-less narrow i n less = omega arith
+entries-less wide i n less = omega arith
 
-pub counting-start : (f : List ℕ) → Counting f 0 0
+entries-all : {w : ℕ} → Which w → (i n : ℕ) → 2 * w * n ≤ 2 * w * i → n ≤ i
+entries-all narrow i n all = omega arith
+entries-all wide i n all = omega arith
+
+pub record Counting (f : List ℕ) (w place total : ℕ) : Type 0 where
+  pub slave : ℕ
+  pub few : slave ≤ slaveCount f
+  pub there : place ≡ 8 + 4 * w + w + 2 * w * slave
+  pub is : total ≡ filesIn (take slave (decode f .slaves))
+
+pub counting-start : (f : List ℕ) (w : ℕ) → Counting f w (8 + 4 * w + w) 0
 unfolding filesIn
-counting-start f = record { few = omega arith; is = refl }
+counting-start f w = record { slave = 0; few = omega arith; there = omega arith; is = refl }
 
-module _ {f : List ℕ} {i total : ℕ} (t : Counting f i total) where
-  pub counting-done : {n : ℕ} → n ≡ slaveCount f → n ≤ i → total ≡ filesIn (decode f .slaves)
-  counting-done count done = t .is ∙ ap filesIn (take-all i (decode f .slaves) (omega (arith, count)))
+pub counts-end-fits : {f : List ℕ} {w n : ℕ} → AcceptedFile f → WidthOf f w → n ≡ slaveCount f → Fits w64 (8 + 4 * w + w + 2 * w * n)
+counts-end-fits h o count = record { fits = omega (arith, table-most h (o .width) count, o .width .most) }
 
-  module _ (l : i < slaveCount f) {k : ℕ} (is : k ≡ length (slaveOf (decode f) i .files)) where
-    pub counting-next : Counting f (i + 1) (total + k)
-    unfolding slaveOf
-    counting-next =
-        let one : i + 1 ≡ suc i = omega arith in
-        record { few = omega arith; is = rw one (omega (arith, t .is, is, filesIn-next (decode f .slaves) i l)) }
+module _ {f : List ℕ} {w place total n : ℕ} (t : Counting f w place total) (h : AcceptedFile f) (o : WidthOf f w) (count : n ≡ slaveCount f) where
+  pub counting-done : 8 + 4 * w + w + 2 * w * n ≤ place → total ≡ filesIn (decode f .slaves)
+  counting-done done =
+      let all : n ≤ t .slave = entries-all (which (o .width)) (t .slave) n (omega (arith, t .there)) in
+      t .is ∙ ap filesIn (take-all (t .slave) (decode f .slaves) (omega (arith, count)))
 
-    pub counting-fits : AcceptedFile f → Fits w64 (total + k)
-    counting-fits h = record { fits = omega (arith, counting-next .is, files-first (decode f .slaves) (i + 1), files-few h) }
+  module _ (less : place < 8 + 4 * w + w + 2 * w * n) where
+    more : t .slave < slaveCount f
+    more = omega (arith, count, entries-less (which (o .width)) (t .slave) n (omega (arith, t .there)))
+
+    pub counting-inside : place < length f
+    counting-inside = omega (arith, t .there, entry-count h o (t .slave) more)
+
+    pub place-fits : Fits w64 (place + 2 * w)
+    place-fits = record { fits = omega (arith, counting-inside, length-limit h, o .width .most) }
+
+    module _ {k : ℕ} (byte : ByteAt f place k) where
+      files-are : k ≡ length (slaveOf (decode f) (t .slave) .files)
+      files-are =
+          let here : place ≡ headerSize w + 2 * w * t .slave + w = omega (arith, t .there) in
+          count-read h o (t .slave) more (subst (λ (p : ℕ). ByteAt f p k) here byte)
+
+      sum-is : total + k ≡ filesIn (take (suc (t .slave)) (decode f .slaves))
+      unfolding slaveOf
+      sum-is = omega (arith, t .is, files-are, filesIn-next (decode f .slaves) (t .slave) more)
+
+      pub counting-fits : Fits w64 (total + k)
+      counting-fits = record { fits = omega (arith, sum-is, files-first (decode f .slaves) (suc (t .slave)), files-few h) }
+
+      pub counting-next : Counting f w (place + 2 * w) (total + k)
+      counting-next = record { slave = suc (t .slave); few = omega (arith, more); there = omega (arith, t .there); is = sum-is }
 
 -- ---- the length of a form, by the slaves and their files
 

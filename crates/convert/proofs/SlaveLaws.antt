@@ -7,7 +7,7 @@ use native.Mathlib.Nat.{add-zero}
 use mathlib.Core.Path.{_≡_, sym, ap, _∙_, subst}
 use mathlib.Core.List.{List, [], _∷_}
 use lib.ListN.{length, getD, take}
-use Rattle.file.specs.Rules.Bytes.{numberOf, part}
+use Rattle.file.specs.Rules.Bytes.{part}
 use Rattle.file.specs.Rules.Layout.{headerSize, entrySize}
 use Rattle.file.specs.Rules.Cluster.{File, Slave, Cluster, lastRecord, noSlave}
 use Rattle.file.specs.Rules.Encode.{contents, slaveSize, slavesSize, slavesPlace, slavesBytes, fileLength}
@@ -15,13 +15,13 @@ use Rattle.file.specs.Rules.Legal.{LegalFile, LegalSlave}
 use Rattle.file.specs.Inner.Places.{slaveOf}
 use Rattle.file.proofs.Sizes.{slavesBytes-length}
 use Rattle.file.proofs.Bytes.{all-at, all-map}
-use Rattle.file.proofs.Width.{wide-enough, place-fits}
-use Rattle.file.proofs.Stands.{stands-part, number-stands}
+use Rattle.file.proofs.Width.{wide-enough}
+use Rattle.file.proofs.Stands.{stands-part}
 use Rattle.file.proofs.Files.{EntryBytes, FilesStand, entry-bytes, first-file, other-files}
 use Rattle.file.proofs.Slaves.{table-bytes, SlaveStands, SlavesStand, slave-end, first-slave, other-slaves}
 use Rattle.file.proofs.Encoded.{Encoded, encoded, legal-laid}
 use Rattle.file.proofs.EncodedBytes.{files-few}
-use Rattle.file.proofs.AtWidth.{BecomesAt, length-at}
+use Rattle.file.proofs.AtWidth.{BecomesAt}
 use Rattle.file.proofs.Appended.{slavesSize-next}
 use Rattle.convert.specs.Inner.Slaves.{slaveStart}
 
@@ -71,14 +71,9 @@ module _ {w : ℕ} {f : List ℕ} {c : Cluster} (h : BecomesAt w f c) where
     unfolding slaveStart slaveOf
     slave-stands = slave-at (h .legal .width .least) (c .slaves) (encoding .slaves) s l
 
-    -- its start lies within the file, its entry states it, and holds the file count and the sleep byte
+    -- its start lies within the file, and its entry holds the file count and the sleep byte
     pub start-within : slaveStart w c s ≤ length f
     start-within = omega (arith, slave-end slave-stands)
-
-    pub start-stated : numberOf (part f (headerSize w + entrySize w * s) w) ≡ slaveStart w c s
-    start-stated =
-        number-stands w (place-fits (wide-enough (h .legal .width)) (omega (arith, start-within, length-at h)))
-        (table-bytes (slave-stands .entry) .offset)
 
     pub count-stated : getD f (headerSize w + entrySize w * s + w) 0 ≡ length (slaveOf c s .files)
     count-stated = table-bytes (slave-stands .entry) .count

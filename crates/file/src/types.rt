@@ -131,6 +131,8 @@ pub const SLAVES_ROOM: usize = 64;
 // Where the slaves keep 0x08 and 0x3D, in the order of the slave table: a slave's two places together, that of 0x08 first.
 pub const PLACES_EACH: usize = 2;
 
-pub const PLACES: usize = PLACES_EACH * SLAVES_ROOM;
+// One pair more than 64 slaves need: of an array of 256 bytes each call would have the sixteen stores that clear it, a longer one is
+// cleared by a call of memset.
+pub const PLACES: usize = PLACES_EACH * (SLAVES_ROOM + 1);
 
 pub type SlavePlaces = [u16; PLACES];

@@ -262,8 +262,8 @@ fn with_places(file: &[u8], width: usize, entry: usize, place: usize, end: usize
     }
 }
 
-// A slave in each edition, with the width as a literal: the compiler then writes the walk once for each, with its numbers. In one function
-// both are more than it writes twice.
+// A slave in each edition, with the width as a literal: the compiler then writes the walk once for each, with its numbers. Each has a
+// function of its own, since it inlines only functions below a size, which both in one exceed.
 fn walk_narrow(file: &[u8], entry: usize, place: usize) -> SlaveWalk
     requires { ⌜ EntriesFit 2 (now file) entry 1 × (place ≤ maxLength 2) ⌝ }
     ensures { λ r. ⌜ SlaveWalked 2 (now (file .entry)) entry place (r .good) (r .end) (r .configuration) (r .documentation) ⌝ }

@@ -8,11 +8,10 @@ use native.Mathlib.Omega.{arith}
 use lib.ListN.{length, getD}
 use lib.Dec.{eqb}
 use borrow.Author.Tests.{lt-ltb, le-ltb, eq-eqb, ne-eqb, eqb-true, leb-false, lt-leb, not-false}
-use Rattle.file.specs.Rules.Cluster.{readOperation, broadcast}
-use Rattle.file.proofs.Order.{either-left, either-right, either-next, either-false, either-false-right, both-false-left, both-false-right}
+use Rattle.file.proofs.Order.{either-left, either-next, either-false, either-false-right}
 use Rattle.frame.specs.Rules.Frames.{frameSize, between}
 use Rattle.frame.specs.Rules.Fireworks.{addressFirework}
-use Rattle.frame.specs.Rules.Grounds.{shortFrameBuffer, noAddress, wrongFrameLength, wrongCheck, noOperation, broadcastRead, noFileNumber}
+use Rattle.frame.specs.Rules.Grounds.{shortFrameBuffer, noAddress, wrongFrameLength, wrongCheck, noOperation, noFileNumber}
 
 -- a test of equality that is negated
 pub differs : {a b : ℕ} → (a ≡ b → ⊥) → not (eqb a b) ≡ true
@@ -37,10 +36,6 @@ module _ (frame : List ℕ) where
   pub empty : length frame ≡ 0 → noAddress frame ≡ true
   unfolding noAddress
   empty h = either-left _ (eq-eqb _ _ h)
-
-  pub other-firework : (getD frame 0 0 ≡ addressFirework → ⊥) → noAddress frame ≡ true
-  unfolding noAddress
-  other-firework h = either-right _ (differs h)
 
   pub address : (length frame ≡ 0 → ⊥) → getD frame 0 0 ≡ addressFirework → noAddress frame ≡ false
   unfolding noAddress
@@ -72,10 +67,6 @@ module _ (frame : List ℕ) where
     unfolding wrongCheck
     right-check same = agrees (same ∙ made)
 
-    pub other-check : (getD frame 5 0 ≡ check → ⊥) → wrongCheck f frame ≡ true
-    unfolding wrongCheck
-    other-check other = differs (λ same. other (same ∙ sym made))
-
   pub check-tells : (f : List ℕ → ℕ) {check : ℕ} → check ≡ f (between frame) → not (eqb (getD frame 5 0) check) ≡ wrongCheck f frame
   unfolding wrongCheck
   check-tells f made = rw made
@@ -100,12 +91,3 @@ module _ (file : ℕ) where
   pub file-fits : file ≤ 63 → noFileNumber file ≡ false
   unfolding noFileNumber
   file-fits h = le-ltb _ _ h
-
--- no broadcast read: not a read, or not at 0x00
-pub no-read : (operation name : ℕ) → (operation ≡ readOperation → ⊥) → broadcastRead operation name ≡ false
-unfolding broadcastRead
-no-read operation name h = both-false-left _ (ne-eqb _ _ h)
-
-pub no-broadcast : (operation name : ℕ) → (name ≡ broadcast → ⊥) → broadcastRead operation name ≡ false
-unfolding broadcastRead
-no-broadcast operation name h = both-false-right _ (ne-eqb _ _ h)

@@ -1,7 +1,7 @@
 -- What stands in a written frame, for those who send it: its places, its bytes, and that the writers write it.
 -- Assumes nothing.
 use Prim.Native.Nat.{ℕ, zero, suc, _+_, _*_, _≤_, _<_}
-use mathlib.Core.Path.{_≡_, refl, sym, ap, _∙_}
+use mathlib.Core.Path.{_≡_, refl, sym, _∙_}
 use mathlib.Core.List.{List, [], _∷_, _++_, append-nil}
 use mathlib.Core.Bool.{false}
 use native.Mathlib.Omega.{arith}
@@ -10,7 +10,7 @@ use lib.Seq.{set-getD}
 use lib.Bits.{xor-lt}
 use Rattle.file.specs.Rules.Cluster.{fileNumberOf, operationOf, pb2Of}
 use Rattle.file.specs.Rules.Bytes.{allEmpty, allNext, Byte, Bytes}
-use Rattle.frame.specs.Rules.Fireworks.{addressFirework, dataFirework}
+use Rattle.frame.specs.Rules.Fireworks.{addressFirework}
 use Rattle.frame.specs.Rules.Check.{exclusiveOr, checkOf, addressCheck, dataCheck}
 use Rattle.frame.specs.Rules.Frames.{frameSize, frameOf, between, addressBytes, addressFrame, dataFrame}
 use Rattle.frame.specs.Rules.Grounds.{noOperation, broadcastRead}
@@ -42,11 +42,6 @@ pub address-places : (epoch name file operation «record» : ℕ)
     (addressFrame epoch name file operation «record»)
 unfolding addressFrame addressBytes
 address-places epoch name file operation «record» = places _ _ _ _ _ _
-
-pub data-places : (b0 b1 b2 b3 : ℕ)
-    → Places dataFirework b0 b1 b2 b3 (dataCheck (b0 ∷ b1 ∷ b2 ∷ b3 ∷ [])) (dataFrame (b0 ∷ b1 ∷ b2 ∷ b3 ∷ []))
-unfolding dataFrame
-data-places b0 b1 b2 b3 = places _ _ _ _ _ _
 
 -- every check is a byte, and so is every byte of a frame of bytes
 exclusive-or-byte : {bytes : List ℕ} → Bytes bytes → Byte (exclusiveOr bytes)

@@ -84,7 +84,7 @@ module _ {f places : List ℕ} (h : Placed f places) {n : ℕ} (count : n ≡ sl
       rw names-stated (marked-new remainder name (map physicalName (decode f .slaves)) (rw (remainders (decode f .slaves)) at (marks .are)) (omega (arith, marks .long)) e)
 
 -- the places of an accepted file's slaves have room in an array of them
-pub places-room : {f places : List ℕ} → Placed f places → (list : List ℕ) → length list ≡ 128 → placesEach * slaveCount f ≤ length list
+pub places-room : {f places : List ℕ} → Placed f places → (list : List ℕ) → length list ≡ 130 → placesEach * slaveCount f ≤ length list
 places-room {f} h list long = omega (arith, long, few-slaves (decode f) (h .file .legal))
 
 -- ---- the search for one that the first file also has: what is left of it is what the whole search gives

@@ -83,7 +83,7 @@ fn join_second(first: &[u8], first_places: &SlavePlaces, second: &[u8], out: &mu
 }
 
 // The two files joined, written into the buffer: refused by its number, with the buffer as it was, or written, with how many bytes it has.
-// Each file is checked once, and each byte is copied once.
+// Each file is checked once, and the files of its slaves are copied once.
 pub fn join(first: &[u8], second: &[u8], out: &mut [u8]) -> Joining
     ensures { λ r. ⌜ (joiningOf r, now (out .exit)) ≡ joinOn (now (first .entry)) (now (second .entry)) (now (out .entry)) ⌝ }
 {

@@ -1,8 +1,8 @@
 -- The laws of line patterns; a module cites those above it.
 
--- the table, by its rule, and a test of every number
-pub mod Table
+-- a test of every number, and the table by its rule
 pub mod Computed
+pub mod Table
 -- the class of every pattern, by its bits; a byte with its parity bit; flipped bits
 pub mod Classes
 pub mod Parity

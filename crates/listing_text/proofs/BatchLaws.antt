@@ -22,9 +22,9 @@ use Rattle.file.proofs.Results.{load-file, no-ground}
 use Rattle.file.proofs.Order.{byCase, clash, both-left, both-right, both-false-right, both-false-next, either-false-left}
 use Rattle.naming.specs.Rules.Run.{Position, bits, lastStep, unfitName, namesGrounds, startGround}
 use Rattle.naming.specs.Rules.Step.{StepDone, ended, made, stepOn}
-use Rattle.naming.specs.Rules.Steps.{isMade as isStepMade, maskIn, Progress, begun, nextStep, withStep}
+use Rattle.naming.specs.Rules.Steps.{isMade as isStepMade, maskIn, Progress, begun, nextStep, withStep, stepsFrom}
 use Rattle.naming.specs.Inner.Answers.{positionOf}
-use Rattle.naming.specs.Inner.Steps.{progressOf, stepsUntil, StepsMade}
+use Rattle.naming.specs.Inner.Steps.{progressOf, standsAt, StepsMade}
 use Rattle.naming.specs.declared.steps.MadeSteps.{MadeSteps}
 use Rattle.naming.proofs.Moves.{step-moved}
 use Rattle.listing_text.specs.Rules.Listing.{allNames, namesFrom, ListState, isMade, givesName, withoutName, withName, listStep, listSteps}
@@ -99,22 +99,24 @@ one-more k t g end begins other m b =
     }
 
 module _ (k : ℕ) (g : Progress) where
-  until-on : both (not (eqb (g .run .step) lastStep)) (isStepMade (nextStep allNames g .0)) ≡ true → stepsUntil allNames lastStep (suc k) g ≡ stepsUntil allNames lastStep k (withStep g (nextStep allNames g))
-  unfolding stepsUntil
+  until-on :
+      both (not (eqb (g .run .step) lastStep)) (isStepMade (nextStep allNames g .0)) ≡ true →
+      stepsFrom (standsAt lastStep) allNames (suc k) g ≡ stepsFrom (standsAt lastStep) allNames k (withStep g (nextStep allNames g))
+  unfolding stepsFrom
   until-on y = rw y
 
-  until-over : both (not (eqb (g .run .step) lastStep)) (isStepMade (nextStep allNames g .0)) ≡ false → stepsUntil allNames lastStep (suc k) g ≡ g
-  unfolding stepsUntil
+  until-over : both (not (eqb (g .run .step) lastStep)) (isStepMade (nextStep allNames g .0)) ≡ false → stepsFrom (standsAt lastStep) allNames (suc k) g ≡ g
+  unfolding stepsFrom
   until-over y = rw y
 
-pub batch : (k : ℕ) (t : ListState) (g : Progress) → (g .run .rounds ≡ 0 → g .run .step ≡ 0) → Batch k t g (stepsUntil allNames lastStep k g)
-batch zero t g begins = unfold stepsUntil in none-made 0 t g (λ h. absurd (omega arith))
+pub batch : (k : ℕ) (t : ListState) (g : Progress) → (g .run .rounds ≡ 0 → g .run .step ≡ 0) → Batch k t g (stepsFrom (standsAt lastStep) allNames k g)
+batch zero t g begins = unfold stepsFrom in none-made 0 t g (λ h. absurd (omega arith))
 batch (suc k) t g begins = on (λ c. batch k t (withStep g (nextStep allNames g)) c)
   where
     on :
         ((withStep g (nextStep allNames g) .run .rounds ≡ 0 → withStep g (nextStep allNames g) .run .step ≡ 0) →
-        Batch k t (withStep g (nextStep allNames g)) (stepsUntil allNames lastStep k (withStep g (nextStep allNames g)))) →
-        Batch (suc k) t g (stepsUntil allNames lastStep (suc k) g)
+        Batch k t (withStep g (nextStep allNames g)) (stepsFrom (standsAt lastStep) allNames k (withStep g (nextStep allNames g)))) →
+        Batch (suc k) t g (stepsFrom (standsAt lastStep) allNames (suc k) g)
     on rest =
         byCase (both (not (eqb (g .run .step) lastStep)) (isStepMade (nextStep allNames g .0)))
         (λ y.

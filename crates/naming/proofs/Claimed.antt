@@ -10,7 +10,7 @@ use Rattle.naming.specs.Claims.Throughout.{Throughout}
 use Rattle.naming.specs.Claims.Permitted.{PermittedExactly}
 use Rattle.naming.specs.Claims.PermittedRounds.{RoundsFit, EachMultipartner, MayNotAskExactly, BarredMsa, LoneMsa, LoneMsd}
 use Rattle.naming.specs.Claims.StepFrames.{StepsAreFrames, EndedAltersNothing}
-use Rattle.naming.specs.Claims.Steps.{StepsInARow, StepsRefused, StepsTold, StopsBy17}
+use Rattle.naming.specs.Claims.Steps.{StepsInARow, StepsRefused, StepsAnswered, StepsTold, NoOtherTold, StopsBy17, StopsAtFirst}
 use Rattle.naming.specs.Claims.RoundsMade.{MakesExtra, MovesOn, Stands}
 use Rattle.naming.specs.Claims.Sleep.{StepWakes, NoRoundWakesNobody, StaysAwake, CountedAwake}
 use Rattle.naming.proofs.Cases.{marked-cases}
@@ -27,7 +27,7 @@ use Rattle.naming.proofs.PermittedExactly.{permitted-exactly}
 use Rattle.naming.proofs.PermittedRounds.{rounds-fit, each-multipartner, may-not-ask-exactly, barred-msa, lone-msa, lone-msd}
 use Rattle.naming.proofs.StepFrames.{steps-are-frames}
 use Rattle.naming.proofs.StepLaws.{ended-alters-nothing}
-use Rattle.naming.proofs.StepsInARow.{steps-in-a-row, steps-are-refused, steps-told, stops-by-17}
+use Rattle.naming.proofs.StepsInARow.{steps-in-a-row, steps-are-refused, steps-answered, steps-told, no-other-told, stops-by-17, stops-at-first}
 use Rattle.naming.proofs.RoundsMade.{makes-extra, moves-on, stands}
 use Rattle.naming.proofs.PassRounds.{passes-made}
 use Rattle.naming.proofs.Sleep.{step-wakes, no-round-wakes-nobody, stays-awake, counted-awake}
@@ -191,8 +191,17 @@ held-steps-in-a-row = steps-in-a-row
 pub held-steps-refused : StepsRefused
 held-steps-refused = steps-are-refused
 
+pub held-steps-answered : StepsAnswered
+held-steps-answered = steps-answered
+
 pub held-steps-told : StepsTold
 held-steps-told = steps-told
 
+pub held-no-other-told : NoOtherTold
+held-no-other-told = no-other-told
+
 pub held-stops-by-17 : StopsBy17
 held-stops-by-17 = stops-by-17
+
+pub held-stops-at-first : StopsAtFirst
+held-stops-at-first = stops-at-first

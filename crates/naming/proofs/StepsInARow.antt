@@ -6,11 +6,11 @@ use mathlib.Core.Logic.{_≢_, _⊎_, inl, inr}
 use mathlib.Core.List.{List}
 use mathlib.Core.Bool.{true, false}
 use native.Mathlib.Omega.{arith}
-use borrow.Author.Tests.{eqb-true, eqb-false}
+use borrow.Author.Tests.{eqb-true, eqb-false, ltb-true, ltb-false}
 use lib.ListN.{length, getD}
-use lib.Dec.{eqb}
+use lib.Dec.{eqb, ltb}
 use Rattle.file.specs.Rules.Bytes.{Bytes}
-use Rattle.file.specs.Rules.Order.{firstOf}
+use Rattle.file.specs.Rules.Order.{firstOf, both}
 use Rattle.file.specs.Rules.Results.{Result, refused, done}
 use Rattle.file.specs.Rules.Decode.{decode}
 use Rattle.file.specs.Rules.Grounds.{fileGround}
@@ -24,8 +24,8 @@ use Rattle.cluster.proofs.Rounds.{round-bytes, round-keeps-file, others-decide,
 use Rattle.cluster.proofs.SentRounds.{data-sent-bytes}
 use Rattle.naming.specs.Rules.Run.{Position, running, bits, unfitPosition, startGround, runGrounds}
 use Rattle.naming.specs.Rules.Step.{StepDone, ended, made, madeBy, stepGround, stepOn}
-use Rattle.naming.specs.Rules.Steps.{isMade, maskIn, Progress, begun, nextStep, withStep, stepsFrom, StepsDone, steps, stepsOn}
-use Rattle.naming.specs.Claims.Steps.{eachStep, answerAfter, StepsInARow, StepsRefused, StepsTold, StopsBy17}
+use Rattle.naming.specs.Rules.Steps.{isMade, maskIn, Progress, begun, nextStep, withStep, stepsFrom, nowhere, StepsDone, steps, stepsOn}
+use Rattle.naming.specs.Claims.Steps.{eachStep, answerAfter, StepsInARow, StepsRefused, NumberAnswered, StepsAnswered, Told, StepsTold, NoOtherTold, StopsBy17, StopsAtFirst}
 use Rattle.naming.proofs.RunLaws.{run-unfit, run-fits}
 use Rattle.naming.proofs.StepLaws.{step-refused, step-ended, step-made}
 use Rattle.naming.proofs.StepFrames.{next-sent}
@@ -66,8 +66,8 @@ each-still names (suc k) file p buffer e =
 leftBy : Progress → Left
 leftBy t = (t .run, t .buffer, t .file)
 
-from-each : (names : List ℕ) (k : ℕ) (t : Progress) → leftBy (stepsFrom names k t) ≡ eachStep names k (t .file) (t .run) (t .buffer)
-unfolding leftBy stepsFrom eachStep nextStep withStep
+from-each : (names : List ℕ) (k : ℕ) (t : Progress) → leftBy (stepsFrom nowhere names k t) ≡ eachStep names k (t .file) (t .run) (t .buffer)
+unfolding leftBy stepsFrom both eachStep nextStep withStep
 from-each names zero t = refl
 from-each names (suc k) t =
     byCase (isMade (stepOn (t .file) (t .run) names (t .buffer) .0))
@@ -107,12 +107,12 @@ answer-later : (names : List ℕ) (i : ℕ) (t : Progress) → answerFrom names 
 unfolding answerFrom answerAfter eachStep nextStep withStep
 answer-later names i t = refl
 
-pub from-made : (names : List ℕ) (k : ℕ) (t : Progress) → isMade (nextStep names t .0) ≡ true → stepsFrom names (suc k) t ≡ stepsFrom names k (withStep t (nextStep names t))
-unfolding stepsFrom
+from-made : (names : List ℕ) (k : ℕ) (t : Progress) → isMade (nextStep names t .0) ≡ true → stepsFrom nowhere names (suc k) t ≡ stepsFrom nowhere names k (withStep t (nextStep names t))
+unfolding stepsFrom both
 from-made names k t m = rw m
 
-pub from-stopped : (names : List ℕ) (k : ℕ) (t : Progress) → isMade (nextStep names t .0) ≡ false → stepsFrom names (suc k) t ≡ t
-unfolding stepsFrom
+from-stopped : (names : List ℕ) (k : ℕ) (t : Progress) → isMade (nextStep names t .0) ≡ false → stepsFrom nowhere names (suc k) t ≡ t
+unfolding stepsFrom both
 from-stopped names k t m = rw m
 
 record Walk (names : List ℕ) (k : ℕ) (t end : Progress) : Type 0 where
@@ -161,11 +161,11 @@ module _ (names : List ℕ) (k : ℕ) (t end : Progress) (m : isMade (nextStep n
         stops = λ h e. w .stops (omega arith) (ap isMade (sym (answer-later names (w .n) t)) ∙ e);
       }
 
-walk : (names : List ℕ) (k : ℕ) (t : Progress) → Walk names k t (stepsFrom names k t)
+walk : (names : List ℕ) (k : ℕ) (t : Progress) → Walk names k t (stepsFrom nowhere names k t)
 walk names zero t = unfold stepsFrom in stay names 0 t (λ h. absurd (omega arith))
 walk names (suc k) t = on (walk names k (withStep t (nextStep names t)))
   where
-    on : Walk names k (withStep t (nextStep names t)) (stepsFrom names k (withStep t (nextStep names t))) → Walk names (suc k) t (stepsFrom names (suc k) t)
+    on : Walk names k (withStep t (nextStep names t)) (stepsFrom nowhere names k (withStep t (nextStep names t))) → Walk names (suc k) t (stepsFrom nowhere names (suc k) t)
     on w =
         byCase (isMade (nextStep names t .0))
         (λ m. subst (λ (e : Progress). Walk names (suc k) t e) (sym (from-made names k t m)) (walk-next names k t _ m w))
@@ -174,14 +174,15 @@ walk names (suc k) t = on (walk names k (withStep t (nextStep names t)))
 -- a call that is not refused has no ground
 module _ (k : ℕ) (file : List ℕ) (p : Position) (names buffer : List ℕ) {n mask : ℕ} (is : stepsOn k file p names buffer .0 ≡ done (steps n mask)) where
   abbrev end : Progress
-  end = stepsFrom names k (begun file p buffer)
+  end = stepsFrom nowhere names k (begun file p buffer)
 
   no-ground : stepGround file p names buffer ≡ 0
   no-ground =
       byCase (eqb (stepGround file p names buffer) 0)
       (λ g. eqb-true _ _ g)
       (λ g.
-      let turned : refused (stepGround file p names buffer) ≡ done (steps n mask) = ap (λ (s : Result StepsDone × Position × List ℕ × List ℕ). s .0) (steps-refused k file p names buffer refl (eqb-false _ _ g)) ∙ is in
+      let by = steps-refused k file p names buffer refl (eqb-false _ _ g) in
+      let turned : refused (stepGround file p names buffer) ≡ done (steps n mask) = ap (λ (s : Result StepsDone × Position × List ℕ × List ℕ). s .0) by ∙ is in
       cc)
 
   counted : done (steps (end .made) (end .senders)) ≡ done (steps n mask)
@@ -192,6 +193,17 @@ module _ (k : ℕ) (file : List ℕ) (p : Position) (names buffer : List ℕ) {n
 
   senders-mask : end .senders ≡ mask
   senders-mask = cc counted
+
+pub steps-answered : StepsAnswered
+steps-answered k file p names buffer = (
+  (λ none.
+      record {
+        n = stepsFrom nowhere names k (begun file p buffer) .made;
+        mask = stepsFrom nowhere names k (begun file p buffer) .senders;
+        is = ap (λ (s : Result StepsDone × Position × List ℕ × List ℕ). s .0) (steps-made k file p names buffer none);
+      }),
+  (λ t. no-ground k file p names buffer (t .is)),
+)
 
 pub steps-told : StepsTold
 unfolding answerFrom begun
@@ -207,6 +219,30 @@ steps-told k file p names buffer n mask is =
       stops = λ h e. w .stops (omega (arith, h, same)) (rw (← same) e);
     }
 
+-- ---- there is one number, and one mask
+
+module _ {k : ℕ} {file : List ℕ} {p : Position} {names buffer : List ℕ} where
+  no-fewer : {n mask n′ mask′ : ℕ} → Told k file p names buffer n mask → Told k file p names buffer n′ mask′ → n′ ≤ n
+  no-fewer {n} {mask} {n′} a b =
+      byCase (ltb n n′)
+      (λ t. let fewer : n < n′ = ltb-true n n′ t in absurd (a .stops (omega (arith, fewer, b .most)) (b .each n fewer)))
+      (λ f. ltb-false n n′ f)
+
+  one-mask : (n : ℕ) {mask mask′ : ℕ} → Told k file p names buffer n mask → Told k file p names buffer n mask′ → mask ≡ mask′
+  one-mask zero a b = a .none refl ∙ sym (b .none refl)
+  one-mask (suc i) {mask} {mask′} a b = let same : done (made mask) ≡ done (made mask′) = sym (a .last i refl) ∙ b .last i refl in cc same
+
+  one-told : {n mask n′ mask′ : ℕ} → Told k file p names buffer n mask → Told k file p names buffer n′ mask′ → done (steps n mask) ≡ done (steps n′ mask′)
+  one-told {n} {mask} {n′} {mask′} a b =
+      let same : n ≡ n′ = omega (arith, no-fewer a b, no-fewer b a) in
+      let sent : mask ≡ mask′ = one-mask n′ (subst (λ (m : ℕ). Told k file p names buffer m mask) same a) b in
+      rw (same, sent)
+
+pub no-other-told : NoOtherTold
+no-other-told k file p names buffer n mask none told =
+    let t : NumberAnswered k file p names buffer = steps-answered k file p names buffer .0 none in
+    t .is ∙ one-told (steps-told k file p names buffer (t .n) (t .mask) (t .is)) told
+
 -- ---- why they stop: no step makes the file, the buffer or the list a ground of the next
 
 round-long : (file frame buffer : List ℕ) → slots ≤ length buffer → slots ≤ length (roundOn file frame buffer .1)
@@ -217,10 +253,10 @@ round-long file frame buffer long =
     (λ e. rw e long)
 
 -- what the next step may ask of a file and a buffer
-pub record Sound (file buffer : List ℕ) : Type 0 where
-  pub bytes : Bytes file
-  pub good : fileGround file ≡ 0
-  pub long : slots ≤ length buffer
+record Sound (file buffer : List ℕ) : Type 0 where
+  bytes : Bytes file
+  good : fileGround file ≡ 0
+  long : slots ≤ length buffer
 
 round-sound : {file buffer : List ℕ} → Sound file buffer → {frame : List ℕ} → Bytes frame → Sound (roundOn file frame buffer .2) (roundOn file frame buffer .1)
 round-sound {file} {buffer} s {frame} b =
@@ -235,7 +271,9 @@ unfolding roundSent
 sent-sound {file} sound {s} may = round-sound (round-sound sound (address-of (decode file) may)) (data-sent-bytes (decode file) s may)
 
 module _ (names : List ℕ) (bytes : Bytes names) (list : startGround names ≡ 0) where
-  pub step-sound : (t : Progress) → Sound (t .file) (t .buffer) → t .run .value < 2 ^ bits → isMade (nextStep names t .0) ≡ true → Sound (withStep t (nextStep names t) .file) (withStep t (nextStep names t) .buffer)
+  step-sound :
+      (t : Progress) → Sound (t .file) (t .buffer) → t .run .value < 2 ^ bits → isMade (nextStep names t .0) ≡ true →
+      Sound (withStep t (nextStep names t) .file) (withStep t (nextStep names t) .buffer)
   unfolding withStep nextStep
   step-sound t s small m =
       let makes = made-makes names t (unfold nextStep in m) in
@@ -249,20 +287,20 @@ module _ (names : List ℕ) (bytes : Bytes names) (list : startGround names ≡ 
     unfolding stepGround
     asked = others-decide (t .file) (t .buffer) (runGrounds names (t .run)) (s .good) (s .long)
 
-    pub next-17 : unfitPosition names (t .run) ≡ true → nextStep names t .0 ≡ refused 17
+    next-17 : unfitPosition names (t .run) ≡ true → nextStep names t .0 ≡ refused 17
     unfolding nextStep
     next-17 u =
         let by : stepGround (t .file) (t .run) names (t .buffer) ≡ 17 = asked ∙ sym (run-unfit names (t .run) (sym list) refl refl u) in
         ap (λ (r : Answered). r .0) (step-refused (t .file) (t .run) names (t .buffer) (λ z. omega (arith, by, z))) ∙ rw by
 
-    pub fit-none : unfitPosition names (t .run) ≡ false → stepGround (t .file) (t .run) names (t .buffer) ≡ 0
+    fit-none : unfitPosition names (t .run) ≡ false → stepGround (t .file) (t .run) names (t .buffer) ≡ 0
     fit-none u = asked ∙ sym (run-fits names (t .run) (sym list) refl refl u)
 
-    pub next-ended : unfitPosition names (t .run) ≡ false → t .run .end ≢ running → nextStep names t .0 ≡ done ended
+    next-ended : unfitPosition names (t .run) ≡ false → t .run .end ≢ running → nextStep names t .0 ≡ done ended
     unfolding nextStep
     next-ended u n = ap (λ (r : Answered). r .0) (step-ended (t .file) (t .run) names (t .buffer) (fit-none u) n)
 
-    pub next-made : unfitPosition names (t .run) ≡ false → t .run .end ≡ running → isMade (nextStep names t .0) ≡ true
+    next-made : unfitPosition names (t .run) ≡ false → t .run .end ≡ running → isMade (nextStep names t .0) ≡ true
     unfolding nextStep
     next-made u r = ap (λ (s : Answered). isMade (s .0)) (step-made (t .file) (t .run) names (t .buffer) (fit-none u) r) ∙ made-always _
 
@@ -291,3 +329,14 @@ stops-by-17 k file p names buffer n mask b bn small is fewer =
     reason names bn (names-accepted names p refl (none .rest)) n (begun file p buffer) (record { bytes = b; good = none .accepted; long = none .long }) small
     (told .each)
     (byCase (isMade (answerAfter names n file p buffer)) (λ m. absurd (told .stops fewer m)) (λ m. m))
+
+unmade-stop : (r : Result StepDone) → (r ≡ refused 17) ⊎ (r ≡ done ended) → isMade r ≡ false
+unfolding isMade
+unmade-stop r (inl e) = rw e
+unmade-stop r (inr e) = rw e
+
+pub stops-at-first : StopsAtFirst
+stops-at-first k file p names buffer n mask i is stop =
+    byCase (ltb i n)
+    (λ t. clash (steps-told k file p names buffer n mask is .each i (ltb-true i n t)) (unmade-stop (answerAfter names i file p buffer) stop))
+    (λ f. ltb-false i n f)

@@ -25,9 +25,9 @@ use Rattle.cluster.specs.Rules.Bus.{slots}
 use Rattle.cluster.proofs.Rounds.{file-decides, buffer-decides, others-decide, none-holds}
 use Rattle.naming.specs.Rules.Run.{Position, running, bits, lastStep, unfitPosition, startGround, runGrounds}
 use Rattle.naming.specs.Rules.Step.{StepDone, made, stepGround, stepMade, stepOn}
-use Rattle.naming.specs.Rules.Steps.{isMade, maskIn, Progress, begun, nextStep, withStep, stepsFrom, StepsDone, steps, stepsOn}
+use Rattle.naming.specs.Rules.Steps.{isMade, maskIn, Progress, begun, nextStep, withStep, stepsFrom, nowhere, StepsDone, steps, stepsOn}
 use Rattle.naming.specs.Inner.Answers.{positionOf, StepGoes}
-use Rattle.naming.specs.Inner.Steps.{stepsEnd, stepsUntil, StepsMade}
+use Rattle.naming.specs.Inner.Steps.{standsAt, stepsEnd, StepsMade}
 use Rattle.naming.specs.declared.steps.MadeSteps.{MadeSteps}
 use Rattle.naming.proofs.RunLaws.{runs, run-names, run-unfit, run-fits}
 use Rattle.naming.proofs.StepLaws.{step-refused, step-ended}
@@ -103,16 +103,16 @@ module _ (names : List ℕ) (until : ℕ) (t : Progress) (good : fileGround (t .
       (λ u. clash e (either-false other (either-false (ap not (eq-eqb (t .run .end) running (makes .runs))) u))))))
       (λ m. both-false-right _ m)
 
-  pub until-stops : stepsEnd names until (t .run) ≡ true → (k : ℕ) → t ≡ stepsUntil names until k t
-  unfolding stepsUntil
+  pub until-stops : stepsEnd names until (t .run) ≡ true → (k : ℕ) → t ≡ stepsFrom (standsAt until) names k t
+  unfolding stepsFrom
   until-stops e zero = refl
   until-stops e (suc k) = sym (rw (stopped e))
 
 -- one more
 until-next :
     (names : List ℕ) (until k : ℕ) (t : Progress) {s : Result StepDone × Position × List ℕ × List ℕ} → s ≡ nextStep names t → isMade (s .0) ≡ true →
-    (t .run .step ≡ until → ⊥) → stepsUntil names until (suc k) t ≡ stepsUntil names until k (withStep t s)
-unfolding stepsUntil both
+    (t .run .step ≡ until → ⊥) → stepsFrom (standsAt until) names (suc k) t ≡ stepsFrom (standsAt until) names k (withStep t s)
+unfolding stepsFrom both
 until-next names until k t is m n = rw (ne-eqb (t .run .step) until n, ← is, m)
 
 -- ---- what the loop keeps: those that are left, of the steps so far, are all of them from the start
@@ -122,7 +122,7 @@ pub record Stepping (names : List ℕ) (until most : ℕ) (places : List ℕ) (s
   pub long : slots ≤ length (now .buffer)
   pub list : startGround names ≡ 0
   pub few : now .made ≤ most
-  pub left : stepsUntil names until (most - now .made) now ≡ stepsUntil names until most start
+  pub left : stepsFrom (standsAt until) names (most - now .made) now ≡ stepsFrom (standsAt until) names most start
 
 pub stepping-start :
     (names : List ℕ) (until most : ℕ) {places : List ℕ} (file : List ℕ) (p : Position) (buffer : List ℕ) → Placed file places → slots ≤ length buffer →
@@ -136,17 +136,21 @@ module _ {names : List ℕ} {until most : ℕ} {places : List ℕ} {start now : 
   pub stepping-goes : t ≡ false → StepGoes names (now .run) (now .buffer)
   stepping-goes e = end-goes names until now (h .placed .file .accepted) (h .long) (h .list) (sym test ∙ e)
 
-  pub stepping-stop : t ≡ true → now ≡ stepsUntil names until most start
+  pub stepping-stop : t ≡ true → now ≡ stepsFrom (standsAt until) names most start
   stepping-stop e = until-stops names until now (h .placed .file .accepted) (h .long) (h .list) (sym test ∙ e) (most - now .made) ∙ h .left
 
-  module _ (e : t ≡ false) (more : now .made < most) {mask : ℕ} {q : Position} {buffer file : List ℕ} (is : (done (made mask), q, buffer, file) ≡ stepMade (now .file) (now .run) names (now .buffer)) where
+  module _
+      (e : t ≡ false) (more : now .made < most) {mask : ℕ} {q : Position} {buffer file : List ℕ}
+      (is : (done (made mask), q, buffer, file) ≡ stepMade (now .file) (now .run) names (now .buffer)) where
     comes : (done (made mask), q, buffer, file) ≡ stepOn (now .file) (now .run) names (now .buffer)
     comes = let goes = stepping-goes e in step-goes (now .file) (now .run) names (now .buffer) (h .placed) (h .long) (sym (goes .accepted)) refl (goes .runs) is
 
     other : now .run .step ≡ until → ⊥
     other here = clash (test ∙ sym (end-here names until (now .run) here)) e
 
-    left-next : {m : ℕ} → m ≡ suc (now .made) → stepsUntil names until (most - m) (record { made = m; senders = mask; run = q; buffer = buffer; file = file }) ≡ stepsUntil names until most start
+    left-next :
+        {m : ℕ} → m ≡ suc (now .made) →
+        stepsFrom (standsAt until) names (most - m) (record { made = m; senders = mask; run = q; buffer = buffer; file = file }) ≡ stepsFrom (standsAt until) names most start
     unfolding withStep nextStep maskIn isMade
     left-next e =
         let one : most - now .made ≡ suc (most - suc (now .made)) = omega arith in
@@ -164,16 +168,18 @@ module _ {names : List ℕ} {until most : ℕ} {places : List ℕ} {start now : 
           left = left-next (add-one (now .made));
         }
 
-pub stepping-done : {names : List ℕ} {until most : ℕ} {places : List ℕ} {start now : Progress} → Stepping names until most places start now → most ≤ now .made → now ≡ stepsUntil names until most start
-unfolding stepsUntil
+pub stepping-done :
+    {names : List ℕ} {until most : ℕ} {places : List ℕ} {start now : Progress} → Stepping names until most places start now → most ≤ now .made →
+    now ≡ stepsFrom (standsAt until) names most start
+unfolding stepsFrom
 stepping-done {most = most} {now = now} h over =
     let none : most - now .made ≡ 0 = omega arith in
     rw none at (h .left)
 
 -- ---- with no step of a pass to stop at, they are the steps of the rules
 
-pub until-none : (names : List ℕ) (until k : ℕ) (t : Progress) → lastStep < until → stepsUntil names until k t ≡ stepsFrom names k t
-unfolding stepsUntil stepsFrom both
+pub until-none : (names : List ℕ) (until k : ℕ) (t : Progress) → lastStep < until → stepsFrom (standsAt until) names k t ≡ stepsFrom nowhere names k t
+unfolding stepsFrom both
 until-none names until zero t h = refl
 until-none names until (suc k) t h =
     byCase (isMade (nextStep names t .0))
@@ -192,10 +198,10 @@ module _ (k : ℕ) (file : List ℕ) (p : Position) (names buffer : List ℕ) wh
   steps-refused {n} is some = rw (is, ne-eqb n 0 some)
 
   pub steps-made : stepGround file p names buffer ≡ 0 → stepsOn k file p names buffer ≡ (
-    done (steps (stepsFrom names k (begun file p buffer) .made) (stepsFrom names k (begun file p buffer) .senders)),
-    stepsFrom names k (begun file p buffer) .run,
-    stepsFrom names k (begun file p buffer) .buffer,
-    stepsFrom names k (begun file p buffer) .file,
+    done (steps (stepsFrom nowhere names k (begun file p buffer) .made) (stepsFrom nowhere names k (begun file p buffer) .senders)),
+    stepsFrom nowhere names k (begun file p buffer) .run,
+    stepsFrom nowhere names k (begun file p buffer) .buffer,
+    stepsFrom nowhere names k (begun file p buffer) .file,
   )
   unfolding stepsOn
   steps-made none = rw none
@@ -234,5 +240,6 @@ module _ (k : ℕ) (f : List ℕ) (p : Position) (names buffer : List ℕ) {a : 
           (done (steps (m .steps) (m .senders)), positionOf (m .run), buffer′, file′) ≡ stepsOn k f p names buffer
       unfolding told
       steps-end none m =
-          let all : stepsUntil names (lastStep + 1) k (begun f p buffer) ≡ stepsFrom names k (begun f p buffer) = until-none names (lastStep + 1) k (begun f p buffer) (omega arith) in
+          let t = begun f p buffer in
+          let all : stepsFrom (standsAt (lastStep + 1)) names k t ≡ stepsFrom nowhere names k t = until-none names (lastStep + 1) k t (omega arith) in
           ap told (m .is ∙ all) ∙ sym (steps-made k f p names buffer (steps-ground ∙ none))

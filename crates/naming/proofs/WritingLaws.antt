@@ -334,6 +334,7 @@ module _ (p : Position) {r x : ℕ} (w : WritesAt (p .step) (p .value) r x) wher
   pub advanced-written : (count : ℕ) (b : Bool) {q : Position} → Writes p q → Advances count p b q
   advanced-written count b is = is count b
 
-  pub advanced-moved : 2 ≤ r → (count : ℕ) (b : Bool) {v q : Position} → v ≡ moveOn (placeOf (p .step)) count p b → Settled v q → Advances count p b q
-  advanced-moved none count b is settled names long =
-      settled names ∙ ap (onto names) (is ∙ ap (λ (z : Position). moveOn (placeOf (p .step)) count z b) (wrote-here names p (wrote-none p (w .which) (w .halved) (λ z. omega arith) (λ z. omega arith))))
+  pub advanced-moved : 2 ≤ r → (count : ℕ) (b : Bool) {v q : Position} {part whole : ℕ} → v ≡ moveOn (placeOf (p .step)) count p b → Stands v q part whole → Advances count p b q
+  advanced-moved none count b is stands names long =
+      let same = wrote-here names p (wrote-none p (w .which) (w .halved) (λ z. omega arith) (λ z. omega arith)) in
+      stands .settled names ∙ ap (onto names) (is ∙ ap (λ (z : Position). moveOn (placeOf (p .step)) count z b) same)

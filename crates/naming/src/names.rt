@@ -7,7 +7,7 @@ use file::types::LogicalName;
 use file::types::Refusal;
 
 // Ground 15, of one name.
-fn is_unfit(name: u8) -> bool
+fn is_unfit_name(name: u8) -> bool
     ensures { λ r. ⌜ r ≡ unfitName (name ∷ []) ⌝ }
 {
     if name == LogicalName::BROADCAST.0 {
@@ -50,7 +50,7 @@ pub fn names_ground(names: &[u8]) -> u8
     if names.len() != 1 {
         return marked_ground(names);
     }
-    if is_unfit(names[0]) {
+    if is_unfit_name(names[0]) {
         return Refusal::LISTED_NAME.0;
     }
     0

@@ -2,7 +2,8 @@
 ghost use mathlib.Core.Path.{_≡_};
 ghost use Prim.Native.Nat.{ℕ, _+_, _≤_, _<_};
 ghost use Rattle.naming.specs.Rules.Run.{endAt, fresh, onward, countRaised, nextName, endAllNamed, poll, reply, bits, questionOf, partOf, tried, placeOf, atStep, moveOn, unfitPosition, giveStep, lastStep};
-ghost use Rattle.naming.specs.Inner.Answers.{positionOf, heard, FitCounts, GoesOn, partAt, WritesAt, NeedlessFrom, Settled, Stands, Wrote, Asks, Advances, Writes};
+ghost use Rattle.naming.specs.Rules.Rounds.{comparisonRounds};
+ghost use Rattle.naming.specs.Inner.Answers.{positionOf, heard, FitCounts, GoesOn, partAt, WritesAt, NeedlessFrom, Stands, Wrote, Asks, Advances, Writes};
 
 // The caller keeps it between steps, and may hand in any content.
 pub struct RunPosition {
@@ -18,9 +19,9 @@ pub struct RunPosition {
 
 pub const RUNNING: u64 = 0;
 
-pub const ALL_NAMED: u64 = 1;
+const ALL_NAMED: u64 = 1;
 
-pub const NAMES_USED_UP: u64 = 2;
+const NAMES_USED_UP: u64 = 2;
 
 // The bits of a value.
 const BITS: u64 = 64;
@@ -183,7 +184,7 @@ fn all_named(run: RunPosition) -> RunPosition
 }
 
 // The value that a comparison sends, by its number in the pass: 0, then the value so far with bit 63 down to bit 0 set.
-pub fn tried_value(question: u64, value: u64) -> u64
+fn tried_value(question: u64, value: u64) -> u64
     requires { ⌜ question ≤ bits ⌝ }
     ensures { λ r. ⌜ r ≡ tried (questionOf question) value ⌝ }
 {
@@ -277,16 +278,6 @@ fn passed_over(run: RunPosition, steps: u64) -> RunPosition
     }
 }
 
-// At the next round really made.
-fn settled(run: RunPosition) -> RunPosition
-    requires { ⌜ run .step ≤ lastStep ⌝ }
-    ensures { λ r. ⌜ Settled (positionOf run) (positionOf r) ⌝ }
-{
-    let writing = writing_at(run.step, run.value);
-    let needless = needless_writes(run, writing);
-    passed_over(run, needless)
-}
-
 // A position at the next round really made, and what that round writes.
 pub struct Standing {
     pub run: RunPosition,
@@ -361,24 +352,35 @@ fn polled(run: RunPosition, count: u64, answer: Reply) -> RunPosition
     requires { ⌜ GoesOn count (positionOf run) ⌝ }
     ensures { λ r. ⌜ positionOf r ≡ moveOn poll count (positionOf run) (heard answer) ⌝ }
 {
-    let Reply::Heard = answer else {
-        return go_on(run, run.value, 0);
+    let Reply::Silence = answer else {
+        return next_name(run, count);
     };
-    next_name(run, count)
+    go_on(run, run.value, 0)
 }
 
-// After the execute of a comparison with a value: a reply keeps the value, silence at the first one ends the run.
+// After the first comparison: "Else compare with 0; silence ends the run".
+fn compared_with_0(run: RunPosition, value: u64, answer: Reply) -> RunPosition
+    requires { ⌜ FitCounts (positionOf run) × Asks (run .step) (run .value) value × (run .step ≡ comparisonRounds) ⌝ }
+    ensures { λ r. ⌜ ((count : ℕ) → positionOf r ≡ moveOn (placeOf (run .step)) count (positionOf run) (heard answer)) ⌝ }
+{
+    let Reply::Heard = answer else {
+        return all_named(run);
+    };
+    go_on(run, value, 1)
+}
+
+// After the execute of a comparison with a value: a reply keeps the value.
 fn compared(run: RunPosition, value: u64, answer: Reply) -> RunPosition
     requires { ⌜ FitCounts (positionOf run) × Asks (run .step) (run .value) value ⌝ }
     ensures { λ r. ⌜ ((count : ℕ) → positionOf r ≡ moveOn (placeOf (run .step)) count (positionOf run) (heard answer)) ⌝ }
 {
-    let Reply::Silence = answer else {
-        return go_on(run, value, 1);
-    };
     if run.step == FIRST_REPLY {
-        return all_named(run);
+        return compared_with_0(run, value, answer);
     }
-    go_on(run, run.value, 1)
+    match answer {
+        Reply::Heard => go_on(run, value, 1),
+        Reply::Silence => go_on(run, run.value, 1),
+    }
 }
 
 // After a round that writes no half, by the answer.
@@ -407,5 +409,6 @@ pub fn advanced(at: Standing, count: u64, answer: Reply) -> RunPosition
     if at.writing.part < REPLY {
         return written(at);
     }
-    settled(moved(at, count, answer))
+    let next = standing_at(moved(at, count, answer));
+    next.run
 }

@@ -1,11 +1,14 @@
 // Naming runs against vectors of an independent model. A line of the input is one of
 //   start NAMES
 //   step FILE NAMES end,index,step,value,rounds,comparisons,high,low LENGTH
+//   steps FILE NAMES end,index,step,value,rounds,comparisons,high,low LENGTH MOST
+//   single FILE NAMES end,index,step,value,rounds,comparisons,high,low LENGTH MOST
 //   run FILE NAMES STEPS FRAME FRAME ..
-// LENGTH is that of the answer buffer, which holds EE throughout; a run sends all the frames, each with a step that a short
-// buffer refuses, before every seventh of its steps from the fourth on. After the line stand the number of the answer and the
-// position; of a step the number, the mask, the file, the position and the buffer afterwards; of a run the position and the
-// file at its end.
+// LENGTH is that of the answer buffer, which holds EE throughout; MOST is how many steps are made at the most, by one call or, after
+// single, by a call for each; a run sends all the frames, each with a step that a short buffer refuses, before every seventh of its
+// steps from the fourth on. After the line stand the number of the answer and the position; of a step the number, the mask, the file,
+// the position and the buffer afterwards; of several steps the number, how many made their round, and the same; of a run the position
+// and the file at its end.
 use case_input::fields::after;
 use case_input::fields::bytes_at;
 use case_input::fields::count_at;
@@ -21,6 +24,8 @@ use naming::run::Started;
 use naming::run::Stepped;
 use naming::run::start;
 use naming::run::step;
+use naming::steps::StepsAnswer;
+use naming::steps::steps;
 
 // The most bytes that a file, a list of names, a frame and an answer buffer have here.
 const FILE: usize = 2048;
@@ -93,6 +98,83 @@ fn stepped(file: &mut [u8], run: RunPosition, names: &[u8], buffer: &mut [u8]) -
     }
 }
 
+// What several steps answer: the number, 0 where they are not refused at once, how many made their round, the mask of the last one,
+// and the position afterwards.
+struct SeveralSteps {
+    number: u8,
+    made: u64,
+    mask: u64,
+    run: RunPosition,
+}
+
+fn at_once(
+    file: &mut [u8],
+    run: RunPosition,
+    names: &[u8],
+    buffer: &mut [u8],
+    most: u64,
+) -> SeveralSteps {
+    let answer = steps(file, run, names, buffer, most);
+    match answer {
+        StepsAnswer::Refused(why) => SeveralSteps {
+            number: why.0,
+            made: 0,
+            mask: 0,
+            run,
+        },
+        StepsAnswer::Made(made) => {
+            let moved = made.run;
+            SeveralSteps {
+                number: 0,
+                made: made.steps,
+                mask: made.senders,
+                run: moved,
+            }
+        }
+    }
+}
+
+// Of a step that made no round: its number, unless another was made before it.
+fn number_of(made: u64, number: u8) -> u8 {
+    if made != 0 {
+        return 0;
+    }
+    number
+}
+
+// One call after another, up to the first that makes no round: it counts none.
+fn one_by_one(
+    file: &mut [u8],
+    start: RunPosition,
+    names: &[u8],
+    buffer: &mut [u8],
+    most: u64,
+) -> SeveralSteps {
+    let mut made = 0;
+    let mut mask = 0;
+    let mut run = start;
+    while made < most {
+        let answer = stepped(file, run, names, buffer);
+        if answer.run.rounds == run.rounds {
+            return SeveralSteps {
+                number: number_of(made, answer.number),
+                made,
+                mask,
+                run,
+            };
+        }
+        mask = answer.mask;
+        run = answer.run;
+        made += 1;
+    }
+    SeveralSteps {
+        number: 0,
+        made,
+        mask,
+        run,
+    }
+}
+
 // The position in the fields from 3 on, all 0 where there are none.
 fn position_at(case: &[u8]) -> RunPosition {
     RunPosition {
@@ -143,6 +225,38 @@ fn step_case(file: &mut [u8], run: RunPosition, names: &[u8], buffer: &mut [u8])
     let moved = answer.run;
     position(moved, b",");
     show::bytes(buffer);
+}
+
+fn several(
+    case: &[u8],
+    file: &mut [u8],
+    run: RunPosition,
+    names: &[u8],
+    buffer: &mut [u8],
+) -> SeveralSteps {
+    let most = number_at(case, 12);
+    if is(case, b"single") {
+        return one_by_one(file, run, names, buffer, most);
+    }
+    at_once(file, run, names, buffer, most)
+}
+
+fn several_case(case: &[u8], file: &mut [u8], names: &[u8], buffer: &mut [u8]) {
+    let answer = several(case, file, position_at(case), names, buffer);
+    show::number(answer.number as u64);
+    show::number(answer.made);
+    show::word(answer.mask);
+    show::bytes(file);
+    let moved = answer.run;
+    position(moved, b",");
+    show::bytes(buffer);
+}
+
+fn with_buffer(case: &[u8], file: &mut [u8], names: &[u8], buffer: &mut [u8]) {
+    if is(case, b"step") {
+        return step_case(file, position_at(case), names, buffer);
+    }
+    several_case(case, file, names, buffer);
 }
 
 // A frame of others, from a field, and a step that its buffer refuses.
@@ -202,7 +316,7 @@ fn on_file(case: &[u8], file: &mut [u8], names: &[u8]) {
     }
     let mut buffer = [0xEEu8; BUFFER];
     let length = count_at(case, 11, &buffer);
-    step_case(file, position_at(case), names, &mut buffer[..length]);
+    with_buffer(case, file, names, &mut buffer[..length]);
 }
 
 fn call(case: &[u8]) {

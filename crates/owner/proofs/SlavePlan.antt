@@ -22,6 +22,7 @@ use Rattle.cluster.specs.Rules.Bus.{slots}
 use Rattle.cluster.specs.Rules.Slaves.{isUnnamed}
 use Rattle.cluster.specs.Rules.Entries.{Entry, entryOf, entryThere, entryAt, isMultiplexed, ends, covers, sends, eligible, Acting, noEntry, acts, actingFrom}
 use Rattle.cluster.specs.Rules.Multipartner.{within, sendPlace}
+use Rattle.cluster.specs.Inner.EntryForm.{fileNumbers}
 use Rattle.cluster.specs.Inner.Slots.{PlannedFileIs, plannedEntries}
 use Rattle.cluster.proofs.EntryLaws.{sends-deaf}
 use Rattle.cluster.proofs.OpenLaws.{acting-end, acting-none, planned-few, RestOf, rest-start, rest-within, rest-next, rest-entry}
@@ -273,8 +274,9 @@ pub record Working (f : List ℕ) (s start end : ℕ) (plan : SlavePlan) (at : �
   pub planning : (round : ℕ) → PlannedFileIs (decode f) round s start end → Planning f round s (plan .hidden) (plan .sends) (plan .multiplexed) at end
   pub kept : Kept (slaveOf (decode f) s) (plan .number) (plan .size)
 
-pub working-start : (f : List ℕ) (s start end : ℕ) → AcceptedFile f → Working f s start end (record { hidden = 1; sends = 0; multiplexed = false; number = 64; size = 0 }) start
-working-start f s start end h = record { planning = λ round is. planning-start h is; kept = record { known = λ l. absurd (omega arith) } }
+pub working-start : (f : List ℕ) (s start end : ℕ) → AcceptedFile f → {none : ℕ} → fileNumbers ≤ none
+    → Working f s start end (record { hidden = 1; sends = 0; multiplexed = false; number = none; size = 0 }) start
+working-start f s start end h no-file = record { planning = λ round is. planning-start h is; kept = record { known = λ l. absurd (omega arith) } }
 
 module _ {f : List ℕ} {s start end : ℕ} {plan : SlavePlan} {at : ℕ} (h : Working f s start end plan at) where
   module _ {round : ℕ} (is : PlannedFileIs (decode f) round s start end) where

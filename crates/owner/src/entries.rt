@@ -9,45 +9,28 @@ ghost use Rattle.file.specs.Rules.Decode.{decode};
 ghost use Rattle.file.specs.Inner.Places.{slaveOf};
 ghost use Rattle.file.specs.Inner.Accepted.{AcceptedFile, slaveCount};
 ghost use Rattle.cluster.specs.Rules.Entries.{entryThere, ends, sends, bytePlace};
-ghost use Rattle.cluster.specs.Inner.EntryForm.{firstMultiplexed};
+ghost use Rattle.cluster.specs.Inner.EntryForm.{firstMultiplexed, fileNumbers};
 ghost use Rattle.owner.specs.Inner.Masks.{Marks, longestEntry};
-ghost use Rattle.owner.specs.Inner.Entries.{kindAt, isSingle, fileNumbers, Kept, wouldSend, EntryOf, EntryTaken};
+ghost use Rattle.owner.specs.Inner.Entries.{kindAt, isSingle, Kept, wouldSend, EntryOf, EntryTaken};
 use crate::masks::ALL_SLOTS;
 use crate::masks::NO_SLOTS;
 use crate::masks::slots_from;
+use cluster::entry::ALIGN_VALUES;
+use cluster::entry::END_OF_ROUND;
+use cluster::entry::EXECUTE_AND_END;
+use cluster::entry::FIRST_MULTIPLEXED;
+use cluster::entry::KIND_PLACE;
+use cluster::entry::LENGTH_VALUES;
+use cluster::entry::RECORD_PLACE;
+use cluster::entry::SEND;
+use cluster::entry::SEND_SPEEDUP;
+use cluster::entry::START_PLACE;
+use cluster::entry::START_VALUES;
 use file::layout::RECORD_SIZE;
 use file::numbers::byte_at;
 use file::readers::FilePlace;
 use file::readers::find_file;
 use file::types::FileNumber;
-
-// Where an entry has its bytes: record; operation and length less one; multiplex and start. Byte 0 is file number and align.
-const RECORD_PLACE: usize = 1;
-
-pub const KIND_PLACE: usize = 2;
-
-const START_PLACE: usize = 3;
-
-// How many values the low bits of its bytes 0, 2 and 3 have.
-const ALIGN_VALUES: u8 = 4;
-
-const LENGTH_VALUES: u8 = 16;
-
-const START_VALUES: u8 = 64;
-
-// The codes of 002, table 4: the sends that are not multiplexed, the ends, and the first that is multiplexed.
-const SEND: u8 = 1;
-
-const SEND_SPEEDUP: u8 = 5;
-
-const END_OF_ROUND: u8 = 6;
-
-const EXECUTE_AND_END: u8 = 7;
-
-const FIRST_MULTIPLEXED: u8 = 8;
-
-// No file has this number.
-pub const NO_FILE: u8 = 64;
 
 // The slots that a slave's entries hide from later ones, those in which it sends, whether it has a multiplexed send, and the file that
 // was looked for last, with its size.

@@ -15,6 +15,7 @@ use file::numbers::offset_at;
 use file::readers::slave_count;
 use file::readers::width_of;
 
+// File numbers of an accepted file are below 64: the remainder by it, which is the number, keeps the shift within the word's bits.
 const NUMBERS: usize = 64;
 
 const ROUND_MARKS: u64 = 256;

@@ -1,6 +1,6 @@
 -- Who is due is the next waiting screen after the one last served, nobody exactly where none waits.
 -- Assumes nothing.
-use Prim.Native.Nat.{ℕ, zero, suc, _+_, _*_, _-_, _%_, _≤_, _<_}
+use Prim.Native.Nat.{ℕ, zero, suc, _+_, _*_, _%_, _≤_, _<_}
 use mathlib.Core.Path.{_≡_, refl, ap, _∙_, subst}
 use mathlib.Core.List.{List}
 use mathlib.Core.Bool.{true, false}
@@ -11,15 +11,9 @@ use borrow.Author.Tests.{eqb-true, eqb-false, ltb-true, ltb-false}
 use Rattle.file.proofs.Order.{byCase, clash}
 use Rattle.screens.specs.Rules.Screens.{lastServed, placeOf, isWaiting, fresh, Due, nobody, screen, nextScreen, dueFrom, due}
 use Rattle.screens.specs.Claims.Turns.{away, NextWaiting, NoneWaiting, DueIsNext, StartsAtZero}
-use Rattle.screens.proofs.StateLaws.{next-is}
+use Rattle.screens.proofs.StateLaws.{next-is, first-away, next-away}
 
 -- ---- the cyclic order
-
-first-away : (last : ℕ) → last < 8 → away last ((last + 1) % 8) ≡ 0
-first-away last h = omega arith
-
-next-away : (last x j : ℕ) → last < 8 → j < 8 → x ≡ (last + 1) % 8 → (j ≡ x → ⊥) → away last j ≡ suc (away x j)
-next-away last x j h k e n = omega (arith, e)
 
 same-away : (last i j : ℕ) → last < 8 → i < 8 → j < 8 → away last i ≡ away last j → i ≡ j
 same-away last i j h a b e = omega (arith, e)

@@ -70,7 +70,7 @@ unfolding stateGrounds
 state-numbered state = also refl (due-numbered state (due state))
 
 module _ (state : List ℕ) where
-  last-refused : 7 < lastServed state → firstOf (stateGrounds state) ≡ 27
+  pub last-refused : 7 < lastServed state → firstOf (stateGrounds state) ≡ 27
   unfolding stateGrounds noScreen firstOf
   last-refused h = rw (lt-ltb 7 (lastServed state) h)
 
@@ -78,7 +78,10 @@ module _ (state : List ℕ) where
   unfolding stateGrounds noScreen firstOf
   by-due h = rw (le-ltb 7 (lastServed state) h)
 
-  by-read : (i : ℕ) → lastServed state ≤ 7 → due state ≡ screen i → firstOf (stateGrounds state) ≡ firstOf (readGrounds (readOf state i))
+  pub by-nobody : lastServed state ≤ 7 → due state ≡ nobody → firstOf (stateGrounds state) ≡ 0
+  by-nobody h e = by-due h ∙ (unfold dueGrounds firstOf in ap (λ (d : Due). firstOf (dueGrounds state d)) e)
+
+  pub by-read : (i : ℕ) → lastServed state ≤ 7 → due state ≡ screen i → firstOf (stateGrounds state) ≡ firstOf (readGrounds (readOf state i))
   by-read i h e = by-due h ∙ (unfold dueGrounds in ap (λ (d : Due). firstOf (dueGrounds state d)) e)
 
   pub state-last : firstOf (stateGrounds state) ≡ 0 → lastServed state < 8
@@ -109,7 +112,7 @@ module _ (s f buffer : List ℕ) where
   lent : List Ground
   lent = fileGrounds f ++ (9, shortAnswer buffer) ∷ []
 
-  state-decides : firstOf (stateGrounds s) ≢ 0 → turnGround s f buffer ≡ firstOf (stateGrounds s)
+  pub state-decides : firstOf (stateGrounds s) ≢ 0 → turnGround s f buffer ≡ firstOf (stateGrounds s)
   unfolding turnGround
   state-decides some = joined-here (stateGrounds s) _ (state-numbered s) some
 
@@ -120,7 +123,7 @@ module _ (s f buffer : List ℕ) where
   pub turn-file : firstOf (stateGrounds s) ≡ 0 → fileGround f ≢ 0 → turnGround s f buffer ≡ fileGround f
   turn-file none some = lent-decides none ∙ (unfold lent in file-decides f buffer [] some)
 
-  turn-buffer : firstOf (stateGrounds s) ≡ 0 → fileGround f ≡ 0 → length buffer < slots → turnGround s f buffer ≡ 9
+  pub turn-buffer : firstOf (stateGrounds s) ≡ 0 → fileGround f ≡ 0 → length buffer < slots → turnGround s f buffer ≡ 9
   turn-buffer none accepted short = lent-decides none ∙ (unfold lent in buffer-decides f buffer [] accepted short)
 
   pub turn-none : firstOf (stateGrounds s) ≡ 0 → fileGround f ≡ 0 → slots ≤ length buffer → turnGround s f buffer ≡ 0

@@ -3,13 +3,14 @@
 
 -- answers are told apart
 pub mod Distinct
--- a law for each way of the functions
+-- a law for each way of the state's functions and of a post
 pub mod StateLaws
 pub mod PostLaws
-pub mod TurnLaws
 -- the grounds in their order, and who is due
 pub mod Grounds
 pub mod Due
+-- a law for each way of a turn's functions
+pub mod TurnLaws
 -- what a post and a turn do
 pub mod StateBytes
 pub mod Posts

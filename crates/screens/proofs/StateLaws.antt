@@ -1,6 +1,6 @@
 -- The state's functions: who is due, the read in a screen's bytes, and a screen served.
 -- Assumes nothing.
-use Prim.Native.Nat.{ℕ, suc, _+_, _-_, _%_, _≤_, _<_}
+use Prim.Native.Nat.{ℕ, suc, _+_, _%_, _<_}
 use mathlib.Core.Path.{_≡_, refl, sym, _∙_}
 use mathlib.Core.List.{List}
 use mathlib.Core.Bool.{Bool, true, false, not}
@@ -12,61 +12,71 @@ use Rattle.file.specs.Inner.Typed.{nameIn}
 use Rattle.cluster.specs.declared.types.RecordAddress.{RecordAddress}
 use Rattle.screens.specs.Rules.Screens.{screens, lastServed, placeOf, isWaiting, readOf, nobody, screen, nextScreen, dueFrom, due}
 use Rattle.screens.specs.Rules.Turn.{afterServing}
+use Rattle.screens.specs.Claims.Turns.{away}
 use Rattle.screens.specs.Inner.Parts.{ReadAt, PostedRead}
 
--- ---- who is due
+-- ---- the cyclic order
 
 pub next-is : (i : ℕ) → nextScreen i ≡ (i + 1) % 8
 unfolding nextScreen
 next-is i = refl
 
-pub next-first : (i : ℕ) → i ≡ 7 → 0 ≡ nextScreen i
-next-first i e = omega (arith, next-is i)
+pub first-away : (last : ℕ) → last < 8 → away last ((last + 1) % 8) ≡ 0
+first-away last h = omega arith
 
-pub next-other : (i : ℕ) → i < 8 → (i ≡ 7 → ⊥) → i + 1 ≡ nextScreen i
-next-other i few n = omega (arith, next-is i)
+pub next-away : (last x j : ℕ) → last < 8 → j < 8 → x ≡ (last + 1) % 8 → (j ≡ x → ⊥) → away last j ≡ suc (away x j)
+next-away last x j h k e n = omega (arith, e)
+
+itself-away : (last : ℕ) → last < 8 → away last last ≡ 7
+itself-away last h = omega arith
+
+-- ---- who is due
 
 pub waiting-is : (state : List ℕ) (i : ℕ) {place : ℕ} → place ≡ placeOf i → not (eqb (getD state place 0) 0) ≡ isWaiting state i
 unfolding isWaiting
 waiting-is state i e = rw e
 
--- what is still to be asked: the left screens after the i-th
-pub record Asking (state : List ℕ) (i left : ℕ) : Type 0 where
+-- what is still to be asked: the screens after the i-th, in cyclic order, up to the one last served
+pub record Asking (state : List ℕ) (last i : ℕ) : Type 0 where
+  pub last-few : last < screens
   pub few : i < screens
-  pub same : dueFrom state i left ≡ due state
+  pub same : dueFrom state i (suc (away i last)) ≡ due state
 
 module _ {state : List ℕ} where
-  pub asking-start : lastServed state < screens → Asking state (getD state 0 0) screens
+  pub asking-start : lastServed state < screens → Asking state (getD state 0 0) (getD state 0 0)
   unfolding lastServed due
-  asking-start h = record { few = h; same = refl }
+  asking-start h = record { last-few = h; few = h; same = rw (itself-away (getD state 0 0) h) }
 
-  pub asking-few : {i left : ℕ} → Asking state i left → i < screens
+  pub asking-few : {last i : ℕ} → Asking state last i → i < screens
   asking-few a = a .few
 
-  module _ {i left : ℕ} (a : Asking state i left) (some : 0 < left) {next : ℕ} (is : next ≡ nextScreen i) where
+  module _ {last i : ℕ} (a : Asking state last i) {next : ℕ} (is : next ≡ nextScreen i) where
     pub next-few : next < screens
     next-few = omega (arith, is, next-is i)
-
-    last-one : (m : ℕ) → left ≡ suc m → dueFrom state i (suc m) ≡ due state
-    last-one m e = rw (sym e) (a .same)
 
     pub asking-found : {t : Bool} → t ≡ isWaiting state next → t ≡ true → screen next ≡ due state
     unfolding dueFrom
     asking-found w taken =
-        let h : dueFrom state i (suc (left - 1)) ≡ due state = last-one (left - 1) (omega arith) in
         let x : isWaiting state (nextScreen i) ≡ true = rw is at (sym w ∙ taken) in
-        rw (is, ← (rw x at h))
+        rw (is, ← (rw x at (a .same)))
 
-    pub asking-on : {t : Bool} → t ≡ isWaiting state next → t ≡ false → Asking state next (left - 1)
-    unfolding dueFrom
-    asking-on w left-out =
-        let h : dueFrom state i (suc (left - 1)) ≡ due state = last-one (left - 1) (omega arith) in
-        let x : isWaiting state (nextScreen i) ≡ false = rw is at (sym w ∙ left-out) in
-        record { few = next-few; same = rw is (rw x at h) }
+    farther : (next ≡ last → ⊥) → away i last ≡ suc (away next last)
+    farther n = next-away i next last (a .few) (a .last-few) (is ∙ next-is i) (λ e. n (sym e))
 
-  pub asking-none : {i left : ℕ} → Asking state i left → left ≤ 0 → nobody ≡ due state
-  unfolding dueFrom
-  asking-none {i} {left} a none = let z : left ≡ 0 = omega arith in rw z at (a .same)
+    pub asking-less : (next ≡ last → ⊥) → away next last < away i last
+    asking-less n = omega (arith, farther n)
+
+    module _ {t : Bool} (w : t ≡ isWaiting state next) (idle : t ≡ false) where
+      rest : dueFrom state next (away i last) ≡ due state
+      unfolding dueFrom
+      rest = let x : isWaiting state (nextScreen i) ≡ false = rw is at (sym w ∙ idle) in rw is (rw x at (a .same))
+
+      pub asking-none : next ≡ last → nobody ≡ due state
+      unfolding dueFrom
+      asking-none e = let z : away i last ≡ 0 = omega (arith, a .few, e, is, next-is i) in rw z at rest
+
+      pub asking-on : (next ≡ last → ⊥) → Asking state last next
+      asking-on n = record { last-few = a .last-few; few = next-few; same = rw (← (farther n)) rest }
 
 -- ---- a screen's bytes
 

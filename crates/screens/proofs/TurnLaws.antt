@@ -1,44 +1,35 @@
 -- A turn: a law for each way of its functions.
 -- Assumes nothing.
-use Prim.Native.Nat.{ℕ, zero, suc, _+_, _≤_, _<_}
-use mathlib.Core.Path.{_≡_, refl, sym, ap, _∙_, subst}
-use mathlib.Core.List.{List, [], _++_}
-use mathlib.Core.Bool.{false}
+use Prim.Native.Nat.{ℕ, _≤_, _<_}
+use mathlib.Core.Path.{_≡_, refl, sym, _∙_}
+use mathlib.Core.List.{List}
 use native.Mathlib.Omega.{arith}
 use lib.ListN.{length, getD}
-use lib.Dec.{eqb}
-use borrow.Author.Tests.{ne-eqb, lt-ltb, le-ltb}
-use Rattle.file.specs.Rules.Bytes.{Byte, All, All.allEmpty, All.allNext as also}
+use borrow.Author.Tests.{ne-eqb}
+use Rattle.file.specs.Rules.Bytes.{Byte}
 use Rattle.file.specs.Rules.Order.{firstOf, both}
-use Rattle.file.specs.Rules.Results.{Result, refused, done, resultOf}
+use Rattle.file.specs.Rules.Results.{Result, refused, done}
 use Rattle.file.specs.Inner.Surveyed.{Surveyed}
 use Rattle.file.specs.Inner.Answers.{checkedOf}
 use Rattle.file.specs.declared.types.Refusal.{Refusal}
 use Rattle.file.specs.declared.survey.FileAnswer.{FileAnswer}
 use Rattle.file.specs.declared.survey.FileAnswer.the-variants as answers
-use Rattle.file.proofs.Order.{byCase, Numbered, joined-here, joined-next}
 use Rattle.file.proofs.Surveyed.{survey-accepted, survey-refused}
 use Rattle.frame.specs.Rules.Grounds.{broadcastRead}
 use Rattle.cluster.specs.Rules.Bus.{slots}
-use Rattle.cluster.specs.Rules.Round.{Answer}
 use Rattle.cluster.specs.Rules.MasterSlave.{Sent, roundSent}
-use Rattle.cluster.specs.Inner.Answers.{answerOf}
 use Rattle.cluster.specs.Inner.Sending.{MaySend, of-other}
 use Rattle.cluster.specs.declared.types.RecordAddress.{RecordAddress}
-use Rattle.cluster.specs.declared.answer.RoundAnswer.{RoundAnswer}
-use Rattle.cluster.specs.declared.answer.RoundAnswer.the-variants as rounds
-use Rattle.cluster.proofs.Rounds.{file-decides, buffer-decides, others-decide}
 use Rattle.screens.specs.declared.state.DueScreen.{DueScreen}
 use Rattle.screens.specs.declared.state.DueScreen.the-variants as dues
-use Rattle.screens.specs.Rules.Screens.{screens, lastServed, Read, readOf, Due, nobody, screen, isWaiting, nextScreen, dueFrom, due}
-use Rattle.screens.specs.Rules.Screens.{noScreen, readGrounds}
-use Rattle.screens.specs.Rules.Turn.{Turn, idle, served, servedBy, readSent, afterServing, dueGrounds, stateGrounds, turnGround}
-use Rattle.screens.specs.Rules.Turn.{turnMade, turnOn}
+use Rattle.screens.specs.Rules.Screens.{screens, lastServed, Read, nobody, screen, due, readGrounds}
+use Rattle.screens.specs.Rules.Turn.{Turn, idle, served, servedBy, readSent, afterServing, stateGrounds, turnGround, turnMade, turnOn}
 use Rattle.screens.specs.Inner.Answers.{dueOf}
-use Rattle.screens.specs.Inner.Parts.{readIn, PostedRead, lentGrounds, idleOn, sentOn, SentOn, serveGround, serveOn}
-use Rattle.screens.proofs.StateLaws.{next-is}
-use Rattle.screens.proofs.PostLaws.{Readable, readable}
-use Rattle.screens.proofs.Distinct.{done-refused}
+use Rattle.screens.specs.Inner.Parts.{readIn, PostedRead}
+use Rattle.screens.proofs.PostLaws.{Readable}
+use Rattle.screens.proofs.Grounds.{last-refused, by-nobody, by-read, state-last, state-read, state-decides, turn-file, turn-buffer, turn-none}
+use Rattle.screens.proofs.Grounds.{turn-refused, turn-made}
+use Rattle.screens.proofs.Due.{due-is-next}
 
 pub may-read : {r : Read} → Byte (r .name) → Byte (r .«record») → Readable r → MaySend (readSent r)
 unfolding readSent
@@ -52,177 +43,81 @@ may-read {r} name record′ may =
       content = of-other refl;
     }
 
--- ---- the file and the buffer
+module _ (state : List ℕ) {d : DueScreen} (is : dueOf d ≡ due state) where
+  due-nobody : d ≡ dues.Nobody → due state ≡ nobody
+  unfolding dueOf
+  due-nobody e = sym (rw e at is)
 
-module _ (f buffer : List ℕ) {a : FileAnswer} {places : List ℕ} (s : Surveyed f (checkedOf a) places) where
-  lent-refused : {w : Refusal} → a ≡ answers.Refused w → firstOf (lentGrounds f buffer) ≡ w .0
-  unfolding lentGrounds
-  lent-refused {w} e = let by = survey-refused s e in file-decides f buffer [] (λ z. by .1 (by .0 ∙ z)) ∙ sym (by .0)
+  due-one : {i : ℕ} → d ≡ dues.Screen i → due state ≡ screen i
+  unfolding dueOf
+  due-one e = sym (rw e at is)
 
-  refused-number : {w : Refusal} → a ≡ answers.Refused w → eqb (w .0) 0 ≡ false
-  refused-number {w} e = ne-eqb (w .0) 0 (survey-refused s e .1)
+  -- ---- the grounds of the read that is due
 
-  module _ (accepted : a ≡ answers.Accepted) where
-    lent-short : length buffer < slots → firstOf (lentGrounds f buffer) ≡ 9
-    unfolding lentGrounds
-    lent-short h = buffer-decides f buffer [] (survey-accepted s accepted) h
+  module _ (last : lastServed state < screens) where
+    pub due-few : {i : ℕ} → d ≡ dues.Screen i → i < screens
+    due-few {i} e = due-is-next state last .next i .0 (due-one e) .few
 
-    lent-fits : slots ≤ length buffer → firstOf (lentGrounds f buffer) ≡ 0
-    unfolding lentGrounds firstOf
-    lent-fits h = others-decide f buffer [] (survey-accepted s accepted) h
+    pub ground-nobody : d ≡ dues.Nobody → 0 ≡ firstOf (stateGrounds state)
+    ground-nobody e = sym (by-nobody state (omega arith) (due-nobody e))
 
-  -- ---- nobody waits
+    pub ground-read :
+        {i : ℕ} {a : RecordAddress} {g : ℕ} → d ≡ dues.Screen i → PostedRead state i a → g ≡ firstOf (readGrounds (readIn a)) →
+        g ≡ firstOf (stateGrounds state)
+    ground-read {i} e posts ground = ground ∙ rw (posts .is) (sym (by-read state i (omega arith) (due-one e)))
 
-  pub idle-refused : {w : Refusal} → a ≡ answers.Refused w → refused (w .0) ≡ idleOn f buffer
-  unfolding idleOn resultOf
-  idle-refused e = rw (lent-refused e, refused-number e)
+  -- ---- a turn that no ground refuses
 
-  module _ (accepted : a ≡ answers.Accepted) where
-    pub idle-short : length buffer < slots → refused 9 ≡ idleOn f buffer
-    unfolding idleOn resultOf
-    idle-short h = rw (lent-short accepted h)
+  pub serve-idle : (f buffer : List ℕ) → d ≡ dues.Nobody → (done idle, state, buffer, f) ≡ turnMade (due state) state f buffer
+  unfolding turnMade
+  serve-idle f buffer e = rw (due-nobody e)
 
-    pub idle-done : slots ≤ length buffer → done idle ≡ idleOn f buffer
-    unfolding idleOn resultOf
-    idle-done h = rw (lent-fits accepted h)
+  module _ (none : firstOf (stateGrounds state) ≡ 0) {i : ℕ} (e : d ≡ dues.Screen i) where
+    pub serve-few : i < screens
+    serve-few = due-few (state-last state none) e
 
--- ---- the read is sent
+    module _ {a : RecordAddress} (posts : PostedRead state i a) {sent : Sent} (same : sent ≡ readSent (readIn a)) where
+      pub may-serve : MaySend sent
+      may-serve = rw same (may-read (posts .name) (posts .«record») (rw (posts .is) (state-read state i (due-one e) none)))
 
-module _ (f buffer : List ℕ) (sent : Sent) {a : FileAnswer} {places : List ℕ} (s : Surveyed f (checkedOf a) places) where
-  pub sent-refused : {w : Refusal} → a ≡ answers.Refused w → SentOn f sent buffer (refused (w .0)) buffer f
-  unfolding sentOn
-  sent-refused e =
-      record {
-        is = rw (lent-refused f buffer s e, refused-number f buffer s e);
-        refuses = λ n z. rw (lent-refused f buffer s e) (refused-number f buffer s e);
-      }
-
-  module _ (accepted : a ≡ answers.Accepted) where
-    pub sent-short : length buffer < slots → SentOn f sent buffer (refused 9) buffer f
-    unfolding sentOn
-    sent-short h = record { is = rw (lent-short f buffer s accepted h); refuses = λ n z. rw (lent-short f buffer s accepted h) }
-
-    pub sent-made :
-        slots ≤ length buffer → {mask : ℕ} {new file : List ℕ} → (done mask, new, file) ≡ roundSent f sent buffer →
-        SentOn f sent buffer (done mask) new file
-    unfolding sentOn
-    sent-made h e = record { is = rw (lent-fits f buffer s accepted h) e; refuses = λ n z. done-refused z }
-
--- ---- a screen is served
-
-read-numbered : (r : Read) → All Numbered (readGrounds r)
-unfolding readGrounds
-read-numbered r = also refl (also refl allEmpty)
-
-told : Answer → Result Turn
-told (refused n) = refused n
-told (done mask) = done idle
-
-module _ (state : List ℕ) (i : ℕ) (f buffer : List ℕ) {read : RecordAddress} (posts : PostedRead state i read) {g : ℕ}
-    (ground : g ≡ firstOf (readGrounds (readIn read))) where
-  own : firstOf (readGrounds (readOf state i)) ≡ g
-  own = rw (← (posts .is)) (sym ground)
-
-  pub serve-unfit : (g ≡ 0 → ⊥) → (refused g, state, buffer, f) ≡ serveOn state i f buffer
-  unfolding serveOn serveGround
-  serve-unfit n =
-      let here = joined-here (readGrounds (readOf state i)) (lentGrounds f buffer) (read-numbered _) (λ z. n (sym own ∙ z)) in
-      rw (here, own, ne-eqb g 0 n)
-
-  module _ (fits : g ≡ 0) where
-    pub read-may : {sent : Sent} → sent ≡ readSent (readIn read) → MaySend sent
-    read-may e = rw e (may-read (posts .name) (posts .«record») (readable _ (sym ground ∙ fits)))
-
-    after-read : serveGround state i f buffer ≡ firstOf (lentGrounds f buffer)
-    unfolding serveGround
-    after-read = joined-next (readGrounds (readOf state i)) (lentGrounds f buffer) (read-numbered _) (own ∙ fits)
-
-    module _ {sent : Sent} (is : sent ≡ readSent (readIn read)) where
-      same-read : sent ≡ readSent (readOf state i)
-      same-read = is ∙ ap readSent (posts .is)
-
-      serve-refused :
-          {w : ℕ} {new file : List ℕ} → SentOn f sent buffer (refused w) new file → (refused w, state, new, file) ≡ serveOn state i f buffer
-      unfolding serveOn sentOn told
-      serve-refused {w} {new} {file} made =
-          let t = made .refuses w refl in
-          let e : _≡_ {A = Answer × List ℕ × List ℕ} (refused w, new, file) (refused (firstOf (lentGrounds f buffer)), buffer, f) =
-          rw t at (made .is) in
-          rw (after-read, t) (ap (λ (r : Answer × List ℕ × List ℕ). (told (r .0), state, r .1, r .2)) e)
-
-      serve-done :
-          {mask : ℕ} {new file : List ℕ} → SentOn f sent buffer (done mask) new file →
-          (done (served i mask), afterServing state i, new, file) ≡ serveOn state i f buffer
-      unfolding serveOn sentOn turnMade servedBy
-      serve-done {mask} {new} {file} made =
-          byCase (eqb (firstOf (lentGrounds f buffer)) 0)
-          (λ t.
-          let e : (done mask, new, file) ≡ roundSent f sent buffer = rw t at (made .is) in
-          rw (after-read, t, ← same-read, ← e))
-          (λ t.
-          let e : _≡_ {A = Answer × List ℕ × List ℕ} (done mask, new, file) (refused (firstOf (lentGrounds f buffer)), buffer, f) =
-          rw t at (made .is) in
-          done-refused (ap (λ (r : Answer × List ℕ × List ℕ). r .0) e))
-
-      module _ {r : RoundAnswer} {new file : List ℕ} (made : SentOn f sent buffer (answerOf r) new file) where
-        pub serve-turned : {w : Refusal} → r ≡ rounds.Refused w → (refused (w .0), state, new, file) ≡ serveOn state i f buffer
-        serve-turned e = serve-refused (unfold answerOf in (rw e at made))
-
-        pub serve-carried :
-            {mask : ℕ} {after : List ℕ} → r ≡ rounds.Carried mask → after ≡ afterServing state i →
-            (done (served i mask), after, new, file) ≡ serveOn state i f buffer
-        serve-carried e is′ = rw is′ (serve-done (unfold answerOf in (rw e at made)))
+      pub serve-done :
+          (f buffer : List ℕ) {mask : ℕ} {new file after : List ℕ} → (done mask, new, file) ≡ roundSent f sent buffer →
+          after ≡ afterServing state i → (done (served i mask), after, new, file) ≡ turnMade (due state) state f buffer
+      unfolding turnMade servedBy
+      serve-done f buffer made is′ = rw (is′, due-one e, ← (posts .is), ← same, ← made)
 
 -- ---- a turn
 
-number : Due → ℕ
-number nobody = 0
-number (screen i) = i
+pub last-few : (state : List ℕ) → getD state 0 0 ≤ 7 → lastServed state < screens
+unfolding lastServed
+last-few state h = omega arith
 
-due-below : (state : List ℕ) (j n : ℕ) → j < screens → number (dueFrom state j n) < screens
-unfolding dueFrom number
-due-below state j zero h = omega arith
-due-below state j (suc n) h =
-    let few : nextScreen j < screens = omega (arith, next-is j) in
-    byCase (isWaiting state (nextScreen j)) (λ t. rw t few) (λ t. rw t (due-below state (nextScreen j) n few))
+pub state-free : (state : List ℕ) {g : ℕ} → g ≡ firstOf (stateGrounds state) → g ≡ 0 → firstOf (stateGrounds state) ≡ 0
+state-free state ground fits = sym ground ∙ fits
 
 module _ (state f buffer : List ℕ) where
+  refused-by : {w : ℕ} → turnGround state f buffer ≡ w → (w ≡ 0 → ⊥) → (refused w, state, buffer, f) ≡ turnOn state f buffer
+  refused-by by some = rw (turn-refused state f buffer (λ z. some (sym by ∙ z)), by)
+
+  pub turn-unfit : {g : ℕ} → g ≡ firstOf (stateGrounds state) → (g ≡ 0 → ⊥) → (refused g, state, buffer, f) ≡ turnOn state f buffer
+  turn-unfit ground some = refused-by (state-decides state f buffer (λ z. some (ground ∙ z)) ∙ sym ground) some
+
   pub turn-screen : 7 < getD state 0 0 → (refused 27, state, buffer, f) ≡ turnOn state f buffer
-  unfolding turnOn turnGround stateGrounds firstOf noScreen lastServed
-  turn-screen h = rw (lt-ltb 7 (getD state 0 0) h)
+  unfolding lastServed
+  turn-screen h = turn-unfit (sym (last-refused state h)) (λ z. omega arith)
 
-  module _ (last : getD state 0 0 ≤ 7) where
-    pub last-few : lastServed state < screens
-    unfolding lastServed
-    last-few = omega arith
+  module _ {g : ℕ} (ground : g ≡ firstOf (stateGrounds state)) (fits : g ≡ 0) {a : FileAnswer} {places : List ℕ}
+      (s : Surveyed f (checkedOf a) places) where
+    pub turn-unaccepted : {w : Refusal} → a ≡ answers.Refused w → (refused (w .0), state, buffer, f) ≡ turnOn state f buffer
+    turn-unaccepted e =
+        let by = survey-refused s e in
+        refused-by (turn-file state f buffer (state-free state ground fits) (λ z. by .1 (by .0 ∙ z)) ∙ sym (by .0)) (by .1)
 
-    -- 27 does not hold, and the others are those of who is due
-    by-due : {d : Due} → d ≡ due state → turnGround state f buffer ≡ firstOf (dueGrounds state d ++ lentGrounds f buffer)
-    unfolding turnGround stateGrounds firstOf noScreen lastServed lentGrounds
-    by-due e = rw (le-ltb 7 (getD state 0 0) last, e)
+    module _ (accepted : a ≡ answers.Accepted) where
+      pub turn-short : length buffer < slots → (refused 9, state, buffer, f) ≡ turnOn state f buffer
+      turn-short h = refused-by (turn-buffer state f buffer (state-free state ground fits) (survey-accepted s accepted) h) (λ z. omega arith)
 
-    module _ {d : DueScreen} (is : dueOf d ≡ due state) where
-      pub due-few : {i : ℕ} → d ≡ dues.Screen i → i < screens
-      unfolding dueOf due number
-      due-few {i} e =
-          let same : screen i ≡ due state = rw e at is in
-          let n : number (due state) < screens = due-below state (lastServed state) screens last-few in
-          subst (λ (x : Due). number x < screens) (sym same) n
-
-      pub turn-idle : {r : Result Turn} → d ≡ dues.Nobody → r ≡ idleOn f buffer → (r, state, buffer, f) ≡ turnOn state f buffer
-      unfolding turnOn turnMade idleOn resultOf dueGrounds dueOf
-      turn-idle e made =
-          let none : nobody ≡ due state = rw e at is in
-          let ground = by-due none in
-          byCase (eqb (firstOf (lentGrounds f buffer)) 0)
-          (λ t. rw (made, ground, ← none, t))
-          (λ t. rw (made, ground, ← none, t))
-
-      pub turn-served :
-          {i : ℕ} {r : Result Turn × List ℕ × List ℕ × List ℕ} → d ≡ dues.Screen i → r ≡ serveOn state i f buffer →
+      pub turn-carried :
+          {r : Result Turn × List ℕ × List ℕ × List ℕ} → slots ≤ length buffer → r ≡ turnMade (due state) state f buffer →
           r ≡ turnOn state f buffer
-      unfolding turnOn serveOn serveGround dueGrounds dueOf
-      turn-served {i} e made =
-          let same : screen i ≡ due state = rw e at is in
-          let ground = by-due same in
-          rw (ground, ← same) made
+      turn-carried h made = made ∙ sym (turn-made state f buffer (turn-none state f buffer (state-free state ground fits) (survey-accepted s accepted) h))

@@ -11,7 +11,7 @@ use file::types::FileNumber;
 use file::types::LogicalName;
 use file::types::RecordNumber;
 
-pub const SCREENS: u8 = 8;
+const SCREENS: u8 = 8;
 
 pub const LAST_SCREEN: u8 = 7;
 
@@ -63,27 +63,25 @@ fn next_screen(screen: u8) -> u8
     requires { ⌜ screen < screens ⌝ }
     ensures { λ r. ⌜ r ≡ nextScreen screen ⌝ }
 {
-    if screen == LAST_SCREEN {
-        return 0;
-    }
-    screen + 1
+    (screen + 1) % SCREENS
 }
 
-// "the next waiting screen after the one last served, in cyclic order"
+// "the next waiting screen after the one last served, in cyclic order": that one itself is asked last.
 pub fn due_screen(state: &ScreenState) -> DueScreen
     requires { ⌜ lastServed (now state) < screens ⌝ }
     ensures { λ r. ⌜ dueOf r ≡ due (now (state .entry)) ⌝ }
 {
-    let mut screen = state[LAST_SERVED];
-    let mut left = SCREENS;
-    'screens: while 0 < left {
+    let last = state[LAST_SERVED];
+    let mut screen = last;
+    'screens: loop {
         screen = next_screen(screen);
         if is_waiting(state, screen) {
             return DueScreen::Screen(screen);
         }
-        left = left - 1;
+        if screen == last {
+            return DueScreen::Nobody;
+        }
     }
-    DueScreen::Nobody
 }
 
 // The read in a screen's four bytes. Of a slice, since the elements of a lent array are not known to be bytes.

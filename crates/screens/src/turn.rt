@@ -1,12 +1,15 @@
 // A turn: the read of the screen that is due, carried out on a cluster file.
 ghost use mathlib.Core.Path.{_≡_};
-ghost use Prim.Native.Nat.{_<_};
-ghost use Rattle.screens.specs.Rules.Screens.{screens};
-ghost use Rattle.screens.specs.Rules.Turn.{readSent, turnOn};
-ghost use Rattle.screens.specs.Inner.Answers.{turnedOf};
-ghost use Rattle.screens.specs.Inner.Parts.{readIn, SentOn, idleOn, serveOn};
-ghost use Rattle.cluster.specs.Inner.Sending.{sentFor, MaySend};
-ghost use Rattle.cluster.specs.Inner.Answers.{answerOf};
+ghost use Prim.Native.Nat.{_≤_, _<_};
+ghost use lib.ListN.{length};
+ghost use Rattle.file.specs.Rules.Order.{firstOf};
+ghost use Rattle.file.specs.Inner.Accepted.{Placed};
+ghost use Rattle.cluster.specs.Rules.Bus.{slots};
+ghost use Rattle.cluster.specs.Inner.Sending.{sentFor};
+ghost use Rattle.screens.specs.Rules.Screens.{screens, lastServed, due};
+ghost use Rattle.screens.specs.Rules.Turn.{readSent, stateGrounds, turnMade, turnOn};
+ghost use Rattle.screens.specs.Inner.Answers.{dueOf, turnedOf};
+ghost use Rattle.screens.specs.Inner.Parts.{readIn};
 use crate::post::read_ground;
 use crate::state::DueScreen;
 use crate::state::LAST_SCREEN;
@@ -15,7 +18,6 @@ use crate::state::ScreenState;
 use crate::state::due_screen;
 use crate::state::mark_served;
 use crate::state::posted_read;
-use cluster::answer::RoundAnswer;
 use cluster::answer::SLOTS;
 use cluster::master_slave::send;
 use cluster::types::MasterSlaveRound;
@@ -25,27 +27,13 @@ use file::survey::survey;
 use file::types::Operation;
 use file::types::PLACES;
 use file::types::Refusal;
+use file::types::SlavePlaces;
 
 // A turn is refused, has nobody to serve, or served a screen, with the mask of the read's data frame.
 pub enum Turned {
     Refused(Refusal),
     Idle,
     Served { screen: u8, senders: u64 },
-}
-
-// Nobody waits: the file and the buffer are checked.
-fn idle_turn(file: &[u8], buffer: &[u8]) -> Turned
-    ensures { λ r. ⌜ turnedOf r ≡ idleOn (now (file .entry)) (now (buffer .entry)) ⌝ }
-{
-    let mut places = [0u16; PLACES];
-    let verdict = survey(file, &mut places);
-    if let FileAnswer::Refused(why) = verdict {
-        return Turned::Refused(why);
-    }
-    if buffer.len() < SLOTS {
-        return Turned::Refused(Refusal::BUFFER);
-    }
-    Turned::Idle
 }
 
 // A read, as a complete round.
@@ -67,37 +55,36 @@ fn read_round(read: RecordAddress) -> MasterSlaveRound
     }
 }
 
-// A round on a file of any bytes, which is checked once, and the buffer with it.
-fn send_on(file: &mut [u8], round: MasterSlaveRound, buffer: &mut [u8]) -> RoundAnswer
-    requires { ⌜ MaySend (sentFor round) ⌝ }
-    ensures { λ r. ⌜ SentOn (now (file .entry)) (sentFor round) (now (buffer .entry)) (answerOf r) (now (buffer .exit)) (now (file .exit)) ⌝ }
+// 18 and 14 on the read that is due, of a state that 27 does not refuse; 0 where neither holds, or nobody waits.
+fn due_ground(state: &ScreenState, next: DueScreen) -> u8
+    requires { ⌜ (lastServed (now state) < screens) × (dueOf next ≡ due (now state)) ⌝ }
+    ensures { λ r. ⌜ r ≡ firstOf (stateGrounds (now (state .entry))) ⌝ }
 {
-    let mut places = [0u16; PLACES];
-    let verdict = survey(file, &mut places);
-    if let FileAnswer::Refused(why) = verdict {
-        return RoundAnswer::Refused(why);
+    match next {
+        DueScreen::Nobody => 0,
+        DueScreen::Screen(screen) => {
+            let read = posted_read(state, screen);
+            read_ground(read)
+        }
     }
-    if buffer.len() < SLOTS {
-        return RoundAnswer::Refused(Refusal::BUFFER);
-    }
-    let senders = send(file, &places, round, buffer);
-    RoundAnswer::Carried(senders)
 }
 
-// The read of the screen that is due.
-fn serve(file: &mut [u8], state: &mut ScreenState, screen: u8, buffer: &mut [u8]) -> Turned
-    requires { ⌜ screen < screens ⌝ }
-    ensures { λ r. ⌜ (turnedOf r, now (state .exit), now (buffer .exit), now (file .exit)) ≡ serveOn (now (state .entry)) screen (now (file .entry)) (now (buffer .entry)) ⌝ }
+// The turn, where no ground refuses it: nothing, or the round of the read that is due.
+fn serve(
+    file: &mut [u8],
+    places: &SlavePlaces,
+    state: &mut ScreenState,
+    next: DueScreen,
+    buffer: &mut [u8],
+) -> Turned
+    requires { ⌜ (dueOf next ≡ due (now state)) × (firstOf (stateGrounds (now state)) ≡ 0) × Placed (now file) (now places) × (slots ≤ length (now buffer)) ⌝ }
+    ensures { λ r. ⌜ (turnedOf r, now (state .exit), now (buffer .exit), now (file .exit)) ≡ turnMade (due (now (state .entry))) (now (state .entry)) (now (file .entry)) (now (buffer .entry)) ⌝ }
 {
-    let read = posted_read(state, screen);
-    let ground = read_ground(read);
-    if ground != 0 {
-        return Turned::Refused(Refusal(ground));
-    }
-    let answer = send_on(file, read_round(read), buffer);
-    match answer {
-        RoundAnswer::Refused(why) => Turned::Refused(why),
-        RoundAnswer::Carried(senders) => {
+    match next {
+        DueScreen::Nobody => Turned::Idle,
+        DueScreen::Screen(screen) => {
+            let read = posted_read(state, screen);
+            let senders = send(file, places, read_round(read), buffer);
             mark_served(state, screen);
             Turned::Served { screen, senders }
         }
@@ -112,8 +99,17 @@ pub fn turn(file: &mut [u8], state: &mut ScreenState, buffer: &mut [u8]) -> Turn
         return Turned::Refused(Refusal::SCREEN);
     }
     let next = due_screen(state);
-    match next {
-        DueScreen::Nobody => idle_turn(file, buffer),
-        DueScreen::Screen(screen) => serve(file, state, screen, buffer),
+    let ground = due_ground(state, next);
+    if ground != 0 {
+        return Turned::Refused(Refusal(ground));
     }
+    let mut places = [0u16; PLACES];
+    let verdict = survey(file, &mut places);
+    if let FileAnswer::Refused(why) = verdict {
+        return Turned::Refused(why);
+    }
+    if buffer.len() < SLOTS {
+        return Turned::Refused(Refusal::BUFFER);
+    }
+    serve(file, &places, state, next, buffer)
 }

@@ -12,6 +12,8 @@ const DATA_FILE: u8 = 0x10;
 /// Enough for a byte in each of the slots 1 to 63 after record 0x00.
 const DATA_RECORDS: usize = 16;
 const SLOTS: usize = 63;
+/// Of file 0x3D.
+const LAST_OF_PHYSICAL_NAME: usize = 11;
 /// Operations 0 and 1 become 8 and 9.
 const MULTIPLEXED: u8 = 0x80;
 
@@ -27,6 +29,16 @@ pub fn small(slaves: usize, files: usize, logical_name: impl Fn(usize) -> u8) ->
             .extend(others.into_iter().map(|number| File { number: FileNumber(number), bytes: vec![0; 8] }));
         slave.files.sort_by_key(|file| file.number);
         slave
+    };
+    encode((0..slaves).map(slave).collect())
+}
+
+/// Slaves at 0xFF as in [`small`], of two files, whose physical names share their last byte.
+pub fn sharing_a_byte(slaves: usize) -> Vec<u8> {
+    let slave = |number: usize| {
+        let mut documentation = documentation(number);
+        documentation.bytes[LAST_OF_PHYSICAL_NAME] = 0;
+        Slave { asleep: false, files: vec![configuration(LogicalName::UNNAMED.0), documentation] }
     };
     encode((0..slaves).map(slave).collect())
 }
@@ -90,6 +102,14 @@ pub fn partners(slaves: usize, entries: usize) -> Vec<u8> {
     encode((0..slaves).map(slave).collect())
 }
 
+/// The same with so many entries of several slots each, one behind the other from slot 1 on. Each entry has one sender.
+pub fn partners_of(slaves: usize, entries: usize, slots: usize) -> Vec<u8> {
+    let entry = |at: usize, sends: bool| lengthened(entry_of(1 + at * slots, sends), slots);
+    let list = |number: usize| (0..entries).flat_map(|at| entry(at, at % slaves == number)).collect();
+    assert!(entries * slots <= SLOTS);
+    encode((0..slaves).map(|number| partner(number, list(number))).collect())
+}
+
 /// A slave of the name that follows its number, with this list for the round and a file of data.
 fn partner(number: usize, list: Vec<u8>) -> Slave {
     let data = vec![number as u8 | 0x40; 4 * (DATA_RECORDS + 1)];
@@ -141,6 +161,22 @@ pub fn most_owners() -> Vec<u8> {
     file
 }
 
+/// Slaves with a list for every round, each of so many entries of several slots, one behind the other from slot 1 on. Each entry
+/// has one sender, the slaves taking turns through all lists, and the others receive there.
+pub fn owners_of(slaves: usize, entries: usize, slots: usize) -> Vec<u8> {
+    let entry = |at: usize, sends: bool| lengthened(from_documentation(1 + at * slots, sends), slots);
+    let list = |number: usize, before: usize| -> Vec<u8> {
+        (0..entries).flat_map(|at| entry(at, (before + at) % slaves == number)).collect()
+    };
+    let slave = |number: usize| {
+        let rounds = ROUND_FILES.iter().enumerate();
+        let lists: Vec<_> = rounds.map(|(at, &round)| (round, list(number, at * entries))).collect();
+        with_lists(number, &lists)
+    };
+    assert!(entries * slots <= SLOTS);
+    encode((0..slaves).map(slave).collect())
+}
+
 /// A slave of the name that follows its number, with these lists and no file but the two it needs.
 fn with_lists(number: usize, lists: &[(u8, Vec<u8>)]) -> Slave {
     let round_file = |(round, list): &(u8, Vec<u8>)| File {
@@ -181,6 +217,12 @@ fn entry_of(slot: usize, sends: bool) -> [u8; 4] {
     [DATA_FILE << 2 | (place % 4) as u8, (place / 4) as u8, operation << 4, slot as u8]
 }
 
+/// An entry of one slot made one of several, up to 16.
+fn lengthened([address, record, operation, start]: [u8; 4], slots: usize) -> [u8; 4] {
+    assert!((1..=16).contains(&slots));
+    [address, record, operation | (slots - 1) as u8, start]
+}
+
 fn configuration(logical_name: u8) -> File {
     let mut bytes = vec![0; 16];
     bytes[7] = logical_name;
@@ -204,4 +246,24 @@ fn encode(slaves: Vec<Slave>) -> Vec<u8> {
     let file = Cluster { edition, epoch: 0, pending, slaves }.encode();
     assert!(model::check(&file).is_ok());
     file
+}
+
+#[cfg(test)]
+mod tests {
+    use super::*;
+
+    fn last_bytes(file: &[u8]) -> Vec<u64> {
+        let cluster = model::check(file).expect("a legal file");
+        cluster.slaves.iter().map(|slave| slave.physical_name() % 256).collect()
+    }
+
+    /// In the other files no two names do.
+    #[test]
+    fn of_names_that_share_their_last_byte() {
+        assert_eq!(last_bytes(&sharing_a_byte(32)), [0; 32]);
+        let mut others = last_bytes(&small(64, 2, |_| LogicalName::UNNAMED.0));
+        others.sort_unstable();
+        others.dedup();
+        assert_eq!(others.len(), 64);
+    }
 }

@@ -1,15 +1,15 @@
 //! The floor of a workload: the loads, tests and stores that its input asks for of a program that
 //! tests one thing at a time.
 //!
-//! The rule, one for all. A load of up to 8 bytes, a test, and a store of up to 8 bytes are an instruction each. A test is a
-//! comparison with its branch, together one: a comparison can load what it compares, and tests can be joined by or's
-//! under one branch. Bytes that are only copied or filled go 32 at a time, as memcpy moves them. Places, sums, loops and
-//! calls are free, and so is taking a word apart, but an entry of a table, a directory or a list is a load of its own.
-//! What decides is loaded once in a call, and again only where it goes into a buffer, which a refusal has to leave as it
-//! was.
+//! The rule, one for all. A load of up to 8 bytes, a test, and a store of up to 8 bytes are an instruction each; the bytes of
+//! slots in a row are such bytes. A test is a comparison with its branch, together one: a comparison can load what it compares,
+//! and tests can be joined by or's under one branch. Bytes that are only copied or filled go 32 at a time, as memcpy moves them.
+//! Places, sums, loops and calls are free, and so is taking a word apart, but an entry of a table, a directory or a list is a
+//! load of its own. What decides is loaded once in a call, and again only where it goes into a buffer, which a refusal has to
+//! leave as it was.
 //!
 //! What a call takes beyond it goes into places and loops, or can be saved. A program that tests several names or entries in
-//! one word or vector may stay below it.
+//! one word or vector may stay below it; bench.sh marks the line where one does.
 
 mod file;
 mod list;
@@ -80,6 +80,17 @@ fn stores(bytes: usize) -> u64 {
     bytes.div_ceil(WORD_BYTES) as u64 * STORE
 }
 
+/// In how many words the bytes of these slots are, a bit a slot: those of slots in a row lie side by side.
+fn words(mut slots: u64) -> u64 {
+    let mut words = 0;
+    while slots != 0 {
+        let in_a_row = (slots >> slots.trailing_zeros()).trailing_ones().min(WORD_BYTES as u32);
+        slots &= !(((1 << in_a_row) - 1) << slots.trailing_zeros());
+        words += 1;
+    }
+    words
+}
+
 fn filled(bytes: usize) -> u64 {
     bytes.div_ceil(MOVED_BYTES) as u64 * STORE
 }
@@ -121,6 +132,8 @@ mod tests {
         assert_eq!(floor("check-2-2"), 9 + 2 * (14 + 2 + 2));
         assert_eq!(floor("check-named-2"), 9 + 2 * (14 + 2 + 3));
         assert_eq!(floor("check-32-64"), 9 + 32 * (14 + 2 + 2 + 62 * 4));
+        // Which bytes names share does not matter.
+        assert_eq!(floor("check-shared-byte-32"), floor("check-32-2"));
     }
 
     /// A check does not look at the bytes of records. A conversion moves them, 32 with a load and a store.
@@ -142,13 +155,34 @@ mod tests {
         assert_eq!(floor("read-all-2"), floor("read-one-of-2") + 2);
     }
 
-    /// The list's 63 entries: a load, operation, slots, file and place, and the byte.
+    /// The list's entries: a load, operation, slots, file and place, and the byte, or four bytes in one word. At the end the answer's
+    /// bytes in eight words.
     #[test]
     fn of_partners_by_hand() {
-        let one = floor("partner-1-63");
-        let check = floor("check-1-4");
+        let round = floor("check-1-4") + 1 + 3 + 1 + 3 + 2 + 1;
         let first_search = 2;
-        assert_eq!(one, check + 1 + 3 + 1 + 3 + 2 + 1 + 63 * (5 + 1) + first_search + 63);
+        assert_eq!(floor("partner-1-63"), round + 63 * (5 + 1) + first_search + 8);
+        assert_eq!(floor("partner-1-15-of-4"), round + 15 * (5 + 1) + first_search + 8);
+        // Each slave has every entry, and one of them sends.
+        let more = floor("check-2-4") - 4 - floor("check-1-4");
+        assert_eq!(
+            floor("partner-2-15-of-4") - floor("partner-1-15-of-4"),
+            more + 2 + 1 + 15 * (5 + 1) + first_search
+        );
+    }
+
+    /// The slave's name; of six lists the search for a file and 15 entries: a load, operation, slots, file and place, whether another
+    /// sends there, and the owner of four slots; the buffer, 396 bytes 32 at a time, their length.
+    #[test]
+    fn of_owners_by_hand() {
+        let lists = 6 * (1 + 2 + 15 * (6 + 1));
+        assert_eq!(floor("owner-1-15-of-4"), floor("check-1-8") + 2 + lists + 1 + 2 * 13 + 1);
+    }
+
+    #[test]
+    fn of_slots_in_a_row() {
+        assert_eq!([0, 0b10, 0b1_1110, 0b1_0110, !0 << 1].map(words), [0, 1, 1, 2, 8]);
+        assert_eq!([0x1FE, 0x3FE, 0x3FE_01FE, 1 << 63 | 1].map(words), [1, 2, 3, 2]);
     }
 
     #[test]

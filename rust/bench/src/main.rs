@@ -2,7 +2,8 @@
 //! counting. bench.sh runs it under callgrind with k and with 2k times; the difference is k workloads.
 //!
 //! `bench --list` names the workloads, `bench --growth` those that show how the calls grow, `bench --floor WORKLOAD` tells
-//! the floor of one. Of what `bench.sh growth` prints `bench --picture` makes a picture, `bench --tables` tables.
+//! the floor of one, `bench --note` what stands below a table in which an engine is below its floor. Of what `bench.sh growth`
+//! prints `bench --picture` makes a picture, `bench --tables` tables.
 
 #![forbid(unsafe_code)]
 
@@ -19,7 +20,8 @@ use measured::Measured;
 use std::process::ExitCode;
 use workload::Workload;
 
-const USAGE: &str = "usage: bench plain|nested|library WORKLOAD TIMES | --list | --growth | --floor WORKLOAD
+const USAGE: &str =
+    "usage: bench plain|nested|library WORKLOAD TIMES | --list | --growth | --floor WORKLOAD | --note
        bench --picture|--tables <WHAT-BENCH.SH-PRINTS";
 
 fn main() -> ExitCode {
@@ -29,6 +31,7 @@ fn main() -> ExitCode {
         ["--list"] => Ok(workload::TABLE.join("\n")),
         ["--growth"] => Ok(growth::workloads().join("\n")),
         ["--floor", name] => floor_of(name),
+        ["--note"] => Ok(measured::BELOW_FLOOR_NOTE.to_string()),
         ["--picture"] => of_measured(picture::picture),
         ["--tables"] => of_measured(tables::tables),
         [engine, name, times] => return make(engine, name, times),
@@ -70,12 +73,33 @@ fn of_measured(made: impl Fn(&Measured) -> String) -> Result<String, &'static st
     Ok(made(&measured))
 }
 
+static PLAIN: Plain = Plain { nested: false };
+static NESTED: Plain = Plain { nested: true };
+
+/// The engine of this name, by which it also calls itself; both forms of the plain program call themselves plain.
 fn engine_of(name: &str) -> Option<&'static dyn Engine> {
-    match name {
-        "plain" => Some(&Plain { nested: false }),
-        "nested" => Some(&Plain { nested: true }),
+    let engine: &dyn Engine = match name {
+        "plain" => &PLAIN,
+        "nested" => return Some(&NESTED),
         #[cfg(feature = "library")]
-        "library" => Some(&compare::engine::Library),
-        _ => None,
+        "library" => &compare::engine::Library,
+        _ => return None,
+    };
+    (engine.name() == name).then_some(engine)
+}
+
+#[cfg(test)]
+mod tests {
+    use super::*;
+    use std::ptr;
+
+    #[test]
+    fn each_engine_is_the_one_named() {
+        let is = |name: &str, engine: &Plain| ptr::addr_eq(engine_of(name).expect("an engine"), engine);
+        assert!(is("plain", &PLAIN) && !PLAIN.nested);
+        assert!(is("nested", &NESTED) && NESTED.nested);
+        let library = engine_of("library").map(|engine| engine.name());
+        assert_eq!(library, cfg!(feature = "library").then_some("library"));
+        assert!(engine_of("model").is_none());
     }
 }

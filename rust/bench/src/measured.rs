@@ -9,14 +9,24 @@ pub struct Measured(BTreeMap<(String, String), u64>);
 /// The columns that hold instructions.
 const COLUMNS: [&str; 4] = ["floor", "plain", "nested", "library"];
 
+/// The sign of an engine below its floor, and what stands below the table then.
+pub const BELOW_FLOOR: &str = " *";
+pub const BELOW_FLOOR_NOTE: &str =
+    "* An engine is below its floor, which is a limit only for programs that test one thing at a time.";
+
 impl Measured {
-    /// The first line names the columns, of which the first is that of the workloads.
+    /// The first line names the columns, of which the first is that of the workloads. Each line up to an empty one has a cell for
+    /// each of them, and may have the sign at its end.
     pub fn of(table: &str) -> Option<Measured> {
         let mut lines = table.lines();
         let columns: Vec<&str> = lines.next()?.split_whitespace().collect();
         let mut figures = BTreeMap::new();
-        for line in lines {
-            let cells: Vec<&str> = line.split_whitespace().collect();
+        for line in lines.take_while(|line| !line.is_empty()) {
+            let cells = line.strip_suffix(BELOW_FLOOR).unwrap_or(line).split_whitespace();
+            let cells: Vec<&str> = cells.collect();
+            if cells.len() != columns.len() {
+                return None;
+            }
             for (column, cell) in columns.iter().zip(&cells) {
                 if COLUMNS.contains(column) {
                     figures.insert((column.to_string(), cells[0].to_string()), cell.parse().ok()?);
@@ -84,6 +94,24 @@ pub mod tests {
     fn of_no_table() {
         assert!(Measured::of("").is_none());
         assert!(Measured::of("workload plain\ncheck-0-2 many\n").is_none());
+    }
+
+    /// One cell too few or too many, in the last line or before.
+    #[test]
+    fn of_lines_of_another_length() {
+        let lines = |lines: &str| Measured::of(&format!("workload floor plain\n{lines}\n")).is_some();
+        assert!(lines("check-0-2 9 176\ncheck-1-2 23 276"));
+        for line in ["check-1-2 23", "check-1-2", "check-1-2 23 276 1", " "] {
+            assert!(!lines(&format!("check-0-2 9 176\n{line}")), "{line}");
+            assert!(!lines(&format!("{line}\ncheck-0-2 9 176")), "{line}");
+        }
+    }
+
+    #[test]
+    fn of_a_line_below_its_floor() {
+        let table = format!("workload floor plain\ncheck-0-2 9 8 *\n\n{BELOW_FLOOR_NOTE}\n");
+        let measured = Measured::of(&table).expect("a table");
+        assert_eq!(measured.figure("plain", &Point { at: 0, workload: "check-0-2".to_string() }), Some(8));
     }
 
     #[test]

@@ -247,6 +247,20 @@ mod tests {
         assert_eq!(markers(&picture_of(&plain_alone)), points + 2 * 3);
     }
 
+    /// By hand. The first plot has its left end at 62 and its top at 74, below the legend, and is 336 wide and 186 high. It goes
+    /// up to 64 slaves and, since 4,000 is the greatest number, up to 4,000 instructions: 16 slaves are a quarter across,
+    /// 1,000 instructions a quarter up. The plot beside it lies 420 to the right, and goes up to 2,048 entries and to 500 instructions.
+    #[test]
+    fn each_number_has_its_place() {
+        let figures = ["check-16-2 1 1000 3000", "wide-check-64-2 1 4000 2000", "check-32-64 1 100 500"];
+        let svg = picture_of(&format!("workload floor plain library\n{}\n", figures.join("\n")));
+        let circle = |cx: &str, cy: &str| svg.contains(&format!(r#"<circle cx="{cx}" cy="{cy}" "#));
+        assert!(circle("146.0", "213.5") && circle("398.0", "74.0") && circle("818.0", "222.8"), "{svg}");
+        // A square has its middle there.
+        let square = |x: &str, y: &str| svg.contains(&format!(r#"<rect x="{x}" y="{y}" "#));
+        assert!(square("143.4", "117.9") && square("393.8", "162.8") && square("815.4", "71.4"), "{svg}");
+    }
+
     #[test]
     fn same_table_same_bytes() {
         assert_eq!(picture_of(&table()), picture_of(&table()));

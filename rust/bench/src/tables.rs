@@ -1,14 +1,19 @@
 //! Growth as tables of Markdown, one for each series: the numbers behind the picture.
 
 use crate::growth::{series, Line, Series};
-use crate::measured::{grouped, Measured};
+use crate::measured::{grouped, Measured, BELOW_FLOOR, BELOW_FLOOR_NOTE};
 
 const HEAD: &str = "| floor | plain | library | library / plain |";
 const RULE: &str = "|---|---|---|---|";
 
 pub fn tables(measured: &Measured) -> String {
     let tables: Vec<String> = series().iter().map(|series| table(measured, series)).collect();
-    tables.join("\n")
+    let tables = tables.join("\n");
+    if tables.contains(BELOW_FLOOR) {
+        format!("{tables}\n{BELOW_FLOOR_NOTE}\n")
+    } else {
+        tables
+    }
 }
 
 /// Edition 1 on the left, edition 2 on the right.
@@ -35,16 +40,11 @@ fn places(lines: &[Line]) -> Vec<u64> {
 fn cells(measured: &Measured, line: &Line, at: u64) -> String {
     let point = line.points.iter().find(|point| point.at == at);
     let figure = |column: &str| point.and_then(|point| measured.figure(column, point));
-    let text = |figure: Option<u64>| figure.map(grouped).unwrap_or_default();
-    let (plain, library) = (figure("plain"), figure("library"));
+    let (floor, plain, library) = (figure("floor"), figure("plain"), figure("library"));
+    let sign = |figure: u64| if floor.is_some_and(|floor| figure < floor) { BELOW_FLOOR } else { "" };
+    let text = |figure: Option<u64>| figure.map(|figure| grouped(figure) + sign(figure)).unwrap_or_default();
     let ratio = plain.zip(library).map(|(plain, library)| format!("{:.2}", library as f64 / plain as f64));
-    format!(
-        "| {} | {} | {} | {} |",
-        text(figure("floor")),
-        text(plain),
-        text(library),
-        ratio.unwrap_or_default()
-    )
+    format!("| {} | {} | {} | {} |", text(floor), text(plain), text(library), ratio.unwrap_or_default())
 }
 
 #[cfg(test)]
@@ -63,5 +63,18 @@ mod tests {
         assert_eq!(rows.count(), series().len() + numbers);
         assert!(text.contains("\n| 1 | 101 | 1,037 | 941 | 0.91 | "));
         assert!(text.contains("\n| 64 |  |  |  |  | "));
+        assert!(!text.contains(BELOW_FLOOR));
+    }
+
+    /// The floor itself is not below it.
+    #[test]
+    fn of_engines_below_their_floor() {
+        let columns = "workload floor plain library";
+        let text = |line: &str| tables(&Measured::of(&format!("{columns}\n{line}")).expect("a table"));
+        let below = text("check-1-2 1000 1000 999");
+        assert!(below.contains("\n| 1 | 1,000 | 1,000 | 999 * | 1.00 | "), "{below}");
+        assert!(below.ends_with(&format!("\n\n{BELOW_FLOOR_NOTE}\n")), "{below}");
+        assert!(text("check-1-2 1000 999 1000").contains("\n| 1 | 1,000 | 999 * | 1,000 | 1.00 | "));
+        assert!(!text("check-1-2 1000 1000 1000").contains('*'));
     }
 }

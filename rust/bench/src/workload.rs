@@ -7,9 +7,10 @@ use model::{closed_figures, encode_trace, post, screens, to_edition, Edition, MS
 use std::hint::black_box;
 
 /// The lines of the table.
-pub const TABLE: [&str; 54] = [
+pub const TABLE: [&str; 57] = [
     "check-32-2",
     "check-named-32",
+    "check-shared-byte-32",
     "check-most",
     "address-32",
     "read-one-of-32",
@@ -21,6 +22,7 @@ pub const TABLE: [&str; 54] = [
     "partner-1-255",
     "partner-32-220",
     "partner-32-63",
+    "partner-32-15-of-4",
     "multiplexed-1-63",
     "multiplexed-32-55",
     "naming-1",
@@ -30,6 +32,7 @@ pub const TABLE: [&str; 54] = [
     "rounds-1000-32",
     "owner-1",
     "owner-most",
+    "owner-32-15-of-4",
     "owner-none-32",
     "fill-32",
     "holder-first-32",
@@ -168,6 +171,10 @@ impl Workload {
             ["partner", slaves, entries] => {
                 Workload::Frame { file: files::partners(number(slaves)?, number(entries)?), frame: vec![0xBA] }
             }
+            ["partner", slaves, entries, "of", slots] => Workload::Frame {
+                file: files::partners_of(number(slaves)?, number(entries)?, number(slots)?),
+                frame: vec![0xBA],
+            },
             ["multiplexed", slaves, slots] => {
                 Workload::Frame { file: files::multiplexed(number(slaves)?, number(slots)?), frame: vec![0xBA] }
             }
@@ -179,6 +186,9 @@ impl Workload {
             ["rounds", reads, slaves] => reads_as_rounds(number(reads)?, number(slaves)?),
             ["owner", "1"] => Workload::Owner { file: files::owner_of_all() },
             ["owner", "most"] => Workload::Owner { file: files::most_owners() },
+            ["owner", slaves, entries, "of", slots] => {
+                Workload::Owner { file: files::owners_of(number(slaves)?, number(entries)?, number(slots)?) }
+            }
             ["owner", "none", slaves] => Workload::Owner { file: named(number(slaves)?) },
             ["fill" | "holder" | "keeping", ..] => Workload::WithSummary(WithSummary::of(name)?),
             ["post" | "turn", ..] => Workload::of_screens(&words)?,
@@ -194,6 +204,9 @@ impl Workload {
             ["check", "most"] => Workload::Check { file: files::most_entries(edition) },
             ["check", "sized", bytes] => Workload::Check { file: files::sized(number(bytes)?, edition) },
             ["check", "named", slaves] => Workload::Check { file: named(number(slaves)?) },
+            ["check", "shared", "byte", slaves] => {
+                Workload::Check { file: files::sharing_a_byte(number(slaves)?) }
+            }
             ["check", slaves, files] => {
                 Workload::Check { file: files::small(number(slaves)?, number(files)?, |_| 0xFF) }
             }
@@ -521,3 +534,6 @@ fn held_in(file: &[u8]) -> Vec<u8> {
 fn accepted(number: u8) {
     assert_eq!(number, 0);
 }
+
+#[cfg(test)]
+mod tests;

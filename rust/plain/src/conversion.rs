@@ -7,8 +7,6 @@ const EDITION_LIMITS: u8 = 25;
 const SHORT_BUFFER: u8 = 26;
 /// Epoch, flag and the three pending bytes.
 const STATE_BYTES: usize = 5;
-/// Long copies are made in pieces of so many bytes.
-const PIECE: usize = 1024;
 
 pub fn to_edition_1(file: &[u8], buffer: &mut [u8], length: &mut u64) -> u8 {
     in_edition!(file, to_narrow(file, buffer, length))
@@ -44,7 +42,7 @@ fn convert<const FROM: usize, const TO: usize>(file: &[u8], buffer: &mut [u8], l
         return SHORT_BUFFER;
     };
     if FROM == TO {
-        copy(file, front);
+        front.copy_from_slice(file);
     } else {
         put::<FROM, TO>(file, &survey, front);
     }
@@ -94,7 +92,7 @@ pub fn put_slaves<const FROM: usize, const TO: usize>(
         let rise = (place + TO * directory.len()).wrapping_sub(files.start);
         place = put_directory::<FROM, TO>(directory, front, place, rise);
         let end = place + files.len();
-        copy(&file[files], &mut front[place..end]);
+        front[place..end].copy_from_slice(&file[files]);
         place = end;
         finish(front, slave, rise);
     }
@@ -122,12 +120,4 @@ fn put_directory<const FROM: usize, const TO: usize>(
         [into[TO - 2], into[TO - 1]] = place_in(entry).wrapping_add(rise as u16).to_be_bytes();
     }
     files
-}
-
-/// Copies in pieces: a long copy by the processor's own instruction counts as many instructions as it has bytes.
-#[inline(always)]
-pub fn copy(from: &[u8], to: &mut [u8]) {
-    for (from, to) in from.chunks(PIECE).zip(to.chunks_mut(PIECE)) {
-        to.copy_from_slice(from);
-    }
 }

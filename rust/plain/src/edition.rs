@@ -92,7 +92,7 @@ fn is_pending_right(name: u8, pb2: u8) -> bool {
     pb2 & 3 != 3 && (pb2 & 3 != 0 || name != 0)
 }
 
-/// Of a file that one of the grounds 1 to 5 turns away.
+/// Of a file that one of the grounds 1 to 5 turns away, and cold for that.
 #[cold]
 #[inline(never)]
 fn first_header_ground<const ENTRY: usize>(file: &[u8]) -> u8 {

@@ -1,7 +1,7 @@
 //! Two files in one. What lies behind a table stays as it is but for its places, which all rise by the same number, so that a
 //! file of the first one's edition is copied in one piece; one of the other edition is laid out as in a conversion.
 
-use crate::conversion::{converted_length, copy, put_slaves, table_entry};
+use crate::conversion::{converted_length, put_slaves, table_entry};
 use crate::edition::{bytes_of, in_edition, is_wide, word_of, Edition, NARROW_ENTRY, WIDE_ENTRY};
 use crate::survey::{directory_place, file_count, Survey, LOGICAL_NAME};
 use crate::UNNAMED;
@@ -71,8 +71,6 @@ impl<const TO: usize> Walked<'_, TO> {
         })
     }
 
-    #[cold]
-    #[inline(never)]
     fn has(&self, physical_name: u64) -> bool {
         self.survey.slaves().any(|slave| self.survey.physical_name(self.file, slave) == physical_name)
     }
@@ -114,7 +112,7 @@ impl<const FROM: usize> Walked<'_, FROM> {
     fn put_moved(&self, front: &mut [u8], table: usize, place: usize) -> usize {
         let body = self.survey.body();
         let (rise, end) = ((place - body) as u64, place + self.file.len() - body);
-        copy(&self.file[body..], &mut front[place..end]);
+        front[place..end].copy_from_slice(&self.file[body..]);
         for (slave, entry) in self.survey.table(self.file).iter().enumerate() {
             let directory = directory_place(entry) as usize + rise as usize;
             let at = table + FROM * slave;

@@ -23,10 +23,6 @@ const STORED: std::ops::RangeInclusive<u8> = 0x10..=0x3C;
 const ALIGN_BITS: u32 = 3;
 const NO_ADDRESS: u32 = 0x100;
 
-/// What stands in a row before a place does. Its two bytes differ: rows of one byte would be filled by an instruction that counts
-/// as many times as there are bytes.
-const NOT_READ: u16 = 1;
-
 /// The places of each slot, in a row of so many as there are slaves: from the front those that are stored to, from the back
 /// those that are sent from. A slave has at most one of them in a slot.
 struct Plan<const SLAVES: usize> {
@@ -53,8 +49,8 @@ struct Named {
     stored: u32,
 }
 
-/// Runs the round, puts what was sent into the answer and returns the mask. A plan costs its size, so few slaves have a
-/// smaller one.
+/// Runs the round, puts what was sent into the answer and returns the mask. A plan costs its size: the editions' limits have
+/// one each, few slaves a smaller one, and a single slave one without loops over a row.
 pub fn run<const ENTRY: usize>(
     file: &mut [u8],
     survey: &Survey<ENTRY>,
@@ -97,7 +93,7 @@ impl<const SLAVES: usize> Plan<SLAVES> {
     fn new() -> Plan<SLAVES> {
         let last = SLAVES as u16 - 1;
         Plan {
-            rows: [[NOT_READ; SLAVES]; ANSWER_BYTES],
+            rows: [[0; SLAVES]; ANSWER_BYTES],
             next_store: array::from_fn(|slot| (SLAVES * slot) as u16),
             next_send: array::from_fn(|slot| (SLAVES * slot) as u16 + last),
         }
@@ -129,8 +125,7 @@ impl<const SLAVES: usize> Plan<SLAVES> {
         }
     }
 
-    /// On its own for the same reason, and called cold.
-    #[cold]
+    /// On its own for the same reason.
     #[inline(never)]
     fn enter_several<const ENTRY: usize>(&mut self, list: &mut List<ENTRY>, entry: &[u8; 4]) {
         let (operation, length_less_one, start) = (entry[2] >> 4, entry[2] & 15, usize::from(entry[3] & 63));
@@ -203,6 +198,7 @@ impl<const ENTRY: usize> List<'_, ENTRY> {
         4 * u32::from(record) + (u32::from(address) ^ self.named.address)
     }
 
+    /// Cold, since it is the way past the file that is kept.
     #[cold]
     #[inline(never)]
     fn find(&mut self, number: u8) {

@@ -134,8 +134,7 @@ impl Row {
         true
     }
 
-    /// On its own for the same reason, and called cold.
-    #[cold]
+    /// On its own for the same reason.
     #[inline(never)]
     fn enter_several<const ENTRY: usize>(&mut self, list: &mut List<ENTRY>, entry: &[u8; 4]) {
         let is_send = entry[2] >> 4 & SEND_BITS == SEND;
@@ -168,6 +167,7 @@ impl<const ENTRY: usize> List<'_, ENTRY> {
         4 * u32::from(record) + (u32::from(address) ^ self.address)
     }
 
+    /// Cold, since it is the way past the file that is kept.
     #[cold]
     #[inline(never)]
     fn find(&mut self, number: u8) {

@@ -202,6 +202,7 @@ impl<const ENTRY: usize> Survey<ENTRY> {
         holders
     }
 
+    /// Cold, since who sleeps is awake after the next round.
     #[cold]
     #[inline(never)]
     fn sleepers(&self, file: &[u8]) -> u64 {
@@ -217,6 +218,7 @@ impl<const ENTRY: usize> Survey<ENTRY> {
         }
     }
 
+    /// Cold for the same reason.
     #[cold]
     #[inline(never)]
     fn store_sleepers(&mut self, file: &mut [u8], sleepers: u64) {
@@ -335,8 +337,6 @@ impl Places {
 }
 
 /// Only a physical name whose last byte was seen is compared with those before.
-#[cold]
-#[inline(never)]
 fn equal_physical_names(file: &[u8], places: &[Places]) -> bool {
     let mut seen = [false; 256];
     places.iter().enumerate().any(|(slave, of_slave)| {
@@ -360,7 +360,8 @@ fn directory_at<'a, const ENTRY: usize>(
     Some(file.get(place..place + ENTRY * file_count(entry))?.as_chunks().0)
 }
 
-/// Ground 6 or 7 of a file in which a slave lacks one of its two files, or has a number that is too high.
+/// Ground 6 or 7 of a file in which a slave lacks one of its two files, or has a number that is too high. Cold, since it turns the
+/// file away.
 #[cold]
 #[inline(never)]
 fn ground_of_lacking<const ENTRY: usize>(file: &[u8], table: &[[u8; ENTRY]], place: u32) -> u8 {

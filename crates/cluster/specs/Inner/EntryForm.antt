@@ -46,6 +46,10 @@ operationCodes = 16
 abbrev pub firstMultiplexed : ℕ
 firstMultiplexed = receiveMux4
 
+-- "file number 0 to 63"
+abbrev pub fileNumbers : ℕ
+fileNumbers = 64
+
 unfoldable pub codeOf : EntryOperation → ℕ
 codeOf Receive = 0
 codeOf Send = 1

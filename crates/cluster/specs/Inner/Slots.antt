@@ -16,6 +16,7 @@ use Rattle.cluster.specs.Rules.Slaves.{isUnnamed}
 use Rattle.cluster.specs.Rules.Entries.{Entry, entryThere, Acting, acts, bytePlace, sends, receives}
 use Rattle.cluster.specs.Rules.Multipartner.{SlaveByte, nowhere, byteOf, mayStore, sendPlace, storePlace, byteThere, clusterBelow, sentDuring}
 use Rattle.cluster.specs.Rules.Round.{Effect}
+use Rattle.cluster.specs.Inner.EntryForm.{fileNumbers}
 use Rattle.cluster.specs.declared.multipartner.SlotAct.{SlotAct}
 use Rattle.cluster.specs.declared.multipartner.SlotAct.the-variants.{Sends, Stores, Rests}
 
@@ -66,10 +67,6 @@ unfoldable pub nextAfter : Entry → ℕ → ℕ → ℕ → ℕ
 nextAfter e next at slot = cond (eqb (slot - e .start + 1) (e .length)) (nextPast next at) next
 
 -- ---- the file that an entry names
-
--- "file number 0 to 63"
-abbrev pub fileNumbers : ℕ
-fileNumbers = 64
 
 -- where file n of the slave at index s lies, and how many bytes it has: none where it is not there
 pub record FileIs (f : List ℕ) (s n place size : ℕ) : Type 0 where

@@ -1,4 +1,4 @@
--- What the functions of a frame that nobody hears promise to one another: they make no answer, and keep whether someone may be asleep.
+-- What the functions of a frame that nobody hears promise to one another: nothing of the buffer, and whether someone may be asleep.
 use Prim.Native.Nat.{ℕ}
 use mathlib.Core.Path.{_≡_}
 use mathlib.Core.List.{List}

@@ -2,7 +2,7 @@
 use Prim.Native.Nat.{ℕ, _+_, _*_, _≤_, _<_}
 use mathlib.Core.Path.{_≡_}
 use mathlib.Core.List.{List, [], _∷_, map}
-use mathlib.Core.Bool.{Bool, cond}
+use mathlib.Core.Bool.{Bool, false, cond}
 use lib.ListN.{length, take}
 use lib.Seq.{sets}
 use lib.Dec.{ltb}
@@ -22,6 +22,11 @@ slaveStart w c s = slavesPlace w (c .slaves) + slavesSize w (take s (c .slaves))
 -- a slave's directory that stands at a place, its files behind it
 abbrev pub directoryOf : ℕ → ℕ → Slave → List ℕ
 directoryOf w at s = directory w (at + entrySize w * length (s .files)) (s .files)
+
+-- a list with the directories of slaves put into it, which lie in it from a place on, one behind the other
+unfoldable pub withDirectories : ℕ → ℕ → List Slave → List ℕ → List ℕ
+withDirectories w at [] l = l
+withDirectories w at (s ∷ ss) l = withDirectories w (at + slaveSize w s) ss (sets l at (directoryOf w at s))
 
 -- a slave as a table lists it, with its sleep byte or awake; and all the slaves of one
 unfoldable pub listedAs : Bool → Slave → Slave
@@ -88,3 +93,7 @@ pub record SlaveDone (w : ℕ) (f : List ℕ) (s at : ℕ) (old new : List ℕ) 
 -- the table of slaves is put from one place on, with their sleep bytes or all awake, and the slaves from another on
 pub record BodyDone (kept : Bool) (w at place : ℕ) (ss : List Slave) (old new : List ℕ) : Type 0 where
   pub put : Put (sets old at (table w place (listed kept ss))) place (slavesBytes w place ss) new
+
+-- over slaves that were copied to a place their directories are put, and from another place on their table, all awake: all other bytes stay
+pub record MovedDone (w at place : ℕ) (ss : List Slave) (old new : List ℕ) : Type 0 where
+  pub put : Put (withDirectories w place ss old) at (table w place (listed false ss)) new

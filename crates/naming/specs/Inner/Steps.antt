@@ -1,14 +1,14 @@
 -- Words of the functions that make several steps.
-use Prim.Native.Nat.{ℕ, zero, suc}
+use Prim.Native.Nat.{ℕ}
 use mathlib.Core.Path.{_≡_}
 use mathlib.Core.List.{List}
-use mathlib.Core.Bool.{Bool, cond, not}
+use mathlib.Core.Bool.{Bool, not}
 use lib.Dec.{eqb}
-use Rattle.file.specs.Rules.Order.{both, either}
+use Rattle.file.specs.Rules.Order.{either}
 use Rattle.file.specs.Rules.Results.{Result, refused, done}
 use Rattle.file.specs.Inner.Accepted.{Placed}
 use Rattle.naming.specs.Rules.Run.{Position, running, unfitPosition}
-use Rattle.naming.specs.Rules.Steps.{Progress, isMade, nextStep, withStep, begun, StepsDone, steps}
+use Rattle.naming.specs.Rules.Steps.{Progress, begun, stepsFrom, StepsDone, steps}
 use Rattle.naming.specs.Inner.Answers.{positionOf}
 use Rattle.naming.specs.declared.steps.MadeSteps.{MadeSteps}
 use Rattle.naming.specs.declared.steps.StepsAnswer.{StepsAnswer}
@@ -26,18 +26,15 @@ unfoldable pub runThen : Position → StepsAnswer → Position
 runThen p (answers.Refused why) = p
 runThen p (answers.Made m) = positionOf (m .run)
 
--- a position that no other step is made of, on an accepted file: at a step of its pass that they stop at, ended, or refused by 17
-unfoldable pub stepsEnd : List ℕ → ℕ → Position → Bool
-stepsEnd names until p = either (eqb (p .step) until) (either (not (eqb (p .end) running)) (unfitPosition names p))
+-- a position at a step of its pass
+abbrev pub standsAt : ℕ → Position → Bool
+standsAt step p = eqb (p .step) step
 
--- up to k more, and none at that step of a pass
-unfoldable pub stepsUntil : List ℕ → ℕ → ℕ → Progress → Progress
-stepsUntil names until zero t = t
-stepsUntil names until (suc k) t =
-    let rest = stepsUntil names until k (withStep t (nextStep names t)) in
-    cond (both (not (eqb (t .run .step) until)) (isMade (nextStep names t .0))) rest t
+-- one that no other step is made of, on an accepted file: at a step that they stop at, ended, or refused by 17
+unfoldable pub stepsEnd : List ℕ → ℕ → Position → Bool
+stepsEnd names until p = either (standsAt until p) (either (not (eqb (p .end) running)) (unfitPosition names p))
 
 -- the steps that were made, on a file that is known to be accepted
 pub record StepsMade (names : List ℕ) (until most : ℕ) (file places : List ℕ) (p : Position) (buffer : List ℕ) (m : MadeSteps) (buffer′ file′ : List ℕ) : Type 0 where
-  pub is : progressOf m buffer′ file′ ≡ stepsUntil names until most (begun file p buffer)
+  pub is : progressOf m buffer′ file′ ≡ stepsFrom (standsAt until) names most (begun file p buffer)
   pub placed : Placed file′ places

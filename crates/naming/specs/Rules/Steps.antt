@@ -2,8 +2,9 @@
 -- master-slave round a step").
 use Prim.Native.Nat.{ℕ, zero, suc}
 use mathlib.Core.List.{List}
-use mathlib.Core.Bool.{Bool, true, false, cond}
+use mathlib.Core.Bool.{Bool, true, false, cond, not}
 use lib.Dec.{eqb}
+use Rattle.file.specs.Rules.Order.{both}
 use Rattle.file.specs.Rules.Results.{Result, refused, done}
 use Rattle.naming.specs.Rules.Run.{Position}
 use Rattle.naming.specs.Rules.Step.{StepDone, ended, made, stepGround, stepOn}
@@ -37,11 +38,16 @@ nextStep names t = stepOn (t .file) (t .run) names (t .buffer)
 unfoldable pub withStep : Progress → Result StepDone × Position × List ℕ × List ℕ → Progress
 withStep t s = record { made = suc (t .made); senders = maskIn (s .0); run = s .1; buffer = s .2; file = s .3 }
 
--- up to k more: they stop before one that is refused, and at the end of the run
-unfoldable pub stepsFrom : List ℕ → ℕ → Progress → Progress
-stepsFrom names zero t = t
-stepsFrom names (suc k) t =
-    let rest = stepsFrom names k (withStep t (nextStep names t)) in cond (isMade (nextStep names t .0)) rest t
+-- up to k more: they stop before one that is refused, at the end of the run, and where a position is to be stopped at
+unfoldable pub stepsFrom : (Position → Bool) → List ℕ → ℕ → Progress → Progress
+stepsFrom stopsAt names zero t = t
+stepsFrom stopsAt names (suc k) t =
+    let rest = stepsFrom stopsAt names k (withStep t (nextStep names t)) in
+    cond (both (not (stopsAt (t .run))) (isMade (nextStep names t .0))) rest t
+
+-- no position is
+abbrev pub nowhere : Position → Bool
+nowhere p = false
 
 -- how many steps made their round, and the mask of the last one's data frame
 pub data StepsDone : Type 0 where
@@ -51,5 +57,5 @@ pub data StepsDone : Type 0 where
 unfoldable pub stepsOn : ℕ → List ℕ → Position → List ℕ → List ℕ → Result StepsDone × Position × List ℕ × List ℕ
 stepsOn k file p names buffer =
     let ground = stepGround file p names buffer in
-    let t = stepsFrom names k (begun file p buffer) in
+    let t = stepsFrom nowhere names k (begun file p buffer) in
     cond (eqb ground 0) (done (steps (t .made) (t .senders)), t .run, t .buffer, t .file) (refused ground, p, buffer, file)

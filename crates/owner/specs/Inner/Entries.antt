@@ -13,6 +13,7 @@ use Rattle.file.specs.Inner.Places.{slaveOf}
 use Rattle.file.specs.Inner.Accepted.{AcceptedFile, slaveCount}
 use Rattle.cluster.specs.Rules.Entries.{Entry, covers, sends, eligible}
 use Rattle.cluster.specs.Rules.Multipartner.{within}
+use Rattle.cluster.specs.Inner.EntryForm.{fileNumbers}
 use Rattle.owner.specs.Rules.Plan.{isMultiplexedReceive, isMultiplexedSend}
 use Rattle.owner.specs.Inner.Masks.{isSet, Marks, longestEntry}
 
@@ -23,10 +24,6 @@ kindAt f at = getD f (at + 2) 0
 -- an entry of one slot, neither multiplexed nor an end
 unfoldable pub isSingle : ℕ → Bool
 isSingle kind = both (ltb (kind / longestEntry) 6) (eqb (kind % longestEntry) 0)
-
--- "file number 0 to 63"
-abbrev pub fileNumbers : ℕ
-fileNumbers = 64
 
 -- the size of the file that was looked for last, if there was one
 pub record Kept (s : Slave) (number size : ℕ) : Type 0 where

@@ -1,6 +1,6 @@
 //! Round descriptor lists: multipartner rounds and the owner file.
 
-use super::{cluster_of, copied, file, LOAD, STORE, TEST};
+use super::{cluster_of, copied, file, words, LOAD, STORE, TEST};
 use crate::workload::{MASTER, MOST_OWNER_BYTES};
 use model::{Cluster, FileNumber, LogicalName, Slave};
 
@@ -111,29 +111,29 @@ impl Reader<'_> {
         TEST + if is_known { 0 } else { LOAD + TEST } + TEST
     }
 
-    /// An entry whose turn it is: its slots, and a byte for each. A receive stores where someone sent.
+    /// An entry whose turn it is: its slots, and their bytes. A receive stores where someone sent.
     fn act(&mut self, entry: &Entry, sent: u64) -> u64 {
         let fresh = self.cover(entry);
         let work = match entry.action() {
             Action::Send if fresh != 0 => {
-                self.find(entry.file) + each(entry.within(self.slave, fresh, 0)) * LOAD
+                self.find(entry.file) + words(entry.within(self.slave, fresh, 0)) * LOAD
             }
             Action::Receive if fresh != 0 => {
-                self.find(entry.file) + each(entry.stored(self.slave, fresh) & sent) * STORE
+                self.find(entry.file) + words(entry.stored(self.slave, fresh) & sent) * STORE
             }
             _ => 0,
         };
         TEST + work
     }
 
-    /// An entry for the owner file: its slots; of a send its file and place, whether another sends there, and the owner of
-    /// each slot.
+    /// An entry for the owner file: its slots; of a send its file and place, whether another sends there, and its slots'
+    /// owner.
     fn plan(&mut self, entry: &Entry) -> u64 {
         let fresh = self.cover(entry);
         if fresh == 0 || entry.action() != Action::Send {
             return TEST;
         }
-        TEST + self.find(entry.file) + TEST + each(entry.within(self.slave, fresh, 0)) * STORE
+        TEST + self.find(entry.file) + TEST + words(entry.within(self.slave, fresh, 0)) * STORE
     }
 }
 
@@ -170,10 +170,6 @@ fn planned(slave: &Slave, entries: &[Entry]) -> u64 {
         }
     }
     sum
-}
-
-fn each(slots: u64) -> u64 {
-    u64::from(slots.count_ones())
 }
 
 /// What a multipartner round does beside looking at the slaves' names: whether a slave has the file, and its list.

@@ -1,7 +1,7 @@
 //! Frames, alone and in traces, turns of screens and naming runs. The model carries them out, so that each call is counted
 //! on the file as it then is.
 
-use super::{cluster_of, file, filled, list, loads, stores, LOAD, STORE, TEST};
+use super::{cluster_of, file, filled, list, loads, stores, words, LOAD, STORE, TEST};
 use model::{
     Cluster, FileNumber, LogicalName, Operation, Pending, RecordNumber, Run, Slave, State, ANSWER_BYTES, MSA,
     MSD, SCREENS,
@@ -89,7 +89,7 @@ fn take(cluster: &mut Cluster, frame: &[u8], names: Names) -> Work {
             let round = model::round_of(firework).expect("a firework");
             let looks = before.slaves.len() as u64 * names.look();
             let partners = list::partners(&before, round, cluster.epoch, answer.senders);
-            Work { answer: u64::from(answer.senders.count_ones()) * STORE, other: looks + partners }
+            Work { answer: words(answer.senders) * STORE, other: looks + partners }
         }
     };
     work.other += read(frame) + woken(&before, cluster);

@@ -14,19 +14,20 @@ put-run-requires c κs = (omega arith, omega arith, search (needs, fields-room))
 
 put-zeros-requires : tie.Need-put-zeros-requires
 put-zeros-requires c κs =
-    let run = c .before .before .before in
-    let front = run .before .before .before .before .before in
-    zeros-room _ (front .before .before .before .before .before .pre .1) (front .put-front .ensures) (run .put-run .ensures)
+    let start : tie.Start = search in
+    let front : tie.After-put-front = search in
+    let run : tie.After-put-run = search in
+    zeros-room _ (start .pre .1) (front .put-front .ensures) (run .put-run .ensures)
 
 returns : tie.Need-returns
 returns c =
-    let zeros = c .before .before in
-    let run = zeros .before .before .before .before in
-    let epoch = run .before .before in
-    let front = epoch .before .before .before in
-    let count = front .before in
-    let pre = count .before .before .before .before .pre in
-    header-put (pre .0) (epoch .epoch-place .ensures) (pre .1) (count .slave-count .ensures) (front .put-front .ensures) (run .put-run .ensures) (zeros .put-zeros .ensures)
+    let start : tie.Start = search in
+    let count : tie.After-slave-count = search in
+    let front : tie.After-put-front = search in
+    let epoch : tie.After-epoch-place = search in
+    let run : tie.After-put-run = search in
+    let zeros : tie.After-put-zeros = search in
+    header-put (start .pre .0) (epoch .epoch-place .ensures) (start .pre .1) (count .slave-count .ensures) (front .put-front .ensures) (run .put-run .ensures) (zeros .put-zeros .ensures)
 
 pub put-header-spec : {M : Type 1} → statement M
 put-header-spec =

@@ -20,24 +20,23 @@ put-slave-requires c κs = (search (needs, body-read, below-count), search (need
 
 put-table-entry-requires : tie.Need-put-table-entry-requires Inv-loop μ-loop
 put-table-entry-requires c κs =
-    let put = c .before .before .before in
-    let turn = put .before .before .before .before in
-    let counted = turn .before .before in
-    let fits = counted .before .before .before .before .pre .1 in
+    let start : tie.Start Inv-loop μ-loop = search in
+    let counted : tie.After-slave-count Inv-loop μ-loop = search in
+    let turn : tie.In-loop Inv-loop μ-loop = search in
+    let put : tie.After-put-slave Inv-loop μ-loop = search in
     let more = below-count _ (counted .slave-count .ensures) (turn .loop-test .taken) in
-    (body-offset (turn .before .loop .inv) fits more, body-room (turn .before .loop .inv) fits more (put .put-slave .ensures))
+    (body-offset (turn .before .loop .inv) (start .pre .1) more, body-room (turn .before .loop .inv) (start .pre .1) more (put .put-slave .ensures))
 
 loop-again : tie.Need-loop-again Inv-loop μ-loop
 loop-again c =
-    let entry = c .before .before in
-    let put = entry .before .before .before .before in
-    let asleep = put .before .before in
-    let files = asleep .before in
-    let turn = files .before in
-    let counted = turn .before .before in
-    let fits = counted .before .before .before .before .pre .1 in
+    let start : tie.Start Inv-loop μ-loop = search in
+    let counted : tie.After-slave-count Inv-loop μ-loop = search in
+    let turn : tie.In-loop Inv-loop μ-loop = search in
+    let asleep : tie.After-listed-sleep Inv-loop μ-loop = search in
+    let put : tie.After-put-slave Inv-loop μ-loop = search in
+    let entry : tie.After-put-table-entry Inv-loop μ-loop = search in
     let more = below-count _ (counted .slave-count .ensures) (turn .loop-test .taken) in
-    body-again (turn .before .loop .inv) fits more (put .put-slave .ensures) (files .file-count .ensures) (asleep .listed-sleep .ensures) (entry .put-table-entry .ensures)
+    body-again (turn .before .loop .inv) (start .pre .1) more (put .put-slave .ensures) (asleep .before .file-count .ensures) (asleep .listed-sleep .ensures) (entry .put-table-entry .ensures)
 
 pub put-slaves-spec : {M : Type 1} → statement M
 put-slaves-spec =

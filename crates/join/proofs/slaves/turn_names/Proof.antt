@@ -18,49 +18,56 @@ abbrev μ-loop : tie.MeasureT-loop
 
 cast-place : tie.Need-cast-place Inv-loop μ-loop
 cast-place c =
-    let turn = c .before .before .before in
-    let counted = turn .before .before in
-    configuration-fits (counted .before .before .before .before .pre .0) _ (below-count _ (counted .slave-count .ensures) (turn .loop-test .taken))
+    let start : tie.Start Inv-loop μ-loop = search in
+    let counted : tie.After-slave-count Inv-loop μ-loop = search in
+    let turn : tie.In-loop Inv-loop μ-loop = search in
+    configuration-fits (start .pre .0) _ (below-count _ (counted .slave-count .ensures) (turn .loop-test .taken))
 
 add-to : tie.Need-add-to Inv-loop μ-loop
 add-to c =
-    let turn = c .before .before .before in
-    let counted = turn .before .before in
-    configuration-byte-fits (counted .before .before .before .before .pre .0) _ (below-count _ (counted .slave-count .ensures) (turn .loop-test .taken)) 7 (omega arith)
+    let start : tie.Start Inv-loop μ-loop = search in
+    let counted : tie.After-slave-count Inv-loop μ-loop = search in
+    let turn : tie.In-loop Inv-loop μ-loop = search in
+    let more = below-count _ (counted .slave-count .ensures) (turn .loop-test .taken) in
+    configuration-byte-fits (start .pre .0) _ more 7 (omega arith)
 
 sub-to : tie.Need-sub-to Inv-loop μ-loop
 sub-to c =
-    let files = c .before .before in
-    let turn = files .before in
-    let counted = turn .before .before in
-    let pre = counted .before .before .before .before .pre in
-    lost-order (turn .before .loop .inv) (pre .0) (pre .1) (below-count _ (counted .slave-count .ensures) (turn .loop-test .taken)) (counted .before .width-of .ensures) (files .file-count .ensures)
+    let start : tie.Start Inv-loop μ-loop = search in
+    let counted : tie.After-slave-count Inv-loop μ-loop = search in
+    let turn : tie.In-loop Inv-loop μ-loop = search in
+    let files : tie.After-file-count Inv-loop μ-loop = search in
+    let more = below-count _ (counted .slave-count .ensures) (turn .loop-test .taken) in
+    lost-order (turn .before .loop .inv) (start .pre .0) (start .pre .1) more (counted .before .width-of .ensures) (files .file-count .ensures)
 
 add-to-2 : tie.Need-add-to-2 Inv-loop μ-loop
 add-to-2 c =
-    let files = c .before .before in
-    let turn = files .before in
-    let counted = turn .before .before in
-    let pre = counted .before .before .before .before .pre in
-    name-fits (turn .before .loop .inv) (pre .0) (pre .1) (below-count _ (counted .slave-count .ensures) (turn .loop-test .taken)) (counted .before .width-of .ensures) (files .file-count .ensures)
+    let start : tie.Start Inv-loop μ-loop = search in
+    let counted : tie.After-slave-count Inv-loop μ-loop = search in
+    let turn : tie.In-loop Inv-loop μ-loop = search in
+    let files : tie.After-file-count Inv-loop μ-loop = search in
+    let more = below-count _ (counted .slave-count .ensures) (turn .loop-test .taken) in
+    name-fits (turn .before .loop .inv) (start .pre .0) (start .pre .1) more (counted .before .width-of .ensures) (files .file-count .ensures)
 
 turn-name-requires : tie.Need-turn-name-requires Inv-loop μ-loop
 turn-name-requires c κs =
-    let files = c .before .before .before .before .before in
-    let turn = files .before in
-    let counted = turn .before .before in
-    let pre = counted .before .before .before .before .pre in
-    name-room (turn .before .loop .inv) (pre .0) (pre .1) (below-count _ (counted .slave-count .ensures) (turn .loop-test .taken)) (counted .before .width-of .ensures) (files .file-count .ensures)
+    let start : tie.Start Inv-loop μ-loop = search in
+    let counted : tie.After-slave-count Inv-loop μ-loop = search in
+    let turn : tie.In-loop Inv-loop μ-loop = search in
+    let files : tie.After-file-count Inv-loop μ-loop = search in
+    let more = below-count _ (counted .slave-count .ensures) (turn .loop-test .taken) in
+    name-room (turn .before .loop .inv) (start .pre .0) (start .pre .1) more (counted .before .width-of .ensures) (files .file-count .ensures)
 
 loop-again : tie.Need-loop-again Inv-loop μ-loop
 loop-again c =
-    let turned = c .before .before in
-    let name = turned .before .before .before .before .before in
+    let start : tie.Start Inv-loop μ-loop = search in
+    let counted : tie.After-slave-count Inv-loop μ-loop = search in
+    let turn : tie.In-loop Inv-loop μ-loop = search in
+    let name : tie.After-logical-name Inv-loop μ-loop = search in
     let files = name .before in
-    let turn = files .before in
-    let counted = turn .before .before in
-    let pre = counted .before .before .before .before .pre in
-    turning-next (turn .before .loop .inv) (pre .0) (pre .1) (below-count _ (counted .slave-count .ensures) (turn .loop-test .taken)) (counted .before .width-of .ensures) (files .file-count .ensures)
+    let turned : tie.After-turn-name Inv-loop μ-loop = search in
+    let more = below-count _ (counted .slave-count .ensures) (turn .loop-test .taken) in
+    turning-next (turn .before .loop .inv) (start .pre .0) (start .pre .1) more (counted .before .width-of .ensures) (files .file-count .ensures)
     (name .logical-name .ensures) refl (turned .turn-name .ensures)
 
 pub turn-names-spec : {M : Type 1} → statement M

@@ -1,6 +1,6 @@
 -- `naming::position::compared` meets its contract: one law for each way.
 -- Assumes nothing.
-use Rattle.naming.proofs.WritingLaws.{compared-heard, compared-last, compared-silent}
+use Rattle.naming.proofs.WritingLaws.{compared-heard, compared-silent}
 use borrow.Author.Needs.{needs}
 use Rattle.naming.proofs.position.compared.Statement.{statement}
 use Rattle.naming.proofs.position.compared.Tie as tie
@@ -9,11 +9,11 @@ pub compared-spec : {M : Type 1} → statement M
 compared-spec =
     tie.close
     (tie.spec
+    (λ c κs. search needs)
     (λ c. search needs)
+    (λ c. search needs)
+    (λ c κs. search needs)
     (λ c. search needs)
     (λ c κs. search needs)
     (λ c count. search compared-heard)
-    (λ c κs. search needs)
-    (λ c count. search compared-last)
-    (λ c κs. search needs)
     (λ c count. search compared-silent))

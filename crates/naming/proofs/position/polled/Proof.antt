@@ -12,6 +12,6 @@ polled-spec =
     (λ c. search needs)
     (λ c. search needs)
     (λ c κs. search needs)
-    (λ c. search polled-free)
+    (λ c. search polled-taken)
     (λ c κs. search needs)
-    (λ c. search polled-taken))
+    (λ c. search polled-free))

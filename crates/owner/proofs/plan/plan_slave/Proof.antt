@@ -44,7 +44,7 @@ plan-slave-spec =
     Inv-loop
     μ-loop
     (λ c κs. search needs)
-    (λ c. working-start _ _ _ _ (c .before .before .pre .0 .file))
+    (λ c. working-start _ _ _ _ (c .before .before .pre .0 .file) (omega arith))
     add-kind
     read-kind
     (λ c κs. search needs)

@@ -2,15 +2,16 @@
 -- Assumes nothing.
 use borrow.Author.Needs.{needs}
 use Rattle.screens.specs.Inner.Answers.{dueOf}
-use Rattle.screens.proofs.StateLaws.{Asking, asking-start, asking-few, next-few, asking-found, asking-on, asking-none}
+use Rattle.screens.specs.Claims.Turns.{away}
+use Rattle.screens.proofs.StateLaws.{Asking, asking-start, asking-few, next-few, asking-found, asking-none, asking-less, asking-on}
 use Rattle.screens.proofs.state.due_screen.Statement.{statement}
 use Rattle.screens.proofs.state.due_screen.Tie as tie
 
 abbrev Inv-screens : tie.InvT-screens
-Inv-screens state screen₀ left₀ screen left = Asking state screen left
+Inv-screens state last screen₀ screen = Asking state last screen
 
 abbrev μ-screens : tie.MeasureT-screens
-μ-screens state screen₀ left₀ screen left = left
+μ-screens state last screen₀ screen = away screen last
 
 screens-holds : tie.Need-screens-holds Inv-screens μ-screens
 screens-holds c = search (needs, asking-start)
@@ -25,12 +26,15 @@ returns : tie.Need-returns Inv-screens μ-screens
 unfolding dueOf
 returns c = search (needs, asking-found)
 
-screens-again : tie.Need-screens-again Inv-screens μ-screens
-screens-again c = search (needs, asking-on)
-
 returns-2 : tie.Need-returns-2 Inv-screens μ-screens
 unfolding dueOf
 returns-2 c = search (needs, asking-none)
+
+screens-less : tie.Need-screens-less Inv-screens μ-screens
+screens-less c = search (needs, asking-less)
+
+screens-again : tie.Need-screens-again Inv-screens μ-screens
+screens-again c = search (needs, asking-on)
 
 pub due-screen-spec : {M : Type 1} → statement M
 due-screen-spec =
@@ -43,7 +47,6 @@ due-screen-spec =
     next-screen-requires
     is-waiting-requires
     returns
-    (λ c. search needs)
-    (λ c. search needs)
-    screens-again
-    returns-2)
+    returns-2
+    screens-less
+    screens-again)
