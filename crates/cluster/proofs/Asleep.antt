@@ -10,7 +10,8 @@ use lib.Dec.{eqb, leb}
 use borrow.Author.Tests.{eqb-true, eq-eqb, ne-eqb}
 use Rattle.file.specs.Rules.Cluster.{Slave, isAwake, logicalName, physicalName, comparisonValue, broadcast}
 use Rattle.file.proofs.Order.{both-false-left, both-false-right}
-use Rattle.cluster.specs.Rules.Slaves.{Duty, nothing, reading, writing, comparing, baptizing, sleeping, addresses, addressed, answersRead, answersCompare, replyTo, takesWrite, takesName, slaveAfter, fallsAsleep}
+use Rattle.cluster.specs.Rules.Slaves.{Duty, nothing, reading, writing, comparing, baptizing, sleeping, addresses, addressed, answersRead}
+use Rattle.cluster.specs.Rules.Slaves.{answersCompare, replyTo, takesWrite, takesName, slaveAfter, fallsAsleep}
 
 -- ---- the sleep byte, by which the claims say who is awake, and the rules' own test
 

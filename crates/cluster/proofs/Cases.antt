@@ -85,12 +85,16 @@ unfolding sentTo nobody
 no-sender o s e slot = rw (e, inSlot-nil slot)
 
 -- the same of a slave alone on the bus, for every physical name: bit 1 and nothing else, or nothing
-pub m6 : (file buffer : List ℕ) → roundGround file dataRound buffer ≡ 0 → pendingDuty (decode file) ≡ comparing unnamed → (s : Slave) → decode file .slaves ≡ s ∷ [] → s .asleep ≡ 0 → isUnnamed s ≡ true → physicalName s ≡ comparisonValue s →
+pub m6 :
+    (file buffer : List ℕ) → roundGround file dataRound buffer ≡ 0 → pendingDuty (decode file) ≡ comparing unnamed → (s : Slave) → decode file .slaves ≡ s ∷ [] →
+    s .asleep ≡ 0 → isUnnamed s ≡ true → physicalName s ≡ comparisonValue s →
     roundOn file dataRound buffer .0 ≡ done 2
 m6 file buffer fits p s alone awake e same =
     round-mask file buffer fits p ∙ ap (λ (n : ℕ). done n) (ap (λ (ss : List Slave). senderMask (sentTo (comparing unnamed) ss)) alone ∙ one-mask (comparing unnamed) s (m6-reply s awake e same))
 
-pub m7 : (file buffer : List ℕ) → roundGround file dataRound buffer ≡ 0 → pendingDuty (decode file) ≡ comparing unnamed → (s : Slave) → decode file .slaves ≡ s ∷ [] → isUnnamed s ≡ true → physicalName s + 1 ≡ comparisonValue s →
+pub m7 :
+    (file buffer : List ℕ) → roundGround file dataRound buffer ≡ 0 → pendingDuty (decode file) ≡ comparing unnamed → (s : Slave) → decode file .slaves ≡ s ∷ [] →
+    isUnnamed s ≡ true → physicalName s + 1 ≡ comparisonValue s →
     roundOn file dataRound buffer .0 ≡ done 0
 m7 file buffer fits p s alone e less =
     round-mask file buffer fits p ∙ ap (λ (n : ℕ). done n) (ap (λ (ss : List Slave). senderMask (sentTo (comparing unnamed) ss)) alone ∙ quiet-mask (sentTo (comparing unnamed) (s ∷ [])) (no-sender (comparing unnamed) s (m7-reply s e less)))
@@ -124,7 +128,9 @@ unfolding sentTo anyone
 quiet-elsewhere name [] slot other = refl
 quiet-elsewhere name (x ∷ xs) slot other = anyone-neither (inSlot (replyTo (comparing name) x) slot) (sentTo (comparing name) xs slot) (one-slot name x slot other) (quiet-elsewhere name xs slot other)
 
-sender-among : (name : ℕ) (s : Slave) (before after : List Slave) → replyTo (comparing name) s ≡ 0x00 ∷ [] → (slot : ℕ) → anyone (sentTo (comparing name) (before ++ s ∷ after) slot) ≡ anyone (sendersTo 1 slot)
+sender-among :
+    (name : ℕ) (s : Slave) (before after : List Slave) → replyTo (comparing name) s ≡ 0x00 ∷ [] → (slot : ℕ) →
+    anyone (sentTo (comparing name) (before ++ s ∷ after) slot) ≡ anyone (sendersTo 1 slot)
 sender-among name s before after e slot =
     byCase (eqb slot 1)
     (λ t. let is : slot ≡ 1 = eqb-true slot 1 t in rw is (replies-among (comparing name) s before after e ∙ sym (sendersTo-yes 1 1 (omega arith) (omega arith))))
@@ -140,7 +146,9 @@ silent-among o s [] after e slot = rw (e, inSlot-nil slot)
 silent-among o s (x ∷ xs) after e slot = rw (silent-among o s xs after e slot)
 
 -- M6 beside any other slaves: bit 1 and nothing else
-pub m6-among : (file buffer : List ℕ) → roundGround file dataRound buffer ≡ 0 → pendingDuty (decode file) ≡ comparing unnamed → (s : Slave) (before after : List Slave) → decode file .slaves ≡ before ++ s ∷ after → s .asleep ≡ 0 → isUnnamed s ≡ true → physicalName s ≡ comparisonValue s →
+pub m6-among :
+    (file buffer : List ℕ) → roundGround file dataRound buffer ≡ 0 → pendingDuty (decode file) ≡ comparing unnamed → (s : Slave) (before after : List Slave) →
+    decode file .slaves ≡ before ++ s ∷ after → s .asleep ≡ 0 → isUnnamed s ≡ true → physicalName s ≡ comparisonValue s →
     roundOn file dataRound buffer .0 ≡ done 2
 m6-among file buffer fits p s before after among awake e same =
     round-mask file buffer fits p ∙ ap (λ (n : ℕ). done n) (ap (λ (ss : List Slave). senderMask (sentTo (comparing unnamed) ss)) among ∙ mask-among unnamed s before after (m6-reply s awake e same))
@@ -157,14 +165,18 @@ unfolding busByte joined
 m8-byte = refl
 
 -- two slaves that answer a read, their records beginning with these bytes: slot 1 holds 0x30
-pub m8 : (file buffer : List ℕ) → roundGround file dataRound buffer ≡ 0 → (name n r : ℕ) → pendingDuty (decode file) ≡ reading name n r → (s t : Slave) → decode file .slaves ≡ s ∷ t ∷ [] → answersRead name n r s ≡ true → answersRead name n r t ≡ true →
+pub m8 :
+    (file buffer : List ℕ) → roundGround file dataRound buffer ≡ 0 → (name n r : ℕ) → pendingDuty (decode file) ≡ reading name n r → (s t : Slave) →
+    decode file .slaves ≡ s ∷ t ∷ [] → answersRead name n r s ≡ true → answersRead name n r t ≡ true →
     {bs cs : List ℕ} → recordOf s n r ≡ 0xF0 ∷ bs → recordOf t n r ≡ 0x3C ∷ cs → getD (roundOn file dataRound buffer .1) 1 0 ≡ 0x30
 unfolding answerIn answerBytes slotBytes sentTo inSlot replyTo readReply
 m8 file buffer fits name n r p s t two a b e f =
     ap (λ (l : List ℕ). getD l 1 0) (round-buffer file buffer fits p) ∙ ap (λ (ss : List Slave). busByte (sentTo (reading name n r) ss 1)) two ∙ rw (a, b, e, f) m8-byte
 
 -- request 1, "0x49 for a read reply": each of two slaves that answer a read folds it into its own check, and slot 5 holds the and of these
-pub read-checks : (file buffer : List ℕ) → roundGround file dataRound buffer ≡ 0 → (name n r : ℕ) → pendingDuty (decode file) ≡ reading name n r → (s t : Slave) → decode file .slaves ≡ s ∷ t ∷ [] → answersRead name n r s ≡ true → answersRead name n r t ≡ true →
+pub read-checks :
+    (file buffer : List ℕ) → roundGround file dataRound buffer ≡ 0 → (name n r : ℕ) → pendingDuty (decode file) ≡ reading name n r → (s t : Slave) →
+    decode file .slaves ≡ s ∷ t ∷ [] → answersRead name n r s ≡ true → answersRead name n r t ≡ true →
     {a b c d e f g h : ℕ} → recordOf s n r ≡ a ∷ b ∷ c ∷ d ∷ [] → recordOf t n r ≡ e ∷ f ∷ g ∷ h ∷ [] →
     getD (roundOn file dataRound buffer .1) 5 0 ≡ busByte (checkOf 0x49 (a ∷ b ∷ c ∷ d ∷ []) ∷ checkOf 0x49 (e ∷ f ∷ g ∷ h ∷ []) ∷ [])
 unfolding answerIn answerBytes slotBytes sentTo inSlot replyTo readReply dataCheck

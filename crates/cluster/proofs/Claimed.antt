@@ -7,7 +7,9 @@ use Rattle.cluster.specs.Claims.Mask.{BitsAreSenders, BitZeroNeverSet}
 use Rattle.cluster.specs.Claims.Pending.{MsaBecomesPending, StaysPending, EpochRaised}
 use Rattle.cluster.specs.Claims.Renaming.{BaptizingRenames, OnlyBaptizingRenames, NobodyRenamed}
 use Rattle.cluster.specs.Claims.Sleep.{DataWakes, MultipartnerWakes, AddressWakesNobody, SleepPutsToSleep, SleepSilent, SleeperKeepsFiles, SleepersSilent, AwakeAsAlone}
-use Rattle.cluster.specs.Claims.Summary.{MatchesExactly, RoundWithout, RoundsInOrder, RoundRefusedBy24, RefusedKeepsSummary, KeepingIsRound, RoundKeepsSummary, StillMatchesExactly, StillMatches, StillMatchesBaptized, NoBaptizingExactly, FillingMatches, FillingsRefused, FullReadings, QuestionIsFirst, QuestionIsReading, QuestionRefused}
+use Rattle.cluster.specs.Claims.Summary.{MatchesExactly, RoundWithout, RoundsInOrder, RoundRefusedBy24, RefusedKeepsSummary, KeepingIsRound}
+use Rattle.cluster.specs.Claims.Summary.{RoundKeepsSummary, StillMatchesExactly, StillMatches, StillMatchesBaptized, NoBaptizingExactly, FillingMatches}
+use Rattle.cluster.specs.Claims.Summary.{FillingsRefused, FullReadings, QuestionIsFirst, QuestionIsReading, QuestionRefused}
 use Rattle.cluster.specs.Claims.Writes.{UnnamedTakeWrites, NameRecordWritten, RecordWritten, NothingWritten}
 use Rattle.cluster.specs.Claims.Written.{AddressSentAsWritten, DataSentAsWritten, FireworkAlone}
 use Rattle.cluster.proofs.Cases.{round-cases}
@@ -17,7 +19,8 @@ use Rattle.cluster.proofs.Mask.{bits-are-senders, bit-zero-never-set}
 use Rattle.cluster.proofs.StaysPending.{msa-becomes-pending, stays-pending, epoch-raised}
 use Rattle.cluster.proofs.Renaming.{baptizing-renames, only-baptizing-renames, nobody-renamed}
 use Rattle.cluster.proofs.SummaryLaws.{matches-exactly}
-use Rattle.cluster.proofs.Keeping.{keeping-edition, round-without, rounds-in-order, round-refused-by-24, keeping-refused, keeping-is-round, round-keeps-summary, still-matches-exactly, still-matches, still-matches-baptized, no-baptizing-exactly}
+use Rattle.cluster.proofs.Keeping.{keeping-edition, round-without, rounds-in-order, round-refused-by-24, keeping-refused, keeping-is-round}
+use Rattle.cluster.proofs.Keeping.{round-keeps-summary, still-matches-exactly, still-matches, still-matches-baptized, no-baptizing-exactly}
 use Rattle.cluster.proofs.Holders.{filling-edition, filling-matches, fillings-refused, full-readings, question-is-first, question-is-reading, question-refused}
 use Rattle.cluster.proofs.Sleep.{data-wakes, multipartner-wakes, address-wakes-nobody, sleep-puts-to-sleep, sleep-silent, sleeper-keeps-files}
 use Rattle.cluster.proofs.AwakeAlone.{sleepers-silent, awake-as-alone}

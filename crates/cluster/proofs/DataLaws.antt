@@ -22,7 +22,9 @@ use Rattle.cluster.specs.declared.types.RecordAddress.{RecordAddress}
 use Rattle.cluster.specs.declared.duty.Duty.{Duty as CodeDuty}
 use Rattle.cluster.specs.declared.duty.Duty.the-variants as duties
 use Rattle.cluster.specs.Rules.Bus.{senderMask, answerBytes, answerIn, nobody}
-use Rattle.cluster.specs.Rules.Slaves.{Duty, nothing, reading, writing, comparing, baptizing, sleeping, sleepRecord, executionOf, dutyBy, pendingDuty, nextEpoch, epochRaised, mayWrite, takesWrite, replyTo, sentTo, slaveAfter, slavesAfter, fallsAsleep, restsAfter, rested}
+use Rattle.cluster.specs.Rules.Slaves.{Duty, nothing, reading, writing, comparing, baptizing, sleeping, sleepRecord, executionOf, dutyBy, pendingDuty}
+use Rattle.cluster.specs.Rules.Slaves.{nextEpoch, epochRaised, mayWrite, takesWrite, replyTo, sentTo, slaveAfter, slavesAfter, fallsAsleep, restsAfter}
+use Rattle.cluster.specs.Rules.Slaves.{rested}
 use Rattle.cluster.specs.Rules.Grounds.{writePending}
 use Rattle.cluster.specs.Inner.Effects.{dataEffect}
 use Rattle.cluster.specs.Inner.Carried.{sendersTo, Heard, Carried}
@@ -57,7 +59,10 @@ pub pending-nothing : (c : Cluster) {flag name n operation r : ℕ} → PendingI
 unfolding pendingDuty
 pending-nothing c p h = rw (ne-eqb (c .flag) pendingFlag (λ e. h (p .flagIs ∙ e)))
 
-pub pending-for : (c : Cluster) (a : RecordAddress) {flag operation : ℕ} {o : Duty} → PendingIs c flag (nameIn (a .name)) (fileIn (a .number)) operation (recordIn (a .«record»)) → flag ≡ pendingFlag → o ≡ dutyFor operation a → o ≡ pendingDuty c
+pub pending-for :
+    (c : Cluster) (a : RecordAddress) {flag operation : ℕ} {o : Duty} →
+    PendingIs c flag (nameIn (a .name)) (fileIn (a .number)) operation (recordIn (a .«record»)) → flag ≡ pendingFlag → o ≡ dutyFor operation a →
+    o ≡ pendingDuty c
 unfolding pendingDuty dutyBy dutyFor
 pending-for c a p waits e = e ∙ rw (eq-eqb (c .flag) pendingFlag (sym (p .flagIs) ∙ waits), p .nameIs, p .fileIs, p .operationIs, p .recordIs)
 
@@ -174,7 +179,9 @@ unfolding senderMask
 no-mask = counting-done (counting-start 0) (omega arith) (omega arith)
 
 -- a duty that changes no slave, and one in which nobody sends
-done-sending : (o : Duty) {f : List ℕ} {c : Cluster} (bytes : List ℕ) {old new : List ℕ} {last mask : ℕ} → Becomes f c → ((s : Slave) → slaveAfter o bytes s ≡ s) → Heard (sentTo o (c .slaves)) dataFirework old new last → mask ≡ senderMask (sendersTo last) →
+done-sending :
+    (o : Duty) {f : List ℕ} {c : Cluster} (bytes : List ℕ) {old new : List ℕ} {last mask : ℕ} → Becomes f c → ((s : Slave) → slaveAfter o bytes s ≡ s) →
+    Heard (sentTo o (c .slaves)) dataFirework old new last → mask ≡ senderMask (sendersTo last) →
     Carried (dutyEffect o bytes c) dataFirework old new mask f
 unfolding dutyEffect
 done-sending o {f} {c} bytes h same heard m =
@@ -184,7 +191,9 @@ done-sending o {f} {c} bytes h same heard m =
       becomes = subst (λ (d : Cluster). Becomes f d) (sym (after-same o bytes c same)) h;
     }
 
-done-silently : (o : Duty) {f : List ℕ} (c : Cluster) (bytes : List ℕ) {old new : List ℕ} → ((s : Slave) → replyTo o s ≡ []) → Becomes f (slavesAfter o bytes c) → new ≡ answerIn old (answerBytes dataFirework nobody) →
+done-silently :
+    (o : Duty) {f : List ℕ} (c : Cluster) (bytes : List ℕ) {old new : List ℕ} → ((s : Slave) → replyTo o s ≡ []) → Becomes f (slavesAfter o bytes c) →
+    new ≡ answerIn old (answerBytes dataFirework nobody) →
     Carried (dutyEffect o bytes c) dataFirework old new 0 f
 unfolding dutyEffect
 done-silently o c bytes quiet after b =
@@ -192,7 +201,9 @@ done-silently o c bytes quiet after b =
     record { senders = heard-mask heard no-mask; buffer = heard .buffer; becomes = after }
 
 module _ (c : Cluster) (d : CodeDuty) (a : RecordAddress) (bytes : List ℕ) {old new : List ℕ} where
-  effect-is : {e : CodeDuty} {file : List ℕ} {mask : ℕ} → d ≡ e → Carried (dutyEffect (dutyAt e a) bytes c) dataFirework old new mask file → Carried (dutyEffect (dutyAt d a) bytes c) dataFirework old new mask file
+  effect-is :
+      {e : CodeDuty} {file : List ℕ} {mask : ℕ} → d ≡ e → Carried (dutyEffect (dutyAt e a) bytes c) dataFirework old new mask file →
+      Carried (dutyEffect (dutyAt d a) bytes c) dataFirework old new mask file
   effect-is {file = file} {mask} is k = subst (λ (e : CodeDuty). Carried (dutyEffect (dutyAt e a) bytes c) dataFirework old new mask file) (sym is) k
 
   pub nothing-done : {f : List ℕ} → d ≡ duties.Nothing → Becomes f c → new ≡ answerIn old (answerBytes dataFirework nobody) → Carried (dutyEffect (dutyAt d a) bytes c) dataFirework old new 0 f
@@ -200,19 +211,27 @@ module _ (c : Cluster) (d : CodeDuty) (a : RecordAddress) (bytes : List ℕ) {ol
   nothing-done {f} is h b =
       effect-is is (done-silently nothing c bytes (λ s. refl) (subst (λ (x : Cluster). Becomes f x) (sym (after-same nothing bytes c (λ s. refl))) h) b)
 
-  pub read-done : {f : List ℕ} {last mask : ℕ} → d ≡ duties.Read → Becomes f c → Heard (sentTo (readingAt a) (c .slaves)) dataFirework old new last → mask ≡ senderMask (sendersTo last) → Carried (dutyEffect (dutyAt d a) bytes c) dataFirework old new mask f
+  pub read-done :
+      {f : List ℕ} {last mask : ℕ} → d ≡ duties.Read → Becomes f c → Heard (sentTo (readingAt a) (c .slaves)) dataFirework old new last →
+      mask ≡ senderMask (sendersTo last) → Carried (dutyEffect (dutyAt d a) bytes c) dataFirework old new mask f
   unfolding dutyAt slaveAfter
   read-done is h heard m = effect-is is (done-sending (readingAt a) bytes h (λ s. refl) heard m)
 
-  pub compare-done : {f : List ℕ} {last mask : ℕ} → d ≡ duties.Compare → Becomes f c → Heard (sentTo (comparing (nameIn (a .name))) (c .slaves)) dataFirework old new last → mask ≡ senderMask (sendersTo last) → Carried (dutyEffect (dutyAt d a) bytes c) dataFirework old new mask f
+  pub compare-done :
+      {f : List ℕ} {last mask : ℕ} → d ≡ duties.Compare → Becomes f c → Heard (sentTo (comparing (nameIn (a .name))) (c .slaves)) dataFirework old new last →
+      mask ≡ senderMask (sendersTo last) → Carried (dutyEffect (dutyAt d a) bytes c) dataFirework old new mask f
   unfolding dutyAt slaveAfter
   compare-done is h heard m = effect-is is (done-sending (comparing (nameIn (a .name))) bytes h (λ s. refl) heard m)
 
-  pub write-done : {file : List ℕ} → d ≡ duties.Write → new ≡ answerIn old (answerBytes dataFirework nobody) → Becomes file (slavesAfter (writingAt a) bytes c) → Carried (dutyEffect (dutyAt d a) bytes c) dataFirework old new 0 file
+  pub write-done :
+      {file : List ℕ} → d ≡ duties.Write → new ≡ answerIn old (answerBytes dataFirework nobody) → Becomes file (slavesAfter (writingAt a) bytes c) →
+      Carried (dutyEffect (dutyAt d a) bytes c) dataFirework old new 0 file
   unfolding dutyAt replyTo
   write-done is b after = effect-is is (done-silently (writingAt a) c bytes (λ s. refl) after b)
 
-  pub baptize-done : {file : List ℕ} → d ≡ duties.Baptize → new ≡ answerIn old (answerBytes dataFirework nobody) → Becomes file (slavesAfter (baptizing (nameIn (a .name))) [] c) → Carried (dutyEffect (dutyAt d a) bytes c) dataFirework old new 0 file
+  pub baptize-done :
+      {file : List ℕ} → d ≡ duties.Baptize → new ≡ answerIn old (answerBytes dataFirework nobody) →
+      Becomes file (slavesAfter (baptizing (nameIn (a .name))) [] c) → Carried (dutyEffect (dutyAt d a) bytes c) dataFirework old new 0 file
   unfolding dutyAt replyTo slavesAfter slaveAfter
   baptize-done is b after = effect-is is (done-silently (baptizing (nameIn (a .name))) c bytes (λ s. refl) after b)
 
@@ -274,12 +293,16 @@ pub raised-placed : {f g places : List ℕ} → Placed f places → Becomes g (e
 raised-placed {f} p h = let kept = kept-raised (decode f) in placed-kept p h (kept .edition) (kept .shape)
 
 -- with the duty done
-pub done-placed : {f g places : List ℕ} (o : Duty) (bytes : List ℕ) {firework : ℕ} {old new : List ℕ} {mask : ℕ} → Placed f places → Carried (dutyEffect o bytes (decode f)) firework old new mask g → Placed g places
+pub done-placed :
+    {f g places : List ℕ} (o : Duty) (bytes : List ℕ) {firework : ℕ} {old new : List ℕ} {mask : ℕ} → Placed f places →
+    Carried (dutyEffect o bytes (decode f)) firework old new mask g → Placed g places
 unfolding dutyEffect slavesAfter withSlaves
 done-placed {f} o bytes p k = placed-kept p (k .becomes) refl (after-shape o bytes (decode f))
 
 -- and with who falls asleep asleep, everyone else awake
-pub raised-done : {f : List ℕ} (c : Cluster) {o : Duty} (bytes : List ℕ) {firework : ℕ} {old new : List ℕ} {mask : ℕ} {g file : List ℕ} → o ≡ pendingDuty c → Becomes f (epochRaised c) → Carried (dutyEffect o bytes (decode f)) firework old new mask g →
+pub raised-done :
+    {f : List ℕ} (c : Cluster) {o : Duty} (bytes : List ℕ) {firework : ℕ} {old new : List ℕ} {mask : ℕ} {g file : List ℕ} → o ≡ pendingDuty c →
+    Becomes f (epochRaised c) → Carried (dutyEffect o bytes (decode f)) firework old new mask g →
     Becomes file (rested o (decode g)) → Carried (dataEffect c bytes) firework old new mask file
 unfolding dutyEffect epochRaised withEpoch
 raised-done c bytes is h k rests =

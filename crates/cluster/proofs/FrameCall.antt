@@ -96,7 +96,9 @@ module _ (frame : List ℕ) (w : Firework) (is : fireworkRound w ≡ roundBy fra
     pub frame-long : (c : Cluster) (buffer : List ℕ) {f : List ℕ} → Becomes f c → (length frame ≡ fireworkSize → ⊥) → Exchanged c frame buffer buffer (refused 11) f
     frame-long c buffer h other = exchange-refused c frame buffer h (ground-eleven c other) (λ z. omega arith)
 
-    pub frame-carried : (c : Cluster) (old : List ℕ) {new : List ℕ} {mask : ℕ} {f : List ℕ} → length frame ≡ fireworkSize → Carried (multipartnerEffect c r) (getD frame 0 0) old new mask f → Exchanged c frame old new (done mask) f
+    pub frame-carried :
+        (c : Cluster) (old : List ℕ) {new : List ℕ} {mask : ℕ} {f : List ℕ} → length frame ≡ fireworkSize →
+        Carried (multipartnerEffect c r) (getD frame 0 0) old new mask f → Exchanged c frame old new (done mask) f
     frame-carried c old {new} {mask} {f} one k =
         exchange-carried c frame old (ground-none c one) (subst (λ (x : Effect). Carried x (getD frame 0 0) old new mask f) (sym (frame-effect c)) k)
 

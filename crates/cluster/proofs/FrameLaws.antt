@@ -165,7 +165,9 @@ nothing-between [] e = absurd (omega arith)
 nothing-between (b ∷ []) e = refl
 nothing-between (b ∷ d ∷ l) e = absurd (omega arith)
 
-data-ground : (c : Cluster) (frame : List ℕ) → roundBy frame ≡ msd → frameGround c frame ≡ cond (wrongFrameLength (cond (writePending c) frameSize fireworkSize) frame) 11 (cond (Order.both (writePending c) (wrongCheck dataCheck frame)) 12 0)
+data-ground :
+    (c : Cluster) (frame : List ℕ) → roundBy frame ≡ msd →
+    frameGround c frame ≡ cond (wrongFrameLength (cond (writePending c) frameSize fireworkSize) frame) 11 (cond (Order.both (writePending c) (wrongCheck dataCheck frame)) 12 0)
 unfolding frameGround groundsOn Order.firstOf noFirework wrongLengthOn lengthFor wrongCheckOn noOperationOn broadcastReadOn
 data-ground c frame h = rw h
 
@@ -211,20 +213,26 @@ module _ (c : Cluster) (frame : List ℕ) (isData : roundBy frame ≡ msd) {t : 
 
 -- ---- a data frame that was read
 
-pub exchange-data : (c : Cluster) (frame : List ℕ) {f : List ℕ} (old : List ℕ) {new : List ℕ} {mask : ℕ} → roundBy frame ≡ msd → frameGround c frame ≡ 0 → Carried (dataEffect c (between frame)) dataFirework old new mask f → Exchanged c frame old new (done mask) f
+pub exchange-data :
+    (c : Cluster) (frame : List ℕ) {f : List ℕ} (old : List ℕ) {new : List ℕ} {mask : ℕ} → roundBy frame ≡ msd → frameGround c frame ≡ 0 →
+    Carried (dataEffect c (between frame)) dataFirework old new mask f → Exchanged c frame old new (done mask) f
 unfolding frameOn effectOf
 exchange-data c frame {f} old {new} {mask} isData z k =
     let effect : frameOn c frame ≡ dataEffect c (between frame) = rw isData in
     let there : Carried (frameOn c frame) dataFirework old new mask f = subst (λ (e : Effect). Carried e dataFirework old new mask f) (sym effect) k in
     exchange-carried c frame old z (subst (λ (b : ℕ). Carried (frameOn c frame) b old new mask f) (sym (data-first frame isData)) there)
 
-pub data-refused : (c : Cluster) (frame : List ℕ) {f : List ℕ} (b : List ℕ) {x : DataReading} {why : Refusal} → Becomes f c → dataRead x ≡ resultOf (frameGround c frame) (between frame) → x ≡ readings.Refused why → Exchanged c frame b b (refused (why .0)) f
+pub data-refused :
+    (c : Cluster) (frame : List ℕ) {f : List ℕ} (b : List ℕ) {x : DataReading} {why : Refusal} → Becomes f c →
+    dataRead x ≡ resultOf (frameGround c frame) (between frame) → x ≡ readings.Refused why → Exchanged c frame b b (refused (why .0)) f
 unfolding dataRead
 data-refused c frame b {why = why} h e is =
     let ground = that-ground (between frame) (why .0) (frameGround c frame) (rw is at e) in
     exchange-refused c frame b h (ground .0) (ground .1)
 
-pub data-taken : (c : Cluster) (frame : List ℕ) {f : List ℕ} (old : List ℕ) {new : List ℕ} {mask : ℕ} {x : DataReading} {bytes : DataBytes} → roundBy frame ≡ msd → dataRead x ≡ resultOf (frameGround c frame) (between frame) → x ≡ readings.Data bytes →
+pub data-taken :
+    (c : Cluster) (frame : List ℕ) {f : List ℕ} (old : List ℕ) {new : List ℕ} {mask : ℕ} {x : DataReading} {bytes : DataBytes} → roundBy frame ≡ msd →
+    dataRead x ≡ resultOf (frameGround c frame) (between frame) → x ≡ readings.Data bytes →
     Carried (dataEffect c (dataIn bytes)) dataFirework old new mask f → Exchanged c frame old new (done mask) f
 unfolding dataRead
 data-taken c frame {f} old {new} {mask} {bytes = bytes} isData e is k =
@@ -326,6 +334,8 @@ module _ (f : List ℕ) {g : List ℕ} (epoch name pb2 pb3 : ℕ) (h : Becomes g
   unfolding withAddress withPending withEpoch
   address-placed p = placed-kept p h refl (shape-refl (decode f .slaves))
 
-  pub address-carried : (bytes : List ℕ) {old new file : List ℕ} {mask : ℕ} → Carried (dataEffect (decode g) bytes) dataFirework old new mask file → Carried (dataEffect (withAddress (decode f) epoch name pb2 pb3) bytes) dataFirework old new mask file
+  pub address-carried :
+      (bytes : List ℕ) {old new file : List ℕ} {mask : ℕ} → Carried (dataEffect (decode g) bytes) dataFirework old new mask file →
+      Carried (dataEffect (withAddress (decode f) epoch name pb2 pb3) bytes) dataFirework old new mask file
   address-carried bytes {old} {new} {file} {mask} k =
       subst (λ (d : Cluster). Carried (dataEffect d bytes) dataFirework old new mask file) (h .decoded) k

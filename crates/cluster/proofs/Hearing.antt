@@ -118,7 +118,9 @@ heard-nobody r {firework} {old} none e =
     }
 
 -- one more slave, which sends nothing
-heard-quiet : {r t : Senders} {firework : ℕ} {old new new′ : List ℕ} {last next : ℕ} → Heard r firework old new last → ((slot : ℕ) → t slot ≡ r slot) → new′ ≡ new → next ≡ last → Heard t firework old new′ next
+heard-quiet :
+    {r t : Senders} {firework : ℕ} {old new new′ : List ℕ} {last next : ℕ} → Heard r firework old new last → ((slot : ℕ) → t slot ≡ r slot) → new′ ≡ new →
+    next ≡ last → Heard t firework old new′ next
 heard-quiet {r} {t} {firework} {old} h same b n =
     record {
       few = rw n (h .few);
@@ -161,7 +163,9 @@ pub record Hearing (o : Duty) (c : Cluster) (firework : ℕ) (old new : List ℕ
   pub bound : last ≤ sizeOf o
   pub heard : Heard (sentTo o (take i (c .slaves))) firework old new last
 
-pub hearing-start : (o : Duty) (c : Cluster) {firework : ℕ} (old : List ℕ) {new : List ℕ} → 0 < sizeOf o → slots ≤ length old → new ≡ answerIn old (answerBytes firework nobody) → Hearing o c firework new new 0 0
+pub hearing-start :
+    (o : Duty) (c : Cluster) {firework : ℕ} (old : List ℕ) {new : List ℕ} → 0 < sizeOf o → slots ≤ length old → new ≡ answerIn old (answerBytes firework nobody) →
+    Hearing o c firework new new 0 0
 unfolding sentTo
 hearing-start o c {firework} old {new} some long e =
     record {
@@ -176,7 +180,9 @@ module _ {o : Duty} {c : Cluster} {firework : ℕ} {old new : List ℕ} {i last 
   pub hearing-room : slots ≤ length new
   hearing-room = rw (h .heard .buffer) (rw (answer-length old firework (sentTo o (take i (c .slaves))) (h .long)) (h .long))
 
-  pub hearing-next : {count : ℕ} → count ≡ length (c .slaves) → i < count → {new′ : List ℕ} {next : ℕ} → Replied (replyTo o (slaveOf c i)) new new′ last next → Hearing o c firework old new′ (i + 1) next
+  pub hearing-next :
+      {count : ℕ} → count ≡ length (c .slaves) → i < count → {new′ : List ℕ} {next : ℕ} → Replied (replyTo o (slaveOf c i)) new new′ last next →
+      Hearing o c firework old new′ (i + 1) next
   unfolding slaveOf said reachOf
   hearing-next all within {new′} {next} t =
       let more : i < length (c .slaves) = omega arith in
@@ -228,6 +234,8 @@ unfolding senderMask
 heard-mask {r} {last = last} h e = e ∙ mask-alike (sendersTo last) r slots (λ s. sym (h .reach s))
 
 -- the buffer keeps its length
-pub hearing-length : {o : Duty} {c : Cluster} {firework : ℕ} {old new : List ℕ} {i last : ℕ} → Hearing o c firework old new i last → (entry : List ℕ) → slots ≤ length entry → old ≡ answerIn entry (answerBytes firework nobody) → length new ≡ length entry
+pub hearing-length :
+    {o : Duty} {c : Cluster} {firework : ℕ} {old new : List ℕ} {i last : ℕ} → Hearing o c firework old new i last → (entry : List ℕ) → slots ≤ length entry →
+    old ≡ answerIn entry (answerBytes firework nobody) → length new ≡ length entry
 hearing-length {o} {c} {firework} {old} {new} {i} h entry long e =
     ap length (h .heard .buffer) ∙ answer-length old firework (sentTo o (take i (c .slaves))) (h .long) ∙ ap length e ∙ answer-length entry firework nobody long

@@ -28,7 +28,8 @@ use Rattle.cluster.specs.Rules.Summary.{Summary, without, kept, wrongSum
 use Rattle.cluster.specs.Claims.Edition.{UnknownEditionKeeping}
 use Rattle.cluster.specs.Claims.Renaming.{namesOf, Baptizes}
 use Rattle.cluster.specs.Claims.Summary.{Matches, givenNone, givenNames, RoundWithout, RoundsInOrder, RoundRefusedBy24, RefusedKeepsSummary, KeepingIsRound, RoundKeepsSummary}
-use Rattle.cluster.specs.Claims.Summary.{StillMatchesExactly, StillMatches, StillMatchesBaptized, NoBaptizing, refusedRound, noMsd, nothingPending, otherOperation, otherRecord, NoBaptizingExactly}
+use Rattle.cluster.specs.Claims.Summary.{StillMatchesExactly, StillMatches, StillMatchesBaptized, NoBaptizing, refusedRound, noMsd, nothingPending}
+use Rattle.cluster.specs.Claims.Summary.{otherOperation, otherRecord, NoBaptizingExactly}
 use Rattle.cluster.proofs.Rounds.{round-refused, round-becomes, round-kept}
 use Rattle.cluster.proofs.Renaming.{baptizing-renames, only-baptizing-renames}
 use Rattle.cluster.proofs.SummaryLaws.{matches-right, mismatch-wrong, keptFor-true, rest-same, given-file, given-wrong, given-right, given-none, numbered-most}

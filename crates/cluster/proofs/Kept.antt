@@ -23,7 +23,9 @@ use Rattle.file.proofs.Kept.{slave-legal, legal-withEpoch, legal-withPending}
 use Rattle.file.proofs.SleepStores.{slave-slept}
 use Rattle.file.proofs.Bytes.{all-take, byte-at}
 use Rattle.cluster.specs.Rules.Bus.{busByte}
-use Rattle.cluster.specs.Rules.Slaves.{nextEpoch, epochRaised, isUnnamed, Duty, nothing, reading, writing, comparing, baptizing, sleeping, mayWrite, isNameRecord, written, takesWrite, takesName, named, replaced, slaveAfter, slavesAfter, fallsAsleep, restsAfter, rested}
+use Rattle.cluster.specs.Rules.Slaves.{nextEpoch, epochRaised, isUnnamed, Duty, nothing, reading, writing, comparing, baptizing, sleeping, mayWrite}
+use Rattle.cluster.specs.Rules.Slaves.{isNameRecord, written, takesWrite, takesName, named, replaced, slaveAfter, slavesAfter, fallsAsleep, restsAfter}
+use Rattle.cluster.specs.Rules.Slaves.{rested}
 use Rattle.cluster.specs.Rules.Entries.{Entry, Acting, acts, acting, bytePlace, receives}
 use Rattle.cluster.specs.Rules.Multipartner.{SlaveByte, nowhere, byteOf, within, mayStore, storePlace, storesAt, storedThere, receivedIn, sentIn, clusterBelow}
 use Rattle.cluster.proofs.Bus.{busByte-byte}

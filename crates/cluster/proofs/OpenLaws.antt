@@ -35,7 +35,9 @@ module _ (passed : Entry → Bool) (rodl : List ℕ) (slot k : ℕ) where
   acting-here zero l e q = absurd (omega arith)
   acting-here (suc n) l e q = rw (e, q)
 
-  pub acting-next : {n m : ℕ} → n ≡ suc m → ends (entryAt rodl k .operation) ≡ false → eligible passed (entryAt rodl k) slot ≡ false → actingFrom passed rodl slot k n ≡ actingFrom passed rodl slot (suc k) m
+  pub acting-next :
+      {n m : ℕ} → n ≡ suc m → ends (entryAt rodl k .operation) ≡ false → eligible passed (entryAt rodl k) slot ≡ false →
+      actingFrom passed rodl slot k n ≡ actingFrom passed rodl slot (suc k) m
   unfolding actingFrom
   acting-next more e q = rw (more, e, q)
 

@@ -8,7 +8,8 @@ use lib.Dec.{eqb}
 use borrow.Author.Tests.{eqb-true, eqb-false}
 use Rattle.file.specs.Rules.Bytes.{All, allEmpty, allNext}
 use Rattle.file.specs.Rules.Layout.{pendingFlag}
-use Rattle.file.specs.Rules.Cluster.{Slave, Cluster, bytesIn, configuration, logicalName, logicalNames, newLogicalName, fileNumberOf, operationOf, pb2Of, readOperation, writeOperation, executeOperation}
+use Rattle.file.specs.Rules.Cluster.{Slave, Cluster, bytesIn, configuration, logicalName, logicalNames, newLogicalName, fileNumberOf, operationOf, pb2Of}
+use Rattle.file.specs.Rules.Cluster.{readOperation, writeOperation, executeOperation}
 use Rattle.file.specs.Rules.Legal.{LegalSlave}
 use Rattle.file.specs.Rules.Changes.{withSlaves, withEpoch, withPending}
 use Rattle.file.specs.Rules.Decode.{decode}
@@ -19,7 +20,8 @@ use Rattle.file.proofs.LogicalNames.{name-held}
 use Rattle.frame.specs.Rules.Fireworks.{Round, multipartner, msd, msa, noRound}
 use Rattle.frame.specs.Rules.Frames.{between}
 use Rattle.cluster.specs.Rules.Bus.{slots}
-use Rattle.cluster.specs.Rules.Slaves.{withAddress, epochRaised, Duty, nothing, reading, writing, comparing, baptizing, sleeping, sleepRecord, executionOf, dutyBy, pendingDuty, takesName, named, slaveAfter, slavesAfter, restsAfter, rested}
+use Rattle.cluster.specs.Rules.Slaves.{withAddress, epochRaised, Duty, nothing, reading, writing, comparing, baptizing, sleeping, sleepRecord}
+use Rattle.cluster.specs.Rules.Slaves.{executionOf, dutyBy, pendingDuty, takesName, named, slaveAfter, slavesAfter, restsAfter, rested}
 use Rattle.cluster.specs.Rules.Multipartner.{clusterBelow}
 use Rattle.cluster.specs.Rules.Grounds.{roundBy}
 use Rattle.cluster.specs.Rules.Round.{passedOver, effectOf, frameOn, roundGround, roundOn}
@@ -85,7 +87,9 @@ effect-keeps c msd frame other =
 effect-keeps c msa frame other = refl
 effect-keeps c noRound frame other = refl
 
-effect-baptizes : (c : Cluster) (frame : List ℕ) {name : ℕ} → All LegalSlave (c .slaves) → pendingDuty c ≡ baptizing name → logicalNames (effectOf c msd frame .after) ≡ map (nameAfter name) (c .slaves)
+effect-baptizes :
+    (c : Cluster) (frame : List ℕ) {name : ℕ} → All LegalSlave (c .slaves) → pendingDuty c ≡ baptizing name →
+    logicalNames (effectOf c msd frame .after) ≡ map (nameAfter name) (c .slaves)
 unfolding effectOf logicalNames epochRaised withEpoch slavesAfter withSlaves
 effect-baptizes c frame {name} l is =
     rw is (rested-keeps (baptizing name) (slavesAfter (baptizing name) (between frame) (epochRaised c)) ∙ slaves-baptized name (between frame) l)
@@ -94,7 +98,9 @@ frame-keeps : (c : Cluster) (frame : List ℕ) → (roundBy frame ≡ msd → (n
 unfolding frameOn
 frame-keeps c frame other = effect-keeps c (roundBy frame) frame other
 
-frame-baptizes : (c : Cluster) (frame : List ℕ) {name : ℕ} → roundBy frame ≡ msd → All LegalSlave (c .slaves) → pendingDuty c ≡ baptizing name → logicalNames (frameOn c frame .after) ≡ map (nameAfter name) (c .slaves)
+frame-baptizes :
+    (c : Cluster) (frame : List ℕ) {name : ℕ} → roundBy frame ≡ msd → All LegalSlave (c .slaves) → pendingDuty c ≡ baptizing name →
+    logicalNames (frameOn c frame .after) ≡ map (nameAfter name) (c .slaves)
 unfolding frameOn
 frame-baptizes c frame is l duty = rw is (effect-baptizes c frame l duty)
 

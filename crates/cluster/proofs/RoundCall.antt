@@ -37,7 +37,9 @@ pub frame-decides : (file frame buffer : List ℕ) → fileGround file ≡ 0 →
 unfolding roundGround frameGround
 frame-decides file frame buffer accepted long = others-decide file buffer _ accepted long
 
-pub exchanged-round : (file frame : List ℕ) {old new : List ℕ} {answer : Answer} {file′ : List ℕ} → Becomes file (decode file) → slots ≤ length old → Exchanged (decode file) frame old new answer file′ → (answer, new, file′) ≡ roundOn file frame old
+pub exchanged-round :
+    (file frame : List ℕ) {old new : List ℕ} {answer : Answer} {file′ : List ℕ} → Becomes file (decode file) → slots ≤ length old →
+    Exchanged (decode file) frame old new answer file′ → (answer, new, file′) ≡ roundOn file frame old
 unfolding answerTo leftBy heardIn
 exchanged-round file frame {old} {new} {answer} {file′} h long x =
     let same : roundGround file frame old ≡ frameGround (decode file) frame = frame-decides file frame old (h .accepted) long in

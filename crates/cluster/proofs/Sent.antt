@@ -49,7 +49,9 @@ address-round [] e = absurd (omega (arith, e))
 address-round (b ∷ bs) e = rw e
 
 -- a frame that the reader takes apart, sent
-pub address-sent : (file frame buffer : List ℕ) (epoch name number operation «record» : ℕ) → fileGround file ≡ 0 → slots ≤ length buffer → done (parts epoch name number operation «record») ≡ readAddress frame →
+pub address-sent :
+    (file frame buffer : List ℕ) (epoch name number operation «record» : ℕ) → fileGround file ≡ 0 → slots ≤ length buffer →
+    done (parts epoch name number operation «record») ≡ readAddress frame →
     roundOn file frame buffer ≡ (done 0, answerIn buffer (answerBytes addressFirework nobody), encode (withAddress (decode file) epoch name (pb2Of number operation) «record»))
 unfolding readGround frameOn effectOf
 address-sent file frame buffer epoch name number operation «record» accepted long reads =
@@ -61,7 +63,9 @@ address-sent file frame buffer epoch name number operation «record» accepted l
     ∙ rw (isAddress, first, ← mask-nobody, facts .pb0, facts .pb1, facts .pb2, facts .pb3)
 
 -- the six bytes that the address writer wrote, sent
-pub written-address-sent : (file buffer answer : List ℕ) (epoch name number operation «record» : ℕ) → fileGround file ≡ 0 → slots ≤ length answer → writeAddress buffer epoch name number operation «record» .0 ≡ done tt →
+pub written-address-sent :
+    (file buffer answer : List ℕ) (epoch name number operation «record» : ℕ) → fileGround file ≡ 0 → slots ≤ length answer →
+    writeAddress buffer epoch name number operation «record» .0 ≡ done tt →
     roundOn file (take frameSize (writeAddress buffer epoch name number operation «record» .1)) answer ≡ (done 0, answerIn answer (answerBytes addressFirework nobody), encode (withAddress (decode file) epoch name (pb2Of number operation) «record»))
 written-address-sent file buffer answer epoch name number operation «record» accepted long written =
     address-sent file (take frameSize (writeAddress buffer epoch name number operation «record» .1)) answer epoch name number operation «record» accepted long (sym (written-reads buffer epoch name number operation «record» written))
@@ -123,7 +127,9 @@ module _ (b₀ b₁ b₂ b₃ : ℕ) where
   written-frame buffer written = rw (eq-eqb (dataGround buffer) 0 (no-ground tt (dataGround buffer) (sym written)))
 
   -- the six bytes that the data writer wrote, sent with a write pending
-  pub written-data-sent : (file buffer answer : List ℕ) (name n r : ℕ) → fileGround file ≡ 0 → slots ≤ length answer → pendingDuty (decode file) ≡ writing name n r → writeData buffer bytes .0 ≡ done tt →
+  pub written-data-sent :
+      (file buffer answer : List ℕ) (name n r : ℕ) → fileGround file ≡ 0 → slots ≤ length answer → pendingDuty (decode file) ≡ writing name n r →
+      writeData buffer bytes .0 ≡ done tt →
       roundOn file (take frameSize (writeData buffer bytes .1)) answer ≡ (done 0, answerIn answer (answerBytes dataFirework nobody), encode (rested nothing (slavesAfter (writing name n r) bytes (epochRaised (decode file)))))
   written-data-sent file buffer answer name n r accepted long p written =
       ap (λ (frame : List ℕ). roundOn file frame answer) (written-frame buffer written) ∙ data-sent file answer name n r accepted long p

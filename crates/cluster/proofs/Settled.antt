@@ -57,7 +57,9 @@ pub record Unanswered (name : ℕ) (c : Cluster) (firework : ℕ) (old new : Lis
   pub hearing : Hearing (comparing name) c firework old new i last
   pub silent : last ≡ 0
 
-pub unanswered-start : (name : ℕ) (c : Cluster) {firework : ℕ} (old : List ℕ) {new : List ℕ} → slots ≤ length old → new ≡ answerIn old (answerBytes firework nobody) → Unanswered name c firework new new 0 0
+pub unanswered-start :
+    (name : ℕ) (c : Cluster) {firework : ℕ} (old : List ℕ) {new : List ℕ} → slots ≤ length old → new ≡ answerIn old (answerBytes firework nobody) →
+    Unanswered name c firework new new 0 0
 unfolding sizeOf
 unanswered-start name c old long e = record { hearing = hearing-start (comparing name) c old (omega arith) long e; silent = refl }
 

@@ -27,7 +27,9 @@ use Rattle.file.proofs.Order.{byCase, clash, both-true, both-left, both-next, b
 use Rattle.file.proofs.Puts.{putByte-slave-same, putByte-count, sets-again, hasRecord-fits}
 use Rattle.file.proofs.ReaderLaws.{place-within, part-there}
 use Rattle.file.proofs.StoreLaws.{becomes-record}
-use Rattle.cluster.specs.Rules.Slaves.{Duty, nothing, sleeping, sleepRecord, fallsAsleep, restsAfter, addresses, addressed, isUnnamed, reading, writing, comparing, baptizing, answersRead, readReply, answersCompare, replyTo, mayWrite, isNameRecord, written, takesWrite, takesName, named, replaced, slaveAfter}
+use Rattle.cluster.specs.Rules.Slaves.{Duty, nothing, sleeping, sleepRecord, fallsAsleep, restsAfter, addresses, addressed, isUnnamed, reading, writing}
+use Rattle.cluster.specs.Rules.Slaves.{comparing, baptizing, answersRead, readReply, answersCompare, replyTo, mayWrite, isNameRecord, written}
+use Rattle.cluster.specs.Rules.Slaves.{takesWrite, takesName, named, replaced, slaveAfter}
 use Rattle.cluster.proofs.Kept.{written-bytes}
 use Rattle.cluster.proofs.Asleep.{asleep-quiet, asleep-stays, asleep-wakes}
 use Rattle.cluster.proofs.Replaced.{written-most}
@@ -165,7 +167,9 @@ module _ {f : List ℕ} {c : Cluster} (h : Becomes f c) (s name n r : ℕ) {own 
       (reply-unread name n r (slaveOf c s)
       (answersRead-as name n r (slaveOf c s) (sym wakes ∙ not-false up isUp) named′ ∙ both-false-right (both (addresses name own) (not (eqb own unnamed))) (missing-facts c s n r e is)))
 
-  pub read-found : not t ≡ false → {x : RecordPlace} {place : ℕ} {new : List ℕ} → foundRecord x ≡ findRecord c s n r → x ≡ At place → new ≡ said b 1 (readReply (part f place 4)) → Replied (replyTo (reading name n r) (slaveOf c s)) b new last 5
+  pub read-found :
+      not t ≡ false → {x : RecordPlace} {place : ℕ} {new : List ℕ} → foundRecord x ≡ findRecord c s n r → x ≡ At place →
+      new ≡ said b 1 (readReply (part f place 4)) → Replied (replyTo (reading name n r) (slaveOf c s)) b new last 5
   unfolding recordOf
   read-found yes′ {x} {place} e is stored =
       let found : Found c s n r place = found-facts c s n r e is in
@@ -188,7 +192,9 @@ reply-uncompared : (name : ℕ) (s : Slave) → answersCompare name s ≡ false 
 unfolding replyTo
 reply-uncompared name s e = rw e
 
-answersCompare-as : (name : ℕ) (s : Slave) {own : ℕ} → isAwake s ≡ true → own ≡ logicalName s → answersCompare name s ≡ both (both (not (eqb name broadcast)) (addresses name own)) (leb (comparisonValue s) (physicalName s))
+answersCompare-as :
+    (name : ℕ) (s : Slave) {own : ℕ} → isAwake s ≡ true → own ≡ logicalName s →
+    answersCompare name s ≡ both (both (not (eqb name broadcast)) (addresses name own)) (leb (comparisonValue s) (physicalName s))
 unfolding answersCompare addressed
 answersCompare-as name s {own} awake e = rw (both-next (addresses name (logicalName s)) awake, e) (both-assoc (not (eqb name broadcast)) (addresses name (logicalName s)) (leb (comparisonValue s) (physicalName s)))
 
@@ -199,13 +205,17 @@ module _ (c : Cluster) (s name : ℕ) {own : ℕ} {t up : Bool} (wakes : up ≡ 
       (reply-uncompared name (slaveOf c s)
       (answersCompare-as name (slaveOf c s) (sym wakes ∙ not-false up isUp) named′ ∙ both-false-left (leb (comparisonValue (slaveOf c s)) (physicalName (slaveOf c s))) (sym test ∙ not-true t no′)))
 
-  pub compare-below : {value physical : ℕ} → value ≡ comparisonValue (slaveOf c s) → physical ≡ physicalName (slaveOf c s) → physical < value → Replied (replyTo (comparing name) (slaveOf c s)) b b last last
+  pub compare-below :
+      {value physical : ℕ} → value ≡ comparisonValue (slaveOf c s) → physical ≡ physicalName (slaveOf c s) → physical < value →
+      Replied (replyTo (comparing name) (slaveOf c s)) b b last last
   compare-below v p less =
       reply-quiet b last
       (reply-uncompared name (slaveOf c s)
       (answersCompare-as name (slaveOf c s) (sym wakes ∙ not-false up isUp) named′ ∙ both-false-right (both (not (eqb name broadcast)) (addresses name own)) (lt-leb (comparisonValue (slaveOf c s)) (physicalName (slaveOf c s)) (omega arith))))
 
-  pub compare-answers : not t ≡ false → {value physical : ℕ} {new : List ℕ} → value ≡ comparisonValue (slaveOf c s) → physical ≡ physicalName (slaveOf c s) → value ≤ physical → new ≡ said b 1 (0 ∷ []) → Replied (replyTo (comparing name) (slaveOf c s)) b new last 1
+  pub compare-answers :
+      not t ≡ false → {value physical : ℕ} {new : List ℕ} → value ≡ comparisonValue (slaveOf c s) → physical ≡ physicalName (slaveOf c s) → value ≤ physical →
+      new ≡ said b 1 (0 ∷ []) → Replied (replyTo (comparing name) (slaveOf c s)) b new last 1
   compare-answers yes′ v p least stored =
       let reply : replyTo (comparing name) (slaveOf c s) ≡ 0 ∷ [] =
       reply-compare name (slaveOf c s)
@@ -223,7 +233,9 @@ same-slave {f} {c} s {x} h e =
     rw same h
 
 -- a sleeping slave stays as it is, whatever the round
-pub after-asleep : {f : List ℕ} {c : Cluster} (s : ℕ) (o : Duty) (bytes : List ℕ) {up : Bool} → Becomes f c → up ≡ isAwake (slaveOf c s) → not up ≡ true → Becomes f (withSlave c s (slaveAfter o bytes (slaveOf c s)))
+pub after-asleep :
+    {f : List ℕ} {c : Cluster} (s : ℕ) (o : Duty) (bytes : List ℕ) {up : Bool} → Becomes f c → up ≡ isAwake (slaveOf c s) → not up ≡ true →
+    Becomes f (withSlave c s (slaveAfter o bytes (slaveOf c s)))
 after-asleep {c = c} s o bytes {up} h is no′ = same-slave s h (asleep-stays (slaveOf c s) (sym is ∙ not-true up no′) o bytes)
 
 putByte-replaced : (c : Cluster) (s n k b : ℕ) → putByte c s n k b ≡ withSlave c s (putInSlave (slaveOf c s) n k b)
@@ -313,7 +325,9 @@ module _ {f : List ℕ} {c : Cluster} (h : Becomes f c) (s name n r : ℕ) {own 
       (after-unwritten name n r bytes (slaveOf c s)
       (takesWrite-as name n r (slaveOf c s) (sym wakes ∙ not-false up isUp) named′ ∙ both-false-right (addresses name own) (both-false-left (mayWrite n r) (missing-facts c s n r e is))))
 
-  pub write-found : not t ≡ false → mayWrite n r ≡ true → length bytes ≡ 4 → s < length (c .slaves) → {x : RecordPlace} {place : ℕ} {new : List ℕ} → foundRecord x ≡ findRecord c s n r → x ≡ At place → DataPut f new place (written n r bytes) →
+  pub write-found :
+      not t ≡ false → mayWrite n r ≡ true → length bytes ≡ 4 → s < length (c .slaves) → {x : RecordPlace} {place : ℕ} {new : List ℕ} →
+      foundRecord x ≡ findRecord c s n r → x ≡ At place → DataPut f new place (written n r bytes) →
       Becomes new (withSlave c s (slaveAfter (writing name n r) bytes (slaveOf c s)))
   write-found yes′ may four inside {place = place} {new} e is put =
       let found : Found c s n r place = found-facts c s n r e is in
@@ -350,13 +364,17 @@ module _ {f : List ℕ} {c : Cluster} (h : Becomes f c) (s name : ℕ) {own : �
       (after-unnamed name bytes (slaveOf c s)
       (takesName-as name (slaveOf c s) (sym wakes ∙ not-false up isUp) named′ ∙ both-false-left (eqb (physicalName (slaveOf c s)) (comparisonValue (slaveOf c s))) (sym test ∙ not-true t no′)))
 
-  pub baptize-other : {value physical : ℕ} → value ≡ comparisonValue (slaveOf c s) → physical ≡ physicalName (slaveOf c s) → (physical ≡ value → ⊥) → Becomes f (withSlave c s (slaveAfter (baptizing name) bytes (slaveOf c s)))
+  pub baptize-other :
+      {value physical : ℕ} → value ≡ comparisonValue (slaveOf c s) → physical ≡ physicalName (slaveOf c s) → (physical ≡ value → ⊥) →
+      Becomes f (withSlave c s (slaveAfter (baptizing name) bytes (slaveOf c s)))
   baptize-other v p differ =
       same-slave s h
       (after-unnamed name bytes (slaveOf c s)
       (takesName-as name (slaveOf c s) (sym wakes ∙ not-false up isUp) named′ ∙ both-false-right (addresses name own) (ne-eqb (physicalName (slaveOf c s)) (comparisonValue (slaveOf c s)) (λ e. differ (p ∙ e ∙ sym v)))))
 
-  pub baptize-takes : not t ≡ false → {value physical : ℕ} {new : List ℕ} → value ≡ comparisonValue (slaveOf c s) → physical ≡ physicalName (slaveOf c s) → physical ≡ value → Becomes new (putByte c s configuration (logicalNamePlace) (newLogicalName (slaveOf c s))) →
+  pub baptize-takes :
+      not t ≡ false → {value physical : ℕ} {new : List ℕ} → value ≡ comparisonValue (slaveOf c s) → physical ≡ physicalName (slaveOf c s) → physical ≡ value →
+      Becomes new (putByte c s configuration (logicalNamePlace) (newLogicalName (slaveOf c s))) →
       Becomes new (withSlave c s (slaveAfter (baptizing name) bytes (slaveOf c s)))
   unfolding named
   baptize-takes yes′ {new = new} v p same becomes =
@@ -396,10 +414,14 @@ put-rested : (c : Cluster) (s b : ℕ) (o : Duty) → cond (fallsAsleep o (slave
 unfolding putSleep withSlave restsAfter
 put-rested c s b o e = rw e
 
-pub rests-asleep : {f : List ℕ} (c : Cluster) (s : ℕ) (o : Duty) {t : Bool} → t ≡ fallsAsleep o (slaveOf c s) → t ≡ true → Becomes f (putSleep c s 1) → Becomes f (withSlave c s (restsAfter o (slaveOf c s)))
+pub rests-asleep :
+    {f : List ℕ} (c : Cluster) (s : ℕ) (o : Duty) {t : Bool} → t ≡ fallsAsleep o (slaveOf c s) → t ≡ true → Becomes f (putSleep c s 1) →
+    Becomes f (withSlave c s (restsAfter o (slaveOf c s)))
 rests-asleep {f} c s o is yes′ h = subst (λ (d : Cluster). Becomes f d) (put-rested c s 1 o (rw (sym is ∙ yes′))) h
 
-pub rests-awake : {f : List ℕ} (c : Cluster) (s : ℕ) (o : Duty) {t : Bool} → t ≡ fallsAsleep o (slaveOf c s) → t ≡ false → Becomes f (putSleep c s 0) → Becomes f (withSlave c s (restsAfter o (slaveOf c s)))
+pub rests-awake :
+    {f : List ℕ} (c : Cluster) (s : ℕ) (o : Duty) {t : Bool} → t ≡ fallsAsleep o (slaveOf c s) → t ≡ false → Becomes f (putSleep c s 0) →
+    Becomes f (withSlave c s (restsAfter o (slaveOf c s)))
 rests-awake {f} c s o is no′ h = subst (λ (d : Cluster). Becomes f d) (put-rested c s 0 o (rw (sym is ∙ no′))) h
 
 pub rests-woken : {f : List ℕ} (c : Cluster) (s : ℕ) → Becomes f (putSleep c s 0) → Becomes f (withSlave c s (restsAfter nothing (slaveOf c s)))

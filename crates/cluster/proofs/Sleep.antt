@@ -19,7 +19,9 @@ use Rattle.file.proofs.Shape.{shape-count}
 use Rattle.frame.specs.Rules.Fireworks.{Round, multipartner, msd, msa, noRound}
 use Rattle.frame.specs.Rules.Frames.{between}
 use Rattle.cluster.specs.Rules.Bus.{Senders, busByte, slots, nobody}
-use Rattle.cluster.specs.Rules.Slaves.{withAddress, epochRaised, Duty, nothing, reading, writing, comparing, baptizing, sleeping, sleepRecord, executionOf, dutyBy, pendingDuty, addressed, replyTo, sentTo, slaveAfter, slavesAfter, fallsAsleep, restsAfter, rested}
+use Rattle.cluster.specs.Rules.Slaves.{withAddress, epochRaised, Duty, nothing, reading, writing, comparing, baptizing, sleeping, sleepRecord}
+use Rattle.cluster.specs.Rules.Slaves.{executionOf, dutyBy, pendingDuty, addressed, replyTo, sentTo, slaveAfter, slavesAfter, fallsAsleep, restsAfter}
+use Rattle.cluster.specs.Rules.Slaves.{rested}
 use Rattle.cluster.specs.Rules.Entries.{Entry}
 use Rattle.cluster.specs.Rules.Multipartner.{byteThere, sendsFrom, storesAt, storedThere, sentIn, receivedIn, clusterBelow}
 use Rattle.cluster.specs.Rules.Grounds.{roundBy}

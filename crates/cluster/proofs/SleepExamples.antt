@@ -11,9 +11,12 @@ use Rattle.file.specs.Rules.Cluster.{Slave, Cluster, isAwake, lastRecord, bytes
 use Rattle.file.specs.Rules.Changes.{putAmong, putInSlave, withSleep, withSlaves, withEpoch, withPending}
 use Rattle.frame.specs.Rules.Fireworks.{multipartner, msd, msa}
 use Rattle.cluster.specs.Rules.Bus.{joined, busByte}
-use Rattle.cluster.specs.Rules.Slaves.{withAddress, nextEpoch, epochRaised, executionOf, dutyBy, pendingDuty, isUnnamed, addresses, addressed, answersRead, answersCompare, mayWrite, takesWrite, takesName, slaveAfter, slavesAfter, fallsAsleep, restsAfter, rested}
+use Rattle.cluster.specs.Rules.Slaves.{withAddress, nextEpoch, epochRaised, executionOf, dutyBy, pendingDuty, isUnnamed, addresses, addressed}
+use Rattle.cluster.specs.Rules.Slaves.{answersRead, answersCompare, mayWrite, takesWrite, takesName, slaveAfter, slavesAfter, fallsAsleep, restsAfter}
+use Rattle.cluster.specs.Rules.Slaves.{rested}
 use Rattle.cluster.specs.Rules.Entries.{entryOf, entryThere, entryAt, isMultiplexed, receives, sends, ends, covers, inTurn, outOfTurn, eligible, actingFrom, acting, bytePlace}
-use Rattle.cluster.specs.Rules.Multipartner.{within, sendPlace, mayStore, storePlace, plansFrom, sendsFrom, storesAt, byteThere, storedThere, sentBy, sentIn, receivedIn, clusterBelow, sentDuring}
+use Rattle.cluster.specs.Rules.Multipartner.{within, sendPlace, mayStore, storePlace, plansFrom, sendsFrom, storesAt, byteThere, storedThere, sentBy}
+use Rattle.cluster.specs.Rules.Multipartner.{sentIn, receivedIn, clusterBelow, sentDuring}
 use Rattle.cluster.specs.Rules.Round.{Effect, passedOver, effectOf}
 
 -- a slave of that name, whose 0x08 has so many bytes more than its records 0x00 and 1

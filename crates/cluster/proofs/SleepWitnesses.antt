@@ -13,7 +13,9 @@ use Rattle.file.specs.Rules.Cluster.{isAwake, noOperation, broadcastRead, bytes
 use Rattle.file.specs.Rules.Decode.{decode, decodeAt, slavesAt, slaveAt, filesAt, fileAt, fileSize, offsetAt}
 use Rattle.file.specs.Rules.Encode.{encode, encodeAt, header, fileLength, slavesPlace, slavesSize, table, tableEntry, slavesBytes, slaveSize, slaveBytes, contents, directory, directoryEntry}
 use Rattle.file.specs.Rules.Changes.{withSleep, withSlaves, withEpoch, withPending}
-use Rattle.file.specs.Rules.Grounds.{isAmong, hasRepeat, fileGrounds, fileGroundsAt, wrongSize, wrongMark, wrongEdition, wrongLength, wrongHeader, wrongPending, brokenLayout, walkFile, tableEnd, walkSlaves, andThen, walkSlave, goodTableEntry, walkDirectory, goodEntry, endsAt, lacksNeeded, allHaveNeeded, hasNeeded, equalPhysicalNames}
+use Rattle.file.specs.Rules.Grounds.{isAmong, hasRepeat, fileGrounds, fileGroundsAt, wrongSize, wrongMark, wrongEdition, wrongLength, wrongHeader}
+use Rattle.file.specs.Rules.Grounds.{wrongPending, brokenLayout, walkFile, tableEnd, walkSlaves, andThen, walkSlave, goodTableEntry, walkDirectory, goodEntry}
+use Rattle.file.specs.Rules.Grounds.{endsAt, lacksNeeded, allHaveNeeded, hasNeeded, equalPhysicalNames}
 use Rattle.frame.specs.Rules.Check.{exclusiveOr, checkOf, addressCheck}
 use Rattle.frame.specs.Rules.Fireworks.{roundOf, roundIn}
 use Rattle.frame.specs.Rules.Grounds.{wrongFrameLength, wrongCheck}

@@ -318,12 +318,16 @@ received-silent : (passed : Entry → Bool) (round slot : ℕ) (c : Cluster) (se
 unfolding receivedIn
 received-silent passed round slot c sent e = rw e
 
-received-heard : (passed : Entry → Bool) (round slot : ℕ) (c : Cluster) (sent : List ℕ) → someone sent ≡ true → receivedIn passed round slot c sent ≡ receivedBy passed c round slot (busByte sent) (length (c .slaves))
+received-heard :
+    (passed : Entry → Bool) (round slot : ℕ) (c : Cluster) (sent : List ℕ) → someone sent ≡ true →
+    receivedIn passed round slot c sent ≡ receivedBy passed c round slot (busByte sent) (length (c .slaves))
 unfolding receivedIn someone
 received-heard passed round slot c [] e = absurd (mathlib.Core.Bool.true≢false (sym e))
 received-heard passed round slot c (b ∷ bs) e = sym (received-all passed c round slot (busByte (b ∷ bs)))
 
-below-next : (passed : Entry → Bool) (round : ℕ) (c : Cluster) (slot : ℕ) → clusterBelow passed round c (slot + 1) ≡ receivedIn passed round slot (clusterBelow passed round c slot) (sentDuring passed round c slot)
+below-next :
+    (passed : Entry → Bool) (round : ℕ) (c : Cluster) (slot : ℕ) →
+    clusterBelow passed round c (slot + 1) ≡ receivedIn passed round slot (clusterBelow passed round c slot) (sentDuring passed round c slot)
 unfolding clusterBelow sentDuring
 below-next passed round c slot = rw add-one
 

@@ -114,7 +114,9 @@ module _ (passed : Entry → Bool) (c : Cluster) (round slot b : ℕ) where
   unfoldable pub receivedBy : ℕ → Cluster
   receivedBy n = withSlaves c (firstChanged receiver n (c .slaves))
 
-pub received-all : (passed : Entry → Bool) (c : Cluster) (round slot b : ℕ) → receivedBy passed c round slot b (length (c .slaves)) ≡ withSlaves c (map (λ (s : Slave). storedThere s (storesAt passed round slot s) b) (c .slaves))
+pub received-all :
+    (passed : Entry → Bool) (c : Cluster) (round slot b : ℕ) →
+    receivedBy passed c round slot b (length (c .slaves)) ≡ withSlaves c (map (λ (s : Slave). storedThere s (storesAt passed round slot s) b) (c .slaves))
 unfolding receivedBy receiver
 received-all passed c round slot b = ap (withSlaves c) (changed-all (λ (s : Slave). storedThere s (storesAt passed round slot s) b) (c .slaves))
 
@@ -139,7 +141,9 @@ module _ (passed : Entry → Bool) (c : Cluster) (round slot b : ℕ) (byte : By
   received-slave n = changed-at (receiver passed c round slot b) (c .slaves) n
 
   -- a byte stored by slave n
-  put-next : (n m k : ℕ) → n < length (c .slaves) → storesAt passed round slot (slaveOf c n) ≡ byteOf m k → putByte (receivedBy passed c round slot b n) n m k b ≡ receivedBy passed c round slot b (suc n)
+  put-next :
+      (n m k : ℕ) → n < length (c .slaves) → storesAt passed round slot (slaveOf c n) ≡ byteOf m k →
+      putByte (receivedBy passed c round slot b n) n m k b ≡ receivedBy passed c round slot b (suc n)
   unfolding putByte receivedBy withSlaves slaveOf receiver storedThere
   put-next n m k l at =
       let ss : List Slave = c .slaves in

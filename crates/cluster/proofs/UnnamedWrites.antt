@@ -42,7 +42,9 @@ write-pending c name n r p =
 
 -- ---- the slaves
 
-pub slaves-after : (c : Cluster) (frame : List ℕ) {o : Duty} → roundBy frame ≡ msd → pendingDuty c ≡ o → frameOn c frame .after .slaves ≡ map (restsAfter o) (map (slaveAfter o (between frame)) (c .slaves))
+pub slaves-after :
+    (c : Cluster) (frame : List ℕ) {o : Duty} → roundBy frame ≡ msd → pendingDuty c ≡ o →
+    frameOn c frame .after .slaves ≡ map (restsAfter o) (map (slaveAfter o (between frame)) (c .slaves))
 unfolding frameOn effectOf rested slavesAfter withSlaves epochRaised withEpoch
 slaves-after c frame is p = rw (is, p)
 

@@ -16,7 +16,8 @@ use Rattle.file.proofs.Puts.{inSlave-other}
 use Rattle.frame.specs.Rules.Fireworks.{Round, multipartner, msd, msa, noRound}
 use Rattle.frame.specs.Rules.Frames.{between}
 use Rattle.cluster.specs.Rules.Bus.{busByte, slots}
-use Rattle.cluster.specs.Rules.Slaves.{withAddress, epochRaised, Duty, nothing, reading, writing, comparing, baptizing, pendingDuty, written, takesWrite, takesName, named, replaced, slaveAfter, slavesAfter, restsAfter, rested}
+use Rattle.cluster.specs.Rules.Slaves.{withAddress, epochRaised, Duty, nothing, reading, writing, comparing, baptizing, pendingDuty, written}
+use Rattle.cluster.specs.Rules.Slaves.{takesWrite, takesName, named, replaced, slaveAfter, slavesAfter, restsAfter, rested}
 use Rattle.cluster.specs.Rules.Entries.{Entry}
 use Rattle.cluster.specs.Rules.Multipartner.{SlaveByte, nowhere, byteOf, storesAt, storedThere, receivedIn, sentIn, clusterBelow}
 use Rattle.cluster.specs.Rules.Grounds.{roundBy}
@@ -127,7 +128,9 @@ rested-other o n c = filesOf-map n (restsAfter o) (λ s. rests-bytes o s n) (c .
 
 -- ---- any round
 
-effect-other : (n : ℕ) → Unstored n → (c : Cluster) (round : Round) → (round ≡ msd → Leaves n (pendingDuty c)) → (frame : List ℕ) → filesOf n (effectOf c round frame .after .slaves) ≡ filesOf n (c .slaves)
+effect-other :
+    (n : ℕ) → Unstored n → (c : Cluster) (round : Round) → (round ≡ msd → Leaves n (pendingDuty c)) → (frame : List ℕ) →
+    filesOf n (effectOf c round frame .after .slaves) ≡ filesOf n (c .slaves)
 unfolding effectOf withAddress withPending epochRaised withEpoch
 effect-other n out c (multipartner r) leaves frame =
     rested-other nothing n (clusterBelow (passedOver c) r (epochRaised c) slots) ∙ below-other (passedOver c) r (epochRaised c) slots n out

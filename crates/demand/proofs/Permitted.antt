@@ -15,7 +15,8 @@ use Rattle.trace.specs.Rules.Encode.{encodeTrace, Frame, Frames}
 use Rattle.trace.proofs.Encoded.{encoded-accepted}
 use Rattle.naming.specs.Rules.Run.{fresh, startGround}
 use Rattle.naming.specs.Rules.Account.{Call}
-use Rattle.naming.specs.Claims.PermittedRounds.{IsStep as IsStepByRules, is-step as is-step-by-rules, PermittedFrom, addressOf, DataFor, ofWrite, ofOther, Rounds, noRounds, multipartnerNext, masterSlaveNext, SentBy, noFrames, oneMore}
+use Rattle.naming.specs.Claims.PermittedRounds.{IsStep as IsStepByRules, is-step as is-step-by-rules, PermittedFrom, addressOf, DataFor, ofWrite, ofOther}
+use Rattle.naming.specs.Claims.PermittedRounds.{Rounds, noRounds, multipartnerNext, masterSlaveNext, SentBy, noFrames, oneMore}
 use Rattle.naming.proofs.PermittedExactly.{permitted-exactly}
 use Rattle.naming.proofs.PermittedRounds.{address-of-bytes, data-frame-bytes, rounds-fit}
 use Rattle.demand.specs.Claims.Traces.{CallOrTrace, frameCall, framesSingly, singly}

@@ -26,7 +26,8 @@ use Rattle.naming.specs.Claims.Cases.{answerBuffer}
 use Rattle.file.proofs.BytesBelow.{allBelow, bytes-below}
 use Rattle.naming.proofs.Examples.{m10-accepted}
 use Rattle.ttpa.specs.Rules.Calls.{fillCall, startCall, wordsOf, positionIn, roundCall, roundKeepingCall}
-use Rattle.demand.specs.Claims.Calls.{CCall, ttpaStepKeeping, ttpaRound, ttpaStep, given-step, given-step-keeping, given-frame, memoryAfter, afterCalls, started, CallsDemand, is-step, is-step-keeping}
+use Rattle.demand.specs.Claims.Calls.{CCall, ttpaStepKeeping, ttpaRound, ttpaStep, given-step, given-step-keeping, given-frame, memoryAfter, afterCalls}
+use Rattle.demand.specs.Claims.Calls.{started, CallsDemand, is-step, is-step-keeping}
 use Rattle.demand.specs.Claims.Summary.{Made, keepingRound, keepingStep, other, otherFile, inRound, inStep, inOther, AllKeep, noneMade, nextMade, AnswersAsRead, filledAndMade}
 use Rattle.demand.specs.Claims.Summary.{AllGivenRight, oneMore, noCalls, stepMatching, stepWithout, roundWithout}
 use Rattle.demand.proofs.Calls.{accepted-runs, start-number, steps-permitted, demand-over-calls}

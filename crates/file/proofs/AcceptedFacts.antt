@@ -18,8 +18,10 @@ use Rattle.file.specs.Rules.Cluster.{Slave, bytesIn, lastRecord, configu
 use Rattle.file.specs.Rules.Cluster
 use Rattle.file.specs.Rules.Decode.{offsetAt, decodeAt}
 use Rattle.file.specs.Rules.Legal.{Distinct}
-use Rattle.file.specs.Rules.Grounds.{wrongPending, Walk, walkFile, endsAt, brokenLayout, hasNeeded, allHaveNeeded, lacksNeeded, isAmong, hasRepeat, equalPhysicalNames, fileGroundsAt, fileGroundAt}
-use Rattle.file.proofs.Facts.{not-yes, no-operation, some-operation, SizeFacts, size-facts, size-yes, MarkFacts, mark-facts, mark-yes, edition-facts, edition-yes, length-facts, length-yes, HeaderFacts, header-facts, header-yes}
+use Rattle.file.specs.Rules.Grounds.{wrongPending, Walk, walkFile, endsAt, brokenLayout, hasNeeded, allHaveNeeded, lacksNeeded, isAmong, hasRepeat}
+use Rattle.file.specs.Rules.Grounds.{equalPhysicalNames, fileGroundsAt, fileGroundAt}
+use Rattle.file.proofs.Facts.{not-yes, no-operation, some-operation, SizeFacts, size-facts, size-yes, MarkFacts, mark-facts, mark-yes, edition-facts}
+use Rattle.file.proofs.Facts.{edition-yes, length-facts, length-yes, HeaderFacts, header-facts, header-yes}
 use Rattle.file.proofs.Order.{clash, both-left, both-right, both-true, both-unless, both-false-next, either-false, either-false-left, either-false-right, first-none, first-next, first-end}
 
 -- ---- 5: the pending operation

@@ -21,7 +21,8 @@ use Rattle.file.proofs.NumberLaws.{part-length}
 use Rattle.file.proofs.Arrivals.{tested-arrives, arrives-same}
 use Rattle.file.proofs.Sizes.{directoryEntry-length}
 use Rattle.file.proofs.Bytes.{all-first, all-others, byte-at, bytes-part}
-use Rattle.file.proofs.Stands.{Stands, stands-part, part-stands, stands-at, stands-byte, stands-left, stands-right, stands-append, stands-none, stands-next, stands-zeros, zeros-stand, stands-number, number-stands}
+use Rattle.file.proofs.Stands.{Stands, stands-part, part-stands, stands-at, stands-byte, stands-left, stands-right, stands-append, stands-none}
+use Rattle.file.proofs.Stands.{stands-next, stands-zeros, zeros-stand, stands-number, number-stands}
 
 -- ---- a file's size
 

@@ -177,7 +177,9 @@ unseen name l none e = sym (none e)
 pub unrepeated : {b : Bool} (f places : List ℕ) (s : ℕ) → (b ≡ false → repeatsName f places s ≡ false) → b ≡ false → false ≡ repeatsName f places s
 unrepeated f places s none e = sym (none e)
 
-pub repeats-search : (f places : List ℕ) (s : ℕ) {name : ℕ} → name ≡ nameAt f (getD places (documentationIndex s) 0) → {t : Bool} → t ≡ isAmong name (drop (s + 1) (namesAt f places)) → t ≡ repeatsName f places s
+pub repeats-search :
+    (f places : List ℕ) (s : ℕ) {name : ℕ} → name ≡ nameAt f (getD places (documentationIndex s) 0) → {t : Bool} →
+    t ≡ isAmong name (drop (s + 1) (namesAt f places)) → t ≡ repeatsName f places s
 unfolding repeatsName
 repeats-search f places s is found = found ∙ ap (λ (n : ℕ). isAmong n (drop (s + 1) (namesAt f places))) is
 

@@ -22,7 +22,8 @@ use Rattle.file.specs.Rules.Grounds.{to, walkSlaves, tableEnd, walkFile,
 use Rattle.file.specs.Rules.Encode.{slavesPlace}
 use Rattle.file.specs.Inner.Places.{filePlaceAt, filePlace, placesEach}
 use Rattle.file.specs.Inner.Accepted.{PlacesOf, WidthOf}
-use Rattle.file.specs.Inner.Checked.{EntriesFit, GoodHeader, HeaderChecked, PlacesFit, statedPlaces, documentationPlaces, walkOf, SlavesWalked, WholeWalk, BodyWalked, slavesGround, NameStands, namesAt, NamesStand}
+use Rattle.file.specs.Inner.Checked.{EntriesFit, GoodHeader, HeaderChecked, PlacesFit, statedPlaces, documentationPlaces, walkOf, SlavesWalked}
+use Rattle.file.specs.Inner.Checked.{WholeWalk, BodyWalked, slavesGround, NameStands, namesAt, NamesStand}
 use Rattle.file.specs.Inner.Surveyed.{Surveyed}
 use Rattle.file.proofs.Order.{byCase, clash}
 use Rattle.file.proofs.Facts.{true-unless, size-facts, header-facts}

@@ -17,7 +17,10 @@ use Rattle.file.specs.Rules.Changes.{putAmong, putInSlave, withSleep, withEditi
 use Rattle.file.specs.Rules.Legal.{LegalFile, LegalSlave, Legal, Rising, Distinct}
 use Rattle.file.specs.Rules.Results.{Result, done, writtenIn}
 use Rattle.file.specs.Rules.Editions.{inEdition, exceeds}
-use Rattle.file.specs.Rules.Grounds.{isAmong, hasRepeat, fileGround, fileGrounds, fileGroundAt, fileGroundsAt, wrongSize, wrongMark, wrongEdition, wrongLength, wrongHeader, wrongPending, brokenLayout, walkFile, tableEnd, walkSlaves, andThen, walkSlave, goodTableEntry, walkDirectory, goodEntry, endsAt, lacksNeeded, allHaveNeeded, hasNeeded, equalPhysicalNames, heldNames, equalLogicalNames, loadGround}
+use Rattle.file.specs.Rules.Grounds.{isAmong, hasRepeat, fileGround, fileGrounds, fileGroundAt, fileGroundsAt, wrongSize, wrongMark, wrongEdition}
+use Rattle.file.specs.Rules.Grounds.{wrongLength, wrongHeader, wrongPending, brokenLayout, walkFile, tableEnd, walkSlaves, andThen, walkSlave, goodTableEntry}
+use Rattle.file.specs.Rules.Grounds.{walkDirectory, goodEntry, endsAt, lacksNeeded, allHaveNeeded, hasNeeded, equalPhysicalNames, heldNames}
+use Rattle.file.specs.Rules.Grounds.{equalLogicalNames, loadGround}
 use Rattle.file.specs.Claims.Edition.{NoEdition}
 use Rattle.file.proofs.Bytes.{all-append, all-replicate, all-at}
 use Rattle.file.proofs.BytesBelow.{allBelow, bytes-below}

@@ -34,7 +34,8 @@ use Rattle.cluster.specs.Rules.MasterSlave.{roundSent}
 use Rattle.file.specs.Rules.Results.{Result, done}
 use Rattle.file.specs.Rules.Order.{firstOf}
 use Rattle.naming.specs.Rules.Account.{StepArguments, step, argumentsGround}
-use Rattle.naming.specs.Rules.Account.{Named, Account, namesOf, namesIn, accountOf, accountCall, accountAfter, oneRound, comparisonsOf, highAgain, falling, unnamedAmong, namesHeld, namingComparisons, endingRounds}
+use Rattle.naming.specs.Rules.Account.{Named, Account, namesOf, namesIn, accountOf, accountCall, accountAfter, oneRound, comparisonsOf, highAgain, falling}
+use Rattle.naming.specs.Rules.Account.{unnamedAmong, namesHeld, namingComparisons, endingRounds}
 use Rattle.naming.specs.Rules.Figures.{roundsFor, comparisonsFor, namesAfter}
 use Rattle.naming.specs.Claims.Demand.{State, startOn, callOn, of-step}
 use Rattle.naming.proofs.Places.{LegalPlace, inner, at-baptize, step-lt}

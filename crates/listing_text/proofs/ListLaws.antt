@@ -16,7 +16,9 @@ use Rattle.file.proofs.Order.{byCase}
 use Rattle.file.specs.Rules.Results.{Result, refused, done}
 use Rattle.cluster.specs.Rules.Bus.{slots}
 use Rattle.cluster.proofs.Rounds.{none-holds}
-use Rattle.naming.specs.Rules.Run.{Position, running, fresh, runGrounds, PassPlace, PassPlace.poll, ask, giveName, giveHigh, giveLow, PassPlace.baptize, least, bit, high, low, reply, placeOf, roundHere, onto, wrote, moveOn, onward, nextName, endAllNamed, passAdvance, isExtra, countRaised, advance, lastStep}
+use Rattle.naming.specs.Rules.Run.{Position, running, fresh, runGrounds, PassPlace, PassPlace.poll, ask, giveName, giveHigh, giveLow, PassPlace.baptize}
+use Rattle.naming.specs.Rules.Run.{least, bit, high, low, reply, placeOf, roundHere, onto, wrote, moveOn, onward, nextName, endAllNamed, passAdvance, isExtra}
+use Rattle.naming.specs.Rules.Run.{countRaised, advance, lastStep}
 use Rattle.naming.specs.Rules.Rounds.{RunRound, RunRound.poll as pollOf, writeName, writeHigh, writeLow, compare, RunRound.baptize as baptizeAll}
 use Rattle.naming.specs.Rules.Step.{StepDone, ended, made, stepGround, stepMade, stepOn}
 use Rattle.naming.specs.Rules.Steps.{isMade as isStepMade, begun, nextStep}
@@ -39,7 +41,8 @@ use Rattle.naming.proofs.PassRounds.{onto-counts}
 use Rattle.listing_text.specs.Rules.Text.{nameLine, totalsLine, refusedLine}
 use Rattle.listing_text.specs.Inner.Puts.{Puts, PutsAtMost}
 use Rattle.listing_text.specs.Rules.Text.{lineSize, totalsSize}
-use Rattle.listing_text.specs.Rules.Listing.{allNames, namesFrom, nameCount, ListState, isMade, givesName, withoutName, withName, listStep, listSteps, mostSteps, startState, endState, withTotals, listing, fileListed, listed}
+use Rattle.listing_text.specs.Rules.Listing.{allNames, namesFrom, nameCount, ListState, isMade, givesName, withoutName, withName, listStep, listSteps}
+use Rattle.listing_text.specs.Rules.Listing.{mostSteps, startState, endState, withTotals, listing, fileListed, listed}
 use Rattle.listing_text.specs.Inner.ListRuns.{stateOf, Room, StateIs, Moves, StepListed}
 use Rattle.listing_text.specs.Rules.Listing.{textSize}
 use Rattle.listing_text.specs.declared.run.ListProgress.{ListProgress}
@@ -383,7 +386,9 @@ pub record Going (wanted : ListState) (old : List ℕ) (at : ℕ) (state : ListP
   pub same : length text ≡ length old
   pub room : Room state (length text)
 
-pub going-start : (state : ListProgress) (left : ℕ) (file answer text : List ℕ) → Room state (length text) → Going (listSteps left (stateOf state file answer text)) text (state .at) state left file answer text
+pub going-start :
+    (state : ListProgress) (left : ℕ) (file answer text : List ℕ) → Room state (length text) →
+    Going (listSteps left (stateOf state file answer text)) text (state .at) state left file answer text
 going-start state left file answer text r = record { is = refl; rest = refl; onward = omega arith; same = refl; room = r }
 
 module _ {wanted : ListState} {old : List ℕ} {at : ℕ} {state : ListProgress} {left : ℕ} {file answer text : List ℕ} (h : Going wanted old at state left file answer text) where

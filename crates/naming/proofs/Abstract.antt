@@ -17,9 +17,11 @@ use Rattle.file.proofs.Bytes.{all-first}
 use Rattle.file.proofs.Order.{byCase, both-true, either-false, both-false-left, both-false-right}
 use Rattle.naming.specs.Inner.View.{SlaveView, viewUnnamed, unnamedChange, change, changeAll, answers}
 use Rattle.naming.specs.Rules.Rounds.{RunRound, RunRound.poll as pollOf, writeName, writeHigh, writeLow, compare, RunRound.baptize as baptizeAll, half}
-use Rattle.naming.specs.Rules.Run.{Position, running, namesUsedUp, PassPlace, high, low, reply, placeOf, roundAt, roundHere, isRepeated, isNeedless, passRound, isExtra, countRaised, passAdvance, nextRound, advance, unfitPosition, countLimit, lastStep, bits, tried}
+use Rattle.naming.specs.Rules.Run.{Position, running, namesUsedUp, PassPlace, high, low, reply, placeOf, roundAt, roundHere, isRepeated, isNeedless}
+use Rattle.naming.specs.Rules.Run.{passRound, isExtra, countRaised, passAdvance, nextRound, advance, unfitPosition, countLimit, lastStep, bits, tried}
 use Rattle.naming.specs.Inner.PassPlaces.{stepOf}
-use Rattle.naming.specs.Rules.Account.{namingComparisons, Named, Account, StepArguments, FrameArguments, Call, step, frame, argumentsGround, accountCall, accountAfter, passOn, extra, oneRound, comparisonsOf}
+use Rattle.naming.specs.Rules.Account.{namingComparisons, Named, Account, StepArguments, FrameArguments, Call, step, frame, argumentsGround}
+use Rattle.naming.specs.Rules.Account.{accountCall, accountAfter, passOn, extra, oneRound, comparisonsOf}
 use Rattle.naming.proofs.Places.{LegalPlace, inner, at-poll, at-ask, at-name, at-high, at-low, at-baptize, step-lt}
 use Rattle.naming.proofs.Walk.{compared-most, count-past}
 use Rattle.naming.proofs.Search.{tried-small}
@@ -333,7 +335,9 @@ module _
       Between S names view Good Awake R C F (call (w .0) (w .1) (step arguments)) (oneRound a)
   idle-step w a arguments h free n = rw (laws .idle (w .0) (w .1) arguments (h .good) free (stays-fit w a h) n, tie-idle (h .tie) n) h
 
-  pub one-call : (w : S × Position) (a : Account) (c : Call) → Between S names view Good Awake R C F w a → Allowed (w .0) (w .1) c → Between S names view Good Awake R C F (call (w .0) (w .1) c) (accountCall a c)
+  pub one-call :
+      (w : S × Position) (a : Account) (c : Call) → Between S names view Good Awake R C F w a → Allowed (w .0) (w .1) c →
+      Between S names view Good Awake R C F (call (w .0) (w .1) c) (accountCall a c)
   unfolding accountCall
   one-call w a (step arguments) h allowed =
       let same : argumentsGround (map namedOf (view (w .0))) arguments ≡ argumentsGround (a .slaves) arguments =

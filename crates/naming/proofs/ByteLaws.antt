@@ -12,7 +12,8 @@ use borrow.Author.Tests.{eqb-true, eqb-false, ne-eqb, not-true}
 use Rattle.file.specs.Rules.Results.{done}
 use Rattle.file.specs.Rules.Bytes.{Bytes, All}
 use Rattle.file.specs.Rules.Order.{firstOf, both}
-use Rattle.file.specs.Rules.Cluster.{Slave, Cluster, bytesIn, configuration, physicalName, logicalName, logicalNames, unnamed, broadcast, fileNumberOf, operationOf, pb2Of, readOperation, writeOperation, executeOperation}
+use Rattle.file.specs.Rules.Cluster.{Slave, Cluster, bytesIn, configuration, physicalName, logicalName, logicalNames, unnamed, broadcast, fileNumberOf}
+use Rattle.file.specs.Rules.Cluster.{operationOf, pb2Of, readOperation, writeOperation, executeOperation}
 use Rattle.file.specs.Rules.Decode.{decode}
 use Rattle.file.specs.Rules.Grounds.{fileGround}
 use Rattle.file.specs.Inner.Accepted.{Becomes}
@@ -22,7 +23,8 @@ use Rattle.frame.specs.Rules.Fireworks.{Round, multipartner, msd, msa, noRound}
 use Rattle.frame.specs.Rules.Frames.{between}
 use Rattle.file.specs.Rules.Changes.{withSlaves, withEpoch, withPending}
 use Rattle.cluster.specs.Rules.Bus.{slots}
-use Rattle.cluster.specs.Rules.Slaves.{withAddress, epochRaised, Duty, nothing, writing, pendingDuty, dutyBy, executionOf, addresses, addressed, takesWrite, slaveAfter, slavesAfter, fallsAsleep, rested}
+use Rattle.cluster.specs.Rules.Slaves.{withAddress, epochRaised, Duty, nothing, writing, pendingDuty, dutyBy, executionOf, addresses, addressed, takesWrite}
+use Rattle.cluster.specs.Rules.Slaves.{slaveAfter, slavesAfter, fallsAsleep, rested}
 use Rattle.cluster.specs.Rules.Grounds.{shortAnswer, roundBy}
 use Rattle.cluster.specs.Rules.Multipartner.{clusterBelow}
 use Rattle.cluster.specs.Rules.Round.{passedOver, effectOf, frameOn, roundGround, roundOn}

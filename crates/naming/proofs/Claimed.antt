@@ -5,7 +5,8 @@ use Rattle.naming.specs.Claims.Edition.{UnknownEditionStep, UnknownEditi
 use Rattle.naming.specs.Claims.Editions.{StepsConverted, StepsKeepingConverted, AllCallsConverted, ConvertedBetween, DemandConverted}
 use Rattle.naming.specs.Claims.Passes.{PassesCounted, PassesMade}
 use Rattle.naming.specs.Claims.Renaming.{BaptizingStepRenames, OnlyBaptizingStepsRename, StaysLoadable}
-use Rattle.naming.specs.Claims.Summary.{StepWithout, StepsInOrder, StepRefusedBy24, RefusedStepKeepsSummary, KeepingIsStep, StepKeepsSummary, StepStillMatches, StepStillMatchesBaptized, CallsKeepSummary, FilledAndKept, GivenMakesNoDifference}
+use Rattle.naming.specs.Claims.Summary.{StepWithout, StepsInOrder, StepRefusedBy24, RefusedStepKeepsSummary, KeepingIsStep, StepKeepsSummary}
+use Rattle.naming.specs.Claims.Summary.{StepStillMatches, StepStillMatchesBaptized, CallsKeepSummary, FilledAndKept, GivenMakesNoDifference}
 use Rattle.naming.specs.Claims.Throughout.{Throughout}
 use Rattle.naming.specs.Claims.Permitted.{PermittedExactly}
 use Rattle.naming.specs.Claims.PermittedRounds.{RoundsFit, EachMultipartner, MayNotAskExactly, BarredMsa, LoneMsa, LoneMsd}
@@ -18,7 +19,8 @@ use Rattle.naming.proofs.OverBytes.{demand-3, throughout}
 use Rattle.naming.proofs.StepLaws.{step-edition}
 use Rattle.naming.proofs.Passes.{passes-counted}
 use Rattle.naming.proofs.Renaming.{baptizing-step-renames, only-baptizing-steps-rename}
-use Rattle.naming.proofs.Summaries.{step-without, steps-in-order, step-refused-by-24, refused-step-keeps-summary, keeping-is-step, step-keeps-summary, step-still-matches, step-still-matches-baptized, calls-keep-summary, filled-and-kept}
+use Rattle.naming.proofs.Summaries.{step-without, steps-in-order, step-refused-by-24, refused-step-keeps-summary, keeping-is-step, step-keeps-summary}
+use Rattle.naming.proofs.Summaries.{step-still-matches, step-still-matches-baptized, calls-keep-summary, filled-and-kept}
 use Rattle.naming.proofs.StepKeeping.{step-keeping-edition}
 use Rattle.naming.proofs.Editions.{steps-converted, steps-keeping-converted, all-calls-converted, converted-between, demand-converted}
 use Rattle.naming.proofs.Unasked.{given-makes-no-difference}

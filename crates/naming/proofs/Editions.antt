@@ -21,7 +21,9 @@ use Rattle.naming.specs.Rules.Run.{Position, running, bits, nextRound, f
 use Rattle.naming.specs.Rules.Step.{stepGround, stepKeepingGround, stepKeeping}
 use Rattle.naming.specs.Rules.Account.{Named, namesIn, Call, argumentsGround}
 use Rattle.naming.specs.Claims.Demand.{State, startOn, callOn, permittedCall, permitted, afterCalls, OfBytes, of-step, of-frame, Demand}
-use Rattle.naming.specs.Claims.Editions.{StepsConverted, StepsKeepingConverted, converted, answerOn, answersOn, CallsConverted, AllCallsConverted, CallOrConversion, call, convert, afterConverting, permittedConverting, callsAmong, Fitting, of-call, of-conversion, ConvertedBetween, DemandConverted}
+use Rattle.naming.specs.Claims.Editions.{StepsConverted, StepsKeepingConverted, converted, answerOn, answersOn, CallsConverted, AllCallsConverted}
+use Rattle.naming.specs.Claims.Editions.{CallOrConversion, call, convert, afterConverting, permittedConverting, callsAmong, Fitting, of-call}
+use Rattle.naming.specs.Claims.Editions.{of-conversion, ConvertedBetween, DemandConverted}
 use Rattle.naming.proofs.StepLaws.{step-refused, step-ended, step-made}
 use Rattle.naming.proofs.StepFrames.{next-sent}
 use Rattle.naming.proofs.Summaries.{keeping-step-value}

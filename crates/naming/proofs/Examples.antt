@@ -6,7 +6,9 @@ use mathlib.Core.Bool.{true, false}
 use mathlib.Core.List.{List, [], _∷_}
 use lib.ListN.{length, replicate}
 use Rattle.file.specs.Rules.Layout.{widthOf}
-use Rattle.file.specs.Rules.Grounds.{isAmong, hasRepeat, fileGround, fileGroundAt, fileGroundsAt, wrongSize, wrongMark, wrongEdition, wrongLength, wrongHeader, wrongPending, brokenLayout, walkFile, tableEnd, walkSlaves, andThen, walkSlave, goodTableEntry, walkDirectory, goodEntry, endsAt, lacksNeeded, allHaveNeeded, hasNeeded, equalPhysicalNames, heldNames}
+use Rattle.file.specs.Rules.Grounds.{isAmong, hasRepeat, fileGround, fileGroundAt, fileGroundsAt, wrongSize, wrongMark, wrongEdition, wrongLength}
+use Rattle.file.specs.Rules.Grounds.{wrongHeader, wrongPending, brokenLayout, walkFile, tableEnd, walkSlaves, andThen, walkSlave, goodTableEntry}
+use Rattle.file.specs.Rules.Grounds.{walkDirectory, goodEntry, endsAt, lacksNeeded, allHaveNeeded, hasNeeded, equalPhysicalNames, heldNames}
 use Rattle.file.specs.Rules.Order.{firstOf, both, either}
 use Rattle.file.specs.Rules.Bytes.{numberOf, bytesOf, part, allZero}
 use Rattle.file.specs.Rules.Cluster.{bytesAmong, bytesIn, lastRecord, physicalName, logicalName}
@@ -14,10 +16,14 @@ use Rattle.file.specs.Rules.Decode.{decode, decodeAt, slavesAt, slaveAt, filesA
 use Rattle.naming.specs.Rules.Rounds.{sent, atUnnamed}
 use Rattle.cluster.specs.Rules.Slaves.{isNameRecord}
 use Rattle.cluster.specs.Rules.MasterSlave.{Sent}
-use Rattle.naming.specs.Rules.Run.{Position, wrote, atStep, moveOn, onward, passAdvance, isExtra, countRaised, advance, roundHere, isNeedless, isFirst, isRepeated, passOver, onto, passRound, nextRound, roundAt, placeOf, askOrGive, questionOf, partOf, giveOf, tried, unfitPosition}
+use Rattle.naming.specs.Rules.Run.{Position, wrote, atStep, moveOn, onward, passAdvance, isExtra, countRaised, advance, roundHere, isNeedless, isFirst}
+use Rattle.naming.specs.Rules.Run.{isRepeated, passOver, onto, passRound, nextRound, roundAt, placeOf, askOrGive, questionOf, partOf, giveOf, tried}
+use Rattle.naming.specs.Rules.Run.{unfitPosition}
 use Rattle.cluster.specs.Rules.Grounds.{shortAnswer}
 use Rattle.cluster.specs.Rules.Summary.{without, wrongSummary}
-use Rattle.naming.specs.Rules.Account.{namesOf, namesIn, Account, Call, Call.step as stepBy, argumentsGround, accountCall, accountAfter, accountOf, comparisonsOf, comparisonsAfter, highAgain, bitClear, namingRounds, passOn, extra, oneRound, pass, freePass, goOn, passDone, give, falling, insert, unnamedAmong, namesHeld, endWith}
+use Rattle.naming.specs.Rules.Account.{namesOf, namesIn, Account, Call, Call.step as stepBy, argumentsGround, accountCall, accountAfter, accountOf}
+use Rattle.naming.specs.Rules.Account.{comparisonsOf, comparisonsAfter, highAgain, bitClear, namingRounds, passOn, extra, oneRound, pass, freePass}
+use Rattle.naming.specs.Rules.Account.{goOn, passDone, give, falling, insert, unnamedAmong, namesHeld, endWith}
 use Rattle.naming.specs.Claims.Files.{m10File}
 use Rattle.naming.specs.Claims.Cases.{answerBuffer, from, slave, figures}
 

@@ -20,7 +20,9 @@ use Rattle.file.proofs.Accepted.{accepted-legal}
 use Rattle.file.proofs.HeldLaws.{held-first, held-rest}
 use Rattle.file.proofs.Results.{load-file, load-twice, load-once}
 use Rattle.naming.specs.Rules.Run.{Position, startGround}
-use Rattle.naming.specs.Rules.Account.{namingRounds, namingComparisons, endingRounds, Named, namesIn, Account, accountOf, give, goOn, passDone, freePass, pass, passOn, extra, oneRound, namesHeld, Call, step, frame, argumentsGround, accountCall, accountAfter}
+use Rattle.naming.specs.Rules.Account.{namingRounds, namingComparisons, endingRounds, Named, namesIn, Account, accountOf, give, goOn, passDone}
+use Rattle.naming.specs.Rules.Account.{freePass, pass, passOn, extra, oneRound, namesHeld, Call, step, frame, argumentsGround, accountCall}
+use Rattle.naming.specs.Rules.Account.{accountAfter}
 use Rattle.naming.specs.Claims.Demand.{Demand}
 use Rattle.naming.specs.Claims.Renaming.{StaysLoadable}
 use Rattle.naming.proofs.Facts.{Facts, physicals, differs, differ-tail, drop-taken, give-physicals, give-greatest}

@@ -12,7 +12,9 @@ use borrow.Author.Tests.{eq-eqb, ne-eqb, eqb-true, eqb-false, le-leb}
 use Rattle.file.specs.Rules.Order.{both}
 use Rattle.file.proofs.Order.{byCase}
 use Rattle.naming.specs.Rules.Rounds.{half, RunRound, RunRound.poll as pollOf, writeName, writeHigh, writeLow, compare, RunRound.baptize as baptizeAll}
-use Rattle.naming.specs.Rules.Run.{Position, endAt, PassPlace, poll, ask, giveName, giveHigh, giveLow, baptize, least, bit, high, low, reply, placeOf, tried, roundAt, roundHere, isFirst, isRepeated, isNeedless, atStep, passOver, onto, wrote, onward, nextName, endAllNamed, moveOn, passAdvance, advance, bits}
+use Rattle.naming.specs.Rules.Run.{Position, endAt, PassPlace, poll, ask, giveName, giveHigh, giveLow, baptize, least, bit, high, low, reply, placeOf}
+use Rattle.naming.specs.Rules.Run.{tried, roundAt, roundHere, isFirst, isRepeated, isNeedless, atStep, passOver, onto, wrote, onward, nextName}
+use Rattle.naming.specs.Rules.Run.{endAllNamed, moveOn, passAdvance, advance, bits}
 use Rattle.naming.specs.Inner.PassPlaces.{questionNumber, partNumber, stepOf}
 use Rattle.naming.specs.Rules.Account.{bitClear, namingComparisons}
 use Rattle.naming.specs.Claims.Passes.{upperBits, lowerBits, ifMade, passRounds, passFor, executesIn, answerFor, placeMade, afterStep, placesMade, afterSteps, PassesMade}

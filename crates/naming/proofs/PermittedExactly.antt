@@ -25,8 +25,10 @@ use Rattle.cluster.proofs.Keeping.{keeping-round, keeping-refused, keeping-acce
 use Rattle.naming.specs.Rules.Run.{Position}
 use Rattle.naming.specs.Rules.Step.{stepKeepingGround, stepOn}
 use Rattle.naming.specs.Rules.Account.{StepArguments, FrameArguments, Call, step, frame}
-use Rattle.naming.specs.Claims.Demand.{State, startOn, halfwayAfter, callOn, changesConfiguration, writesNamed, permittedAddress, permittedFrame, permittedCall, permitted, OfBytes, of-step, of-frame}
-use Rattle.naming.specs.Claims.Permitted.{MayAsk, read, otherFile, writeAtName, writeAtAll, Accepted, Refused, in-step, in-frame, PermittedList, noCalls, refusedCall, aStep, multipartnerRound, masterSlaveRound, PermittedExactly}
+use Rattle.naming.specs.Claims.Demand.{State, startOn, halfwayAfter, callOn, changesConfiguration, writesNamed, permittedAddress, permittedFrame}
+use Rattle.naming.specs.Claims.Demand.{permittedCall, permitted, OfBytes, of-step, of-frame}
+use Rattle.naming.specs.Claims.Permitted.{MayAsk, read, otherFile, writeAtName, writeAtAll, Accepted, Refused, in-step, in-frame, PermittedList}
+use Rattle.naming.specs.Claims.Permitted.{noCalls, refusedCall, aStep, multipartnerRound, masterSlaveRound, PermittedExactly}
 use Rattle.naming.proofs.StepKeeping.{step-keeping-refused, step-keeping-accepted}
 use Rattle.naming.proofs.Lists.{accepted-halfway}
 

@@ -14,7 +14,9 @@ use lib.Dec.{leb, ltb, eqb}
 use mathlib.Core.List.{List}
 use Rattle.file.specs.Rules.Order.{both, either}
 use Rattle.naming.specs.Inner.Answers.{FitCounts, GoesOn, partAt, valueAt, Wrote}
-use Rattle.naming.specs.Rules.Run.{Position, least, PassPlace, poll, giveName, giveHigh, giveLow, baptize, high, low, reply, questionOf, partOf, tried, ask, bits, placeOf, askOrGive, giveOf, giveStep, roundAt, roundHere, isFirst, isRepeated, isNeedless, atStep, passOver, onto, wrote, unfitPosition, countLimit, lastStep, running, namesUsedUp}
+use Rattle.naming.specs.Rules.Run.{Position, least, PassPlace, poll, giveName, giveHigh, giveLow, baptize, high, low, reply, questionOf, partOf, tried}
+use Rattle.naming.specs.Rules.Run.{ask, bits, placeOf, askOrGive, giveOf, giveStep, roundAt, roundHere, isFirst, isRepeated, isNeedless, atStep}
+use Rattle.naming.specs.Rules.Run.{passOver, onto, wrote, unfitPosition, countLimit, lastStep, running, namesUsedUp}
 use Rattle.naming.specs.Rules.Rounds.{comparisonRounds, half, RunRound, RunRound.poll as pollOf, writeName, writeHigh, writeLow, compare, RunRound.baptize as baptizeAll}
 
 -- ---- the value that a comparison sends
@@ -200,7 +202,9 @@ pub needless-early : (p : Position) → p .step ≤ comparisonRounds → Needles
 unfolding isNeedless roundHere both
 needless-early p h names = by (early-place (p .step) h)
   where
-    by : (placeOf (p .step) ≡ poll) ⊎ (isFirst (placeOf (p .step)) ≡ true) → false ≡ cond (not (isFirst (placeOf (p .step)))) (isRepeated (roundAt (placeOf (p .step)) (getD names (p .index) 0) (p .value)) p) false
+    by :
+        (placeOf (p .step) ≡ poll) ⊎ (isFirst (placeOf (p .step)) ≡ true) →
+        false ≡ cond (not (isFirst (placeOf (p .step)))) (isRepeated (roundAt (placeOf (p .step)) (getD names (p .index) 0) (p .value)) p) false
     by (inl e) = rw e (unfold roundAt isRepeated isFirst in refl)
     by (inr e) = rw e
 

@@ -12,7 +12,9 @@ use borrow.Author.Tests.{eq-eqb, ne-eqb, ltb-true, ltb-false, eqb-true, eqb-fals
 use Rattle.file.specs.Rules.Order.{both}
 use Rattle.file.proofs.Order.{byCase, clash}
 use Rattle.naming.specs.Inner.Answers.{partAt}
-use Rattle.naming.specs.Rules.Run.{Position, PassPlace, poll, ask, giveName, giveHigh, giveLow, baptize, least, bit, high, low, reply, partOf, placeOf, giveStep, roundHere, isFirst, isNeedless, atStep, passOver, onto, passRound, isExtra, nextRound, wrote, onward, nextName, endAllNamed, moveOn, passAdvance, countRaised, advance}
+use Rattle.naming.specs.Rules.Run.{Position, PassPlace, poll, ask, giveName, giveHigh, giveLow, baptize, least, bit, high, low, reply, partOf, placeOf}
+use Rattle.naming.specs.Rules.Run.{giveStep, roundHere, isFirst, isNeedless, atStep, passOver, onto, passRound, isExtra, nextRound, wrote, onward}
+use Rattle.naming.specs.Rules.Run.{nextName, endAllNamed, moveOn, passAdvance, countRaised, advance}
 use Rattle.naming.specs.Rules.Rounds.{comparisonRounds, sent}
 use Rattle.naming.specs.Claims.RoundsMade.{NextMade, MakesExtra, MovesOn, Stands}
 use Rattle.naming.proofs.PositionLaws.{part-poll, part-asked, part-none, third-part, writes-nothing, stays}

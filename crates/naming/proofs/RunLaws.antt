@@ -16,7 +16,10 @@ use Rattle.file.specs.Inner.Accepted.{Placed}
 use Rattle.file.proofs.Order.{byCase, either-false-left, either-false-right, both-false-next, first-none}
 use Rattle.file.proofs.Bytes.{byte-at}
 use Rattle.naming.specs.Rules.Rounds.{half, comparisonRounds, RunRound, sent}
-use Rattle.naming.specs.Rules.Run.{Position, running, unfitName, namesGrounds, startGround, runGrounds, unfitPosition, Question, questionOf, tried, Part, high, low, reply, partOf, giveOf, ask, bits, giveStep, PassPlace, poll, giveName, giveHigh, giveLow, baptize, least, bit, lastStep, placeOf, roundAt, roundHere, onto, passRound, nextRound, wrote, onward, nextName, endAllNamed, moveOn, passAdvance, isExtra, countRaised, advance}
+use Rattle.naming.specs.Rules.Run.{Position, running, unfitName, namesGrounds, startGround, runGrounds, unfitPosition, Question, questionOf, tried}
+use Rattle.naming.specs.Rules.Run.{Part, high, low, reply, partOf, giveOf, ask, bits, giveStep, PassPlace, poll, giveName, giveHigh, giveLow, baptize}
+use Rattle.naming.specs.Rules.Run.{least, bit, lastStep, placeOf, roundAt, roundHere, onto, passRound, nextRound, wrote, onward, nextName, endAllNamed}
+use Rattle.naming.specs.Rules.Run.{moveOn, passAdvance, isExtra, countRaised, advance}
 use Rattle.naming.specs.Rules.Step.{isReply, made, madeBy, stepMade}
 use Rattle.cluster.specs.declared.types.MasterSlaveRound.{MasterSlaveRound}
 use Rattle.naming.specs.declared.position.Reply.the-variants as replies

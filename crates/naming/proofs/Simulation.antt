@@ -18,18 +18,22 @@ use Rattle.file.specs.Rules.Order.{both}
 use Rattle.file.proofs.Order.{byCase, clash}
 use Rattle.naming.specs.Inner.View.{SlaveView, unnamedChange, changeAll, answers, comparisonOf}
 use Rattle.naming.specs.Rules.Rounds.{RunRound, RunRound.poll as pollOf, writeName, writeHigh, writeLow, compare, half}
-use Rattle.naming.specs.Rules.Run.{Position, running, fresh, endAt, PassPlace, PassPlace.poll, ask, giveName, giveHigh, giveLow, PassPlace.baptize, Question, least, bit, Part, high, low, reply, placeOf, tried, roundAt, roundHere, isFirst, isRepeated, isNeedless, atStep, passOver, onto, wrote, onward, nextName, endAllNamed, moveOn, bits}
+use Rattle.naming.specs.Rules.Run.{Position, running, fresh, endAt, PassPlace, PassPlace.poll, ask, giveName, giveHigh, giveLow, PassPlace.baptize}
+use Rattle.naming.specs.Rules.Run.{Question, least, bit, Part, high, low, reply, placeOf, tried, roundAt, roundHere, isFirst, isRepeated, isNeedless}
+use Rattle.naming.specs.Rules.Run.{atStep, passOver, onto, wrote, onward, nextName, endAllNamed, moveOn, bits}
 use Rattle.naming.specs.Inner.PassPlaces.{stepOf}
 use Rattle.naming.specs.Rules.Account.{Named, Account, bitClear, comparisonsAfter, highAgain, endWith, give, passOn, namingRounds, namingComparisons, endingRounds}
 use Rattle.naming.proofs.Places.{of-least, of-bit, Inner, LegalPlace, inner, at-poll, at-ask, at-name, at-high, at-low, at-baptize, afterBit, afterPlace, place-of-step, step-after, legal-after}
 use Rattle.naming.proofs.Places.{comparing as counting}
 use Rattle.naming.proofs.Search.{cleared, cleared-all, cleared-none, tried-bit, answered, tried-small, halves}
 use Rattle.naming.proofs.Tries.{attempt, lastTry, try-here, given-high, given-low}
-use Rattle.naming.proofs.Walk.{past, pastOf, compared, compared-after, high-again-one, past-within, past-last, past-reply, high-passed, high-made, low-passed, low-made, give-high-passed, give-low-passed, give-low-made}
+use Rattle.naming.proofs.Walk.{past, pastOf, compared, compared-after, high-again-one, past-within, past-last, past-reply, high-passed, high-made}
+use Rattle.naming.proofs.Walk.{low-passed, low-made, give-high-passed, give-low-passed, give-low-made}
 use Rattle.naming.proofs.Facts.{Facts, drop-taken, give-greatest, fall-first}
 use Rattle.naming.proofs.Rounds.{account, Goes, goes-on, taken-round, giving-round, ending-round}
 use Rattle.naming.proofs.Tally.{none-compared}
-use Rattle.naming.proofs.Answers.{namedOf, OfUnnamed, Wait, poll-answers, compare-silent, compare-answers, Quiet, polling, telling-name, telling-high, telling-low, comparing, quiet-names, quiet-told, baptize-names}
+use Rattle.naming.proofs.Answers.{namedOf, OfUnnamed, Wait, poll-answers, compare-silent, compare-answers, Quiet, polling, telling-name, telling-high}
+use Rattle.naming.proofs.Answers.{telling-low, comparing, quiet-names, quiet-told, baptize-names}
 
 -- ---- the relation
 

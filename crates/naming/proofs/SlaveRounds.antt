@@ -19,7 +19,8 @@ use Rattle.file.specs.Rules.Changes.{putInSlave}
 use Rattle.file.proofs.Order.{byCase, both-next}
 use Rattle.file.proofs.Puts.{inSlave-same, inSlave-other}
 use Rattle.cluster.specs.Rules.Bus.{anyone}
-use Rattle.cluster.specs.Rules.Slaves.{dutyBy, executionOf, addresses, addressed, answersRead, readReply, answersCompare, replyTo, inSlot, sentTo, replaced, mayWrite, isNameRecord, written, takesWrite, takesName, named, slaveAfter}
+use Rattle.cluster.specs.Rules.Slaves.{dutyBy, executionOf, addresses, addressed, answersRead, readReply, answersCompare, replyTo, inSlot, sentTo, replaced}
+use Rattle.cluster.specs.Rules.Slaves.{mayWrite, isNameRecord, written, takesWrite, takesName, named, slaveAfter}
 use Rattle.cluster.specs.Rules.Slaves as Slaves
 use Rattle.cluster.proofs.Untouched.{replaced-other}
 use Rattle.cluster.proofs.Replaced.{replaced-sets}

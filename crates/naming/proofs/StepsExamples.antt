@@ -15,19 +15,23 @@ use Rattle.file.specs.Rules.Cluster.{isAwake, noOperation, broadcastRead, bytes
 use Rattle.file.specs.Rules.Changes.{putAmong, putInSlave, withSleep, withSlaves, withEpoch, withPending}
 use Rattle.file.specs.Rules.Decode.{decode, decodeAt, slavesAt, slaveAt, filesAt, fileAt, fileSize, offsetAt}
 use Rattle.file.specs.Rules.Encode.{directoryEntry, directory, contents, slaveSize, slaveBytes, tableEntry, slavesBytes, table, slavesPlace, slavesSize, fileLength, header, encodeAt, encode}
-use Rattle.file.specs.Rules.Grounds.{isAmong, hasRepeat, fileGrounds, fileGroundsAt, wrongSize, wrongMark, wrongEdition, wrongLength, wrongHeader, wrongPending, brokenLayout, walkFile, tableEnd, walkSlaves, andThen, walkSlave, goodTableEntry, walkDirectory, goodEntry, endsAt, lacksNeeded, allHaveNeeded, hasNeeded, equalPhysicalNames}
+use Rattle.file.specs.Rules.Grounds.{isAmong, hasRepeat, fileGrounds, fileGroundsAt, wrongSize, wrongMark, wrongEdition, wrongLength, wrongHeader}
+use Rattle.file.specs.Rules.Grounds.{wrongPending, brokenLayout, walkFile, tableEnd, walkSlaves, andThen, walkSlave, goodTableEntry, walkDirectory, goodEntry}
+use Rattle.file.specs.Rules.Grounds.{endsAt, lacksNeeded, allHaveNeeded, hasNeeded, equalPhysicalNames}
 use Rattle.frame.specs.Rules.Fireworks.{roundOf, roundIn}
 use Rattle.frame.specs.Rules.Check.{exclusiveOr, checkOf, addressCheck, dataCheck}
 use Rattle.frame.specs.Rules.Frames.{frameOf, addressBytes, addressFrame, dataFrame}
 use Rattle.frame.specs.Rules.Grounds as frames
 use Rattle.cluster.specs.Rules.Bus.{joined, busByte, anyone, maskBelow, senderMask, slotBytes, answerBytes, answerIn, nobody}
-use Rattle.cluster.specs.Rules.Slaves.{withAddress, nextEpoch, epochRaised, executionOf, dutyBy, pendingDuty, isUnnamed, addresses, addressed, answersRead, readReply, answersCompare, replyTo, inSlot, sentTo}
+use Rattle.cluster.specs.Rules.Slaves.{withAddress, nextEpoch, epochRaised, executionOf, dutyBy, pendingDuty, isUnnamed, addresses, addressed, answersRead}
+use Rattle.cluster.specs.Rules.Slaves.{readReply, answersCompare, replyTo, inSlot, sentTo}
 use Rattle.cluster.specs.Rules.Slaves.{replaced, mayWrite, isNameRecord, written, takesWrite, takesName, named, slaveAfter, slavesAfter, fallsAsleep, restsAfter, rested}
 use Rattle.cluster.specs.Rules.Grounds.{shortAnswer, roundBy, writePending, groundsOn}
 use Rattle.cluster.specs.Rules.Round.{effectOf, frameOn, roundGround, roundOn}
 use Rattle.cluster.specs.Rules.MasterSlave.{addressSent, dataSent, roundSent}
 use Rattle.naming.specs.Rules.Rounds.{sent, atUnnamed}
-use Rattle.naming.specs.Rules.Run.{Position, fresh, endAt, atStep, placeOf, askOrGive, questionOf, partOf, giveOf, tried, roundAt, roundHere, isFirst, isRepeated, isNeedless, passOver, onto, passRound, isExtra, nextRound}
+use Rattle.naming.specs.Rules.Run.{Position, fresh, endAt, atStep, placeOf, askOrGive, questionOf, partOf, giveOf, tried, roundAt, roundHere, isFirst}
+use Rattle.naming.specs.Rules.Run.{isRepeated, isNeedless, passOver, onto, passRound, isExtra, nextRound}
 use Rattle.naming.specs.Rules.Run.{wrote, onward, nextName, moveOn, passAdvance, countRaised, advance, unfitName, namesGrounds, unfitPosition, runGrounds}
 use Rattle.naming.specs.Rules.Step.{ended, isReply, madeBy, stepGround, stepMade, stepOn}
 use Rattle.naming.specs.Rules.Steps.{isMade, maskIn, begun, nextStep, withStep, stepsFrom, StepsDone, steps, stepsOn}

@@ -23,7 +23,9 @@ use Rattle.cluster.proofs.Holders.{filling-matches, question-is-reading}
 use Rattle.naming.specs.Rules.Run.{Position, bits, runGrounds, namesGrounds}
 use Rattle.naming.specs.Rules.Step.{stepGround, stepOn, stepKeepingGround, stepKeeping}
 use Rattle.naming.specs.Claims.Summary.{StepWithout, StepsInOrder, StepRefusedBy24, RefusedStepKeepsSummary, KeepingIsStep, StepKeepsSummary, StepStillMatches, StepStillMatchesBaptized}
-use Rattle.naming.specs.Claims.Summary.{AnyCall, WellTyped, typedStep, typedFrame, keepingCall, plainCall, given, notGiven, listedCall, listedCalls, BaptizesNobody, inStep, inFrame, noCalls, nextGiven, nextNotGiven, CallsKeepSummary, filledFrom, AnswersAsFile, FilledAndKept}
+use Rattle.naming.specs.Claims.Summary.{AnyCall, WellTyped, typedStep, typedFrame, keepingCall, plainCall, given, notGiven, listedCall, listedCalls}
+use Rattle.naming.specs.Claims.Summary.{BaptizesNobody, inStep, inFrame, noCalls, nextGiven, nextNotGiven, CallsKeepSummary, filledFrom, AnswersAsFile}
+use Rattle.naming.specs.Claims.Summary.{FilledAndKept}
 use Rattle.naming.proofs.StepLaws.{step-refused}
 use Rattle.naming.proofs.StepKeeping.{others, matched-step, file-step, wrong-step, step-keeping-refused, step-keeping-accepted}
 use Rattle.naming.proofs.Renaming.{baptizing-step-renames, only-baptizing-steps-rename, step-bytes, step-value, step-count}

@@ -14,7 +14,9 @@ use Rattle.file.specs.Rules.Results.{refused, done}
 use Rattle.file.specs.Rules.Bytes.{All, Bytes, allEmpty, allNext, numberOf, part, allZero}
 use Rattle.file.specs.Rules.Cluster.{isAwake, bytesAmong, bytesIn, lastRecord, physicalName, newLogicalName, logicalName, logicalNames, comparisonValue, pb2Of, noOperation, broadcastRead}
 use Rattle.file.specs.Rules.Decode.{decode, decodeAt, slavesAt, slaveAt, filesAt, fileAt, fileSize, offsetAt}
-use Rattle.file.specs.Rules.Grounds.{isAmong, hasRepeat, fileGrounds, fileGround, fileGroundAt, fileGroundsAt, wrongSize, wrongMark, wrongEdition, wrongLength, wrongHeader, wrongPending, brokenLayout, walkFile, tableEnd, walkSlaves, andThen, walkSlave, goodTableEntry, walkDirectory, goodEntry, endsAt, lacksNeeded, allHaveNeeded, hasNeeded, equalPhysicalNames}
+use Rattle.file.specs.Rules.Grounds.{isAmong, hasRepeat, fileGrounds, fileGround, fileGroundAt, fileGroundsAt, wrongSize, wrongMark, wrongEdition}
+use Rattle.file.specs.Rules.Grounds.{wrongLength, wrongHeader, wrongPending, brokenLayout, walkFile, tableEnd, walkSlaves, andThen, walkSlave, goodTableEntry}
+use Rattle.file.specs.Rules.Grounds.{walkDirectory, goodEntry, endsAt, lacksNeeded, allHaveNeeded, hasNeeded, equalPhysicalNames}
 use Rattle.file.proofs.Bytes.{all-first}
 use Rattle.frame.specs.Rules.Fireworks.{Round, multipartner, msd, noRound, roundIn, roundOf}
 use Rattle.cluster.specs.Rules.Slaves.{addressed, addresses, isUnnamed, takesName}
@@ -29,7 +31,8 @@ use Rattle.cluster.proofs.Rounds.{buffer-decides, others-decide}
 use Rattle.cluster.proofs.Sent.{alone-round, alone-fits, round-fits}
 use Rattle.cluster.proofs.Renaming.{baptizing-renames}
 use Rattle.cluster.proofs.Keeping.{rounds-in-order, matched-ground, keeping-refused, keeping-accepted, still-matches-baptized}
-use Rattle.naming.specs.Rules.Run.{Position, fresh, runGrounds, namesGrounds, unfitName, unfitPosition, isExtra, nextRound, passRound, roundHere, onto, passOver, isNeedless, isFirst, isRepeated, roundAt, placeOf, askOrGive, giveOf, startGround}
+use Rattle.naming.specs.Rules.Run.{Position, fresh, runGrounds, namesGrounds, unfitName, unfitPosition, isExtra, nextRound, passRound, roundHere, onto}
+use Rattle.naming.specs.Rules.Run.{passOver, isNeedless, isFirst, isRepeated, roundAt, placeOf, askOrGive, giveOf, startGround}
 use Rattle.naming.specs.Rules.Rounds.{RunRound}
 use Rattle.naming.specs.Rules.Step.{stepGround, stepOn, stepKeepingGround, stepKeeping}
 use Rattle.naming.specs.Rules.Account.{Call, step}
@@ -38,7 +41,9 @@ use Rattle.naming.specs.Claims.PermittedRounds.{PermittedFrom, is-step, 
 use Rattle.naming.specs.Claims.Renaming.{StepBaptizes}
 use Rattle.naming.specs.Claims.Files.{oneSlave, m10File}
 use Rattle.naming.specs.Claims.Cases.{answerBuffer}
-use Rattle.naming.specs.Claims.Summary.{AnyCall, aStep, aFrame, WellTyped, typedStep, typedFrame, ListedCall, given, notGiven, listedCalls, BaptizesNobody, inStep, inFrame, GivenToBaptize, noCalls, nextGiven, nextNotGiven, filledFrom, AnswersAsFile, GivenMatching, noneGiven, stepGiven, frameGiven, asPlain}
+use Rattle.naming.specs.Claims.Summary.{AnyCall, aStep, aFrame, WellTyped, typedStep, typedFrame, ListedCall, given, notGiven, listedCalls}
+use Rattle.naming.specs.Claims.Summary.{BaptizesNobody, inStep, inFrame, GivenToBaptize, noCalls, nextGiven, nextNotGiven, filledFrom, AnswersAsFile}
+use Rattle.naming.specs.Claims.Summary.{GivenMatching, noneGiven, stepGiven, frameGiven, asPlain}
 use Rattle.naming.proofs.Examples.{m10-accepted}
 use Rattle.file.proofs.BytesBelow.{allBelow, bytes-below}
 use Rattle.naming.proofs.Lists.{steps-permitted}

@@ -102,7 +102,9 @@ module _ (names : List ℕ) (s : State) (p : Position) where
   step-given-may arguments m =
       rw (matched-step (s .file) p names (arguments .summary) (arguments .buffer) m, step-unasked (s .file) p names (arguments .buffer))
 
-  frame-given-may : (arguments : FrameArguments) → Matches (s .file) (arguments .summary) → permittedCall names s p (frame arguments) ≡ permittedCall names s p (plainFrame (arguments .bytes) (arguments .buffer))
+  frame-given-may :
+      (arguments : FrameArguments) → Matches (s .file) (arguments .summary) →
+      permittedCall names s p (frame arguments) ≡ permittedCall names s p (plainFrame (arguments .bytes) (arguments .buffer))
   unfolding permittedCall
   frame-given-may arguments m =
       rw (matched-ground (s .file) (arguments .summary) (arguments .bytes) (arguments .buffer) m, frame-unasked (s .file) (arguments .bytes) (arguments .buffer))

@@ -13,7 +13,9 @@ use Rattle.file.specs.Rules.Results.{done}
 use Rattle.file.specs.Rules.Bytes.{Bytes, All, allEmpty, allNext, numberOf, part, allZero}
 use Rattle.file.specs.Rules.Cluster.{isAwake, noOperation, broadcastRead, bytesAmong, bytesIn, lastRecord, hasRecord, recordOf, physicalName, logicalName, comparisonValue}
 use Rattle.file.specs.Rules.Decode.{decode, decodeAt, slavesAt, slaveAt, filesAt, fileAt, fileSize, offsetAt}
-use Rattle.file.specs.Rules.Grounds.{isAmong, hasRepeat, fileGrounds, fileGround, fileGroundAt, fileGroundsAt, wrongSize, wrongMark, wrongEdition, wrongLength, wrongHeader, wrongPending, brokenLayout, walkFile, tableEnd, walkSlaves, andThen, walkSlave, goodTableEntry, walkDirectory, goodEntry, endsAt, lacksNeeded, allHaveNeeded, hasNeeded, equalPhysicalNames}
+use Rattle.file.specs.Rules.Grounds.{isAmong, hasRepeat, fileGrounds, fileGround, fileGroundAt, fileGroundsAt, wrongSize, wrongMark, wrongEdition}
+use Rattle.file.specs.Rules.Grounds.{wrongLength, wrongHeader, wrongPending, brokenLayout, walkFile, tableEnd, walkSlaves, andThen, walkSlave, goodTableEntry}
+use Rattle.file.specs.Rules.Grounds.{walkDirectory, goodEntry, endsAt, lacksNeeded, allHaveNeeded, hasNeeded, equalPhysicalNames}
 use Rattle.frame.specs.Rules.Check.{exclusiveOr, checkOf}
 use Rattle.frame.specs.Rules.Fireworks.{dataFirework, roundOf, roundIn}
 use Rattle.frame.specs.Rules.Grounds as frames
@@ -29,7 +31,8 @@ use Rattle.cluster.specs.Claims.Sleep.{AllAwake}
 use Rattle.cluster.proofs.Rounds.{others-decide}
 use Rattle.naming.specs.Rules.Run.{fresh, endAt, startGround, runGrounds, namesGrounds, unfitName, unfitPosition}
 use Rattle.naming.specs.Rules.Step.{stepGround, stepKeepingGround, stepKeeping}
-use Rattle.naming.specs.Rules.Account.{Call, bitClear, namingRounds, namesOf, namesIn, namesHeld, unnamedAmong, insert, falling, endWith, accountOf, goOn, freePass, pass, passOn, extra, oneRound, argumentsGround, accountCall, accountAfter}
+use Rattle.naming.specs.Rules.Account.{Call, bitClear, namingRounds, namesOf, namesIn, namesHeld, unnamedAmong, insert, falling, endWith, accountOf}
+use Rattle.naming.specs.Rules.Account.{goOn, freePass, pass, passOn, extra, oneRound, argumentsGround, accountCall, accountAfter}
 use Rattle.naming.specs.Claims.Demand.{startOn, permitted, afterCalls, OfBytes, of-step, Demand}
 use Rattle.naming.specs.Claims.PermittedRounds.{is-step}
 use Rattle.naming.specs.Claims.Sleep.{wakesByStep, byFirst}

@@ -13,7 +13,9 @@ use Rattle.file.specs.Rules.Results.{Result, done}
 use Rattle.file.specs.Rules.Bytes.{Bytes, numberOf, part, allZero}
 use Rattle.file.specs.Rules.Cluster.{isAwake, noOperation, broadcastRead, bytesAmong, bytesIn, lastRecord, hasRecord, recordOf, physicalName, logicalName, pb2Of, executeOperation}
 use Rattle.file.specs.Rules.Decode.{decode, decodeAt, slavesAt, slaveAt, filesAt, fileAt, fileSize, offsetAt}
-use Rattle.file.specs.Rules.Grounds.{isAmong, hasRepeat, fileGround, fileGroundAt, fileGroundsAt, wrongSize, wrongMark, wrongEdition, wrongLength, wrongHeader, wrongPending, brokenLayout, walkFile, tableEnd, walkSlaves, andThen, walkSlave, goodTableEntry, walkDirectory, goodEntry, endsAt, lacksNeeded, allHaveNeeded, hasNeeded, equalPhysicalNames}
+use Rattle.file.specs.Rules.Grounds.{isAmong, hasRepeat, fileGround, fileGroundAt, fileGroundsAt, wrongSize, wrongMark, wrongEdition, wrongLength}
+use Rattle.file.specs.Rules.Grounds.{wrongHeader, wrongPending, brokenLayout, walkFile, tableEnd, walkSlaves, andThen, walkSlave, goodTableEntry}
+use Rattle.file.specs.Rules.Grounds.{walkDirectory, goodEntry, endsAt, lacksNeeded, allHaveNeeded, hasNeeded, equalPhysicalNames}
 use Rattle.frame.specs.Rules.Check.{dataCheck, checkOf, exclusiveOr}
 use Rattle.frame.specs.Rules.Frames.{frameSize, frameOf, dataFrame}
 use Rattle.frame.specs.Rules.Writing.{writeAddress, writeData}

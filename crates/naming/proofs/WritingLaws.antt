@@ -12,11 +12,15 @@ use lib.Dec.{ltb, eqb}
 use lib.ListN.{getD}
 use Rattle.file.proofs.Order.{byCase}
 use Rattle.naming.specs.Rules.Rounds.{half, comparisonRounds}
-use Rattle.naming.specs.Rules.Run.{Position, PassPlace, poll, giveName, giveHigh, giveLow, baptize, high, low, reply, questionOf, partOf, tried, ask, placeOf, giveOf, giveStep, lastStep, isNeedless, atStep, passOver, onto, roundAt, roundHere, wrote, onward, nextName, endAllNamed, moveOn}
+use Rattle.naming.specs.Rules.Run.{Position, PassPlace, poll, giveName, giveHigh, giveLow, baptize, high, low, reply, questionOf, partOf, tried, ask}
+use Rattle.naming.specs.Rules.Run.{placeOf, giveOf, giveStep, lastStep, isNeedless, atStep, passOver, onto, roundAt, roundHere, wrote, onward, nextName}
+use Rattle.naming.specs.Rules.Run.{endAllNamed, moveOn}
 use Rattle.naming.specs.declared.position.Reply.{Reply}
 use Rattle.naming.specs.declared.position.Reply.the-variants as replies
 use Rattle.naming.specs.Inner.Answers.{heard, FitCounts, partAt, valueAt, WritesAt, NeedlessFrom, Settled, Stands, Wrote, Asks, Advances, Writes}
-use Rattle.naming.proofs.PositionLaws.{place-ask, place-give, part-poll, part-asked, part-low, part-none, value-poll, value-asked, value-given, third-part, NeedlessAt, needless-early, needless-high, needless-low, needless-none, stays, last-place, first-place, wrote-none, wrote-fits, wrote-step, wrote-value}
+use Rattle.naming.proofs.PositionLaws.{place-ask, place-give, part-poll, part-asked, part-low, part-none, value-poll, value-asked, value-given}
+use Rattle.naming.proofs.PositionLaws.{third-part, NeedlessAt, needless-early, needless-high, needless-low, needless-none, stays, last-place}
+use Rattle.naming.proofs.PositionLaws.{first-place, wrote-none, wrote-fits, wrote-step, wrote-value}
 
 -- ---- what the round at a step writes
 

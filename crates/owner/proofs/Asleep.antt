@@ -18,7 +18,8 @@ use Rattle.cluster.specs.Rules.Slaves.{isUnnamed}
 use Rattle.cluster.specs.Rules.Entries.{Entry, Acting, noEntry, acts, acting}
 use Rattle.cluster.specs.Rules.Multipartner.{within, sendPlace, plansFrom}
 use Rattle.cluster.specs.Rules.Bus.{slots}
-use Rattle.owner.specs.Rules.Plan.{rounds, isOwned, isMultiplexedReceive, sendsIn, sendersAmong, sendersIn, someBelow, twoSendIn, twoSend, someEntry, someEntryOf, isMultiplexedSend, multiplexedSend}
+use Rattle.owner.specs.Rules.Plan.{rounds, isOwned, isMultiplexedReceive, sendsIn, sendersAmong, sendersIn, someBelow, twoSendIn, twoSend, someEntry}
+use Rattle.owner.specs.Rules.Plan.{someEntryOf, isMultiplexedSend, multiplexedSend}
 use Rattle.owner.specs.Rules.OwnerFile.{nameOf, ownerOf, lastOwned, ownersBelow, ownersOf, rowOf, rowsBelow, indexOf, indexBelow, ownerFile}
 use Rattle.owner.specs.Rules.Writing.{tooShort, ownerGround, ownerOn}
 use Rattle.owner.specs.Claims.Call.{filesOf, PlannedAwake}

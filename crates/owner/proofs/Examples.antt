@@ -15,7 +15,8 @@ use Rattle.file.specs.Rules.Decode.{offsetAt, fileSize, fileAt, filesAt, slaveA
 use Rattle.cluster.specs.Rules.Slaves.{isUnnamed}
 use Rattle.cluster.specs.Rules.Entries.{Entry, entryOf, entryThere, entryAt, isMultiplexed, receives, sends, ends, covers, eligible, actingFrom, acting, bytePlace}
 use Rattle.cluster.specs.Rules.Multipartner.{within, sendPlace, plansFrom}
-use Rattle.owner.specs.Rules.Plan.{isOwned, isMultiplexedReceive, isThere, sendsIn, sendersAmong, sendersIn, someBelow, twoSendIn, twoSend, someEntryFrom, someEntry, someEntryOf, isMultiplexedSend, multiplexedSend}
+use Rattle.owner.specs.Rules.Plan.{isOwned, isMultiplexedReceive, isThere, sendsIn, sendersAmong, sendersIn, someBelow, twoSendIn, twoSend}
+use Rattle.owner.specs.Rules.Plan.{someEntryFrom, someEntry, someEntryOf, isMultiplexedSend, multiplexedSend}
 use Rattle.owner.specs.Rules.OwnerFile.{nameOf, ownerOf, lastOwned, ownersBelow, ownersOf, padded, rowOf, rowsBelow, indexOf, indexBelow, ownerFile}
 use Rattle.owner.specs.Claims.Rounds.{mayReceive, Plain}
 

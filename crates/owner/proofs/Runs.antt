@@ -26,10 +26,13 @@ use Rattle.cluster.proofs.EntryLaws.{plain-turn, multiplexed-either, eligible-c
 use Rattle.cluster.proofs.Kept.{kept-below}
 use Rattle.cluster.proofs.Asleep.{awake-byte}
 use Rattle.cluster.proofs.Untouched.{filesOf, below-other, below-awake}
-use Rattle.owner.specs.Rules.Plan.{rounds, isOwned, isMultiplexedReceive, isThere, sendsIn, sendersAmong, sendersIn, someBelow, twoSendIn, twoSend, someEntryFrom, someEntry, someEntryOf, isMultiplexedSend, multiplexedSend}
+use Rattle.owner.specs.Rules.Plan.{rounds, isOwned, isMultiplexedReceive, isThere, sendsIn, sendersAmong, sendersIn, someBelow, twoSendIn, twoSend}
+use Rattle.owner.specs.Rules.Plan.{someEntryFrom, someEntry, someEntryOf, isMultiplexedSend, multiplexedSend}
 use Rattle.owner.specs.Rules.OwnerFile.{nameOf, ownerOf, lastOwned}
 use Rattle.owner.specs.Claims.Rounds as claims
-use Rattle.owner.specs.Claims.Rounds.{sentAsRun, sendsAsRun, mayReceive, AsPlanned, nextSlave, SendAsPlanned, CountAsPlanned, OwnsSlot, SenderOwns, OwnerRuns, nobodySends, oneMaySend, OwnersRun, Plain, PlainCountAsPlanned, PlainAsPlanned, PlainOwnerRuns, noneSends, oneSends, PlainOwnersRun}
+use Rattle.owner.specs.Claims.Rounds.{sentAsRun, sendsAsRun, mayReceive, AsPlanned, nextSlave, SendAsPlanned, CountAsPlanned, OwnsSlot, SenderOwns}
+use Rattle.owner.specs.Claims.Rounds.{OwnerRuns, nobodySends, oneMaySend, OwnersRun, Plain, PlainCountAsPlanned, PlainAsPlanned, PlainOwnerRuns}
+use Rattle.owner.specs.Claims.Rounds.{noneSends, oneSends, PlainOwnersRun}
 
 -- ---- a multiplexed entry that does not send is a receive
 

@@ -72,7 +72,9 @@ module _ {file places frame buffer : List ℕ} (p : Placed file places) (long : 
     unfolding answerOf sliceAfter
     frame-refused slice e = record { round = rw e at (exchanged x); names = refl }
 
-    pub frame-carried : {slice slice′ : List ℕ} {mask : ℕ} → a ≡ rounds.Carried mask → slice′ ≡ logicalNames (decode file′) ++ drop (slaveCount file′) slice → RoundKept file frame buffer slice (done mask) buffer′ file′ slice′
+    pub frame-carried :
+        {slice slice′ : List ℕ} {mask : ℕ} → a ≡ rounds.Carried mask → slice′ ≡ logicalNames (decode file′) ++ drop (slaveCount file′) slice →
+        RoundKept file frame buffer slice (done mask) buffer′ file′ slice′
     unfolding answerOf sliceAfter namesPut
     frame-carried e put = record { round = rw e at (exchanged x); names = put }
 

@@ -56,7 +56,8 @@ pub record RunExamples : Type 0 where
 -- The definitions are unfolded in steps: what a step names, and what it unfolds, the next unfolds with it.
 
 least-accepted : firstOf (fileGrounds least) ≡ 0
-unfolding fileGrounds fileGroundsAt firstOf both either wrongSize wrongMark wrongEdition wrongLength wrongHeader wrongPending allZero brokenLayout walkFile tableEnd walkSlaves andThen endsAt part numberOf offsetAt lacksNeeded allHaveNeeded widthOf decodeAt slavesAt equalPhysicalNames hasRepeat
+unfolding fileGrounds fileGroundsAt firstOf both either wrongSize wrongMark wrongEdition wrongLength wrongHeader wrongPending allZero brokenLayout walkFile
+    tableEnd walkSlaves andThen endsAt part numberOf offsetAt lacksNeeded allHaveNeeded widthOf decodeAt slavesAt equalPhysicalNames hasRepeat
 least-accepted = refl
 
 encoded-again : encode (decode least) ≡ least
@@ -70,7 +71,8 @@ empty-refused = refl
 
 -- an MSA, execute 0x08 record 2 at 0xFF
 address-carried : sent least (0x55 ∷ 0x05 ∷ 0xFF ∷ 0x22 ∷ 0x02 ∷ 0x8F ∷ []) .0 ≡ done 0
-unfolding empty-refused lengthFor roundOf roundIn frames.wrongFrameLength frames.wrongCheck addressCheck checkOf exclusiveOr noOperation broadcastRead frameOn effectOf withAddress withEpoch withPending senderMask maskBelow nobody anyone
+unfolding empty-refused lengthFor roundOf roundIn frames.wrongFrameLength frames.wrongCheck addressCheck checkOf exclusiveOr noOperation broadcastRead frameOn
+    effectOf withAddress withEpoch withPending senderMask maskBelow nobody anyone
 address-carried = refl
 
 -- an MSD with nothing pending, a multipartner frame
@@ -83,5 +85,6 @@ unfolding data-carried sentDuring sentIn sentBy receivedIn clusterBelow
 multipartner-carried = refl
 
 pub run-examples : RunExamples
-unfolding multipartner-carried frameCount dataLength offsetIn lengthIn dataPlace wholeRows brokenTrace framesFrom framesOf afterFrames oneRefused oneCarried counted reportFrom traceGrounds traceGround traceOn
+unfolding multipartner-carried frameCount dataLength offsetIn lengthIn dataPlace wholeRows brokenTrace framesFrom framesOf afterFrames oneRefused oneCarried
+    counted reportFrom traceGrounds traceGround traceOn
 run-examples = record { none = refl; emptyFrame = refl; refusedBetween = refl; multipartner = refl; broken = refl; brokenFile = refl }

@@ -104,7 +104,9 @@ pub record Running (file t places : List ℕ) (rowsEnd row start : ℕ) (r : Rep
   pub report : reportFrom r now (framesFrom t row left) ≡ reportFrom noFrames file (framesOf t)
   pub after : afterFrames now (framesFrom t row left) ≡ afterFrames file (framesOf t)
 
-pub running-start : {file t places : List ℕ} {count : ℕ} → brokenTrace t ≡ false → Placed file places → NumberAt t 0 2 count → Running file t places (headerSize + rowSize * count) headerSize (headerSize + rowSize * count) noFrames file
+pub running-start :
+    {file t places : List ℕ} {count : ℕ} → brokenTrace t ≡ false → Placed file places → NumberAt t 0 2 count →
+    Running file t places (headerSize + rowSize * count) headerSize (headerSize + rowSize * count) noFrames file
 unfolding dataPlace framesOf frameCount
 running-start {t = t} e p n =
     let f = trace-facts t e in

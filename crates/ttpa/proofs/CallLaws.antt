@@ -71,7 +71,10 @@ use Rattle.summary.specs.declared.fill.Filling.{Filling}
 use Rattle.summary.specs.declared.fill.Filling.the-variants as fillings
 use Rattle.summary.specs.declared.holder.Holder.{Holder}
 use Rattle.summary.specs.declared.holder.Holder.the-variants as holders
-use Rattle.ttpa.specs.Rules.Calls.{lentAfter, checkCall, partBytes, readAddressCall, writeAddressCall, writeDataCall, roundCall, traceCall, ownerCall, convertCall, wordsOf, positionIn, startCall, stepSenders, stepWords, stepCall, fillCall, nobodyPlace, placeOf, holderCall, sliceOf, roundKeepingCall, stepKeepingCall, screensCall, postCall, noneWaited, turnScreen, turnSenders, turnCall, joinCall}
+use Rattle.ttpa.specs.Rules.Calls.{lentAfter, checkCall, partBytes, readAddressCall, writeAddressCall, writeDataCall, roundCall, traceCall, ownerCall}
+use Rattle.ttpa.specs.Rules.Calls.{convertCall, wordsOf, positionIn, startCall, stepSenders, stepWords, stepCall, fillCall, nobodyPlace, placeOf}
+use Rattle.ttpa.specs.Rules.Calls.{holderCall, sliceOf, roundKeepingCall, stepKeepingCall, screensCall, postCall, noneWaited, turnScreen, turnSenders}
+use Rattle.ttpa.specs.Rules.Calls.{turnCall, joinCall}
 use Rattle.ttpa.specs.Rules.Calls.{classNumber, patternCall}
 use Rattle.ttpa.specs.Inner.Told.{roundTold, stepTold}
 

@@ -32,7 +32,9 @@ use Rattle.naming.specs.Rules.Run.{Position, running, namesGrounds, startGround
 use Rattle.naming.specs.Rules.Step.{StepDone, stepGround, stepMade, stepOn, stepKeepingGround, stepKeeping}
 use Rattle.screens.specs.Rules.Screens.{Due, nobody, screen, readBy, due, readGrounds, postGround, postOn}
 use Rattle.screens.specs.Rules.Turn.{dueGrounds, stateGrounds, turnGround, turnMade, turnOn}
-use Rattle.ttpa.specs.Rules.Calls.{checkCall, readAddressCall, writeAddressCall, writeDataCall, roundCall, traceCall, ownerCall, convertCall, positionIn, startCall, stepCall, fillCall, holderCall, roundKeepingCall, stepKeepingCall, screensCall, postCall, turnCall, joinCall}
+use Rattle.ttpa.specs.Rules.Calls.{checkCall, readAddressCall, writeAddressCall, writeDataCall, roundCall, traceCall, ownerCall, convertCall}
+use Rattle.ttpa.specs.Rules.Calls.{positionIn, startCall, stepCall, fillCall, holderCall, roundKeepingCall, stepKeepingCall, screensCall, postCall}
+use Rattle.ttpa.specs.Rules.Calls.{turnCall, joinCall}
 use Rattle.line.specs.Rules.Patterns.{classOf, patternGround, patternOn}
 use Rattle.ttpa.specs.Rules.Calls.{patternCall}
 use Rattle.ttpa.specs.Claims.Numbers.{OneOf, here, later, ZeroOr, fileNumbers, RefusedByNumbers}

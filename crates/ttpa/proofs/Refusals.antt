@@ -24,7 +24,9 @@ use Rattle.naming.proofs.StepKeeping.{keeping-step}
 use Rattle.screens.specs.Rules.Screens.{readBy, postGround, postOn}
 use Rattle.screens.specs.Rules.Turn.{turnGround}
 use Rattle.screens.proofs.Grounds.{turn-refused}
-use Rattle.ttpa.specs.Rules.Calls.{lentAfter, partBytes, readAddressCall, writeAddressCall, writeDataCall, roundCall, traceCall, ownerCall, convertCall, positionIn, wordsOf, startCall, stepSenders, stepWords, stepCall, fillCall, placeOf, holderCall, sliceOf, roundKeepingCall, stepKeepingCall, postCall, turnScreen, turnSenders, turnCall, joinCall}
+use Rattle.ttpa.specs.Rules.Calls.{lentAfter, partBytes, readAddressCall, writeAddressCall, writeDataCall, roundCall, traceCall, ownerCall, convertCall}
+use Rattle.ttpa.specs.Rules.Calls.{positionIn, wordsOf, startCall, stepSenders, stepWords, stepCall, fillCall, placeOf, holderCall, sliceOf}
+use Rattle.ttpa.specs.Rules.Calls.{roundKeepingCall, stepKeepingCall, postCall, turnScreen, turnSenders, turnCall, joinCall}
 use Rattle.line.specs.Rules.Patterns.{patternOn}
 use Rattle.ttpa.specs.Rules.Calls.{classNumber, patternCall}
 use Rattle.ttpa.specs.Claims.Refusals.{RefusalsAlterNothing}

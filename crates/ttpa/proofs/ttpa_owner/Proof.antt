@@ -5,26 +5,8 @@ use borrow.Author.Needs.{needs}
 use Rattle.ttpa.proofs.ttpa_owner.Statement.{statement}
 use Rattle.ttpa.proofs.ttpa_owner.Tie as tie
 
-new-requires : tie.Need-new-requires
-new-requires c κs = search needs
-
-write-owner-requires : tie.Need-write-owner-requires
-write-owner-requires c κs = search needs
-
-enum-known-done : tie.Need-enum-known-done
-enum-known-done c = search needs
-
-enum-known-done-2 : tie.Need-enum-known-done-2
-enum-known-done-2 c = search needs
-
-same-length : tie.Need-same-length
-same-length c = search needs
-
 returns : tie.Need-returns
 returns c = search (needs, owner-refuses)
-
-same-length-2 : tie.Need-same-length-2
-same-length-2 c = search needs
 
 returns-2 : tie.Need-returns-2
 returns-2 c = search (needs, owner-writes)
@@ -32,4 +14,4 @@ returns-2 c = search (needs, owner-writes)
 pub ttpa-owner-spec : {M : Type 1} → statement M
 ttpa-owner-spec =
     tie.close
-    (tie.spec new-requires write-owner-requires enum-known-done enum-known-done-2 same-length returns same-length-2 returns-2)
+    (tie.spec (λ c κs. search needs) (λ c κs. search needs) (λ c. search needs) (λ c. search needs) (λ c. search needs) returns (λ c. search needs) returns-2)

@@ -5,15 +5,6 @@ use borrow.Author.Needs.{needs}
 use Rattle.ttpa.proofs.ttpa_read_address.Statement.{statement}
 use Rattle.ttpa.proofs.ttpa_read_address.Tie as tie
 
-read-address-requires : tie.Need-read-address-requires
-read-address-requires c κs = search needs
-
-enum-known-reading : tie.Need-enum-known-reading
-enum-known-reading c = search needs
-
-enum-known-reading-2 : tie.Need-enum-known-reading-2
-enum-known-reading-2 c = search needs
-
 returns : tie.Need-returns
 returns c = search (needs, read-refuses)
 
@@ -23,4 +14,4 @@ returns-2 c = search (needs, read-parts)
 pub ttpa-read-address-spec : {M : Type 1} → statement M
 ttpa-read-address-spec =
     tie.close
-    (tie.spec read-address-requires enum-known-reading enum-known-reading-2 returns returns-2)
+    (tie.spec (λ c κs. search needs) (λ c. search needs) (λ c. search needs) returns returns-2)

@@ -5,26 +5,11 @@ use borrow.Author.Needs.{needs}
 use Rattle.ttpa.proofs.ttpa_trace.Statement.{statement}
 use Rattle.ttpa.proofs.ttpa_trace.Tie as tie
 
-run-trace-requires : tie.Need-run-trace-requires
-run-trace-requires c κs = search needs
-
-enum-known-done : tie.Need-enum-known-done
-enum-known-done c = search needs
-
-enum-known-done-2 : tie.Need-enum-known-done-2
-enum-known-done-2 c = search needs
-
 report-words-requires : tie.Need-report-words-requires
 report-words-requires c κs = search (needs, trace-few)
 
-same-length : tie.Need-same-length
-same-length c = search needs
-
 returns : tie.Need-returns
 returns c = search (needs, trace-refuses)
-
-same-length-2 : tie.Need-same-length-2
-same-length-2 c = search needs
 
 returns-2 : tie.Need-returns-2
 returns-2 c = search (needs, trace-runs)
@@ -33,11 +18,11 @@ pub ttpa-trace-spec : {M : Type 1} → statement M
 ttpa-trace-spec =
     tie.close
     (tie.spec
-    run-trace-requires
-    enum-known-done
-    enum-known-done-2
+    (λ c κs. search needs)
+    (λ c. search needs)
+    (λ c. search needs)
     report-words-requires
-    same-length
+    (λ c. search needs)
     returns
-    same-length-2
+    (λ c. search needs)
     returns-2)

@@ -5,12 +5,6 @@ use borrow.Author.Needs.{needs}
 use Rattle.ttpa.proofs.writing_number.Statement.{statement}
 use Rattle.ttpa.proofs.writing_number.Tie as tie
 
-enum-known-writing : tie.Need-enum-known-writing
-enum-known-writing c = search needs
-
-enum-told : tie.Need-enum-told
-enum-told c = search needs
-
 returns : tie.Need-returns
 returns c = search (needs, write-refuses)
 
@@ -18,4 +12,4 @@ returns-2 : tie.Need-returns-2
 returns-2 c = search (needs, write-done)
 
 pub writing-number-spec : {M : Type 1} → statement M
-writing-number-spec = tie.close (tie.spec enum-known-writing enum-told returns returns-2)
+writing-number-spec = tie.close (tie.spec (λ c. search needs) (λ c. search needs) returns returns-2)

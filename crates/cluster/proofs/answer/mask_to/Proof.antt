@@ -18,12 +18,6 @@ loop-holds c = counting-start _
 with-sender-requires : tie.Need-with-sender-requires Inv-loop μ-loop
 with-sender-requires c κs = (omega arith, mask-fits (c .before .loop .inv))
 
-add-slot : tie.Need-add-slot Inv-loop μ-loop
-add-slot c = omega arith
-
-loop-less : tie.Need-loop-less Inv-loop μ-loop
-loop-less c = omega arith
-
 loop-again : tie.Need-loop-again Inv-loop μ-loop
 loop-again c = counting-next (c .before .before .loop .inv) (c .before .loop-test .taken) (c .with-sender .ensures)
 
@@ -38,7 +32,7 @@ mask-to-spec =
     μ-loop
     loop-holds
     with-sender-requires
-    add-slot
-    loop-less
+    (λ c. omega arith)
+    (λ c. omega arith)
     loop-again
     returns)

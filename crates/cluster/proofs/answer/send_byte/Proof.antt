@@ -6,18 +6,9 @@ use borrow.Author.Needs.{needs}
 use Rattle.cluster.proofs.answer.send_byte.Statement.{statement}
 use Rattle.cluster.proofs.answer.send_byte.Tie as tie
 
-slice-read-buffer : tie.Need-slice-read-buffer
-slice-read-buffer c = search needs
-
-slice-write-buffer : tie.Need-slice-write-buffer
-slice-write-buffer c = search needs
-
-same-length : tie.Need-same-length
-same-length c = search needs
-
 returns : tie.Need-returns
 unfolding said
 returns c = refl
 
 pub send-byte-spec : {M : Type 1} → statement M
-send-byte-spec = tie.close (tie.spec slice-read-buffer slice-write-buffer same-length returns)
+send-byte-spec = tie.close (tie.spec (λ c. search needs) (λ c. search needs) (λ c. search needs) returns)

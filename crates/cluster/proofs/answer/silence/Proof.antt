@@ -15,20 +15,11 @@ Inv-loop buffer₀ firework slot₀ buffer slot = Filled nobody firework buffer�
 abbrev μ-loop : tie.MeasureT-loop
 μ-loop buffer₀ firework slot₀ buffer slot = 64 - slot
 
-slice-write-buffer : tie.Need-slice-write-buffer Inv-loop μ-loop
-slice-write-buffer c = omega arith
-
 loop-holds : tie.Need-loop-holds Inv-loop μ-loop
 loop-holds c = filled-start nobody (c .args .firework) (c .args .buffer .now) (c .pre)
 
 slice-write-buffer-2 : tie.Need-slice-write-buffer-2 Inv-loop μ-loop
 slice-write-buffer-2 c = omega (arith, filled-length (c .before .loop .inv))
-
-add-slot : tie.Need-add-slot Inv-loop μ-loop
-add-slot c = omega arith
-
-loop-less : tie.Need-loop-less Inv-loop μ-loop
-loop-less c = omega arith
 
 loop-again : tie.Need-loop-again Inv-loop μ-loop
 loop-again c = filled-next (c .before .loop .inv) (c .loop-test .taken) (nobody-byte _)
@@ -45,11 +36,11 @@ silence-spec =
     (tie.spec
     Inv-loop
     μ-loop
-    slice-write-buffer
+    (λ c. omega arith)
     loop-holds
     slice-write-buffer-2
-    add-slot
-    loop-less
+    (λ c. omega arith)
+    (λ c. omega arith)
     loop-again
     same-length
     returns)

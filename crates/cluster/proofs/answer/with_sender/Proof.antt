@@ -5,11 +5,8 @@ use Rattle.cluster.proofs.Bus.{or-above}
 use Rattle.cluster.proofs.answer.with_sender.Statement.{statement}
 use Rattle.cluster.proofs.answer.with_sender.Tie as tie
 
-shl-result : tie.Need-shl-result
-shl-result c = search needs
-
 returns : tie.Need-returns
 returns c = or-above (c .pre .0) (c .pre .1)
 
 pub with-sender-spec : {M : Type 1} → statement M
-with-sender-spec = tie.close (tie.spec shl-result returns)
+with-sender-spec = tie.close (tie.spec (λ c. search needs) returns)

@@ -20,26 +20,14 @@ abbrev μ-loop : tie.MeasureT-loop
 μ-loop file₀ places name count slave₀ file slave =
     count - slave
 
-slave-count-requires : tie.Need-slave-count-requires Inv-loop μ-loop
-slave-count-requires c κs = search needs
-
 loop-holds : tie.Need-loop-holds Inv-loop μ-loop
 loop-holds c = search (needs, changing-start, slaveAfter-kept, allEmpty)
 
 baptize-slave-requires : tie.Need-baptize-slave-requires Inv-loop μ-loop
 baptize-slave-requires c κs = search (needs, changing-placed, changing-there)
 
-add-slave : tie.Need-add-slave Inv-loop μ-loop
-add-slave c = omega arith
-
-loop-less : tie.Need-loop-less Inv-loop μ-loop
-loop-less c = omega arith
-
 loop-again : tie.Need-loop-again Inv-loop μ-loop
 loop-again c = search (needs, changing-next)
-
-same-length : tie.Need-same-length Inv-loop μ-loop
-same-length c = search needs
 
 returns : tie.Need-returns Inv-loop μ-loop
 unfolding slavesAfter
@@ -51,11 +39,11 @@ baptize-round-spec =
     (tie.spec
     Inv-loop
     μ-loop
-    slave-count-requires
+    (λ c κs. search needs)
     loop-holds
     baptize-slave-requires
-    add-slave
-    loop-less
+    (λ c. omega arith)
+    (λ c. omega arith)
     loop-again
-    same-length
+    (λ c. search needs)
     returns)

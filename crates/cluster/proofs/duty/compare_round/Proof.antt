@@ -18,12 +18,6 @@ abbrev μ-loop : tie.MeasureT-loop
 μ-loop file places name buffer₀ last₀ count slave₀ buffer last slave =
     count - slave
 
-silence-requires : tie.Need-silence-requires Inv-loop μ-loop
-silence-requires c κs = search needs
-
-slave-count-requires : tie.Need-slave-count-requires Inv-loop μ-loop
-slave-count-requires c κs = search needs
-
 loop-holds : tie.Need-loop-holds Inv-loop μ-loop
 loop-holds c = search (needs, unanswered-start)
 
@@ -35,12 +29,6 @@ same-length c = search (needs, answered-length)
 
 returns : tie.Need-returns Inv-loop μ-loop
 returns c = search (needs, answered)
-
-add-slave : tie.Need-add-slave Inv-loop μ-loop
-add-slave c = omega arith
-
-loop-less : tie.Need-loop-less Inv-loop μ-loop
-loop-less c = omega arith
 
 loop-again : tie.Need-loop-again Inv-loop μ-loop
 loop-again c = search (needs, unanswered-next)
@@ -57,14 +45,14 @@ compare-round-spec =
     (tie.spec
     Inv-loop
     μ-loop
-    silence-requires
-    slave-count-requires
+    (λ c κs. search needs)
+    (λ c κs. search needs)
     loop-holds
     compare-slave-requires
     same-length
     returns
-    add-slave
-    loop-less
+    (λ c. omega arith)
+    (λ c. omega arith)
     loop-again
     same-length-2
     returns-2)

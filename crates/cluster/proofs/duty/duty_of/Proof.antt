@@ -18,11 +18,8 @@ returns-3 : tie.Need-returns-3
 unfolding dutyAt
 returns-3 c = search (needs, duty-none)
 
-execution-of-requires : tie.Need-execution-of-requires
-execution-of-requires c κs = search needs
-
 returns-4 : tie.Need-returns-4
 returns-4 c = search (needs, duty-execution)
 
 pub duty-of-spec : {M : Type 1} → statement M
-duty-of-spec = tie.close (tie.spec returns returns-2 returns-3 execution-of-requires returns-4)
+duty-of-spec = tie.close (tie.spec returns returns-2 returns-3 (λ c κs. search needs) returns-4)

@@ -6,18 +6,12 @@ use borrow.Author.Needs.{needs}
 use Rattle.cluster.proofs.duty.pending_duty.Statement.{statement}
 use Rattle.cluster.proofs.duty.pending_duty.Tie as tie
 
-read-pending-requires : tie.Need-read-pending-requires
-read-pending-requires c κs = search needs
-
 returns : tie.Need-returns
 unfolding dutyAt
 returns c = search (needs, pending-nothing)
-
-duty-of-requires : tie.Need-duty-of-requires
-duty-of-requires c κs = search needs
 
 returns-2 : tie.Need-returns-2
 returns-2 c = search (needs, pending-for)
 
 pub pending-duty-spec : {M : Type 1} → statement M
-pending-duty-spec = tie.close (tie.spec read-pending-requires returns duty-of-requires returns-2)
+pending-duty-spec = tie.close (tie.spec (λ c κs. search needs) returns (λ c κs. search needs) returns-2)

@@ -18,24 +18,12 @@ abbrev μ-loop : tie.MeasureT-loop
 μ-loop file places address buffer₀ last₀ count slave₀ buffer last slave =
     count - slave
 
-silence-requires : tie.Need-silence-requires Inv-loop μ-loop
-silence-requires c κs = search needs
-
-slave-count-requires : tie.Need-slave-count-requires Inv-loop μ-loop
-slave-count-requires c κs = search needs
-
 loop-holds : tie.Need-loop-holds Inv-loop μ-loop
 unfolding sizeOf
 loop-holds c = search (needs, hearing-start)
 
 read-slave-requires : tie.Need-read-slave-requires Inv-loop μ-loop
 read-slave-requires c κs = search (needs, hearing-room)
-
-add-slave : tie.Need-add-slave Inv-loop μ-loop
-add-slave c = omega arith
-
-loop-less : tie.Need-loop-less Inv-loop μ-loop
-loop-less c = omega arith
 
 loop-again : tie.Need-loop-again Inv-loop μ-loop
 loop-again c = search (needs, hearing-next)
@@ -52,12 +40,12 @@ read-round-spec =
     (tie.spec
     Inv-loop
     μ-loop
-    silence-requires
-    slave-count-requires
+    (λ c κs. search needs)
+    (λ c κs. search needs)
     loop-holds
     read-slave-requires
-    add-slave
-    loop-less
+    (λ c. omega arith)
+    (λ c. omega arith)
     loop-again
     same-length
     returns)

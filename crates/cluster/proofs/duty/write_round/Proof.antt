@@ -20,14 +20,8 @@ abbrev μ-loop : tie.MeasureT-loop
 μ-loop file₀ places address bytes count slave₀ file slave =
     count - slave
 
-may-write-requires : tie.Need-may-write-requires Inv-loop μ-loop
-may-write-requires c κs = search needs
-
 returns : tie.Need-returns Inv-loop μ-loop
 returns c = search (needs, write-forbidden)
-
-slave-count-requires : tie.Need-slave-count-requires Inv-loop μ-loop
-slave-count-requires c κs = search needs
 
 loop-holds : tie.Need-loop-holds Inv-loop μ-loop
 loop-holds c = search (needs, changing-start, slaveAfter-kept, data-bytes)
@@ -35,17 +29,8 @@ loop-holds c = search (needs, changing-start, slaveAfter-kept, data-bytes)
 write-slave-requires : tie.Need-write-slave-requires Inv-loop μ-loop
 write-slave-requires c κs = search (needs, changing-placed, changing-there, may-true)
 
-add-slave : tie.Need-add-slave Inv-loop μ-loop
-add-slave c = omega arith
-
-loop-less : tie.Need-loop-less Inv-loop μ-loop
-loop-less c = omega arith
-
 loop-again : tie.Need-loop-again Inv-loop μ-loop
 loop-again c = search (needs, changing-next)
-
-same-length : tie.Need-same-length Inv-loop μ-loop
-same-length c = search needs
 
 returns-2 : tie.Need-returns-2 Inv-loop μ-loop
 unfolding slavesAfter
@@ -57,13 +42,13 @@ write-round-spec =
     (tie.spec
     Inv-loop
     μ-loop
-    may-write-requires
+    (λ c κs. search needs)
     returns
-    slave-count-requires
+    (λ c κs. search needs)
     loop-holds
     write-slave-requires
-    add-slave
-    loop-less
+    (λ c. omega arith)
+    (λ c. omega arith)
     loop-again
-    same-length
+    (λ c. search needs)
     returns-2)

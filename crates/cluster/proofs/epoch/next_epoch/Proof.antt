@@ -8,11 +8,8 @@ use Rattle.cluster.proofs.epoch.next_epoch.Tie as tie
 returns : tie.Need-returns
 returns c = epoch-last (c .if1 .taken)
 
-add-result : tie.Need-add-result
-add-result c = search needs
-
 returns-2 : tie.Need-returns-2
 returns-2 c = epoch-next (search needs) (c .if1 .left)
 
 pub next-epoch-spec : {M : Type 1} → statement M
-next-epoch-spec = tie.close (tie.spec returns add-result returns-2)
+next-epoch-spec = tie.close (tie.spec returns (λ c. search needs) returns-2)

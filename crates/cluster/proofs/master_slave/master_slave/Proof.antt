@@ -13,16 +13,10 @@ become-pending-requires c κs = search needs
 carry-data-requires : tie.Need-carry-data-requires
 carry-data-requires c κs = search (needs, address-placed)
 
-same-length : tie.Need-same-length
-same-length c = search needs
-
-same-length-2 : tie.Need-same-length-2
-same-length-2 c = search needs
-
 returns : tie.Need-returns
 unfolding afterAddress
 returns c = search (needs, address-carried)
 
 pub master-slave-spec : {M : Type 1} → statement M
 master-slave-spec =
-    tie.close (tie.spec become-pending-requires carry-data-requires same-length same-length-2 returns)
+    tie.close (tie.spec become-pending-requires carry-data-requires (λ c. search needs) (λ c. search needs) returns)

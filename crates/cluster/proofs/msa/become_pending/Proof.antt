@@ -6,18 +6,12 @@ use borrow.Author.Needs.{needs}
 use Rattle.cluster.proofs.msa.become_pending.Statement.{statement}
 use Rattle.cluster.proofs.msa.become_pending.Tie as tie
 
-set-epoch-requires : tie.Need-set-epoch-requires
-set-epoch-requires c κs = search needs
-
 set-pending-requires : tie.Need-set-pending-requires
 set-pending-requires c κs = search (needs, becomes-decoded, pending-legal)
-
-same-length : tie.Need-same-length
-same-length c = search needs
 
 returns : tie.Need-returns
 returns c = search (needs, becomes-pending)
 
 pub become-pending-spec : {M : Type 1} → statement M
 become-pending-spec =
-    tie.close (tie.spec set-epoch-requires set-pending-requires same-length returns)
+    tie.close (tie.spec (λ c κs. search needs) set-pending-requires (λ c. search needs) returns)

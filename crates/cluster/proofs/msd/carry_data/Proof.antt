@@ -5,12 +5,6 @@ use borrow.Author.Needs.{needs}
 use Rattle.cluster.proofs.msd.carry_data.Statement.{statement}
 use Rattle.cluster.proofs.msd.carry_data.Tie as tie
 
-pending-duty-requires : tie.Need-pending-duty-requires
-pending-duty-requires c κs = search needs
-
-raise-epoch-requires : tie.Need-raise-epoch-requires
-raise-epoch-requires c κs = search needs
-
 do-duty-requires : tie.Need-do-duty-requires
 do-duty-requires c κs = search (needs, raised-placed)
 
@@ -19,12 +13,6 @@ rest-slaves-requires c κs =
     done-placed _ _ (search (needs, raised-placed))
     (c .before .before .before .before .before .do-duty .ensures)
 
-same-length : tie.Need-same-length
-same-length c = search needs
-
-same-length-2 : tie.Need-same-length-2
-same-length-2 c = search needs
-
 returns : tie.Need-returns
 returns c = search (needs, raised-done)
 
@@ -32,10 +20,10 @@ pub carry-data-spec : {M : Type 1} → statement M
 carry-data-spec =
     tie.close
     (tie.spec
-    pending-duty-requires
-    raise-epoch-requires
+    (λ c κs. search needs)
+    (λ c κs. search needs)
     do-duty-requires
     rest-slaves-requires
-    same-length
-    same-length-2
+    (λ c. search needs)
+    (λ c. search needs)
     returns)

@@ -5,9 +5,6 @@ use borrow.Author.Needs.{needs}
 use Rattle.cluster.proofs.msd.is_write_pending.Statement.{statement}
 use Rattle.cluster.proofs.msd.is_write_pending.Tie as tie
 
-read-pending-requires : tie.Need-read-pending-requires
-read-pending-requires c κs = search needs
-
 returns : tie.Need-returns
 returns c = search (needs, pending-idle)
 
@@ -15,4 +12,4 @@ returns-2 : tie.Need-returns-2
 returns-2 c = search (needs, pending-write)
 
 pub is-write-pending-spec : {M : Type 1} → statement M
-is-write-pending-spec = tie.close (tie.spec read-pending-requires returns returns-2)
+is-write-pending-spec = tie.close (tie.spec (λ c κs. search needs) returns returns-2)

@@ -6,9 +6,6 @@ use borrow.Author.Needs.{needs}
 use Rattle.cluster.proofs.msd.read_data.Statement.{statement}
 use Rattle.cluster.proofs.msd.read_data.Tie as tie
 
-is-write-pending-requires : tie.Need-is-write-pending-requires
-is-write-pending-requires c κs = search needs
-
 returns : tie.Need-returns
 unfolding dataRead
 returns c = search (needs, data-not-one)
@@ -20,24 +17,6 @@ returns-2 c = search (needs, data-one)
 returns-3 : tie.Need-returns-3
 unfolding dataRead
 returns-3 c = search (needs, data-not-six)
-
-shared-slice-read-b0 : tie.Need-shared-slice-read-b0
-shared-slice-read-b0 c = search needs
-
-shared-slice-read-b1 : tie.Need-shared-slice-read-b1
-shared-slice-read-b1 c = search needs
-
-shared-slice-read-b2 : tie.Need-shared-slice-read-b2
-shared-slice-read-b2 c = search needs
-
-shared-slice-read-b3 : tie.Need-shared-slice-read-b3
-shared-slice-read-b3 c = search needs
-
-shared-slice-read-if4 : tie.Need-shared-slice-read-if4
-shared-slice-read-if4 c = search needs
-
-data-check-requires : tie.Need-data-check-requires
-data-check-requires c κs = search needs
 
 returns-4 : tie.Need-returns-4
 unfolding dataRead
@@ -51,15 +30,15 @@ pub read-data-spec : {M : Type 1} → statement M
 read-data-spec =
     tie.close
     (tie.spec
-    is-write-pending-requires
+    (λ c κs. search needs)
     returns
     returns-2
     returns-3
-    shared-slice-read-b0
-    shared-slice-read-b1
-    shared-slice-read-b2
-    shared-slice-read-b3
-    shared-slice-read-if4
-    data-check-requires
+    (λ c. search needs)
+    (λ c. search needs)
+    (λ c. search needs)
+    (λ c. search needs)
+    (λ c. search needs)
+    (λ c κs. search needs)
     returns-4
     returns-5)

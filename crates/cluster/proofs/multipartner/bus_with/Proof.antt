@@ -5,15 +5,6 @@ use borrow.Author.Needs.{needs}
 use Rattle.cluster.proofs.multipartner.bus_with.Statement.{statement}
 use Rattle.cluster.proofs.multipartner.bus_with.Tie as tie
 
-enum-known-act : tie.Need-enum-known-act
-enum-known-act c = search needs
-
-enum-told : tie.Need-enum-told
-enum-told c = search needs
-
-enum-told-2 : tie.Need-enum-told-2
-enum-told-2 c = search needs
-
 returns : tie.Need-returns
 returns c = search (needs, bus-sends)
 
@@ -25,4 +16,4 @@ returns-3 c = search (needs, bus-rests)
 
 pub bus-with-spec : {M : Type 1} → statement M
 bus-with-spec =
-    tie.close (tie.spec enum-known-act enum-told enum-told-2 returns returns-2 returns-3)
+    tie.close (tie.spec (λ c. search needs) (λ c. search needs) (λ c. search needs) returns returns-2 returns-3)

@@ -7,9 +7,6 @@ use borrow.Author.Needs.{needs}
 use Rattle.cluster.proofs.multipartner.carry_multipartner.Statement.{statement}
 use Rattle.cluster.proofs.multipartner.carry_multipartner.Tie as tie
 
-raise-epoch-requires : tie.Need-raise-epoch-requires
-raise-epoch-requires c κs = search needs
-
 read-epoch-requires : tie.Need-read-epoch-requires
 read-epoch-requires c κs = search (needs, becomes-decoded)
 
@@ -19,15 +16,9 @@ run-slots-requires c κs = search (needs, raised-placed)
 wake-slaves-requires : tie.Need-wake-slaves-requires
 wake-slaves-requires c κs = carried-accepted (c .before .before .before .before .before .run-slots .ensures)
 
-same-length : tie.Need-same-length
-same-length c = search needs
-
-same-length-2 : tie.Need-same-length-2
-same-length-2 c = search needs
-
 returns : tie.Need-returns
 returns c = search (needs, raised-carries)
 
 pub carry-multipartner-spec : {M : Type 1} → statement M
 carry-multipartner-spec =
-    tie.close (tie.spec raise-epoch-requires read-epoch-requires run-slots-requires wake-slaves-requires same-length same-length-2 returns)
+    tie.close (tie.spec (λ c κs. search needs) read-epoch-requires run-slots-requires wake-slaves-requires (λ c. search needs) (λ c. search needs) returns)

@@ -11,11 +11,8 @@ returns c = search (needs, store-low)
 returns-2 : tie.Need-returns-2
 returns-2 c = search (needs, store-high)
 
-byte-place-requires : tie.Need-byte-place-requires
-byte-place-requires c κs = search needs
-
 returns-3 : tie.Need-returns-3
 returns-3 c = search (needs, store-place)
 
 pub may-store-spec : {M : Type 1} → statement M
-may-store-spec = tie.close (tie.spec returns returns-2 byte-place-requires returns-3)
+may-store-spec = tie.close (tie.spec returns returns-2 (λ c κs. search needs) returns-3)

@@ -5,20 +5,8 @@ use borrow.Author.Needs.{needs}
 use Rattle.cluster.proofs.multipartner.planned_file.Statement.{statement}
 use Rattle.cluster.proofs.multipartner.planned_file.Tie as tie
 
-logical-name-requires : tie.Need-logical-name-requires
-logical-name-requires c κs = search needs
-
 returns : tie.Need-returns
 returns c = search (needs, round-unnamed)
-
-find-file-requires : tie.Need-find-file-requires
-find-file-requires c κs = search needs
-
-enum-known-found : tie.Need-enum-known-found
-enum-known-found c = search needs
-
-enum-told : tie.Need-enum-told
-enum-told c = search needs
 
 returns-2 : tie.Need-returns-2
 returns-2 c = search (needs, round-missing)
@@ -30,11 +18,11 @@ pub planned-file-spec : {M : Type 1} → statement M
 planned-file-spec =
     tie.close
     (tie.spec
-    logical-name-requires
+    (λ c κs. search needs)
     returns
-    find-file-requires
-    enum-known-found
-    enum-told
+    (λ c κs. search needs)
+    (λ c. search needs)
+    (λ c. search needs)
     returns-2
     (λ c. search (needs, start-fits))
     (λ c. search (needs, end-fits))

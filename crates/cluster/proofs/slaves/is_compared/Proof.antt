@@ -8,11 +8,8 @@ use Rattle.cluster.proofs.slaves.is_compared.Tie as tie
 returns : tie.Need-returns
 returns c = search (needs, at-broadcast-none)
 
-is-addressed-requires : tie.Need-is-addressed-requires
-is-addressed-requires c κs = search needs
-
 returns-2 : tie.Need-returns-2
 returns-2 c = search (needs, not-broadcast)
 
 pub is-compared-spec : {M : Type 1} → statement M
-is-compared-spec = tie.close (tie.spec returns is-addressed-requires returns-2)
+is-compared-spec = tie.close (tie.spec returns (λ c κs. search needs) returns-2)

@@ -5,32 +5,14 @@ use borrow.Author.Needs.{needs}
 use Rattle.cluster.proofs.slaves.read_slave.Statement.{statement}
 use Rattle.cluster.proofs.slaves.read_slave.Tie as tie
 
-logical-name-requires : tie.Need-logical-name-requires
-logical-name-requires c κs = search needs
-
-is-read-requires : tie.Need-is-read-requires
-is-read-requires c κs = search needs
-
 returns-2 : tie.Need-returns-2
 returns-2 c = search (needs, read-unaddressed)
-
-read-place-requires : tie.Need-read-place-requires
-read-place-requires c κs = search needs
-
-enum-known-found : tie.Need-enum-known-found
-enum-known-found c = search needs
-
-enum-told : tie.Need-enum-told
-enum-told c = search needs
 
 returns-3 : tie.Need-returns-3
 returns-3 c = search (needs, read-missing)
 
 send-record-requires : tie.Need-send-record-requires
 send-record-requires c κs = search (needs, record-room)
-
-same-length : tie.Need-same-length
-same-length c = search needs
 
 returns-4 : tie.Need-returns-4
 returns-4 c = search (needs, read-found)
@@ -41,13 +23,13 @@ read-slave-spec =
     (tie.spec
     (λ c κs. search needs)
     (λ c. search (needs, reply-asleep))
-    logical-name-requires
-    is-read-requires
+    (λ c κs. search needs)
+    (λ c κs. search needs)
     returns-2
-    read-place-requires
-    enum-known-found
-    enum-told
+    (λ c κs. search needs)
+    (λ c. search needs)
+    (λ c. search needs)
     returns-3
     send-record-requires
-    same-length
+    (λ c. search needs)
     returns-4)

@@ -3,7 +3,9 @@
 use Prim.Native.Nat.{_-_}
 use Rattle.convert.proofs.Putting.{put-room}
 use Rattle.convert.proofs.ReadLaws.{files-fit}
-use Rattle.convert.proofs.DirectoryLaws.{DirectoryPut, directory-start, files-place-fits, directory-offset, directory-room, to-fits, number-inside, last-inside, last-fits, last-value-fits, last-more-fits, last-size-fits, entry-fits, place-next-fits, directory-again, directory-done}
+use Rattle.convert.proofs.DirectoryLaws.{DirectoryPut, directory-start, files-place-fits, directory-offset, directory-room, to-fits, number-inside}
+use Rattle.convert.proofs.DirectoryLaws.{last-inside, last-fits, last-value-fits, last-more-fits, last-size-fits, entry-fits, place-next-fits}
+use Rattle.convert.proofs.DirectoryLaws.{directory-again, directory-done}
 use native.Mathlib.Omega.{arith}
 use borrow.Author.Needs.{needs}
 use Rattle.convert.proofs.directory.put_directory.Statement.{statement}

@@ -5,9 +5,6 @@ use borrow.Author.Needs.{needs}
 use Rattle.file.proofs.header.header_ground_at.Statement.{statement}
 use Rattle.file.proofs.header.header_ground_at.Tie as tie
 
-wrong-size-requires : tie.Need-wrong-size-requires
-wrong-size-requires c κs = search needs
-
 returns : tie.Need-returns
 returns c = search (needs, ground-1)
 
@@ -42,7 +39,7 @@ pub header-ground-at-spec : {M : Type 1} → statement M
 header-ground-at-spec =
     tie.close
     (tie.spec
-    wrong-size-requires
+    (λ c κs. search needs)
     returns
     wrong-mark-requires
     returns-2

@@ -6,9 +6,6 @@ use native.Mathlib.Omega.{arith}
 use Rattle.file.proofs.header.wrong_edition.Statement.{statement}
 use Rattle.file.proofs.header.wrong_edition.Tie as tie
 
-byte-at-requires : tie.Need-byte-at-requires
-byte-at-requires c κs = omega arith
-
 returns : tie.Need-returns
 returns c = search (needs, edition-test)
 
@@ -16,5 +13,5 @@ pub wrong-edition-spec : {M : Type 1} → statement M
 wrong-edition-spec =
     tie.close
     (tie.spec
-    byte-at-requires
+    (λ c κs. omega arith)
     returns)

@@ -6,9 +6,6 @@ use native.Mathlib.Omega.{arith}
 use Rattle.file.proofs.header.wrong_length.Statement.{statement}
 use Rattle.file.proofs.header.wrong_length.Tie as tie
 
-add-offset-at : tie.Need-add-offset-at
-add-offset-at c = omega arith
-
 offset-at-requires : tie.Need-offset-at-requires
 offset-at-requires c κs = (search needs, omega arith)
 
@@ -19,6 +16,6 @@ pub wrong-length-spec : {M : Type 1} → statement M
 wrong-length-spec =
     tie.close
     (tie.spec
-    add-offset-at
+    (λ c. omega arith)
     offset-at-requires
     returns)

@@ -5,17 +5,11 @@ use borrow.Author.Needs.{needs}
 use Rattle.file.proofs.header.wrong_mark.Statement.{statement}
 use Rattle.file.proofs.header.wrong_mark.Tie as tie
 
-byte-at-requires : tie.Need-byte-at-requires
-byte-at-requires c κs = search needs
-
 returns : tie.Need-returns
 returns c = search (needs, mark-first)
-
-byte-at-requires-2 : tie.Need-byte-at-requires-2
-byte-at-requires-2 c κs = search needs
 
 returns-2 : tie.Need-returns-2
 returns-2 c = search (needs, mark-second)
 
 pub wrong-mark-spec : {M : Type 1} → statement M
-wrong-mark-spec = tie.close (tie.spec byte-at-requires returns byte-at-requires-2 returns-2)
+wrong-mark-spec = tie.close (tie.spec (λ c κs. search needs) returns (λ c κs. search needs) returns-2)

@@ -11,17 +11,8 @@ returns c = search (needs, pending-above)
 returns-2 : tie.Need-returns-2
 returns-2 c = search (needs, pending-none)
 
-operation-of-requires : tie.Need-operation-of-requires
-operation-of-requires c κs = search needs
-
-is-no-operation-requires : tie.Need-is-no-operation-requires
-is-no-operation-requires c κs = search needs
-
 returns-3 : tie.Need-returns-3
 returns-3 c = search (needs, pending-unknown)
-
-is-broadcast-read-requires : tie.Need-is-broadcast-read-requires
-is-broadcast-read-requires c κs = search needs
 
 returns-4 : tie.Need-returns-4
 returns-4 c = search (needs, pending-known)
@@ -32,8 +23,8 @@ wrong-pending-spec =
     (tie.spec
     returns
     returns-2
-    operation-of-requires
-    is-no-operation-requires
+    (λ c κs. search needs)
+    (λ c κs. search needs)
     returns-3
-    is-broadcast-read-requires
+    (λ c κs. search needs)
     returns-4)

@@ -7,15 +7,6 @@ use native.Mathlib.Omega.{arith}
 use Rattle.file.proofs.header.wrong_size.Statement.{statement}
 use Rattle.file.proofs.header.wrong_size.Tie as tie
 
-mul-header : tie.Need-mul-header
-mul-header c = omega arith
-
-add-header : tie.Need-add-header
-add-header c = omega arith
-
-mul-longest : tie.Need-mul-longest
-mul-longest c = omega arith
-
 returns : tie.Need-returns
 unfolding wrongSize either
 returns c = simp (lt-ltb _ _ (c .if1 .taken))
@@ -28,8 +19,8 @@ pub wrong-size-spec : {M : Type 1} → statement M
 wrong-size-spec =
     tie.close
     (tie.spec
-    mul-header
-    add-header
-    mul-longest
+    (λ c. omega arith)
+    (λ c. omega arith)
+    (λ c. omega arith)
     returns
     returns-2)

@@ -12,18 +12,6 @@ use borrow.Author.Needs.{needs}
 use Rattle.file.proofs.names.name_at.Statement.{statement}
 use Rattle.file.proofs.names.name_at.Tie as tie
 
-mul-place : tie.Need-mul-place
-mul-place c = search needs
-
-add-place : tie.Need-add-place
-add-place c = search needs
-
-mul-place-2 : tie.Need-mul-place-2
-mul-place-2 c = search needs
-
-shared-slice-read-place : tie.Need-shared-slice-read-place
-shared-slice-read-place c = search needs
-
 -- the slave's name stands within the bytes, and its place is below 2 ^ 16
 stands : (c : tie.After-shared-slice-known3) →
     let args = c .before .before .before .args in
@@ -50,10 +38,10 @@ pub name-at-spec : {M : Type 1} → statement M
 name-at-spec =
     tie.close
     (tie.spec
-    mul-place
-    add-place
-    mul-place-2
-    shared-slice-read-place
+    (λ c. search needs)
+    (λ c. search needs)
+    (λ c. search needs)
+    (λ c. search needs)
     cast-place
     add-u64-at
     u64-at-requires

@@ -6,15 +6,6 @@ use borrow.Author.Needs.{needs}
 use Rattle.file.proofs.readers.comparison_value.Statement.{statement}
 use Rattle.file.proofs.readers.comparison_value.Tie as tie
 
-mul-place : tie.Need-mul-place
-mul-place c = search needs
-
-mul-place-2 : tie.Need-mul-place-2
-mul-place-2 c = search needs
-
-element-copy-out-place : tie.Need-element-copy-out-place
-element-copy-out-place c = search needs
-
 cast-place : tie.Need-cast-place
 cast-place c = search (needs, configuration-fits)
 
@@ -31,9 +22,9 @@ pub comparison-value-spec : {M : Type 1} → statement M
 comparison-value-spec =
     tie.close
     (tie.spec
-    mul-place
-    mul-place-2
-    element-copy-out-place
+    (λ c. search needs)
+    (λ c. search needs)
+    (λ c. search needs)
     cast-place
     add-u64-at
     u64-at-requires

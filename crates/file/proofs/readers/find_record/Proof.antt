@@ -5,26 +5,8 @@ use borrow.Author.Needs.{needs}
 use Rattle.file.proofs.readers.find_record.Statement.{statement}
 use Rattle.file.proofs.readers.find_record.Tie as tie
 
-find-file-requires : tie.Need-find-file-requires
-find-file-requires c κs = search needs
-
-enum-known-found : tie.Need-enum-known-found
-enum-known-found c = search needs
-
-enum-told : tie.Need-enum-told
-enum-told c = search needs
-
 returns : tie.Need-returns
 returns c = search (needs, no-file)
-
-cast-start : tie.Need-cast-start
-cast-start c = search needs
-
-mul-start : tie.Need-mul-start
-mul-start c = search needs
-
-add-if1 : tie.Need-add-if1
-add-if1 c = search needs
 
 returns-2 : tie.Need-returns-2
 returns-2 c = search (needs, no-record)
@@ -39,13 +21,13 @@ pub find-record-spec : {M : Type 1} → statement M
 find-record-spec =
     tie.close
     (tie.spec
-    find-file-requires
-    enum-known-found
-    enum-told
+    (λ c κs. search needs)
+    (λ c. search needs)
+    (λ c. search needs)
     returns
-    cast-start
-    mul-start
-    add-if1
+    (λ c. search needs)
+    (λ c. search needs)
+    (λ c. search needs)
     returns-2
     add-t10
     returns-3)

@@ -14,29 +14,11 @@ Inv-loop file places names₀ count slave₀ names slave = NamesPut (decode file
 abbrev μ-loop : tie.MeasureT-loop
 μ-loop file places names₀ count slave₀ names slave = count - slave
 
-slave-count-requires : tie.Need-slave-count-requires Inv-loop μ-loop
-slave-count-requires c κs = search needs
-
 loop-holds : tie.Need-loop-holds Inv-loop μ-loop
 loop-holds c = put-start _ _
 
-logical-name-requires : tie.Need-logical-name-requires Inv-loop μ-loop
-logical-name-requires c κs = search needs
-
-slice-write-names : tie.Need-slice-write-names Inv-loop μ-loop
-slice-write-names c = omega arith
-
-add-slave : tie.Need-add-slave Inv-loop μ-loop
-add-slave c = search needs
-
-loop-less : tie.Need-loop-less Inv-loop μ-loop
-loop-less c = search needs
-
 loop-again : tie.Need-loop-again Inv-loop μ-loop
 loop-again c = search (needs, put-next)
-
-same-length : tie.Need-same-length Inv-loop μ-loop
-same-length c = search needs
 
 returns : tie.Need-returns Inv-loop μ-loop
 returns c = search (needs, put-end)
@@ -47,12 +29,12 @@ logical-names-spec =
     (tie.spec
     Inv-loop
     μ-loop
-    slave-count-requires
+    (λ c κs. search needs)
     loop-holds
-    logical-name-requires
-    slice-write-names
-    add-slave
-    loop-less
+    (λ c κs. search needs)
+    (λ c. omega arith)
+    (λ c. search needs)
+    (λ c. search needs)
     loop-again
-    same-length
+    (λ c. search needs)
     returns)

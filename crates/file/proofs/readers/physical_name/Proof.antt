@@ -6,18 +6,6 @@ use borrow.Author.Needs.{needs}
 use Rattle.file.proofs.readers.physical_name.Statement.{statement}
 use Rattle.file.proofs.readers.physical_name.Tie as tie
 
-mul-place : tie.Need-mul-place
-mul-place c = search needs
-
-add-place : tie.Need-add-place
-add-place c = search needs
-
-mul-place-2 : tie.Need-mul-place-2
-mul-place-2 c = search needs
-
-element-copy-out-place : tie.Need-element-copy-out-place
-element-copy-out-place c = search needs
-
 cast-place : tie.Need-cast-place
 cast-place c = search (needs, documentation-fits)
 
@@ -34,10 +22,10 @@ pub physical-name-spec : {M : Type 1} → statement M
 physical-name-spec =
     tie.close
     (tie.spec
-    mul-place
-    add-place
-    mul-place-2
-    element-copy-out-place
+    (λ c. search needs)
+    (λ c. search needs)
+    (λ c. search needs)
+    (λ c. search needs)
     cast-place
     add-u64-at
     u64-at-requires

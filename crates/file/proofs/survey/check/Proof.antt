@@ -6,15 +6,6 @@ use borrow.Author.Needs.{needs}
 use Rattle.file.proofs.survey.check.Statement.{statement}
 use Rattle.file.proofs.survey.check.Tie as tie
 
-survey-requires : tie.Need-survey-requires
-survey-requires c κs = search needs
-
-enum-known-surveyed : tie.Need-enum-known-surveyed
-enum-known-surveyed c = search needs
-
-enum-told : tie.Need-enum-told
-enum-told c = search needs
-
 is-held-twice-requires : tie.Need-is-held-twice-requires
 is-held-twice-requires c κs = search (needs, survey-placed)
 
@@ -34,9 +25,9 @@ pub check-spec : {M : Type 1} → statement M
 check-spec =
     tie.close
     (tie.spec
-    survey-requires
-    enum-known-surveyed
-    enum-told
+    (λ c κs. search needs)
+    (λ c. search needs)
+    (λ c. search needs)
     is-held-twice-requires
     returns
     returns-2

@@ -10,17 +10,11 @@ use Rattle.file.proofs.survey.slaves_ground.Tie as tie
 byte-at-requires : tie.Need-byte-at-requires
 byte-at-requires c κs = search (needs, whole-count-within)
 
-mul-stated : tie.Need-mul-stated
-mul-stated c = search needs
-
 slice-aggregate-stated : tie.Need-slice-aggregate-stated
 slice-aggregate-stated c =
     let begun = c .before .before in
     let start = begun .before .before in
     simp length-take (omega (arith, whole-count-fits (start .pre .0) (start .pre .1) (c .before .byte-at .ensures)))
-
-is-missing-requires : tie.Need-is-missing-requires
-is-missing-requires c κs = search needs
 
 returns : tie.Need-returns
 returns c = search (needs, lacks-file)
@@ -39,9 +33,9 @@ slaves-ground-spec =
     tie.close
     (tie.spec
     byte-at-requires
-    mul-stated
+    (λ c. search needs)
     slice-aggregate-stated
-    is-missing-requires
+    (λ c κs. search needs)
     returns
     equal-names-requires
     returns-2

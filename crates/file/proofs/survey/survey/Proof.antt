@@ -14,12 +14,6 @@ use Rattle.file.proofs.survey.survey.Tie as tie
 known : (c : tie.After-shared-slice-known) → Bytes (now (c .before .args .file))
 known c = bytes-known _ (λ k. omega (arith, c .shared-slice-known .given k))
 
-width-of-requires : tie.Need-width-of-requires
-width-of-requires c κs = search needs
-
-header-ground-requires : tie.Need-header-ground-requires
-header-ground-requires c κs = search needs
-
 returns : tie.Need-returns
 unfolding checkedOf
 returns c = search (needs, refused-by-header)
@@ -48,8 +42,8 @@ pub survey-spec : {M : Type 1} → statement M
 survey-spec =
     tie.close
     (tie.spec
-    width-of-requires
-    header-ground-requires
+    (λ c κs. search needs)
+    (λ c κs. search needs)
     returns
     walk-body-requires
     returns-2

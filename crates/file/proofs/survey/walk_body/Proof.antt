@@ -10,15 +10,6 @@ use Rattle.file.proofs.survey.walk_body.Tie as tie
 byte-at-requires : tie.Need-byte-at-requires
 byte-at-requires c κs = search (needs, count-within)
 
-mul-header : tie.Need-mul-header
-mul-header c = omega arith
-
-add-header : tie.Need-add-header
-add-header c = omega arith
-
-mul-size : tie.Need-mul-size
-mul-size c = omega arith
-
 mul-if1 : tie.Need-mul-if1
 mul-if1 c = search (needs, table-size-fits)
 
@@ -31,14 +22,8 @@ returns c = search (needs, body-short)
 walk-slaves-requires : tie.Need-walk-slaves-requires
 walk-slaves-requires c κs = (search (needs, table-fits), search (needs, count-fits))
 
-same-length : tie.Need-same-length
-same-length c = search needs
-
 returns-2 : tie.Need-returns-2
 returns-2 c = search (needs, body-broken, not-true)
-
-same-length-2 : tie.Need-same-length-2
-same-length-2 c = search needs
 
 returns-3 : tie.Need-returns-3
 returns-3 c = search (needs, body-walked, not-false)
@@ -48,14 +33,14 @@ walk-body-spec =
     tie.close
     (tie.spec
     byte-at-requires
-    mul-header
-    add-header
-    mul-size
+    (λ c. omega arith)
+    (λ c. omega arith)
+    (λ c. omega arith)
     mul-if1
     add-if1
     returns
     walk-slaves-requires
-    same-length
+    (λ c. search needs)
     returns-2
-    same-length-2
+    (λ c. search needs)
     returns-3)

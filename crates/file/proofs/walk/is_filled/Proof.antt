@@ -9,11 +9,8 @@ use Rattle.file.proofs.walk.is_filled.Tie as tie
 returns : tie.Need-returns
 returns c = search (needs, filled-narrow)
 
-u16-at-requires : tie.Need-u16-at-requires
-u16-at-requires c κs = omega arith
-
 returns-2 : tie.Need-returns-2
 returns-2 c = search (needs, filled-wide)
 
 pub is-filled-spec : {M : Type 1} → statement M
-is-filled-spec = tie.close (tie.spec returns u16-at-requires returns-2)
+is-filled-spec = tie.close (tie.spec returns (λ c κs. omega arith) returns-2)

@@ -13,23 +13,11 @@ returns c = search (needs, next-low)
 returns-2 : tie.Need-returns-2
 returns-2 c = search (needs, next-empty)
 
-add-is-filled : tie.Need-add-is-filled
-add-is-filled c = omega arith
-
-is-filled-requires : tie.Need-is-filled-requires
-is-filled-requires c κs = search needs
-
 returns-3 : tie.Need-returns-3
 returns-3 c = search (needs, next-unfilled, not-true)
-
-add-offset-at : tie.Need-add-offset-at
-add-offset-at c = omega arith
-
-offset-at-requires : tie.Need-offset-at-requires
-offset-at-requires c κs = search needs
 
 returns-4 : tie.Need-returns-4
 returns-4 c = search (needs, next-last, not-false)
 
 pub is-next-spec : {M : Type 1} → statement M
-is-next-spec = tie.close (tie.spec returns returns-2 add-is-filled is-filled-requires returns-3 add-offset-at offset-at-requires returns-4)
+is-next-spec = tie.close (tie.spec returns returns-2 (λ c. omega arith) (λ c κs. search needs) returns-3 (λ c. omega arith) (λ c κs. search needs) returns-4)

@@ -13,15 +13,6 @@ Inv-loop file width directory count wanted least size entry₀ entry = SeekingBa
 abbrev μ-loop : tie.MeasureT-loop
 μ-loop file width directory count wanted least size entry₀ entry = entry
 
-mul-size : tie.Need-mul-size Inv-loop μ-loop
-mul-size c = search needs
-
-mul-entry : tie.Need-mul-entry Inv-loop μ-loop
-mul-entry c = search needs
-
-add-entry : tie.Need-add-entry Inv-loop μ-loop
-add-entry c = search needs
-
 loop-holds : tie.Need-loop-holds Inv-loop μ-loop
 loop-holds c = back-start _ _
 
@@ -43,9 +34,6 @@ cast-result c = search (needs, back-short)
 returns : tie.Need-returns Inv-loop μ-loop
 returns c = search (needs, back-here)
 
-loop-less : tie.Need-loop-less Inv-loop μ-loop
-loop-less c = omega arith
-
 loop-again : tie.Need-loop-again Inv-loop μ-loop
 loop-again c = search (needs, back-next)
 
@@ -58,9 +46,9 @@ stated-from-back-spec =
     (tie.spec
     Inv-loop
     μ-loop
-    mul-size
-    mul-entry
-    add-entry
+    (λ c. search needs)
+    (λ c. search needs)
+    (λ c. search needs)
     loop-holds
     sub-entry
     is-stated-requires
@@ -68,6 +56,6 @@ stated-from-back-spec =
     offset-at-requires
     cast-result
     returns
-    loop-less
+    (λ c. omega arith)
     loop-again
     returns-2)

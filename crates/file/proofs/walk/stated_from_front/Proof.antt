@@ -14,15 +14,6 @@ Inv-loop file width directory count wanted least size end entry₀ entry = Seeki
 abbrev μ-loop : tie.MeasureT-loop
 μ-loop file width directory count wanted least size end entry₀ entry = end - entry
 
-mul-size : tie.Need-mul-size Inv-loop μ-loop
-mul-size c = search needs
-
-mul-end : tie.Need-mul-end Inv-loop μ-loop
-mul-end c = search needs
-
-add-end : tie.Need-add-end Inv-loop μ-loop
-add-end c = search needs
-
 loop-holds : tie.Need-loop-holds Inv-loop μ-loop
 loop-holds c = search (needs, seeking-start)
 
@@ -41,12 +32,6 @@ cast-result c = search (needs, seeking-short)
 returns : tie.Need-returns Inv-loop μ-loop
 returns c = search (needs, seeking-here)
 
-add-entry : tie.Need-add-entry Inv-loop μ-loop
-add-entry c = omega arith
-
-loop-less : tie.Need-loop-less Inv-loop μ-loop
-loop-less c = omega arith
-
 loop-again : tie.Need-loop-again Inv-loop μ-loop
 loop-again c = search (needs, seeking-next)
 
@@ -59,16 +44,16 @@ stated-from-front-spec =
     (tie.spec
     Inv-loop
     μ-loop
-    mul-size
-    mul-end
-    add-end
+    (λ c. search needs)
+    (λ c. search needs)
+    (λ c. search needs)
     loop-holds
     is-stated-requires
     add-offset-at
     offset-at-requires
     cast-result
     returns
-    add-entry
-    loop-less
+    (λ c. omega arith)
+    (λ c. omega arith)
     loop-again
     returns-2)

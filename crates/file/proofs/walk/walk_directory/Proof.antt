@@ -4,7 +4,8 @@ use Prim.Native.Nat.{_-_}
 use borrow.Author.Needs.{needs}
 use borrow.Author.Tests.{not-true, not-false}
 use native.Mathlib.Omega.{arith}
-use Rattle.file.proofs.WalkLaws.{Walking, walking-none, first-entry, first-number, first-records, first-stop, first-fits, first-next, walking-fits, walking-entry, walking-stop, walking-next, walking-done}
+use Rattle.file.proofs.WalkLaws.{Walking, walking-none, first-entry, first-number, first-records, first-stop, first-fits, first-next, walking-fits}
+use Rattle.file.proofs.WalkLaws.{walking-entry, walking-stop, walking-next, walking-done}
 use Rattle.file.proofs.walk.walk_directory.Statement.{statement}
 use Rattle.file.proofs.walk.walk_directory.Tie as tie
 

@@ -15,50 +15,14 @@ Inv-loop file width count places₀ size entry₀ place₀ slave₀ places entry
 abbrev μ-loop : tie.MeasureT-loop
 μ-loop file width count places₀ size entry₀ place₀ slave₀ places entry place slave = count - slave
 
-mul-size : tie.Need-mul-size Inv-loop μ-loop
-mul-size c = omega arith
-
-mul-entry : tie.Need-mul-entry Inv-loop μ-loop
-mul-entry c = omega arith
-
-add-entry : tie.Need-add-entry Inv-loop μ-loop
-add-entry c = omega arith
-
-mul-place : tie.Need-mul-place Inv-loop μ-loop
-mul-place c = omega arith
-
-add-place : tie.Need-add-place Inv-loop μ-loop
-add-place c = omega arith
-
 loop-holds : tie.Need-loop-holds Inv-loop μ-loop
 loop-holds c = surveying-start (omega arith) (omega arith)
 
 walk-slave-requires : tie.Need-walk-slave-requires Inv-loop μ-loop
 walk-slave-requires c κs = (search (needs, surveying-entry), search (needs, surveying-place))
 
-same-length : tie.Need-same-length Inv-loop μ-loop
-same-length c = search needs
-
 returns : tie.Need-returns Inv-loop μ-loop
 returns c = search (needs, surveying-stop, not-true)
-
-mul-places : tie.Need-mul-places Inv-loop μ-loop
-mul-places c = omega arith
-
-mul-places-2 : tie.Need-mul-places-2 Inv-loop μ-loop
-mul-places-2 c = omega arith
-
-slice-write-places : tie.Need-slice-write-places Inv-loop μ-loop
-slice-write-places c = omega arith
-
-mul-places-3 : tie.Need-mul-places-3 Inv-loop μ-loop
-mul-places-3 c = omega arith
-
-add-places : tie.Need-add-places Inv-loop μ-loop
-add-places c = omega arith
-
-mul-places-4 : tie.Need-mul-places-4 Inv-loop μ-loop
-mul-places-4 c = omega arith
 
 slice-write-places-2 : tie.Need-slice-write-places-2 Inv-loop μ-loop
 slice-write-places-2 c = simp length-set (omega arith)
@@ -69,19 +33,10 @@ add-entry-2 c =
     let pre = turn .before .before .before .before .pre .0 in
     omega (arith, surveying-entry (turn .before .loop .inv) pre (turn .loop-test .taken) .within, pre .short, pre .width .most)
 
-add-slave : tie.Need-add-slave Inv-loop μ-loop
-add-slave c = omega arith
-
-loop-less : tie.Need-loop-less Inv-loop μ-loop
-loop-less c = omega arith
-
 loop-again : tie.Need-loop-again Inv-loop μ-loop
 loop-again c =
     let turn = c .before .before .before in
     surveying-next (turn .before .loop .inv) (turn .loop-test .taken) (c .before .before .walk-slave .ensures) (not-false _ (c .if1 .left))
-
-same-length-2 : tie.Need-same-length-2 Inv-loop μ-loop
-same-length-2 c = search needs
 
 returns-2 : tie.Need-returns-2 Inv-loop μ-loop
 returns-2 c = search (needs, surveying-done)
@@ -92,25 +47,25 @@ walk-slaves-spec =
     (tie.spec
     Inv-loop
     μ-loop
-    mul-size
-    mul-entry
-    add-entry
-    mul-place
-    add-place
+    (λ c. omega arith)
+    (λ c. omega arith)
+    (λ c. omega arith)
+    (λ c. omega arith)
+    (λ c. omega arith)
     loop-holds
     walk-slave-requires
-    same-length
+    (λ c. search needs)
     returns
-    mul-places
-    mul-places-2
-    slice-write-places
-    mul-places-3
-    add-places
-    mul-places-4
+    (λ c. omega arith)
+    (λ c. omega arith)
+    (λ c. omega arith)
+    (λ c. omega arith)
+    (λ c. omega arith)
+    (λ c. omega arith)
     slice-write-places-2
     add-entry-2
-    add-slave
-    loop-less
+    (λ c. omega arith)
+    (λ c. omega arith)
     loop-again
-    same-length-2
+    (λ c. search needs)
     returns-2)

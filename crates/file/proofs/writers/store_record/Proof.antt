@@ -7,29 +7,14 @@ use borrow.Author.Needs.{needs}
 use Rattle.file.proofs.writers.store_record.Statement.{statement}
 use Rattle.file.proofs.writers.store_record.Tie as tie
 
-slice-write-file : tie.Need-slice-write-file
-slice-write-file c = search needs
-
-add-file : tie.Need-add-file
-add-file c = search needs
-
 slice-write-file-2 : tie.Need-slice-write-file-2
 slice-write-file-2 c = simp length-set (omega arith)
-
-add-file-2 : tie.Need-add-file-2
-add-file-2 c = search needs
 
 slice-write-file-3 : tie.Need-slice-write-file-3
 slice-write-file-3 c = simp length-set (omega arith)
 
-add-file-3 : tie.Need-add-file-3
-add-file-3 c = search needs
-
 slice-write-file-4 : tie.Need-slice-write-file-4
 slice-write-file-4 c = simp length-set (omega arith)
-
-same-length : tie.Need-same-length
-same-length c = search needs
 
 returns : tie.Need-returns
 returns c = simp (add-one, add-two, add-three)
@@ -38,12 +23,12 @@ pub store-record-spec : {M : Type 1} → statement M
 store-record-spec =
     tie.close
     (tie.spec
-    slice-write-file
-    add-file
+    (λ c. search needs)
+    (λ c. search needs)
     slice-write-file-2
-    add-file-2
+    (λ c. search needs)
     slice-write-file-3
-    add-file-3
+    (λ c. search needs)
     slice-write-file-4
-    same-length
+    (λ c. search needs)
     returns)

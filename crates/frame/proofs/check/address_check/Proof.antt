@@ -5,12 +5,9 @@ use borrow.Author.Needs.{needs}
 use Rattle.frame.proofs.check.address_check.Statement.{statement}
 use Rattle.frame.proofs.check.address_check.Tie as tie
 
-check-of-requires : tie.Need-check-of-requires
-check-of-requires c κs = search needs
-
 returns : tie.Need-returns
 unfolding addressCheck
 returns c = search needs
 
 pub address-check-spec : {M : Type 1} → statement M
-address-check-spec = tie.close (tie.spec check-of-requires returns)
+address-check-spec = tie.close (tie.spec (λ c κs. search needs) returns)

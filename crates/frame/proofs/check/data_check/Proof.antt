@@ -5,12 +5,9 @@ use borrow.Author.Needs.{needs}
 use Rattle.frame.proofs.check.data_check.Statement.{statement}
 use Rattle.frame.proofs.check.data_check.Tie as tie
 
-check-of-requires : tie.Need-check-of-requires
-check-of-requires c κs = search needs
-
 returns : tie.Need-returns
 unfolding dataCheck
 returns c = search needs
 
 pub data-check-spec : {M : Type 1} → statement M
-data-check-spec = tie.close (tie.spec check-of-requires returns)
+data-check-spec = tie.close (tie.spec (λ c κs. search needs) returns)

@@ -6,9 +6,6 @@ use Rattle.frame.proofs.FireworkBits.{opens-none, opens-data, opens-add
 use Rattle.frame.proofs.firework.firework_of.Statement.{statement}
 use Rattle.frame.proofs.firework.firework_of.Tie as tie
 
-high-bits-requires : tie.Need-high-bits-requires
-high-bits-requires c κs = search needs
-
 returns : tie.Need-returns
 unfolding fireworkRound
 returns c = search (needs, opens-none)
@@ -26,4 +23,4 @@ unfolding fireworkRound
 returns-4 c = search (needs, opens-multipartner)
 
 pub firework-of-spec : {M : Type 1} → statement M
-firework-of-spec = tie.close (tie.spec high-bits-requires returns returns-2 returns-3 returns-4)
+firework-of-spec = tie.close (tie.spec (λ c κs. search needs) returns returns-2 returns-3 returns-4)

@@ -9,9 +9,6 @@ use Rattle.frame.proofs.reader.is_no_address.Tie as tie
 returns : tie.Need-returns
 returns c = sym (empty _ (c .if1 .taken))
 
-shared-slice-read-result : tie.Need-shared-slice-read-result
-shared-slice-read-result c = search needs
-
 returns-2 : tie.Need-returns-2
 returns-2 c = search (needs, first-tells)
 
@@ -20,5 +17,5 @@ is-no-address-spec =
     tie.close
     (tie.spec
     returns
-    shared-slice-read-result
+    (λ c. search needs)
     returns-2)

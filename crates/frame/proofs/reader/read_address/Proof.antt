@@ -21,9 +21,6 @@ well-formed : (c : tie.Else3) → Formed (read-frame c)
 unfolding read-frame
 well-formed c = search formed-by
 
-is-no-address-requires : tie.Need-is-no-address-requires
-is-no-address-requires c κs = search needs
-
 returns : tie.Need-returns
 unfolding readingOf
 returns c = search (needs, refuse-10)
@@ -32,47 +29,17 @@ returns-2 : tie.Need-returns-2
 unfolding readingOf
 returns-2 c = search (needs, refuse-11, other-length)
 
-is-wrong-check-requires : tie.Need-is-wrong-check-requires
-is-wrong-check-requires c κs = search needs
-
 returns-3 : tie.Need-returns-3
 unfolding readingOf
 returns-3 c = search (needs, refuse-12)
-
-shared-slice-read-pb2 : tie.Need-shared-slice-read-pb2
-shared-slice-read-pb2 c = search needs
-
-shared-slice-read-new : tie.Need-shared-slice-read-new
-shared-slice-read-new c = search needs
-
-new-requires : tie.Need-new-requires
-new-requires c κs = search needs
-
-operation-of-requires : tie.Need-operation-of-requires
-operation-of-requires c κs = search needs
-
-is-no-operation-requires : tie.Need-is-no-operation-requires
-is-no-operation-requires c κs = search needs
 
 returns-4 : tie.Need-returns-4
 unfolding readingOf
 returns-4 c = search (refuse-13, formed-by)
 
-is-broadcast-read-requires : tie.Need-is-broadcast-read-requires
-is-broadcast-read-requires c κs = search needs
-
 returns-5 : tie.Need-returns-5
 unfolding readingOf
 returns-5 c = search (refuse-14, formed-by)
-
-shared-slice-read-t13 : tie.Need-shared-slice-read-t13
-shared-slice-read-t13 c = search needs
-
-file-number-of-requires : tie.Need-file-number-of-requires
-file-number-of-requires c κs = search needs
-
-shared-slice-read-t22 : tie.Need-shared-slice-read-t22
-shared-slice-read-t22 c = search needs
 
 returns-6 : tie.Need-returns-6
 unfolding readingOf read-frame
@@ -94,20 +61,20 @@ pub read-address-spec : {M : Type 1} → statement M
 read-address-spec =
     tie.close
     (tie.spec
-    is-no-address-requires
+    (λ c κs. search needs)
     returns
     returns-2
-    is-wrong-check-requires
+    (λ c κs. search needs)
     returns-3
-    shared-slice-read-pb2
-    shared-slice-read-new
-    new-requires
-    operation-of-requires
-    is-no-operation-requires
+    (λ c. search needs)
+    (λ c. search needs)
+    (λ c κs. search needs)
+    (λ c κs. search needs)
+    (λ c κs. search needs)
     returns-4
-    is-broadcast-read-requires
+    (λ c κs. search needs)
     returns-5
-    shared-slice-read-t13
-    file-number-of-requires
-    shared-slice-read-t22
+    (λ c. search needs)
+    (λ c κs. search needs)
+    (λ c. search needs)
     returns-6)

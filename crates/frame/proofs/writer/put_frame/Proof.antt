@@ -7,9 +7,6 @@ use borrow.Author.Needs.{needs}
 use Rattle.frame.proofs.writer.put_frame.Statement.{statement}
 use Rattle.frame.proofs.writer.put_frame.Tie as tie
 
-slice-write-buf : tie.Need-slice-write-buf
-slice-write-buf c = search needs
-
 slice-write-buf-2 : tie.Need-slice-write-buf-2
 slice-write-buf-2 c = simp length-set (omega arith)
 
@@ -22,12 +19,6 @@ slice-write-buf-4 c = simp length-set (omega arith)
 slice-write-buf-5 : tie.Need-slice-write-buf-5
 slice-write-buf-5 c = simp length-set (omega arith)
 
-slice-write-buf-6 : tie.Need-slice-write-buf-6
-slice-write-buf-6 c = search needs
-
-same-length : tie.Need-same-length
-same-length c = search needs
-
 returns : tie.Need-returns
 returns c = stored (c .args .buf .now) _ _ _ _ _ _ (c .pre)
 
@@ -35,11 +26,11 @@ pub put-frame-spec : {M : Type 1} → statement M
 put-frame-spec =
     tie.close
     (tie.spec
-    slice-write-buf
+    (λ c. search needs)
     slice-write-buf-2
     slice-write-buf-3
     slice-write-buf-4
     slice-write-buf-5
-    slice-write-buf-6
-    same-length
+    (λ c. search needs)
+    (λ c. search needs)
     returns)

@@ -11,15 +11,9 @@ returns : tie.Need-returns
 unfolding writingOf
 returns c = search (address-9, short)
 
-is-no-operation-requires : tie.Need-is-no-operation-requires
-is-no-operation-requires c κs = search needs
-
 returns-2 : tie.Need-returns-2
 unfolding writingOf
 returns-2 c = search (address-13, long)
-
-is-broadcast-read-requires : tie.Need-is-broadcast-read-requires
-is-broadcast-read-requires c κs = search needs
 
 returns-3 : tie.Need-returns-3
 unfolding writingOf
@@ -32,15 +26,6 @@ returns-4 c = search (address-18, long, file-high)
 pb2-of-requires : tie.Need-pb2-of-requires
 pb2-of-requires c κs = search (needs, joined-byte)
 
-address-check-requires : tie.Need-address-check-requires
-address-check-requires c κs = search needs
-
-put-frame-requires : tie.Need-put-frame-requires
-put-frame-requires c κs = search needs
-
-same-length : tie.Need-same-length
-same-length c = search needs
-
 returns-5 : tie.Need-returns-5
 unfolding writingOf
 returns-5 c = search (address-written, long, file-fits)
@@ -50,13 +35,13 @@ write-address-spec =
     tie.close
     (tie.spec
     returns
-    is-no-operation-requires
+    (λ c κs. search needs)
     returns-2
-    is-broadcast-read-requires
+    (λ c κs. search needs)
     returns-3
     returns-4
     pb2-of-requires
-    address-check-requires
-    put-frame-requires
-    same-length
+    (λ c κs. search needs)
+    (λ c κs. search needs)
+    (λ c. search needs)
     returns-5)

@@ -11,19 +11,10 @@ returns : tie.Need-returns
 unfolding writingOf
 returns c = search (data-9, short)
 
-data-check-requires : tie.Need-data-check-requires
-data-check-requires c κs = search needs
-
-put-frame-requires : tie.Need-put-frame-requires
-put-frame-requires c κs = search needs
-
-same-length : tie.Need-same-length
-same-length c = search needs
-
 returns-2 : tie.Need-returns-2
 unfolding writingOf
 returns-2 c = search (data-written, long)
 
 pub write-data-spec : {M : Type 1} → statement M
 write-data-spec =
-    tie.close (tie.spec returns data-check-requires put-frame-requires same-length returns-2)
+    tie.close (tie.spec returns (λ c κs. search needs) (λ c κs. search needs) (λ c. search needs) returns-2)

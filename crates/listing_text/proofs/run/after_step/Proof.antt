@@ -8,20 +8,8 @@ use Rattle.listing_text.proofs.run.after_step.Tie as tie
 returns : tie.Need-returns
 returns c = search after-step-silent
 
-sub-comparisons : tie.Need-sub-comparisons
-sub-comparisons c = search needs
-
 shared-slice-read-put-name : tie.Need-shared-slice-read-put-name
 shared-slice-read-put-name c = let start : tie.Start = search in rw (start .pre .0, length-names) (start .pre .2 .inside)
-
-put-name-requires : tie.Need-put-name-requires
-put-name-requires c κs = search needs
-
-add-t14 : tie.Need-add-t14
-add-t14 c = search needs
-
-same-length : tie.Need-same-length
-same-length c = search needs
 
 returns-2 : tie.Need-returns-2
 returns-2 c = search after-step-named
@@ -31,9 +19,9 @@ after-step-spec =
     tie.close
     (tie.spec
     returns
-    sub-comparisons
+    (λ c. search needs)
     shared-slice-read-put-name
-    put-name-requires
-    add-t14
-    same-length
+    (λ c κs. search needs)
+    (λ c. search needs)
+    (λ c. search needs)
     returns-2)

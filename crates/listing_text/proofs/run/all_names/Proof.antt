@@ -23,12 +23,6 @@ array-write-names c = let r = c .before .loop .inv .room in omega arith
 add-name : tie.Need-add-name Inv-loop μ-loop
 add-name c = let n = c .before .loop .inv .next in omega arith
 
-add-i : tie.Need-add-i Inv-loop μ-loop
-add-i c = search needs
-
-loop-less : tie.Need-loop-less Inv-loop μ-loop
-loop-less c = search needs
-
 loop-again : tie.Need-loop-again Inv-loop μ-loop
 loop-again c = naming-next (c .before .loop .inv) (c .loop-test .taken)
 
@@ -44,7 +38,7 @@ all-names-spec =
     loop-holds
     array-write-names
     add-name
-    add-i
-    loop-less
+    (λ c. search needs)
+    (λ c. search needs)
     loop-again
     returns)

@@ -6,15 +6,9 @@ use borrow.Author.Needs.{needs}
 use Rattle.naming.proofs.position.all_named.Statement.{statement}
 use Rattle.naming.proofs.position.all_named.Tie as tie
 
-add-t2 : tie.Need-add-t2
-add-t2 c = search needs
-
-add-t3 : tie.Need-add-t3
-add-t3 c = search needs
-
 returns : tie.Need-returns
 unfolding endAllNamed
 returns c = simp add-one
 
 pub all-named-spec : {M : Type 1} → statement M
-all-named-spec = tie.close (tie.spec add-t2 add-t3 returns)
+all-named-spec = tie.close (tie.spec (λ c. search needs) (λ c. search needs) returns)

@@ -5,12 +5,9 @@ use borrow.Author.Needs.{needs}
 use Rattle.naming.proofs.position.first_position.Statement.{statement}
 use Rattle.naming.proofs.position.first_position.Tie as tie
 
-end-at-requires : tie.Need-end-at-requires
-end-at-requires c κs = search needs
-
 returns : tie.Need-returns
 unfolding fresh
 returns c = rw (c .end-at .ensures)
 
 pub first-position-spec : {M : Type 1} → statement M
-first-position-spec = tie.close (tie.spec end-at-requires returns)
+first-position-spec = tie.close (tie.spec (λ c κs. search needs) returns)

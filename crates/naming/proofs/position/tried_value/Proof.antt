@@ -8,14 +8,8 @@ use Rattle.naming.proofs.position.tried_value.Tie as tie
 returns : tie.Need-returns
 returns c = tried-least _ (c .if1 .taken)
 
-sub-result : tie.Need-sub-result
-sub-result c = search needs
-
-shl-result : tie.Need-shl-result
-shl-result c = search needs
-
 returns-2 : tie.Need-returns-2
 returns-2 c = tried-bit-set _ _ (c .if1 .left) (c .before .pre)
 
 pub tried-value-spec : {M : Type 1} → statement M
-tried-value-spec = tie.close (tie.spec returns sub-result shl-result returns-2)
+tried-value-spec = tie.close (tie.spec returns (λ c. search needs) (λ c. search needs) returns-2)

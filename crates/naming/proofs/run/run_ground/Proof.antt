@@ -5,14 +5,8 @@ use borrow.Author.Needs.{needs}
 use Rattle.naming.proofs.run.run_ground.Statement.{statement}
 use Rattle.naming.proofs.run.run_ground.Tie as tie
 
-names-ground-requires : tie.Need-names-ground-requires
-names-ground-requires c κs = search needs
-
 returns : tie.Need-returns
 returns c = search run-names
-
-is-unfit-requires : tie.Need-is-unfit-requires
-is-unfit-requires c κs = search needs
 
 returns-2 : tie.Need-returns-2
 returns-2 c = search run-unfit
@@ -22,4 +16,4 @@ returns-3 c = search run-fits
 
 pub run-ground-spec : {M : Type 1} → statement M
 run-ground-spec =
-    tie.close (tie.spec names-ground-requires returns is-unfit-requires returns-2 returns-3)
+    tie.close (tie.spec (λ c κs. search needs) returns (λ c κs. search needs) returns-2 returns-3)

@@ -6,19 +6,13 @@ use borrow.Author.Needs.{needs}
 use Rattle.naming.proofs.run.start.Statement.{statement}
 use Rattle.naming.proofs.run.start.Tie as tie
 
-names-ground-requires : tie.Need-names-ground-requires
-names-ground-requires c κs = search needs
-
 returns : tie.Need-returns
 unfolding startedOf
 returns c = search start-refused
-
-first-position-requires : tie.Need-first-position-requires
-first-position-requires c κs = search needs
 
 returns-2 : tie.Need-returns-2
 unfolding startedOf
 returns-2 c = search start-fresh
 
 pub start-spec : {M : Type 1} → statement M
-start-spec = tie.close (tie.spec names-ground-requires returns first-position-requires returns-2)
+start-spec = tie.close (tie.spec (λ c κs. search needs) returns (λ c κs. search needs) returns-2)

@@ -6,12 +6,9 @@ use Rattle.trace.specs.Rules.Run.{oneRefused}
 use Rattle.trace.proofs.report.one_refused.Statement.{statement}
 use Rattle.trace.proofs.report.one_refused.Tie as tie
 
-add-t2 : tie.Need-add-t2
-add-t2 c = search needs
-
 returns : tie.Need-returns
 unfolding oneRefused
 returns c = refl
 
 pub one-refused-spec : {M : Type 1} → statement M
-one-refused-spec = tie.close (tie.spec add-t2 returns)
+one-refused-spec = tie.close (tie.spec (λ c. search needs) returns)

@@ -26,12 +26,6 @@ abbrev μ-loop : tie.MeasureT-loop
 u16-at-requires : tie.Need-u16-at-requires Inv-loop μ-loop
 u16-at-requires c κs = omega (arith, trace-facts _ (c .before .before .pre .1) .low)
 
-mul-data-place : tie.Need-mul-data-place Inv-loop μ-loop
-mul-data-place c = omega arith
-
-add-data-place : tie.Need-add-data-place Inv-loop μ-loop
-add-data-place c = omega arith
-
 loop-holds : tie.Need-loop-holds Inv-loop μ-loop
 loop-holds c = search (needs, running-start, anyone-may)
 
@@ -43,12 +37,6 @@ byte-at-requires c κs = omega (arith, row-within (c .before .loop .inv .0) (c .
 
 add-end : tie.Need-add-end Inv-loop μ-loop
 add-end c = omega (arith, frame-within (c .before .before .loop .inv .0) (c .before .loop-test .taken) (c .byte-at .ensures))
-
-sub-run-frame : tie.Need-sub-run-frame Inv-loop μ-loop
-sub-run-frame c = omega arith
-
-part-run-frame-start : tie.Need-part-run-frame-start Inv-loop μ-loop
-part-run-frame-start c = omega arith
 
 part-run-frame-end : tie.Need-part-run-frame-end Inv-loop μ-loop
 part-run-frame-end c =
@@ -62,12 +50,6 @@ run-frame-requires c κs =
     let inv = read .before .before .loop .inv in
     (inv .0 .placed, few-frames (inv .0) (read .before .loop-test .taken), inv .2)
 
-add-row : tie.Need-add-row Inv-loop μ-loop
-add-row c = omega arith
-
-loop-less : tie.Need-loop-less Inv-loop μ-loop
-loop-less c = omega arith
-
 loop-again : tie.Need-loop-again Inv-loop μ-loop
 unfolding part
 loop-again c =
@@ -80,9 +62,6 @@ loop-again c =
       sent .run-frame .ensures .1,
     )
 
-same-length : tie.Need-same-length Inv-loop μ-loop
-same-length c = search needs
-
 returns : tie.Need-returns Inv-loop μ-loop
 returns c = search (needs, running-done)
 
@@ -93,18 +72,18 @@ run-frames-spec =
     Inv-loop
     μ-loop
     u16-at-requires
-    mul-data-place
-    add-data-place
+    (λ c. omega arith)
+    (λ c. omega arith)
     loop-holds
     add-byte-at
     byte-at-requires
     add-end
-    sub-run-frame
-    part-run-frame-start
+    (λ c. omega arith)
+    (λ c. omega arith)
     part-run-frame-end
     run-frame-requires
-    add-row
-    loop-less
+    (λ c. omega arith)
+    (λ c. omega arith)
     loop-again
-    same-length
+    (λ c. search needs)
     returns)

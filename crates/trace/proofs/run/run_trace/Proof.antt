@@ -8,21 +8,6 @@ use Rattle.trace.proofs.Calls.{call-refused, call-broken, call-run}
 use Rattle.trace.proofs.run.run_trace.Statement.{statement}
 use Rattle.trace.proofs.run.run_trace.Tie as tie
 
-survey-requires : tie.Need-survey-requires
-survey-requires c κs = search needs
-
-enum-known-surveyed : tie.Need-enum-known-surveyed
-enum-known-surveyed c = search needs
-
-enum-told : tie.Need-enum-told
-enum-told c = search needs
-
-is-broken-requires : tie.Need-is-broken-requires
-is-broken-requires c κs = search needs
-
-same-length : tie.Need-same-length
-same-length c = search needs
-
 returns : tie.Need-returns
 unfolding tracedOf
 returns c = search (needs, call-broken)
@@ -35,15 +20,9 @@ run-frames-requires c κs =
     let surveyed = told .before .before in
     (survey-placed (surveyed .survey .ensures) (told .enum-told .given .1), sym (tested .is-broken .ensures) ∙ whole .if1 .left)
 
-same-length-2 : tie.Need-same-length-2
-same-length-2 c = search needs
-
 returns-2 : tie.Need-returns-2
 unfolding tracedOf
 returns-2 c = search (needs, call-refused)
-
-same-length-3 : tie.Need-same-length-3
-same-length-3 c = search needs
 
 returns-3 : tie.Need-returns-3
 unfolding tracedOf
@@ -53,14 +32,14 @@ pub run-trace-spec : {M : Type 1} → statement M
 run-trace-spec =
     tie.close
     (tie.spec
-    survey-requires
-    enum-known-surveyed
-    enum-told
-    is-broken-requires
-    same-length
+    (λ c κs. search needs)
+    (λ c. search needs)
+    (λ c. search needs)
+    (λ c κs. search needs)
+    (λ c. search needs)
     returns
     run-frames-requires
-    same-length-2
+    (λ c. search needs)
     returns-2
-    same-length-3
+    (λ c. search needs)
     returns-3)
