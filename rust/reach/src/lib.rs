@@ -5,6 +5,7 @@
 //! to the next such line; comments, imports and empty lines belong to none.
 
 pub mod source;
+pub mod tree;
 
 use source::{Contract, Module};
 use std::collections::{BTreeMap, BTreeSet};
@@ -34,7 +35,7 @@ impl Folder {
         }
     }
 
-    fn of(module: &str) -> Option<Folder> {
+    pub fn of(module: &str) -> Option<Folder> {
         let folder = module.split('/').nth(1)?;
         Folder::ALL.into_iter().find(|known| known.name() == folder)
     }
@@ -69,6 +70,10 @@ impl Specs {
         Specs { modules, places }
     }
 
+    pub fn modules(&self) -> &BTreeMap<String, Module> {
+        &self.modules
+    }
+
     /// The definitions that words stand for, by imports and by the module itself.
     fn named<'a>(
         &'a self,
@@ -82,8 +87,20 @@ impl Specs {
         })
     }
 
+    /// The definitions that one names.
+    pub fn named_by(&self, (path, name): &Place) -> BTreeSet<Place> {
+        let Some(module) = self.modules.get(path) else {
+            return BTreeSet::new();
+        };
+        let definitions = module.definitions.iter().filter(|definition| definition.name == *name);
+        definitions
+            .flat_map(|definition| self.named(&definition.words, &module.imports, Some(path)))
+            .cloned()
+            .collect()
+    }
+
     /// Where an imported name is defined: in the module named, or in one whose definition that hands on.
-    fn defined<'a>(&'a self, place: &'a Place) -> Option<&'a Place> {
+    pub fn defined<'a>(&'a self, place: &'a Place) -> Option<&'a Place> {
         self.places.get(place).or_else(|| self.defined(self.modules.get(&place.0)?.handed_on.get(&place.1)?))
     }
 
@@ -99,15 +116,12 @@ impl Specs {
         self.reached(named.filter(|(module, _)| Folder::of(module) == Some(Folder::Claims)).cloned().collect())
     }
 
-    fn reached(&self, mut waiting: Vec<Place>) -> BTreeSet<Place> {
+    /// Everything that can be reached from definitions, and these.
+    pub fn reached(&self, mut waiting: Vec<Place>) -> BTreeSet<Place> {
         let mut reached = BTreeSet::new();
         while let Some(place) = waiting.pop() {
-            if !reached.insert(place.clone()) {
-                continue;
-            }
-            let module = &self.modules[&place.0];
-            for definition in module.definitions.iter().filter(|definition| definition.name == place.1) {
-                waiting.extend(self.named(&definition.words, &module.imports, Some(&place.0)).cloned());
+            if reached.insert(place.clone()) {
+                waiting.extend(self.named_by(&place));
             }
         }
         reached

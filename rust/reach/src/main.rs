@@ -3,12 +3,13 @@
 //!
 //! The last line is `N passed, M failed`; the status is 1 if something failed.
 
-use reach::source::{contracts, module, theorems, Contract, Module};
+use reach::source::contracts;
+use reach::tree::{modules, theorems};
 use reach::{within, Folder, Place, Specs};
 use std::collections::{BTreeMap, BTreeSet};
 use std::fs;
 use std::io;
-use std::path::{Path, PathBuf};
+use std::path::Path;
 use std::process::ExitCode;
 
 fn main() -> ExitCode {
@@ -38,7 +39,7 @@ fn wrong(crates: &Path, claims: &Path) -> io::Result<Vec<String>> {
         }));
     let listing = fs::read_to_string(crates.join("listing_text/src/run.rt"))?;
     let listing = specs.from_contracts(&contracts(&listing, |heading| heading.starts_with("pub fn list(")));
-    let claimed = specs.from_claims(&all_theorems(crates)?);
+    let claimed = specs.from_claims(&theorems(crates)?);
     let every: BTreeSet<Place> = calls.iter().chain(&listing).chain(&claimed).cloned().collect();
     let mut wrong = Vec::new();
     for folder in [Folder::Rules, Folder::Claims] {
@@ -77,52 +78,4 @@ fn by_crate(every: &BTreeSet<Place>) -> Vec<(String, BTreeSet<Place>)> {
         apart.entry(format!("`{name}`")).or_default().insert(place.clone());
     }
     apart.into_iter().collect()
-}
-
-fn modules(crates: &Path) -> io::Result<BTreeMap<String, Module>> {
-    let mut modules = BTreeMap::new();
-    for (name, folder) in folders(crates)? {
-        for kind in Folder::ALL {
-            for path in files(&folder.join("specs").join(kind.name()))? {
-                let inside = path.strip_prefix(folder.join("specs")).unwrap_or(&path).with_extension("");
-                modules.insert(format!("{name}/{}", inside.display()), module(&fs::read_to_string(&path)?));
-            }
-        }
-    }
-    Ok(modules)
-}
-
-fn all_theorems(crates: &Path) -> io::Result<Vec<Contract>> {
-    let mut found = Vec::new();
-    for (_, folder) in folders(crates)? {
-        for path in files(&folder.join("proofs"))? {
-            found.extend(theorems(&fs::read_to_string(&path)?));
-        }
-    }
-    Ok(found)
-}
-
-fn folders(crates: &Path) -> io::Result<Vec<(String, PathBuf)>> {
-    let entries: io::Result<Vec<_>> = fs::read_dir(crates)?.collect();
-    Ok(entries?
-        .into_iter()
-        .map(|entry| (entry.file_name().to_string_lossy().into_owned(), entry.path()))
-        .collect())
-}
-
-/// The .antt files of a folder and of those in it; none where there is no such folder.
-fn files(folder: &Path) -> io::Result<Vec<PathBuf>> {
-    let mut found = Vec::new();
-    if !folder.is_dir() {
-        return Ok(found);
-    }
-    for entry in fs::read_dir(folder)? {
-        let path = entry?.path();
-        if path.is_dir() {
-            found.extend(files(&path)?);
-        } else if path.extension().is_some_and(|extension| extension == "antt") {
-            found.push(path);
-        }
-    }
-    Ok(found)
 }
