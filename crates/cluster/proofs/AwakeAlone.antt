@@ -13,16 +13,17 @@ use Rattle.file.specs.Rules.Changes.{putInSlave, withSlaves, withEpoch, withPen
 use Rattle.file.proofs.Order.{byCase}
 use Rattle.frame.specs.Rules.Fireworks.{Round, multipartner, msd, msa, noRound}
 use Rattle.frame.specs.Rules.Frames.{between}
-use Rattle.cluster.specs.Rules.Bus.{Senders, anyone, busByte, slots, senderMask}
-use Rattle.cluster.specs.Rules.Slaves.{withAddress, epochRaised, Duty, nothing, pendingDuty, sentTo, slaveAfter, slavesAfter, restsAfter, rested}
-use Rattle.cluster.specs.Rules.Entries.{Entry}
-use Rattle.cluster.specs.Rules.Multipartner.{SlaveByte, nowhere, byteOf, storesAt, storedThere, sentBy, sentIn, receivedIn, clusterBelow, sentDuring}
-use Rattle.cluster.specs.Rules.Grounds.{roundBy}
-use Rattle.cluster.specs.Rules.Round.{passedOver, effectOf, frameOn}
+use Rattle.master_slave.specs.Rules.Bus.{Senders, anyone, busByte, slots, senderMask}
+use Rattle.master_slave.specs.Rules.Slaves.{withAddress, epochRaised, Duty, nothing, pendingDuty, sentTo, slaveAfter, slavesAfter, restsAfter, rested}
+use Rattle.multipartner.specs.Rules.Entries.{Entry}
+use Rattle.multipartner.specs.Rules.Multipartner.{SlaveByte, nowhere, byteOf, storesAt, storedThere, sentBy, sentIn, receivedIn, clusterBelow, sentDuring}
+use Rattle.cluster.specs.Rules.RoundGrounds.{roundBy}
+use Rattle.multipartner.specs.Rules.Multipartner.{passedOver}
+use Rattle.cluster.specs.Rules.Round.{effectOf, frameOn}
 use Rattle.cluster.specs.Claims.Sleep.{awakeAmong, awakeAlone, SleepersSilent, whereAwake, AwakeAsAlone}
-use Rattle.cluster.proofs.Bus.{mask-alike, answer-alike}
-use Rattle.cluster.proofs.Hearing.{inSlot-nil}
-use Rattle.cluster.proofs.Asleep.{awake-byte, asleep-quiet}
+use Rattle.master_slave.proofs.Bus.{mask-alike, answer-alike}
+use Rattle.master_slave.proofs.Hearing.{inSlot-nil}
+use Rattle.master_slave.proofs.Asleep.{awake-byte, asleep-quiet}
 use Rattle.cluster.proofs.Rounds.{round-accepted, round-becomes}
 use Rattle.cluster.proofs.Sleep.{sends-nothing}
 

@@ -16,16 +16,16 @@ use Rattle.file.specs.Rules.Decode.{decode}
 use Rattle.file.proofs.Order.{byCase}
 use Rattle.frame.specs.Rules.Check.{checkOf, dataCheck}
 use Rattle.frame.specs.Rules.Fireworks.{dataFirework, roundOf, roundIn}
-use Rattle.cluster.specs.Rules.Bus.{Senders, joined, busByte, anyone, slots, maskBelow, senderMask, slotBytes, answerBytes, answerIn, nobody}
-use Rattle.cluster.specs.Rules.Slaves.{addressed, addresses, isUnnamed, Duty, reading, comparing, pendingDuty, answersRead, readReply, answersCompare, replyTo, inSlot, sentTo}
-use Rattle.cluster.specs.Rules.Grounds.{roundBy}
+use Rattle.master_slave.specs.Rules.Bus.{Senders, joined, busByte, anyone, slots, maskBelow, senderMask, slotBytes, answerBytes, answerIn, nobody}
+use Rattle.master_slave.specs.Rules.Slaves.{addressed, addresses, isUnnamed, Duty, reading, comparing, pendingDuty, answersRead, readReply, answersCompare, replyTo, inSlot, sentTo}
+use Rattle.cluster.specs.Rules.RoundGrounds.{roundBy}
 use Rattle.cluster.specs.Rules.Round.{effectOf, frameOn, roundGround, roundOn}
 use Rattle.cluster.specs.Claims.Cases.{dataRound, RoundCases}
-use Rattle.cluster.proofs.Bus.{mask-alike, mask-nobody, answer-alike, sendersTo-yes, sendersTo-no}
-use Rattle.cluster.specs.Inner.Carried.{sendersTo}
-use Rattle.cluster.proofs.Hearing.{inSlot-yes, inSlot-no, inSlot-nil}
-use Rattle.cluster.proofs.DataLaws.{sent-nothing}
-use Rattle.cluster.proofs.Asleep.{is-awake}
+use Rattle.master_slave.proofs.Bus.{mask-alike, mask-nobody, answer-alike, sendersTo-yes, sendersTo-no}
+use Rattle.master_slave.specs.Inner.Carried.{sendersTo}
+use Rattle.master_slave.proofs.Hearing.{inSlot-yes, inSlot-no, inSlot-nil}
+use Rattle.master_slave.proofs.DataLaws.{sent-nothing}
+use Rattle.master_slave.proofs.Asleep.{is-awake}
 use Rattle.cluster.proofs.Rounds.{round-accepted}
 
 -- who sends, by the pending operation
@@ -97,7 +97,10 @@ pub m7 :
     isUnnamed s ≡ true → physicalName s + 1 ≡ comparisonValue s →
     roundOn file dataRound buffer .0 ≡ done 0
 m7 file buffer fits p s alone e less =
-    round-mask file buffer fits p ∙ ap (λ (n : ℕ). done n) (ap (λ (ss : List Slave). senderMask (sentTo (comparing unnamed) ss)) alone ∙ quiet-mask (sentTo (comparing unnamed) (s ∷ [])) (no-sender (comparing unnamed) s (m7-reply s e less)))
+    round-mask file buffer fits p ∙
+    ap (λ (n : ℕ). done n)
+    (ap (λ (ss : List Slave). senderMask (sentTo (comparing unnamed) ss)) alone ∙
+    quiet-mask (sentTo (comparing unnamed) (s ∷ [])) (no-sender (comparing unnamed) s (m7-reply s e less)))
 
 -- ---- M6 and M7 among other slaves
 
@@ -194,8 +197,10 @@ pub m9 : (file buffer : List ℕ) → roundGround file dataRound buffer ≡ 0 �
     (roundOn file dataRound buffer .0 ≡ done 0) × (roundOn file dataRound buffer .1 ≡ answerIn buffer (answerBytes dataFirework nobody))
 unfolding nobody
 m9 file buffer fits n r p =
-    let quiet : (slot : ℕ) → sentTo (reading unnamed n r) (decode file .slaves) slot ≡ nobody slot = sent-nothing (reading unnamed n r) (m9-reply n r) (decode file .slaves) in
-    (round-mask file buffer fits p ∙ ap (λ (k : ℕ). done k) (quiet-mask (sentTo (reading unnamed n r) (decode file .slaves)) quiet), round-buffer file buffer fits p ∙ answer-alike buffer dataFirework (sentTo (reading unnamed n r) (decode file .slaves)) nobody quiet)
+    let quiet : (slot : ℕ) → sentTo (reading unnamed n r) (decode file .slaves) slot ≡ nobody slot = sent-nothing (reading unnamed n r) (m9-reply n r) (decode file .slaves) in (
+      round-mask file buffer fits p ∙ ap (λ (k : ℕ). done k) (quiet-mask (sentTo (reading unnamed n r) (decode file .slaves)) quiet),
+      round-buffer file buffer fits p ∙ answer-alike buffer dataFirework (sentTo (reading unnamed n r) (decode file .slaves)) nobody quiet,
+    )
 
 -- together
 pub round-cases : RoundCases

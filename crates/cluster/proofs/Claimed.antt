@@ -1,7 +1,7 @@
 -- Each claim of specs/Claims, and the theorem that has it as its type.
 use Rattle.cluster.specs.Claims.Cases.{RoundCases}
 use Rattle.cluster.specs.Claims.Edition.{UnknownEditionRound, UnknownEditionKeeping, UnknownEditionFilling}
-use Rattle.cluster.specs.Claims.Editions.{RoundsAtWidth, EditionOneWidens, RoundsConverted, SummaryConverted, KeepingConverted, FillingConverted}
+use Rattle.cluster.specs.Claims.RoundEditions.{RoundsAtWidth, EditionOneWidens, RoundsConverted, SummaryConverted, KeepingConverted, FillingConverted}
 use Rattle.cluster.specs.Claims.Kept.{RefusedAltersNothing, RoundKeepsFile}
 use Rattle.cluster.specs.Claims.Mask.{BitsAreSenders, BitZeroNeverSet}
 use Rattle.cluster.specs.Claims.Pending.{MsaBecomesPending, StaysPending, EpochRaised}
@@ -14,7 +14,7 @@ use Rattle.cluster.specs.Claims.Writes.{UnnamedTakeWrites, NameRecordWri
 use Rattle.cluster.specs.Claims.Written.{AddressSentAsWritten, DataSentAsWritten, FireworkAlone}
 use Rattle.cluster.proofs.Cases.{round-cases}
 use Rattle.cluster.proofs.Rounds.{round-edition, round-refused, round-keeps-file}
-use Rattle.cluster.proofs.Editions.{rounds-at-width, edition-one-widens, rounds-converted, summary-converted, keeping-converted, filling-converted}
+use Rattle.cluster.proofs.RoundEditions.{rounds-at-width, edition-one-widens, rounds-converted, summary-converted, keeping-converted, filling-converted}
 use Rattle.cluster.proofs.Mask.{bits-are-senders, bit-zero-never-set}
 use Rattle.cluster.proofs.StaysPending.{msa-becomes-pending, stays-pending, epoch-raised}
 use Rattle.cluster.proofs.Renaming.{baptizing-renames, only-baptizing-renames, nobody-renamed}

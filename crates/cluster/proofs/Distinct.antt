@@ -1,4 +1,4 @@
--- No two answers to a frame, and to a data frame, are taken to the same: the maps of `specs/Inner/Answers.antt` can be undone.
+-- No two answers to a frame, and to a data frame, are taken to the same: the maps of `specs/Inner/RoundAnswers.antt` can be undone.
 -- Assumes nothing.
 use Prim.Native.Nat.{ℕ}
 use mathlib.Core.Path.{_≡_, refl, sym, _∙_, ap}
@@ -6,10 +6,10 @@ use mathlib.Core.List.{List}
 use lib.ListN.{getD}
 use Rattle.file.specs.Rules.Results.{Result, refused, done}
 use Rattle.cluster.specs.Rules.Round.{Answer}
-use Rattle.cluster.specs.Inner.Answers.{answerOf, dataRead}
+use Rattle.cluster.specs.Inner.RoundAnswers.{answerOf, dataRead}
 use Rattle.cluster.specs.declared.answer.RoundAnswer.{RoundAnswer}
 use Rattle.cluster.specs.declared.answer.RoundAnswer.the-variants as answers
-use Rattle.cluster.specs.declared.types.DataBytes.{DataBytes}
+use Rattle.master_slave.specs.declared.types.DataBytes.{DataBytes}
 use Rattle.cluster.specs.declared.msd.DataReading.{DataReading}
 use Rattle.cluster.specs.declared.msd.DataReading.the-variants as readings
 

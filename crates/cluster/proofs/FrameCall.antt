@@ -15,24 +15,26 @@ use Rattle.file.specs.Rules.Cluster.{Cluster}
 use Rattle.file.specs.Rules.Decode.{decode}
 use Rattle.file.specs.Inner.Accepted.{Becomes, Placed}
 use Rattle.file.specs.Inner.Surveyed.{Surveyed}
-use Rattle.file.specs.Inner.Answers.{checkedOf}
+use Rattle.file.specs.Inner.FileAnswers.{checkedOf}
 use Rattle.file.specs.declared.survey.FileAnswer.{FileAnswer}
 use Rattle.file.specs.declared.survey.FileAnswer.the-variants as answers
 use Rattle.file.specs.declared.types.Refusal.{Refusal}
 use Rattle.file.proofs.Order.{byCase}
 use Rattle.file.proofs.Surveyed.{survey-accepted, survey-becomes, survey-refused, placed-kept}
 use Rattle.frame.specs.Rules.Fireworks.{Round, multipartner, msd, msa, roundOf}
-use Rattle.frame.specs.Rules.Grounds.{wrongFrameLength}
-use Rattle.frame.specs.Inner.Answers.{fireworkRound}
+use Rattle.frame.specs.Rules.FrameGrounds.{wrongFrameLength}
+use Rattle.frame.specs.Inner.FrameAnswers.{fireworkRound}
 use Rattle.frame.specs.declared.firework.Firework.{Firework}
 use Rattle.frame.specs.declared.firework.Firework.the-variants as fireworks
-use Rattle.cluster.specs.Rules.Bus.{slots}
-use Rattle.cluster.specs.Rules.Grounds.{roundBy, groundsOn}
-use Rattle.cluster.specs.Inner.Grounds.{noFirework, fireworkSize, lengthFor, wrongLengthOn, wrongCheckOn, noOperationOn, broadcastReadOn, frameGround}
-use Rattle.cluster.specs.Rules.Round.{Effect, Answer, effectOf, frameOn, roundOn}
-use Rattle.cluster.specs.Inner.Effects.{multipartnerEffect}
-use Rattle.cluster.specs.Inner.Carried.{Carried, leftBy, Exchanged}
-use Rattle.cluster.proofs.Kept.{ClusterKept, kept-refl}
+use Rattle.master_slave.specs.Rules.Bus.{slots}
+use Rattle.cluster.specs.Rules.RoundGrounds.{roundBy, groundsOn}
+use Rattle.cluster.specs.Inner.EachGround.{noFirework, fireworkSize, lengthFor, wrongLengthOn, wrongCheckOn, noOperationOn, broadcastReadOn, frameGround}
+use Rattle.master_slave.specs.Rules.Effect.{Effect}
+use Rattle.cluster.specs.Rules.Round.{Answer, effectOf, frameOn, roundOn}
+use Rattle.multipartner.specs.Inner.Slots.{multipartnerEffect}
+use Rattle.master_slave.specs.Inner.Carried.{Carried}
+use Rattle.cluster.specs.Inner.Exchanged.{leftBy, Exchanged}
+use Rattle.master_slave.proofs.Kept.{ClusterKept, kept-refl}
 use Rattle.cluster.proofs.Rounds.{frame-kept}
 use Rattle.cluster.proofs.FrameLaws.{exchange-refused, exchange-carried, first-of, never-multipartner}
 use Rattle.cluster.proofs.RoundNumbers.{multipartner-low}

@@ -7,7 +7,7 @@ use mathlib.Core.List.{List, [], _∷_}
 use mathlib.Core.Bool.{Bool, true, false, cond, not}
 use lib.ListN.{length, getD}
 use lib.Dec.{eqb}
-use borrow.Author.Tests.{eq-eqb, ne-eqb, eqb-true, not-true, not-false}
+use borrow.Author.Tests.{eq-eqb, ne-eqb, eqb-true, eqb-false, not-true, not-false}
 use mir.Val.{Fits as FitsIn}
 use mir.Syntax.{w8}
 use Rattle.file.specs.Rules.Bytes.{Byte, All, allEmpty, allNext}
@@ -15,11 +15,9 @@ use Rattle.file.specs.Rules.Order as Order
 use Rattle.file.specs.Rules.Results.{refused, done, resultOf}
 use Rattle.file.specs.Rules.Layout.{pendingFlag}
 use Rattle.file.specs.Rules.Cluster.{Cluster, pb2Of, operationOf, fileNumberOf, writeOperation}
-use Rattle.file.specs.Rules.Decode.{decode}
 use Rattle.file.specs.Rules.Legal.{LegalPending}
-use Rattle.file.specs.Rules.Changes.{withEpoch, withPending}
 use Rattle.file.specs.Inner.Typed.{fileIn, recordIn, nameIn, operationIn}
-use Rattle.file.specs.Inner.Accepted.{Becomes, Placed, PendingIs}
+use Rattle.file.specs.Inner.Accepted.{Becomes, PendingIs}
 use Rattle.file.specs.declared.types.Refusal.{Refusal}
 use Rattle.file.specs.declared.types.LogicalName.{LogicalName}
 use Rattle.file.specs.declared.types.FileNumber.{FileNumber}
@@ -27,32 +25,32 @@ use Rattle.file.specs.declared.types.RecordNumber.{RecordNumber}
 use Rattle.file.specs.declared.types.Operation.{Operation}
 use Rattle.file.proofs.Order.{byCase, both-false-left, both-next}
 use Rattle.file.proofs.Results.{result-done, result-refused, no-ground, same-value, that-ground}
-use Rattle.file.proofs.Shape.{shape-refl}
-use Rattle.file.proofs.Surveyed.{placed-kept}
 use Rattle.frame.specs.Rules.Fireworks.{Round, multipartner, msd, msa, dataFirework, addressFirework, fireworks, roundIn, roundOf}
 use Rattle.frame.specs.Rules.Check.{dataCheck}
 use Rattle.frame.specs.Rules.Frames.{frameSize, between}
-use Rattle.frame.specs.Rules.Grounds.{wrongFrameLength, wrongCheck, broadcastRead, noAddress}
+use Rattle.frame.specs.Rules.FrameGrounds.{wrongFrameLength, wrongCheck, noAddress}
 use Rattle.frame.specs.Rules.Reading.{Parts, parts, readGround, partsOf, readAddress}
-use Rattle.frame.specs.Inner.Answers.{readingOf}
+use Rattle.frame.specs.Inner.FrameAnswers.{readingOf}
 use Rattle.frame.specs.declared.types.AddressReading.{AddressReading}
 use Rattle.frame.specs.declared.types.AddressReading.the-variants as addressReadings
 use Rattle.frame.proofs.Tests as Tests
-use Rattle.cluster.specs.declared.types.DataBytes.{DataBytes}
+use Rattle.master_slave.specs.declared.types.DataBytes.{DataBytes}
+use Rattle.master_slave.specs.Rules.Bus.{senderMask, answerBytes, answerIn, nobody}
+use Rattle.master_slave.specs.Rules.Slaves.{withAddress}
+use Rattle.master_slave.specs.Rules.Effect.{Effect}
+use Rattle.master_slave.specs.Inner.Duties.{dataEffect, dataIn}
+use Rattle.master_slave.specs.Inner.Carried.{Carried}
+use Rattle.master_slave.proofs.Bus.{mask-nobody}
 use Rattle.cluster.specs.declared.msd.DataReading.{DataReading}
 use Rattle.cluster.specs.declared.msd.DataReading.the-variants as readings
-use Rattle.cluster.specs.Rules.Bus.{senderMask, answerBytes, answerIn, nobody}
-use Rattle.cluster.specs.Rules.Slaves.{withAddress}
-use Rattle.cluster.specs.Rules.Grounds.{roundBy, writePending, groundsOn}
-use Rattle.cluster.specs.Inner.Grounds.{noFirework, fireworkSize, lengthFor, wrongLengthOn, wrongCheckOn, noOperationOn, broadcastReadOn, frameGround}
-use Rattle.cluster.specs.Rules.Round.{Effect, effectOf, frameOn}
-use Rattle.cluster.specs.Inner.Effects.{addressEffect, dataEffect}
-use Rattle.cluster.specs.Inner.Carried.{Carried, answerTo, leftBy, heardIn, Exchanged, Taken}
-use Rattle.cluster.specs.Inner.Duties.{dataIn}
+use Rattle.cluster.specs.Rules.RoundGrounds.{roundBy, writePending, groundsOn}
+use Rattle.cluster.specs.Inner.EachGround.{noFirework, fireworkSize, lengthFor, wrongLengthOn, wrongCheckOn, noOperationOn, broadcastReadOn, frameGround}
+use Rattle.cluster.specs.Rules.Round.{effectOf, frameOn}
+use Rattle.cluster.specs.Inner.Effects.{addressEffect}
+use Rattle.cluster.specs.Inner.Exchanged.{answerTo, leftBy, heardIn, Exchanged, Taken}
 use Rattle.cluster.specs.declared.answer.RoundAnswer.{RoundAnswer}
 use Rattle.cluster.specs.declared.answer.RoundAnswer.the-variants as answers
-use Rattle.cluster.specs.Inner.Answers.{answerOf, dataRead}
-use Rattle.cluster.proofs.Bus.{mask-nobody}
+use Rattle.cluster.specs.Inner.RoundAnswers.{answerOf, dataRead}
 use Rattle.cluster.proofs.Rounds.{Fits, fits-facts, address-pending}
 
 -- ---- answer and file of one frame, and its buffer
@@ -135,18 +133,24 @@ pub never-multipartner : {r : ℕ} → Round.noRound ≡ multipartner r → ⊥
 unfolding kindOf
 never-multipartner e = omega (arith, ap kindOf e)
 
+-- a round of one kind is none of another
+other : {x y : Round} {b firework : ℕ} → eqb (kindOf x) (kindOf y) ≡ false → x ≡ y → b ≡ firework
+other {x} {y} differ same = absurd (eqb-false (kindOf x) (kindOf y) differ (ap kindOf same))
+
 pub data-first : (frame : List ℕ) → roundBy frame ≡ msd → getD frame 0 0 ≡ dataFirework
 unfolding roundOf kindOf
 data-first frame h =
     only-in msd dataFirework fireworks (getD frame 0 0) (λ e. omega (arith, ap kindOf e))
-    (allNext (λ e. absurd (omega (arith, ap kindOf e))) (allNext (λ _. refl) (allNext (λ e. absurd (omega (arith, ap kindOf e))) (allNext (λ e. absurd (omega (arith, ap kindOf e))) (allNext (λ e. absurd (omega (arith, ap kindOf e))) (allNext (λ e. absurd (omega (arith, ap kindOf e))) (allNext (λ e. absurd (omega (arith, ap kindOf e))) (allNext (λ e. absurd (omega (arith, ap kindOf e))) allEmpty))))))))
+    (allNext (other refl) (allNext (λ _. refl) (allNext (other refl) (allNext (other refl)
+    (allNext (other refl) (allNext (other refl) (allNext (other refl) (allNext (other refl) allEmpty))))))))
     (first-of frame msd (λ e. omega (arith, ap kindOf e)) h)
 
 pub address-first : (frame : List ℕ) → roundBy frame ≡ msa → getD frame 0 0 ≡ addressFirework
 unfolding roundOf kindOf
 address-first frame h =
     only-in msa addressFirework fireworks (getD frame 0 0) (λ e. omega (arith, ap kindOf e))
-    (allNext (λ e. absurd (omega (arith, ap kindOf e))) (allNext (λ e. absurd (omega (arith, ap kindOf e))) (allNext (λ e. absurd (omega (arith, ap kindOf e))) (allNext (λ e. absurd (omega (arith, ap kindOf e))) (allNext (λ e. absurd (omega (arith, ap kindOf e))) (allNext (λ _. refl) (allNext (λ e. absurd (omega (arith, ap kindOf e))) (allNext (λ e. absurd (omega (arith, ap kindOf e))) allEmpty))))))))
+    (allNext (other refl) (allNext (other refl) (allNext (other refl) (allNext (other refl)
+    (allNext (other refl) (allNext (λ _. refl) (allNext (other refl) (allNext (other refl) allEmpty))))))))
     (first-of frame msa (λ e. omega (arith, ap kindOf e)) h)
 
 -- ---- a data frame
@@ -279,7 +283,8 @@ address-refused c frame {x = x} {why} h isAddress e is =
     let ground = that-ground (partsOf frame) (why .0) (readGround frame) (rw is at e) in
     taken-refused c frame h (ground .0 ∙ sym (address-ground c frame isAddress)) (ground .1)
 
-module _ (c : Cluster) (frame : List ℕ) {x : AddressReading} {epoch : ℕ} {name : LogicalName} {number : FileNumber} {operation : Operation} {record′ : RecordNumber} (isAddress : roundBy frame ≡ msa) (e : readingOf x ≡ readAddress frame) (is : x ≡ addressReadings.Address epoch name number operation record′) where
+module _ (c : Cluster) (frame : List ℕ) {x : AddressReading} {epoch : ℕ} {name : LogicalName} {number : FileNumber} {operation : Operation}
+    {record′ : RecordNumber} (isAddress : roundBy frame ≡ msa) (e : readingOf x ≡ readAddress frame) (is : x ≡ addressReadings.Address epoch name number operation record′) where
   taken : PartsAre frame epoch (nameIn name) (fileIn number) (operationIn operation) (recordIn record′)
   unfolding readingOf
   taken = parts-facts frame (rw is at e)
@@ -315,27 +320,3 @@ module _ (c : Cluster) (frame : List ℕ) {f : List ℕ} {x : RoundAnswer} (t : 
       let effect : frameOn c frame ≡ addressEffect c frame = rw isAddress in
       let there : new ≡ answerIn old (answerBytes (getD frame 0 0) (frameOn c frame .senders)) = rw (address-first frame isAddress, effect) b in
       taken-heard c frame (rw is at t) there
-
--- ---- an operation that becomes pending
-
-module _ {f : List ℕ} (c : Cluster) (epoch name pb2 pb3 : ℕ) (raised : Becomes f (withEpoch c epoch)) where
-  pub pending-legal : LegalPending (withAddress c epoch name pb2 pb3) → LegalPending (withPending (decode f) pendingFlag name pb2 pb3)
-  unfolding withAddress
-  pending-legal p = rw (raised .decoded) p
-
-  pub becomes-pending : {g : List ℕ} → Becomes g (withPending (decode f) pendingFlag name pb2 pb3) → Becomes g (withAddress c epoch name pb2 pb3)
-  unfolding withAddress
-  becomes-pending stored = rw (raised .decoded) at stored
-
--- ---- a complete round: its address and then its data
-
-module _ (f : List ℕ) {g : List ℕ} (epoch name pb2 pb3 : ℕ) (h : Becomes g (withAddress (decode f) epoch name pb2 pb3)) where
-  pub address-placed : {places : List ℕ} → Placed f places → Placed g places
-  unfolding withAddress withPending withEpoch
-  address-placed p = placed-kept p h refl (shape-refl (decode f .slaves))
-
-  pub address-carried :
-      (bytes : List ℕ) {old new file : List ℕ} {mask : ℕ} → Carried (dataEffect (decode g) bytes) dataFirework old new mask file →
-      Carried (dataEffect (withAddress (decode f) epoch name pb2 pb3) bytes) dataFirework old new mask file
-  address-carried bytes {old} {new} {file} {mask} k =
-      subst (λ (d : Cluster). Carried (dataEffect d bytes) dataFirework old new mask file) (h .decoded) k

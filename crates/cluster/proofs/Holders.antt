@@ -14,7 +14,7 @@ use Rattle.file.specs.Rules.Order.{firstOf}
 use Rattle.file.specs.Rules.Results.{Result, refused, done}
 use Rattle.file.specs.Rules.Cluster.{Slave, Cluster, logicalName, logicalNames}
 use Rattle.file.specs.Rules.Decode.{decode}
-use Rattle.file.specs.Rules.Grounds.{fileGround}
+use Rattle.file.specs.Rules.FileGrounds.{fileGround}
 use Rattle.file.proofs.Edition.{unknown-edition, refused-edition}
 use Rattle.file.proofs.NameReadLaws.{names-count}
 use Rattle.file.proofs.Order.{byCase}

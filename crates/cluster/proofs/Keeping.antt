@@ -15,14 +15,14 @@ use Rattle.file.specs.Rules.Order.{Ground, firstOf}
 use Rattle.file.specs.Rules.Layout.{pendingFlag}
 use Rattle.file.specs.Rules.Cluster.{Cluster, logicalNames, configuration, pb2Of, executeOperation}
 use Rattle.file.specs.Rules.Decode.{decode}
-use Rattle.file.specs.Rules.Grounds.{fileGround, fileGrounds}
+use Rattle.file.specs.Rules.FileGrounds.{fileGround, fileGrounds}
 use Rattle.file.proofs.Edition.{unknown-edition, refused-edition}
 use Rattle.file.proofs.NameReadLaws.{names-count}
 use Rattle.file.proofs.Order.{byCase, first-most, joined-next}
 use Rattle.file.proofs.Results.{file-first, file-numbered}
 use Rattle.file.proofs.Shape.{shape-count}
 use Rattle.frame.specs.Rules.Fireworks.{Round, multipartner, msd, msa, noRound}
-use Rattle.cluster.specs.Rules.Grounds.{shortAnswer, roundBy, groundsOn}
+use Rattle.cluster.specs.Rules.RoundGrounds.{shortAnswer, roundBy, groundsOn}
 use Rattle.cluster.specs.Rules.Round.{frameOn, roundGround, roundOn}
 use Rattle.cluster.specs.Rules.Summary.{Summary, without, kept, wrongSummary, keptFor, roundKeepingGround, roundKeeping}
 use Rattle.cluster.specs.Claims.Edition.{UnknownEditionKeeping}

@@ -13,14 +13,14 @@ use Rattle.file.specs.Rules.Results.{done, resultOf}
 use Rattle.file.proofs.Order.{byCase}
 use Rattle.file.proofs.Results.{same-value}
 use Rattle.frame.specs.Rules.Fireworks.{Round, multipartner, msd, msa, noRound}
-use Rattle.cluster.specs.Rules.Bus.{Senders, anyone, slots, senderMask, nobody}
-use Rattle.cluster.specs.Rules.Slaves.{Duty, inSlot, sentTo, pendingDuty}
-use Rattle.cluster.specs.Rules.Multipartner.{sentIn, sentDuring}
-use Rattle.cluster.specs.Rules.Grounds.{roundBy}
+use Rattle.master_slave.specs.Rules.Bus.{Senders, anyone, slots, senderMask, nobody}
+use Rattle.master_slave.specs.Rules.Slaves.{Duty, inSlot, sentTo, pendingDuty}
+use Rattle.multipartner.specs.Rules.Multipartner.{sentIn, sentDuring}
+use Rattle.cluster.specs.Rules.RoundGrounds.{roundBy}
 use Rattle.cluster.specs.Rules.Round.{effectOf, frameOn, roundGround, roundOn}
 use Rattle.cluster.specs.Inner.Effects.{carriedBy}
 use Rattle.cluster.specs.Claims.Mask.{BitsAreSenders, BitZeroNeverSet}
-use Rattle.cluster.proofs.Bus.{mask-below, mask-bit}
+use Rattle.master_slave.proofs.Bus.{mask-below, mask-bit}
 
 pub mask-64 : (r : Senders) → senderMask r < 2 ^ 64
 unfolding senderMask

@@ -19,7 +19,7 @@ use Rattle.file.proofs.Order.{byCase, both-true, both-false-left, both-false-ri
 use Rattle.file.proofs.NumberLaws.{part-length}
 use Rattle.file.proofs.Puts.{hasRecord-fits}
 use Rattle.frame.specs.Rules.Frames.{between}
-use Rattle.cluster.specs.Rules.Slaves.{writing, isNameRecord, mayWrite, takesWrite, slaveAfter}
+use Rattle.master_slave.specs.Rules.Slaves.{writing, isNameRecord, mayWrite, takesWrite, slaveAfter}
 use Rattle.cluster.specs.Rules.Round.{roundOn}
 use Rattle.cluster.specs.Claims.Writes.{slaveIn, recordAfter, WriteReaches, Holds, NameRecordWritten, RecordWritten, NotReached, NothingWritten}
 use Rattle.cluster.proofs.Replaced.{WriteTaken, write-taken, write-left}

@@ -19,18 +19,20 @@ use Rattle.file.proofs.Accepted.{accepted-becomes}
 use Rattle.file.proofs.LogicalNames.{name-held}
 use Rattle.frame.specs.Rules.Fireworks.{Round, multipartner, msd, msa, noRound}
 use Rattle.frame.specs.Rules.Frames.{between}
-use Rattle.cluster.specs.Rules.Bus.{slots}
-use Rattle.cluster.specs.Rules.Slaves.{withAddress, epochRaised, Duty, nothing, reading, writing, comparing, baptizing, sleeping, sleepRecord}
-use Rattle.cluster.specs.Rules.Slaves.{executionOf, dutyBy, pendingDuty, takesName, named, slaveAfter, slavesAfter, restsAfter, rested}
-use Rattle.cluster.specs.Rules.Multipartner.{clusterBelow}
-use Rattle.cluster.specs.Rules.Grounds.{roundBy}
-use Rattle.cluster.specs.Rules.Round.{passedOver, effectOf, frameOn, roundGround, roundOn}
+use Rattle.master_slave.specs.Rules.Bus.{slots}
+use Rattle.master_slave.specs.Rules.Slaves.{withAddress, epochRaised, Duty, nothing, reading, writing, comparing, baptizing, sleeping, sleepRecord}
+use Rattle.master_slave.specs.Rules.Slaves.{executionOf, dutyBy, pendingDuty, takesName, named, slaveAfter, slavesAfter, restsAfter, rested}
+use Rattle.multipartner.specs.Rules.Multipartner.{clusterBelow}
+use Rattle.cluster.specs.Rules.RoundGrounds.{roundBy}
+use Rattle.multipartner.specs.Rules.Multipartner.{passedOver}
+use Rattle.cluster.specs.Rules.Round.{effectOf, frameOn, roundGround, roundOn}
 use Rattle.cluster.specs.Claims.Pending.{fileAfter, Pending}
 use Rattle.cluster.specs.Claims.Renaming.{nameAfter, BaptizingRenames, OnlyBaptizingRenames, noCalls, oneMore, NobodyRenamed}
 use Rattle.cluster.proofs.Rounds.{round-facts, round-refused, round-becomes, round-bytes}
-use Rattle.cluster.proofs.Kept.{rests-bytes}
+use Rattle.master_slave.proofs.Kept.{rests-bytes}
 use Rattle.cluster.proofs.Replaced.{write-keeps-name}
-use Rattle.cluster.proofs.Untouched.{filesOf, below-other}
+use Rattle.master_slave.proofs.Untouched.{filesOf}
+use Rattle.multipartner.proofs.Unstored.{below-other}
 
 -- ---- a slave
 

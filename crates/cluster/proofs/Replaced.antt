@@ -1,45 +1,30 @@
 -- What a write leaves in a slave: its bytes in the record, every other record and file and the logical name as they were; a slave that
 -- does not take the write is as it was.
 -- Assumes nothing.
-use Prim.Native.Nat.{ℕ, suc, _+_, _*_, _≤_, _<_}
+use Prim.Native.Nat.{ℕ, _+_, _*_, _≤_, _<_}
 use native.Mathlib.Omega.{arith}
-use mathlib.Core.Path.{_≡_, refl, sym, ap, _∙_}
+use mathlib.Core.Path.{_≡_, sym, _∙_}
 use mathlib.Core.Logic.{_≢_}
-use mathlib.Core.List.{List, [], _∷_, _++_}
+use mathlib.Core.List.{List, [], _∷_}
 use mathlib.Core.Bool.{true, false}
-use lib.ListN.{length, getD, take, drop, length-take, drop-of-length-le}
+use lib.ListN.{length, getD, drop, length-take, drop-of-length-le}
 use lib.Seq.{sets, drop-cons}
 use lib.Dec.{eqb}
 use borrow.Author.Tests.{eqb-true, eqb-false}
 use Rattle.file.specs.Rules.Layout.{recordSize}
 use Rattle.file.specs.Rules.Bytes.{part}
 use Rattle.file.specs.Rules.Cluster.{Slave, bytesIn, recordOf, configuration, logicalName}
-use Rattle.file.specs.Rules.Changes.{putInSlave}
-use Rattle.file.specs.Rules.Order.{both}
 use Rattle.file.proofs.Order.{byCase, both-left, both-right}
 use Rattle.file.proofs.Bytes.{getD-part}
 use Rattle.file.proofs.NumberLaws.{part-length}
-use Rattle.file.proofs.Puts.{inSlave-same, part-sets, getD-sets, sets-part, sets-again, hasRecord-fits}
-use Rattle.cluster.specs.Rules.Slaves.{writing, isNameRecord, written, replaced, takesWrite, slaveAfter}
+use Rattle.file.proofs.Puts.{part-sets, getD-sets, sets-part, sets-again, hasRecord-fits}
+use Rattle.master_slave.specs.Rules.Slaves.{writing, isNameRecord, written, takesWrite, slaveAfter}
+use Rattle.master_slave.proofs.Kept.{takesWrite-record}
+use Rattle.master_slave.proofs.Untouched.{replaced-other}
+use Rattle.master_slave.proofs.WrittenBytes.{written-name, written-most, replaced-sets}
 use Rattle.cluster.specs.Claims.Writes.{recordAfter}
-use Rattle.cluster.proofs.Kept.{takesWrite-record}
-use Rattle.cluster.proofs.Untouched.{replaced-other}
 
 -- ---- the bytes that a record takes
-
-pub written-name : (bytes : List ℕ) → written configuration 1 bytes ≡ take 3 bytes
-unfolding written isNameRecord both
-written-name bytes = refl
-
-pub written-most : (n r : ℕ) (bytes : List ℕ) → length (written n r bytes) ≤ length bytes
-unfolding written
-written-most n r bytes =
-    byCase (isNameRecord n r) (λ e. rw (e, length-take) (omega arith)) (λ e. rw e (omega arith))
-
-pub replaced-sets : (s : Slave) (n k : ℕ) (bs : List ℕ) → bytesIn (replaced s n k bs) n ≡ sets (bytesIn s n) k bs
-unfolding replaced
-replaced-sets s n k [] = refl
-replaced-sets s n k (b ∷ bs) = rw (replaced-sets (putInSlave s n k b) n (suc k) bs, inSlave-same n k b s)
 
 -- three bytes and the fourth as it was
 three-again : (l : List ℕ) (k a b c : ℕ) → k + 4 ≤ length l → part (sets l k (a ∷ b ∷ c ∷ [])) k 4 ≡ a ∷ b ∷ c ∷ drop 3 (part l k 4)

@@ -10,14 +10,14 @@ use native.Mathlib.Omega.{arith}
 use Rattle.file.specs.Rules.Results.{refused}
 use Rattle.file.specs.Rules.Encode.{encode}
 use Rattle.file.specs.Rules.Decode.{decode}
-use Rattle.file.specs.Rules.Grounds.{fileGround}
+use Rattle.file.specs.Rules.FileGrounds.{fileGround}
 use Rattle.file.specs.Inner.Accepted.{Becomes}
 use Rattle.file.proofs.Order.{byCase}
-use Rattle.cluster.specs.Rules.Bus.{slots}
-use Rattle.cluster.specs.Inner.Grounds.{frameGround}
+use Rattle.master_slave.specs.Rules.Bus.{slots}
+use Rattle.cluster.specs.Inner.EachGround.{frameGround}
 use Rattle.cluster.specs.Rules.Round.{Answer, frameOn, roundGround, roundOn}
 use Rattle.cluster.specs.Inner.Effects.{carriedBy, bufferBy}
-use Rattle.cluster.specs.Inner.Carried.{answerTo, leftBy, heardIn, Exchanged}
+use Rattle.cluster.specs.Inner.Exchanged.{answerTo, leftBy, heardIn, Exchanged}
 use Rattle.cluster.proofs.Rounds.{file-decides, buffer-decides, others-decide, round-refused, round-accepted}
 
 pub file-refused : (file frame buffer : List ℕ) {n : ℕ} → n ≡ fileGround file → (n ≡ 0 → ⊥) → (refused n, buffer, file) ≡ roundOn file frame buffer

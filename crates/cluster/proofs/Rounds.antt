@@ -16,7 +16,7 @@ use Rattle.file.specs.Rules.Layout.{pendingFlag}
 use Rattle.file.specs.Rules.Cluster.{Cluster, operationOf, executeOperation}
 use Rattle.file.specs.Rules.Encode.{encode}
 use Rattle.file.specs.Rules.Decode.{decode}
-use Rattle.file.specs.Rules.Grounds.{fileGrounds, fileGround}
+use Rattle.file.specs.Rules.FileGrounds.{fileGrounds, fileGround}
 use Rattle.file.specs.Rules.Legal.{LegalPending}
 use Rattle.file.specs.Rules.Changes.{withEpoch, withPending}
 use Rattle.file.specs.Inner.Accepted.{Becomes}
@@ -28,17 +28,21 @@ use Rattle.file.proofs.Accepted.{encode-bytes, legal-becomes, accepted-becomes}
 use Rattle.file.proofs.Edition.{unknown-edition, refused-edition}
 use Rattle.frame.specs.Rules.Fireworks.{Round, multipartner, msd, msa, noRound}
 use Rattle.frame.specs.Rules.Frames.{between}
-use Rattle.frame.specs.Rules.Grounds.{noOperation, broadcastRead}
-use Rattle.cluster.specs.Rules.Bus.{slots}
-use Rattle.cluster.specs.Rules.Slaves.{withAddress, epochRaised, nothing, pendingDuty, slavesAfter}
-use Rattle.cluster.specs.Rules.Multipartner.{clusterBelow}
-use Rattle.cluster.specs.Rules.Grounds.{shortAnswer, roundBy, groundsOn}
-use Rattle.cluster.specs.Inner.Grounds.{noFirework, lengthFor, wrongLengthOn, wrongCheckOn, noOperationOn, broadcastReadOn, frameGround}
-use Rattle.cluster.specs.Rules.Round.{passedOver, effectOf, frameOn, roundGround, roundOn}
-use Rattle.cluster.specs.Inner.Effects.{dataEffect, multipartnerEffect, carriedBy, bufferBy}
+use Rattle.frame.specs.Rules.FrameGrounds.{noOperation, broadcastRead}
+use Rattle.master_slave.specs.Rules.Bus.{slots}
+use Rattle.master_slave.specs.Rules.Slaves.{withAddress, epochRaised, nothing, pendingDuty, slavesAfter}
+use Rattle.multipartner.specs.Rules.Multipartner.{clusterBelow}
+use Rattle.cluster.specs.Rules.RoundGrounds.{shortAnswer, roundBy, groundsOn}
+use Rattle.cluster.specs.Inner.EachGround.{noFirework, lengthFor, wrongLengthOn, wrongCheckOn, noOperationOn, broadcastReadOn, frameGround}
+use Rattle.multipartner.specs.Rules.Multipartner.{passedOver}
+use Rattle.cluster.specs.Rules.Round.{effectOf, frameOn, roundGround, roundOn}
+use Rattle.master_slave.specs.Inner.Duties.{dataEffect}
+use Rattle.multipartner.specs.Inner.Slots.{multipartnerEffect}
+use Rattle.cluster.specs.Inner.Effects.{carriedBy, bufferBy}
 use Rattle.cluster.specs.Claims.Edition.{UnknownEditionRound}
 use Rattle.cluster.specs.Claims.Kept.{RefusedAltersNothing, RoundKeepsFile}
-use Rattle.cluster.proofs.Kept.{ClusterKept, kept-refl, kept-trans, kept-epoch, kept-raised, kept-pending, kept-after, kept-rested, kept-below}
+use Rattle.master_slave.proofs.Kept.{ClusterKept, kept-refl, kept-trans, kept-epoch, kept-raised, kept-pending, kept-after, kept-rested}
+use Rattle.multipartner.proofs.StoresKept.{kept-below}
 
 -- ---- the grounds of a frame that is accepted
 

@@ -12,7 +12,7 @@ use Rattle.file.specs.Rules.Results.{done}
 use Rattle.file.specs.Rules.Cluster.{Cluster, pb2Of}
 use Rattle.file.specs.Rules.Encode.{encode}
 use Rattle.file.specs.Rules.Decode.{decode}
-use Rattle.file.specs.Rules.Grounds.{fileGround}
+use Rattle.file.specs.Rules.FileGrounds.{fileGround}
 use borrow.Author.Tests.{eq-eqb}
 use Rattle.file.specs.Rules.Order.{both}
 use Rattle.file.proofs.Order.{first-none}
@@ -20,18 +20,19 @@ use Rattle.file.proofs.Results.{no-ground}
 use Rattle.frame.specs.Rules.Fireworks.{msd, msa, dataFirework, addressFirework, roundOf, roundIn}
 use Rattle.frame.specs.Rules.Frames.{frameSize, frameOf, between, dataFrame}
 use Rattle.frame.specs.Rules.Check.{dataCheck}
-use Rattle.frame.specs.Rules.Grounds.{wrongFrameLength}
+use Rattle.frame.specs.Rules.FrameGrounds.{wrongFrameLength}
 use Rattle.frame.specs.Rules.Reading.{parts, readGround, readAddress}
 use Rattle.frame.specs.Rules.Writing.{writeFrame, dataGround, writeAddress, writeData}
 use Rattle.frame.proofs.Tests as Tests
 use Rattle.frame.proofs.RoundTrip.{written-reads}
-use Rattle.cluster.specs.Rules.Bus.{slots, senderMask, answerBytes, answerIn, nobody}
-use Rattle.cluster.specs.Rules.Slaves.{withAddress, epochRaised, nothing, writing, pendingDuty, sentTo, slavesAfter, rested, replyTo}
-use Rattle.cluster.specs.Rules.Grounds.{roundBy, writePending}
-use Rattle.cluster.specs.Inner.Grounds.{noFirework, lengthFor, wrongLengthOn, wrongCheckOn, noOperationOn, broadcastReadOn, frameGround}
+use Rattle.master_slave.specs.Rules.Bus.{slots, senderMask, answerBytes, answerIn, nobody}
+use Rattle.master_slave.specs.Rules.Slaves.{withAddress, epochRaised, nothing, writing, pendingDuty, sentTo, slavesAfter, rested, replyTo}
+use Rattle.cluster.specs.Rules.RoundGrounds.{roundBy, writePending}
+use Rattle.cluster.specs.Inner.EachGround.{noFirework, lengthFor, wrongLengthOn, wrongCheckOn, noOperationOn, broadcastReadOn, frameGround}
 use Rattle.cluster.specs.Rules.Round.{effectOf, frameOn, roundGround, roundOn}
-use Rattle.cluster.proofs.Bus.{mask-nobody, answer-alike}
-use Rattle.cluster.proofs.DataLaws.{sent-nothing, pending-writes, writing-wakes}
+use Rattle.master_slave.proofs.Bus.{mask-nobody, answer-alike}
+use Rattle.master_slave.proofs.DataLaws.{sent-nothing, writing-wakes}
+use Rattle.cluster.proofs.WritePending.{pending-writes}
 use Rattle.cluster.proofs.Cases.{quiet-mask}
 use Rattle.cluster.proofs.Rounds.{fits-none, round-accepted}
 use Rattle.cluster.proofs.RoundCall.{frame-decides}
@@ -66,9 +67,11 @@ address-sent file frame buffer epoch name number operation «record» accepted l
 pub written-address-sent :
     (file buffer answer : List ℕ) (epoch name number operation «record» : ℕ) → fileGround file ≡ 0 → slots ≤ length answer →
     writeAddress buffer epoch name number operation «record» .0 ≡ done tt →
-    roundOn file (take frameSize (writeAddress buffer epoch name number operation «record» .1)) answer ≡ (done 0, answerIn answer (answerBytes addressFirework nobody), encode (withAddress (decode file) epoch name (pb2Of number operation) «record»))
+    roundOn file (take frameSize (writeAddress buffer epoch name number operation «record» .1)) answer ≡
+    (done 0, answerIn answer (answerBytes addressFirework nobody), encode (withAddress (decode file) epoch name (pb2Of number operation) «record»))
 written-address-sent file buffer answer epoch name number operation «record» accepted long written =
-    address-sent file (take frameSize (writeAddress buffer epoch name number operation «record» .1)) answer epoch name number operation «record» accepted long (sym (written-reads buffer epoch name number operation «record» written))
+    address-sent file (take frameSize (writeAddress buffer epoch name number operation «record» .1)) answer epoch name number operation «record» accepted long
+    (sym (written-reads buffer epoch name number operation «record» written))
 
 -- ---- a data frame
 
@@ -118,7 +121,8 @@ module _ (b₀ b₁ b₂ b₃ : ℕ) where
       let quiet : (slot : ℕ) → sentTo (writing name n r) (decode file .slaves) slot ≡ nobody slot = nobody-sends name n r (decode file) in
       let fits : frameGround (decode file) (dataFrame bytes) ≡ 0 = frame-fits (decode file) (pending-writes (decode file) p) in
       let mask : senderMask (sentTo (writing name n r) (decode file .slaves)) ≡ 0 = quiet-mask (sentTo (writing name n r) (decode file .slaves)) quiet in
-      let heard : answerIn buffer (answerBytes dataFirework (sentTo (writing name n r) (decode file .slaves))) ≡ answerIn buffer (answerBytes dataFirework nobody) = answer-alike buffer dataFirework (sentTo (writing name n r) (decode file .slaves)) nobody quiet in
+      let heard : answerIn buffer (answerBytes dataFirework (sentTo (writing name n r) (decode file .slaves))) ≡ answerIn buffer (answerBytes dataFirework nobody) =
+      answer-alike buffer dataFirework (sentTo (writing name n r) (decode file .slaves)) nobody quiet in
       round-accepted file (dataFrame bytes) buffer (round-fits file (dataFrame bytes) buffer accepted long fits)
       ∙ rw (data-round, p, mask, data-first (dataFrame bytes) data-round, heard, between-data, ← writing-wakes name n r (slavesAfter (writing name n r) bytes (epochRaised (decode file))))
 
@@ -130,6 +134,7 @@ module _ (b₀ b₁ b₂ b₃ : ℕ) where
   pub written-data-sent :
       (file buffer answer : List ℕ) (name n r : ℕ) → fileGround file ≡ 0 → slots ≤ length answer → pendingDuty (decode file) ≡ writing name n r →
       writeData buffer bytes .0 ≡ done tt →
-      roundOn file (take frameSize (writeData buffer bytes .1)) answer ≡ (done 0, answerIn answer (answerBytes dataFirework nobody), encode (rested nothing (slavesAfter (writing name n r) bytes (epochRaised (decode file)))))
+      roundOn file (take frameSize (writeData buffer bytes .1)) answer ≡
+      (done 0, answerIn answer (answerBytes dataFirework nobody), encode (rested nothing (slavesAfter (writing name n r) bytes (epochRaised (decode file)))))
   written-data-sent file buffer answer name n r accepted long p written =
       ap (λ (frame : List ℕ). roundOn file frame answer) (written-frame buffer written) ∙ data-sent file answer name n r accepted long p

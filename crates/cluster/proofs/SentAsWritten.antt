@@ -11,11 +11,11 @@ use Rattle.file.specs.Rules.Decode.{decode}
 use Rattle.file.proofs.Order.{clash}
 use Rattle.frame.specs.Rules.Fireworks.{dataFirework}
 use Rattle.frame.specs.Rules.Frames.{between}
-use Rattle.cluster.specs.Rules.Slaves.{withAddress, epochRaised, Duty, nothing, reading, writing, comparing, baptizing, sleeping, executionOf, dutyBy, pendingDuty, slaveAfter, slavesAfter}
-use Rattle.cluster.specs.Rules.Grounds.{writePending}
+use Rattle.master_slave.specs.Rules.Slaves.{withAddress, epochRaised, Duty, nothing, reading, writing, comparing, baptizing, sleeping, executionOf, dutyBy, pendingDuty, slaveAfter, slavesAfter}
+use Rattle.cluster.specs.Rules.RoundGrounds.{writePending}
 use Rattle.cluster.specs.Rules.Round.{effectOf, frameOn}
 use Rattle.cluster.specs.Claims.Written.{AddressSentAsWritten, DataSentAsWritten, FireworkAlone}
-use Rattle.cluster.proofs.DataLaws.{pending-writes}
+use Rattle.cluster.proofs.WritePending.{pending-writes}
 use Rattle.cluster.proofs.Rounds.{round-accepted}
 use Rattle.cluster.proofs.Sent.{round-fits, alone-round, alone-fits, written-address-sent, written-data-sent}
 

@@ -16,7 +16,7 @@ use Rattle.file.specs.Rules.Cluster.{Slave, Cluster, operationOf, pb2Of, config
 use Rattle.file.specs.Rules.Changes.{withPending}
 use Rattle.file.specs.Rules.Encode.{encode}
 use Rattle.file.specs.Rules.Decode.{decode}
-use Rattle.file.specs.Rules.Grounds.{fileGround}
+use Rattle.file.specs.Rules.FileGrounds.{fileGround}
 use Rattle.file.specs.Rules.Legal.{LegalPending}
 use Rattle.file.specs.Inner.Accepted.{Becomes}
 use Rattle.file.proofs.Accepted.{encode-bytes}
@@ -25,21 +25,23 @@ use Rattle.file.proofs.Order.{byCase}
 use Rattle.frame.specs.Rules.Fireworks.{msd, msa, roundOf, roundIn, dataFirework}
 use Rattle.frame.specs.Rules.Check.{addressCheck}
 use Rattle.frame.specs.Rules.Frames.{frameOf, addressBytes, addressFrame, dataFrame, between}
-use Rattle.frame.specs.Rules.Grounds.{wrongFrameLength, wrongCheck, noOperation, broadcastRead}
+use Rattle.frame.specs.Rules.FrameGrounds.{wrongFrameLength, wrongCheck, noOperation, broadcastRead}
 use Rattle.frame.proofs.Written.{address-bytes, data-bytes}
-use Rattle.cluster.specs.Rules.Bus.{Senders, slots, answerBytes, answerIn}
-use Rattle.cluster.specs.Rules.Slaves.{withAddress, nextEpoch, epochRaised, sleepRecord, executionOf, dutyBy, pendingDuty, slavesAfter, slaveAfter}
-use Rattle.cluster.specs.Rules.Grounds.{shortAnswer, roundBy, writePending}
-use Rattle.cluster.specs.Rules.Round.{Effect, Answer, effectOf, frameOn, roundGround, roundOn}
+use Rattle.master_slave.specs.Rules.Bus.{Senders, slots, answerBytes, answerIn}
+use Rattle.master_slave.specs.Rules.Slaves.{withAddress, nextEpoch, epochRaised, sleepRecord, executionOf, dutyBy, pendingDuty, slavesAfter, slaveAfter}
+use Rattle.cluster.specs.Rules.RoundGrounds.{shortAnswer, roundBy, writePending}
+use Rattle.master_slave.specs.Rules.Effect.{Effect}
+use Rattle.cluster.specs.Rules.Round.{Answer, effectOf, frameOn, roundGround, roundOn}
 use Rattle.cluster.specs.Rules.MasterSlave.{Sent, addressSent, dataSent, roundSent}
-use Rattle.cluster.specs.Inner.Grounds.{noFirework, lengthFor, wrongLengthOn, wrongCheckOn, noOperationOn, broadcastReadOn, frameGround}
-use Rattle.cluster.specs.Inner.Effects.{dataEffect, carriedBy, bufferBy}
-use Rattle.cluster.specs.Inner.Carried.{Carried}
-use Rattle.cluster.specs.Inner.Duties.{afterAddress, roundData}
+use Rattle.cluster.specs.Inner.EachGround.{noFirework, lengthFor, wrongLengthOn, wrongCheckOn, noOperationOn, broadcastReadOn, frameGround}
+use Rattle.master_slave.specs.Inner.Duties.{dataEffect}
+use Rattle.cluster.specs.Inner.Effects.{carriedBy, bufferBy}
+use Rattle.master_slave.specs.Inner.Carried.{Carried}
+use Rattle.master_slave.specs.Inner.Duties.{afterAddress, roundData}
 use Rattle.cluster.specs.Inner.Sending.{sentFor, DataOf, of-write, of-other, MaySend, asked}
-use Rattle.cluster.specs.declared.types.MasterSlaveRound.{MasterSlaveRound}
-use Rattle.cluster.proofs.Bus.{answerBytes-length, answer-length}
-use Rattle.cluster.proofs.Kept.{nextEpoch-byte}
+use Rattle.master_slave.specs.declared.types.MasterSlaveRound.{MasterSlaveRound}
+use Rattle.master_slave.proofs.Bus.{answerBytes-length, answer-length}
+use Rattle.master_slave.proofs.Kept.{nextEpoch-byte}
 use Rattle.cluster.proofs.Rounds.{fits-none, address-pending, round-accepted, round-becomes}
 use Rattle.cluster.proofs.Sent.{round-fits, alone-fits, frame-fits}
 
@@ -273,7 +275,8 @@ module _ (c : Cluster) (r : MasterSlaveRound) (may : MaySend (sentFor r)) where
       other : eqb (sentFor r .operation) writeOperation ≡ false → dataEffect (asked c (sentFor r)) (between (dataSent (sentFor r))) ≡ dataEffect (asked c (sentFor r)) (roundData r)
       other e =
           let none : eqb (operationOf (pb2Of (sentFor r .file) (sentFor r .operation))) writeOperation ≡ false = rw (operation-back c (sentFor r) may) e in
-          let same = map-alike _ _ (unwritten-alike (sentFor r .name) (pb2Of (sentFor r .file) (sentFor r .operation)) (sentFor r .«record») (between (dataSent (sentFor r))) (roundData r) none) (epochRaised (asked c (sentFor r)) .slaves) in
+          let alike = unwritten-alike (sentFor r .name) (pb2Of (sentFor r .file) (sentFor r .operation)) (sentFor r .«record») (between (dataSent (sentFor r))) (roundData r) none in
+          let same = map-alike _ _ alike (epochRaised (asked c (sentFor r)) .slaves) in
           unfold slavesAfter in rw (asked-duty c (sentFor r) may, same)
 
   module _ {e n : ℕ} (is : e ≡ c .epoch) (next : n ≡ nextEpoch e) where

@@ -18,24 +18,26 @@ use Rattle.file.proofs.Order.{byCase, both-true, both-left, both-right}
 use Rattle.file.proofs.Shape.{shape-count}
 use Rattle.frame.specs.Rules.Fireworks.{Round, multipartner, msd, msa, noRound}
 use Rattle.frame.specs.Rules.Frames.{between}
-use Rattle.cluster.specs.Rules.Bus.{Senders, busByte, slots, nobody}
-use Rattle.cluster.specs.Rules.Slaves.{withAddress, epochRaised, Duty, nothing, reading, writing, comparing, baptizing, sleeping, sleepRecord}
-use Rattle.cluster.specs.Rules.Slaves.{executionOf, dutyBy, pendingDuty, addressed, replyTo, sentTo, slaveAfter, slavesAfter, fallsAsleep, restsAfter}
-use Rattle.cluster.specs.Rules.Slaves.{rested}
-use Rattle.cluster.specs.Rules.Entries.{Entry}
-use Rattle.cluster.specs.Rules.Multipartner.{byteThere, sendsFrom, storesAt, storedThere, sentIn, receivedIn, clusterBelow}
-use Rattle.cluster.specs.Rules.Grounds.{roundBy}
-use Rattle.cluster.specs.Rules.Round.{passedOver, effectOf, frameOn, roundGround, roundOn}
+use Rattle.master_slave.specs.Rules.Bus.{Senders, busByte, slots, nobody}
+use Rattle.master_slave.specs.Rules.Slaves.{withAddress, epochRaised, Duty, nothing, reading, writing, comparing, baptizing, sleeping, sleepRecord}
+use Rattle.master_slave.specs.Rules.Slaves.{executionOf, dutyBy, pendingDuty, addressed, replyTo, sentTo, slaveAfter, slavesAfter, fallsAsleep, restsAfter}
+use Rattle.master_slave.specs.Rules.Slaves.{rested}
+use Rattle.multipartner.specs.Rules.Entries.{Entry}
+use Rattle.multipartner.specs.Rules.Multipartner.{byteThere, sendsFrom, storesAt, storedThere, sentIn, receivedIn, clusterBelow}
+use Rattle.cluster.specs.Rules.RoundGrounds.{roundBy}
+use Rattle.multipartner.specs.Rules.Multipartner.{passedOver}
+use Rattle.cluster.specs.Rules.Round.{effectOf, frameOn, roundGround, roundOn}
 use Rattle.cluster.specs.Claims.Pending.{Pending}
 use Rattle.cluster.specs.Claims.Writes.{slaveIn}
 use Rattle.cluster.specs.Claims.Sleep.{DataWakes, MultipartnerWakes, AddressWakesNobody, MayFallAsleep, Rests, SleepPutsToSleep, SleepSilent, SleeperKeepsFiles}
-use Rattle.cluster.proofs.Bus.{answer-alike}
-use Rattle.cluster.proofs.Kept.{after-shape, kept-below}
-use Rattle.cluster.proofs.Asleep.{is-awake, byte-awake, is-asleep, asleep-stays}
+use Rattle.master_slave.proofs.Bus.{answer-alike}
+use Rattle.master_slave.proofs.Kept.{after-shape}
+use Rattle.multipartner.proofs.StoresKept.{kept-below}
+use Rattle.master_slave.proofs.Asleep.{is-awake, byte-awake, is-asleep, asleep-stays}
 use Rattle.cluster.proofs.Rounds.{round-accepted, round-refused, round-becomes}
 use Rattle.cluster.proofs.UnnamedWrites.{slaves-after, map-length, mapped-at}
 use Rattle.cluster.proofs.Cases.{quiet-mask}
-use Rattle.cluster.proofs.Hearing.{inSlot-nil}
+use Rattle.master_slave.proofs.Hearing.{inSlot-nil}
 
 -- ---- what is pending
 

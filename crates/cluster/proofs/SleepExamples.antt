@@ -10,14 +10,16 @@ use Rattle.file.specs.Rules.Order.{both, either}
 use Rattle.file.specs.Rules.Cluster.{Slave, Cluster, isAwake, lastRecord, bytesAmong, bytesIn, hasRecord, physicalName, logicalName, comparisonValue, pb2Of}
 use Rattle.file.specs.Rules.Changes.{putAmong, putInSlave, withSleep, withSlaves, withEpoch, withPending}
 use Rattle.frame.specs.Rules.Fireworks.{multipartner, msd, msa}
-use Rattle.cluster.specs.Rules.Bus.{joined, busByte}
-use Rattle.cluster.specs.Rules.Slaves.{withAddress, nextEpoch, epochRaised, executionOf, dutyBy, pendingDuty, isUnnamed, addresses, addressed}
-use Rattle.cluster.specs.Rules.Slaves.{answersRead, answersCompare, mayWrite, takesWrite, takesName, slaveAfter, slavesAfter, fallsAsleep, restsAfter}
-use Rattle.cluster.specs.Rules.Slaves.{rested}
-use Rattle.cluster.specs.Rules.Entries.{entryOf, entryThere, entryAt, isMultiplexed, receives, sends, ends, covers, inTurn, outOfTurn, eligible, actingFrom, acting, bytePlace}
-use Rattle.cluster.specs.Rules.Multipartner.{within, sendPlace, mayStore, storePlace, plansFrom, sendsFrom, storesAt, byteThere, storedThere, sentBy}
-use Rattle.cluster.specs.Rules.Multipartner.{sentIn, receivedIn, clusterBelow, sentDuring}
-use Rattle.cluster.specs.Rules.Round.{Effect, passedOver, effectOf}
+use Rattle.master_slave.specs.Rules.Bus.{joined, busByte}
+use Rattle.master_slave.specs.Rules.Slaves.{withAddress, nextEpoch, epochRaised, executionOf, dutyBy, pendingDuty, isUnnamed, addresses, addressed}
+use Rattle.master_slave.specs.Rules.Slaves.{answersRead, answersCompare, mayWrite, takesWrite, takesName, slaveAfter, slavesAfter, fallsAsleep, restsAfter}
+use Rattle.master_slave.specs.Rules.Slaves.{rested}
+use Rattle.multipartner.specs.Rules.Entries.{entryOf, entryThere, entryAt, isMultiplexed, receives, sends, ends, covers, inTurn, outOfTurn, eligible, actingFrom, acting, bytePlace}
+use Rattle.multipartner.specs.Rules.Multipartner.{within, sendPlace, mayStore, storePlace, plansFrom, sendsFrom, storesAt, byteThere, storedThere, sentBy}
+use Rattle.multipartner.specs.Rules.Multipartner.{sentIn, receivedIn, clusterBelow, sentDuring}
+use Rattle.master_slave.specs.Rules.Effect.{Effect}
+use Rattle.multipartner.specs.Rules.Multipartner.{passedOver}
+use Rattle.cluster.specs.Rules.Round.{effectOf}
 
 -- a slave of that name, whose 0x08 has so many bytes more than its records 0x00 and 1
 slave : ℕ → ℕ → ℕ → Slave
@@ -47,7 +49,8 @@ twice name «record» =
 -- at 0xFF the unnamed that have the record, at 0x00 the others, at a name who holds it: never one that sleeps, who wakes
 -- (`unfolding at-unnamed` below unfolds what stands here)
 at-unnamed : once 0xFF 4 ≡ 1 ∷ 0 ∷ 0 ∷ 0 ∷ []
-unfolding once cluster slave effectOf pendingDuty dutyBy executionOf pb2Of epochRaised withEpoch slavesAfter slaveAfter rested restsAfter fallsAsleep addressed addresses isAwake hasRecord logicalName bytesIn bytesAmong withSleep withSlaves both
+unfolding once cluster slave effectOf pendingDuty dutyBy executionOf pb2Of epochRaised withEpoch slavesAfter slaveAfter rested restsAfter
+    fallsAsleep addressed addresses isAwake hasRecord logicalName bytesIn bytesAmong withSleep withSlaves both
 at-unnamed = refl
 
 at-broadcast : once 0x00 4 ≡ 0 ∷ 0 ∷ 1 ∷ 0 ∷ []
@@ -124,7 +127,9 @@ partners =
 
 -- the sleeping sender's byte is not on the bus
 partners-sent : partners .senders 1 ≡ 0x0F ∷ []
-unfolding partners partner effectOf passedOver epochRaised withEpoch nextEpoch clusterBelow sentDuring sentIn sentBy receivedIn sendsFrom plansFrom storesAt storedThere byteThere sendPlace storePlace mayStore within bytePlace acting actingFrom eligible outOfTurn inTurn covers entryAt entryThere entryOf sends receives ends isMultiplexed lastRecord busByte joined putInSlave putAmong withSlaves isAwake isUnnamed logicalName bytesIn bytesAmong both either
+unfolding partners partner effectOf passedOver epochRaised withEpoch nextEpoch clusterBelow sentDuring sentIn sentBy receivedIn sendsFrom
+    plansFrom storesAt storedThere byteThere sendPlace storePlace mayStore within bytePlace acting actingFrom eligible outOfTurn inTurn covers
+    entryAt entryThere entryOf sends receives ends isMultiplexed lastRecord busByte joined putInSlave putAmong withSlaves isAwake isUnnamed logicalName bytesIn bytesAmong both either
 partners-sent = refl
 
 -- the sleeping receiver keeps its byte

@@ -13,14 +13,14 @@ use Rattle.file.specs.Rules.Cluster.{isAwake, noOperation, broadcastRead, bytes
 use Rattle.file.specs.Rules.Decode.{decode, decodeAt, slavesAt, slaveAt, filesAt, fileAt, fileSize, offsetAt}
 use Rattle.file.specs.Rules.Encode.{encode, encodeAt, header, fileLength, slavesPlace, slavesSize, table, tableEntry, slavesBytes, slaveSize, slaveBytes, contents, directory, directoryEntry}
 use Rattle.file.specs.Rules.Changes.{withSleep, withSlaves, withEpoch, withPending}
-use Rattle.file.specs.Rules.Grounds.{isAmong, hasRepeat, fileGrounds, fileGroundsAt, wrongSize, wrongMark, wrongEdition, wrongLength, wrongHeader}
-use Rattle.file.specs.Rules.Grounds.{wrongPending, brokenLayout, walkFile, tableEnd, walkSlaves, andThen, walkSlave, goodTableEntry, walkDirectory, goodEntry}
-use Rattle.file.specs.Rules.Grounds.{endsAt, lacksNeeded, allHaveNeeded, hasNeeded, equalPhysicalNames}
+use Rattle.file.specs.Rules.FileGrounds.{isAmong, hasRepeat, fileGrounds, fileGroundsAt, wrongSize, wrongMark, wrongEdition, wrongLength, wrongHeader}
+use Rattle.file.specs.Rules.FileGrounds.{wrongPending, brokenLayout, walkFile, tableEnd, walkSlaves, andThen, walkSlave, goodTableEntry, walkDirectory, goodEntry}
+use Rattle.file.specs.Rules.FileGrounds.{endsAt, lacksNeeded, allHaveNeeded, hasNeeded, equalPhysicalNames}
 use Rattle.frame.specs.Rules.Check.{exclusiveOr, checkOf, addressCheck}
 use Rattle.frame.specs.Rules.Fireworks.{roundOf, roundIn}
-use Rattle.frame.specs.Rules.Grounds.{wrongFrameLength, wrongCheck}
-use Rattle.cluster.specs.Rules.Slaves.{withAddress, nextEpoch, epochRaised, executionOf, dutyBy, pendingDuty, addresses, addressed, slaveAfter, slavesAfter, fallsAsleep, restsAfter, rested}
-use Rattle.cluster.specs.Rules.Grounds.{shortAnswer, roundBy, writePending, groundsOn}
+use Rattle.frame.specs.Rules.FrameGrounds.{wrongFrameLength, wrongCheck}
+use Rattle.master_slave.specs.Rules.Slaves.{withAddress, nextEpoch, epochRaised, executionOf, dutyBy, pendingDuty, addresses, addressed, slaveAfter, slavesAfter, fallsAsleep, restsAfter, rested}
+use Rattle.cluster.specs.Rules.RoundGrounds.{shortAnswer, roundBy, writePending, groundsOn}
 use Rattle.cluster.specs.Rules.Round.{effectOf, frameOn, roundGround, roundOn}
 use Rattle.cluster.specs.Claims.Cases.{dataRound}
 use Rattle.cluster.specs.Claims.Writes.{slaveIn}
@@ -58,7 +58,10 @@ data-bytes = bytes-below dataRound (unfold allBelow both in refl)
 
 -- `unfolding sleeps` below unfolds what stands here: a file's, buffer's and frame's grounds, and what the file holds
 sleeps : PutsToSleep before dataRound buffer 0x00
-unfolding widthOf before buffer twoSlaves fileGroundsAt firstOf both either wrongSize wrongMark wrongEdition wrongLength wrongHeader wrongPending noOperation broadcastRead allZero part numberOf offsetAt brokenLayout walkFile tableEnd walkSlaves andThen walkSlave goodTableEntry walkDirectory goodEntry fileSize endsAt lacksNeeded allHaveNeeded hasNeeded lastRecord decode decodeAt slavesAt slaveAt filesAt fileAt equalPhysicalNames hasRepeat isAmong physicalName bytesIn bytesAmong roundGround fileGrounds shortAnswer groundsOn roundBy roundOf roundIn wrongFrameLength writePending pb2Of
+unfolding widthOf before buffer twoSlaves fileGroundsAt firstOf both either wrongSize wrongMark wrongEdition wrongLength wrongHeader
+    wrongPending noOperation broadcastRead allZero part numberOf offsetAt brokenLayout walkFile tableEnd walkSlaves andThen walkSlave
+    goodTableEntry walkDirectory goodEntry fileSize endsAt lacksNeeded allHaveNeeded hasNeeded lastRecord decode decodeAt slavesAt slaveAt
+    filesAt fileAt equalPhysicalNames hasRepeat isAmong physicalName bytesIn bytesAmong roundGround fileGrounds shortAnswer groundsOn roundBy roundOf roundIn wrongFrameLength writePending pb2Of
 sleeps = record { isMsd = refl; accepted = refl; pending = record { isFlag = refl; isName = refl; isPB2 = refl; isPB3 = refl } }
 
 -- the first falls asleep
@@ -89,7 +92,9 @@ unfoldable left : List ℕ
 left = twoSlaves 1 0x00 0x22 4 1 0
 
 is-left : roundOn before dataRound buffer .2 ≡ left
-unfolding sleeps left roundOn frameOn effectOf pendingDuty dutyBy executionOf epochRaised nextEpoch withEpoch slavesAfter slaveAfter rested restsAfter fallsAsleep addressed addresses isAwake hasRecord logicalName withSleep withSlaves encode encodeAt header fileLength slavesPlace slavesSize table tableEntry slavesBytes slaveSize slaveBytes contents directory directoryEntry bytesOf
+unfolding sleeps left roundOn frameOn effectOf pendingDuty dutyBy executionOf epochRaised nextEpoch withEpoch slavesAfter slaveAfter rested
+    restsAfter fallsAsleep addressed addresses isAwake hasRecord logicalName withSleep withSlaves encode encodeAt header
+    fileLength slavesPlace slavesSize table tableEntry slavesBytes slaveSize slaveBytes contents directory directoryEntry bytesOf
 is-left = refl
 
 -- ---- on it the first sleeps and the second is awake

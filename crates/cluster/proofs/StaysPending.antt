@@ -13,12 +13,13 @@ use Rattle.file.specs.Rules.Decode.{decode}
 use Rattle.file.specs.Rules.Changes.{withSlaves, withEpoch, withPending}
 use Rattle.file.proofs.Order.{byCase}
 use Rattle.frame.specs.Rules.Fireworks.{Round, multipartner, msd, msa, noRound}
-use Rattle.cluster.specs.Rules.Bus.{slots}
-use Rattle.cluster.specs.Rules.Slaves.{withAddress, nextEpoch, epochRaised, Duty, nothing, slavesAfter, rested}
-use Rattle.cluster.specs.Rules.Entries.{Entry}
-use Rattle.cluster.specs.Rules.Multipartner.{receivedIn, sentIn, clusterBelow}
-use Rattle.cluster.specs.Rules.Grounds.{roundBy}
-use Rattle.cluster.specs.Rules.Round.{passedOver, effectOf, frameOn, roundGround, roundOn}
+use Rattle.master_slave.specs.Rules.Bus.{slots}
+use Rattle.master_slave.specs.Rules.Slaves.{withAddress, nextEpoch, epochRaised, Duty, nothing, slavesAfter, rested}
+use Rattle.multipartner.specs.Rules.Entries.{Entry}
+use Rattle.multipartner.specs.Rules.Multipartner.{receivedIn, sentIn, clusterBelow}
+use Rattle.cluster.specs.Rules.RoundGrounds.{roundBy}
+use Rattle.multipartner.specs.Rules.Multipartner.{passedOver}
+use Rattle.cluster.specs.Rules.Round.{effectOf, frameOn, roundGround, roundOn}
 use Rattle.cluster.specs.Claims.Pending.{fileAfter, AcceptedMsa, noCalls, oneMore, Pending, Addressed, MsaBecomesPending, StaysPending, RaisesEpoch, byMsd, byMultipartner, EpochRaised}
 use Rattle.cluster.proofs.Rounds.{round-refused, round-becomes, round-bytes}
 

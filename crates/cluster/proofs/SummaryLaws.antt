@@ -12,7 +12,7 @@ use lib.Seq.{length-take-le, take-at, drop-at}
 use borrow.Author.Tests.{eqb-true, eq-eqb, ltb-false, le-ltb}
 use Rattle.file.specs.Rules.Bytes.{All, allNext}
 use Rattle.file.specs.Rules.Order.{Ground, firstOf}
-use Rattle.file.specs.Rules.Grounds.{fileGround, fileGrounds}
+use Rattle.file.specs.Rules.FileGrounds.{fileGround, fileGrounds}
 use Rattle.file.proofs.Order.{byCase, clash, both-left, both-right, both-true, either-false, either-false-left, either-false-right, first-none, joined-first, joined-here, joined-next, joined-right}
 use Rattle.file.proofs.Results.{file-first, file-numbered}
 use Rattle.cluster.specs.Rules.Summary.{Summary, without, kept, alike, wrongSummary, keptFor}

@@ -9,7 +9,7 @@ use lib.ListN.{length}
 use lib.Dec.{eqb}
 use borrow.Author.Tests.{eq-eqb, ne-eqb, not-true}
 use Rattle.file.specs.Rules.Bytes.{All, allEmpty, allNext}
-use Rattle.file.specs.Rules.Results.{Result, refused, done, resultOf}
+use Rattle.file.specs.Rules.Results.{done, resultOf}
 use Rattle.file.specs.Rules.Cluster.{Slave, Cluster}
 use Rattle.file.specs.Rules.Changes.{withSleep, withSlaves, withEpoch}
 use Rattle.file.specs.Inner.Accepted.{Becomes}
@@ -18,25 +18,29 @@ use Rattle.file.proofs.Order.{byCase, clash}
 use Rattle.file.proofs.Results.{no-ground, same-value, that-ground}
 use Rattle.frame.specs.Rules.Fireworks.{msd, msa}
 use Rattle.frame.specs.Rules.Frames.{between}
-use Rattle.frame.specs.Inner.Answers.{fireworkRound}
+use Rattle.frame.specs.Inner.FrameAnswers.{fireworkRound}
 use Rattle.frame.specs.declared.firework.Firework.{Firework}
 use Rattle.frame.specs.declared.firework.Firework.the-variants as fireworks
-use Rattle.cluster.specs.declared.types.RecordAddress.{RecordAddress}
-use Rattle.cluster.specs.declared.types.DataBytes.{DataBytes}
-use Rattle.cluster.specs.declared.duty.Duty.{Duty as CodeDuty}
-use Rattle.cluster.specs.declared.duty.Duty.the-variants as duties
+use Rattle.master_slave.specs.declared.types.RecordAddress.{RecordAddress}
+use Rattle.master_slave.specs.declared.types.DataBytes.{DataBytes}
+use Rattle.master_slave.specs.declared.pending.Duty.{Duty as CodeDuty}
+use Rattle.master_slave.specs.declared.pending.Duty.the-variants as duties
 use Rattle.cluster.specs.declared.msd.DataReading.{DataReading}
 use Rattle.cluster.specs.declared.msd.DataReading.the-variants as readings
-use Rattle.cluster.specs.Rules.Slaves.{Duty, nothing, epochRaised, pendingDuty, slaveAfter, slavesAfter, fallsAsleep, restsAfter, rested}
-use Rattle.cluster.specs.Rules.Grounds.{roundBy}
-use Rattle.cluster.specs.Rules.Round.{Effect, Answer, effectOf, frameOn}
-use Rattle.cluster.specs.Inner.Grounds.{fireworkSize, frameGround}
-use Rattle.cluster.specs.Inner.Effects.{dataEffect, multipartnerEffect}
-use Rattle.cluster.specs.Inner.Carried.{Carried, answerTo, leftBy, Taken}
-use Rattle.cluster.specs.Inner.Duties.{dutyAt, dataIn}
-use Rattle.cluster.specs.Inner.Answers.{dataRead}
-use Rattle.cluster.specs.Inner.Unheard.{isDone, putsToSleep, leavesSlaves, MaySleep, Left, LeftUnheard}
-use Rattle.cluster.proofs.DataLaws.{after-same, awake-alike, stays-up}
+use Rattle.master_slave.specs.Rules.Slaves.{Duty, nothing, epochRaised, pendingDuty, slaveAfter, slavesAfter, fallsAsleep, restsAfter, rested}
+use Rattle.cluster.specs.Rules.RoundGrounds.{roundBy}
+use Rattle.master_slave.specs.Rules.Effect.{Effect}
+use Rattle.cluster.specs.Rules.Round.{Answer, effectOf, frameOn}
+use Rattle.cluster.specs.Inner.EachGround.{fireworkSize, frameGround}
+use Rattle.master_slave.specs.Inner.Duties.{dataEffect}
+use Rattle.multipartner.specs.Inner.Slots.{multipartnerEffect}
+use Rattle.master_slave.specs.Inner.Carried.{Carried}
+use Rattle.cluster.specs.Inner.Exchanged.{answerTo, leftBy, Taken}
+use Rattle.master_slave.specs.Inner.Duties.{dutyAt, dataIn}
+use Rattle.cluster.specs.Inner.RoundAnswers.{dataRead}
+use Rattle.cluster.specs.Inner.Unheard.{isDone, MaySleep, Left, LeftUnheard}
+use Rattle.master_slave.specs.Inner.Duties.{putsToSleep, leavesSlaves}
+use Rattle.master_slave.proofs.DataLaws.{after-same, awake-alike, stays-up}
 use Rattle.cluster.proofs.Sleep.{rested-awake, address-same, multipartner-awake}
 use Rattle.cluster.proofs.FrameCall.{no-ground-ten, round-is, ground-eleven, ground-none, frame-effect}
 
@@ -44,7 +48,7 @@ use Rattle.cluster.proofs.FrameCall.{no-ground-ten, round-is, ground-el
 
 -- a duty that leaves the slaves as they are, in a cluster in which everyone is awake
 leaves-each : (a : RecordAddress) (d : CodeDuty) → leavesSlaves d ≡ true → (bytes : List ℕ) (s : Slave) → slaveAfter (dutyAt d a) bytes s ≡ s
-unfolding leavesSlaves dutyAt slaveAfter
+unfolding dutyAt slaveAfter
 leaves-each a duties.Nothing t bytes s = refl
 leaves-each a duties.Read t bytes s = refl
 leaves-each a duties.Write t bytes s = clash t refl
@@ -53,7 +57,6 @@ leaves-each a duties.Baptize t bytes s = clash t refl
 leaves-each a duties.Sleep t bytes s = clash t refl
 
 leaves-up : (d : CodeDuty) → leavesSlaves d ≡ true → putsToSleep d ≡ false
-unfolding leavesSlaves putsToSleep
 leaves-up duties.Nothing t = refl
 leaves-up duties.Read t = refl
 leaves-up duties.Write t = clash t refl
@@ -140,7 +143,8 @@ unfolding leftBy
 address-left c frame is = byCase (eqb (frameGround c frame) 0) (λ e. rw e (address-same c frame is)) (λ e. rw e)
 
 pub unheard-address :
-    (c : Cluster) (frame : List ℕ) {f : List ℕ} {answer : Answer} {t sleepers : Bool} → roundBy frame ≡ msa → Taken c frame answer f → t ≡ isDone answer → MaySleep sleepers c → LeftUnheard c frame t sleepers f
+    (c : Cluster) (frame : List ℕ) {f : List ℕ} {answer : Answer} {t sleepers : Bool} → roundBy frame ≡ msa → Taken c frame answer f → t ≡ isDone answer →
+    MaySleep sleepers c → LeftUnheard c frame t sleepers f
 unheard-address c frame is k test may =
     record {
       fits = test ∙ ap isDone (k .answers) ∙ done-fits c frame;

@@ -16,14 +16,14 @@ use Rattle.file.specs.Rules.Changes.{withSleep, withSlaves, withEpoch}
 use Rattle.file.proofs.Order.{both-true}
 use Rattle.frame.specs.Rules.Fireworks.{msd}
 use Rattle.frame.specs.Rules.Frames.{between}
-use Rattle.cluster.specs.Rules.Slaves.{epochRaised, Duty, writing, dutyBy, pendingDuty, addresses, addressed, mayWrite, takesWrite, slaveAfter, slavesAfter, fallsAsleep, restsAfter, rested}
-use Rattle.cluster.specs.Rules.Grounds.{roundBy}
+use Rattle.master_slave.specs.Rules.Slaves.{epochRaised, Duty, writing, dutyBy, pendingDuty, addresses, addressed, mayWrite, takesWrite, slaveAfter, slavesAfter, fallsAsleep, restsAfter, rested}
+use Rattle.cluster.specs.Rules.RoundGrounds.{roundBy}
 use Rattle.cluster.specs.Rules.Round.{effectOf, frameOn, roundGround, roundOn}
 use Rattle.cluster.specs.Claims.Pending.{Pending}
 use Rattle.cluster.specs.Claims.Writes.{slaveIn, UnnamedTakeWrites}
 use Rattle.cluster.proofs.Rounds.{round-becomes}
 use Rattle.cluster.proofs.Replaced.{write-taken}
-use Rattle.cluster.proofs.Asleep.{is-awake}
+use Rattle.master_slave.proofs.Asleep.{is-awake}
 
 -- ---- the operation
 

@@ -9,5 +9,5 @@ pub mod Summary
 pub mod Sleep
 pub mod Kept
 pub mod Edition
-pub mod Editions
+pub mod RoundEditions
 pub mod Cases

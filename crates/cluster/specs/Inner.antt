@@ -1,11 +1,8 @@
--- Words of the contracts between functions: a frame's grounds one by one, a frame carried out, the code's entries, the slots of a round,
--- the code's duties, the sending of a complete round, the code's answers and a frame that nobody hears.
-pub mod Grounds
+-- Words of the contracts between functions: a frame's grounds one by one, what a frame does and its answer, the sending of a complete
+-- round, the code's answers and a frame that nobody hears.
+pub mod EachGround
 pub mod Effects
-pub mod Carried
-pub mod EntryForm
-pub mod Slots
-pub mod Duties
+pub mod Exchanged
 pub mod Sending
-pub mod Answers
+pub mod RoundAnswers
 pub mod Unheard

@@ -3,44 +3,19 @@ ghost use mathlib.Core.Path.{_≡_};
 ghost use Prim.Native.Nat.{_≤_};
 ghost use lib.ListN.{length};
 ghost use Rattle.file.specs.Rules.Decode.{decode};
-ghost use Rattle.file.specs.Rules.Cluster.{pb2Of};
-ghost use Rattle.file.specs.Rules.Legal.{LegalPending};
-ghost use Rattle.file.specs.Inner.Typed.{fileIn, recordIn, nameIn, operationIn};
-ghost use Rattle.file.specs.Inner.Accepted.{AcceptedFile, Becomes};
+ghost use Rattle.file.specs.Inner.Accepted.{AcceptedFile};
 ghost use Rattle.frame.specs.Rules.Fireworks.{msa};
-ghost use Rattle.cluster.specs.Rules.Bus.{slots};
-ghost use Rattle.cluster.specs.Rules.Slaves.{withAddress};
-ghost use Rattle.cluster.specs.Rules.Grounds.{roundBy};
-ghost use Rattle.cluster.specs.Inner.Carried.{Exchanged, Taken};
-ghost use Rattle.cluster.specs.Inner.Answers.{answerOf};
-use crate::answer::NOBODY;
+ghost use Rattle.master_slave.specs.Rules.Bus.{slots};
+ghost use Rattle.cluster.specs.Rules.RoundGrounds.{roundBy};
+ghost use Rattle.cluster.specs.Inner.Exchanged.{Exchanged, Taken};
+ghost use Rattle.cluster.specs.Inner.RoundAnswers.{answerOf};
 use crate::answer::RoundAnswer;
-use crate::answer::silence;
-use file::types::FileNumber;
-use file::types::LogicalName;
-use file::types::Operation;
-use file::types::RecordNumber;
-use file::writers::set_epoch;
-use file::writers::set_pending;
 use frame::firework::MSA;
 use frame::reader::read_address;
 use frame::types::AddressReading;
-
-// "An accepted MSA sets the epoch to PB0 and becomes pending until the next one".
-pub fn become_pending(
-    file: &mut [u8],
-    epoch: u8,
-    name: LogicalName,
-    number: FileNumber,
-    operation: Operation,
-    record: RecordNumber,
-)
-    requires { ⌜ AcceptedFile (now file) × LegalPending (withAddress (decode (now file)) epoch (nameIn name) (pb2Of (fileIn number) (operationIn operation)) (recordIn «record»)) ⌝ }
-    ensures { λ _. ⌜ Becomes (now (file .exit)) (withAddress (decode (now (file .entry))) epoch (nameIn name) (pb2Of (fileIn number) (operationIn operation)) (recordIn «record»)) ⌝ }
-{
-    set_epoch(file, epoch);
-    set_pending(file, name, number, operation, record);
-}
+use master_slave::pending::become_pending;
+use master_slave::slots::NOBODY;
+use master_slave::slots::silence;
 
 // An address frame, whoever hears.
 pub fn pend_address(file: &mut [u8], frame: &[u8]) -> RoundAnswer

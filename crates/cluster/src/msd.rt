@@ -5,25 +5,18 @@ ghost use lib.ListN.{length};
 ghost use Rattle.file.specs.Rules.Results.{resultOf};
 ghost use Rattle.file.specs.Rules.Decode.{decode};
 ghost use Rattle.file.specs.Inner.Accepted.{AcceptedFile, Placed};
-ghost use Rattle.frame.specs.Rules.Fireworks.{msd, dataFirework};
+ghost use Rattle.frame.specs.Rules.Fireworks.{msd};
 ghost use Rattle.frame.specs.Rules.Frames.{between};
-ghost use Rattle.cluster.specs.Rules.Bus.{slots};
-ghost use Rattle.cluster.specs.Rules.Grounds.{roundBy, writePending};
-ghost use Rattle.cluster.specs.Inner.Grounds.{frameGround};
-ghost use Rattle.cluster.specs.Inner.Effects.{dataEffect};
-ghost use Rattle.cluster.specs.Inner.Carried.{Carried, Exchanged};
-ghost use Rattle.cluster.specs.Inner.Duties.{dataIn};
-ghost use Rattle.cluster.specs.Inner.Answers.{answerOf, dataRead};
+ghost use Rattle.master_slave.specs.Rules.Bus.{slots};
+ghost use Rattle.master_slave.specs.Inner.Duties.{dataEffect, dataIn};
+ghost use Rattle.master_slave.specs.Inner.Carried.{Carried};
+ghost use Rattle.cluster.specs.Rules.RoundGrounds.{roundBy, writePending};
+ghost use Rattle.cluster.specs.Inner.EachGround.{frameGround};
+ghost use Rattle.cluster.specs.Inner.Exchanged.{Exchanged};
+ghost use Rattle.cluster.specs.Inner.RoundAnswers.{answerOf, dataRead};
 ghost use Rattle.cluster.specs.Inner.Unheard.{MaySleep, Left, LeftUnheard};
 use crate::answer::RoundAnswer;
 use crate::answer::Unheard;
-use crate::duty::do_duty;
-use crate::duty::leaves_slaves;
-use crate::duty::pending_duty;
-use crate::duty::puts_to_sleep;
-use crate::duty::rest_slaves;
-use crate::epoch::raise_epoch;
-use crate::types::DataBytes;
 use file::layout::PENDING;
 use file::readers::read_pending;
 use file::types::Operation;
@@ -36,6 +29,12 @@ use frame::frames::PB0_PLACE;
 use frame::frames::PB1_PLACE;
 use frame::frames::PB2_PLACE;
 use frame::frames::PB3_PLACE;
+use master_slave::epoch::raise_epoch;
+use master_slave::master_slave::carry_data;
+use master_slave::pending::pending_duty;
+use master_slave::sleep::leaves_slaves;
+use master_slave::sleep::puts_to_sleep;
+use master_slave::types::DataBytes;
 
 fn is_write_pending(file: &[u8]) -> bool
     requires { ⌜ AcceptedFile (now file) ⌝ }
@@ -78,21 +77,6 @@ fn read_data(file: &[u8], frame: &[u8]) -> DataReading
         return DataReading::Refused(Refusal::CHECK);
     }
     DataReading::Data(DataBytes { b0, b1, b2, b3 })
-}
-
-// The data part of a round: what is pending is settled, the epoch raised, the slaves do their duty, and fall asleep or wake. The mask
-// of the slots in which someone sent.
-pub fn carry_data(file: &mut [u8], places: &SlavePlaces, bytes: DataBytes, buffer: &mut [u8]) -> u64
-    requires { ⌜ Placed (now file) (now places) × (slots ≤ length (now buffer)) ⌝ }
-    ensures { λ r. ⌜ Carried (dataEffect (decode (now (file .entry))) (dataIn bytes)) dataFirework (now (buffer .entry)) (now (buffer .exit)) r (now (file .exit)) ⌝ }
-{
-    let pending = pending_duty(file);
-    let duty = pending.duty;
-    let address = pending.address;
-    raise_epoch(file);
-    let mask = do_duty(file, places, duty, address, bytes, buffer);
-    rest_slaves(file, places, duty, address);
-    mask
 }
 
 // A data frame: the pending operation is carried out.

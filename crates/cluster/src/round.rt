@@ -4,15 +4,14 @@ ghost use Prim.Native.Nat.{_≤_};
 ghost use lib.ListN.{length};
 ghost use Rattle.file.specs.Rules.Decode.{decode};
 ghost use Rattle.file.specs.Inner.Accepted.{Placed};
-ghost use Rattle.frame.specs.Inner.Answers.{fireworkRound};
-ghost use Rattle.cluster.specs.Rules.Bus.{slots};
-ghost use Rattle.cluster.specs.Rules.Grounds.{roundBy};
+ghost use Rattle.frame.specs.Inner.FrameAnswers.{fireworkRound};
+ghost use Rattle.master_slave.specs.Rules.Bus.{slots};
+ghost use Rattle.cluster.specs.Rules.RoundGrounds.{roundBy};
 ghost use Rattle.cluster.specs.Rules.Round.{roundOn};
-ghost use Rattle.cluster.specs.Inner.Carried.{Exchanged};
-ghost use Rattle.cluster.specs.Inner.Answers.{answerOf};
+ghost use Rattle.cluster.specs.Inner.Exchanged.{Exchanged};
+ghost use Rattle.cluster.specs.Inner.RoundAnswers.{answerOf};
 ghost use Rattle.cluster.specs.Inner.Unheard.{MaySleep, LeftUnheard};
 use crate::answer::RoundAnswer;
-use crate::answer::SLOTS;
 use crate::answer::Unheard;
 use crate::answer::is_carried;
 use crate::msa::pend_address;
@@ -20,7 +19,6 @@ use crate::msa::take_address;
 use crate::msd::FIREWORK_SIZE;
 use crate::msd::take_data;
 use crate::msd::take_unheard;
-use crate::multipartner::carry_multipartner;
 use file::survey::FileAnswer;
 use file::survey::survey;
 use file::types::PLACES;
@@ -29,6 +27,8 @@ use file::types::SlavePlaces;
 use frame::firework::Firework;
 use frame::firework::firework_of;
 use frame::frames::FIREWORK_PLACE;
+use master_slave::slots::SLOTS;
+use multipartner::multipartner::carry_multipartner;
 
 // The round that a frame opens, by its first byte.
 pub fn firework_in(frame: &[u8]) -> Firework

@@ -17,9 +17,9 @@ use Rattle.file.specs.Rules.Encode.{fileLength, header, encodeAt, encode}
 use Rattle.file.specs.Rules.Decode.{decode}
 use Rattle.file.specs.Rules.Changes.{withEdition}
 use Rattle.file.specs.Rules.Editions.{inEdition, exceeds}
-use Rattle.file.specs.Rules.Grounds.{fileGrounds, fileGround}
+use Rattle.file.specs.Rules.FileGrounds.{fileGrounds, fileGround}
 use Rattle.file.specs.Inner.Accepted.{slaveCount}
-use Rattle.file.specs.Inner.Answers.{checkedOf}
+use Rattle.file.specs.Inner.FileAnswers.{checkedOf}
 use Rattle.file.specs.Inner.Surveyed.{Surveyed}
 use Rattle.file.specs.declared.survey.FileAnswer.{FileAnswer}
 use Rattle.file.specs.declared.survey.FileAnswer.the-variants as answers
@@ -29,9 +29,8 @@ use Rattle.file.proofs.Results.{file-first, file-numbered}
 use Rattle.file.proofs.Surveyed.{survey-accepted, survey-refused}
 use Rattle.file.proofs.Sizes.{encodeAt-length}
 use Rattle.convert.specs.declared.editions.Edition.{Edition}
-use Rattle.convert.specs.declared.editions.Edition.the-variants as editions
 use Rattle.convert.specs.Rules.Convert.{convertGrounds, convertGround, convertOn}
-use Rattle.convert.specs.Inner.Answers.{editionIn}
+use Rattle.convert.specs.Inner.ConversionAnswers.{editionIn}
 use Rattle.convert.specs.Inner.Putting.{Put}
 use Rattle.convert.specs.Inner.Slaves.{FormFits, isOver}
 use Rattle.convert.proofs.Putting.{put-same, put-written}

@@ -1,7 +1,7 @@
 -- Each claim of specs/Claims, and the theorem that has it as its type.
-use Rattle.convert.specs.Claims.Grounds.{GroundsInOrder, OnlyNarrowingExceeds, UnknownEdition}
+use Rattle.convert.specs.Claims.ConversionGrounds.{GroundsInOrder, OnlyNarrowingExceeds, UnknownEdition}
 use Rattle.convert.specs.Claims.Forms.{WrittenExactly, CallConverts, CallsComeBack, CallWidens, CallCopies}
-use Rattle.convert.proofs.Grounds.{grounds-in-order, only-narrowing, convert-edition}
+use Rattle.convert.proofs.ConversionGrounds.{grounds-in-order, only-narrowing, convert-edition}
 use Rattle.convert.proofs.Forms.{written-exactly, call-converts, calls-come-back, call-widens, call-copies}
 
 pub held-grounds-in-order : GroundsInOrder

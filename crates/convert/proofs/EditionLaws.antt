@@ -6,7 +6,7 @@ use mathlib.Core.Path.{_≡_, refl}
 use Rattle.file.specs.Rules.Layout.{OffsetWidth, widthIn}
 use Rattle.convert.specs.declared.editions.Edition.{Edition}
 use Rattle.convert.specs.declared.editions.Edition.the-variants as editions
-use Rattle.convert.specs.Inner.Answers.{editionIn}
+use Rattle.convert.specs.Inner.ConversionAnswers.{editionIn}
 
 pub width-one : {e : Edition} → e ≡ editions.One → 2 ≡ widthIn (editionIn e)
 unfolding editionIn

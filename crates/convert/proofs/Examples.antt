@@ -14,9 +14,9 @@ use Rattle.file.specs.Rules.Encode.{directoryEntry, directory, contents, slaveS
 use Rattle.file.specs.Rules.Decode.{offsetAt, fileSize, fileAt, filesAt, slaveAt, slavesAt, decodeAt, decode}
 use Rattle.file.specs.Rules.Changes.{withEdition}
 use Rattle.file.specs.Rules.Editions.{inEdition, exceeds}
-use Rattle.file.specs.Rules.Grounds.{isAmong, hasRepeat, fileGround, fileGrounds, fileGroundAt, fileGroundsAt, wrongSize, wrongMark, wrongEdition}
-use Rattle.file.specs.Rules.Grounds.{wrongLength, wrongHeader, wrongPending, brokenLayout, walkFile, tableEnd, walkSlaves, andThen, walkSlave, goodTableEntry}
-use Rattle.file.specs.Rules.Grounds.{walkDirectory, goodEntry, endsAt, lacksNeeded, allHaveNeeded, hasNeeded, equalPhysicalNames}
+use Rattle.file.specs.Rules.FileGrounds.{isAmong, hasRepeat, fileGround, fileGrounds, fileGroundAt, fileGroundsAt, wrongSize, wrongMark, wrongEdition}
+use Rattle.file.specs.Rules.FileGrounds.{wrongLength, wrongHeader, wrongPending, brokenLayout, walkFile, tableEnd, walkSlaves, andThen, walkSlave, goodTableEntry}
+use Rattle.file.specs.Rules.FileGrounds.{walkDirectory, goodEntry, endsAt, lacksNeeded, allHaveNeeded, hasNeeded, equalPhysicalNames}
 use Rattle.convert.specs.Rules.Convert.{convertGround, convertGrounds, convertOn}
 
 -- the records of 0x08 and of 0x3D, the same in both
@@ -50,8 +50,13 @@ pub record Examples : Type 0 where
   pub tooShort : convertGround narrow 2 (replicate 75 0xEE) ≡ 26
   pub longEnough : convertOn narrow 2 (replicate 78 0xEE) ≡ (done 76, wide ++ (0xEE ∷ 0xEE ∷ []))
 
-pub examples : Examples
-unfolding convertOn convertGround convertGrounds exceeds inEdition withEdition writtenIn encode encodeAt header fileLength slavesPlace table tableEntry slavesSize slavesBytes slaveBytes slaveSize contents directory directoryEntry bytesOf fileGround fileGrounds fileGroundAt fileGroundsAt firstOf both either wrongSize wrongMark wrongEdition wrongLength wrongHeader wrongPending allZero part numberOf offsetAt brokenLayout walkFile tableEnd walkSlaves andThen walkSlave goodTableEntry walkDirectory goodEntry fileSize endsAt lacksNeeded allHaveNeeded hasNeeded lastRecord widthOf decode decodeAt slavesAt slaveAt filesAt fileAt equalPhysicalNames hasRepeat isAmong physicalName bytesIn bytesAmong
+-- `unfolding examples` unfolds what stands here, in the crates above too: a file's grounds, its cluster and its form
+unfoldable pub examples : Examples
+unfolding convertOn convertGround convertGrounds exceeds inEdition withEdition writtenIn encode encodeAt header fileLength slavesPlace table
+    tableEntry slavesSize slavesBytes slaveBytes slaveSize contents directory directoryEntry bytesOf fileGround fileGrounds fileGroundAt fileGroundsAt
+    firstOf both either wrongSize wrongMark wrongEdition wrongLength wrongHeader wrongPending allZero part numberOf offsetAt brokenLayout walkFile
+    tableEnd walkSlaves andThen walkSlave goodTableEntry walkDirectory goodEntry fileSize endsAt lacksNeeded allHaveNeeded hasNeeded lastRecord
+    widthOf decode decodeAt slavesAt slaveAt filesAt fileAt equalPhysicalNames hasRepeat isAmong physicalName bytesIn bytesAmong
 examples =
     record {
       narrowAccepted = refl;

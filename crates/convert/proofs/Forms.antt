@@ -16,7 +16,7 @@ use Rattle.file.specs.Rules.Cluster.{Cluster, logicalNames}
 use Rattle.file.specs.Rules.Decode.{decode}
 use Rattle.file.specs.Rules.Changes.{withEdition}
 use Rattle.file.specs.Rules.Editions.{inEdition, exceeds}
-use Rattle.file.specs.Rules.Grounds.{fileGround, hasRepeat, heldNames}
+use Rattle.file.specs.Rules.FileGrounds.{fileGround, hasRepeat, heldNames}
 use Rattle.file.specs.Claims.Editions.{Converts}
 use Rattle.file.proofs.Order.{byCase}
 use Rattle.file.proofs.Results.{load-twice}
@@ -26,7 +26,7 @@ use Rattle.file.proofs.Editions.{converts, copies, widened}
 use Rattle.convert.specs.Rules.Convert.{convertGround, convertOn}
 use Rattle.convert.specs.Claims.Forms.{Writable, WrittenExactly, Written, CallConverts, CallsComeBack, CallWidens, CallCopies}
 use Rattle.convert.proofs.Calls.{none-holds, convert-refused, convert-written}
-use Rattle.convert.proofs.Grounds.{form-length, no-ground-accepted, no-ground-under, no-ground-fits, own-limits}
+use Rattle.convert.proofs.ConversionGrounds.{form-length, no-ground-accepted, no-ground-under, no-ground-fits, own-limits}
 
 refused-done : {P : Type 0} {m n : ℕ} → _≡_ {A = Result ℕ} (refused m) (done n) → P
 refused-done e = let z : _≡_ {A = ℕ} 0 1 = ap (λ (r : Result ℕ). tag r) e in absurd (omega (arith, z))

@@ -7,7 +7,7 @@ use mathlib.Core.List.{List, [], _∷_, _++_, append-assoc}
 use lib.ListN.{length, getD, take, drop, set, replicate, length-append, length-set}
 use lib.Seq.{drop-cons}
 use Rattle.file.specs.Rules.Bytes.{bytesOf, part}
-use Rattle.file.specs.Rules.Layout.{editionOf, headerSize, zerosLength}
+use Rattle.file.specs.Rules.Layout.{editionOf, flagPlace, pendingNamePlace, pendingPB2Place, pendingPB3Place, headerSize, zerosLength}
 use Rattle.file.specs.Rules.Cluster.{Cluster}
 use Rattle.file.specs.Rules.Encode.{slavesPlace, fileLength, header}
 use Rattle.file.specs.Rules.Decode.{decodeAt, decode}
@@ -100,10 +100,10 @@ module _ {f : List ℕ} {at : ℕ} (h : AcceptedFile f) (e : EpochAt f at) where
   fields-there =
       let b = at-edition h in
       let w = Rattle.file.specs.Rules.Layout.widthIn (decode f .edition) in
-      let a₁ : at + 1 ≡ 5 + 2 * w = omega (arith, e .is) in
-      let a₂ : at + 2 ≡ 6 + 2 * w = omega (arith, e .is) in
-      let a₃ : at + 3 ≡ 7 + 2 * w = omega (arith, e .is) in
-      let a₄ : at + 4 ≡ 8 + 2 * w = omega (arith, e .is) in
+      let a₁ : at + 1 ≡ flagPlace w = omega (arith, e .is) in
+      let a₂ : at + 2 ≡ pendingNamePlace w = omega (arith, e .is) in
+      let a₃ : at + 3 ≡ pendingPB2Place w = omega (arith, e .is) in
+      let a₄ : at + 4 ≡ pendingPB3Place w = omega (arith, e .is) in
       let d = b .decoded in
       five f at (omega (arith, e .room))
       ∙ rw (

@@ -20,9 +20,10 @@ pub mod BodyLaws
 pub mod FormLaws
 -- the call, by its answers
 pub mod Calls
-pub mod Grounds
+pub mod ConversionGrounds
 pub mod Forms
--- files that 25 refuses
+-- files of so many slaves, and those of them that 25 refuses
+pub mod Numbered
 pub mod Witnesses
 -- each claim with its theorem
 pub mod Claimed

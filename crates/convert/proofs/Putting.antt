@@ -174,7 +174,8 @@ pub put-copied : (l src : List ℕ) (at n : ℕ) {new : List ℕ} → at + n ≤
 put-copied l src at n {new} fits long is =
     let cut : length (take n (drop at l)) ≤ length src = omega (arith, long, length-take-le′) in
     let whole : new ≡ src = is ∙ ap₂ (λ (x y : List ℕ). x ++ y) (take-length src) (drop-of-length-le (take n (drop at l)) cut) ∙ append-nil src in
-    record { is = rw (whole, drop-drop n at l) (sym (append-assoc (take at l) src (drop (at + n) l))) ∙ sym (sets-eq src l at (omega (arith, long)) ∙ ap (λ (k : ℕ). take at l ++ src ++ drop (at + k) l) long) }
+    let put : sets l at src ≡ take at l ++ src ++ drop (at + n) l = sets-eq src l at (omega (arith, long)) ∙ ap (λ (k : ℕ). take at l ++ src ++ drop (at + k) l) long in
+    record { is = rw (whole, drop-drop n at l) (sym (append-assoc (take at l) src (drop (at + n) l))) ∙ sym put }
   where
     length-take-le′ : length (take n (drop at l)) ≤ n
     length-take-le′ = part-most n (drop at l)

@@ -18,7 +18,7 @@ use Rattle.file.proofs.Bytes.{all-at, all-map}
 use Rattle.file.proofs.Width.{wide-enough}
 use Rattle.file.proofs.Stands.{stands-part}
 use Rattle.file.proofs.Files.{EntryBytes, FilesStand, entry-bytes, first-file, other-files}
-use Rattle.file.proofs.Slaves.{table-bytes, SlaveStands, SlavesStand, slave-end, first-slave, other-slaves}
+use Rattle.file.proofs.Slaves.{table-bytes, SlaveStands, SlavesStand, first-slave, other-slaves}
 use Rattle.file.proofs.Encoded.{Encoded, encoded, legal-laid}
 use Rattle.file.proofs.EncodedBytes.{files-few}
 use Rattle.file.proofs.AtWidth.{BecomesAt}
@@ -71,10 +71,7 @@ module _ {w : ℕ} {f : List ℕ} {c : Cluster} (h : BecomesAt w f c) where
     unfolding slaveStart slaveOf
     slave-stands = slave-at (h .legal .width .least) (c .slaves) (encoding .slaves) s l
 
-    -- its start lies within the file, and its entry holds the file count and the sleep byte
-    pub start-within : slaveStart w c s ≤ length f
-    start-within = omega (arith, slave-end slave-stands)
-
+    -- its entry holds the file count and the sleep byte
     pub count-stated : getD f (headerSize w + entrySize w * s + w) 0 ≡ length (slaveOf c s .files)
     count-stated = table-bytes (slave-stands .entry) .count
 

@@ -1,3 +1,3 @@
 -- Statements of theorems: the call's grounds, and what it leaves.
-pub mod Grounds
+pub mod ConversionGrounds
 pub mod Forms

@@ -4,7 +4,7 @@ ghost use Rattle.file.specs.Rules.Layout.{OffsetWidth};
 ghost use Rattle.file.specs.Rules.Encode.{encodeAt};
 ghost use Rattle.file.specs.Rules.Decode.{decode};
 ghost use Rattle.file.specs.Inner.Accepted.{AcceptedFile};
-ghost use Rattle.convert.specs.Inner.Answers.{editionIn, convertedOf};
+ghost use Rattle.convert.specs.Inner.ConversionAnswers.{editionIn, convertedOf};
 ghost use Rattle.convert.specs.Inner.Putting.{Put};
 ghost use Rattle.convert.specs.Inner.Slaves.{FormFits, isOver};
 ghost use Rattle.convert.specs.Rules.Convert.{convertOn};

@@ -1,7 +1,7 @@
 // The editions that there are.
 ghost use mathlib.Core.Path.{_≡_};
 ghost use Rattle.file.specs.Rules.Layout.{widthIn};
-ghost use Rattle.convert.specs.Inner.Answers.{editionIn};
+ghost use Rattle.convert.specs.Inner.ConversionAnswers.{editionIn};
 use file::layout::OFFSET_WIDTH;
 use file::layout::WIDE_OFFSET_WIDTH;
 

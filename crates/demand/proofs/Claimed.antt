@@ -1,6 +1,6 @@
 -- Each claim of specs/Claims, and the theorem that has it as its type.
-use Rattle.demand.specs.Claims.Calls.{DemandOverCalls, ThroughoutCalls, StepsPermitted, SamePermitted}
-use Rattle.demand.specs.Claims.Editions.{AllCallsAlike, ListsConverted, CallsDemandConverted}
+use Rattle.demand.specs.Claims.DemandCalls.{DemandOverCalls, ThroughoutCalls, StepsPermitted, SamePermitted}
+use Rattle.demand.specs.Claims.DemandEditions.{AllCallsAlike, ListsConverted, CallsDemandConverted}
 use Rattle.demand.specs.Claims.Pending.{CallsStayPending, CCallsStayPending}
 use Rattle.demand.specs.Claims.Renaming.{CallsRenameNobody, CCallsRenameNobody}
 use Rattle.demand.specs.Claims.Traces.{TraceSentSingly, AllSentSingly, AccountTracesAside, DemandWithTraces, TraceSentInOrder}
@@ -9,8 +9,8 @@ use Rattle.demand.specs.Claims.Steps.{StepsAreRounds}
 use Rattle.demand.specs.Claims.TraceCalls.{TracesAreRounds}
 use Rattle.demand.specs.Claims.Summary.{KeptByCalls, FilledAndAsked, RoundsWithSummary, StepsWithSummary, GivenMakesNoDifferenceInCalls}
 use Rattle.demand.specs.Claims.Sleep.{CallsStayAwake, CallsCountedAwake, CCallsWake}
-use Rattle.demand.proofs.Calls.{demand-over-calls, throughout-calls, steps-permitted, same-permitted}
-use Rattle.demand.proofs.Editions.{all-calls-alike, lists-converted, calls-demand-converted}
+use Rattle.demand.proofs.DemandCalls.{demand-over-calls, throughout-calls, steps-permitted, same-permitted}
+use Rattle.demand.proofs.DemandEditions.{all-calls-alike, lists-converted, calls-demand-converted}
 use Rattle.demand.proofs.Pending.{calls-stay-pending, c-calls-stay-pending}
 use Rattle.demand.proofs.Renaming.{calls-rename-nobody, c-calls-rename-nobody}
 use Rattle.demand.proofs.Traces.{trace-sent-singly, all-sent-singly, account-traces-aside, demand-with-traces, trace-sent-in-order}

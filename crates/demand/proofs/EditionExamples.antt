@@ -10,11 +10,11 @@ use Rattle.naming.specs.Claims.Cases.{answerBuffer}
 use Rattle.naming.proofs.Witnesses.{sleeper, sleeper-bytes, sleeper-accepted, one-name, one-name-accepted}
 use Rattle.naming.proofs.EditionWitnesses.{sleeper-widens, sleeper-narrows}
 use Rattle.ttpa.specs.Rules.Calls.{startCall}
-use Rattle.demand.specs.Claims.Calls.{CCall, ttpaStep, given-step, Memory, CallsDemand, started, is-step}
-use Rattle.demand.specs.Claims.Editions.{CallOrConversion, call, convert, afterConverting, permittedConverting, callsAmong, Fitting}
-use Rattle.demand.specs.Claims.Editions.{of-call, of-conversion}
-use Rattle.demand.proofs.Calls.{accepted-runs, start-number, steps-permitted}
-use Rattle.demand.proofs.Editions.{converting-permitted, calls-demand-converted}
+use Rattle.demand.specs.Claims.DemandCalls.{CCall, ttpaStep, given-step, Memory, CallsDemand, started, is-step}
+use Rattle.demand.specs.Claims.DemandEditions.{CallOrConversion, call, convert, afterConverting, permittedConverting, callsAmong, Fitting}
+use Rattle.demand.specs.Claims.DemandEditions.{of-call, of-conversion}
+use Rattle.demand.proofs.DemandCalls.{accepted-runs, start-number, steps-permitted}
+use Rattle.demand.proofs.DemandEditions.{converting-permitted, calls-demand-converted}
 
 abbrev begun : Memory
 begun = started sleeper (5 ∷ []) (replicate 8 0)

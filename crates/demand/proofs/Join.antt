@@ -14,7 +14,7 @@ use Rattle.file.specs.Rules.Results.{Result, refused, done, numberIn}
 use Rattle.file.specs.Rules.Cluster.{Slave, Cluster, unnamed, logicalName, logicalNames}
 use Rattle.file.specs.Rules.Decode.{decode}
 use Rattle.file.specs.Rules.Legal.{LegalSlave, Legal}
-use Rattle.file.specs.Rules.Grounds.{isAmong, loadGround}
+use Rattle.file.specs.Rules.FileGrounds.{isAmong, loadGround}
 use Rattle.file.proofs.Order.{byCase, either-right}
 use Rattle.file.proofs.Accepted.{accepted-legal}
 use Rattle.join.specs.Rules.Joined.{turned, awake, joined, joinedFile}
@@ -25,11 +25,11 @@ use Rattle.join.proofs.Result.{no-ground, second-accepted, joins-legal, written
 use Rattle.naming.specs.Rules.Account.{Named, namesOf, namesIn, falling, unnamedAmong, namesHeld, accountOf}
 use Rattle.naming.proofs.OverBytes.{demand-3}
 use Rattle.ttpa.specs.Rules.Calls.{checkCall, joinCall, lentAfter}
-use Rattle.demand.specs.Claims.Calls.{slavesIn}
+use Rattle.demand.specs.Claims.DemandCalls.{slavesIn}
 use Rattle.demand.specs.Claims.Join.{unnamedOrHeld, unnamedJoined, UnnamedIn, UnnamedAfterJoin, joinedBy, UnnamedAfterJoinCall}
 use Rattle.demand.specs.Claims.Join.{NamingFrom, NamingAfterJoin, NamingFromCalls, NamingAfterJoinCall}
-use Rattle.demand.proofs.Calls.{check-number, accepted-runs, demand-over-calls}
-use Rattle.demand.proofs.Editions.{calls-demand-converted}
+use Rattle.demand.proofs.DemandCalls.{check-number, accepted-runs, demand-over-calls}
+use Rattle.demand.proofs.DemandEditions.{calls-demand-converted}
 
 -- ---- the unnamed of the joined cluster
 

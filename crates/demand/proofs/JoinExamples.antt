@@ -4,28 +4,18 @@
 use Prim.Native.Nat.{ℕ}
 use mathlib.Core.Path.{_≡_, refl, _∙_}
 use mathlib.Core.List.{List, [], _∷_}
-use Rattle.file.specs.Rules.Bytes.{Bytes, allEmpty, allNext, numberOf, bytesOf, part, allZero}
+use Rattle.file.specs.Rules.Bytes.{Bytes, allEmpty, allNext}
 use Rattle.file.specs.Rules.Order.{firstOf, both, either}
-use Rattle.file.specs.Rules.Layout.{widthOf}
-use Rattle.file.specs.Rules.Results.{numberIn, writtenIn}
-use Rattle.file.specs.Rules.Cluster.{bytesAmong, bytesIn, lastRecord, physicalName, logicalName, logicalNames, noOperation, broadcastRead}
-use Rattle.file.specs.Rules.Encode.{directoryEntry, directory, contents, slaveSize, slaveBytes, slavesBytes, slavesSize, tableEntry, table, slavesPlace, fileLength, header, encodeAt, encode}
-use Rattle.file.specs.Rules.Decode.{offsetAt, fileSize, fileAt, filesAt, slaveAt, slavesAt, decodeAt, decode}
-use Rattle.file.specs.Rules.Changes.{putAmong, putInSlave, withSleep}
-use Rattle.file.specs.Rules.Editions.{exceeds}
-use Rattle.file.specs.Rules.Grounds.{isAmong, hasRepeat, fileGround, fileGrounds, fileGroundAt, fileGroundsAt, wrongSize, wrongMark, wrongEdition}
-use Rattle.file.specs.Rules.Grounds.{wrongLength, wrongHeader, wrongPending, brokenLayout, walkFile, tableEnd, walkSlaves, andThen, walkSlave, goodTableEntry}
-use Rattle.file.specs.Rules.Grounds.{walkDirectory, goodEntry, endsAt, lacksNeeded, allHaveNeeded, hasNeeded, equalPhysicalNames}
+use Rattle.file.specs.Rules.Results.{numberIn}
+use Rattle.file.specs.Rules.FileGrounds.{isAmong, hasRepeat}
 use Rattle.file.proofs.BytesBelow.{allBelow, bytes-below}
-use Rattle.join.specs.Rules.Joined.{turned, slavesJoined, awake, joined, joinedFile, anyAmong, sharesName}
-use Rattle.join.specs.Rules.Join.{joinGrounds, joinGround, joinOn}
-use Rattle.join.proofs.Examples.{two, room}
+use Rattle.join.proofs.Examples.{two, room, joins}
 use Rattle.naming.specs.Rules.Account.{namesOf, namesIn, insert, falling, unnamedAmong, namesHeld, accountOf}
-use Rattle.naming.specs.Rules.Run.{unfitName, namesGrounds, startGround}
+use Rattle.naming.specs.Rules.RunGrounds.{unfitName, namesGrounds, startGround}
 use Rattle.ttpa.specs.Rules.Calls.{joinCall, lentAfter}
-use Rattle.demand.specs.Claims.Calls.{CCall, ttpaStep, given-step, afterCalls, slavesIn, CallsDemand, started, is-step}
+use Rattle.demand.specs.Claims.DemandCalls.{CCall, ttpaStep, given-step, afterCalls, slavesIn, CallsDemand, started, is-step}
 use Rattle.demand.specs.Claims.Join.{unnamedOrHeld, unnamedJoined, joinedBy}
-use Rattle.demand.proofs.Calls.{start-number, steps-permitted}
+use Rattle.demand.proofs.DemandCalls.{start-number, steps-permitted}
 use Rattle.demand.proofs.Join.{naming-after-join-call}
 
 -- 0x04 and unnamed; 0x04, which is turned, and 0x05
@@ -49,7 +39,7 @@ pub record Unnamed : Type 0 where
   pub otherExpected : unnamedJoined first other ≡ 0x700000011 ∷ 0x700000012 ∷ []
 
 pub unnamed-computed : Unnamed
-unfolding joinCall lentAfter numberIn unnamedJoined unnamedOrHeld namesIn namesOf namesHeld unnamedAmong accountOf falling insert joinOn joinGround joinGrounds joinedFile joined slavesJoined turned awake anyAmong sharesName putInSlave putAmong withSleep logicalNames logicalName exceeds writtenIn encode encodeAt header fileLength slavesPlace table tableEntry slavesSize slavesBytes slaveBytes slaveSize contents directory directoryEntry bytesOf fileGround fileGrounds fileGroundAt fileGroundsAt firstOf both either wrongSize wrongMark wrongEdition wrongLength wrongHeader wrongPending noOperation broadcastRead allZero part numberOf offsetAt brokenLayout walkFile tableEnd walkSlaves andThen walkSlave goodTableEntry walkDirectory goodEntry fileSize endsAt lacksNeeded allHaveNeeded hasNeeded lastRecord widthOf decode decodeAt slavesAt slaveAt filesAt fileAt equalPhysicalNames hasRepeat isAmong physicalName bytesIn bytesAmong
+unfolding joins joinCall lentAfter numberIn unnamedJoined unnamedOrHeld namesIn namesOf namesHeld unnamedAmong accountOf falling insert
 unnamed-computed =
     record { returns = refl; leaves = refl; are = refl; expected = refl; waiting = refl; otherAre = refl; otherExpected = refl }
 

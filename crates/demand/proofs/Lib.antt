@@ -2,7 +2,7 @@
 pub mod Traces
 -- demand 3 over the C calls
 pub mod TurnFrames
-pub mod Calls
+pub mod DemandCalls
 -- which lists are permitted, and rounds among them
 pub mod Permitted
 -- a step is two calls of ttpa_round
@@ -21,7 +21,7 @@ pub mod SleepExamples
 pub mod Summary
 pub mod SummaryExamples
 -- both editions over the C calls
-pub mod Editions
+pub mod DemandEditions
 pub mod EditionExamples
 -- turns among the C calls
 pub mod ServedTurn

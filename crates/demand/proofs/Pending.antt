@@ -14,7 +14,7 @@ use Rattle.cluster.specs.Claims.Pending.{fileAfter, AcceptedMsa, Pending}
 use Rattle.cluster.specs.Claims.Pending as frames
 use Rattle.cluster.proofs.Keeping.{keeping-accepted, keeping-refused}
 use Rattle.cluster.proofs.StaysPending.{stays-pending}
-use Rattle.naming.specs.Rules.Run.{Position, running}
+use Rattle.naming.specs.Rules.Position.{Position, running}
 use Rattle.naming.specs.Rules.Step.{stepKeepingGround, stepKeeping}
 use Rattle.naming.specs.Rules.Account.{Call, step, frame}
 use Rattle.naming.specs.Claims.Demand.{State, startOn, callOn, afterCalls, OfBytes, of-frame, of-step}
@@ -23,9 +23,9 @@ use Rattle.naming.proofs.StepKeeping.{keeping-step, step-keeping-refused, step-
 use Rattle.naming.proofs.Summaries.{keeping-round-bytes}
 use Rattle.demand.specs.Claims.Traces.{singly}
 use Rattle.demand.specs.Claims.Pending.{in-step, in-frame, NoMsaAmong, noCalls, oneMore, CallsStayPending, CCallsStayPending}
-use Rattle.demand.specs.Claims.Calls.{memoryOf, argumentsOfAll}
+use Rattle.demand.specs.Claims.DemandCalls.{memoryOf, argumentsOfAll}
 use Rattle.demand.proofs.Traces.{all-sent-singly, singly-of-bytes}
-use Rattle.demand.proofs.Calls.{calls-memory, all-given}
+use Rattle.demand.proofs.DemandCalls.{calls-memory, all-given}
 
 -- the same is pending in both files
 abbrev Same : List ℕ → List ℕ → Type 0

@@ -13,18 +13,19 @@ use Rattle.frame.specs.Rules.Reading.{Parts}
 use Rattle.trace.specs.Rules.Layout.{maxTrace, maxFrame}
 use Rattle.trace.specs.Rules.Encode.{encodeTrace, Frame, Frames}
 use Rattle.trace.proofs.Encoded.{encoded-accepted}
-use Rattle.naming.specs.Rules.Run.{fresh, startGround}
+use Rattle.naming.specs.Rules.Position.{fresh}
+use Rattle.naming.specs.Rules.RunGrounds.{startGround}
 use Rattle.naming.specs.Rules.Account.{Call}
 use Rattle.naming.specs.Claims.PermittedRounds.{IsStep as IsStepByRules, is-step as is-step-by-rules, PermittedFrom, addressOf, DataFor, ofWrite, ofOther}
 use Rattle.naming.specs.Claims.PermittedRounds.{Rounds, noRounds, multipartnerNext, masterSlaveNext, SentBy, noFrames, oneMore}
 use Rattle.naming.proofs.PermittedExactly.{permitted-exactly}
 use Rattle.naming.proofs.PermittedRounds.{address-of-bytes, data-frame-bytes, rounds-fit}
 use Rattle.demand.specs.Claims.Traces.{CallOrTrace, frameCall, framesSingly, singly}
-use Rattle.demand.specs.Claims.Calls.{CCall, Memory, afterCalls, started, IsStep, is-step, is-step-keeping, argumentsOf}
-use Rattle.demand.specs.Claims.Calls.{argumentsOfAll}
+use Rattle.demand.specs.Claims.DemandCalls.{CCall, Memory, afterCalls, started, IsStep, is-step, is-step-keeping, argumentsOf}
+use Rattle.demand.specs.Claims.DemandCalls.{argumentsOfAll}
 use Rattle.demand.specs.Claims.Permitted.{CallsPermittedExactly, TraceFits, RoundsFitCalls, TraceSends}
 use Rattle.demand.proofs.Traces.{zeros-long, singly-append, singly-of-bytes}
-use Rattle.demand.proofs.Calls.{all-given, runs-accepted, start-number, start-same, arguments-append}
+use Rattle.demand.proofs.DemandCalls.{all-given, runs-accepted, start-number, start-same, arguments-append}
 
 -- ---- exactly
 

@@ -11,7 +11,8 @@ use Rattle.cluster.specs.Claims.Renaming.{namesOf}
 use Rattle.cluster.specs.Rules.Summary.{roundKeepingGround}
 use Rattle.cluster.proofs.Keeping.{keeping-accepted, keeping-refused}
 use Rattle.cluster.proofs.Renaming.{only-baptizing-renames}
-use Rattle.naming.specs.Rules.Run.{Position, bits}
+use Rattle.naming.specs.Rules.Position.{Position}
+use Rattle.naming.specs.Rules.Pass.{bits}
 use Rattle.naming.specs.Rules.Step.{stepKeepingGround}
 use Rattle.naming.specs.Rules.Account.{StepArguments, FrameArguments, Call, step, frame}
 use Rattle.naming.specs.Claims.Demand.{State, startOn, callOn, afterCalls, OfBytes, of-frame, of-step}
@@ -20,13 +21,13 @@ use Rattle.naming.proofs.Renaming.{only-baptizing-steps-rename}
 use Rattle.naming.proofs.Summaries.{keeping-step-bytes, keeping-step-value, keeping-round-bytes}
 use Rattle.demand.specs.Claims.Traces.{singly}
 use Rattle.demand.specs.Claims.Renaming.{NoBaptism, in-step, in-frame, NoneBaptizes, noCalls, oneMore, CallsRenameNobody, CCallsRenameNobody}
-use Rattle.demand.specs.Claims.Calls.{memoryOf, argumentsOfAll}
+use Rattle.demand.specs.Claims.DemandCalls.{memoryOf, argumentsOfAll}
 use Rattle.demand.proofs.Traces.{all-sent-singly, singly-of-bytes}
-use Rattle.demand.proofs.Calls.{calls-memory, all-given}
+use Rattle.demand.proofs.DemandCalls.{calls-memory, all-given}
 
 -- a call that is given a summary leaves the file, or is the call without
 step-names :
-    (names : List ℕ) (s : State) (p : Position) (arguments : StepArguments) → Bytes (s .file) → Bytes names → p .value < 2 ^ bits → NoBaptism names s p (step arguments) →
+    (names : List ℕ) (s : State) (p : Position) (arguments : StepArguments) → Bytes (s .file) → Bytes names → p .place .value < 2 ^ bits → NoBaptism names s p (step arguments) →
     namesOf (callOn names s p (step arguments) .0 .file) ≡ namesOf (s .file)
 unfolding callOn
 step-names names s p arguments fb nb small (in-step none) =
@@ -50,7 +51,7 @@ frame-names names s p arguments fb rb (in-frame none) =
     (λ f. rw (keeping-refused (s .file) (arguments .summary) (arguments .bytes) (arguments .buffer) (eqb-false _ _ f)))
 
 calls-rename :
-    (names : List ℕ) (s : State) (p : Position) (calls : List Call) → Bytes (s .file) → Bytes names → p .value < 2 ^ bits → All OfBytes calls → NoneBaptizes names s p calls →
+    (names : List ℕ) (s : State) (p : Position) (calls : List Call) → Bytes (s .file) → Bytes names → p .place .value < 2 ^ bits → All OfBytes calls → NoneBaptizes names s p calls →
     namesOf (afterCalls names s p calls .0 .file) ≡ namesOf (s .file)
 unfolding afterCalls
 calls-rename names s p [] fb nb small allEmpty noCalls = refl

@@ -16,8 +16,8 @@ use Rattle.file.specs.Rules.Decode.{decode}
 use Rattle.file.proofs.Order.{both-true, both-false-left, both-false-right, either-left}
 use Rattle.frame.specs.Rules.Fireworks.{msd, msa, roundOf, roundIn}
 use Rattle.frame.specs.Rules.Frames.{frameOf, addressBytes, addressFrame}
-use Rattle.cluster.specs.Rules.Bus.{slots}
-use Rattle.cluster.specs.Rules.Grounds.{roundBy}
+use Rattle.master_slave.specs.Rules.Bus.{slots}
+use Rattle.cluster.specs.Rules.RoundGrounds.{roundBy}
 use Rattle.cluster.specs.Rules.Round.{Answer, roundGround, roundOn}
 use Rattle.cluster.specs.Rules.MasterSlave.{addressSent, dataSent, roundSent}
 use Rattle.cluster.specs.Claims.Pending.{AcceptedMsa}
@@ -27,10 +27,10 @@ use Rattle.cluster.proofs.Sent.{round-fits}
 use Rattle.cluster.proofs.SentRounds.{address-accepted, address-sent-bytes, data-sent-bytes}
 use Rattle.cluster.proofs.Sleep.{data-wakes}
 use Rattle.cluster.proofs.StaysPending.{msa-becomes-pending}
-use Rattle.trace.specs.Rules.Run.{sent}
+use Rattle.trace.specs.Rules.TraceRun.{sent}
 use Rattle.trace.specs.Claims.Sleep.{sentGround}
 use Rattle.trace.proofs.Runs.{sent-any}
-use Rattle.naming.specs.Rules.Run.{Position}
+use Rattle.naming.specs.Rules.Position.{Position}
 use Rattle.naming.specs.Claims.Demand.{State, callOn, halfwayAfter, changesConfiguration, permittedAddress, permittedFrame}
 use Rattle.naming.proofs.Lists.{accepted-halfway}
 use Rattle.naming.proofs.Unasked.{frame-plain}
@@ -39,14 +39,14 @@ use Rattle.screens.specs.Rules.Turn.{servedBy, readSent, turnOn}
 use Rattle.screens.specs.Claims.Turns.{TurnIsRound}
 use Rattle.screens.proofs.Turns.{turns-are-rounds}
 use Rattle.demand.specs.Claims.Traces.{halfwayFrom, frameCall}
-use Rattle.demand.specs.Claims.Calls.{turnFrames, permittedFrames}
+use Rattle.demand.specs.Claims.DemandCalls.{turnFrames, permittedFrames}
 use Rattle.demand.specs.Claims.Sleep.{SomeWakes, thisOne, laterOne, NoneSleeps}
 use Rattle.demand.specs.Claims.Sleep as sleep
 use Rattle.demand.specs.Claims.Renaming.{NoneBaptizes}
 use Rattle.demand.specs.Claims.Renaming as baptism
 use Rattle.demand.proofs.Traces.{zeros-long}
 use Rattle.demand.proofs.TurnFrames.{Serving, still-long, free, read-may, served-is, frames-are}
-use Rattle.demand.proofs.Calls.{round-number}
+use Rattle.demand.proofs.DemandCalls.{round-number}
 
 no-msa : msd ≢ msa
 no-msa e = let z : _≡_ {A = ℕ} 0 1 = cc in omega arith

@@ -11,17 +11,19 @@ use lib.Dec.{eqb}
 use borrow.Author.Tests.{eqb-true, eqb-false}
 use Rattle.file.specs.Rules.Bytes.{Bytes, All, allNext}
 use Rattle.file.proofs.Order.{byCase}
-use Rattle.cluster.specs.Rules.Bus.{slots}
+use Rattle.master_slave.specs.Rules.Bus.{slots}
 use Rattle.cluster.specs.Rules.Round.{roundOn}
 use Rattle.cluster.specs.Rules.Summary.{roundKeepingGround}
 use Rattle.cluster.specs.Claims.Sleep.{AllAwake}
 use Rattle.cluster.proofs.Keeping.{keeping-round, keeping-accepted, keeping-refused}
 use Rattle.trace.specs.Rules.Trace.{framesOf}
-use Rattle.trace.specs.Rules.Run.{sent}
+use Rattle.trace.specs.Rules.TraceRun.{sent}
 use Rattle.trace.specs.Claims.Sleep.{sentGround}
 use Rattle.trace.proofs.Calls.{run-whole}
 use Rattle.trace.proofs.Sleep.{frame-wakes, frame-stays}
-use Rattle.naming.specs.Rules.Run.{Position, running, bits, fresh, startGround}
+use Rattle.naming.specs.Rules.Position.{Position, running, fresh}
+use Rattle.naming.specs.Rules.Pass.{bits}
+use Rattle.naming.specs.Rules.RunGrounds.{startGround}
 use Rattle.naming.specs.Rules.Step.{stepKeepingGround}
 use Rattle.naming.specs.Rules.Account.{Call, step, frame}
 use Rattle.naming.specs.Claims.Demand.{State, startOn, callOn, afterCalls as afterRules, permitted as permittedByRules, OfBytes, of-step, of-frame}
@@ -30,16 +32,16 @@ use Rattle.naming.proofs.Sleep.{step-wakes, no-round-wakes-nobody, stays-awake,
 use Rattle.naming.proofs.Summaries.{keeping-step-bytes, keeping-step-value, keeping-round-bytes}
 use Rattle.naming.proofs.Unasked.{step-unasked, frame-unasked, frame-plain}
 use Rattle.ttpa.specs.Rules.Calls.{positionIn}
-use Rattle.demand.specs.Claims.Calls.{CCall, ttpaStep, ttpaStepKeeping, ttpaRound, ttpaRoundKeeping, ttpaTrace, turnFrames, Memory}
-use Rattle.demand.specs.Claims.Calls.{returned, memoryAfter, afterCalls, permitted, started, is-step, is-step-keeping, memoryOf}
-use Rattle.demand.specs.Claims.Calls.{argumentsOf, argumentsOfAll}
+use Rattle.demand.specs.Claims.DemandCalls.{CCall, ttpaStep, ttpaStepKeeping, ttpaRound, ttpaRoundKeeping, ttpaTrace, turnFrames, Memory}
+use Rattle.demand.specs.Claims.DemandCalls.{returned, memoryAfter, afterCalls, permitted, started, is-step, is-step-keeping, memoryOf}
+use Rattle.demand.specs.Claims.DemandCalls.{argumentsOf, argumentsOfAll}
 use Rattle.demand.specs.Claims.Traces.{CallOrTrace, afterAll, frameCall, framesSingly, singly}
 use Rattle.demand.specs.Claims.Sleep.{SomeWakes, thisOne, laterOne, MayWake, byStep, byRound, byRoundKeeping, byTrace, byTurn}
 use Rattle.demand.specs.Claims.Sleep.{WokenByCalls, fromStart, byFirst, later, CallsStayAwake, CallsCountedAwake}
 use Rattle.demand.specs.Claims.Sleep.{NoSleepBy, in-step, in-frame, NoneSleeps, noCalls, oneMore, AwakeToEnd, awakeBefore, wokenBy, wokenAfter, CCallsWake}
 use Rattle.demand.proofs.Traces.{singly-append, singly-of-bytes, all-sent-singly}
-use Rattle.demand.proofs.Calls.{frames-alone, groundOf, call-number, call-memory, calls-memory, all-given, runs-accepted}
-use Rattle.demand.proofs.Calls.{start-number, start-memory, start-same, byRules, after-by-rules, position-back}
+use Rattle.demand.proofs.DemandCalls.{frames-alone, groundOf, call-number, call-memory, calls-memory, all-given, runs-accepted}
+use Rattle.demand.proofs.DemandCalls.{start-number, start-memory, start-same, byRules, after-by-rules, position-back}
 use Rattle.demand.proofs.Permitted.{calls-apart}
 
 -- ---- what wakes
@@ -137,30 +139,30 @@ pub calls-counted-awake : CallsCountedAwake
 calls-counted-awake file b taken names n run fresh-run calls more given may =
     let begun = started file names run in
     let none : startGround names ≡ 0 = sym (start-number names run) ∙ fresh-run in
-    subst (λ (m : Memory). positionIn (m .run) .rounds ≢ 0 → AllAwake (m .file)) (sym (after-by-rules file names run none calls))
+    subst (λ (m : Memory). positionIn (m .run) .counts .rounds ≢ 0 → AllAwake (m .file)) (sym (after-by-rules file names run none calls))
     (λ some.
     counted-awake file b (runs-accepted taken) names n none (byRules names begun calls) (byRules names (afterCalls names begun calls) more)
     (singly-of-bytes (all-given names begun given))
     (front-may file names run none calls more may)
-    (λ z. some (ap (λ (q : Position). q .rounds) (position-back _) ∙ z)))
+    (λ z. some (ap (λ (q : Position). q .counts .rounds) (position-back _) ∙ z)))
 
 -- ---- every list
 
 module _ (names : List ℕ) (nb : Bytes names) (s : State) (p : Position) where
   -- file and position stay what the laws of a call ask
-  next-bytes : (c : Call) → OfBytes c → Bytes (s .file) → p .value < 2 ^ bits → Bytes (callOn names s p c .0 .file)
+  next-bytes : (c : Call) → OfBytes c → Bytes (s .file) → p .place .value < 2 ^ bits → Bytes (callOn names s p c .0 .file)
   unfolding callOn
   next-bytes (step arguments) of-step fb small =
       keeping-step-bytes (s .file) p names (arguments .summary) (arguments .buffer) fb nb small
   next-bytes (frame arguments) (of-frame rb) fb small =
       keeping-round-bytes (s .file) (arguments .summary) (arguments .bytes) (arguments .buffer) fb rb
 
-  next-value : (c : Call) → p .value < 2 ^ bits → callOn names s p c .1 .value < 2 ^ bits
+  next-value : (c : Call) → p .place .value < 2 ^ bits → callOn names s p c .1 .place .value < 2 ^ bits
   unfolding callOn
   next-value (step arguments) small = keeping-step-value (s .file) p names (arguments .summary) (arguments .buffer) small
   next-value (frame arguments) small = small
 
-  call-wakes : {c : Call} → OfBytes c → Bytes (s .file) → p .value < 2 ^ bits → Wakes names s p c → NoSleepBy s c →
+  call-wakes : {c : Call} → OfBytes c → Bytes (s .file) → p .place .value < 2 ^ bits → Wakes names s p c → NoSleepBy s c →
       AllAwake (callOn names s p c .0 .file)
   unfolding callOn
   call-wakes of-step fb small (wakesByStep {arguments} k going) none =
@@ -170,7 +172,7 @@ module _ (names : List ℕ) (nb : Bytes names) (s : State) (p : Position) where
       (frame-wakes (s .file) (arguments .bytes) (arguments .buffer) fb rb
       (keeping-round (s .file) (arguments .summary) (arguments .bytes) (arguments .buffer) k) other (none k))
 
-  call-stays : {c : Call} → OfBytes c → Bytes (s .file) → p .value < 2 ^ bits → NoSleepBy s c → AllAwake (s .file) →
+  call-stays : {c : Call} → OfBytes c → Bytes (s .file) → p .place .value < 2 ^ bits → NoSleepBy s c → AllAwake (s .file) →
       AllAwake (callOn names s p c .0 .file)
   unfolding callOn
   call-stays of-step fb small (in-step {arguments}) up =
@@ -191,7 +193,7 @@ module _ (names : List ℕ) (nb : Bytes names) (s : State) (p : Position) where
 
 module _ (names : List ℕ) (nb : Bytes names) where
   all-stay :
-      (s : State) (p : Position) {cs : List Call} → Bytes (s .file) → p .value < 2 ^ bits → All OfBytes cs → NoneSleeps names s p cs →
+      (s : State) (p : Position) {cs : List Call} → Bytes (s .file) → p .place .value < 2 ^ bits → All OfBytes cs → NoneSleeps names s p cs →
       AllAwake (s .file) → AllAwake (afterRules names s p cs .0 .file)
   unfolding afterRules
   all-stay s p fb small os noCalls up = up
@@ -201,7 +203,7 @@ module _ (names : List ℕ) (nb : Bytes names) where
       (call-stays names nb s p o fb small none up)
 
   all-wake :
-      (s : State) (p : Position) {cs : List Call} → Bytes (s .file) → p .value < 2 ^ bits → All OfBytes cs → AwakeToEnd names s p cs →
+      (s : State) (p : Position) {cs : List Call} → Bytes (s .file) → p .place .value < 2 ^ bits → All OfBytes cs → AwakeToEnd names s p cs →
       AllAwake (afterRules names s p cs .0 .file)
   unfolding afterRules
   all-wake s p fb small os (awakeBefore up none) = all-stay s p fb small os none up

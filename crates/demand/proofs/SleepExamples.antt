@@ -8,29 +8,24 @@ use mathlib.Core.Path.{_≡_, refl, sym, ap, _∙_, subst}
 use mathlib.Core.List.{List, [], _∷_}
 use mathlib.Core.Bool.{true, false}
 use lib.ListN.{replicate}
-use Rattle.file.specs.Rules.Layout.{widthOf}
-use Rattle.file.specs.Rules.Bytes.{Bytes, All, allEmpty, allNext, numberOf, part, allZero}
-use Rattle.file.specs.Rules.Order.{firstOf, both, either}
-use Rattle.file.specs.Rules.Cluster.{Slave, noOperation, broadcastRead, bytesAmong, bytesIn, lastRecord, physicalName, logicalName}
-use Rattle.file.specs.Rules.Decode.{decode, decodeAt, slavesAt, slaveAt, filesAt, fileAt, fileSize, offsetAt}
-use Rattle.file.specs.Rules.Grounds.{isAmong, hasRepeat, fileGrounds, fileGround, fileGroundAt, fileGroundsAt, wrongSize, wrongMark, wrongEdition}
-use Rattle.file.specs.Rules.Grounds.{wrongLength, wrongHeader, wrongPending, brokenLayout, walkFile, tableEnd, walkSlaves, andThen, walkSlave, goodTableEntry}
-use Rattle.file.specs.Rules.Grounds.{walkDirectory, goodEntry, endsAt, lacksNeeded, allHaveNeeded, hasNeeded, equalPhysicalNames}
+use Rattle.file.specs.Rules.Bytes.{Bytes, All, allEmpty, allNext, numberOf, part}
+use Rattle.file.specs.Rules.Order.{both, either}
+use Rattle.file.specs.Rules.Cluster.{Slave, noOperation, broadcastRead, logicalName}
 use Rattle.frame.specs.Rules.Check.{exclusiveOr, checkOf, addressCheck}
 use Rattle.frame.specs.Rules.Fireworks.{roundOf, roundIn}
-use Rattle.frame.specs.Rules.Grounds as frames
-use Rattle.cluster.specs.Rules.Slaves.{executionOf, dutyBy, pendingDuty}
-use Rattle.cluster.specs.Rules.Grounds.{shortAnswer, roundBy, writePending, groundsOn}
-use Rattle.cluster.specs.Inner.Grounds.{noFirework, lengthFor, wrongLengthOn, wrongCheckOn, noOperationOn, broadcastReadOn, frameGround}
+use Rattle.frame.specs.Rules.FrameGrounds as frames
+use Rattle.master_slave.specs.Rules.Slaves.{executionOf, dutyBy, pendingDuty}
+use Rattle.cluster.specs.Rules.RoundGrounds.{shortAnswer, roundBy, writePending, groundsOn}
+use Rattle.cluster.specs.Inner.EachGround.{noFirework, lengthFor, wrongLengthOn, wrongCheckOn, noOperationOn, broadcastReadOn, frameGround}
 use Rattle.cluster.specs.Rules.Round.{roundGround}
 use Rattle.cluster.specs.Rules.Summary.{without, wrongSummary}
 use Rattle.cluster.specs.Claims.Sleep.{AllAwake}
 use Rattle.trace.specs.Rules.Trace.{frameCount, dataLength, offsetIn, lengthIn, dataPlace, wholeRows, brokenTrace, framesFrom, framesOf}
-use Rattle.trace.specs.Rules.Run.{traceGround, traceOn}
+use Rattle.trace.specs.Rules.TraceRun.{traceGround, traceOn}
 use Rattle.trace.specs.Claims.Sleep.{sentGround, noneLeft, oneSent, NoSleep, Woken, woken}
 use Rattle.trace.proofs.Calls.{none-holds}
 use Rattle.trace.proofs.Sleep.{trace-wakes, trace-stays-awake, addresses-wake-nobody}
-use Rattle.naming.specs.Rules.Run.{running, fresh, endAt}
+use Rattle.naming.specs.Rules.Position.{running, fresh, endAt}
 use Rattle.naming.specs.Rules.Step.{stepKeeping}
 use Rattle.naming.specs.Rules.Account.{namesOf, namesIn, namesHeld, unnamedAmong, insert, falling, endWith, accountOf, extra, oneRound, argumentsGround, accountCall, accountAfter}
 use Rattle.naming.specs.Claims.Demand.{startOn}
@@ -41,13 +36,14 @@ use Rattle.file.proofs.BytesBelow.{allBelow, bytes-below}
 use Rattle.naming.proofs.Sleep.{no-round-wakes-nobody}
 use Rattle.naming.proofs.Unasked.{step-unasked, frame-unasked}
 use Rattle.naming.proofs.Witnesses.{sleeper, sleeper-bytes, sleeper-accepted, sleeper-sleeps, one-name, one-name-accepted, first-accepted}
+use Rattle.convert.proofs.Examples.{examples as convertExamples}
 use Rattle.ttpa.specs.Rules.Calls.{startCall, wordsOf, positionIn}
 use Rattle.demand.specs.Claims.Traces.{frameCall, framesSingly, singly}
-use Rattle.demand.specs.Claims.Calls.{CCall, ttpaStep, ttpaRound, ttpaTrace, GivenBytes, given-step, given-frame, given-trace, Memory, returned, afterCalls}
-use Rattle.demand.specs.Claims.Calls.{permitted, callsFed, started, is-step, memoryOf, argumentsOf, argumentsOfAll}
+use Rattle.demand.specs.Claims.DemandCalls.{CCall, ttpaStep, ttpaRound, ttpaTrace, GivenBytes, given-step, given-frame, given-trace, Memory, returned, afterCalls}
+use Rattle.demand.specs.Claims.DemandCalls.{permitted, callsFed, started, is-step, memoryOf, argumentsOf, argumentsOfAll}
 use Rattle.demand.specs.Claims.Sleep.{thisOne, MayWake, byStep, byRound, byTrace, byFirst, in-frame, NoneSleeps.oneMore as oneAwake, noCalls, wokenBy}
 use Rattle.demand.proofs.Traces.{zeros-long}
-use Rattle.demand.proofs.Calls.{groundOf, call-number, accepted-runs, start-number, start-memory, steps-permitted, demand-over-calls}
+use Rattle.demand.proofs.DemandCalls.{groundOf, call-number, accepted-runs, start-number, start-memory, steps-permitted, demand-over-calls}
 use Rattle.demand.proofs.Permitted.{rounds-fit-calls}
 use Rattle.demand.proofs.Summary.{trace-bytes}
 use Rattle.demand.proofs.Sleep.{calls-stay-awake, calls-counted-awake, c-calls-wake}
@@ -62,7 +58,8 @@ unfolding oneData brokenTrace wholeRows dataPlace frameCount dataLength offsetIn
 trace-runs = none-holds sleeper oneData sleeper-accepted refl
 
 data-taken : sentGround sleeper (0x49 ∷ []) ≡ 0
-unfolding widthOf sleeper fileGround fileGroundAt fileGroundsAt firstOf both either wrongSize wrongMark wrongEdition wrongLength wrongHeader wrongPending noOperation broadcastRead allZero part numberOf offsetAt brokenLayout walkFile tableEnd walkSlaves andThen walkSlave goodTableEntry walkDirectory goodEntry fileSize endsAt lacksNeeded allHaveNeeded hasNeeded lastRecord decode decodeAt slavesAt slaveAt filesAt fileAt equalPhysicalNames hasRepeat isAmong physicalName bytesIn bytesAmong roundGround fileGrounds shortAnswer frameGround groundsOn roundBy roundOf roundIn noFirework wrongLengthOn lengthFor writePending frames.wrongFrameLength wrongCheckOn noOperationOn broadcastReadOn pendingDuty dutyBy executionOf
+unfolding convertExamples sleeper noOperation broadcastRead roundGround shortAnswer frameGround groundsOn roundBy roundOf roundIn noFirework
+    wrongLengthOn lengthFor writePending frames.wrongFrameLength wrongCheckOn noOperationOn broadcastReadOn pendingDuty dutyBy executionOf
 data-taken = refl
 
 nothing-pending : NoSleep sleeper (0x49 ∷ [])
@@ -143,7 +140,7 @@ sleeper-stepped =
     (ttpaStep answerBuffer 0 ∷ []) [] (allNext given-step allEmpty) step-may (byFirst step-returns (byStep is-step still-running))
 
 -- the words then count a round, the extra read
-one-counted : positionIn (afterCalls (5 ∷ []) begun (ttpaStep answerBuffer 0 ∷ []) .run) .rounds ≡ 1
+one-counted : positionIn (afterCalls (5 ∷ []) begun (ttpaStep answerBuffer 0 ∷ []) .run) .counts .rounds ≡ 1
 unfolding data-taken callsFed namesIn namesOf accountOf unnamedAmong namesHeld falling insert endWith accountAfter accountCall argumentsGround wrongSummary oneRound extra logicalName
 one-counted =
     demand-over-calls sleeper sleeper-bytes (accepted-runs sleeper-accepted) (5 ∷ []) one-name (replicate 8 0) begins

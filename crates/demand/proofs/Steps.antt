@@ -13,14 +13,14 @@ use Rattle.frame.specs.Rules.Frames.{dataFrame}
 use Rattle.frame.proofs.Written.{write-fits, address-writes, data-writes}
 use Rattle.cluster.specs.Rules.MasterSlave.{Sent, addressSent, dataSent}
 use Rattle.cluster.specs.Inner.Sending.{MaySend}
-use Rattle.naming.specs.Rules.Rounds.{sent}
+use Rattle.naming.specs.Rules.RunRounds.{sent}
 use Rattle.naming.specs.Rules.Run.{nextRound}
 use Rattle.naming.specs.Rules.Step.{stepGround}
 use Rattle.naming.specs.Claims.StepFrames.{TwoFrames}
 use Rattle.naming.proofs.StepFrames.{next-sent, steps-are-frames}
 use Rattle.ttpa.specs.Rules.Calls.{lentAfter, writeAddressCall, writeDataCall, roundCall, stepCall, stepSenders, stepWords, positionIn}
 use Rattle.demand.specs.Claims.Steps.{WrittenAddress, WrittenData, for-write, for-other, StepsAreRounds}
-use Rattle.demand.proofs.Calls.{step-number, round-number}
+use Rattle.demand.proofs.DemandCalls.{step-number, round-number}
 
 -- ---- the frames are those that the writers write
 

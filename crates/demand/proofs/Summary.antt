@@ -15,12 +15,12 @@ use Rattle.file.specs.Rules.Order.{both}
 use Rattle.file.specs.Rules.Results.{numberIn}
 use Rattle.file.specs.Rules.Cluster.{Cluster, logicalName, logicalNames}
 use Rattle.file.specs.Rules.Decode.{decode}
-use Rattle.file.specs.Rules.Grounds.{fileGround}
+use Rattle.file.specs.Rules.FileGrounds.{fileGround}
 use Rattle.file.proofs.Width.{few-slaves}
 use Rattle.file.proofs.Accepted.{accepted-legal}
 use Rattle.file.proofs.Order.{byCase, clash}
 use Rattle.file.proofs.Results.{file-most}
-use Rattle.cluster.specs.Rules.Bus.{slots}
+use Rattle.master_slave.specs.Rules.Bus.{slots}
 use Rattle.cluster.specs.Rules.Round.{roundGround, roundOn}
 use Rattle.cluster.specs.Rules.Summary.{Summary, without, kept, wrongSummary, roundKeepingGround, roundKeeping, Held, nobody, at, firstHolder}
 use Rattle.cluster.specs.Claims.Renaming.{namesOf}
@@ -30,10 +30,11 @@ use Rattle.cluster.proofs.SummaryLaws.{matches-exactly, matches-right, rest-sam
 use Rattle.cluster.proofs.Keeping.{rounds-in-order, round-refused-by-24, keeping-refused, keeping-accepted, round-keeps-summary, same-names}
 use Rattle.cluster.proofs.Holders.{filling-matches, fillings-refused, question-is-reading, full-readings}
 use Rattle.trace.specs.Rules.Trace.{frameCount, framesOf}
-use Rattle.trace.specs.Rules.Run.{sent, afterFrames, traceGround, traceOn}
+use Rattle.trace.specs.Rules.TraceRun.{sent, afterFrames, traceGround, traceOn}
 use Rattle.trace.proofs.Runs.{frames-bytes}
 use Rattle.trace.proofs.Calls.{trace-run, trace-refused}
-use Rattle.naming.specs.Rules.Run.{Position, bits}
+use Rattle.naming.specs.Rules.Position.{Position}
+use Rattle.naming.specs.Rules.Pass.{bits}
 use Rattle.naming.specs.Rules.Step.{stepGround, stepKeepingGround, stepKeeping}
 use Rattle.naming.proofs.StepLaws.{step-refused}
 use Rattle.naming.proofs.StepKeeping.{step-keeping-refused, step-keeping-accepted}
@@ -42,9 +43,9 @@ use Rattle.naming.proofs.Unasked.{step-unasked, frame-unasked}
 use Rattle.naming.proofs.Summaries.{steps-in-order, step-refused-by-24, step-keeps-summary, keeping-step-bytes, keeping-round-bytes}
 use Rattle.ttpa.specs.Rules.Calls.{lentAfter, positionIn, roundCall, stepSenders, stepWords, stepCall, traceCall, turnCall, fillCall}
 use Rattle.ttpa.specs.Rules.Calls.{nobodyPlace, placeOf, holderCall, sliceOf, roundKeepingCall, stepKeepingCall}
-use Rattle.demand.specs.Claims.Calls.{CCall, GivenBytes, given-step, given-step-keeping, given-frame, given-frame-keeping}
-use Rattle.demand.specs.Claims.Calls.{given-trace, given-turn, Memory, returned, memoryAfter, afterCalls, permittedCall, halfwayOn}
-use Rattle.demand.specs.Claims.Calls.{permitted, TakenByRounds}
+use Rattle.demand.specs.Claims.DemandCalls.{CCall, GivenBytes, given-step, given-step-keeping, given-frame, given-frame-keeping}
+use Rattle.demand.specs.Claims.DemandCalls.{given-trace, given-turn, Memory, returned, memoryAfter, afterCalls, permittedCall, halfwayOn}
+use Rattle.demand.specs.Claims.DemandCalls.{permitted, TakenByRounds}
 use Rattle.demand.specs.Claims.Summary.{Made, otherFile, madeOn, allMade, Keeps, inRound, inStep, inOther, inTurn, noneMade, nextMade}
 use Rattle.demand.specs.Claims.Summary.{KeptByCalls, AnswersAsRead, FilledAndAsked, sliceAside, stepSliceAside, RoundsWithSummary}
 use Rattle.demand.specs.Claims.Summary.{StepsWithSummary}
@@ -53,7 +54,7 @@ use Rattle.demand.specs.Claims.Summary.{noCalls, oneMore, withoutSummary
 use Rattle.screens.specs.Rules.Turn.{turnOn}
 use Rattle.screens.proofs.Names.{turn-keeps-summary}
 use Rattle.demand.proofs.TurnFrames.{turn-left, turn-frames-bytes}
-use Rattle.demand.proofs.Calls.{keeping-step-number, keeping-round-number, runs-accepted, accepted-runs}
+use Rattle.demand.proofs.DemandCalls.{keeping-step-number, keeping-round-number, runs-accepted, accepted-runs}
 
 -- ---- the ground of a call given a summary, and its own without
 
@@ -228,7 +229,7 @@ turn-bytes file state buffer fb sb =
     rw (turn-left file state buffer) (frames-bytes-kept file fb (turn-frames-bytes file state buffer sb))
 
 other-bytes :
-    (file run names : List ℕ) {c : CCall} → Bytes file → Bytes names → positionIn run .value < 2 ^ bits → GivenBytes c → Bytes (otherFile file run names c)
+    (file run names : List ℕ) {c : CCall} → Bytes file → Bytes names → positionIn run .place .value < 2 ^ bits → GivenBytes c → Bytes (otherFile file run names c)
 unfolding memoryAfter stepCall stepKeepingCall roundCall roundKeepingCall traceCall turnCall
 other-bytes file run names fb nb small (given-step {buffer}) = step-bytes file (positionIn run) names buffer fb nb small
 other-bytes file run names fb nb small (given-step-keeping {buffer} {held = held} {count = count}) =

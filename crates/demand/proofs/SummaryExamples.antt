@@ -12,25 +12,26 @@ use Rattle.file.specs.Rules.Order.{firstOf, both, either}
 use Rattle.file.specs.Rules.Results.{numberIn}
 use Rattle.file.specs.Rules.Cluster.{bytesAmong, bytesIn, logicalName, logicalNames}
 use Rattle.file.specs.Rules.Decode.{decode, decodeAt, slavesAt, slaveAt, filesAt, fileAt, fileSize, offsetAt}
-use Rattle.file.specs.Rules.Grounds.{isAmong, hasRepeat}
+use Rattle.file.specs.Rules.FileGrounds.{isAmong, hasRepeat}
 use Rattle.frame.specs.Rules.Fireworks.{Round, multipartner, msd, roundOf, roundIn}
 use Rattle.cluster.specs.Rules.Summary.{kept}
-use Rattle.cluster.specs.Rules.Grounds.{roundBy}
+use Rattle.cluster.specs.Rules.RoundGrounds.{roundBy}
 use Rattle.cluster.specs.Claims.Renaming.{Baptizes, namesOf}
 use Rattle.cluster.proofs.Renaming.{only-baptizing-renames}
 use Rattle.cluster.specs.Claims.Summary.{Matches, givenNames}
 use Rattle.cluster.proofs.Holders.{filling-matches}
-use Rattle.naming.specs.Rules.Run.{fresh, startGround, namesGrounds, unfitName}
+use Rattle.naming.specs.Rules.Position.{fresh}
+use Rattle.naming.specs.Rules.RunGrounds.{startGround, namesGrounds, unfitName}
 use Rattle.naming.specs.Claims.Files.{m10File}
 use Rattle.naming.specs.Claims.Cases.{answerBuffer}
 use Rattle.file.proofs.BytesBelow.{allBelow, bytes-below}
 use Rattle.naming.proofs.Examples.{m10-accepted}
 use Rattle.ttpa.specs.Rules.Calls.{fillCall, startCall, wordsOf, positionIn, roundCall, roundKeepingCall}
-use Rattle.demand.specs.Claims.Calls.{CCall, ttpaStepKeeping, ttpaRound, ttpaStep, given-step, given-step-keeping, given-frame, memoryAfter, afterCalls}
-use Rattle.demand.specs.Claims.Calls.{started, CallsDemand, is-step, is-step-keeping}
+use Rattle.demand.specs.Claims.DemandCalls.{CCall, ttpaStepKeeping, ttpaRound, ttpaStep, given-step, given-step-keeping, given-frame, memoryAfter, afterCalls}
+use Rattle.demand.specs.Claims.DemandCalls.{started, CallsDemand, is-step, is-step-keeping}
 use Rattle.demand.specs.Claims.Summary.{Made, keepingRound, keepingStep, other, otherFile, inRound, inStep, inOther, AllKeep, noneMade, nextMade, AnswersAsRead, filledAndMade}
 use Rattle.demand.specs.Claims.Summary.{AllGivenRight, oneMore, noCalls, stepMatching, stepWithout, roundWithout}
-use Rattle.demand.proofs.Calls.{accepted-runs, start-number, steps-permitted, demand-over-calls}
+use Rattle.demand.proofs.DemandCalls.{accepted-runs, start-number, steps-permitted, demand-over-calls}
 use Rattle.demand.proofs.Summary.{filled-and-asked, rounds-with-summary}
 
 -- ---- the file of M10, whose two slaves have no name

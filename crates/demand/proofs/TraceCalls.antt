@@ -9,20 +9,20 @@ use lib.Dec.{eqb}
 use borrow.Author.Tests.{eqb-true, eqb-false}
 use Rattle.file.specs.Rules.Results.{numberIn}
 use Rattle.file.proofs.Order.{byCase}
-use Rattle.cluster.specs.Rules.Bus.{slots}
-use Rattle.cluster.specs.Rules.Grounds.{roundBy}
+use Rattle.master_slave.specs.Rules.Bus.{slots}
+use Rattle.cluster.specs.Rules.RoundGrounds.{roundBy}
 use Rattle.cluster.specs.Rules.Round.{roundGround}
 use Rattle.cluster.specs.Rules.Summary.{kept}
 use Rattle.cluster.specs.Claims.Summary.{Matches}
 use Rattle.cluster.proofs.Rounds.{round-refused, round-accepted}
-use Rattle.trace.specs.Rules.Run.{sent, afterFrames, Report, oneRefused, oneCarried, counted, reportFrom, reportWords, traceGround}
+use Rattle.trace.specs.Rules.TraceRun.{sent, afterFrames, Report, oneRefused, oneCarried, counted, reportFrom, reportWords, traceGround}
 use Rattle.trace.proofs.Runs.{sent-any}
 use Rattle.trace.proofs.Calls.{trace-run}
 use Rattle.ttpa.specs.Rules.Calls.{lentAfter, roundCall, traceCall}
-use Rattle.demand.specs.Claims.Calls.{CCall, ttpaRound, ttpaRoundKeeping, Memory, returned, memoryAfter, afterCalls}
+use Rattle.demand.specs.Claims.DemandCalls.{CCall, ttpaRound, ttpaRoundKeeping, Memory, returned, memoryAfter, afterCalls}
 use Rattle.demand.specs.Claims.Summary.{roundMatching, withoutSummary}
 use Rattle.demand.specs.Claims.TraceCalls.{RoundsFor, noRounds, nextRound, nextKeeping, TracesAreRounds}
-use Rattle.demand.proofs.Calls.{round-number, trace-number}
+use Rattle.demand.proofs.DemandCalls.{round-number, trace-number}
 use Rattle.demand.proofs.Summary.{given-same}
 
 -- what a call of ttpa_round leaves, and how its number counts: as its frame sent with a buffer of 64 bytes

@@ -11,18 +11,18 @@ use lib.ListN.{length, replicate, length-replicate}
 use lib.Dec.{eqb}
 use borrow.Author.Tests.{eqb-true, eqb-false}
 use Rattle.file.specs.Rules.Bytes.{Bytes, All, All.allEmpty, All.allNext as also}
-use Rattle.file.specs.Rules.Grounds.{fileGround}
+use Rattle.file.specs.Rules.FileGrounds.{fileGround}
 use Rattle.file.proofs.Order.{byCase}
-use Rattle.cluster.specs.Rules.Bus.{slots}
-use Rattle.cluster.specs.Rules.Grounds.{roundBy}
-use Rattle.cluster.specs.Rules.Round.{Answer, roundGround}
+use Rattle.master_slave.specs.Rules.Bus.{slots}
+use Rattle.cluster.specs.Rules.Round.{roundGround}
 use Rattle.cluster.proofs.Rounds.{round-refused, round-facts}
 use Rattle.trace.specs.Rules.Trace.{frameCount, brokenTrace, framesOf}
-use Rattle.trace.specs.Rules.Run.{sent, afterFrames, traceGround, traceOn}
+use Rattle.trace.specs.Rules.TraceRun.{sent, afterFrames, traceGround}
 use Rattle.trace.proofs.Runs.{sent-any, frames-bytes}
 use Rattle.trace.proofs.Calls as call
-use Rattle.naming.specs.Rules.Run.{Position, fresh, startGround}
-use Rattle.naming.specs.Rules.Account.{Call, frame, Account, accountCall, accountAfter}
+use Rattle.naming.specs.Rules.Position.{Position, fresh}
+use Rattle.naming.specs.Rules.RunGrounds.{startGround}
+use Rattle.naming.specs.Rules.Account.{Call, Account, accountCall, accountAfter}
 use Rattle.naming.specs.Claims.Demand.{State, startOn, halfwayAfter, callOn, permitted, afterCalls, OfBytes, of-frame, Demand}
 use Rattle.naming.specs.Claims.PermittedRounds.{SentBy, noFrames, oneMore}
 use Rattle.naming.proofs.OverBytes.{demand-3, throughout}

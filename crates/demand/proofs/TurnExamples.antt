@@ -15,18 +15,18 @@ use Rattle.file.specs.Rules.Results.{resultOf, numberIn}
 use Rattle.file.specs.Rules.Cluster.{broadcastRead, bytesAmong, bytesIn, physicalName, logicalName, logicalNames}
 use Rattle.file.specs.Rules.Decode.{decode, decodeAt, slavesAt, slaveAt, filesAt, fileAt, fileSize, offsetAt}
 use Rattle.file.specs.Rules.Editions.{inEdition}
-use Rattle.file.specs.Rules.Grounds.{fileGround, isAmong}
+use Rattle.file.specs.Rules.FileGrounds.{fileGround, isAmong}
 use Rattle.file.proofs.BytesBelow.{allBelow, bytes-below}
-use Rattle.frame.specs.Rules.Grounds.{noFileNumber}
+use Rattle.frame.specs.Rules.FrameGrounds.{noFileNumber}
 use Rattle.cluster.specs.Claims.Sleep.{AllAwake}
 use Rattle.frame.specs.Rules.Fireworks.{roundOf, roundIn}
 use Rattle.cluster.specs.Claims.Pending.{Pending}
-use Rattle.cluster.specs.Rules.Grounds.{roundBy, shortAnswer}
+use Rattle.cluster.specs.Rules.RoundGrounds.{roundBy, shortAnswer}
 use Rattle.cluster.specs.Rules.Summary.{kept, wrongSummary}
 use Rattle.cluster.specs.Claims.Summary.{Matches, givenNames, LeavesRest}
 use Rattle.naming.specs.Rules.Account.{namesOf, namesIn, namesHeld, unnamedAmong, insert, falling, endWith, accountOf, goOn, freePass, pass}
 use Rattle.naming.specs.Rules.Account.{passOn, bitClear, namingRounds, extra, oneRound, argumentsGround, accountCall, accountAfter}
-use Rattle.naming.specs.Rules.Run.{fresh as firstPosition}
+use Rattle.naming.specs.Rules.Position.{fresh as firstPosition}
 use Rattle.naming.specs.Claims.Demand.{startOn}
 use Rattle.naming.specs.Claims.Cases.{answerBuffer}
 use Rattle.naming.proofs.Witnesses.{sleeper, sleeper-bytes, sleeper-accepted, one-name, one-name-accepted}
@@ -35,18 +35,18 @@ use Rattle.screens.specs.Rules.Screens.{lastServed, placeOf, isWaiting, readOf,
 use Rattle.screens.specs.Rules.Screens.{postGround, posted, postOn}
 use Rattle.screens.specs.Rules.Turn.{dueGrounds, stateGrounds, turnGround, turnOn}
 use Rattle.ttpa.specs.Rules.Calls.{startCall, positionIn, screensCall, postCall, turnCall}
-use Rattle.demand.specs.Claims.Calls.{CCall, ttpaStep, ttpaRound, ttpaTurn, GivenBytes, given-step, given-frame, given-turn, Memory}
-use Rattle.demand.specs.Claims.Calls.{afterCalls, framesServed, turnFrames, permitted, callsFed, CallsDemand, started, is-step}
-use Rattle.demand.specs.Claims.Calls.{memoryOf, argumentsOf, argumentsOfAll}
+use Rattle.demand.specs.Claims.DemandCalls.{CCall, ttpaStep, ttpaRound, ttpaTurn, GivenBytes, given-step, given-frame, given-turn, Memory}
+use Rattle.demand.specs.Claims.DemandCalls.{afterCalls, framesServed, turnFrames, permitted, callsFed, CallsDemand, started, is-step}
+use Rattle.demand.specs.Claims.DemandCalls.{memoryOf, argumentsOf, argumentsOfAll}
 use Rattle.demand.specs.Claims.Traces.{singly}
 use Rattle.demand.specs.Claims.Pending.{in-frame, noCalls, oneMore}
 use Rattle.demand.specs.Claims.Turns.{Serves, aStep, aTurn}
 use Rattle.demand.specs.Claims.Summary.{Made, other, allMade, inTurn, noneMade, nextMade}
-use Rattle.screens.proofs.Grounds.{turn-none, turn-edition}
-use Rattle.screens.proofs.Editions.{turns-converted}
+use Rattle.screens.proofs.ScreenGrounds.{turn-none, turn-edition}
+use Rattle.screens.proofs.ScreenEditions.{turns-converted}
 use Rattle.ttpa.proofs.Turns.{turn-keeps-summary-call, PostedThenEight, posted-then-eight-over-calls}
 use Rattle.demand.proofs.TurnFrames.{Serving}
-use Rattle.demand.proofs.Calls.{accepted-runs, runs-accepted, start-number, throughout-calls, demand-over-calls}
+use Rattle.demand.proofs.DemandCalls.{accepted-runs, runs-accepted, start-number, throughout-calls, demand-over-calls}
 use Rattle.demand.proofs.Pending.{c-calls-stay-pending}
 use Rattle.demand.proofs.Summary.{kept-by-calls}
 use Rattle.demand.proofs.Turns.{serving-told, turns-permitted, no-turn-within, served-turns-wake}
@@ -111,7 +111,7 @@ mixed-demand =
     mixed given mixed-may
 
 -- two rounds are counted, those of the steps
-mixed-counted : positionIn (afterCalls (5 ∷ []) begun mixed .run) .rounds ≡ 2
+mixed-counted : positionIn (afterCalls (5 ∷ []) begun mixed .run) .counts .rounds ≡ 2
 unfolding both either shortAnswer namingRounds isAmong pass freePass passOn goOn bitClear sleeper widthOf decode decodeAt slavesAt slaveAt
     filesAt fileAt fileSize offsetAt part numberOf physicalName bytesIn bytesAmong callsFed namesIn namesOf accountOf unnamedAmong
     namesHeld falling insert endWith accountAfter accountCall argumentsGround wrongSummary oneRound extra logicalName firstOf

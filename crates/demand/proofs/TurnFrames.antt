@@ -13,22 +13,22 @@ use Rattle.file.specs.Rules.Bytes.{Bytes, All, All.allEmpty, All.allNext as als
 use Rattle.file.specs.Rules.Results.{refused, done, numberIn}
 use Rattle.file.specs.Rules.Decode.{decode}
 use Rattle.file.proofs.Order.{byCase}
-use Rattle.cluster.specs.Rules.Bus.{slots}
+use Rattle.master_slave.specs.Rules.Bus.{slots}
 use Rattle.cluster.specs.Rules.Round.{Answer, frameOn, roundGround, roundOn}
 use Rattle.cluster.specs.Rules.MasterSlave.{Sent, addressSent, dataSent, roundSent}
 use Rattle.cluster.specs.Inner.Sending.{MaySend}
-use Rattle.cluster.proofs.Bus.{answer-length}
+use Rattle.master_slave.proofs.Bus.{answer-length}
 use Rattle.cluster.proofs.Rounds.{round-refused, round-accepted}
 use Rattle.cluster.proofs.SentRounds.{address-sent-bytes, data-sent-bytes}
-use Rattle.trace.specs.Rules.Run.{sent, afterFrames}
+use Rattle.trace.specs.Rules.TraceRun.{sent, afterFrames}
 use Rattle.trace.proofs.Runs.{sent-any}
 use Rattle.screens.specs.Rules.Screens.{screens, readOf, Due, nobody, screen, due}
 use Rattle.screens.specs.Rules.Turn.{idle, servedBy, readSent, afterServing, turnGround, turnOn}
 use Rattle.screens.proofs.PostLaws.{Readable}
-use Rattle.screens.proofs.Grounds.{Free, turn-free, turn-refused, state-last, state-read}
+use Rattle.screens.proofs.ScreenGrounds.{Free, turn-free, turn-refused, state-last, state-read}
 use Rattle.screens.proofs.Due.{due-is-next}
 use Rattle.screens.proofs.Turns.{turn-idles, turn-serves, may-send-bytes}
-use Rattle.demand.specs.Claims.Calls.{framesServed, turnFrames}
+use Rattle.demand.specs.Claims.DemandCalls.{framesServed, turnFrames}
 
 -- ---- what a turn does
 

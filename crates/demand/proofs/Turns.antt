@@ -15,19 +15,19 @@ use Rattle.file.proofs.Bytes.{all-append}
 use Rattle.file.proofs.Order.{both-next, both-false-left}
 use Rattle.frame.specs.Rules.Reading.{parts}
 use Rattle.cluster.specs.Rules.Round.{Answer}
-use Rattle.cluster.specs.Rules.Slaves.{nextEpoch}
+use Rattle.master_slave.specs.Rules.Slaves.{nextEpoch}
 use Rattle.cluster.specs.Rules.MasterSlave.{addressSent, dataSent, roundSent}
-use Rattle.cluster.proofs.Kept.{nextEpoch-byte}
+use Rattle.master_slave.proofs.Kept.{nextEpoch-byte}
 use Rattle.naming.specs.Claims.Permitted.{MayAsk}
 use Rattle.naming.specs.Claims.PermittedRounds.{Rounds, noRounds, masterSlaveNext, addressOf, ofOther, noFrames}
 use Rattle.screens.specs.Rules.Screens.{readOf}
 use Rattle.screens.specs.Rules.Turn.{idle, servedBy, readSent, turnOn}
 use Rattle.ttpa.specs.Rules.Calls.{startCall, noneWaited, turnScreen, turnCall}
 use Rattle.demand.specs.Claims.Traces.{halfwayFrom, frameCall, singly}
-use Rattle.demand.specs.Claims.Calls.{CCall, ttpaTurn, GivenBytes, given-step, given-step-keeping, given-turn, Memory, returned}
-use Rattle.demand.specs.Claims.Calls.{memoryAfter, afterCalls}
-use Rattle.demand.specs.Claims.Calls.{framesServed, turnFrames, permittedFrames, permittedCall, halfwayOn, permitted, TakenByRounds}
-use Rattle.demand.specs.Claims.Calls.{started, is-step, is-step-keeping, argumentsOf, argumentsOfAll}
+use Rattle.demand.specs.Claims.DemandCalls.{CCall, ttpaTurn, GivenBytes, given-step, given-step-keeping, given-turn, Memory, returned}
+use Rattle.demand.specs.Claims.DemandCalls.{memoryAfter, afterCalls}
+use Rattle.demand.specs.Claims.DemandCalls.{framesServed, turnFrames, permittedFrames, permittedCall, halfwayOn, permitted, TakenByRounds}
+use Rattle.demand.specs.Claims.DemandCalls.{started, is-step, is-step-keeping, argumentsOf, argumentsOfAll}
 use Rattle.demand.specs.Claims.Turns.{Serves, TurnsFit, TurnsSendRounds, IsStepOrTurn, aStep, aTurn, TurnsPermitted, NoTurnWithin}
 use Rattle.demand.specs.Claims.Turns.{OtherTurns, TurnSends, TurnBaptizesNobody, TurnPutsNobodyToSleep, ServedTurnsWake}
 use Rattle.demand.specs.Claims.Renaming.{NoneBaptizes}
@@ -36,7 +36,7 @@ use Rattle.demand.specs.Claims.Sleep.{NoneSleeps}
 use Rattle.demand.specs.Claims.Sleep as sleep
 use Rattle.demand.proofs.TurnFrames.{Serving, TurnCase, turned-away, idles, serves, turn-case, few, read-fits, read-may, served-is}
 use Rattle.demand.proofs.TurnFrames.{frames-are}
-use Rattle.demand.proofs.Calls.{frames-alone}
+use Rattle.demand.proofs.DemandCalls.{frames-alone}
 use Rattle.demand.proofs.Permitted.{frames-sent, rounds-fit-calls}
 use Rattle.demand.proofs.ServedTurn.{barred-within, may-between, closed-after, awake-after, wakes, baptizes-nobody}
 use Rattle.demand.proofs.ServedTurn.{puts-nobody-to-sleep}

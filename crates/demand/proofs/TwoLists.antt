@@ -15,11 +15,12 @@ use Rattle.file.specs.Rules.Order.{firstOf}
 use Rattle.file.proofs.Order.{byCase}
 use Rattle.file.proofs.Accepted.{accepted-legal}
 use Rattle.file.proofs.Bytes.{all-append, all-map}
-use Rattle.cluster.specs.Rules.Bus.{slots}
-use Rattle.cluster.specs.Rules.Grounds.{shortAnswer}
+use Rattle.master_slave.specs.Rules.Bus.{slots}
+use Rattle.cluster.specs.Rules.RoundGrounds.{shortAnswer}
 use Rattle.cluster.specs.Rules.Summary.{without, wrongSummary}
 use Rattle.trace.specs.Rules.Trace.{brokenTrace, framesOf}
-use Rattle.naming.specs.Rules.Run.{Position, fresh, startGround}
+use Rattle.naming.specs.Rules.Position.{Position, fresh}
+use Rattle.naming.specs.Rules.RunGrounds.{startGround}
 use Rattle.naming.specs.Rules.Account.{Named, Call, Account, argumentsGround, accountOf, accountCall}
 use Rattle.naming.specs.Rules.Figures.{namesAfter}
 use Rattle.naming.specs.Claims.Demand as rules
@@ -33,20 +34,20 @@ use Rattle.naming.proofs.TwoLists.{accountStep, accountSteps, counts-same, long
 use Rattle.naming.proofs.TwoRuns.{account-end, Whole, second-run, runs-together}
 use Rattle.naming.proofs.Unasked.{step-unasked}
 use Rattle.ttpa.specs.Rules.Calls.{startCall, positionIn}
-use Rattle.demand.specs.Claims.Calls.{CCall, ttpaStep, ttpaStepKeeping, ttpaRound, ttpaRoundKeeping, ttpaTrace, ttpaTurn, turnFrames}
-use Rattle.demand.specs.Claims.Calls.{GivenBytes}
-use Rattle.demand.specs.Claims.Calls.{given-step, given-step-keeping, IsStep, is-step, is-step-keeping, Memory, returned, memoryAfter, afterCalls, permitted, callsFed}
-use Rattle.demand.specs.Claims.Calls.{slavesIn, TakenByRounds, started, memoryOf, argumentsOf, argumentsOfAll}
+use Rattle.demand.specs.Claims.DemandCalls.{CCall, ttpaStep, ttpaStepKeeping, ttpaRound, ttpaRoundKeeping, ttpaTrace, ttpaTurn, turnFrames}
+use Rattle.demand.specs.Claims.DemandCalls.{GivenBytes}
+use Rattle.demand.specs.Claims.DemandCalls.{given-step, given-step-keeping, IsStep, is-step, is-step-keeping, Memory, returned, memoryAfter, afterCalls, permitted, callsFed}
+use Rattle.demand.specs.Claims.DemandCalls.{slavesIn, TakenByRounds, started, memoryOf, argumentsOf, argumentsOfAll}
 use Rattle.demand.specs.Claims.Traces.{frameCall, framesSingly, singly, afterTrace, callOrTraceOn, afterAll}
 use Rattle.demand.specs.Claims.TwoLists.{ToItsEnd, fileAfter, runAfter, TwoListsOverCalls, JoinedStarts, CommonReturns}
 use Rattle.demand.specs.Claims.TwoLists.{stepTaken, stepsTaken, RunsEndOverCalls, LongStep, long, longKeeping, EveryRunEndsOverCalls, EndMarkOverCalls}
 use Rattle.demand.specs.Claims.Summary.{withoutSummary, numbers}
 use Rattle.demand.specs.Claims.TwoLists.{SecondFindsOverCalls, TwoRunsOverCalls}
 use Rattle.demand.proofs.Traces.{afterSingly, frames-singly, singly-append, singly-of-bytes, trace-sent-singly}
-use Rattle.demand.proofs.Calls.{position-back, frames-alone, frames-left, groundOf, call-number, call-memory, all-given}
-use Rattle.demand.proofs.Calls.{runs-accepted, steps-permitted}
+use Rattle.demand.proofs.DemandCalls.{position-back, frames-alone, frames-left, groundOf, call-number, call-memory, all-given}
+use Rattle.demand.proofs.DemandCalls.{runs-accepted, steps-permitted}
 use Rattle.demand.proofs.Summary.{given-makes-no-difference-in-calls}
-use Rattle.demand.proofs.Calls.{start-number, start-memory, start-same, byRules, after-by-rules, demand-over-calls}
+use Rattle.demand.proofs.DemandCalls.{start-number, start-memory, start-same, byRules, after-by-rules, demand-over-calls}
 
 -- ---- as calls of the rules
 

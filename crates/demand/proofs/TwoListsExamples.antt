@@ -16,19 +16,20 @@ use Rattle.file.specs.Rules.Bytes.{Bytes, All, All.allEmpty, All.allNext as als
 use Rattle.file.specs.Rules.Cluster.{noOperation, broadcastRead, bytesAmong, bytesIn, lastRecord, physicalName}
 use Rattle.file.specs.Rules.Decode.{decodeAt, slavesAt, slaveAt, filesAt, fileAt, fileSize, offsetAt}
 use Rattle.file.specs.Rules.Order.{firstOf, both, either}
-use Rattle.file.specs.Rules.Grounds.{isAmong, hasRepeat, fileGround, fileGroundAt, fileGroundsAt, wrongSize, wrongMark, wrongEdition}
-use Rattle.file.specs.Rules.Grounds.{wrongLength, wrongHeader, wrongPending, brokenLayout, walkFile, tableEnd, walkSlaves, andThen}
-use Rattle.file.specs.Rules.Grounds.{walkSlave}
-use Rattle.file.specs.Rules.Grounds.{goodTableEntry, walkDirectory, goodEntry, endsAt, lacksNeeded, allHaveNeeded, hasNeeded}
-use Rattle.file.specs.Rules.Grounds.{equalPhysicalNames}
+use Rattle.file.specs.Rules.FileGrounds.{isAmong, hasRepeat, fileGround, fileGroundAt, fileGroundsAt, wrongSize, wrongMark, wrongEdition}
+use Rattle.file.specs.Rules.FileGrounds.{wrongLength, wrongHeader, wrongPending, brokenLayout, walkFile, tableEnd, walkSlaves, andThen}
+use Rattle.file.specs.Rules.FileGrounds.{walkSlave}
+use Rattle.file.specs.Rules.FileGrounds.{goodTableEntry, walkDirectory, goodEntry, endsAt, lacksNeeded, allHaveNeeded, hasNeeded}
+use Rattle.file.specs.Rules.FileGrounds.{equalPhysicalNames}
 use Rattle.file.proofs.Order.{clash}
 use Rattle.file.proofs.Bytes.{all-append, all-map}
 use Rattle.file.proofs.BytesBelow.{allBelow, bytes-below}
 use Rattle.frame.specs.Rules.Fireworks.{roundOf, roundIn}
-use Rattle.cluster.specs.Rules.Grounds.{shortAnswer}
+use Rattle.cluster.specs.Rules.RoundGrounds.{shortAnswer}
 use Rattle.cluster.specs.Rules.Summary.{wrongSummary, alike}
 use Rattle.trace.specs.Rules.Trace.{frameCount, dataLength, offsetIn, lengthIn, dataPlace, wholeRows, brokenTrace, framesFrom, framesOf}
-use Rattle.naming.specs.Rules.Run.{namesUsedUp, allNamed, startGround, namesGrounds, unfitName}
+use Rattle.naming.specs.Rules.Position.{namesUsedUp, allNamed}
+use Rattle.naming.specs.Rules.RunGrounds.{startGround, namesGrounds, unfitName}
 use Rattle.naming.specs.Rules.Account.{Named, Call, Account, argumentsGround, accountOf, accountCall, oneRound, endWith, extra, insert}
 use Rattle.naming.specs.Rules.Account.{falling, unnamedAmong, namesHeld}
 use Rattle.naming.specs.Rules.Figures.{freeNames, givings, nameGiven, renamed, namesAfter, roundsFor, endFor, extraAgain, roundsForNobody}
@@ -40,16 +41,16 @@ use Rattle.naming.proofs.Examples.{m10-accepted}
 use Rattle.naming.proofs.TwoLists.{accountStep, accountSteps, longStep, long-many}
 use Rattle.naming.proofs.TwoListsExamples.{m10Slaves, m10-slaves, m8-slaves, threeRuns, names-fewer, names-more, first-held, nobody-after-3}
 use Rattle.ttpa.specs.Rules.Calls.{startCall}
-use Rattle.demand.specs.Claims.Calls.{CCall, ttpaStep, ttpaStepKeeping, ttpaRound, ttpaTrace, GivenBytes, given-step}
-use Rattle.demand.specs.Claims.Calls.{given-step-keeping, given-frame, given-trace, given-turn, is-step-keeping}
-use Rattle.demand.specs.Claims.Calls.{is-step, Memory, afterCalls, permitted, slavesIn, TakenByRounds, started, argumentsOf}
-use Rattle.demand.specs.Claims.Calls.{argumentsOfAll, memoryAfter, turnFrames}
+use Rattle.demand.specs.Claims.DemandCalls.{CCall, ttpaStep, ttpaStepKeeping, ttpaRound, ttpaTrace, GivenBytes, given-step}
+use Rattle.demand.specs.Claims.DemandCalls.{given-step-keeping, given-frame, given-trace, given-turn, is-step-keeping}
+use Rattle.demand.specs.Claims.DemandCalls.{is-step, Memory, afterCalls, permitted, slavesIn, TakenByRounds, started, argumentsOf}
+use Rattle.demand.specs.Claims.DemandCalls.{argumentsOfAll, memoryAfter, turnFrames}
 use Rattle.demand.specs.Claims.Turns.{Serves, aStep, aTurn}
 use Rattle.demand.specs.Claims.Traces.{frameCall, framesSingly, singly}
 use Rattle.demand.specs.Claims.TwoLists.{ToItsEnd, fileAfter, runAfter, stepsTaken, LongStep, long, longKeeping}
 use Rattle.demand.proofs.Traces.{zeros-long, singly-append}
-use Rattle.demand.proofs.Calls.{accepted-runs, runs-accepted, start-number, steps-permitted, throughout-calls, demand-over-calls, byRules}
-use Rattle.demand.proofs.Calls.{frames-alone}
+use Rattle.demand.proofs.DemandCalls.{accepted-runs, runs-accepted, start-number, steps-permitted, throughout-calls, demand-over-calls, byRules}
+use Rattle.demand.proofs.DemandCalls.{frames-alone}
 use Rattle.demand.proofs.Permitted.{rounds-fit-calls}
 use Rattle.demand.proofs.Turns.{serving-told, turns-permitted}
 use Rattle.demand.proofs.TurnExamples.{waiting, waiting-bytes, waiting-served, oneTurn}
@@ -249,9 +250,9 @@ m10-used-up =
     ∙ ap (λ (ss : List Named). endFor ss (1 ∷ [])) m10-slaves ∙ ap (λ (l : List ℕ). getD l 0 0) names-fewer
 
 m10-longer :
-    runAfter m10File (1 ∷ []) words (wholeRun m10File (1 ∷ [])) .rounds +
-    runAfter (leftBy m10File (1 ∷ [])) (2 ∷ []) words (secondRun m10File (1 ∷ []) (2 ∷ [])) .rounds ≡
-    runAfter m10File (1 ∷ 2 ∷ []) words (wholeRun m10File (1 ∷ 2 ∷ [])) .rounds + 1
+    runAfter m10File (1 ∷ []) words (wholeRun m10File (1 ∷ [])) .counts .rounds +
+    runAfter (leftBy m10File (1 ∷ [])) (2 ∷ []) words (secondRun m10File (1 ∷ []) (2 ∷ [])) .counts .rounds ≡
+    runAfter m10File (1 ∷ 2 ∷ []) words (wholeRun m10File (1 ∷ 2 ∷ [])) .counts .rounds + 1
 unfolding extraAgain
 m10-longer = together m10File m10-bytes m10-taken name-1 name-2 apart-1-2 words words words .usedUp m10-used-up
 
@@ -263,12 +264,12 @@ m10-all-named =
     ∙ ap (λ (ss : List Named). endFor ss (1 ∷ 2 ∷ 3 ∷ [])) m10-slaves ∙ ap (λ (l : List ℕ). getD l 0 0) names-more
 
 m10-same :
-    runAfter m10File (1 ∷ 2 ∷ 3 ∷ []) words (wholeRun m10File (1 ∷ 2 ∷ 3 ∷ [])) .rounds ≡
-    runAfter m10File (1 ∷ 2 ∷ 3 ∷ 4 ∷ []) words (wholeRun m10File (1 ∷ 2 ∷ 3 ∷ 4 ∷ [])) .rounds
+    runAfter m10File (1 ∷ 2 ∷ 3 ∷ []) words (wholeRun m10File (1 ∷ 2 ∷ 3 ∷ [])) .counts .rounds ≡
+    runAfter m10File (1 ∷ 2 ∷ 3 ∷ 4 ∷ []) words (wholeRun m10File (1 ∷ 2 ∷ 3 ∷ 4 ∷ [])) .counts .rounds
 m10-same = together m10File m10-bytes m10-taken names-1-to-3 name-4 apart-3-4 words words words .named m10-all-named
 
 m10-nobody :
-    runAfter (leftBy m10File (1 ∷ 2 ∷ 3 ∷ [])) (4 ∷ []) words (secondRun m10File (1 ∷ 2 ∷ 3 ∷ []) (4 ∷ [])) .rounds ≡ 5
+    runAfter (leftBy m10File (1 ∷ 2 ∷ 3 ∷ [])) (4 ∷ []) words (secondRun m10File (1 ∷ 2 ∷ 3 ∷ []) (4 ∷ [])) .counts .rounds ≡ 5
 m10-nobody =
     together m10File m10-bytes m10-taken names-1-to-3 name-4 apart-3-4 words words words .nobody m10-all-named
     ∙ ap (λ (ss : List Named). roundsForNobody (namesHeld (namesAfter ss (1 ∷ 2 ∷ 3 ∷ []))) (4 ∷ [])) m10-slaves ∙ nobody-after-3

@@ -2,7 +2,7 @@
 -- and a trace as calls of ttpa_round, what stays pending, who is renamed and who is awake over lists of calls, the summary and both
 -- editions over the C calls, turns among the C calls, naming after a join.
 pub mod Traces
-pub mod Calls
+pub mod DemandCalls
 pub mod Permitted
 pub mod TwoLists
 pub mod Steps
@@ -11,6 +11,6 @@ pub mod Pending
 pub mod Renaming
 pub mod Sleep
 pub mod Summary
-pub mod Editions
+pub mod DemandEditions
 pub mod Turns
 pub mod Join

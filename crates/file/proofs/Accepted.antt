@@ -15,7 +15,7 @@ use Rattle.file.specs.Rules.Cluster.{Cluster, logicalNames}
 use Rattle.file.specs.Rules.Encode.{encodeAt, encode}
 use Rattle.file.specs.Rules.Decode.{decodeAt, decode}
 use Rattle.file.specs.Rules.Legal.{LegalAt, Legal, Distinct}
-use Rattle.file.specs.Rules.Grounds.{fileGround, heldNames, equalLogicalNames, loadGround, loadVerdict}
+use Rattle.file.specs.Rules.FileGrounds.{fileGround, heldNames, equalLogicalNames, loadGround, loadVerdict}
 use Rattle.file.specs.Claims.Accepted.{AcceptedExactly, LoadedExactly, FileGroundsFirst, ClusterComesBack, FileComesBack}
 use Rattle.file.specs.Inner.Accepted.{Becomes}
 use Rattle.file.proofs.Order.{byCase}

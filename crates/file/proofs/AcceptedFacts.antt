@@ -12,14 +12,13 @@ use native.Mathlib.Omega.{arith}
 use borrow.Author.Tests.{leb-true, le-leb, ltb-false, le-ltb, eqb-true, eqb-false, eq-eqb, ne-eqb, not-false}
 use Rattle.file.specs.Rules.Bytes.{All}
 use Rattle.file.specs.Rules.Order.{both, either}
-use Rattle.file.specs.Rules.Layout.{editionOf}
-use Rattle.file.specs.Inner.Layout.{lengthPlace}
+use Rattle.file.specs.Rules.Layout.{editionOf, lengthPlace}
 use Rattle.file.specs.Rules.Cluster.{Slave, bytesIn, lastRecord, configuration, documentation, physicalName, operationOf, readOperation, broadcast, noOperation}
 use Rattle.file.specs.Rules.Cluster
 use Rattle.file.specs.Rules.Decode.{offsetAt, decodeAt}
 use Rattle.file.specs.Rules.Legal.{Distinct}
-use Rattle.file.specs.Rules.Grounds.{wrongPending, Walk, walkFile, endsAt, brokenLayout, hasNeeded, allHaveNeeded, lacksNeeded, isAmong, hasRepeat}
-use Rattle.file.specs.Rules.Grounds.{equalPhysicalNames, fileGroundsAt, fileGroundAt}
+use Rattle.file.specs.Rules.FileGrounds.{wrongPending, Walk, walkFile, endsAt, brokenLayout, hasNeeded, allHaveNeeded, lacksNeeded, isAmong, hasRepeat}
+use Rattle.file.specs.Rules.FileGrounds.{equalPhysicalNames, fileGroundsAt, fileGroundAt}
 use Rattle.file.proofs.Facts.{not-yes, no-operation, some-operation, SizeFacts, size-facts, size-yes, MarkFacts, mark-facts, mark-yes, edition-facts}
 use Rattle.file.proofs.Facts.{edition-yes, length-facts, length-yes, HeaderFacts, header-facts, header-yes}
 use Rattle.file.proofs.Order.{clash, both-left, both-right, both-true, both-unless, both-false-next, either-false, either-false-left, either-false-right, first-none, first-next, first-end}

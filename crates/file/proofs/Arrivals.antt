@@ -10,7 +10,7 @@ use lib.ListN.{length, getD}
 use lib.Dec.{leb}
 use Rattle.file.specs.Rules.Layout.{headerSize, entrySize}
 use Rattle.file.specs.Rules.Decode.{fileSize, filesAt, slavesAt}
-use Rattle.file.specs.Rules.Grounds.{Walk, andThen, goodEntry, walkDirectory, goodTableEntry, walkSlave, walkSlaves, tableEnd, walkFile}
+use Rattle.file.specs.Rules.FileGrounds.{Walk, andThen, goodEntry, walkDirectory, goodTableEntry, walkSlave, walkSlaves, tableEnd, walkFile}
 use Rattle.file.proofs.Facts.{EntryFacts, entry-facts, TableEntryFacts, table-entry-facts}
 
 pub broken-arrives : {P : Type 0} {e : ℕ} → Walk.broken ≡ Walk.to e → P

@@ -1,19 +1,18 @@
 -- An accepted file at the offset width of its edition: what the laws over a width take, and what they give back.
 -- Assumes nothing.
-use Prim.Native.Nat.{ℕ, _+_, _*_, _≤_}
+use Prim.Native.Nat.{ℕ, _*_, _≤_}
 use native.Mathlib.Omega.{arith}
 use mathlib.Core.Path.{_≡_, sym, _∙_, ap, subst}
 use mathlib.Core.Logic.{_≢_}
 use mathlib.Core.List.{List}
 use lib.ListN.{length, getD, List·getD-eq-default}
-use Rattle.file.specs.Rules.Layout.{widthIn, widthOf, headerSize, maxLength}
+use Rattle.file.specs.Rules.Layout.{widthIn, widthOf, epochPlace, headerSize, maxLength}
 use Rattle.file.specs.Inner.Numbers.{ByteAt}
-use Rattle.file.specs.Inner.Layout.{epochPlace}
 use Rattle.file.specs.Rules.Cluster.{Cluster}
 use Rattle.file.specs.Rules.Encode.{encodeAt, encode}
 use Rattle.file.specs.Rules.Decode.{decodeAt, decode}
 use Rattle.file.specs.Rules.Legal.{LegalAt}
-use Rattle.file.specs.Rules.Grounds.{fileGroundAt, fileGround}
+use Rattle.file.specs.Rules.FileGrounds.{fileGroundAt, fileGround}
 use Rattle.file.specs.Inner.Places.{filePlaceAt, filePlace, SameShape}
 use Rattle.file.specs.Inner.Accepted.{Becomes, AcceptedFile, WidthOf, EpochAt}
 use Rattle.file.proofs.AcceptedFacts.{accepted}
@@ -111,7 +110,7 @@ accepted-width {f} {b} h read =
     let same : 2 * b ≡ widthOf f = omega (arith, accepted (widthOf f) f .0 (here .accepted) .edition, v .width .even, read .is) in
     subst (WidthOf f) (sym same) v
 
-pub epoch-at : {f : List ℕ} {w : ℕ} → AcceptedFile f → WidthOf f w → EpochAt f (4 + 2 * w)
+pub epoch-at : {f : List ℕ} {w : ℕ} → AcceptedFile f → WidthOf f w → EpochAt f (epochPlace w)
 epoch-at h v =
     record {
       is = ap epochPlace (v .is);

@@ -1,16 +1,15 @@
--- No two answers of one type are taken to the same: each map of `specs/Inner/Answers.antt` can be undone.
+-- No two answers of one type are taken to the same: each map of `specs/Inner/FileAnswers.antt` can be undone.
 -- Assumes nothing.
-use Prim.Native.Nat.{ℕ}
 use mathlib.Core.Path.{_≡_, refl, sym, _∙_, ap}
 use Rattle.file.specs.Inner.Accepted.{FoundFile, fileFound, FoundRecord, recordAt}
 use Rattle.file.specs.Rules.Results.{Result, refused, done}
-use Rattle.file.specs.Inner.Answers.{checkedOf, foundFile, foundRecord}
+use Rattle.file.specs.Inner.FileAnswers.{checkedOf, foundFile, foundRecord}
 use Rattle.file.specs.declared.survey.FileAnswer.{FileAnswer}
 use Rattle.file.specs.declared.survey.FileAnswer.the-variants as answers
-use Rattle.file.specs.declared.readers.FilePlace.{FilePlace}
-use Rattle.file.specs.declared.readers.FilePlace.the-variants as files
-use Rattle.file.specs.declared.readers.RecordPlace.{RecordPlace}
-use Rattle.file.specs.declared.readers.RecordPlace.the-variants as records
+use Rattle.file.specs.declared.records.FilePlace.{FilePlace}
+use Rattle.file.specs.declared.records.FilePlace.the-variants as files
+use Rattle.file.specs.declared.records.RecordPlace.{RecordPlace}
+use Rattle.file.specs.declared.records.RecordPlace.the-variants as records
 
 answer : Result (Unit {0}) → FileAnswer
 answer (done value) = answers.Accepted

@@ -12,7 +12,7 @@ use lib.Dec.{eqb}
 use borrow.Author.Tests.{eqb-true, ne-eqb}
 use Rattle.file.specs.Rules.Order.{either}
 use Rattle.file.specs.Rules.Layout.{widthOf, editionOf}
-use Rattle.file.specs.Rules.Grounds.{wrongSize, wrongMark, wrongEdition, fileGroundsAt, fileGroundAt, fileGround, loadVerdict}
+use Rattle.file.specs.Rules.FileGrounds.{wrongSize, wrongMark, wrongEdition, fileGroundsAt, fileGroundAt, fileGround, loadVerdict}
 use Rattle.file.specs.Rules.Results.{resultOf}
 use Rattle.file.specs.Claims.Edition.{NoEdition, ThirdGround, UnknownEdition, UnknownEditionAnswer}
 use Rattle.file.proofs.Order.{byCase, clash, first-alike}

@@ -10,7 +10,7 @@ use Rattle.file.specs.Rules.Layout.{widthOf}
 use Rattle.file.specs.Rules.Cluster.{physicalName, newLogicalName, logicalName, comparisonValue}
 use Rattle.file.specs.Rules.Encode.{directoryEntry, tableEntry, header}
 use Rattle.file.specs.Rules.Decode.{decodeAt, decode}
-use Rattle.file.specs.Rules.Grounds.{wrongSize, wrongLength, fileGround}
+use Rattle.file.specs.Rules.FileGrounds.{wrongSize, wrongLength, fileGround}
 use Rattle.file.specs.Claims.EditionOne.{ReadAsOne, EditionOne}
 use Rattle.file.proofs.Width.{width-two}
 use Rattle.file.proofs.AcceptedFacts.{accepted}
@@ -41,6 +41,18 @@ unfolding header tableEntry directoryEntry bytesOf physicalName newLogicalName l
 edition-one = record {
   width = refl;
   edition = refl;
+  editionBack = λ e. omega arith;
+  markFrom = refl;
+  editionFrom = refl;
+  countFrom = refl;
+  tableFrom = refl;
+  lengthFrom = refl;
+  epochFrom = refl;
+  flagFrom = refl;
+  nameFrom = refl;
+  pb2From = refl;
+  pb3From = refl;
+  zerosFrom = refl;
   editionAt = edition-at;
   countAt = slaves-counted;
   read = λ f other. read-one f (width-two f other);

@@ -13,7 +13,7 @@ use Rattle.file.specs.Rules.Order.{either}
 use Rattle.file.specs.Rules.Layout.{widthOf}
 use Rattle.file.specs.Rules.Encode.{directoryEntry, tableEntry, header}
 use Rattle.file.specs.Rules.Decode.{offsetAt, decodeAt, decode}
-use Rattle.file.specs.Rules.Grounds.{wrongSize, wrongLength, wrongHeader, Walk, to, walkDirectory, walkSlave, walkFile, brokenLayout}
+use Rattle.file.specs.Rules.FileGrounds.{wrongSize, wrongLength, wrongHeader, Walk, to, walkDirectory, walkSlave, walkFile, brokenLayout}
 use Rattle.file.specs.Claims.EditionTwo.{Zeros, ReadAsTwo, LastEntry, EditionTwo}
 use Rattle.file.proofs.Width.{width-four}
 use Rattle.file.proofs.SleepBytes.{slaves-counted, sleep-bytes}
@@ -123,6 +123,13 @@ unfolding header tableEntry directoryEntry bytesOf
 edition-two = record {
   width = refl;
   edition = refl;
+  lengthFrom = refl;
+  epochFrom = refl;
+  flagFrom = refl;
+  nameFrom = refl;
+  pb2From = refl;
+  pb3From = refl;
+  zerosFrom = refl;
   read = λ f is. read-two f (width-four f is);
   zerosAt = refl;
   zeros = refl;

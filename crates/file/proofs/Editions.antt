@@ -17,7 +17,7 @@ use Rattle.file.specs.Rules.Encode.{slaveSize, slavesSize, slavesPlace, 
 use Rattle.file.specs.Rules.Decode.{decode}
 use Rattle.file.specs.Rules.Changes.{withEdition}
 use Rattle.file.specs.Rules.Legal.{LegalSlave, LegalPending, LegalAt, Legal}
-use Rattle.file.specs.Rules.Grounds.{wrongSize, wrongEdition, fileGroundsAt, fileGroundAt, fileGround}
+use Rattle.file.specs.Rules.FileGrounds.{wrongSize, wrongEdition, fileGroundsAt, fileGroundAt, fileGround}
 use Rattle.file.specs.Rules.Editions.{inEdition, exceeds}
 use Rattle.file.specs.Claims.Editions.{Converts, ConvertsWhereItFits, WidenedComesBack, OwnEditionCopies, HandheldRefuses}
 use Rattle.file.proofs.Order.{byCase, either-false, either-false-left, either-false-right}
@@ -83,13 +83,13 @@ converts f e b g width room =
     long = unfold encode in unfold withEdition in encodeAt-length (width .least) (withEdition (decode f) e)
 
 -- "Converting to the edition a file already has copies it."
-own : (c : Cluster) → withEdition c (c .edition) ≡ c
+own-edition : (c : Cluster) → withEdition c (c .edition) ≡ c
 unfolding withEdition
-own c = refl
+own-edition c = refl
 
 pub copies : OwnEditionCopies
 unfolding inEdition
-copies f b g = rw (← edition-at f g, own (decode f)) (encode-decode f b g)
+copies f b g = rw (← edition-at f g, own-edition (decode f)) (encode-decode f b g)
 
 -- ---- edition 1 in edition 2
 

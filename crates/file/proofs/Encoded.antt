@@ -12,12 +12,12 @@ use lib.Dec.{leb}
 use borrow.Author.Tests.{leb-true, le-leb}
 use Rattle.file.specs.Rules.Bytes.{All, Bytes}
 use Rattle.file.specs.Rules.Layout.{OffsetWidth, editionOf, zerosLength, headerSize, entrySize, maxSlaves, maxLength}
-use Rattle.file.specs.Inner.Layout.{epochPlace, flagPlace, pendingNamePlace, pendingPB2Place, pendingPB3Place}
+use Rattle.file.specs.Rules.Layout.{epochPlace, flagPlace, pendingNamePlace, pendingPB2Place, pendingPB3Place}
 use Rattle.file.specs.Rules.Cluster.{Slave, Cluster}
 use Rattle.file.specs.Rules.Encode.{slavesBytes, table, slavesPlace, fileLength, header, encodeAt}
 use Rattle.file.specs.Rules.Decode.{offsetAt, slavesAt, decodeAt}
 use Rattle.file.specs.Rules.Legal.{LegalSlave, LegalAt}
-use Rattle.file.specs.Rules.Grounds.{Walk, tableEnd, walkFile}
+use Rattle.file.specs.Rules.FileGrounds.{Walk, tableEnd, walkFile}
 use Rattle.file.proofs.Width.{Width, place-fits}
 use Rattle.file.proofs.Sizes.{header-length, table-length, encodeAt-length}
 use Rattle.file.proofs.Bytes.{all-map, byte-at}

@@ -12,9 +12,9 @@ use Rattle.file.specs.Rules.Cluster.{isAwake, bytesAmong, bytesIn, lastR
 use Rattle.file.specs.Rules.Encode.{contents, slaveSize, slavesSize, slavesPlace, fileLength}
 use Rattle.file.specs.Rules.Editions.{exceeds}
 use Rattle.file.specs.Rules.Decode.{offsetAt, fileSize, fileAt, filesAt, slaveAt, slavesAt, decodeAt, decode}
-use Rattle.file.specs.Rules.Grounds.{wrongSize, wrongMark, wrongEdition, wrongLength, wrongPending, wrongHeader, andThen, goodEntry, walkDirectory}
-use Rattle.file.specs.Rules.Grounds.{goodTableEntry, walkSlave, walkSlaves, tableEnd, walkFile, endsAt, brokenLayout, hasNeeded, allHaveNeeded}
-use Rattle.file.specs.Rules.Grounds.{lacksNeeded, isAmong, hasRepeat, equalPhysicalNames, fileGroundsAt, fileGroundAt, fileGround}
+use Rattle.file.specs.Rules.FileGrounds.{wrongSize, wrongMark, wrongEdition, wrongLength, wrongPending, wrongHeader, andThen, goodEntry, walkDirectory}
+use Rattle.file.specs.Rules.FileGrounds.{goodTableEntry, walkSlave, walkSlaves, tableEnd, walkFile, endsAt, brokenLayout, hasNeeded, allHaveNeeded}
+use Rattle.file.specs.Rules.FileGrounds.{lacksNeeded, isAmong, hasRepeat, equalPhysicalNames, fileGroundsAt, fileGroundAt, fileGround}
 use Rattle.file.specs.Claims.Editions.{Converts, Widens}
 use Rattle.file.proofs.BytesBelow.{allBelow, bytes-below}
 use Rattle.file.proofs.Width.{two-widths}
@@ -67,7 +67,11 @@ pub record Examples : Type 0 where
   pub wideHeaderFirst : fileGround (inTwo 1 1 1) ≡ 5
 
 pub examples : Examples
-unfolding widthOf firstOf both either numberOf part allZero isAwake bytesAmong bytesIn lastRecord physicalName contents slaveSize slavesSize slavesPlace fileLength exceeds offsetAt fileSize fileAt filesAt slaveAt slavesAt decodeAt decode wrongSize wrongMark wrongEdition wrongLength wrongPending wrongHeader andThen goodEntry walkDirectory goodTableEntry walkSlave walkSlaves tableEnd walkFile endsAt brokenLayout hasNeeded allHaveNeeded lacksNeeded isAmong hasRepeat equalPhysicalNames fileGroundsAt fileGroundAt fileGround
+unfolding widthOf firstOf both either numberOf part allZero isAwake bytesAmong bytesIn lastRecord physicalName contents
+    slaveSize slavesSize slavesPlace fileLength exceeds offsetAt fileSize fileAt filesAt slaveAt slavesAt decodeAt decode
+    wrongSize wrongMark wrongEdition wrongLength wrongPending wrongHeader
+    andThen goodEntry walkDirectory goodTableEntry walkSlave walkSlaves tableEnd walkFile endsAt brokenLayout
+    hasNeeded allHaveNeeded lacksNeeded isAmong hasRepeat equalPhysicalNames fileGroundsAt fileGroundAt fileGround
 examples =
     record {
       awakeAccepted = refl;

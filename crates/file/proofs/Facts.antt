@@ -11,13 +11,11 @@ use lib.Seq.{drop-cons}
 use lib.Dec.{eqb}
 use Rattle.file.specs.Rules.Order.{both}
 use Rattle.file.specs.Rules.Bytes.{part, allZero}
-use Rattle.file.specs.Rules.Layout.{editionOf}
-use Rattle.file.specs.Inner.Layout.{lengthPlace, flagPlace, pendingNamePlace}
+use Rattle.file.specs.Rules.Layout.{editionOf, lengthPlace, flagPlace, pendingNamePlace, pendingPB2Place, zerosPlace}
 use Rattle.file.specs.Rules.Layout.{zerosLength, headerSize, entrySize, fillLength, maxSlaves, maxLength}
-use Rattle.file.specs.Inner.Layout.{pendingPB2Place, zerosPlace}
 use Rattle.file.specs.Rules.Cluster.{noOperation}
 use Rattle.file.specs.Rules.Decode.{offsetAt, fileSize}
-use Rattle.file.specs.Rules.Grounds.{wrongSize, wrongMark, wrongEdition, wrongLength, wrongHeader, wrongPending, goodEntry, goodTableEntry}
+use Rattle.file.specs.Rules.FileGrounds.{wrongSize, wrongMark, wrongEdition, wrongLength, wrongHeader, wrongPending, goodEntry, goodTableEntry}
 use Rattle.file.proofs.Bytes.{getD-part, zero-at}
 use Rattle.file.proofs.Order.{byCase, clash, both-left, both-right, both-true, either-false, either-false-left, either-false-right}
 

@@ -9,13 +9,12 @@ use mathlib.Core.List.{List, [], _∷_, _++_}
 use mathlib.Core.Bool.{true}
 use lib.ListN.{length, getD, replicate, length-append, length-replicate}
 use Rattle.file.specs.Rules.Bytes.{All, Bytes, bytesOf, part}
-use Rattle.file.specs.Rules.Order.{both}
 use Rattle.file.specs.Rules.Layout.{entrySize, fillLength, recordSize}
 use Rattle.file.specs.Rules.Cluster.{File, lastRecord}
 use Rattle.file.specs.Rules.Encode.{directoryEntry, directory, contents}
 use Rattle.file.specs.Rules.Decode.{offsetAt, fileSize, fileAt, filesAt}
 use Rattle.file.specs.Rules.Legal.{LegalFile, Rising}
-use Rattle.file.specs.Rules.Grounds.{Walk, goodEntry, walkDirectory}
+use Rattle.file.specs.Rules.FileGrounds.{Walk, goodEntry, walkDirectory}
 use Rattle.file.proofs.Facts.{EntryFacts, entry-facts, entry-yes}
 use Rattle.file.proofs.NumberLaws.{part-length}
 use Rattle.file.proofs.Arrivals.{tested-arrives, arrives-same}

@@ -7,7 +7,7 @@ use mathlib.Core.List.{List, [], _∷_, _++_}
 use lib.ListN.{length, getD, replicate}
 use Rattle.file.specs.Rules.Bytes.{bytesOf}
 use Rattle.file.specs.Rules.Layout.{editionOf, zerosLength, headerSize}
-use Rattle.file.specs.Inner.Layout.{lengthPlace, epochPlace, flagPlace, pendingNamePlace, pendingPB2Place, pendingPB3Place, zerosPlace}
+use Rattle.file.specs.Rules.Layout.{lengthPlace, epochPlace, flagPlace, pendingNamePlace, pendingPB2Place, pendingPB3Place, zerosPlace}
 use Rattle.file.specs.Rules.Cluster.{Cluster}
 use Rattle.file.specs.Rules.Encode.{fileLength, header}
 use Rattle.file.proofs.Sizes.{bytesOf-length}

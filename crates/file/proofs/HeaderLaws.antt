@@ -9,12 +9,12 @@ use borrow.Author.Tests.{lt-ltb, le-ltb, eq-eqb, ne-eqb, eqb-true, eqb-false}
 use lib.ListN.{length, getD}
 use lib.Dec.{eqb}
 use Rattle.file.specs.Rules.Order.{firstOf, either}
-use Rattle.file.specs.Rules.Layout.{OffsetWidth, pendingFlag}
+use Rattle.file.specs.Rules.Layout.{OffsetWidth, pendingFlag, lengthPlace, epochPlace, flagPlace, pendingNamePlace, pendingPB2Place, zerosPlace}
 use Rattle.file.specs.Rules.Cluster.{operationOf, noOperation, broadcastRead}
 use Rattle.file.specs.Rules.Bytes.{part, allZero}
 use Rattle.file.specs.Inner.Numbers.{ByteAt, NumberAt}
 use Rattle.file.specs.Rules.Decode.{offsetAt}
-use Rattle.file.specs.Rules.Grounds.{wrongSize, wrongMark, wrongEdition, wrongLength, wrongHeader, wrongPending, brokenLayout, lacksNeeded, equalPhysicalNames, fileGroundsAt, fileGroundAt}
+use Rattle.file.specs.Rules.FileGrounds.{wrongSize, wrongMark, wrongEdition, wrongLength, wrongHeader, wrongPending, brokenLayout, lacksNeeded, equalPhysicalNames, fileGroundsAt, fileGroundAt}
 use Rattle.file.specs.Inner.Checked.{HeaderFits, GoodHeader, HeaderChecked}
 use Rattle.file.proofs.Order.{byCase, clash, both-false-left, both-next, either-left, either-next, either-false}
 use Rattle.file.proofs.Facts.{true-unless, false-unless, size-facts, header-facts, zeros-at, zeros-rest, zeros-more, zeros-none}
@@ -94,7 +94,7 @@ pub edition-test : (w : ℕ) {f : List ℕ} {b : ℕ} → ByteAt f 2 b → not (
 unfolding wrongEdition
 edition-test w k = rw (k .is)
 
-pub length-test : {w : ℕ} {f : List ℕ} {n : ℕ} → NumberAt f (4 + w) w n → not (eqb n (length f)) ≡ wrongLength w f
+pub length-test : {w : ℕ} {f : List ℕ} {n : ℕ} → NumberAt f (lengthPlace w) w n → not (eqb n (length f)) ≡ wrongLength w f
 unfolding wrongLength offsetAt
 length-test k = rw (k .is)
 
@@ -105,48 +105,50 @@ pub header-table : {w : ℕ} {f : List ℕ} {n : ℕ} → NumberAt f 4 w n → (
 unfolding offsetAt
 header-table {w} {f} {n} k h = sym (true-unless (λ e. h (k .is ∙ header-facts w f e .table)))
 
-pub header-zero : (k : ℕ) {w : ℕ} {f : List ℕ} {b : ℕ} → k < 3 → HeaderFits w f → ByteAt f (4 + 2 * w + (5 + k)) b → (b ≡ 0 → ⊥) → true ≡ wrongHeader w f
+pub header-zero : (k : ℕ) {w : ℕ} {f : List ℕ} {b : ℕ} → k < 3 → HeaderFits w f → ByteAt f (epochPlace w + (5 + k)) b → (b ≡ 0 → ⊥) → true ≡ wrongHeader w f
 header-zero k {w} {f} {b} l long is h =
-    let there : 9 + 2 * w + k ≡ 4 + 2 * w + (5 + k) = omega arith in
+    let there : zerosPlace w + k ≡ epochPlace w + (5 + k) = omega arith in
     let few : k < 2 * w - 1 = omega (arith, long .width .least) in
-    sym (true-unless (λ e. h (is .is ∙ rw there at (zeros-at f (9 + 2 * w) (2 * w - 1) k few (header-facts w f e .zeros)))))
+    sym (true-unless (λ e. h (is .is ∙ rw there at (zeros-at f (zerosPlace w) (2 * w - 1) k few (header-facts w f e .zeros)))))
 
 -- the zeros beyond the first three
-zeros-behind : (w : ℕ) (f : List ℕ) → 2 ≤ w → 8 + 4 * w ≤ length f → allZero (part f (9 + 2 * w) (2 * w - 1)) ≡ true → allZero (part f (4 + 2 * w + 8) (2 * w - 4)) ≡ true
+zeros-behind : (w : ℕ) (f : List ℕ) → 2 ≤ w → 8 + 4 * w ≤ length f → allZero (part f (zerosPlace w) (2 * w - 1)) ≡ true → allZero (part f (epochPlace w + 8) (2 * w - 4)) ≡ true
 zeros-behind w f least room z =
     let more : 2 * w - 1 ≡ suc (suc (suc (2 * w - 4))) = omega arith in
-    let three : suc (suc (suc (9 + 2 * w))) ≡ 4 + 2 * w + 8 = omega arith in
-    let z₁ = zeros-rest f (9 + 2 * w) (suc (suc (2 * w - 4))) (omega arith) (rw more at z) in
-    let z₂ = zeros-rest f (suc (9 + 2 * w)) (suc (2 * w - 4)) (omega arith) z₁ in
-    rw three at (zeros-rest f (suc (suc (9 + 2 * w))) (2 * w - 4) (omega arith) z₂)
+    let three : suc (suc (suc (zerosPlace w))) ≡ epochPlace w + 8 = omega arith in
+    let z₁ = zeros-rest f (zerosPlace w) (suc (suc (2 * w - 4))) (omega arith) (rw more at z) in
+    let z₂ = zeros-rest f (suc (zerosPlace w)) (suc (2 * w - 4)) (omega arith) z₁ in
+    rw three at (zeros-rest f (suc (suc (zerosPlace w))) (2 * w - 4) (omega arith) z₂)
 
-pub header-more : {w : ℕ} {f : List ℕ} {t : Bool} → HeaderFits w f → t ≡ allZero (part f (4 + 2 * w + 8) (2 * w - 4)) → t ≡ false → true ≡ wrongHeader w f
+pub header-more : {w : ℕ} {f : List ℕ} {t : Bool} → HeaderFits w f → t ≡ allZero (part f (epochPlace w + 8) (2 * w - 4)) → t ≡ false → true ≡ wrongHeader w f
 header-more {w} {f} long is e = sym (true-unless (λ h. clash (zeros-behind w f (long .width .least) (long .room) (header-facts w f h .zeros)) (sym is ∙ e)))
 
 pub header-last : {w : ℕ} {f : List ℕ} {count table z₁ z₂ z₃ name : ℕ} {t r : Bool} → HeaderFits w f → ByteAt f 3 count → count ≤ 16 * w →
-    NumberAt f 4 w table → table ≡ 8 + 4 * w → ByteAt f (4 + 2 * w + 5) z₁ → z₁ ≡ 0 → ByteAt f (4 + 2 * w + 6) z₂ → z₂ ≡ 0 → ByteAt f (4 + 2 * w + 7) z₃ → z₃ ≡ 0 →
-    t ≡ allZero (part f (4 + 2 * w + 8) (2 * w - 4)) → t ≡ true →
-    name ≡ getD f (4 + 2 * w + 2) 0 → r ≡ wrongPending (getD f (4 + 2 * w + 1) 0) name (getD f (4 + 2 * w + 3) 0) → r ≡ wrongHeader w f
+    NumberAt f 4 w table → table ≡ 8 + 4 * w → ByteAt f (epochPlace w + 5) z₁ → z₁ ≡ 0 → ByteAt f (epochPlace w + 6) z₂ → z₂ ≡ 0 → ByteAt f (epochPlace w + 7) z₃ → z₃ ≡ 0 →
+    t ≡ allZero (part f (epochPlace w + 8) (2 * w - 4)) → t ≡ true →
+    name ≡ getD f (epochPlace w + 2) 0 → r ≡ wrongPending (getD f (epochPlace w + 1) 0) name (getD f (epochPlace w + 3) 0) → r ≡ wrongHeader w f
 unfolding wrongHeader offsetAt
 header-last {w} {f} fits is₁ low is₂ size is₃ e₃ is₄ e₄ is₅ e₅ is₆ e₆ named r =
     let long = fits .room in
     let least = fits .width .least in
     let c = le-ltb (16 * w) (getD f 3 0) (omega (arith, is₁ .is)) in
     let t = eq-eqb _ _ (sym (is₂ .is) ∙ size) in
-    let a₀ : 4 + 2 * w + 5 ≡ 9 + 2 * w = omega arith in
-    let a₁ : 4 + 2 * w + 6 ≡ suc (9 + 2 * w) = omega arith in
-    let a₂ : 4 + 2 * w + 7 ≡ suc (suc (9 + 2 * w)) = omega arith in
-    let a₃ : 4 + 2 * w + 8 ≡ suc (suc (suc (9 + 2 * w))) = omega arith in
-    let y₀ : getD f (9 + 2 * w) 0 ≡ 0 = rw a₀ at (sym (is₃ .is) ∙ e₃) in
-    let y₁ : getD f (suc (9 + 2 * w)) 0 ≡ 0 = rw a₁ at (sym (is₄ .is) ∙ e₄) in
-    let y₂ : getD f (suc (suc (9 + 2 * w))) 0 ≡ 0 = rw a₂ at (sym (is₅ .is) ∙ e₅) in
-    let y₃ : allZero (part f (suc (suc (suc (9 + 2 * w)))) (2 * w - 4)) ≡ true = rw a₃ at (sym is₆ ∙ e₆) in
+    let a₀ : epochPlace w + 5 ≡ zerosPlace w = omega arith in
+    let a₁ : epochPlace w + 6 ≡ suc (zerosPlace w) = omega arith in
+    let a₂ : epochPlace w + 7 ≡ suc (suc (zerosPlace w)) = omega arith in
+    let a₃ : epochPlace w + 8 ≡ suc (suc (suc (zerosPlace w))) = omega arith in
+    let y₀ : getD f (zerosPlace w) 0 ≡ 0 = rw a₀ at (sym (is₃ .is) ∙ e₃) in
+    let y₁ : getD f (suc (zerosPlace w)) 0 ≡ 0 = rw a₁ at (sym (is₄ .is) ∙ e₄) in
+    let y₂ : getD f (suc (suc (zerosPlace w))) 0 ≡ 0 = rw a₂ at (sym (is₅ .is) ∙ e₅) in
+    let y₃ : allZero (part f (suc (suc (suc (zerosPlace w)))) (2 * w - 4)) ≡ true = rw a₃ at (sym is₆ ∙ e₆) in
     let more : suc (suc (suc (2 * w - 4))) ≡ 2 * w - 1 = omega arith in
-    let z : allZero (part f (9 + 2 * w) (2 * w - 1)) ≡ true =
-    rw more at (zeros-more f (9 + 2 * w) (suc (suc (2 * w - 4))) (omega arith) y₀ (zeros-more f (suc (9 + 2 * w)) (suc (2 * w - 4)) (omega arith) y₁ (zeros-more f (suc (suc (9 + 2 * w))) (2 * w - 4) (omega arith) y₂ y₃))) in
-    let f₁ : 5 + 2 * w ≡ 4 + 2 * w + 1 = omega arith in
-    let f₂ : 6 + 2 * w ≡ 4 + 2 * w + 2 = omega arith in
-    let f₃ : 7 + 2 * w ≡ 4 + 2 * w + 3 = omega arith in
+    let x₂ = zeros-more f (suc (suc (zerosPlace w))) (2 * w - 4) (omega arith) y₂ y₃ in
+    let x₁ = zeros-more f (suc (zerosPlace w)) (suc (2 * w - 4)) (omega arith) y₁ x₂ in
+    let z : allZero (part f (zerosPlace w) (2 * w - 1)) ≡ true =
+    rw more at (zeros-more f (zerosPlace w) (suc (suc (2 * w - 4))) (omega arith) y₀ x₁) in
+    let f₁ : flagPlace w ≡ epochPlace w + 1 = omega arith in
+    let f₂ : pendingNamePlace w ≡ epochPlace w + 2 = omega arith in
+    let f₃ : pendingPB2Place w ≡ epochPlace w + 3 = omega arith in
     rw (either-next _ c, t, either-next _ refl, z, either-next _ refl, f₁, f₂, f₃, ← named) r
 
 -- the four zeros more

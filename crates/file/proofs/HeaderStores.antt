@@ -9,7 +9,7 @@ use lib.ListN.{length, getD, set, replicate, length-append}
 use lib.Seq.{getD-append-add}
 use Rattle.file.specs.Rules.Bytes.{bytesOf}
 use Rattle.file.specs.Rules.Layout.{editionOf, headerSize, zerosLength}
-use Rattle.file.specs.Inner.Layout.{epochPlace, flagPlace, pendingNamePlace, pendingPB2Place, pendingPB3Place}
+use Rattle.file.specs.Rules.Layout.{epochPlace, flagPlace, pendingNamePlace, pendingPB2Place, pendingPB3Place}
 use Rattle.file.specs.Rules.Cluster.{Slave, Cluster}
 use Rattle.file.specs.Rules.Encode.{slavesBytes, table, slavesPlace, fileLength, header, encodeAt}
 use Rattle.file.specs.Rules.Changes.{withEpoch, withPending}

@@ -10,7 +10,7 @@ use lib.ListN.{length, getD, drop, set, replicate, length-set, length-replicate}
 use lib.Seq.{drop-cons, drop-length, set-getD}
 use lib.Dec.{eqb}
 use Rattle.file.specs.Rules.Cluster.{Cluster, unnamed, logicalName, logicalNames}
-use Rattle.file.specs.Rules.Grounds.{isAmong, hasRepeat, heldNames}
+use Rattle.file.specs.Rules.FileGrounds.{isAmong, hasRepeat, heldNames}
 use Rattle.file.proofs.Order.{byCase, clash, either-left, either-right, either-false}
 use Rattle.file.proofs.LookingLaws.{few-once, two-once}
 use Rattle.file.specs.Inner.Marked.{Marked}

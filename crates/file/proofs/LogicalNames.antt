@@ -22,7 +22,7 @@ use Rattle.file.proofs.Shape.{shape-refl, slave-put}
 use Rattle.file.proofs.Puts.{inSlave-same, inSlave-physicalName}
 use Rattle.file.proofs.Kept.{slave-legal}
 use Rattle.file.proofs.KeptShape.{Keeps, legal-bytes, kept-legal}
-use Rattle.file.specs.Rules.Grounds.{hasRepeat, heldNames}
+use Rattle.file.specs.Rules.FileGrounds.{hasRepeat, heldNames}
 use Rattle.file.proofs.Results.{load-twice}
 use Rattle.file.proofs.Accepted.{accepted-legal}
 

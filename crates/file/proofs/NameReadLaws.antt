@@ -3,16 +3,12 @@
 use Prim.Native.Nat.{ℕ, suc, _+_, _≤_, _<_}
 use native.Mathlib.Omega.{arith}
 use native.Mathlib.Numerals.{add-one}
-use mathlib.Core.Path.{_≡_, refl, sym, ap, _∙_}
+use mathlib.Core.Path.{_≡_, refl, sym, _∙_}
 use mathlib.Core.List.{List, [], _∷_, _++_, append-assoc}
-use mathlib.Core.Bool.{Bool}
 use lib.ListN.{length, getD, take, drop, set, length-set, length-map, List·getD-map}
-use lib.Seq.{take-suc, take-all, take-at, drop-cons, length-take-le, set-at}
+use lib.Seq.{take-suc, take-all, drop-cons, length-take-le, set-at}
 use Rattle.file.specs.Rules.Cluster.{Cluster, logicalName, logicalNames}
-use Rattle.file.specs.Rules.Decode.{decode}
-use Rattle.file.specs.Rules.Grounds.{hasRepeat, heldNames}
 use Rattle.file.specs.Inner.Places.{noSlave, slaveOf}
-use Rattle.file.specs.Inner.Accepted.{slaveCount}
 
 pub names-count : (c : Cluster) → length (logicalNames c) ≡ length (c .slaves)
 unfolding logicalNames

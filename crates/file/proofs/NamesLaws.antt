@@ -8,8 +8,10 @@ use native.Mathlib.Omega.{arith}
 use lib.ListN.{length, getD, drop, set, replicate, length-set, length-replicate}
 use lib.Seq.{drop-cons, drop-length}
 use lib.Dec.{eqb}
+use mir.Syntax.{w16, w64}
+use mir.Val.{Fits}
 use Rattle.file.specs.Inner.Numbers.{ByteAt}
-use Rattle.file.specs.Rules.Grounds.{isAmong, hasRepeat}
+use Rattle.file.specs.Rules.FileGrounds.{isAmong, hasRepeat}
 use Rattle.file.specs.Inner.Layout.{physicalNamePlace, longWidth}
 use Rattle.file.specs.Inner.Places.{placesEach, documentationIndex}
 use Rattle.file.specs.Inner.Checked.{documentationPlaces, nameAt, namesAt, NamesStand, RemainderAt, repeatsName}
@@ -141,6 +143,19 @@ pub name-within : (f places : List ℕ) (i : ℕ) → NamesStand f places → i 
 name-within f places i h l =
     let there : i < length (documentationPlaces places) = rw (documents-length places) l in
     rw (document-of places i l) at (all-at 0 (h .all) there .within)
+
+pub last-within : (f places : List ℕ) (i : ℕ) → NamesStand f places → i < length places / placesEach → getD places (documentationIndex i) 0 + physicalNamePlace + 7 < length f
+last-within f places i h l = omega (arith, name-within f places i h l)
+
+module _ (places : List ℕ) (known : (j : ℕ) → Fits w16 (getD places j 0)) (i : ℕ) where
+  pub place-fits : Fits w64 (getD places i 0)
+  place-fits = record { fits = omega (arith, known i) }
+
+  pub name-fits : Fits w64 (getD places i 0 + physicalNamePlace)
+  name-fits = record { fits = omega (arith, known i) }
+
+  pub last-fits : Fits w64 (getD places i 0 + physicalNamePlace + 7)
+  last-fits = record { fits = omega (arith, known i) }
 
 -- its remainder is its last byte
 pub remainder-there : (f places : List ℕ) {i r : ℕ} → NamesStand f places → i < length places / placesEach → ByteAt f (getD places (documentationIndex i) 0 + physicalNamePlace + 7) r

@@ -18,7 +18,7 @@ use Rattle.file.specs.Rules.Encode.{slavesPlace}
 use Rattle.file.specs.Rules.Decode.{offsetAt, fileSize, filesAt, slaveAt, slavesAt, decodeAt, decode}
 use Rattle.file.specs.Rules.Decode
 use Rattle.file.specs.Rules.Legal.{LegalSlave}
-use Rattle.file.specs.Rules.Grounds.{to, walkDirectory, walkSlave, walkSlaves, walkFile, tableEnd}
+use Rattle.file.specs.Rules.FileGrounds.{to, walkDirectory, walkSlave, walkSlaves, walkFile, tableEnd}
 use Rattle.file.specs.Inner.Places.{noSlave, slaveOf, placeAmong, filePlaceFrom, filePlaceAt, filePlace, configurationIndex, documentationIndex}
 use Rattle.file.specs.Inner.Accepted.{Becomes, WidthOf, slaveCount, Placed, FoundFile, fileFound, FoundRecord, recordAt, findFile, findRecord}
 use Rattle.file.specs.Inner.Checked.{EntriesFit, searchDirectory}

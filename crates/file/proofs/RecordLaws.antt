@@ -7,22 +7,21 @@ use mathlib.Core.Bool.{Bool, true, false}
 use mathlib.Core.List.{List}
 use native.Mathlib.Omega.{arith}
 use borrow.Author.Tests.{le-leb, leb-true, eqb-true, eq-eqb, ne-eqb}
-use lib.Dec.{eqb, leb}
+use lib.Dec.{leb}
 use lib.ListN.{length, getD}
 use mir.Syntax.{w64}
 use mir.Val.{Fits}
-use Rattle.file.specs.Rules.Order.{both}
 use Rattle.file.specs.Rules.Layout.{recordSize}
 use Rattle.file.specs.Inner.Layout.{neededConfiguration, neededDocumentation}
 use Rattle.file.specs.Rules.Cluster.{Cluster, bytesIn, hasRecord, configuration, documentation}
 use Rattle.file.specs.Rules.Decode.{decode}
 use Rattle.file.specs.Inner.Places.{slaveOf, filePlace, configurationIndex, documentationIndex}
 use Rattle.file.specs.Inner.Accepted.{Becomes, AcceptedFile, slaveCount, Placed, fileFound, findFile, findRecord, isDocumented}
-use Rattle.file.specs.Inner.Answers.{foundFile, foundRecord}
-use Rattle.file.specs.declared.readers.FileBytes.{FileBytes}
-use Rattle.file.specs.declared.readers.FilePlace.{FilePlace}
-use Rattle.file.specs.declared.readers.FilePlace.the-variants.{Bytes, NoFile}
-use Rattle.file.specs.declared.readers.RecordPlace.the-variants.{At, NoRecord}
+use Rattle.file.specs.Inner.FileAnswers.{foundFile, foundRecord}
+use Rattle.file.specs.declared.records.FileBytes.{FileBytes}
+use Rattle.file.specs.declared.records.FilePlace.{FilePlace}
+use Rattle.file.specs.declared.records.FilePlace.the-variants.{Bytes, NoFile}
+use Rattle.file.specs.declared.records.RecordPlace.the-variants.{At, NoRecord}
 use Rattle.file.proofs.Order.{both-left, both-right, both-next, both-false-left}
 use Rattle.file.proofs.PlaceLaws.{documentation-record-fits}
 use Rattle.file.proofs.ReaderLaws.{length-limit, configuration-room, documentation-room, record-missing, record-past, record-found, found-within}

@@ -13,7 +13,7 @@ use Rattle.file.specs.Rules.Order.{firstOf}
 use Rattle.file.specs.Rules.Layout.{widthOf}
 use Rattle.file.specs.Rules.Cluster.{logicalNames}
 use Rattle.file.specs.Rules.Decode.{decode}
-use Rattle.file.specs.Rules.Grounds.{fileGroundsAt, fileGroundAt, fileGrounds, fileGround, hasRepeat, heldNames, equalLogicalNames, loadGround}
+use Rattle.file.specs.Rules.FileGrounds.{fileGroundsAt, fileGroundAt, fileGrounds, fileGround, hasRepeat, heldNames, equalLogicalNames, loadGround}
 use Rattle.file.proofs.Order.{Numbered, byCase, first-none, first-most, joined-here, joined-next, joined-left, joined-right}
 use Rattle.file.specs.Rules.Results.{refused, done, resultOf}
 

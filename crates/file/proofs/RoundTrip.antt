@@ -10,7 +10,7 @@ use Rattle.file.specs.Rules.Cluster.{Cluster}
 use Rattle.file.specs.Rules.Encode.{header, encodeAt}
 use Rattle.file.specs.Rules.Decode.{decodeAt}
 use Rattle.file.specs.Rules.Legal.{LegalAt}
-use Rattle.file.specs.Rules.Grounds.{fileGroundAt}
+use Rattle.file.specs.Rules.FileGrounds.{fileGroundAt}
 use Rattle.file.proofs.Width.{Width, Which, narrow, wide, which, place-fits, wide-enough}
 use Rattle.file.proofs.Bytes.{all-map}
 use Rattle.file.proofs.Sizes.{encodeAt-length}

@@ -12,7 +12,7 @@ use mir.Syntax.{w64}
 use mir.Val.{Fits}
 use Rattle.file.specs.Inner.Numbers.{NumberAt}
 use Rattle.file.specs.Rules.Decode.{offsetAt, fileSize}
-use Rattle.file.specs.Rules.Grounds.{to, walkDirectory}
+use Rattle.file.specs.Rules.FileGrounds.{to, walkDirectory}
 use Rattle.file.specs.Inner.Checked.{EntriesFit, states, statedPlace, Arrives}
 use Rattle.file.proofs.Order.{both-left, both-next, both-false-left}
 use Rattle.file.proofs.Arrivals.{Step, walk-took}
@@ -113,7 +113,9 @@ module _ {w : ℕ} {f : List ℕ} {d k n least entry : ℕ} (fit : EntriesFit w 
       seeking-here e o =
           let number = states-number f n least entry (sym is ∙ e) in
           let first : statedPlace w f n least (offsetAt w f (entry + w)) (entry + 2 * w) (h .left - 1) ≡ statedPlace w f n least 0 d k = rw (sym is ∙ e) at stepped in
-          let skips = walk-skips w f n least (offsetAt w f (entry + w)) (entry + 2 * w) (suc (getD f entry 0)) (h .place + fileSize (getD f (entry + 1) 0)) (h .left - 1) (h .end) (omega (arith, number)) (step .rest) in
+          let skips =
+          walk-skips w f n least (offsetAt w f (entry + w)) (entry + 2 * w)
+          (suc (getD f entry 0)) (h .place + fileSize (getD f (entry + 1) 0)) (h .left - 1) (h .end) (omega (arith, number)) (step .rest) in
           o .is ∙ (sym skips ∙ first)
 
 -- the first entry: its file lies behind the directory

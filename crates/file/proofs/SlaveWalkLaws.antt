@@ -16,7 +16,7 @@ use Rattle.file.specs.Rules.Layout.{headerSize, entrySize}
 use Rattle.file.specs.Inner.Layout.{neededConfiguration, neededDocumentation}
 use Rattle.file.specs.Rules.Cluster.{configuration, documentation}
 use Rattle.file.specs.Rules.Decode.{offsetAt}
-use Rattle.file.specs.Rules.Grounds.{broken, to, andThen, goodTableEntry, walkDirectory, walkSlave, walkSlaves}
+use Rattle.file.specs.Rules.FileGrounds.{broken, to, andThen, goodTableEntry, walkDirectory, walkSlave, walkSlaves}
 use Rattle.file.specs.Inner.Places.{placesEach}
 use Rattle.file.specs.Inner.Checked.{EntriesFit, statedPlace, statedIn, statedPlaces, walkOf, DirectoryWalked, EntryWalked, Arrives, SlaveWalked, SlavesWalked}
 use Rattle.file.proofs.Order.{clash}

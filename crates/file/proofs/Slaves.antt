@@ -13,7 +13,7 @@ use Rattle.file.specs.Rules.Cluster.{File, Slave}
 use Rattle.file.specs.Rules.Encode.{directory, contents, slaveSize, slaveBytes, slavesBytes, slavesSize, tableEntry, table}
 use Rattle.file.specs.Rules.Decode.{offsetAt, filesAt, slaveAt, slavesAt}
 use Rattle.file.specs.Rules.Legal.{LegalFile, Rising}
-use Rattle.file.specs.Rules.Grounds.{Walk, andThen, goodTableEntry, walkSlave, walkSlaves}
+use Rattle.file.specs.Rules.FileGrounds.{Walk, andThen, goodTableEntry, walkSlave, walkSlaves}
 use Rattle.file.proofs.Facts.{TableEntryFacts, table-entry-facts, table-entry-yes}
 use Rattle.file.proofs.Arrivals.{tested-arrives, then-arrives, arrives-same, length-filesAt}
 use Rattle.file.proofs.Sizes.{bytesOf-length, directory-length, tableEntry-length, slaveBytes-length}

@@ -9,7 +9,7 @@ use lib.ListN.{length, getD}
 use Rattle.file.specs.Rules.Layout.{widthOf, headerSize, entrySize}
 use Rattle.file.specs.Rules.Cluster.{noSlave}
 use Rattle.file.specs.Rules.Decode.{slaveAt, slavesAt, decodeAt, decode}
-use Rattle.file.specs.Rules.Grounds.{Walk, walkFile, brokenLayout, fileGround}
+use Rattle.file.specs.Rules.FileGrounds.{Walk, walkFile, brokenLayout, fileGround}
 use Rattle.file.specs.Inner.Places.{sleepPlace}
 use Rattle.file.specs.Claims.EditionOne.{SleepBytes}
 use Rattle.file.proofs.Facts.{true-unless}

@@ -16,7 +16,7 @@ use Rattle.file.specs.Rules.Changes.{withSleep, withSlaves}
 use Rattle.file.specs.Inner.Places.{noSlave, slaveOf, sleepPlace, putSleep, SameShape}
 use Rattle.file.proofs.Sizes.{bytesOf-length, tableEntry-length, header-length}
 use Rattle.file.proofs.Shape.{files-refl, shape-set, shape-count, shape-slavesPlace, shape-fileLength}
-use Rattle.file.proofs.Stores.{Stands, after, before, stands-read, stands-store, header-shape}
+use Rattle.file.proofs.Stores.{Replaced, after, before, replaced-read, replaced-store, header-shape}
 use Rattle.file.proofs.Kept.{all-change}
 
 pub shape-putSleep : (c : Cluster) (s b : ℕ) → SameShape (c .slaves) (putSleep c s b .slaves)
@@ -37,10 +37,10 @@ module _ (b : ℕ) where
   slaves-same w place (x ∷ xs) (suc s) = rw (slaves-same w (place + slaveSize w x) xs s)
 
   module _ {w : ℕ} (wide : 2 ≤ w) where
-    entry-stands : (begin place : ℕ) (x : Slave)
-        → Stands (tableEntry w place x) (tableEntry w place (withSleep x b)) begin (begin + w + 1) (x .asleep ∷ []) (b ∷ [])
+    entry-replaced : (begin place : ℕ) (x : Slave)
+        → Replaced (tableEntry w place x) (tableEntry w place (withSleep x b)) begin (begin + w + 1) (x .asleep ∷ []) (b ∷ [])
     unfolding tableEntry withSleep
-    entry-stands begin place x =
+    entry-replaced begin place x =
         after (bytesOf w place)
         (record {
           front = length (x .files) ∷ [];
@@ -50,29 +50,29 @@ module _ (b : ℕ) where
           starts = rw (bytesOf-length w place);
         })
 
-    table-stands : (begin place : ℕ) (ss : List Slave) (s at : ℕ) → s < length ss → at ≡ begin + entrySize w * s + w + 1
-        → Stands (table w place ss) (table w place (set ss s (withSleep (getD ss s noSlave) b))) begin at
+    table-replaced : (begin place : ℕ) (ss : List Slave) (s at : ℕ) → s < length ss → at ≡ begin + entrySize w * s + w + 1
+        → Replaced (table w place ss) (table w place (set ss s (withSleep (getD ss s noSlave) b))) begin at
         (getD ss s noSlave .asleep ∷ []) (b ∷ [])
     unfolding table
-    table-stands begin place [] s at h e = absurd (omega arith)
-    table-stands begin place (x ∷ xs) zero at h e =
+    table-replaced begin place [] s at h e = absurd (omega arith)
+    table-replaced begin place (x ∷ xs) zero at h e =
         let here : at ≡ begin + w + 1 = omega arith in
-        rw (size-slept w x b, here) (before (table w (place + slaveSize w x) xs) (entry-stands begin place x))
-    table-stands begin place (x ∷ xs) (suc s) at h e =
+        rw (size-slept w x b, here) (before (table w (place + slaveSize w x) xs) (entry-replaced begin place x))
+    table-replaced begin place (x ∷ xs) (suc s) at h e =
         let there : at ≡ begin + length (tableEntry w place x) + entrySize w * s + w + 1 = omega (arith, tableEntry-length wide place x) in
-        after (tableEntry w place x) (table-stands (begin + length (tableEntry w place x)) (place + slaveSize w x) xs s at (omega arith) there)
+        after (tableEntry w place x) (table-replaced (begin + length (tableEntry w place x)) (place + slaveSize w x) xs s at (omega arith) there)
 
-    sleep-stands : (c : Cluster) (s : ℕ) → s < length (c .slaves)
-        → Stands (encodeAt w c) (encodeAt w (putSleep c s b)) 0 (sleepPlace w s) (slaveOf c s .asleep ∷ []) (b ∷ [])
+    sleep-replaced : (c : Cluster) (s : ℕ) → s < length (c .slaves)
+        → Replaced (encodeAt w c) (encodeAt w (putSleep c s b)) 0 (sleepPlace w s) (slaveOf c s .asleep ∷ []) (b ∷ [])
     unfolding encodeAt putSleep withSlaves slaveOf
-    sleep-stands c s h =
+    sleep-replaced c s h =
         let ss : List Slave = c .slaves in
         let ts : List Slave = set ss s (withSleep (getD ss s noSlave) b) in
         let same : SameShape ss ts = shape-putSleep c s b in
         let begin : ℕ = slavesPlace w ss in
         let at : sleepPlace w s ≡ 0 + length (header w c) + entrySize w * s + w + 1 = omega (arith, header-length wide c) in
-        let entries : Stands (table w begin ss) (table w begin ts) (0 + length (header w c)) (sleepPlace w s) (getD ss s noSlave .asleep ∷ []) (b ∷ []) =
-        table-stands (0 + length (header w c)) begin ss s (sleepPlace w s) h at
+        let entries : Replaced (table w begin ss) (table w begin ts) (0 + length (header w c)) (sleepPlace w s) (getD ss s noSlave .asleep ∷ []) (b ∷ []) =
+        table-replaced (0 + length (header w c)) begin ss s (sleepPlace w s) h at
         in
         rw (header-shape w c ts same, ← shape-slavesPlace w same, slaves-same w begin ss s)
         (after (header w c) (before (slavesBytes w begin ss) entries))
@@ -81,11 +81,11 @@ module _ (b : ℕ) where
 
 module _ {w : ℕ} (wide : 2 ≤ w) (c : Cluster) (s : ℕ) (h : s < length (c .slaves)) where
   pub read-sleep : getD (encodeAt w c) (sleepPlace w s) 0 ≡ slaveOf c s .asleep
-  read-sleep = ap (λ (k : ℕ). getD (encodeAt w c) k 0) (sym (add-zero (sleepPlace w s))) ∙ stands-read (sleep-stands 0 wide c s h) 0 (omega arith)
+  read-sleep = ap (λ (k : ℕ). getD (encodeAt w c) k 0) (sym (add-zero (sleepPlace w s))) ∙ replaced-read (sleep-replaced 0 wide c s h) 0 (omega arith)
 
   pub store-sleep : (b : ℕ) → set (encodeAt w c) (sleepPlace w s) b ≡ encodeAt w (putSleep c s b)
   store-sleep b =
-      ap (λ (k : ℕ). set (encodeAt w c) k b) (sym (add-zero (sleepPlace w s))) ∙ stands-store (sleep-stands b wide c s h) 0 b (omega arith) refl
+      ap (λ (k : ℕ). set (encodeAt w c) k b) (sym (add-zero (sleepPlace w s))) ∙ replaced-store (sleep-replaced b wide c s h) 0 b (omega arith) refl
 
 -- ---- what it keeps
 

@@ -1,6 +1,6 @@
 -- The places that a walked directory states for a file, said of the files it holds.
 -- Assumes nothing.
-use Prim.Native.Nat.{ℕ, zero, suc, _+_, _-_, _≤_, _<_}
+use Prim.Native.Nat.{ℕ, zero, suc, _+_, _≤_, _<_}
 use mathlib.Core.Path.{_≡_, refl, sym, _∙_}
 use mathlib.Core.List.{List, [], _∷_}
 use mathlib.Core.Bool.{cond}
@@ -13,7 +13,7 @@ use Rattle.file.specs.Rules.Layout.{entrySize}
 use Rattle.file.specs.Rules.Cluster.{File, lastRecord, bytesAmong}
 use Rattle.file.specs.Rules.Encode.{contents}
 use Rattle.file.specs.Rules.Decode.{offsetAt, fileSize, fileAt, filesAt}
-use Rattle.file.specs.Rules.Grounds.{to, walkDirectory}
+use Rattle.file.specs.Rules.FileGrounds.{to, walkDirectory}
 use Rattle.file.specs.Inner.Places.{placeAmong}
 use Rattle.file.specs.Inner.Checked.{states, statedPlace}
 use Rattle.file.proofs.Order.{byCase}

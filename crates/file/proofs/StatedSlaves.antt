@@ -17,7 +17,7 @@ use Rattle.file.specs.Inner.Layout.{neededConfiguration, neededDocumenta
 use Rattle.file.specs.Rules.Cluster.{File, Slave, lastRecord, bytesAmong, bytesIn, physicalName, configuration, documentation}
 use Rattle.file.specs.Rules.Encode.{slaveSize}
 use Rattle.file.specs.Rules.Decode.{fileSize, slaveAt, slavesAt}
-use Rattle.file.specs.Rules.Grounds.{to, walkSlave, walkSlaves, hasNeeded, allHaveNeeded, isAmong}
+use Rattle.file.specs.Rules.FileGrounds.{to, walkSlave, walkSlaves, hasNeeded, allHaveNeeded, isAmong}
 use Rattle.file.specs.Inner.Places.{placeAmong, filePlaceFrom, configurationIndex, documentationIndex}
 use Rattle.file.specs.Inner.Checked.{statedIn, statedPlaces, documentationPlaces, nameAt, NameStands, namesAt}
 use Rattle.file.proofs.Order.{either-false-left, either-false-right}

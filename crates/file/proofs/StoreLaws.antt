@@ -12,7 +12,8 @@ use Rattle.file.specs.Rules.Bytes.{Byte, Bytes}
 use mir.Syntax.{w64}
 use mir.Val.{Fits}
 use Rattle.file.specs.Rules.Layout.{widthIn, recordSize}
-use Rattle.file.specs.Inner.Layout.{logicalNamePlace, epochPlace, flagPlace, pendingNamePlace, pendingPB2Place, pendingPB3Place}
+use Rattle.file.specs.Rules.Layout.{epochPlace, flagPlace, pendingNamePlace, pendingPB2Place, pendingPB3Place}
+use Rattle.file.specs.Inner.Layout.{logicalNamePlace}
 use Rattle.file.specs.Rules.Cluster.{Cluster, fileNumberOf, operationOf, bytesIn, configuration, documentation, newLogicalName, hasRecord}
 use Rattle.file.specs.Rules.Decode.{decode, decodeAt}
 use Rattle.file.specs.Rules.Legal.{LegalPending}

@@ -18,7 +18,7 @@ use Rattle.file.specs.Inner.Numbers.{ByteAt}
 use Rattle.file.specs.Rules.Cluster.{physicalName}
 use Rattle.file.specs.Rules.Decode.{slavesAt, decodeAt}
 use Rattle.file.specs.Rules.Results.{refused, done, resultOf}
-use Rattle.file.specs.Rules.Grounds.{to, walkSlaves, tableEnd, walkFile, brokenLayout, lacksNeeded, equalPhysicalNames, isAmong, hasRepeat, fileGroundAt, fileGround}
+use Rattle.file.specs.Rules.FileGrounds.{to, walkSlaves, tableEnd, walkFile, brokenLayout, lacksNeeded, equalPhysicalNames, isAmong, hasRepeat, fileGroundAt, fileGround}
 use Rattle.file.specs.Rules.Encode.{slavesPlace}
 use Rattle.file.specs.Inner.Places.{filePlaceAt, filePlace, placesEach}
 use Rattle.file.specs.Inner.Accepted.{PlacesOf, WidthOf}
@@ -90,7 +90,9 @@ body-short {w} {f} {n} places k h =
       whole = λ t. clash t refl;
     }
 
-module _ {w : ℕ} {f : List ℕ} {n : ℕ} {good : Bool} {end : ℕ} {places : List ℕ} (k : ByteAt f 3 n) (fits : headerSize w + entrySize w * n ≤ length f) (walked : SlavesWalked w f n good end places) where
+module _
+    {w : ℕ} {f : List ℕ} {n : ℕ} {good : Bool} {end : ℕ} {places : List ℕ}
+    (k : ByteAt f 3 n) (fits : headerSize w + entrySize w * n ≤ length f) (walked : SlavesWalked w f n good end places) where
   whole-is : walkFile w f ≡ walkOf good end
   whole-is =
       let count = k .is in

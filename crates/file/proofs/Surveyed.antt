@@ -8,11 +8,11 @@ use mathlib.Core.Bool.{Bool, true, false, cond}
 use lib.ListN.{length}
 use Rattle.file.specs.Rules.Cluster.{Cluster, configuration, documentation, logicalNames}
 use Rattle.file.specs.Rules.Decode.{decode}
-use Rattle.file.specs.Rules.Grounds.{fileGround, hasRepeat, heldNames, loadGround, loadVerdict}
+use Rattle.file.specs.Rules.FileGrounds.{fileGround, hasRepeat, heldNames, loadGround, loadVerdict}
 use Rattle.file.specs.Rules.Results.{refused, done, resultOf}
 use Rattle.file.specs.Inner.Places.{filePlace, SameShape}
 use Rattle.file.specs.Inner.Accepted.{Becomes, AcceptedFile, slaveCount, Placed}
-use Rattle.file.specs.Inner.Answers.{checkedOf}
+use Rattle.file.specs.Inner.FileAnswers.{checkedOf}
 use Rattle.file.specs.Inner.Surveyed.{Surveyed}
 use Rattle.file.specs.declared.survey.FileAnswer.{FileAnswer}
 use Rattle.file.specs.declared.survey.FileAnswer.the-variants as answers

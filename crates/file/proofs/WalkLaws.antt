@@ -15,7 +15,7 @@ use mir.Val.{Fits}
 use Rattle.file.specs.Inner.Numbers.{ByteAt, NumberAt}
 use Rattle.file.specs.Rules.Layout.{entrySize}
 use Rattle.file.specs.Rules.Decode.{offsetAt, fileSize}
-use Rattle.file.specs.Rules.Grounds.{Walk, broken, to, goodEntry, walkDirectory}
+use Rattle.file.specs.Rules.FileGrounds.{Walk, broken, to, goodEntry, walkDirectory}
 use Rattle.file.specs.Inner.Checked.{EntriesFit, states, statedPlace, nextEntry, fitsSoFar, walkOf, DirectoryWalked}
 use Rattle.file.proofs.Order.{byCase, clash, both-left, both-right, both-true, both-next, both-false-left, both-false-right}
 use Rattle.file.proofs.Facts.{false-unless, EntryFacts, entry-facts, entry-yes}
@@ -115,7 +115,8 @@ held-twice f {low} {low′} {place} {place′} walk a b =
     (λ e. rw e (held-broken f low place))
 
 pub walk-next : (w : ℕ) (f : List ℕ) (d low place k : ℕ) → 0 < k → nextEntry w f d low place ≡ true →
-    walkDirectory w f d low place k ≡ held f (suc (getD f d 0)) (place + fileSize (getD f (d + 1) 0)) (walkDirectory w f (d + entrySize w) (suc (getD f d 0)) (place + fileSize (getD f (d + 1) 0)) (k - 1))
+    let next = place + fileSize (getD f (d + 1) 0) in
+    walkDirectory w f d low place k ≡ held f (suc (getD f d 0)) next (walkDirectory w f (d + entrySize w) (suc (getD f d 0)) next (k - 1))
 unfolding held
 walk-next w f d low place k more e =
     let good = good-next w f d low place e in

@@ -5,7 +5,7 @@ pub mod Layout
 pub mod Numbers
 pub mod Places
 pub mod Accepted
-pub mod Answers
+pub mod FileAnswers
 pub mod Surveyed
 pub mod Checked
 pub mod Marked

@@ -9,5 +9,5 @@ pub mod Changes
 pub mod Legal
 pub mod Order
 pub mod Results
-pub mod Grounds
+pub mod FileGrounds
 pub mod Editions

@@ -4,7 +4,7 @@ ghost use Prim.Native.Nat.{_+_, _*_, _-_, _≤_};
 ghost use lib.ListN.{length};
 ghost use Rattle.file.specs.Rules.Layout.{OffsetWidth};
 ghost use Rattle.file.specs.Rules.Bytes.{part, allZero};
-ghost use Rattle.file.specs.Rules.Grounds.{wrongSize, wrongMark, wrongEdition, wrongLength, wrongPending, wrongHeader};
+ghost use Rattle.file.specs.Rules.FileGrounds.{wrongSize, wrongMark, wrongEdition, wrongLength, wrongPending, wrongHeader};
 ghost use Rattle.file.specs.Inner.Typed.{nameIn};
 ghost use Rattle.file.specs.Inner.Checked.{HeaderFits, HeaderChecked};
 use crate::layout::COUNT_PLACE;

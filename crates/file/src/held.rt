@@ -2,7 +2,7 @@
 ghost use mathlib.Core.Path.{_≡_};
 ghost use Rattle.file.specs.Rules.Cluster.{logicalNames};
 ghost use Rattle.file.specs.Rules.Decode.{decode};
-ghost use Rattle.file.specs.Rules.Grounds.{hasRepeat, heldNames};
+ghost use Rattle.file.specs.Rules.FileGrounds.{hasRepeat, heldNames};
 ghost use Rattle.file.specs.Inner.Accepted.{Placed};
 use crate::readers::logical_name;
 use crate::readers::slave_count;

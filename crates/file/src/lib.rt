@@ -6,6 +6,7 @@ pub mod names;
 pub mod numbers;
 pub mod operations;
 pub mod readers;
+pub mod records;
 pub mod survey;
 pub mod types;
 mod walk;

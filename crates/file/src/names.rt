@@ -3,7 +3,7 @@ ghost use mathlib.Core.Path.{_≡_};
 ghost use mathlib.Core.Bool.{false};
 ghost use Prim.Native.Nat.{_≤_, _<_, _/_};
 ghost use lib.ListN.{length, getD, drop};
-ghost use Rattle.file.specs.Rules.Grounds.{isAmong, hasRepeat};
+ghost use Rattle.file.specs.Rules.FileGrounds.{isAmong, hasRepeat};
 ghost use Rattle.file.specs.Inner.Places.{placesEach, documentationIndex};
 ghost use Rattle.file.specs.Inner.Checked.{nameAt, namesAt, NamesStand, RemainderAt, repeatsName};
 use crate::layout::PHYSICAL_NAME_PLACE;

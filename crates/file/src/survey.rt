@@ -1,10 +1,10 @@
 // The checker: grounds 1 to 8, with where each slave keeps 0x08 and 0x3D; and 22, on loading.
 ghost use mathlib.Core.Path.{_≡_};
 ghost use Rattle.file.specs.Rules.Layout.{OffsetWidth};
-ghost use Rattle.file.specs.Rules.Grounds.{isAmong, loadVerdict};
+ghost use Rattle.file.specs.Rules.FileGrounds.{isAmong, loadVerdict};
 ghost use Rattle.file.specs.Inner.Checked.{GoodHeader, BodyWalked, PlacesFit, WholeWalk, slavesGround};
 ghost use Rattle.file.specs.Inner.Surveyed.{Surveyed};
-ghost use Rattle.file.specs.Inner.Answers.{checkedOf};
+ghost use Rattle.file.specs.Inner.FileAnswers.{checkedOf};
 use crate::header::header_ground;
 use crate::held::is_held_twice;
 use crate::layout::COUNT_PLACE;

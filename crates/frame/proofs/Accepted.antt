@@ -9,7 +9,7 @@ use Rattle.file.specs.Rules.Cluster.{operationOf}
 use Rattle.file.specs.Rules.Results.{done}
 use Rattle.file.proofs.Order.{first-none}
 use Rattle.file.proofs.Results.{no-ground, same-value}
-use Rattle.frame.specs.Rules.Grounds.{shortFrameBuffer, noOperation, broadcastRead, noFileNumber}
+use Rattle.frame.specs.Rules.FrameGrounds.{shortFrameBuffer, noOperation, broadcastRead, noFileNumber}
 use Rattle.frame.specs.Rules.Reading.{parts, partsOf, readGround, readAddress}
 use Rattle.frame.specs.Rules.Writing.{writeFrame, writeGround, writeAddress}
 use Rattle.frame.proofs.Reading.{Formed}

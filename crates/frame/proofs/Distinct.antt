@@ -10,7 +10,7 @@ use Rattle.frame.specs.declared.types.FrameWriting.the-variants as writi
 use Rattle.frame.specs.Rules.Fireworks.{Round}
 use Rattle.file.specs.Rules.Results.{Result, refused, done}
 use Rattle.frame.specs.Rules.Reading.{Parts}
-use Rattle.frame.specs.Inner.Answers.{fireworkRound, readingOf, writingOf}
+use Rattle.frame.specs.Inner.FrameAnswers.{fireworkRound, readingOf, writingOf}
 
 abbrev roundFirework : Round → Firework
 roundFirework (Round.multipartner r) = fireworks.Multipartner r

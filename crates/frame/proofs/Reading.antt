@@ -11,7 +11,7 @@ use Rattle.file.specs.Rules.Cluster.{fileNumberOf, operationOf}
 use Rattle.frame.specs.Rules.Fireworks.{addressFirework}
 use Rattle.frame.specs.Rules.Check.{addressCheck}
 use Rattle.frame.specs.Rules.Frames.{frameSize, between}
-use Rattle.frame.specs.Rules.Grounds.{noAddress, wrongFrameLength, wrongCheck, noOperation, broadcastRead}
+use Rattle.frame.specs.Rules.FrameGrounds.{noAddress, wrongFrameLength, wrongCheck, noOperation, broadcastRead}
 use Rattle.file.specs.Rules.Results.{refused, done, resultOf}
 use Rattle.frame.specs.Rules.Reading.{parts, partsOf, readGround, readAddress}
 use Rattle.frame.proofs.Tests.{address, right-length, right-check}

@@ -11,7 +11,7 @@ use Rattle.file.specs.Rules.Order.{firstOf, both, either}
 use Rattle.file.specs.Rules.Results.{done, resultOf}
 use Rattle.frame.specs.Rules.Check.{exclusiveOr, checkOf, addressCheck, dataCheck}
 use Rattle.frame.specs.Rules.Frames.{frameSize, frameOf, addressBytes, addressFrame, dataFrame}
-use Rattle.frame.specs.Rules.Grounds.{shortFrameBuffer, noAddress, wrongFrameLength, wrongCheck, noOperation, broadcastRead, noFileNumber}
+use Rattle.frame.specs.Rules.FrameGrounds.{shortFrameBuffer, noAddress, wrongFrameLength, wrongCheck, noOperation, broadcastRead, noFileNumber}
 use Rattle.frame.specs.Rules.Reading.{Parts, partsOf, readGround, readAddress}
 use Rattle.frame.specs.Rules.Writing.{writeFrame, writeGround, dataGround, writeAddress, writeData}
 use Rattle.frame.specs.Claims.RoundTrip.{WrittenReads, ReadWrites}

@@ -11,7 +11,7 @@ use borrow.Author.Tests.{lt-ltb, le-ltb, eq-eqb, ne-eqb, eqb-true, leb-false, lt
 use Rattle.file.proofs.Order.{either-left, either-next, either-false, either-false-right}
 use Rattle.frame.specs.Rules.Frames.{frameSize, between}
 use Rattle.frame.specs.Rules.Fireworks.{addressFirework}
-use Rattle.frame.specs.Rules.Grounds.{shortFrameBuffer, noAddress, wrongFrameLength, wrongCheck, noOperation, noFileNumber}
+use Rattle.frame.specs.Rules.FrameGrounds.{shortFrameBuffer, noAddress, wrongFrameLength, wrongCheck, noOperation, noFileNumber}
 
 -- a test of equality that is negated
 pub differs : {a b : ℕ} → (a ≡ b → ⊥) → not (eqb a b) ≡ true

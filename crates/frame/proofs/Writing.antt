@@ -14,7 +14,7 @@ use Rattle.file.specs.Rules.Cluster.{pb2Of}
 use Rattle.frame.specs.Rules.Fireworks.{addressFirework, dataFirework}
 use Rattle.frame.specs.Rules.Check.{addressCheck, dataCheck}
 use Rattle.frame.specs.Rules.Frames.{frameSize, frameOf, addressBytes, addressFrame, dataFrame}
-use Rattle.frame.specs.Rules.Grounds.{shortFrameBuffer, noOperation, broadcastRead, noFileNumber}
+use Rattle.frame.specs.Rules.FrameGrounds.{shortFrameBuffer, noOperation, broadcastRead, noFileNumber}
 use Rattle.file.specs.Rules.Results.{refused, done, resultOf}
 use Rattle.frame.proofs.Tests.{operation-low}
 use Rattle.frame.specs.Rules.Writing.{writeFrame, writeGround, dataGround, writeAddress, writeData}

@@ -13,7 +13,7 @@ use Rattle.file.specs.Rules.Bytes.{allEmpty, allNext, Byte, Bytes}
 use Rattle.frame.specs.Rules.Fireworks.{addressFirework}
 use Rattle.frame.specs.Rules.Check.{exclusiveOr, checkOf, addressCheck, dataCheck}
 use Rattle.frame.specs.Rules.Frames.{frameSize, frameOf, between, addressBytes, addressFrame, dataFrame}
-use Rattle.frame.specs.Rules.Grounds.{noOperation, broadcastRead}
+use Rattle.frame.specs.Rules.FrameGrounds.{noOperation, broadcastRead}
 use Rattle.frame.specs.Rules.Reading.{parts, readAddress}
 use Rattle.file.specs.Rules.Results.{done}
 use Rattle.frame.specs.Rules.Writing.{writeAddress, writeData}

@@ -2,6 +2,6 @@
 pub mod Fireworks
 pub mod Check
 pub mod Frames
-pub mod Grounds
+pub mod FrameGrounds
 pub mod Reading
 pub mod Writing

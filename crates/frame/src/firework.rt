@@ -1,7 +1,7 @@
 // Which round a byte opens.
 ghost use mathlib.Core.Path.{_≡_};
 ghost use Rattle.frame.specs.Rules.Fireworks.{roundOf};
-ghost use Rattle.frame.specs.Inner.Answers.{fireworkRound};
+ghost use Rattle.frame.specs.Inner.FrameAnswers.{fireworkRound};
 ghost use Rattle.frame.specs.Inner.FireworkBits.{highBits};
 
 pub const MSA: u8 = 0x55;

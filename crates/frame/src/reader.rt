@@ -20,9 +20,9 @@ ghost use mathlib.Core.Path.{_≡_};
 ghost use lib.ListN.{length};
 ghost use Rattle.frame.specs.Rules.Check.{addressCheck};
 ghost use Rattle.frame.specs.Rules.Frames.{frameSize};
-ghost use Rattle.frame.specs.Rules.Grounds.{noAddress, wrongCheck};
+ghost use Rattle.frame.specs.Rules.FrameGrounds.{noAddress, wrongCheck};
 ghost use Rattle.frame.specs.Rules.Reading.{readAddress};
-ghost use Rattle.frame.specs.Inner.Answers.{readingOf};
+ghost use Rattle.frame.specs.Inner.FrameAnswers.{readingOf};
 
 fn is_no_address(frame: &[u8]) -> bool
     ensures { λ r. ⌜ r ≡ noAddress (now (frame .entry)) ⌝ }

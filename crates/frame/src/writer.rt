@@ -26,7 +26,7 @@ ghost use lib.ListN.{length, drop};
 ghost use Rattle.frame.specs.Rules.Frames.{frameSize, frameOf};
 ghost use Rattle.frame.specs.Rules.Writing.{writeAddress, writeData};
 ghost use Rattle.file.specs.Inner.Typed.{fileIn, recordIn, nameIn, operationIn};
-ghost use Rattle.frame.specs.Inner.Answers.{writingOf};
+ghost use Rattle.frame.specs.Inner.FrameAnswers.{writingOf};
 
 // "MSD is 6 bytes (0x49, four data bytes, check)": at the same places.
 fn put_frame(buf: &mut [u8], firework: u8, b0: u8, b1: u8, b2: u8, b3: u8, check: u8)

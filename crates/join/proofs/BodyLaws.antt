@@ -52,19 +52,19 @@ listed-sleep (sameSlave same rest) = sameSleep refl (listed-sleep rest)
 
 -- ---- both files, one behind the other
 
-module _ (ss us : List Slave) {v own m : ℕ} {old : List ℕ} (fits : JoinFits v old own ss us) (second : m ≡ length us) where
-  behind-is : own + 2 * v * m ≡ slavesPlace v (ss ++ us) + slavesSize v ss
+module _ (ss us : List Slave) {v alone m : ℕ} {old : List ℕ} (fits : JoinFits v old alone ss us) (second : m ≡ length us) where
+  behind-is : alone + 2 * v * m ≡ slavesPlace v (ss ++ us) + slavesSize v ss
   unfolding fileLength slavesPlace
   behind-is = rw (second, length-append ss us) (omega (arith, fits .first))
 
-  whole-is : fileLength v (ss ++ us) ≡ own + 2 * v * m + slavesSize v us
+  whole-is : fileLength v (ss ++ us) ≡ alone + 2 * v * m + slavesSize v us
   unfolding fileLength
   whole-is = omega (arith, behind-is, slavesSize-append v ss us)
 
-  pub second-fits : Fits w64 (own + 2 * v * m)
+  pub second-fits : Fits w64 (alone + 2 * v * m)
   second-fits = record { fits = omega (arith, whole-is, fits .short, fits .width .most) }
 
-  pub second-slaves : {mid bs : List ℕ} {at : ℕ} → Put old at bs mid → SlavesFit v mid (own + 2 * v * m) us
+  pub second-slaves : {mid bs : List ℕ} {at : ℕ} → Put old at bs mid → SlavesFit v mid (alone + 2 * v * m) us
   second-slaves p =
       record { width = fits .width; room = omega (arith, whole-is, fits .room, put-room p); short = omega (arith, whole-is, fits .short) }
 
@@ -90,7 +90,7 @@ module _ (ss us : List Slave) {v own m : ℕ} {old : List ℕ} (fits : JoinFits 
         }
 
     module _ {mid : List ℕ} (p : BodyDone false v (8 + 4 * v) (8 + 4 * v + 2 * v * n + 2 * v * m) ss old mid) where
-      pub second-body : BodyFits v mid (8 + 4 * v + 2 * v * n) (own + 2 * v * m) us
+      pub second-body : BodyFits v mid (8 + 4 * v + 2 * v * n) (alone + 2 * v * m) us
       second-body =
           record {
             before = rw (sym second) (omega (arith, place-is, behind-is));
@@ -102,12 +102,12 @@ module _ (ss us : List Slave) {v own m : ℕ} {old : List ℕ} (fits : JoinFits 
                 };
           }
 
-      pub both-put : {new : List ℕ} → BodyDone false v (8 + 4 * v + 2 * v * n) (own + 2 * v * m) us mid new → Put old (8 + 4 * v) (joinedBody v (ss ++ us)) new
+      pub both-put : {new : List ℕ} → BodyDone false v (8 + 4 * v + 2 * v * n) (alone + 2 * v * m) us mid new → Put old (8 + 4 * v) (joinedBody v (ss ++ us)) new
       unfolding joinedBody joinedTable joinedSlaves
       both-put {new} q =
           let two = fits .width .least in
           let at : ℕ = 8 + 4 * v + 2 * v * n + 2 * v * m in
-          let to : ℕ = own + 2 * v * m in
+          let to : ℕ = alone + 2 * v * m in
           let place : ℕ = slavesPlace v (ss ++ us) in
           let ones : List ℕ = table v at (listed false ss) in
           let others : List ℕ = table v to (listed false us) in
@@ -132,13 +132,13 @@ module _ (ss us : List Slave) {v own m : ℕ} {old : List ℕ} (fits : JoinFits 
 
   -- the second's with other bytes
   pub body-turned : {ts : List Slave} → SameShape us ts → {mid new : List ℕ} → Put old (8 + 4 * v) (joinedBody v (ss ++ us)) mid
-      → Turned v (own + 2 * v * m) us ts mid new → Put old (8 + 4 * v) (joinedBody v (ss ++ ts)) new
+      → Turned v (alone + 2 * v * m) us ts mid new → Put old (8 + 4 * v) (joinedBody v (ss ++ ts)) new
   unfolding joinedBody joinedTable joinedSlaves slavesPlace
   body-turned {ts} same {mid} {new} p t =
       let two = fits .width .least in
       let shape : SameShape (ss ++ us) (ss ++ ts) = shape-behind ss same in
       let place : ℕ = slavesPlace v (ss ++ us) in
-      let to : ℕ = own + 2 * v * m in
+      let to : ℕ = alone + 2 * v * m in
       let entries : List ℕ = table v place (listed false (ss ++ us)) in
       let bodies : List ℕ = slavesBytes v place ss in
       let apart : (xs : List Slave) → entries ++ slavesBytes v place (ss ++ xs) ≡ (entries ++ bodies) ++ slavesBytes v to xs =
@@ -163,6 +163,6 @@ pub own-width : {f : List ℕ} {v w : ℕ} → WidthOf f w → v ≡ w → Width
 own-width {f} o same = subst (WidthOf f) (sym same) o
 
 -- the room stays
-pub fits-kept : {v own : ℕ} {ss us : List Slave} {old new bs : List ℕ} {at : ℕ} → JoinFits v old own ss us → Put old at bs new → JoinFits v new own ss us
+pub fits-kept : {v alone : ℕ} {ss us : List Slave} {old new bs : List ℕ} {at : ℕ} → JoinFits v old alone ss us → Put old at bs new → JoinFits v new alone ss us
 fits-kept fits p =
     record { width = fits .width; first = fits .first; room = omega (arith, fits .room, put-room p); short = fits .short; few = fits .few }

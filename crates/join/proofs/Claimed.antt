@@ -1,10 +1,10 @@
 -- Each claim of specs/Claims, and the theorem that has it as its type.
-use Rattle.join.specs.Claims.Grounds.{JoinedLength, GroundsInOrder, UnknownEdition}
+use Rattle.join.specs.Claims.JoinGrounds.{JoinedLength, GroundsInOrder, UnknownEdition}
 use Rattle.join.specs.Claims.Result.{WrittenExactly, CallJoins, NamesApart, JoinLoads}
-use Rattle.join.specs.Claims.Editions.{SecondInEither, JoinedForms}
-use Rattle.join.proofs.Grounds.{grounds-in-order, join-edition}
+use Rattle.join.specs.Claims.JoinEditions.{SecondInEither, JoinedForms}
+use Rattle.join.proofs.JoinGrounds.{grounds-in-order, join-edition}
 use Rattle.join.proofs.Result.{written-exactly, call-joins, names-apart, join-loads}
-use Rattle.join.proofs.Editions.{lengths-joined, second-in-either, joined-forms}
+use Rattle.join.proofs.JoinEditions.{lengths-joined, second-in-either, joined-forms}
 
 pub held-joined-length : JoinedLength
 held-joined-length = lengths-joined

@@ -5,19 +5,12 @@ use Prim.Native.Nat.{ℕ}
 use mathlib.Core.Path.{_≡_, refl}
 use mathlib.Core.List.{List, [], _∷_, _++_}
 use lib.ListN.{replicate, set}
-use Rattle.file.specs.Rules.Layout.{widthOf}
-use Rattle.file.specs.Rules.Order.{firstOf, both, either}
-use Rattle.file.specs.Rules.Bytes.{numberOf, bytesOf, part, allZero}
-use Rattle.file.specs.Rules.Results.{refused, done, writtenIn}
-use Rattle.file.specs.Rules.Cluster.{bytesAmong, bytesIn, lastRecord, physicalName, logicalName, logicalNames, noOperation, broadcastRead}
-use Rattle.file.specs.Rules.Encode.{directoryEntry, directory, contents, slaveSize, slaveBytes, slavesBytes, slavesSize, tableEntry, table, slavesPlace, fileLength, header, encodeAt, encode}
-use Rattle.file.specs.Rules.Decode.{offsetAt, fileSize, fileAt, filesAt, slaveAt, slavesAt, decodeAt, decode}
+use Rattle.file.specs.Rules.Results.{refused, done}
+use Rattle.file.specs.Rules.Cluster.{logicalName, logicalNames, noOperation, broadcastRead}
+use Rattle.file.specs.Rules.Decode.{decode}
 use Rattle.file.specs.Rules.Changes.{putAmong, putInSlave, withSleep}
-use Rattle.file.specs.Rules.Editions.{exceeds}
-use Rattle.file.specs.Rules.Grounds.{isAmong, hasRepeat, fileGround, fileGrounds, fileGroundAt, fileGroundsAt, wrongSize, wrongMark, wrongEdition}
-use Rattle.file.specs.Rules.Grounds.{wrongLength, wrongHeader, wrongPending, brokenLayout, walkFile, tableEnd, walkSlaves, andThen, walkSlave, goodTableEntry}
-use Rattle.file.specs.Rules.Grounds.{walkDirectory, goodEntry, endsAt, lacksNeeded, allHaveNeeded, hasNeeded, equalPhysicalNames, heldNames}
-use Rattle.file.specs.Rules.Grounds.{equalLogicalNames, loadGround}
+use Rattle.file.specs.Rules.FileGrounds.{heldNames, equalLogicalNames, loadGround}
+use Rattle.convert.proofs.Examples.{examples as convertExamples}
 use Rattle.join.specs.Rules.Joined.{turned, slavesJoined, awake, joined, joinedFile, anyAmong, sharesName}
 use Rattle.join.specs.Rules.Join.{joinGrounds, joinGround, joinOn}
 
@@ -143,8 +136,10 @@ pub record Loading : Type 0 where
   pub turnedLoads : loadGround (joinedFile (one nothing 0 0x04 0x10) (two 0x04 0x11 0x04 0x12)) ≡ 0
   pub keptRefused : loadGround (joinedFile (one nothing 0 0x04 0x10) (two 0x05 0x11 0x05 0x12)) ≡ 22
 
-pub joins : Joins
-unfolding joinOn joinGround joinGrounds joinedFile joined slavesJoined turned awake anyAmong sharesName putInSlave putAmong withSleep logicalNames logicalName exceeds writtenIn encode encodeAt header fileLength slavesPlace table tableEntry slavesSize slavesBytes slaveBytes slaveSize contents directory directoryEntry bytesOf fileGround fileGrounds fileGroundAt fileGroundsAt firstOf both either wrongSize wrongMark wrongEdition wrongLength wrongHeader wrongPending noOperation broadcastRead allZero part numberOf offsetAt brokenLayout walkFile tableEnd walkSlaves andThen walkSlave goodTableEntry walkDirectory goodEntry fileSize endsAt lacksNeeded allHaveNeeded hasNeeded lastRecord widthOf decode decodeAt slavesAt slaveAt filesAt fileAt equalPhysicalNames hasRepeat isAmong physicalName bytesIn bytesAmong
+-- `unfolding joins` below unfolds what stands here
+unfoldable pub joins : Joins
+unfolding convertExamples joinOn joinGround joinGrounds joinedFile joined slavesJoined turned awake anyAmong sharesName putInSlave putAmong withSleep
+    logicalNames logicalName noOperation broadcastRead
 joins =
     record {
       kept = refl;
@@ -169,7 +164,7 @@ joins =
     }
 
 pub refusals : Refusals
-unfolding joinOn joinGround joinGrounds joinedFile joined slavesJoined turned awake anyAmong sharesName putInSlave putAmong withSleep logicalNames logicalName exceeds writtenIn encode encodeAt header fileLength slavesPlace table tableEntry slavesSize slavesBytes slaveBytes slaveSize contents directory directoryEntry bytesOf fileGround fileGrounds fileGroundAt fileGroundsAt firstOf both either wrongSize wrongMark wrongEdition wrongLength wrongHeader wrongPending noOperation broadcastRead allZero part numberOf offsetAt brokenLayout walkFile tableEnd walkSlaves andThen walkSlave goodTableEntry walkDirectory goodEntry fileSize endsAt lacksNeeded allHaveNeeded hasNeeded lastRecord widthOf decode decodeAt slavesAt slaveAt filesAt fileAt equalPhysicalNames hasRepeat isAmong physicalName bytesIn bytesAmong
+unfolding joins
 refusals =
     record {
       sameName = refl;
@@ -187,6 +182,6 @@ refusals =
       unknownSecond = refl;
     }
 
-pub loading : Loading
-unfolding joinOn joinGround joinGrounds joinedFile joined slavesJoined turned awake anyAmong sharesName putInSlave putAmong withSleep logicalNames logicalName exceeds writtenIn encode encodeAt header fileLength slavesPlace table tableEntry slavesSize slavesBytes slaveBytes slaveSize contents directory directoryEntry bytesOf fileGround fileGrounds fileGroundAt fileGroundsAt firstOf both either wrongSize wrongMark wrongEdition wrongLength wrongHeader wrongPending noOperation broadcastRead allZero part numberOf offsetAt brokenLayout walkFile tableEnd walkSlaves andThen walkSlave goodTableEntry walkDirectory goodEntry fileSize endsAt lacksNeeded allHaveNeeded hasNeeded lastRecord widthOf decode decodeAt slavesAt slaveAt filesAt fileAt equalPhysicalNames hasRepeat isAmong physicalName bytesIn bytesAmong heldNames equalLogicalNames loadGround
+unfoldable pub loading : Loading
+unfolding joins heldNames equalLogicalNames loadGround
 loading = record { loads = refl; secondRefused = refl; turnedLoads = refl; keptRefused = refl }

@@ -8,7 +8,7 @@ use lib.Dec.{eqb}
 use Rattle.file.specs.Rules.Bytes.{All, allEmpty, allNext}
 use Rattle.file.specs.Rules.Cluster.{unnamed}
 use Rattle.file.specs.Rules.Legal.{Distinct}
-use Rattle.file.specs.Rules.Grounds.{isAmong, hasRepeat, heldNames}
+use Rattle.file.specs.Rules.FileGrounds.{isAmong, hasRepeat, heldNames}
 use Rattle.file.proofs.Order.{byCase, either-false, either-false-left, either-false-right}
 use Rattle.file.proofs.Bytes.{all-first, all-others}
 use Rattle.file.proofs.AcceptedFacts.{no-repeat, distinct-no-repeat}

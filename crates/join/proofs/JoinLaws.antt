@@ -20,7 +20,7 @@ use Rattle.file.specs.Rules.Legal.{LegalFile, LegalSlave}
 use Rattle.file.specs.Rules.Changes.{withSleep}
 use Rattle.file.specs.Rules.Editions.{exceeds}
 use Rattle.file.specs.Inner.Accepted.{WidthOf, slaveCount, Placed}
-use Rattle.file.specs.Inner.Answers.{checkedOf}
+use Rattle.file.specs.Inner.FileAnswers.{checkedOf}
 use Rattle.file.specs.Inner.Surveyed.{Surveyed}
 use Rattle.file.specs.declared.survey.FileAnswer.{FileAnswer}
 use Rattle.file.specs.declared.survey.FileAnswer.the-variants as answers
@@ -129,11 +129,11 @@ file-length : (f g : List ℕ) {v : ℕ} → v ≡ widthIn (decode f .edition) �
 file-length f g {v} is two =
     ap length (sym (joined-file f g is)) ∙ encodeAt-length two (joined (decode f) (decode g)) ∙ ap (λ (k : ℕ). fileLength k (joined (decode f) (decode g) .slaves)) is
 
-module _ {f g places others out : List ℕ} (p : Placed f places) (q : Placed g others) {own size : ℕ}
-    (room : JoinedFits (widthIn (decode f .edition)) out own size (decode f .slaves) (decode g .slaves)) {v n m : ℕ} (w : WidthOf f v)
+module _ {f g places others out : List ℕ} (p : Placed f places) (q : Placed g others) {alone size : ℕ}
+    (room : JoinedFits (widthIn (decode f .edition)) out alone size (decode f .slaves) (decode g .slaves)) {v n m : ℕ} (w : WidthOf f v)
     (first : n ≡ slaveCount f) (second : m ≡ slaveCount g) where
-  here : JoinedFits v out own size (decode f .slaves) (decode g .slaves)
-  here = subst (λ (k : ℕ). JoinedFits k out own size (decode f .slaves) (decode g .slaves)) (sym (w .is)) room
+  here : JoinedFits v out alone size (decode f .slaves) (decode g .slaves)
+  here = subst (λ (k : ℕ). JoinedFits k out alone size (decode f .slaves) (decode g .slaves)) (sym (w .is)) room
 
   pub form-header : HeaderFits v out (n + m) size
   unfolding fileLength slavesPlace
@@ -145,7 +145,7 @@ module _ {f g places others out : List ℕ} (p : Placed f places) (q : Placed g 
       }
 
   module _ {mid : List ℕ} (head : Put out 0 (joinedHeader v (n + m) size) mid) where
-    pub form-body : JoinFits v mid own (decode f .slaves) (decode g .slaves)
+    pub form-body : JoinFits v mid alone (decode f .slaves) (decode g .slaves)
     form-body = fits-kept (here .fits) head
 
     pub form-written : {held : List Bool} {new : List ℕ} → MarksOf 256 held (logicalNames (decode f))
@@ -196,33 +196,33 @@ module _ {f g places others : List ℕ} (p : Placed f places) (q : Placed g othe
       sym (join-refused f g out (names-decide f g out (p .file .accepted) (q .file .accepted) (sym is ∙ shared)) (λ z. omega arith))
 
   -- two files that share none, by the lengths of their forms in the first's edition
-  module _ {v own more : ℕ} (w : WidthOf f v) (long : own ≡ fileLength v (decode f .slaves)) (longer : more ≡ fileLength v (decode g .slaves)) where
-    pub sum-fits : Fits w64 (own + more)
+  module _ {v alone more : ℕ} (w : WidthOf f v) (long : alone ≡ fileLength v (decode f .slaves)) (longer : more ≡ fileLength v (decode g .slaves)) where
+    pub sum-fits : Fits w64 (alone + more)
     sum-fits = record { fits = omega (arith, long, longer, form-most (p .file) (w .width), form-most (q .file) (w .width)) }
 
-    pub header-below : 8 + 4 * v ≤ own + more
+    pub header-below : 8 + 4 * v ≤ alone + more
     unfolding fileLength slavesPlace
     header-below = omega (arith, long)
 
-    size-plain : own + more - (8 + 4 * v) ≡ fileLength v (decode f .slaves ++ decode g .slaves)
+    size-plain : alone + more - (8 + 4 * v) ≡ fileLength v (decode f .slaves ++ decode g .slaves)
     unfolding fileLength slavesPlace
     size-plain = omega (arith, long, longer, fileLength-append v (decode f .slaves) (decode g .slaves))
 
-    size-is : own + more - (8 + 4 * v) ≡ fileLength v (joined (decode f) (decode g) .slaves)
+    size-is : alone + more - (8 + 4 * v) ≡ fileLength v (joined (decode f) (decode g) .slaves)
     size-is = size-plain ∙ sym (joined-length (decode f) (decode g) v)
 
     module _ {n m : ℕ} (first : n ≡ slaveCount f) (second : m ≡ slaveCount g) where
       count-is : n + m ≡ length (joined (decode f) (decode g) .slaves)
       count-is = omega (arith, first, second, joined-count (decode f) (decode g))
 
-      module _ (apart : sharesName (decode f) (decode g) ≡ false) {over : Bool} (test : over ≡ isOver v (n + m) (own + more - (8 + 4 * v))) where
+      module _ (apart : sharesName (decode f) (decode g) ≡ false) {over : Bool} (test : over ≡ isOver v (n + m) (alone + more - (8 + 4 * v))) where
         over-here : {b : Bool} → over ≡ b → exceeds v (joined (decode f) (decode g) .slaves) ≡ b
         over-here b = sym (over-slaves v (joined (decode f) (decode g) .slaves) count-is size-is) ∙ sym test ∙ b
 
         over-is : {b : Bool} → over ≡ b → exceeds (width f g out) (slaves f g out) ≡ b
         over-is b = ap (λ (k : ℕ). exceeds k (slaves f g out)) (sym (w .is)) ∙ over-here b
 
-        length-is : own + more - (8 + 4 * v) ≡ fileLength (width f g out) (slaves f g out)
+        length-is : alone + more - (8 + 4 * v) ≡ fileLength (width f g out) (slaves f g out)
         length-is = size-is ∙ ap (λ (k : ℕ). fileLength k (slaves f g out)) (w .is)
 
         large : tooLarge f g out ≡ true → (refused 30, out) ≡ joinOn f g out
@@ -231,15 +231,15 @@ module _ {f g places others : List ℕ} (p : Placed f places) (q : Placed g othe
         pub call-over : over ≡ true → (refused 30, out) ≡ joinOn f g out
         call-over holds = large (either-left (ltb (length out) (fileLength (width f g out) (slaves f g out))) (over-is holds))
 
-        pub call-short : length out < own + more - (8 + 4 * v) → (refused 30, out) ≡ joinOn f g out
+        pub call-short : length out < alone + more - (8 + 4 * v) → (refused 30, out) ≡ joinOn f g out
         call-short short =
             large (either-right (exceeds (width f g out) (slaves f g out)) (lt-ltb (length out) (fileLength (width f g out) (slaves f g out)) (omega (arith, length-is))))
 
-        module _ (no′ : over ≡ false) (room : own + more - (8 + 4 * v) ≤ length out) where
-          pub call-fits : JoinedFits (widthIn (decode f .edition)) out own (own + more - (8 + 4 * v)) (decode f .slaves) (decode g .slaves)
+        module _ (no′ : over ≡ false) (room : alone + more - (8 + 4 * v) ≤ length out) where
+          pub call-fits : JoinedFits (widthIn (decode f .edition)) out alone (alone + more - (8 + 4 * v)) (decode f .slaves) (decode g .slaves)
           call-fits =
               let inside = within (over-here no′) in
-              let fits : JoinFits v out own (decode f .slaves) (decode g .slaves) =
+              let fits : JoinFits v out alone (decode f .slaves) (decode g .slaves) =
               record {
                 width = w .width;
                 first = long;
@@ -248,11 +248,11 @@ module _ {f g places others : List ℕ} (p : Placed f places) (q : Placed g othe
                 few = omega (arith, inside .few, joined-count (decode f) (decode g), length-append (decode f .slaves) (decode g .slaves));
               }
               in
-              subst (λ (k : ℕ). JoinedFits k out own (own + more - (8 + 4 * v)) (decode f .slaves) (decode g .slaves)) (w .is) (record { fits = fits; whole = size-plain })
+              subst (λ (k : ℕ). JoinedFits k out alone (alone + more - (8 + 4 * v)) (decode f .slaves) (decode g .slaves)) (w .is) (record { fits = fits; whole = size-plain })
 
-          pub call-written : {new : List ℕ} → new ≡ writtenIn out (joinedFile f g) → (done (own + more - (8 + 4 * v)), new) ≡ joinOn f g out
+          pub call-written : {new : List ℕ} → new ≡ writtenIn out (joinedFile f g) → (done (alone + more - (8 + 4 * v)), new) ≡ joinOn f g out
           call-written {new} left =
-              let bytes : own + more - (8 + 4 * v) ≡ length (joinedFile f g) = length-is ∙ sym (file-length f g (w .is) (w .width .least)) in
+              let bytes : alone + more - (8 + 4 * v) ≡ length (joinedFile f g) = length-is ∙ sym (file-length f g (w .is) (w .width .least)) in
               rw (bytes, left)
               (sym
               (join-written f g out

@@ -12,7 +12,7 @@ use Rattle.file.specs.Rules.Layout.{recordSize}
 use Rattle.file.specs.Rules.Cluster.{Slave, Cluster, noSlave, bytesIn, configuration, unnamed, physicalName, logicalName, logicalNames}
 use Rattle.file.specs.Rules.Changes.{putInSlave, withSleep}
 use Rattle.file.specs.Rules.Legal.{LegalSlave}
-use Rattle.file.specs.Rules.Grounds.{isAmong}
+use Rattle.file.specs.Rules.FileGrounds.{isAmong}
 use Rattle.file.specs.Inner.Places.{SameFiles, SameShape, noSlaves, sameSlave}
 use Rattle.file.proofs.Order.{byCase}
 use Rattle.file.proofs.Shape.{files-refl, slave-put}

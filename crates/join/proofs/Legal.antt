@@ -13,7 +13,7 @@ use Rattle.file.specs.Rules.Cluster.{Slave, Cluster, bytesIn, configuration, un
 use Rattle.file.specs.Rules.Changes.{withSleep}
 use Rattle.file.specs.Rules.Legal.{LegalSlave, LegalPending, LegalAt, Legal, Distinct}
 use Rattle.file.specs.Rules.Editions.{exceeds}
-use Rattle.file.specs.Rules.Grounds.{isAmong}
+use Rattle.file.specs.Rules.FileGrounds.{isAmong}
 use Rattle.file.proofs.Order.{byCase, either-false, either-false-left, either-false-right}
 use Rattle.file.proofs.Bytes.{all-append}
 use Rattle.file.proofs.Kept.{slave-legal}

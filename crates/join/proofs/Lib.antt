@@ -15,10 +15,10 @@ pub mod HeldOnce
 -- the call, by its answers
 pub mod Order
 pub mod JoinLaws
-pub mod Grounds
+pub mod JoinGrounds
 pub mod Result
 -- joins of converted files
-pub mod Editions
+pub mod JoinEditions
 -- what the claims ask can be met
 pub mod Witnesses
 -- each claim with its theorem

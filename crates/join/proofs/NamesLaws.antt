@@ -8,7 +8,7 @@ use mathlib.Core.Bool.{Bool, true, false}
 use lib.ListN.{length, getD, take, drop, length-map}
 use lib.Seq.{ext-getD, getD-take, length-take-le, drop-cons}
 use Rattle.file.specs.Rules.Bytes.{All, numberOf}
-use Rattle.file.specs.Rules.Grounds.{isAmong}
+use Rattle.file.specs.Rules.FileGrounds.{isAmong}
 use Rattle.file.specs.Rules.Cluster.{Slave, Cluster, documentation, physicalName}
 use Rattle.file.specs.Rules.Decode.{decode}
 use Rattle.file.specs.Inner.Places.{noSlave, slaveOf, placesEach, documentationIndex}

@@ -14,7 +14,7 @@ use Rattle.file.specs.Rules.Results.{refused, done, writtenIn}
 use Rattle.file.specs.Rules.Encode.{fileLength}
 use Rattle.file.specs.Rules.Decode.{decode}
 use Rattle.file.specs.Rules.Editions.{exceeds}
-use Rattle.file.specs.Rules.Grounds.{fileGrounds, fileGround}
+use Rattle.file.specs.Rules.FileGrounds.{fileGrounds, fileGround}
 use Rattle.file.proofs.Order.{joined-here, joined-next}
 use Rattle.file.proofs.Results.{file-first, file-numbered}
 use Rattle.join.specs.Rules.Joined.{joined, joinedFile, sharesName}

@@ -20,7 +20,7 @@ use Rattle.file.specs.Rules.Decode.{decode}
 use Rattle.file.specs.Rules.Changes.{putInSlave}
 use Rattle.file.specs.Rules.Legal.{LegalSlave, Legal}
 use Rattle.file.specs.Rules.Editions.{exceeds}
-use Rattle.file.specs.Rules.Grounds.{isAmong, fileGround, loadGround, hasRepeat, heldNames}
+use Rattle.file.specs.Rules.FileGrounds.{isAmong, fileGround, loadGround, hasRepeat, heldNames}
 use Rattle.file.proofs.Order.{byCase, clash, either-false-left}
 use Rattle.file.proofs.Bytes.{all-at}
 use Rattle.file.proofs.Results.{load-once, load-twice}
@@ -32,13 +32,13 @@ use Rattle.file.proofs.Accepted.{decode-encode, encode-accepted, encode-bytes, 
 use Rattle.file.proofs.EditionOne.{edition-at}
 use Rattle.join.specs.Rules.Joined.{turned, awake, joined, joinedFile, sharesName}
 use Rattle.join.specs.Rules.Join.{joinGround, joinOn}
-use Rattle.join.specs.Claims.Grounds.{countIn, slaveIn}
+use Rattle.join.specs.Claims.JoinGrounds.{countIn, slaveIn}
 use Rattle.join.specs.Claims.Result.{Writable, WrittenExactly, HeldIn, Turned, JoinOf, CallJoins, NamesApart, JoinLoads}
 use Rattle.join.proofs.Joining.{turned-put, turned-kept, awake-files, awake-asleep, awake-bytes, turnedName, names-of, joined-edition, joined-count, joined-first, joined-second, joined-logical}
 use Rattle.join.proofs.Legal.{joined-legal}
 use Rattle.join.proofs.HeldOnce.{once-joined}
 use Rattle.join.proofs.Order.{over, first-decides, second-decides, names-decide, size-decides, none-holds, join-refused, join-written}
-use Rattle.join.proofs.Grounds.{SlaveWith, slave-among, among-slave, shares-yes, shares-no, over-yes, over-no}
+use Rattle.join.proofs.JoinGrounds.{SlaveWith, slave-among, among-slave, shares-yes, shares-no, over-yes, over-no}
 
 refused-done : {P : Type 0} {m n : ℕ} → _≡_ {A = Result ℕ} (refused m) (done n) → P
 refused-done e = let z : _≡_ {A = ℕ} 0 1 = cc in absurd (omega (arith, z))

@@ -21,14 +21,14 @@ use Rattle.file.specs.Inner.Accepted.{AcceptedFile, WidthOf, slaveCount, Placed
 use Rattle.file.proofs.Order.{byCase}
 use Rattle.file.proofs.Sizes.{slavesBytes-length}
 use Rattle.file.proofs.Shape.{files-refl, slave-size, slave-put, shape-size}
-use Rattle.file.proofs.Stores.{Stands, before, after, slave-stands, stands-fits, stands-store, set-append-add}
+use Rattle.file.proofs.Stores.{Replaced, before, after, slave-replaced, replaced-fits, replaced-store, set-append-add}
 use Rattle.file.proofs.ReaderLaws.{configuration-room}
 use Rattle.file.proofs.PlaceLaws.{configuration-byte-fits}
 use Rattle.file.proofs.Appended.{slavesSize-append, slavesSize-next, slavesBytes-append}
 use Rattle.convert.specs.Inner.Putting.{Put}
 use Rattle.convert.specs.Inner.Slaves.{slaveStart, filesIn, SlavesFit}
 use Rattle.convert.proofs.Putting.{put-room, put-same}
-use Rattle.convert.proofs.SizeLaws.{first-slaves, contentsIn, size-parts, files-first, filesIn-next}
+use Rattle.convert.proofs.SizeLaws.{first-slaves, contentsIn, size-parts, filesIn-next}
 use Rattle.convert.proofs.ReadLaws.{first-start}
 use Rattle.join.specs.Inner.Turned.{turnedBy, turnedIn, turnedAt, Turned}
 
@@ -145,7 +145,7 @@ module _ {v : ℕ} (width : OffsetWidth v) (at : ℕ) (first rest : List Slave) 
   abbrev near : ℕ
   near = slavesSize v first + (2 * v * length (s .files) + placeAmong 0 (s .files) configuration)
 
-  among : Stands (slavesBytes v at (first ++ (s ∷ rest))) (slavesBytes v at (first ++ (s′ ∷ rest))) 0 near (bytesIn s configuration) (set (bytesIn s configuration) (recordSize + 3) unnamed)
+  among : Replaced (slavesBytes v at (first ++ (s ∷ rest))) (slavesBytes v at (first ++ (s′ ∷ rest))) 0 near (bytesIn s configuration) (set (bytesIn s configuration) (recordSize + 3) unnamed)
   unfolding bytesIn slavesBytes
   among =
       let q : ℕ = at + slavesSize v first in
@@ -154,10 +154,10 @@ module _ {v : ℕ} (width : OffsetWidth v) (at : ℕ) (first rest : List Slave) 
       let bs : List ℕ = bytesIn s configuration in
       let behind : List ℕ = slavesBytes v (q + slaveSize v s) rest in
       let place : ℕ = placeAmong (q + entrySize v * length (s .files)) (s .files) configuration in
-      let own : Stands (slaveBytes v q s ++ behind) (slaveBytes v q s′ ++ behind) q place bs (set bs (recordSize + 3) unnamed) =
-      before behind (slave-stands configuration (recordSize + 3) unnamed two q s some)
+      let own : Replaced (slaveBytes v q s ++ behind) (slaveBytes v q s′ ++ behind) q place bs (set bs (recordSize + 3) unnamed) =
+      before behind (slave-replaced configuration (recordSize + 3) unnamed two q s some)
       in
-      let whole : Stands (slavesBytes v at first ++ (slaveBytes v q s ++ behind)) (slavesBytes v at first ++ (slaveBytes v q s′ ++ behind)) at place bs (set bs (recordSize + 3) unnamed) =
+      let whole : Replaced (slavesBytes v at first ++ (slaveBytes v q s ++ behind)) (slavesBytes v at first ++ (slaveBytes v q s′ ++ behind)) at place bs (set bs (recordSize + 3) unnamed) =
       after (slavesBytes v at first) (rw (slavesBytes-length two at first) own)
       in
       let size : slaveSize v s ≡ slaveSize v s′ = slave-size s s′ v (slave-put s configuration (recordSize + 3) unnamed) in
@@ -174,11 +174,11 @@ module _ {v : ℕ} (width : OffsetWidth v) (at : ℕ) (first rest : List Slave) 
   unfolding bytesIn
   turn-put {l} {new} room p =
       let bs : List ℕ = slavesBytes v at (first ++ (s ∷ rest)) in
-      let inside : near + 7 < length bs = omega (arith, stands-fits among, there) in
+      let inside : near + 7 < length bs = omega (arith, replaced-fits among, there) in
       record {
         is = ap (λ (m : List ℕ). set m (at + (near + 7)) unnamed) (p .is)
             ∙ set-in-put l at bs (near + 7) unnamed room inside
-            ∙ ap (sets l at) (stands-store among 7 unnamed (omega (arith, there)) refl);
+            ∙ ap (sets l at) (replaced-store among 7 unnamed (omega (arith, there)) refl);
       }
 
 module _ (held : List Bool) (d : Cluster) (i : ℕ) (more : i < length (d .slaves)) {v at : ℕ} (width : OffsetWidth v)

@@ -1,4 +1,4 @@
 -- Statements of theorems: the call's grounds, what it leaves, and joins of converted files.
-pub mod Grounds
+pub mod JoinGrounds
 pub mod Result
-pub mod Editions
+pub mod JoinEditions

@@ -52,48 +52,49 @@ fn put_second(out: &mut [u8], width: usize, at: usize, place: usize, second: &[u
     put_slaves(out, width, at, place, second, ALL_AWAKE);
 }
 
-// The table of both files' slaves, all awake, and the slaves of both as they are. The first's form alone has `own` bytes: the second's
+// The table of both files' slaves, all awake, and the slaves of both as they are. The first's form alone has `alone` bytes: the second's
 // slaves begin behind these and its own table entries.
-fn put_both(out: &mut [u8], width: usize, own: usize, first: &[u8], second: &[u8])
-    requires { ⌜ AcceptedFile (now first) × WidthOf (now first) width × AcceptedFile (now second) × JoinFits width (now out) own (decode (now first) .slaves) (decode (now second) .slaves) ⌝ }
+fn put_both(out: &mut [u8], width: usize, alone: usize, first: &[u8], second: &[u8])
+    requires { ⌜ AcceptedFile (now first) × WidthOf (now first) width × AcceptedFile (now second) × JoinFits width (now out) alone (decode (now first) .slaves) (decode (now second) .slaves) ⌝ }
     ensures { λ _. ⌜ Put (now (out .entry)) (headerSize width) (joinedBody width (decode (now (first .entry)) .slaves ++ decode (now (second .entry)) .slaves)) (now (out .exit)) ⌝ }
 {
     let table = HEADER_BYTES + HEADER_OFFSETS * width;
     let behind = table + ENTRY_OFFSETS * width * slave_count(first);
     let more = ENTRY_OFFSETS * width * slave_count(second);
     put_moved(out, width, table, behind + more, first);
-    put_second(out, width, behind, own + more, second);
+    put_second(out, width, behind, alone + more, second);
 }
 
 // All that stands behind the header: both files, and the second's slaves by the names that the first holds.
 fn put_joined_body(
     out: &mut [u8],
     width: usize,
-    own: usize,
+    alone: usize,
     first: &[u8],
     second: &[u8],
     places: &SlavePlaces,
     held: &NameMarks,
 )
-    requires { ⌜ AcceptedFile (now first) × WidthOf (now first) width × Placed (now second) (now places) × JoinFits width (now out) own (decode (now first) .slaves) (decode (now second) .slaves) ⌝ }
+    requires { ⌜ AcceptedFile (now first) × WidthOf (now first) width × Placed (now second) (now places) × JoinFits width (now out) alone (decode (now first) .slaves) (decode (now second) .slaves) ⌝ }
     ensures { λ _. ⌜ Put (now (out .entry)) (headerSize width) (joinedBody width (decode (now (first .entry)) .slaves ++ turnedIn (now (held .entry)) (decode (now (second .entry))) .slaves)) (now (out .exit)) ⌝ }
 {
-    put_both(out, width, own, first, second);
-    let place = own + ENTRY_OFFSETS * width * slave_count(second);
+    put_both(out, width, alone, first, second);
+    let place = alone + ENTRY_OFFSETS * width * slave_count(second);
     turn_names(out, width, place, second, places, held);
 }
 
-// The two files' join in the first's edition, in front of whatever else the buffer holds: of `size` bytes, the first's form alone of `own`.
+// The two files' join in the first's edition, in front of whatever else the buffer holds: of `size` bytes, the first's form of `alone`.
 pub fn write_joined(
     first: &[u8],
     first_places: &SlavePlaces,
     second: &[u8],
     second_places: &SlavePlaces,
     out: &mut [u8],
-    own: usize,
+    alone: usize,
     size: usize,
 )
-    requires { ⌜ Placed (now first) (now «first_places») × Placed (now second) (now «second_places») × JoinedFits (widthIn (decode (now first) .edition)) (now out) own size (decode (now first) .slaves) (decode (now second) .slaves) ⌝ }
+    requires { ⌜ Placed (now first) (now «first_places») × Placed (now second) (now «second_places»)
+        × JoinedFits (widthIn (decode (now first) .edition)) (now out) alone size (decode (now first) .slaves) (decode (now second) .slaves) ⌝ }
     ensures { λ _. ⌜ now (out .exit) ≡ writtenIn (now (out .entry)) (joinedFile (now (first .entry)) (now (second .entry))) ⌝ }
 {
     let width = width_of(first);
@@ -101,5 +102,5 @@ pub fn write_joined(
     let mut held = [false; NAME_VALUES];
     mark_names(first, first_places, &mut held);
     put_joined_header(out, width, count, size);
-    put_joined_body(out, width, own, first, second, second_places, &held);
+    put_joined_body(out, width, alone, first, second, second_places, &held);
 }

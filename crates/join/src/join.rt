@@ -5,7 +5,7 @@ ghost use Rattle.file.specs.Rules.Decode.{decode};
 ghost use Rattle.file.specs.Inner.Accepted.{Placed};
 ghost use Rattle.join.specs.Rules.Joined.{sharesName};
 ghost use Rattle.join.specs.Rules.Join.{joinOn};
-ghost use Rattle.join.specs.Inner.Answers.{joiningOf};
+ghost use Rattle.join.specs.Inner.JoinAnswers.{joiningOf};
 use crate::form::write_joined;
 use crate::names::shares_name;
 use convert::convert::is_over;
@@ -38,9 +38,9 @@ fn join_apart(
     ensures { λ r. ⌜ (joiningOf r, now (out .exit)) ≡ joinOn (now (first .entry)) (now (second .entry)) (now (out .entry)) ⌝ }
 {
     let width = width_of(first);
-    let own = length_in(first, width);
+    let alone = length_in(first, width);
     let more = length_in(second, width);
-    let size = own + more - (HEADER_BYTES + HEADER_OFFSETS * width);
+    let size = alone + more - (HEADER_BYTES + HEADER_OFFSETS * width);
     let count = slave_count(first) + slave_count(second);
     if is_over(width, count, size) {
         return Joining::Refused(Refusal::JOINED_LIMITS);
@@ -48,7 +48,7 @@ fn join_apart(
     if out.len() < size {
         return Joining::Refused(Refusal::JOINED_LIMITS);
     }
-    write_joined(first, first_places, second, second_places, out, own, size);
+    write_joined(first, first_places, second, second_places, out, alone, size);
     Joining::Written(size)
 }
 

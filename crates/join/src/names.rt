@@ -58,7 +58,8 @@ fn is_any_named(
     second_places: &SlavePlaces,
     seen: &RemainderMarks,
 ) -> bool
-    requires { ⌜ Placed (now first) (now «first_places») × (placesEach * slaveCount (now first) ≤ length (now «first_places»)) × Placed (now second) (now «second_places») × MarksOf 256 (now seen) (map remainderOf (decode (now first) .slaves)) ⌝ }
+    requires { ⌜ Placed (now first) (now «first_places») × (placesEach * slaveCount (now first) ≤ length (now «first_places»))
+        × Placed (now second) (now «second_places») × MarksOf 256 (now seen) (map remainderOf (decode (now first) .slaves)) ⌝ }
     ensures { λ r. ⌜ r ≡ sharesName (decode (now (first .entry))) (decode (now (second .entry))) ⌝ }
 {
     let stated = &first_places[..PLACES_EACH * slave_count(first)];

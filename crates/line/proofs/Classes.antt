@@ -10,7 +10,7 @@ use lib.Dec.{eqb, ltb}
 use borrow.Author.Tests.{eqb-true, eqb-false, ne-eqb, ltb-true, ltb-false}
 use Rattle.file.specs.Rules.Order.{both, either}
 use Rattle.file.specs.Rules.Results.{Result, done, refused}
-use Rattle.file.specs.Rules.Grounds.{isAmong}
+use Rattle.file.specs.Rules.FileGrounds.{isAmong}
 use Rattle.file.proofs.Order.{byCase, clash}
 use Rattle.frame.specs.Rules.Fireworks.{Round, multipartner, msd, msa, noRound, roundOf, roundIn}
 use Rattle.line.specs.Rules.Patterns.{PatternClass, dataByte, firework, broken, ones, isListed, classOf, patternOn}

@@ -1,4 +1,4 @@
--- No two answers are taken to the same: the maps of `specs/Inner/Answers.antt` can be undone.
+-- No two answers are taken to the same: the maps of `specs/Inner/LineAnswers.antt` can be undone.
 -- Assumes nothing.
 use mathlib.Core.Path.{_≡_, refl, sym, _∙_, ap}
 use Rattle.file.specs.Rules.Results.{Result, refused, done}
@@ -7,7 +7,7 @@ use Rattle.line.specs.declared.pattern.PatternAnswer.the-variants as ans
 use Rattle.line.specs.declared.pattern.PatternClass.{PatternClass}
 use Rattle.line.specs.declared.pattern.PatternClass.the-variants as classes
 use Rattle.line.specs.Rules.Patterns.{PatternClass as Class, dataByte, firework, broken}
-use Rattle.line.specs.Inner.Answers.{classIn, readOf}
+use Rattle.line.specs.Inner.LineAnswers.{classIn, readOf}
 
 class : Class → PatternClass
 class dataByte = classes.DataByte

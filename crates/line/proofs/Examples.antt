@@ -8,7 +8,7 @@ use lib.Bits.{bitXor}
 use lib.Count.{onesIn}
 use Rattle.file.specs.Rules.Order.{either, firstOf}
 use Rattle.file.specs.Rules.Results.{done, refused, resultOf}
-use Rattle.file.specs.Rules.Grounds.{isAmong}
+use Rattle.file.specs.Rules.FileGrounds.{isAmong}
 use Rattle.file.specs.Rules.Bytes.{All, allEmpty, allNext}
 use Rattle.line.specs.Rules.Patterns.{dataByte, firework, broken, ones, isListed, classOf, patternGround, patternOn}
 use Rattle.line.specs.Claims.Classes.{allOnes}

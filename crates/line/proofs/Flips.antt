@@ -8,7 +8,7 @@ use lib.Count.{onesIn}
 use lib.Dec.{eqb, leb}
 use borrow.Author.Tests.{le-leb, leb-true, ne-eqb}
 use Rattle.file.specs.Rules.Order.{both, either}
-use Rattle.file.specs.Rules.Grounds.{isAmong}
+use Rattle.file.specs.Rules.FileGrounds.{isAmong}
 use Rattle.file.proofs.Order.{clash, both-true}
 use Rattle.line.specs.Rules.Patterns.{PatternClass, dataByte, firework, broken, ones, isListed, classOf}
 use Rattle.line.specs.Claims.Classes.{allOnes}

@@ -11,7 +11,7 @@ use lib.Count.{onesIn}
 use borrow.Author.Tests.{eqb-true, ne-eqb, lt-ltb, le-ltb}
 use Rattle.file.specs.Rules.Results.{done, refused, resultOf}
 use Rattle.file.specs.Rules.Order.{both, either, firstOf}
-use Rattle.file.specs.Rules.Grounds.{isAmong}
+use Rattle.file.specs.Rules.FileGrounds.{isAmong}
 use Rattle.line.specs.Rules.Patterns.{PatternClass, dataByte, firework, broken, ones, isListed, classOf, patternGround, patternOn}
 use Rattle.line.specs.Inner.Rows.{entryOf, entryIn, RowByRule}
 use Rattle.line.proofs.Computed.{allBelow, at}

@@ -2,7 +2,7 @@
 ghost use mathlib.Core.Path.{_≡_};
 ghost use Prim.Native.Nat.{_<_};
 ghost use Rattle.line.specs.Rules.Patterns.{patternOn};
-ghost use Rattle.line.specs.Inner.Answers.{readOf};
+ghost use Rattle.line.specs.Inner.LineAnswers.{readOf};
 ghost use Rattle.line.specs.Inner.Rows.{RowByRule};
 use file::types::Refusal;
 

@@ -13,17 +13,19 @@ use Rattle.file.specs.Inner.Accepted.{Placed}
 use Rattle.file.proofs.BytesBelow.{allBelow, bytes-below}
 use Rattle.file.specs.Rules.Order.{firstOf, both, either}
 use Rattle.file.specs.Rules.Results.{Result, refused, done, resultOf}
-use Rattle.file.specs.Rules.Grounds.{isAmong, hasRepeat, loadGround, loadVerdict}
-use Rattle.file.specs.Inner.Answers.{checkedOf}
+use Rattle.file.specs.Rules.FileGrounds.{isAmong, hasRepeat, loadGround, loadVerdict}
+use Rattle.file.specs.Inner.FileAnswers.{checkedOf}
 use Rattle.file.specs.Inner.Surveyed.{Surveyed}
 use Rattle.file.specs.declared.survey.FileAnswer.{FileAnswer}
 use Rattle.file.specs.declared.survey.FileAnswer.the-variants as verdicts
 use Rattle.file.proofs.Results.{load-file, no-ground}
 use Rattle.file.proofs.Order.{byCase, clash, both-left, both-right, both-false-right, both-false-next, either-false-left}
-use Rattle.naming.specs.Rules.Run.{Position, bits, lastStep, unfitName, namesGrounds, startGround}
+use Rattle.naming.specs.Rules.Position.{Position}
+use Rattle.naming.specs.Rules.Pass.{bits, lastStep}
+use Rattle.naming.specs.Rules.RunGrounds.{unfitName, namesGrounds, startGround}
 use Rattle.naming.specs.Rules.Step.{StepDone, ended, made, stepOn}
 use Rattle.naming.specs.Rules.Steps.{isMade as isStepMade, maskIn, Progress, begun, nextStep, withStep, stepsFrom}
-use Rattle.naming.specs.Inner.Answers.{positionOf}
+use Rattle.naming.specs.Inner.StepAnswers.{positionOf}
 use Rattle.naming.specs.Inner.Steps.{progressOf, standsAt, StepsMade}
 use Rattle.naming.specs.declared.steps.MadeSteps.{MadeSteps}
 use Rattle.naming.proofs.Moves.{step-moved}
@@ -44,25 +46,25 @@ made-mask (done (made mask)) e = refl
 unfoldable pub under : ListState → Progress → ListState
 under t g = record { file = g .file; run = g .run; buffer = g .buffer; begun = t .begun; given = t .given; lines = t .lines }
 
-step-under : (t : ListState) (g : Progress) → (g .run .step ≡ lastStep → ⊥) → listStep (under t g) ≡ under t (withStep g (nextStep allNames g))
+step-under : (t : ListState) (g : Progress) → (g .run .place .step ≡ lastStep → ⊥) → listStep (under t g) ≡ under t (withStep g (nextStep allNames g))
 unfolding listStep givesName withoutName under withStep nextStep
-step-under t g n = rw (both-false-right (isMade (stepOn (g .file) (g .run) allNames (g .buffer) .0)) (ne-eqb (g .run .step) lastStep n))
+step-under t g n = rw (both-false-right (isMade (stepOn (g .file) (g .run) allNames (g .buffer) .0)) (ne-eqb (g .run .place .step) lastStep n))
 
 -- what they leave of a position
 pub record Onward (p q : Position) : Type 0 where
-  pub compared : p .comparisons ≤ q .comparisons
-  pub further : p .index ≤ q .index
-  pub begins : (p .rounds ≡ 0 → p .step ≡ 0) → q .rounds ≡ 0 → q .step ≡ 0
+  pub compared : p .counts .comparisons ≤ q .counts .comparisons
+  pub further : p .place .index ≤ q .place .index
+  pub begins : (p .counts .rounds ≡ 0 → p .place .step ≡ 0) → q .counts .rounds ≡ 0 → q .place .step ≡ 0
 
 onward-same : (p : Position) → Onward p p
 onward-same p = record { compared = omega arith; further = omega arith; begins = λ b z. b z }
 
 -- a step that made its round
-one-onward : (g : Progress) → (g .run .rounds ≡ 0 → g .run .step ≡ 0) → isStepMade (nextStep allNames g .0) ≡ true → Moves (g .run) (withStep g (nextStep allNames g) .run)
+one-onward : (g : Progress) → (g .run .counts .rounds ≡ 0 → g .run .place .step ≡ 0) → isStepMade (nextStep allNames g .0) ≡ true → Moves (g .run) (withStep g (nextStep allNames g) .run)
 unfolding nextStep withStep
 one-onward g begins m =
-    moves (g .file) (g .buffer) (g .run) begins
-    (ap (λ (r : Result StepDone). (r, stepOn (g .file) (g .run) allNames (g .buffer) .1, stepOn (g .file) (g .run) allNames (g .buffer) .2, stepOn (g .file) (g .run) allNames (g .buffer) .3)) (sym (made-mask (stepOn (g .file) (g .run) allNames (g .buffer) .0) m)))
+    let s = stepOn (g .file) (g .run) allNames (g .buffer) in
+    moves (g .file) (g .buffer) (g .run) begins (ap (λ (r : Result StepDone). (r, s .1, s .2, s .3)) (sym (made-mask (s .0) m)))
 
 pub record Batch (k : ℕ) (t : ListState) (g end : Progress) : Type 0 where
   pub n : ℕ
@@ -70,15 +72,15 @@ pub record Batch (k : ℕ) (t : ListState) (g end : Progress) : Type 0 where
   pub most : n ≤ k
   pub same : listSteps k (under t g) ≡ listSteps (k - n) (under t end)
   pub onward : Onward (g .run) (end .run)
-  pub stops : n < k → end .run .step ≢ lastStep → isStepMade (nextStep allNames end .0) ≡ false
+  pub stops : n < k → end .run .place .step ≢ lastStep → isStepMade (nextStep allNames end .0) ≡ false
 
-none-made : (k : ℕ) (t : ListState) (g : Progress) → (0 < k → g .run .step ≢ lastStep → isStepMade (nextStep allNames g .0) ≡ false) → Batch k t g g
+none-made : (k : ℕ) (t : ListState) (g : Progress) → (0 < k → g .run .place .step ≢ lastStep → isStepMade (nextStep allNames g .0) ≡ false) → Batch k t g g
 none-made k t g stops =
     let all : k - 0 ≡ k = omega arith in
     record { n = 0; count = omega arith; most = omega arith; same = rw all; onward = onward-same (g .run); stops = stops }
 
 one-more :
-    (k : ℕ) (t : ListState) (g end : Progress) → (g .run .rounds ≡ 0 → g .run .step ≡ 0) → (g .run .step ≡ lastStep → ⊥) → isStepMade (nextStep allNames g .0) ≡ true →
+    (k : ℕ) (t : ListState) (g end : Progress) → (g .run .counts .rounds ≡ 0 → g .run .place .step ≡ 0) → (g .run .place .step ≡ lastStep → ⊥) → isStepMade (nextStep allNames g .0) ≡ true →
     Batch k t (withStep g (nextStep allNames g)) end → Batch (suc k) t g end
 one-more k t g end begins other m b =
     let first = one-onward g begins m in
@@ -100,34 +102,34 @@ one-more k t g end begins other m b =
 
 module _ (k : ℕ) (g : Progress) where
   until-on :
-      both (not (eqb (g .run .step) lastStep)) (isStepMade (nextStep allNames g .0)) ≡ true →
+      both (not (eqb (g .run .place .step) lastStep)) (isStepMade (nextStep allNames g .0)) ≡ true →
       stepsFrom (standsAt lastStep) allNames (suc k) g ≡ stepsFrom (standsAt lastStep) allNames k (withStep g (nextStep allNames g))
   unfolding stepsFrom
   until-on y = rw y
 
-  until-over : both (not (eqb (g .run .step) lastStep)) (isStepMade (nextStep allNames g .0)) ≡ false → stepsFrom (standsAt lastStep) allNames (suc k) g ≡ g
+  until-over : both (not (eqb (g .run .place .step) lastStep)) (isStepMade (nextStep allNames g .0)) ≡ false → stepsFrom (standsAt lastStep) allNames (suc k) g ≡ g
   unfolding stepsFrom
   until-over y = rw y
 
-pub batch : (k : ℕ) (t : ListState) (g : Progress) → (g .run .rounds ≡ 0 → g .run .step ≡ 0) → Batch k t g (stepsFrom (standsAt lastStep) allNames k g)
+pub batch : (k : ℕ) (t : ListState) (g : Progress) → (g .run .counts .rounds ≡ 0 → g .run .place .step ≡ 0) → Batch k t g (stepsFrom (standsAt lastStep) allNames k g)
 batch zero t g begins = unfold stepsFrom in none-made 0 t g (λ h. absurd (omega arith))
 batch (suc k) t g begins = on (λ c. batch k t (withStep g (nextStep allNames g)) c)
   where
     on :
-        ((withStep g (nextStep allNames g) .run .rounds ≡ 0 → withStep g (nextStep allNames g) .run .step ≡ 0) →
+        ((withStep g (nextStep allNames g) .run .counts .rounds ≡ 0 → withStep g (nextStep allNames g) .run .place .step ≡ 0) →
         Batch k t (withStep g (nextStep allNames g)) (stepsFrom (standsAt lastStep) allNames k (withStep g (nextStep allNames g)))) →
         Batch (suc k) t g (stepsFrom (standsAt lastStep) allNames (suc k) g)
     on rest =
-        byCase (both (not (eqb (g .run .step) lastStep)) (isStepMade (nextStep allNames g .0)))
+        byCase (both (not (eqb (g .run .place .step) lastStep)) (isStepMade (nextStep allNames g .0)))
         (λ y.
-        let m = both-right (not (eqb (g .run .step) lastStep)) _ y in
-        let other : g .run .step ≡ lastStep → ⊥ = λ z. clash (both-left _ _ y) (ap not (eq-eqb (g .run .step) lastStep z)) in
+        let m = both-right (not (eqb (g .run .place .step) lastStep)) _ y in
+        let other : g .run .place .step ≡ lastStep → ⊥ = λ z. clash (both-left _ _ y) (ap not (eq-eqb (g .run .place .step) lastStep z)) in
         let first = one-onward g begins m in
         subst (λ (e : Progress). Batch (suc k) t g e) (sym (until-on k g y))
         (one-more k t g _ begins other m (rest (λ z. absurd (omega (arith, first .made, z))))))
         (λ y.
         subst (λ (e : Progress). Batch (suc k) t g e) (sym (until-over k g y))
-        (none-made (suc k) t g (λ h n. both-false-next _ (ap not (ne-eqb (g .run .step) lastStep n)) y)))
+        (none-made (suc k) t g (λ h n. both-false-next _ (ap not (ne-eqb (g .run .place .step) lastStep n)) y)))
 
 -- ---- in the code's terms
 
@@ -173,13 +175,13 @@ module _
         };
       })
 
-  pub batch-stops : m .steps < left → m .run .step ≢ lastStep → isStepMade (stepOn file′ (positionOf (m .run)) allNames answer′ .0) ≡ false
+  pub batch-stops : m .steps < left → m .run .place .step ≢ lastStep → isStepMade (stepOn file′ (positionOf (m .run)) allNames answer′ .0) ≡ false
   unfolding nextStep
   batch-stops fewer n = came .stops (omega (arith, fewer, counted)) n
 
   -- none is left, or the next one is not made
   pub batch-over :
-      {r : ListProgress} → r ≡ movedTo state (m .run) → {over : Bool} → over ≡ noneGiven (left - m .steps) (r .run .step) → over ≡ true →
+      {r : ListProgress} → r ≡ movedTo state (m .run) → {over : Bool} → over ≡ noneGiven (left - m .steps) (r .run .place .step) → over ≡ true →
       StateIs wanted old at r file′ answer′ text
   unfolding noneGiven either
   batch-over {r} is test e =
@@ -188,7 +190,7 @@ module _
       byCase (eqb (left - m .steps) 0)
       (λ z. let none : left - m .steps ≡ 0 = eqb-true _ _ z in going-done on (omega arith))
       (λ z.
-      let other : r .run .step ≢ lastStep = λ y. clash (sym test ∙ e) (rw (z, eq-eqb (r .run .step) lastStep y)) in
+      let other : r .run .place .step ≢ lastStep = λ y. clash (sym test ∙ e) (rw (z, eq-eqb (r .run .place .step) lastStep y)) in
       let some : left - m .steps ≡ 0 → ⊥ = eqb-false _ _ z in
       let more : m .steps < left = omega arith in
       going-stuck on (rw run (batch-stops more (rw run at other))))
@@ -223,7 +225,7 @@ all-bytes : Bytes allNames
 all-bytes = bytes-below allNames (unfold allNames namesFrom allBelow both in refl)
 
 pub step-placed :
-    (state : ListProgress) (file answer text : List ℕ) {after : ListProgress} {places file′ answer′ text′ : List ℕ} {at : ℕ} → Placed file places → state .run .value < 2 ^ bits →
+    (state : ListProgress) (file answer text : List ℕ) {after : ListProgress} {places file′ answer′ text′ : List ℕ} {at : ℕ} → Placed file places → state .run .place .value < 2 ^ bits →
     StateIs (listStep (stateOf state file answer text)) text at after file′ answer′ text′ → Placed file′ places
 step-placed state file answer text {places = places} placed small s =
     let left = ap (λ (t : ListState). t .file) (s .is) ∙ list-file (stateOf state file answer text) in

@@ -14,7 +14,7 @@ use lib.Dec.{eqb}
 use borrow.Author.Tests.{eq-eqb, ne-eqb, eqb-true, eqb-false}
 use Rattle.file.specs.Rules.Bytes.{Bytes, All}
 use Rattle.file.specs.Rules.Decode.{decode}
-use Rattle.file.specs.Rules.Grounds.{fileGround, loadGround}
+use Rattle.file.specs.Rules.FileGrounds.{fileGround, loadGround}
 use Rattle.file.proofs.Results.{load-first, load-file}
 use Rattle.file.specs.Rules.Legal.{Legal}
 use Rattle.file.specs.Inner.Places.{slavesRoom}
@@ -22,13 +22,16 @@ use Rattle.file.proofs.Width.{few-slaves}
 use Rattle.file.proofs.Edition.{unknown-edition, refused-edition}
 use Rattle.file.proofs.Accepted.{accepted-legal}
 use Rattle.file.proofs.Order.{byCase, clash, both-true, both-false-right}
-use Rattle.cluster.specs.Rules.Grounds.{shortAnswer}
+use Rattle.cluster.specs.Rules.RoundGrounds.{shortAnswer}
 use Rattle.cluster.specs.Rules.Summary.{without, wrongSummary}
 use Rattle.naming.specs.Inner.View.{SlaveView}
-use Rattle.naming.specs.Rules.Rounds.{sent}
-use Rattle.naming.specs.Rules.Run.{Position, running, fresh, PassPlace, baptize, nextRound, countLimit, lastStep}
+use Rattle.naming.specs.Rules.RunRounds.{sent}
+use Rattle.naming.specs.Rules.Position.{Position, running, fresh}
+use Rattle.naming.specs.Rules.Pass.{PassPlace, baptize, lastStep}
+use Rattle.naming.specs.Rules.Run.{nextRound}
+use Rattle.naming.specs.Rules.RunGrounds.{countLimit}
 use Rattle.naming.specs.Inner.PassPlaces.{stepOf}
-use Rattle.file.specs.Rules.Grounds.{isAmong}
+use Rattle.file.specs.Rules.FileGrounds.{isAmong}
 use Rattle.naming.specs.Rules.Step.{StepDone, madeBy, stepGround, stepOn}
 use Rattle.cluster.specs.Rules.MasterSlave.{roundSent}
 use Rattle.file.specs.Rules.Results.{Result, done}
@@ -40,7 +43,7 @@ use Rattle.naming.specs.Rules.Figures.{roundsFor, comparisonsFor, namesAfter}
 use Rattle.naming.specs.Claims.Demand.{State, startOn, callOn, of-step}
 use Rattle.naming.proofs.Places.{LegalPlace, inner, at-baptize, step-lt}
 use Rattle.naming.proofs.Search.{cleared-none}
-use Rattle.naming.proofs.Simulation.{Found, position, At, Tie, going, over, needlessAt, needless-here, inner-short, fresh-at}
+use Rattle.naming.proofs.Simulation.{Found, Pass, waitedFor, At, Tie, going, over, needlessAt, needless-here, inner-short, fresh-at}
 use Rattle.naming.proofs.Walk.{pastOf, past-last}
 use Rattle.naming.proofs.Tally.{none-compared}
 use Rattle.naming.proofs.Closed.{mostRounds, due-bound}
@@ -68,10 +71,10 @@ use Rattle.listing_text.proofs.GivingLaws.{names-accepted, toGive, Last
 -- it stands at the last step of a pass exactly where the account's next round gives a name; the names left; and before the last round
 -- of a pass the value, which is the greatest waiting name
 record Here (names : List ℕ) (p : Position) (a : Account) : Type 0 where
-  gives : p .step ≡ lastStep → GivesNext a
-  last : GivesNext a → p .step ≡ lastStep
-  left : drop (p .index) names ≡ a .left
-  found : p .step ≡ lastStep → p .value ≡ getD (a .waiting) 0 0
+  gives : p .place .step ≡ lastStep → GivesNext a
+  last : GivesNext a → p .place .step ≡ lastStep
+  left : drop (p .place .index) names ≡ a .left
+  found : p .place .step ≡ lastStep → p .place .value ≡ getD (a .waiting) 0 0
 
 greatest : (value : ℕ) (ws : List ℕ) → Found 0 value ws → value ≡ getD ws 0 0
 greatest value [] f = absurd f
@@ -82,34 +85,30 @@ last-for value k [] f e = absurd f
 last-for value k (p ∷ ps) f e = ap suc e ∙ past-last p ps
 
 last-found :
-    {names : List ℕ} {vs : List SlaveView} {l : PassPlace} {index step value rounds comparisons h l′ n done k : ℕ} {ns ws held : List ℕ} {slaves : List Named} →
-    LegalPlace l → At names vs l index step value rounds comparisons h l′ n ns ws slaves held done k → step ≡ lastStep → value ≡ getD ws 0 0
+    {names : List ℕ} {vs : List SlaveView} {l : PassPlace} {p : Position} {a : Pass} → LegalPlace l → At names vs l p a →
+    p .place .step ≡ lastStep → p .place .value ≡ getD (a .waiting) 0 0
 last-found (inner x) i e = absurd (omega (arith, step-lt x, i .place))
-last-found {value = value} {ws = ws} at-baptize i e = greatest value ws (i .known .1)
+last-found {p = p} {a = a} at-baptize i e = greatest (p .place .value) (a .waiting) (i .known .1)
 
 last-gives :
-    {names : List ℕ} {vs : List SlaveView} {l : PassPlace} {index step value rounds comparisons h l′ n done k : ℕ} {ns ws held : List ℕ} {slaves : List Named} →
-    LegalPlace l → At names vs l index step value rounds comparisons h l′ n ns ws slaves held done k → step ≡ lastStep →
-    (isAmong n held ≡ false) × LastFor ws k
+    {names : List ℕ} {vs : List SlaveView} {l : PassPlace} {p : Position} {a : Pass} → LegalPlace l → At names vs l p a →
+    p .place .step ≡ lastStep → (isAmong (a .name) (a .held) ≡ false) × LastFor (a .waiting) (a .k)
 last-gives (inner x) i e = absurd (omega (arith, step-lt x, i .place))
-last-gives {value = value} {k = k} {ws = ws} at-baptize i e = (i .known .0, last-for value k ws (i .known .1) (i .made))
+last-gives {p = p} {a = a} at-baptize i e = (i .known .0, last-for (p .place .value) (a .k) (a .waiting) (i .known .1) (i .made))
 
 gives-last :
-    {names : List ℕ} {vs : List SlaveView} {l : PassPlace} {index step value rounds comparisons h l′ n done k : ℕ} {ns : List ℕ} (ws : List ℕ)
-    {held : List ℕ} {slaves : List Named} → LegalPlace l → At names vs l index step value rounds comparisons h l′ n ns ws slaves held done k →
-    needlessAt l n value (position running index step value rounds comparisons h l′) ≡ false → LastFor ws k → step ≡ lastStep
+    {names : List ℕ} {vs : List SlaveView} {l : PassPlace} {p : Position} (ws : List ℕ) (a : Pass) → LegalPlace l → At names vs l p (waitedFor ws a) →
+    needlessAt l (a .name) p ≡ false → LastFor ws (a .k) → p .place .step ≡ lastStep
 unfolding stepOf
-gives-last [] x i real f = absurd f
-gives-last {names} {vs} {l} {index} {step} {value} {rounds} {comparisons} {h} {l′} {n} {done} {k} {ns} (p ∷ ps) {held} {slaves} (inner x) i real f =
-    let short = inner-short names vs index step value rounds comparisons h l′ n ns p ps slaves held done k x i real in
-    absurd (omega arith)
-gives-last (p ∷ ps) at-baptize i real f = i .place
+gives-last [] a x i real f = absurd f
+gives-last {names} {vs} {p = p} (w ∷ ws) a (inner x) i real f = let short = inner-short names vs p w ws a x i real in absurd (omega arith)
+gives-last (w ∷ ws) a at-baptize i real f = i .place
 
 tie-here : {names : List ℕ} {vs : List SlaveView} {p : Position} {a : Account} → Tie names vs p a → p .end ≡ running → Here names p a
-tie-here (going {ws = ws} i real) m =
+tie-here (going {a = a} i real) m =
     record {
       gives = last-gives (i .legal) i;
-      last = λ g. gives-last ws (i .legal) i (sym (needless-here i) ∙ real) (g .1);
+      last = λ g. gives-last (a .waiting) a (i .legal) i (sym (needless-here i) ∙ real) (g .1);
       left = i .here;
       found = last-found (i .legal) i;
     }
@@ -204,8 +203,8 @@ module _ (slaves : List Named) (few : mostRounds * length slaves + endingRounds 
     after-step-withoutName : NoneGiven a b → Beside slaves (stateAfter t s) b
     unfolding givesName withoutName
     after-step-withoutName g =
-        let no : t .run .step ≡ lastStep → ⊥ = λ l. g .within (here .gives l) in
-        rw (both-false-right (isMade (s .0)) (ne-eqb (t .run .step) lastStep no))
+        let no : t .run .place .step ≡ lastStep → ⊥ = λ l. g .within (here .gives l) in
+        rw (both-false-right (isMade (s .0)) (ne-eqb (t .run .place .step) lastStep no))
         (record {
           tied = st .tied;
           long = st .long;
@@ -217,22 +216,22 @@ module _ (slaves : List Named) (few : mostRounds * length slaves + endingRounds 
         })
 
     -- between passes the comparisons are those of the passes done
-    all-compared : b .k ≡ 0 → s .1 .comparisons ≡ b .done
+    all-compared : b .k ≡ 0 → s .1 .counts .comparisons ≡ b .done
     unfolding comparisonsOf
     all-compared z = tie-agree (st .tied .tie) .comparisons ∙ rw z (omega (arith, none-compared (highAgain (b .waiting))))
 
     -- the line is that of the name given
     line : OneGiven a b →
-        nameLine (getD allNames (t .run .index) 0) (t .run .value) (s .1 .comparisons - t .begun) ++ lines (toGive b) ≡ lines (toGive a)
+        nameLine (getD allNames (t .run .place .index) 0) (t .run .place .value) (s .1 .counts .comparisons - t .begun) ++ lines (toGive b) ≡ lines (toGive a)
     unfolding lines
     line g =
-        let c : s .1 .comparisons - t .begun ≡ namingComparisons = omega (arith, all-compared (g .over), g .compared, h .begun) in
-        rw (first-left allNames (t .run .index) (here .left), here .found (here .last (g .last)), c, g .next)
+        let c : s .1 .counts .comparisons - t .begun ≡ namingComparisons = omega (arith, all-compared (g .over), g .compared, h .begun) in
+        rw (first-left allNames (t .run .place .index) (here .left), here .found (here .last (g .last)), c, g .next)
 
     after-step-named : OneGiven a b → Beside slaves (stateAfter t s) b
     unfolding givesName withName
     after-step-named g =
-        rw (both-true (st .is-made) (eq-eqb (t .run .step) lastStep (here .last (g .last))))
+        rw (both-true (st .is-made) (eq-eqb (t .run .place .step) lastStep (here .last (g .last))))
         (record {
           tied = st .tied;
           long = st .long;
@@ -259,8 +258,8 @@ record Complete (slaves : List Named) (t : ListState) : Type 0 where
   ended : t .run .end ≡ running → ⊥
   after-step : t .lines ≡ lines (namesGiven slaves)
   counted : t .given ≡ length (namesGiven slaves)
-  compared : t .run .comparisons ≡ comparisonsFor slaves allNames
-  rounds : t .run .rounds ≡ roundsFor slaves allNames
+  compared : t .run .counts .comparisons ≡ comparisonsFor slaves allNames
+  rounds : t .run .counts .rounds ≡ roundsFor slaves allNames
   named : namesIn (decode (t .file)) ≡ namesAfter slaves allNames
 
 module _ (slaves : List Named) (few : mostRounds * length slaves + endingRounds + 257 < countLimit) where

@@ -11,12 +11,12 @@ use borrow.Author.Tests.{eqb-true, eqb-false, ne-eqb}
 use Rattle.file.specs.Rules.Bytes.{All, All.allEmpty, All.allNext as also}
 use Rattle.file.specs.Rules.Cluster.{unnamed, broadcast}
 use Rattle.file.specs.Rules.Order.{both}
-use Rattle.file.specs.Rules.Grounds.{isAmong, hasRepeat}
+use Rattle.file.specs.Rules.FileGrounds.{isAmong, hasRepeat}
 use Rattle.file.proofs.Order.{byCase, clash, both-right, either-false}
-use Rattle.naming.specs.Rules.Run.{unfitName}
+use Rattle.naming.specs.Rules.RunGrounds.{unfitName}
 use Rattle.naming.specs.Rules.Account.{Named, Account, endWith, give, passOn, extra, oneRound, namingRounds, namingComparisons, endingRounds}
 use Rattle.naming.specs.Rules.Figures.{freeNames, givings}
-use Rattle.naming.proofs.Rounds.{account, goes-on, taken-round, giving-round, ending-round}
+use Rattle.naming.proofs.AccountRounds.{account, goes-on, taken-round, giving-round, ending-round}
 use Rattle.naming.proofs.Start.{Names}
 use Rattle.naming.proofs.Tally.{Tally, in-pass, ended, length-of-pass, no-names}
 use Rattle.listing_text.specs.Rules.Listing.{allNames, namesFrom}

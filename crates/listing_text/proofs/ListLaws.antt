@@ -14,18 +14,22 @@ use lib.Dec.{eqb}
 use Rattle.file.specs.Rules.Order.{both}
 use Rattle.file.proofs.Order.{byCase}
 use Rattle.file.specs.Rules.Results.{Result, refused, done}
-use Rattle.cluster.specs.Rules.Bus.{slots}
+use Rattle.master_slave.specs.Rules.Bus.{slots}
 use Rattle.cluster.proofs.Rounds.{none-holds}
-use Rattle.naming.specs.Rules.Run.{Position, running, fresh, runGrounds, PassPlace, PassPlace.poll, ask, giveName, giveHigh, giveLow, PassPlace.baptize}
-use Rattle.naming.specs.Rules.Run.{least, bit, high, low, reply, placeOf, roundHere, onto, wrote, moveOn, onward, nextName, endAllNamed, passAdvance, isExtra}
-use Rattle.naming.specs.Rules.Run.{countRaised, advance, lastStep}
-use Rattle.naming.specs.Rules.Rounds.{RunRound, RunRound.poll as pollOf, writeName, writeHigh, writeLow, compare, RunRound.baptize as baptizeAll}
+use Rattle.naming.specs.Rules.Position.{Position, running, fresh}
+use Rattle.naming.specs.Rules.Pass.{PassPlace, PassPlace.poll, ask, giveName, giveHigh, giveLow, PassPlace.baptize}
+use Rattle.naming.specs.Rules.RunGrounds.{runGrounds}
+use Rattle.naming.specs.Rules.Pass.{least, bit, high, low, reply, placeOf}
+use Rattle.naming.specs.Rules.Run.{roundHere, onto, wrote, moveOn, onward, nextName, endAllNamed, passAdvance, isExtra}
+use Rattle.naming.specs.Rules.Pass.{lastStep}
+use Rattle.naming.specs.Rules.Run.{countRaised, advance}
+use Rattle.naming.specs.Rules.RunRounds.{RunRound, RunRound.poll as pollOf, writeName, writeHigh, writeLow, compare, RunRound.baptize as baptizeAll}
 use Rattle.naming.specs.Rules.Step.{StepDone, ended, made, stepGround, stepMade, stepOn}
 use Rattle.naming.specs.Rules.Steps.{isMade as isStepMade, begun, nextStep}
-use Rattle.naming.specs.Inner.Answers.{positionOf, steppedOf, runAfter}
+use Rattle.naming.specs.Inner.StepAnswers.{positionOf, steppedOf, runAfter}
 use Rattle.file.specs.declared.types.Refusal.{Refusal}
-use Rattle.file.specs.Rules.Grounds.{loadGround, loadVerdict}
-use Rattle.file.specs.Inner.Answers.{checkedOf}
+use Rattle.file.specs.Rules.FileGrounds.{loadGround, loadVerdict}
+use Rattle.file.specs.Inner.FileAnswers.{checkedOf}
 use Rattle.file.proofs.Results.{that-ground}
 use Rattle.file.specs.declared.survey.FileAnswer.{FileAnswer}
 use Rattle.file.specs.declared.survey.FileAnswer.the-variants as verdicts
@@ -40,7 +44,7 @@ use Rattle.naming.proofs.RoundsMade.{some-counted, moved-counts}
 use Rattle.naming.proofs.PassRounds.{onto-counts}
 use Rattle.listing_text.specs.Rules.Text.{nameLine, totalsLine, refusedLine}
 use Rattle.listing_text.specs.Inner.Puts.{Puts, PutsAtMost}
-use Rattle.listing_text.specs.Rules.Text.{lineSize, totalsSize}
+use Rattle.listing_text.specs.Rules.Text.{lineSize}
 use Rattle.listing_text.specs.Rules.Listing.{allNames, namesFrom, nameCount, ListState, isMade, givesName, withoutName, withName, listStep, listSteps}
 use Rattle.listing_text.specs.Rules.Listing.{mostSteps, startState, endState, withTotals, listing, fileListed, listed}
 use Rattle.listing_text.specs.Inner.ListRuns.{stateOf, Room, StateIs, Moves, StepListed}
@@ -50,9 +54,9 @@ use Rattle.listing_text.specs.declared.run.ListProgress.{ListProgress}
 -- ---- what a step that made its round leaves of a position
 
 pub record Rises (p q : Position) : Type 0 where
-  pub compared : p .comparisons ≤ q .comparisons
-  pub slowly : q .comparisons ≤ suc (p .comparisons)
-  pub further : p .index ≤ q .index
+  pub compared : p .counts .comparisons ≤ q .counts .comparisons
+  pub slowly : q .counts .comparisons ≤ suc (p .counts .comparisons)
+  pub further : p .place .index ≤ q .place .index
 
 rises : (l : PassPlace) (count : ℕ) (p : Position) (b : Bool) → Rises p (moveOn l count p b)
 unfolding moveOn onward nextName endAllNamed
@@ -69,7 +73,7 @@ rises giveLow count p b = record { compared = omega arith; slowly = omega arith;
 rises baptize count p b = record { compared = omega arith; slowly = omega arith; further = omega arith }
 
 -- what a round writes leaves index and comparisons
-wrote-same : (o : RunRound) (p : Position) → (wrote o p .comparisons ≡ p .comparisons) × (wrote o p .index ≡ p .index)
+wrote-same : (o : RunRound) (p : Position) → (wrote o p .counts .comparisons ≡ p .counts .comparisons) × (wrote o p .place .index ≡ p .place .index)
 unfolding wrote
 wrote-same (pollOf n) p = (refl, refl)
 wrote-same (writeName n) p = (refl, refl)
@@ -83,8 +87,8 @@ unfolding passAdvance
 pass-rises names p b =
     let first = onto-same names p in
     let same = wrote-same (roundHere names (onto names p)) (onto names p) in
-    let up = rises (placeOf (onto names p .step)) (length names) (wrote (roundHere names (onto names p)) (onto names p)) b in
-    let last = onto-same names (moveOn (placeOf (onto names p .step)) (length names) (wrote (roundHere names (onto names p)) (onto names p)) b) in
+    let up = rises (placeOf (onto names p .place .step)) (length names) (wrote (roundHere names (onto names p)) (onto names p)) b in
+    let last = onto-same names (moveOn (placeOf (onto names p .place .step)) (length names) (wrote (roundHere names (onto names p)) (onto names p)) b) in
     let c₁ = first .0 in
     let i₁ = first .1 in
     let c₂ = same .0 in
@@ -104,23 +108,23 @@ advance-rises names p b = byCase (isExtra p) (λ e. rw e extra-rises) (λ e. rw 
     extra-rises = unfold countRaised in record { compared = omega arith; slowly = omega arith; further = omega arith }
 
 -- a round made is counted
-advance-counts : (names : List ℕ) (p : Position) (b : Bool) → 0 < advance names p b .rounds
+advance-counts : (names : List ℕ) (p : Position) (b : Bool) → 0 < advance names p b .counts .rounds
 unfolding advance passAdvance
 advance-counts names p b =
-    byCase {P = 0 < advance names p b .rounds} (isExtra p) (λ e. rw e (unfold countRaised in omega arith))
+    byCase {P = 0 < advance names p b .counts .rounds} (isExtra p) (λ e. rw e (unfold countRaised in omega arith))
     (λ e. rw e (rw (onto-counts names _ .0) (moved-counts _ _ _ b)))
 
 -- the last round of a pass raises the index
-baptized : {l : PassPlace} (count : ℕ) (p : Position) (b : Bool) → l ≡ baptize → moveOn l count p b .index ≡ suc (p .index)
+baptized : {l : PassPlace} (count : ℕ) (p : Position) (b : Bool) → l ≡ baptize → moveOn l count p b .place .index ≡ suc (p .place .index)
 unfolding moveOn nextName
 baptized count p b e = rw e
 
-last-names : (names : List ℕ) (p : Position) (b : Bool) → 0 < p .rounds → p .step ≡ lastStep → advance names p b .index ≡ suc (p .index)
+last-names : (names : List ℕ) (p : Position) (b : Bool) → 0 < p .counts .rounds → p .place .step ≡ lastStep → advance names p b .place .index ≡ suc (p .place .index)
 unfolding advance passAdvance
 last-names names p b c e =
     let here : onto names p ≡ p = stays names p (last-real names p e) in
     rw (some-counted p c, here)
-    (onto-same names (moveOn (placeOf (p .step)) (length names) (wrote (roundHere names p) p) b) .1
+    (onto-same names (moveOn (placeOf (p .place .step)) (length names) (wrote (roundHere names p) p) b) .1
     ∙ baptized (length names) (wrote (roundHere names p) p) b (last-place e) ∙ ap suc (wrote-same (roundHere names p) p .1))
 
 pub length-names : length allNames ≡ nameCount
@@ -158,7 +162,7 @@ made-moved f buffer names p {mask} {q} {new} {file} e =
     let z : _≡_ {A = ℕ} 0 1 = cc in absurd (omega arith))
 
 pub moves :
-    (f buffer : List ℕ) (p : Position) {mask : ℕ} {q : Position} {new file : List ℕ} → (p .rounds ≡ 0 → p .step ≡ 0) →
+    (f buffer : List ℕ) (p : Position) {mask : ℕ} {q : Position} {new file : List ℕ} → (p .counts .rounds ≡ 0 → p .place .step ≡ 0) →
     (done (made mask), q, new, file) ≡ stepOn f p allNames buffer → Moves p q
 moves f buffer p {mask} {q} begins e =
     let m = made-moved f buffer allNames p e in
@@ -169,8 +173,8 @@ moves f buffer p {mask} {q} begins e =
       small = let few = m .runs-on .goes .counts .fewer in let slow = up .slowly in omega arith;
       further = up .further;
       named = λ l.
-          let later : p .rounds ≡ 0 → ⊥ = λ z. omega (arith, begins z, l) in
-          ap (λ (x : Position). x .index) (m .moved) ∙ last-names allNames p (m .heard) (omega arith) l;
+          let later : p .counts .rounds ≡ 0 → ⊥ = λ z. omega (arith, begins z, l) in
+          ap (λ (x : Position). x .place .index) (m .moved) ∙ last-names allNames p (m .heard) (omega arith) l;
       made = rw (m .moved) (advance-counts allNames p (m .heard));
     }
 
@@ -192,7 +196,7 @@ module _ {bytes old new : List ℕ} {at next : ℕ} (h : Puts bytes old at new n
 -- ---- one round
 
 module _ {state : ListProgress} {next : RunPosition} {old : List ℕ} (room : Room state (length old)) (m : Moves (positionOf (state .run)) (positionOf next)) where
-  pub after-step-silent : (state .run .step ≡ lastStep → ⊥) →
+  pub after-step-silent : (state .run .place .step ≡ lastStep → ⊥) →
       StepListed state (positionOf next) old (record { run = next; begun = state .begun; given = state .given; at = state .at }) old
   unfolding withoutName
   after-step-silent n =
@@ -202,7 +206,7 @@ module _ {state : ListProgress} {next : RunPosition} {old : List ℕ} (room : Ro
       let y = m .further in
       record {
         reached = λ s file answer file′ answer′.
-            rw (ne-eqb (state .run .step) lastStep n)
+            rw (ne-eqb (state .run .place .step) lastStep n)
             (record {
               is = refl;
               rest = refl;
@@ -220,9 +224,9 @@ module _ {state : ListProgress} {next : RunPosition} {old : List ℕ} (room : Ro
       }
 
   pub after-step-named :
-      {names new : List ℕ} {at : ℕ} → names ≡ allNames → state .run .step ≡ lastStep →
-      PutsAtMost lineSize (nameLine (getD names (state .run .index) 0) (state .run .value) (next .comparisons - state .begun)) old (state .at) new at →
-      StepListed state (positionOf next) old (record { run = next; begun = next .comparisons; given = state .given + 1; at = at }) new
+      {names new : List ℕ} {at : ℕ} → names ≡ allNames → state .run .place .step ≡ lastStep →
+      PutsAtMost lineSize (nameLine (getD names (state .run .place .index) 0) (state .run .place .value) (next .counts .comparisons - state .begun)) old (state .at) new at →
+      StepListed state (positionOf next) old (record { run = next; begun = next .counts .comparisons; given = state .given + 1; at = at }) new
   unfolding withName
   after-step-named {names} {new} {at} is l h =
       let short = h .most in
@@ -234,7 +238,7 @@ module _ {state : ListProgress} {next : RunPosition} {old : List ℕ} (room : Ro
       let up = m .named l in
       record {
         reached = λ s file answer file′ answer′.
-            rw (eq-eqb (state .run .step) lastStep l)
+            rw (eq-eqb (state .run .place .step) lastStep l)
             (record {
               is = rw (puts-take (h .puts), is, add-one);
               rest = puts-drop (h .puts);
@@ -277,7 +281,7 @@ module _
   unfolding steppedOf runAfter
   made-by = rw (is, all) at e
 
-  pub made-moves : (p .rounds ≡ 0 → p .step ≡ 0) → Moves p (positionOf next)
+  pub made-moves : (p .counts .rounds ≡ 0 → p .place .step ≡ 0) → Moves p (positionOf next)
   made-moves begins = moves f answer p begins made-by
 
 module _
@@ -443,15 +447,8 @@ start-room run names text e h =
       most = omega arith;
       within = omega arith;
       long = h;
-      begins = λ z. ap (λ (p : Position). p .step) e;
+      begins = λ z. ap (λ (p : Position). p .place .step) e;
     }
-
-pub totals-fit : {state : ListProgress} {size : ℕ} → Room state size → state .at + totalsSize ≤ size
-totals-fit r =
-    let w = r .within in
-    let m = r .most in
-    let l = r .long in
-    omega arith
 
 -- a text, its length, and the text that holds it in front
 in-front : (front old : List ℕ) {new : List ℕ} {r : ℕ} (f : List ℕ) → length front ≡ r → new ≡ front ++ drop r old →
@@ -466,9 +463,10 @@ listed-refused f {old = old} {w = w} is e h =
     let by = that-ground tt (w .0) (loadGround f) (rw e at is) in
     rw (← (by .0), ne-eqb (w .0) 0 (by .1)) (in-front (refusedLine (w .0)) old f (front-length h) (apart h))
 
-module _ (f : List ℕ) {old mid new answer file : List ℕ} {run : RunPosition} {done : ListProgress} {r : ℕ} (accepted : loadGround f ≡ 0) {names : List ℕ} (all : names ≡ allNames) (fresh-run : positionOf run ≡ fresh names)
+module _ (f : List ℕ) {old mid new answer file : List ℕ} {run : RunPosition} {done : ListProgress} {r : ℕ} (accepted : loadGround f ≡ 0)
+    {names : List ℕ} (all : names ≡ allNames) (fresh-run : positionOf run ≡ fresh names)
     (t : StateIs (listSteps mostSteps (stateOf (record { run = run; begun = 0; given = 0; at = 0 }) f (replicate slots 0) old)) old 0 done file answer mid)
-    (h : Puts (totalsLine (done .given) (done .run .comparisons) (done .run .rounds)) mid (done .at) new r) where
+    (h : Puts (totalsLine (done .given) (done .run .counts .comparisons) (done .run .counts .rounds)) mid (done .at) new r) where
   begins : stateOf (record { run = run; begun = 0; given = 0; at = 0 }) f (replicate slots 0) old ≡ startState f
   unfolding startState
   begins = rw (fresh-run, all)
@@ -485,7 +483,10 @@ module _ (f : List ℕ) {old mid new answer file : List ℕ} {run : RunPosition}
 
   pub listed-accepted : (r, new, file) ≡ listed f old
   unfolding listed listing fileListed withTotals
-  listed-accepted = rw (eq-eqb (loadGround f) 0 accepted, whole) (in-front (take (done .at) mid ++ totalsLine (done .given) (done .run .comparisons) (done .run .rounds)) old file (front-length h) (rw rest-kept at (apart h)))
+  listed-accepted =
+      rw (eq-eqb (loadGround f) 0 accepted, whole)
+      (in-front (take (done .at) mid ++ totalsLine (done .given) (done .run .counts .comparisons) (done .run .counts .rounds)) old file (front-length h)
+      (rw rest-kept at (apart h)))
 
 -- the text holds the listing
 pub listed-fits : (f old : List ℕ) {r : ℕ} {new file : List ℕ} → (r, new, file) ≡ listed f old → r ≤ length new

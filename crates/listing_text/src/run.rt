@@ -4,10 +4,10 @@ ghost use Prim.Native.Nat.{_≤_};
 ghost use lib.ListN.{length};
 ghost use Rattle.listing_text.specs.Rules.Listing.{allNames, listSteps, mostSteps, listed};
 ghost use Rattle.listing_text.specs.Rules.Listing.{listStep as Listing·listStep};
-ghost use Rattle.file.specs.Rules.Grounds.{loadGround};
+ghost use Rattle.file.specs.Rules.FileGrounds.{loadGround};
 ghost use Rattle.file.specs.Inner.Accepted.{Placed};
-ghost use Rattle.cluster.specs.Rules.Bus.{slots};
-ghost use Rattle.naming.specs.Inner.Answers.{positionOf};
+ghost use Rattle.master_slave.specs.Rules.Bus.{slots};
+ghost use Rattle.naming.specs.Inner.StepAnswers.{positionOf};
 ghost use Rattle.listing_text.specs.Inner.ListRuns.{stateOf, Room, StateIs, Moves, StepListed, movedTo, noneGiven};
 ghost use Rattle.listing_text.specs.Rules.Listing.{textSize};
 use crate::put::LINE_SIZE;
@@ -15,13 +15,13 @@ use crate::put::TOTALS_SIZE;
 use crate::put::put_name;
 use crate::put::put_refused;
 use crate::put::put_totals;
-use cluster::answer::SLOTS;
 use file::survey::FileAnswer;
 use file::survey::check;
 use file::survey::survey;
 use file::types::PLACES;
 use file::types::SlavePlaces;
-use naming::position::LAST_STEP;
+use master_slave::slots::SLOTS;
+use naming::pass::LAST_STEP;
 use naming::position::RunPosition;
 use naming::position::first_position;
 use naming::run::Stepped;
@@ -67,7 +67,7 @@ fn after_step(names: &[u8], state: ListProgress, next: RunPosition, text: &mut [
     ensures { λ r. ⌜ StepListed state (positionOf next) (now (text .entry)) r (now (text .exit)) ⌝ }
 {
     let run = state.run;
-    if run.step != LAST_STEP {
+    if run.place.step != LAST_STEP {
         return ListProgress {
             run: next,
             begun: state.begun,
@@ -75,12 +75,12 @@ fn after_step(names: &[u8], state: ListProgress, next: RunPosition, text: &mut [
             at: state.at,
         };
     }
-    let index = run.index as usize;
-    let comparisons = next.comparisons - state.begun;
-    let at = put_name(text, state.at, names[index], run.value, comparisons);
+    let index = run.place.index as usize;
+    let comparisons = next.counts.comparisons - state.begun;
+    let at = put_name(text, state.at, names[index], run.place.value, comparisons);
     ListProgress {
         run: next,
-        begun: next.comparisons,
+        begun: next.counts.comparisons,
         given: state.given + 1,
         at,
     }
@@ -100,12 +100,12 @@ fn moved_to(state: ListProgress, run: RunPosition) -> ListProgress
 
 // Whether no step is left, or the next one gives no name: the run has then ended, or goes no further.
 fn is_over(left: u64, run: RunPosition) -> bool
-    ensures { λ r. ⌜ r ≡ noneGiven left (run .step) ⌝ }
+    ensures { λ r. ⌜ r ≡ noneGiven left (run .place .step) ⌝ }
 {
     if left == 0 {
         return true;
     }
-    run.step != LAST_STEP
+    run.place.step != LAST_STEP
 }
 
 // One step of the run, on an accepted file and with the places of its slaves.
@@ -176,7 +176,13 @@ fn list_accepted(file: &mut [u8], text: &mut [u8]) -> usize
     };
     let done = all_steps(file, &places, &names, &mut answer, start, text);
     let run = done.run;
-    put_totals(text, done.at, done.given, run.comparisons, run.rounds)
+    put_totals(
+        text,
+        done.at,
+        done.given,
+        run.counts.comparisons,
+        run.counts.rounds,
+    )
 }
 
 // The listing of a cluster file, which is left as the run leaves it. The text's length.

@@ -12,23 +12,27 @@ use lib.Dec.{eqb}
 use borrow.Author.Tests.{eq-eqb, ne-eqb, le-ltb, lt-leb, eqb-true, eqb-false}
 use Rattle.file.specs.Rules.Bytes.{All, allEmpty, allNext as also}
 use Rattle.file.specs.Rules.Order.{both}
-use Rattle.file.specs.Rules.Grounds.{isAmong}
+use Rattle.file.specs.Rules.FileGrounds.{isAmong}
 use Rattle.file.proofs.Bytes.{all-first}
 use Rattle.file.proofs.Order.{byCase, both-true, either-false, both-false-left, both-false-right}
 use Rattle.naming.specs.Inner.View.{SlaveView, viewUnnamed, unnamedChange, change, changeAll, answers}
-use Rattle.naming.specs.Rules.Rounds.{RunRound, RunRound.poll as pollOf, writeName, writeHigh, writeLow, compare, RunRound.baptize as baptizeAll, half}
-use Rattle.naming.specs.Rules.Run.{Position, running, namesUsedUp, PassPlace, high, low, reply, placeOf, roundAt, roundHere, isRepeated, isNeedless}
-use Rattle.naming.specs.Rules.Run.{passRound, isExtra, countRaised, passAdvance, nextRound, advance, unfitPosition, countLimit, lastStep, bits, tried}
+use Rattle.naming.specs.Rules.RunRounds.{RunRound, RunRound.poll as pollOf, writeName, writeHigh, writeLow, compare, RunRound.baptize as baptizeAll, half}
+use Rattle.naming.specs.Rules.Position.{Position, running, namesUsedUp}
+use Rattle.naming.specs.Rules.Pass.{PassPlace, high, low, reply, placeOf}
+use Rattle.naming.specs.Rules.Run.{roundAt, roundHere, isRepeated, isNeedless}
+use Rattle.naming.specs.Rules.Pass.{lastStep, bits}
+use Rattle.naming.specs.Rules.Run.{passRound, isExtra, countRaised, passAdvance, nextRound, advance, tried}
+use Rattle.naming.specs.Rules.RunGrounds.{unfitPosition, countLimit}
 use Rattle.naming.specs.Inner.PassPlaces.{stepOf}
 use Rattle.naming.specs.Rules.Account.{namingComparisons, Named, Account, StepArguments, FrameArguments, Call, step, frame, argumentsGround}
-use Rattle.naming.specs.Rules.Account.{accountCall, accountAfter, passOn, extra, oneRound, comparisonsOf}
+use Rattle.naming.specs.Rules.Account.{accountCall, accountAfter, passOn, extra, oneRound, comparisonsAfter, highAgain, comparisonsOf}
 use Rattle.naming.proofs.Places.{LegalPlace, inner, at-poll, at-ask, at-name, at-high, at-low, at-baptize, step-lt}
-use Rattle.naming.proofs.Walk.{compared-most, count-past}
+use Rattle.naming.proofs.Walk.{compared, compared-most, count-past}
 use Rattle.naming.proofs.Search.{tried-small}
 use Rattle.naming.proofs.Facts.{Fit}
 use Rattle.naming.proofs.PositionLaws.{stays}
 use Rattle.naming.proofs.Answers.{namedOf, Same, same-names, same-told}
-use Rattle.naming.proofs.Simulation.{position, Told, At, Tie, going, over, place-here, round-here, needless-here, settle, moves, length-here}
+use Rattle.naming.proofs.Simulation.{Told, Pass, At, Tie, going, over, place-here, round-here, needless-here, settle, moves, length-here}
 use Rattle.naming.proofs.Tally.{Tally, in-pass, ended, Done, due, length-of-pass, tally-round}
 
 -- ---- the laws
@@ -70,7 +74,7 @@ pub record Laws
       unfitPosition names p ≡ false → (p .end ≡ running → ⊥) → call s p (step arguments) ≡ (s, p)
   -- any other step makes its round and moves on by the answer; slaves may sleep before the run's first round, the extra read, alone
   pub steps :
-      (s : S) (p : Position) (arguments : StepArguments) → Good s → ((p .rounds ≡ 0 → ⊥) → Awake s) → Allowed s p (step arguments) →
+      (s : S) (p : Position) (arguments : StepArguments) → Good s → ((p .counts .rounds ≡ 0 → ⊥) → Awake s) → Allowed s p (step arguments) →
       argumentsGround (map namedOf (view s)) arguments ≡ 0 → unfitPosition names p ≡ false → p .end ≡ running →
       Sendable (nextRound names p) → Stepped S names view Good Awake s p (call s p (step arguments))
   -- a frame of others, refused or not, leaves each slave's names, and an unnamed slave whole, and the run, and puts nobody to sleep
@@ -81,21 +85,19 @@ pub record Laws
 -- ---- the tie, call by call
 
 operation-here :
-    {names : List ℕ} {vs : List SlaveView} {l : PassPlace} {index step value rounds comparisons h l′ n done k : ℕ} {ns ws held : List ℕ} {slaves : List Named} →
-    At names vs l index step value rounds comparisons h l′ n ns ws slaves held done k →
-    isNeedless names (position running index step value rounds comparisons h l′) ≡ false →
-    passRound names (position running index step value rounds comparisons h l′) ≡ roundAt l n value
+    {names : List ℕ} {vs : List SlaveView} {l : PassPlace} {p : Position} {a : Pass} → At names vs l p a →
+    isNeedless names p ≡ false → passRound names p ≡ roundAt l (a .name) (p .place .value)
 unfolding passRound
-operation-here {names} i real = rw (stays names _ real) (round-here i)
+operation-here {names} {p = p} i real = rw (stays names p real) (round-here i)
 
 -- a round of the pass
 tie-pass :
     {names : List ℕ} {vs : List SlaveView} {p : Position} {a : Account} → Tie names vs p a → p .end ≡ running →
     Tie names (changeAll (passRound names p) vs) (passAdvance names p (answers (passRound names p) vs)) (passOn a)
 unfolding passAdvance
-tie-pass {names} {vs} (going {l = l} {index = index} {step = j} {value = value} {rounds = rounds} {comparisons = comparisons} {h = h} {l′ = l′} {n = n} {done = done} {k = k} {ns = ns} {ws = ws} {held = held} {slaves = slaves} i real) m =
-    rw (operation-here i real, stays names (position running index j value rounds comparisons h l′) real, round-here i, place-here i)
-    (settle (moves names vs l index j value rounds comparisons h l′ n ns ws slaves held done k (i .legal) i (sym (needless-here i) ∙ real)))
+tie-pass {names} {vs} {p} (going {l = l} {a = a} i real) m =
+    rw (operation-here i real, stays names p real, round-here i, place-here i)
+    (settle (moves names vs l p a (i .legal) i (sym (needless-here i) ∙ real)))
 tie-pass (over o) m = absurd (omega (arith, o .some))
 
 -- the extra round: a poll changes no view, and the reply is ignored
@@ -110,7 +112,7 @@ polled n (v ∷ vs) = rw (one v, polled n vs)
 -- which writes are needless does not depend on the rounds made
 needless-raised : (names : List ℕ) (p : Position) → isNeedless names p ≡ isNeedless names (countRaised p)
 unfolding isNeedless roundHere countRaised
-needless-raised names p = rw (repeats (roundAt (placeOf (p .step)) (getD names (p .index) 0) (p .value)))
+needless-raised names p = rw (repeats (roundAt (placeOf (p .place .step)) (getD names (p .place .index) 0) (p .place .value)))
   where
     repeats : (r : RunRound) → isRepeated r p ≡ isRepeated r (countRaised p)
     repeats (pollOf n) = unfold isRepeated in refl
@@ -122,13 +124,27 @@ needless-raised names p = rw (repeats (roundAt (placeOf (p .step)) (getD names (
 
 tie-extra : {names : List ℕ} {vs : List SlaveView} {p : Position} {a : Account} → Tie names vs p a → p .end ≡ running → Tie names vs (countRaised p) (extra a)
 unfolding countRaised extra
-tie-extra {names} {vs} (going {l = l} {index = index} {step = j} {value = value} {rounds = rounds} {comparisons = comparisons} {h = h} {l′ = l′} {n = n} {done = done} {k = k} {ns = ns} {ws = ws} {held = held} {slaves = slaves} i real) m =
-    let g : At names vs l index j value (suc rounds) comparisons h l′ n ns ws slaves held done k = record {
+tie-extra {names} {vs} {p} (going {l = l} {a = a} i real) m =
+    let raised : Pass =
+    record {
+      name = a .name;
+      others = a .others;
+      waiting = a .waiting;
+      slaves = a .slaves;
+      held = a .held;
+      rounds = suc (a .rounds);
+      done = a .done;
+      k = a .k;
+    } in
+    let g : At names vs l (countRaised p) raised =
+    record {
+      runs = i .runs;
       legal = i .legal;
       facts = i .facts;
       here = i .here;
       place = i .place;
       made = i .made;
+      rounds = ap suc (i .rounds);
       counted = i .counted;
       views = i .views;
       known = i .known;
@@ -136,7 +152,7 @@ tie-extra {names} {vs} (going {l = l} {index = index} {step = j} {value = value}
       heard = i .heard;
       small = i .small;
     } in
-    going g (sym (needless-raised names (position running index j value rounds comparisons h l′)) ∙ real)
+    going g (sym (needless-raised names p) ∙ real)
 tie-extra (over o) m = absurd (omega (arith, o .some))
 
 pub tie-step :
@@ -145,7 +161,7 @@ pub tie-step :
 unfolding nextRound advance oneRound isExtra
 tie-step {names} {vs} {p} {a} t m =
     let ends : eqb (a .end) 0 ≡ true = eq-eqb _ _ (sym (same-end t) ∙ m) in
-    byCase (eqb (p .rounds) 0)
+    byCase (eqb (p .counts .rounds) 0)
     (λ e.
     let counts : eqb (a .rounds) 0 ≡ true = eq-eqb _ _ (sym (same-rounds t) ∙ eqb-true _ _ e) in
     rw (e, both-true ends counts, polled (getD names 0 0) vs) (tie-extra t m))
@@ -154,73 +170,81 @@ tie-step {names} {vs} {p} {a} t m =
     rw (e, both-false-right (eqb (a .end) 0) counts) (tie-pass t m))
   where
     same-end : {p : Position} {a : Account} → Tie names vs p a → p .end ≡ a .end
-    same-end (going i real) = refl
-    same-end (over o) = refl
+    same-end (going i real) = i .runs
+    same-end (over o) = o .end
 
-    same-rounds : {p : Position} {a : Account} → Tie names vs p a → p .rounds ≡ a .rounds
-    same-rounds (going i real) = refl
-    same-rounds (over o) = refl
+    same-rounds : {p : Position} {a : Account} → Tie names vs p a → p .counts .rounds ≡ a .rounds
+    same-rounds (going i real) = i .rounds
+    same-rounds (over o) = o .rounds
 
 -- an ended account makes no more rounds
 tie-idle : {names : List ℕ} {vs : List SlaveView} {p : Position} {a : Account} → Tie names vs p a → (p .end ≡ running → ⊥) → oneRound a ≡ a
 unfolding oneRound passOn both
-tie-idle (going i real) n = absurd (n refl)
-tie-idle (over {end = end} o) n = let z : end ≡ 0 → ⊥ = omega (arith, o .some) in rw (ne-eqb end 0 z)
+tie-idle (going i real) n = absurd (n (i .runs))
+tie-idle {a = a} (over o) n = let z : a .end ≡ 0 → ⊥ = omega (arith, o .some, o .end) in rw (ne-eqb (a .end) 0 z)
 
 -- rounds of others
 tie-others : {names : List ℕ} {vs ws : List SlaveView} {p : Position} {a : Account} → Same vs ws → Tie names vs p a → Tie names ws p a
-tie-others s (going {l = l} {h = h} {l′ = l′} {n = n} i real) =
-    going
+tie-others {p = p} s (going {l = l} {a = a} i real) =
+    going {a = a}
     (record {
+      runs = i .runs;
       legal = i .legal;
       facts = i .facts;
       here = i .here;
       place = i .place;
       made = i .made;
+      rounds = i .rounds;
       counted = i .counted;
       views = same-names s ∙ i .views;
       known = i .known;
       halves = i .halves;
-      heard = same-told (Told l n h l′) s (i .heard);
+      heard = same-told (Told l (a .name) (p .halves)) s (i .heard);
       small = i .small;
     })
     real
-tie-others s (over o) =
-    over (record { views = same-names s ∙ o .views; some = o .some; most = o .most; within = o .within; counted = o .counted })
+tie-others {a = a} s (over o) =
+    over {a = a}
+    (record {
+      views = same-names s ∙ o .views;
+      end = o .end;
+      some = o .some;
+      most = o .most;
+      within = o .within;
+      rounds = o .rounds;
+      counted = o .counted;
+    })
 
 -- what the tie says
 pub record Agree (vs : List SlaveView) (p : Position) (a : Account) : Type 0 where
   pub names : map namedOf vs ≡ a .slaves
   pub end : p .end ≡ a .end
-  pub rounds : p .rounds ≡ a .rounds
-  pub comparisons : p .comparisons ≡ comparisonsOf a
+  pub rounds : p .counts .rounds ≡ a .rounds
+  pub comparisons : p .counts .comparisons ≡ comparisonsOf a
 
 pub tie-agree : {names : List ℕ} {vs : List SlaveView} {p : Position} {a : Account} → Tie names vs p a → Agree vs p a
 unfolding comparisonsOf
-tie-agree (going {done = done} {ws = ws} i real) =
-    record {
-      names = i .views;
-      end = refl;
-      rounds = refl;
-      comparisons = i .counted ∙ ap (λ (x : ℕ). done + x) (sym (rw (i .made) (count-past ws (i .legal))));
-    }
-tie-agree (over o) = record { names = o .views; end = refl; rounds = refl; comparisons = o .counted }
+tie-agree (going {a = a} i real) =
+    let made : comparisonsAfter (highAgain (a .waiting)) (a .k) ≡ compared _ =
+    ap (comparisonsAfter (highAgain (a .waiting))) (i .made) ∙ count-past (a .waiting) (i .legal) in
+    record { names = i .views; end = i .runs; rounds = i .rounds; comparisons = i .counted ∙ ap (λ (x : ℕ). a .done + x) (sym made) }
+tie-agree (over o) = record { names = o .views; end = o .end; rounds = o .rounds; comparisons = o .counted }
 
 -- what is sent are bytes
 sendable-at :
-    {names : List ℕ} {vs : List SlaveView} {l : PassPlace} {index step value rounds comparisons h l′ n done k : ℕ} {ns ws held : List ℕ} {slaves : List Named} →
-    LegalPlace l → At names vs l index step value rounds comparisons h l′ n ns ws slaves held done k → Sendable (roundAt l n value)
+    {names : List ℕ} {vs : List SlaveView} {l : PassPlace} {p : Position} {a : Pass} → LegalPlace l → At names vs l p a →
+    Sendable (roundAt l (a .name) (p .place .value))
 unfolding roundAt
 sendable-at (inner at-poll) i = of-poll (all-first (i .facts .fit))
-sendable-at {value = value} (inner (at-ask {q = q} high h)) i =
-    let t : tried q value < 2 ^ bits = tried-small h value (i .small) in
-    let k : tried q value / half < half = omega arith in
+sendable-at {p = p} (inner (at-ask {q = q} high h)) i =
+    let t : tried q (p .place .value) < 2 ^ bits = tried-small h (p .place .value) (i .small) in
+    let k : tried q (p .place .value) / half < half = omega arith in
     of-high k
-sendable-at {value = value} (inner (at-ask {q = q} low h)) i = let k : tried q value % half < half = omega arith in of-low k
+sendable-at {p = p} (inner (at-ask {q = q} low h)) i = let k : tried q (p .place .value) % half < half = omega arith in of-low k
 sendable-at (inner (at-ask reply h)) i = of-compare
 sendable-at (inner at-name) i = of-name (all-first (i .facts .fit))
-sendable-at {value = value} (inner at-high) i = let k : value / half < half = omega (arith, i .small) in of-high k
-sendable-at {value = value} (inner at-low) i = let k : value % half < half = omega arith in of-low k
+sendable-at {p = p} (inner at-high) i = let k : p .place .value / half < half = omega (arith, i .small) in of-high k
+sendable-at {p = p} (inner at-low) i = let k : p .place .value % half < half = omega arith in of-low k
 sendable-at at-baptize i = of-baptize
 
 pass-sendable : {names : List ℕ} {vs : List SlaveView} {p : Position} {a : Account} → Tie names vs p a → p .end ≡ running → Sendable (passRound names p)
@@ -233,7 +257,7 @@ tie-sendable {names} {vs} {p} {a} fit t m =
     byCase (isExtra p) (λ e. rw e (of-poll (first-fit fit (nonempty t m)))) (λ e. rw e (pass-sendable t m))
   where
     nonempty : {p : Position} {a : Account} → Tie names vs p a → p .end ≡ running → 0 < length names
-    nonempty (going {index = index} {n = n} {ns = ns} i real) m = omega (arith, length-here names index n ns (i .here))
+    nonempty {p = p} (going {a = a} i real) m = omega (arith, length-here names (p .place .index) (a .name) (a .others) (i .here))
     nonempty (over o) m = absurd (omega (arith, o .some))
 
     first-fit : {l : List ℕ} → All Fit l → 0 < length l → Fit (getD l 0 0)
@@ -271,21 +295,24 @@ tie-fit :
     {names : List ℕ} {vs : List SlaveView} {p : Position} {a : Account} (R C : ℕ) → Tie names vs p a → (a .end ≡ 0 → Short R C a) →
     R < countLimit → C + namingComparisons < countLimit → unfitPosition names p ≡ false
 unfolding unfitPosition
-tie-fit {names} R C (going {l = l} {index = index} {step = j} {rounds = rounds} {comparisons = comparisons} {n = n} {done = done} {ns = ns} i real) s r c =
-    let size : length names ≡ index + suc (length ns) = length-here names index n ns (i .here) in
-    let m : j ≤ lastStep = omega (arith, i .place, step-most (i .legal)) in
-    let x : rounds < countLimit = omega (arith, s refl .rounds) in
-    let y : comparisons < countLimit = omega (arith, s refl .done, i .counted, compared-most l) in
+tie-fit {names} {p = p} R C (going {l = l} {a = a} i real) s r c =
+    let index = p .place .index in
+    let size : length names ≡ index + suc (length (a .others)) = length-here names index (a .name) (a .others) (i .here) in
+    let e : p .end ≤ namesUsedUp = omega (arith, i .runs) in
+    let m : p .place .step ≤ lastStep = omega (arith, i .place, step-most (i .legal)) in
+    let x : p .counts .rounds < countLimit = omega (arith, s refl .rounds, i .rounds) in
+    let y : p .counts .comparisons < countLimit = omega (arith, s refl .done, i .counted, compared-most l) in
     let z : index ≡ length names → ⊥ = omega arith in
-    either-false refl
+    either-false (le-ltb namesUsedUp (p .end) e)
     (either-false (le-ltb (length names) index (omega arith))
     (both-false-right _
     (either-false (ne-eqb index (length names) z)
-    (either-false (le-ltb lastStep j m) (either-false (lt-leb countLimit rounds x) (lt-leb countLimit comparisons y))))))
-tie-fit {names} R C (over {end = end} {index = index} o) s r c =
-    let z : end ≡ running → ⊥ = omega (arith, o .some) in
-    either-false (le-ltb namesUsedUp end (o .most))
-    (either-false (le-ltb (length names) index (o .within)) (both-false-left _ (ne-eqb end running z)))
+    (either-false (le-ltb lastStep (p .place .step) m)
+    (either-false (lt-leb countLimit (p .counts .rounds) x) (lt-leb countLimit (p .counts .comparisons) y))))))
+tie-fit {names} {p = p} R C (over o) s r c =
+    let z : p .end ≡ running → ⊥ = omega (arith, o .some) in
+    either-false (le-ltb namesUsedUp (p .end) (o .most))
+    (either-false (le-ltb (length names) (p .place .index) (o .within)) (both-false-left _ (ne-eqb (p .end) running z)))
 
 -- ---- every list of calls
 
@@ -307,7 +334,7 @@ pub record Between
     (S : Type 0) (names : List ℕ) (view : S → List SlaveView) (Good Awake : S → Type 0) (R C : ℕ) (F : List Named) (w : S × Position) (a : Account) :
     Type 0 where
   pub good : Good (w .0)
-  pub awake : (w .1 .rounds ≡ 0 → ⊥) → Awake (w .0)
+  pub awake : (w .1 .counts .rounds ≡ 0 → ⊥) → Awake (w .0)
   pub tie : Tie names (view (w .0)) (w .1) a
   pub tally : Tally R C F a
 
@@ -352,7 +379,12 @@ module _
       (λ f. rw (f, laws .turned (w .0) (w .1) arguments (h .good) (λ z. eqb-false _ _ f (sym same ∙ z))) h)
   one-call w a (frame arguments) h allowed =
       let o : Left S view Good Awake (w .0) (w .1) (call (w .0) (w .1) (frame arguments)) = laws .others (w .0) (w .1) arguments (h .good) allowed in
-      record { good = o .good; awake = λ n. o .awake (h .awake (λ z. n (ap (λ (q : Position). q .rounds) (o .stays) ∙ z))); tie = rw (o .stays) (tie-others (o .same) (h .tie)); tally = h .tally }
+      record {
+        good = o .good;
+        awake = λ n. o .awake (h .awake (λ z. n (ap (λ (q : Position). q .counts .rounds) (o .stays) ∙ z)));
+        tie = rw (o .stays) (tie-others (o .same) (h .tie));
+        tally = h .tally;
+      }
 
   pub all-calls :
       (w : S × Position) (a : Account) (cs : List Call) → Between S names view Good Awake R C F w a → Permitted S Allowed call w cs →

@@ -12,11 +12,11 @@ use borrow.Author.Tests.{eqb-true, eqb-false, eq-eqb, ne-eqb, lt-leb, leb-false}
 use Rattle.file.specs.Rules.Bytes.{All, All.allEmpty, All.allNext as also}
 use Rattle.file.specs.Rules.Order.{both}
 use Rattle.file.specs.Rules.Cluster.{unnamed}
-use Rattle.file.specs.Rules.Grounds.{isAmong}
+use Rattle.file.specs.Rules.FileGrounds.{isAmong}
 use Rattle.file.proofs.Bytes.{all-map}
 use Rattle.file.proofs.Order.{byCase, clash, both-true, both-false-left, both-false-right, either-left, either-right, either-next, either-false}
 use Rattle.naming.specs.Inner.View.{SlaveView, unnamedChange, change, replies, someone, changeAll, answers, comparisonOf, viewUnnamed}
-use Rattle.naming.specs.Rules.Rounds.{RunRound, poll, writeName, writeHigh, writeLow, compare, baptize}
+use Rattle.naming.specs.Rules.RunRounds.{RunRound, poll, writeName, writeHigh, writeLow, compare, baptize}
 use Rattle.naming.specs.Rules.Account.{Named, give, namesHeld}
 use Rattle.naming.proofs.Facts.{physicals, all-among, among-here}
 
@@ -192,13 +192,6 @@ named-unnamed v w e = ap (λ (s : Named). eqb (s .logical) unnamed) e
 pub same-refl : (vs : List SlaveView) → Same vs vs
 same-refl [] = end
 same-refl (v ∷ vs) = next (record { names = refl; kept = λ u. refl }) (same-refl vs)
-
-pub same-trans : {us vs ws : List SlaveView} → Same us vs → Same vs ws → Same us ws
-same-trans end end = end
-same-trans (next {v = u} {w = v} s h) (next {w = w} t k) =
-    next
-    (record { names = t .names ∙ s .names; kept = λ e. t .kept (named-unnamed u v (s .names) ∙ e) ∙ s .kept e })
-    (same-trans h k)
 
 pub same-names : {vs ws : List SlaveView} → Same vs ws → map namedOf ws ≡ map namedOf vs
 same-names end = refl

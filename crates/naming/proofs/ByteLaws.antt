@@ -15,31 +15,35 @@ use Rattle.file.specs.Rules.Order.{firstOf, both}
 use Rattle.file.specs.Rules.Cluster.{Slave, Cluster, bytesIn, configuration, physicalName, logicalName, logicalNames, unnamed, broadcast, fileNumberOf}
 use Rattle.file.specs.Rules.Cluster.{operationOf, pb2Of, readOperation, writeOperation, executeOperation}
 use Rattle.file.specs.Rules.Decode.{decode}
-use Rattle.file.specs.Rules.Grounds.{fileGround}
+use Rattle.file.specs.Rules.FileGrounds.{fileGround}
 use Rattle.file.specs.Inner.Accepted.{Becomes}
 use Rattle.file.proofs.Order.{byCase, clash, both-left, both-right, both-false-left, both-false-right, either-next, first-none, first-next, first-end, first-alike}
 use Rattle.file.proofs.Accepted.{encode-bytes}
 use Rattle.frame.specs.Rules.Fireworks.{Round, multipartner, msd, msa, noRound}
 use Rattle.frame.specs.Rules.Frames.{between}
 use Rattle.file.specs.Rules.Changes.{withSlaves, withEpoch, withPending}
-use Rattle.cluster.specs.Rules.Bus.{slots}
-use Rattle.cluster.specs.Rules.Slaves.{withAddress, epochRaised, Duty, nothing, writing, pendingDuty, dutyBy, executionOf, addresses, addressed, takesWrite}
-use Rattle.cluster.specs.Rules.Slaves.{slaveAfter, slavesAfter, fallsAsleep, rested}
-use Rattle.cluster.specs.Rules.Grounds.{shortAnswer, roundBy}
-use Rattle.cluster.specs.Rules.Multipartner.{clusterBelow}
-use Rattle.cluster.specs.Rules.Round.{passedOver, effectOf, frameOn, roundGround, roundOn}
+use Rattle.master_slave.specs.Rules.Bus.{slots}
+use Rattle.master_slave.specs.Rules.Slaves.{withAddress, epochRaised, Duty, nothing, writing, pendingDuty, dutyBy, executionOf, addresses, addressed, takesWrite}
+use Rattle.master_slave.specs.Rules.Slaves.{slaveAfter, slavesAfter, fallsAsleep, rested}
+use Rattle.cluster.specs.Rules.RoundGrounds.{shortAnswer, roundBy}
+use Rattle.multipartner.specs.Rules.Multipartner.{clusterBelow}
+use Rattle.multipartner.specs.Rules.Multipartner.{passedOver}
+use Rattle.cluster.specs.Rules.Round.{effectOf, frameOn, roundGround, roundOn}
 use Rattle.cluster.specs.Rules.Summary.{Summary, wrongSummary, roundKeepingGround}
 use Rattle.cluster.proofs.SummaryLaws.{given-behind}
 use Rattle.cluster.proofs.Keeping.{keeping-round, keeping-refused, keeping-accepted}
 use Rattle.cluster.proofs.Rounds.{round-accepted, round-becomes, round-kept, between-bytes}
-use Rattle.cluster.proofs.Kept.{slaveAfter-kept}
+use Rattle.master_slave.proofs.Kept.{slaveAfter-kept}
 use Rattle.cluster.proofs.Replaced.{write-left, write-keeps-name}
-use Rattle.cluster.proofs.Untouched.{filesOf, Unstored, Leaves, by-nothing, by-read, by-write, by-compare, by-baptize, below-other, after-other, rested-other}
+use Rattle.master_slave.proofs.Untouched.{filesOf, Leaves, by-nothing, by-read, by-write, by-compare, by-baptize, after-other, rested-other}
+use Rattle.multipartner.proofs.Unstored.{Unstored, below-other}
 use Rattle.cluster.proofs.Sleep.{rested-awake}
 use Rattle.cluster.specs.Claims.Sleep.{AllAwake}
 use Rattle.naming.specs.Inner.View.{SlaveView, viewOf, view, viewUnnamed}
-use Rattle.naming.specs.Rules.Rounds.{sent}
-use Rattle.naming.specs.Rules.Run.{Position, running, unfitPosition, namesGrounds, runGrounds, nextRound}
+use Rattle.naming.specs.Rules.RunRounds.{sent}
+use Rattle.naming.specs.Rules.Position.{Position, running}
+use Rattle.naming.specs.Rules.Run.{nextRound}
+use Rattle.naming.specs.Rules.RunGrounds.{unfitPosition, namesGrounds, runGrounds}
 use Rattle.cluster.specs.Rules.MasterSlave.{roundSent}
 use Rattle.naming.specs.Rules.Step.{stepGround, stepKeepingGround}
 use Rattle.naming.specs.Rules.Account.{Named, namesOf, namesIn, namesHeld, StepArguments, FrameArguments, Call, step, frame, argumentsGround}
@@ -147,7 +151,7 @@ module _ (names : List ℕ) (n : Names names) where
   closed-step s p arguments g may = rw g at may
 
   running-step :
-      (s : State) (p : Position) (arguments : StepArguments) → Good s → ((p .rounds ≡ 0 → ⊥) → AwakeIn s) → Allowed names s p (step arguments) →
+      (s : State) (p : Position) (arguments : StepArguments) → Good s → ((p .counts .rounds ≡ 0 → ⊥) → AwakeIn s) → Allowed names s p (step arguments) →
       argumentsGround (map namedOf (viewIn s)) arguments ≡ 0 → unfitPosition names p ≡ false → p .end ≡ running →
       Sendable (nextRound names p) → Stepped State names viewIn Good AwakeIn s p (callOn names s p (step arguments))
   unfolding callOn viewIn
@@ -270,7 +274,9 @@ module _ (c : Cluster) (bytes : List ℕ) where
       map physicalName (effectOf c msd bytes .after .slaves) ≡ map physicalName (c .slaves) →
       Same (map viewOf (c .slaves)) (map viewOf (effectOf c msd bytes .after .slaves))
   data-same (leaves l) is b names =
-      all-same (effectOf c msd bytes .after) (unfold effectOf epochRaised withEpoch in rw is (rested-other _ configuration (slavesAfter _ (between bytes) (epochRaised c)) ∙ after-other l (between bytes) (epochRaised c))) names
+      all-same (effectOf c msd bytes .after)
+      (unfold effectOf epochRaised withEpoch in
+      rw is (rested-other _ configuration (slavesAfter _ (between bytes) (epochRaised c)) ∙ after-other l (between bytes) (epochRaised c))) names
   data-same (writesNames {name} other) is b names =
       unfold effectOf rested slavesAfter withSlaves epochRaised withEpoch in
       rw (is, slaves-rest (writing name configuration 1) (map (slaveAfter (writing name configuration 1) (between bytes)) (c .slaves)))

@@ -2,7 +2,7 @@
 use Rattle.naming.specs.Claims.Cases.{MarkedCases}
 use Rattle.naming.specs.Claims.Demand.{DemandThree}
 use Rattle.naming.specs.Claims.Edition.{UnknownEditionStep, UnknownEditionStepKeeping}
-use Rattle.naming.specs.Claims.Editions.{StepsConverted, StepsKeepingConverted, AllCallsConverted, ConvertedBetween, DemandConverted}
+use Rattle.naming.specs.Claims.StepEditions.{StepsConverted, StepsKeepingConverted, AllCallsConverted, ConvertedBetween, DemandConverted}
 use Rattle.naming.specs.Claims.Passes.{PassesCounted, PassesMade}
 use Rattle.naming.specs.Claims.Renaming.{BaptizingStepRenames, OnlyBaptizingStepsRename, StaysLoadable}
 use Rattle.naming.specs.Claims.Summary.{StepWithout, StepsInOrder, StepRefusedBy24, RefusedStepKeepsSummary, KeepingIsStep, StepKeepsSummary}
@@ -22,7 +22,7 @@ use Rattle.naming.proofs.Renaming.{baptizing-step-renames, only-baptizi
 use Rattle.naming.proofs.Summaries.{step-without, steps-in-order, step-refused-by-24, refused-step-keeps-summary, keeping-is-step, step-keeps-summary}
 use Rattle.naming.proofs.Summaries.{step-still-matches, step-still-matches-baptized, calls-keep-summary, filled-and-kept}
 use Rattle.naming.proofs.StepKeeping.{step-keeping-edition}
-use Rattle.naming.proofs.Editions.{steps-converted, steps-keeping-converted, all-calls-converted, converted-between, demand-converted}
+use Rattle.naming.proofs.StepEditions.{steps-converted, steps-keeping-converted, all-calls-converted, converted-between, demand-converted}
 use Rattle.naming.proofs.Unasked.{given-makes-no-difference}
 use Rattle.naming.proofs.HeldOnce.{stays-loadable}
 use Rattle.naming.proofs.PermittedExactly.{permitted-exactly}

@@ -9,7 +9,7 @@ use native.Mathlib.Nat.{suc-min-suc}
 use lib.ListN.{length}
 use lib.Dec.{ltb, leb·suc-suc}
 use borrow.Author.Tests.{lt-ltb, le-ltb, ltb-false}
-use Rattle.file.specs.Rules.Grounds.{isAmong}
+use Rattle.file.specs.Rules.FileGrounds.{isAmong}
 use Rattle.file.proofs.Order.{byCase}
 use Rattle.naming.specs.Rules.Account.{bitClear, namingRounds, namingComparisons, endingRounds, endingComparisons}
 use Rattle.naming.specs.Rules.Figures.{takenNames, freeNames, beforeFree, takenTried, givings, namingSum}

@@ -13,7 +13,8 @@ use Rattle.file.specs.Rules.Cluster.{unnamed}
 use Rattle.file.proofs.AcceptedFacts.{no-repeat}
 use Rattle.file.proofs.Order.{byCase}
 use Rattle.naming.specs.Inner.View.{SlaveView}
-use Rattle.naming.specs.Rules.Run.{Position, fresh, running, unfitPosition, countLimit}
+use Rattle.naming.specs.Rules.Position.{Position, fresh, running}
+use Rattle.naming.specs.Rules.RunGrounds.{unfitPosition, countLimit}
 use Rattle.naming.specs.Rules.Account.{Named, Account, Call, accountOf, accountAfter, comparisonsOf, falling, unnamedAmong, namesHeld, namingComparisons, endingRounds}
 use Rattle.naming.specs.Rules.Figures.{Outcome, extraFor, roundsFor, comparisonsFor, namesAfter, givings}
 use Rattle.naming.proofs.Answers.{namedOf}
@@ -31,7 +32,7 @@ pub record Holds
   pub good : Good (w .0)
   pub agree : Agree (view (w .0)) (w .1) a
   pub fit : unfitPosition names (w .1) ≡ false
-  pub outcome : Outcome slaves names (map namedOf (view (w .0))) (w .1 .end) (w .1 .rounds) (w .1 .comparisons)
+  pub outcome : Outcome slaves names (map namedOf (view (w .0))) (w .1 .end) (w .1 .counts .rounds) (w .1 .counts .comparisons)
 
 -- as many names are given as there are unnamed slaves and free names, the lesser of the two
 pub given-count : (ws ns : List ℕ) → length (givings ws ns) ≡ min (length ws) (length ns)
@@ -105,7 +106,7 @@ module _ (slaves : List Named) (names : List ℕ) where
 
   -- the closed figures, of all that agrees with it
   outcome : (vs : List SlaveView) (p : Position) (a : Account) → Agree vs p a →
-      Tally (roundsFor slaves names) (comparisonsFor slaves names) (namesAfter slaves names) a → Outcome slaves names (map namedOf vs) (p .end) (p .rounds) (p .comparisons)
+      Tally (roundsFor slaves names) (comparisonsFor slaves names) (namesAfter slaves names) a → Outcome slaves names (map namedOf vs) (p .end) (p .counts .rounds) (p .counts .comparisons)
   unfolding comparisonsOf
   outcome vs p a g t =
       record {
@@ -121,7 +122,7 @@ module _ (slaves : List Named) (names : List ℕ) where
 -- ---- the theorem
 
 -- a fresh run has made no round
-none-made : (names : List ℕ) → fresh names .rounds ≡ 0
+none-made : (names : List ℕ) → fresh names .counts .rounds ≡ 0
 unfolding fresh
 none-made names = refl
 
@@ -187,4 +188,5 @@ demand S names view Good Awake Allowed call laws n start good s few calls permit
 
     after : Between S names view Good Awake R C F w a
     after =
-        all-calls S names view Good Awake Allowed call laws R C F few-rounds few-comparisons (names-fit (n .bytes) (n .fit)) (start, fresh names) (accountOf slaves names) calls (between-start S names view Good Awake n start good s) permitted
+        all-calls S names view Good Awake Allowed call laws R C F few-rounds few-comparisons (names-fit (n .bytes) (n .fit)) (start, fresh names)
+        (accountOf slaves names) calls (between-start S names view Good Awake n start good s) permitted

@@ -1,12 +1,12 @@
--- No two answers of a call are taken to the same: the maps of `specs/Inner/Answers.antt` and `specs/Inner/Steps.antt` can be undone, of a step's answers together
+-- No two answers of a call are taken to the same: the maps of `specs/Inner/StepAnswers.antt` and `specs/Inner/Steps.antt` can be undone, of a step's answers together
 -- with the run after it.
 -- Assumes nothing.
 use mathlib.Core.Path.{_≡_, refl, sym, _∙_, ap}
 use Rattle.file.specs.Rules.Results.{Result, refused, done}
-use Rattle.naming.specs.Rules.Run.{Position}
+use Rattle.naming.specs.Rules.Position.{Position}
 use Rattle.naming.specs.Rules.Step.{StepDone, ended, made}
 use Rattle.naming.specs.Rules.Steps.{StepsDone, StepsDone.steps as several}
-use Rattle.naming.specs.Inner.Answers.{startedOf, steppedOf, runAfter}
+use Rattle.naming.specs.Inner.StepAnswers.{startedOf, steppedOf, runAfter}
 use Rattle.naming.specs.Inner.Steps.{stepsOf, runThen}
 use Rattle.naming.specs.declared.position.RunPosition.{RunPosition}
 use Rattle.naming.specs.declared.run.Started.{Started}
@@ -20,13 +20,9 @@ run : Position → RunPosition
 run p =
     record {
       end = p .end;
-      index = p .index;
-      step = p .step;
-      value = p .value;
-      rounds = p .rounds;
-      comparisons = p .comparisons;
-      high = p .high;
-      low = p .low;
+      place = record { index = p .place .index; step = p .place .step; value = p .place .value };
+      counts = record { rounds = p .counts .rounds; comparisons = p .counts .comparisons };
+      halves = record { high = p .halves .high; low = p .halves .low };
     }
 
 start : Result Position → Started

@@ -8,14 +8,14 @@ use mathlib.Core.Bool.{true}
 use lib.ListN.{getD}
 use Rattle.file.specs.Rules.Bytes.{All, allEmpty, allNext}
 use Rattle.file.proofs.EditionOne.{edition-at}
-use Rattle.cluster.specs.Claims.Editions.{Convertible}
-use Rattle.cluster.proofs.Editions.{edition-one-widens, own-edition}
-use Rattle.naming.specs.Rules.Run.{Position, fresh}
+use Rattle.cluster.specs.Claims.RoundEditions.{Convertible}
+use Rattle.cluster.proofs.RoundEditions.{edition-one-widens, own-edition}
+use Rattle.naming.specs.Rules.Position.{Position, fresh}
 use Rattle.naming.specs.Claims.Demand.{startOn, of-step, Demand}
-use Rattle.naming.specs.Claims.Editions.{CallOrConversion, call, convert, afterConverting, permittedConverting, callsAmong, Fitting, of-call, of-conversion, WithConversions}
+use Rattle.naming.specs.Claims.StepEditions.{CallOrConversion, call, convert, afterConverting, permittedConverting, callsAmong, Fitting, of-call, of-conversion, WithConversions}
 use Rattle.naming.specs.Claims.Cases.{answerBuffer}
 use Rattle.naming.proofs.Unasked.{plainStep}
-use Rattle.naming.proofs.Editions.{converted-between, demand-converted}
+use Rattle.naming.proofs.StepEditions.{converted-between, demand-converted}
 use Rattle.naming.proofs.Witnesses.{sleeper, sleeper-bytes, sleeper-accepted, one-name, one-name-accepted, two-steps, steps-may, two-counted}
 
 sleeper-edition : getD sleeper 2 0 ≡ 1
@@ -56,6 +56,6 @@ sleeper-demand :
 unfolding mixed callsAmong two-steps
 sleeper-demand = demand-converted sleeper sleeper-bytes sleeper-accepted (5 ∷ []) one-name one-name-accepted mixed mixed-fit mixed-may
 
-rounds-counted : afterConverting (5 ∷ []) (startOn sleeper) (fresh (5 ∷ [])) mixed .1 .rounds ≡ 2
+rounds-counted : afterConverting (5 ∷ []) (startOn sleeper) (fresh (5 ∷ [])) mixed .1 .counts .rounds ≡ 2
 unfolding mixed callsAmong two-steps
-rounds-counted = ap (λ (p : Position). p .rounds) (mixed-alike .run) ∙ two-counted
+rounds-counted = ap (λ (p : Position). p .counts .rounds) (mixed-alike .run) ∙ two-counted

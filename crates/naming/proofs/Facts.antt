@@ -12,7 +12,7 @@ use borrow.Author.Tests.{eqb-true, eq-eqb, ne-eqb}
 use Rattle.file.specs.Rules.Bytes.{All, All.allEmpty, All.allNext as also}
 use Rattle.file.specs.Rules.Legal.{Distinct, Distinct.next as apart}
 use Rattle.file.specs.Rules.Cluster.{unnamed, broadcast}
-use Rattle.file.specs.Rules.Grounds.{isAmong}
+use Rattle.file.specs.Rules.FileGrounds.{isAmong}
 use Rattle.file.proofs.Bytes.{all-first, all-others}
 use Rattle.file.proofs.Order.{byCase, clash, either-left, either-next}
 use Rattle.naming.specs.Rules.Account.{Named, give, namesHeld}

@@ -16,7 +16,7 @@ use Rattle.file.proofs.Width.{few-slaves}
 use Rattle.file.proofs.Bytes.{numberOf-below, bytes-part}
 use Rattle.file.proofs.Order.{byCase, first-none}
 use Rattle.naming.specs.Inner.View.{viewOf, view}
-use Rattle.naming.specs.Rules.Run.{namesGrounds, startGround, countLimit}
+use Rattle.naming.specs.Rules.RunGrounds.{namesGrounds, startGround, countLimit}
 use Rattle.naming.specs.Rules.Account.{Named, namesOf, namesIn, endingRounds}
 use Rattle.naming.proofs.Closed.{mostRounds}
 use Rattle.naming.proofs.Facts.{physicals}

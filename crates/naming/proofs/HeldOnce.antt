@@ -12,14 +12,15 @@ use Rattle.file.specs.Rules.Cluster.{Cluster, logicalNames, unnamed}
 use Rattle.file.specs.Rules.Decode.{decode}
 use Rattle.file.specs.Rules.Legal.{Distinct}
 use Rattle.file.specs.Rules.Order.{both}
-use Rattle.file.specs.Rules.Grounds.{isAmong, hasRepeat, heldNames, loadGround}
+use Rattle.file.specs.Rules.FileGrounds.{isAmong, hasRepeat, heldNames, loadGround}
 use Rattle.file.proofs.Order.{byCase, either-false, either-false-left, either-false-right}
 use Rattle.file.proofs.Bytes.{all-first}
 use Rattle.file.proofs.AcceptedFacts.{among-not}
 use Rattle.file.proofs.Accepted.{accepted-legal}
 use Rattle.file.proofs.HeldLaws.{held-first, held-rest}
 use Rattle.file.proofs.Results.{load-file, load-twice, load-once}
-use Rattle.naming.specs.Rules.Run.{Position, startGround}
+use Rattle.naming.specs.Rules.Position.{Position}
+use Rattle.naming.specs.Rules.RunGrounds.{startGround}
 use Rattle.naming.specs.Rules.Account.{namingRounds, namingComparisons, endingRounds, Named, namesIn, Account, accountOf, give, goOn, passDone}
 use Rattle.naming.specs.Rules.Account.{freePass, pass, passOn, extra, oneRound, namesHeld, Call, step, frame, argumentsGround, accountCall}
 use Rattle.naming.specs.Rules.Account.{accountAfter}

@@ -2,10 +2,11 @@ pub mod Examples
 pub mod Places
 pub mod Search
 pub mod Tries
+pub mod PassCount
 pub mod Walk
 pub mod Facts
 pub mod Answers
-pub mod Rounds
+pub mod AccountRounds
 pub mod Simulation
 pub mod Tally
 pub mod Closed
@@ -44,7 +45,7 @@ pub mod Sleep
 pub mod RoundsMade
 pub mod Renaming
 pub mod Summaries
-pub mod Editions
+pub mod StepEditions
 pub mod Unasked
 pub mod SummaryExamples
 pub mod Witnesses

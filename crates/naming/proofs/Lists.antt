@@ -11,10 +11,10 @@ use Rattle.file.specs.Rules.Bytes.{All, allEmpty, allNext}
 use Rattle.file.specs.Rules.Results.{done}
 use Rattle.file.proofs.Order.{both-left, both-right, both-true, both-next}
 use Rattle.frame.specs.Rules.Fireworks.{Round, multipartner, msd, msa}
-use Rattle.cluster.specs.Rules.Grounds.{roundBy}
+use Rattle.cluster.specs.Rules.RoundGrounds.{roundBy}
 use Rattle.cluster.specs.Rules.Round.{roundGround, roundOn}
 use Rattle.cluster.proofs.Rounds.{round-accepted}
-use Rattle.naming.specs.Rules.Run.{Position}
+use Rattle.naming.specs.Rules.Position.{Position}
 use Rattle.naming.specs.Rules.Step.{stepKeepingGround}
 use Rattle.naming.specs.Rules.Account.{StepArguments, Call, step}
 use Rattle.naming.specs.Claims.Demand.{State, halfwayAfter, callOn, permittedCall, permitted, afterCalls}

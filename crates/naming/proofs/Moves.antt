@@ -15,14 +15,15 @@ use Rattle.file.proofs.Order.{byCase}
 use Rattle.file.proofs.Accepted.{encode-bytes}
 use Rattle.file.proofs.Surveyed.{placed-kept, kept-count}
 use Rattle.frame.proofs.Written.{address-bytes}
-use Rattle.cluster.specs.Rules.Slaves.{nextEpoch}
+use Rattle.master_slave.specs.Rules.Slaves.{nextEpoch}
 use Rattle.cluster.specs.Rules.Round.{roundGround, roundOn}
 use Rattle.cluster.specs.Rules.MasterSlave.{Sent, addressSent, roundSent}
 use Rattle.cluster.specs.Inner.Sending.{MaySend}
-use Rattle.cluster.proofs.Kept.{nextEpoch-byte}
+use Rattle.master_slave.proofs.Kept.{nextEpoch-byte}
 use Rattle.cluster.proofs.Rounds.{round-refused, round-becomes, round-kept}
 use Rattle.cluster.proofs.SentRounds.{data-sent-bytes}
-use Rattle.naming.specs.Rules.Run.{Position, running, bits}
+use Rattle.naming.specs.Rules.Position.{Position, running}
+use Rattle.naming.specs.Rules.Pass.{bits}
 use Rattle.naming.specs.Rules.Step.{StepDone, stepGround, stepOn}
 use Rattle.naming.proofs.StepLaws.{step-refused, step-ended, step-made}
 use Rattle.naming.proofs.StepFrames.{next-sent}
@@ -60,7 +61,7 @@ sent-moved {file} p {s} may buffer =
 
 -- a naming step, refused, of an ended run or made
 pub step-moved :
-    {file places names : List ℕ} (p : Position) (buffer : List ℕ) → Placed file places → Bytes names → p .value < 2 ^ bits →
+    {file places names : List ℕ} (p : Position) (buffer : List ℕ) → Placed file places → Bytes names → p .place .value < 2 ^ bits →
     {answer : Result StepDone} {p′ : Position} {buffer′ file′ : List ℕ} → (answer, p′, buffer′, file′) ≡ stepOn file p names buffer →
     Moved file places file′
 step-moved {file} {places} {names} p buffer placed n small {file′ = file′} is =

@@ -12,12 +12,13 @@ use lib.Dec.{eqb}
 use Rattle.file.specs.Rules.Order.{firstOf, either}
 use Rattle.file.specs.Rules.Results.{refused, done, resultOf}
 use Rattle.file.specs.Rules.Cluster.{unnamed, broadcast}
-use Rattle.file.specs.Rules.Grounds.{isAmong, hasRepeat}
+use Rattle.file.specs.Rules.FileGrounds.{isAmong, hasRepeat}
 use Rattle.file.specs.Inner.Marked.{Marked}
 use Rattle.file.proofs.LookingLaws.{few-once, either-none}
 use Rattle.file.proofs.Marks.{marked-none, marked-add}
 use Rattle.file.proofs.Order.{byCase, clash, either-left, either-right, either-next, either-false, either-false-left, either-false-right}
-use Rattle.naming.specs.Rules.Run.{Position, fresh, unfitName, namesGrounds, startGround, startOver}
+use Rattle.naming.specs.Rules.Position.{Position, fresh}
+use Rattle.naming.specs.Rules.RunGrounds.{unfitName, namesGrounds, startGround, startOver}
 
 -- ---- the marks are those of the names from i on, and it is known whether one of these is there twice
 

@@ -7,11 +7,12 @@ use mathlib.Core.List.{List, [], _∷_, _++_, map, append-nil}
 use mathlib.Core.Bool.{true, false}
 use Rattle.file.specs.Rules.Bytes.{Bytes, All, allEmpty, allNext}
 use Rattle.file.specs.Rules.Decode.{decode}
-use Rattle.file.specs.Rules.Grounds.{fileGround}
+use Rattle.file.specs.Rules.FileGrounds.{fileGround}
 use Rattle.file.specs.Rules.Legal.{Legal}
 use Rattle.file.proofs.Order.{both-left, both-right, clash}
 use Rattle.file.proofs.Accepted.{accepted-legal}
-use Rattle.naming.specs.Rules.Run.{Position, fresh, startGround, unfitPosition}
+use Rattle.naming.specs.Rules.Position.{Position, fresh}
+use Rattle.naming.specs.Rules.RunGrounds.{startGround, unfitPosition}
 use Rattle.naming.specs.Rules.Step.{stepKeepingGround}
 use Rattle.naming.specs.Rules.Account.{Named, StepArguments, Call, argumentsGround, namesIn, accountOf, accountAfter}
 use Rattle.naming.specs.Claims.Demand.{State, startOn, callOn, permittedCall, permitted, afterCalls, OfBytes, Demand, DemandThree}

@@ -11,48 +11,60 @@ use lib.ListN.{length, getD}
 use borrow.Author.Tests.{eq-eqb, ne-eqb, eqb-true, eqb-false, le-leb}
 use Rattle.file.specs.Rules.Order.{both}
 use Rattle.file.proofs.Order.{byCase}
-use Rattle.naming.specs.Rules.Rounds.{half, RunRound, RunRound.poll as pollOf, writeName, writeHigh, writeLow, compare, RunRound.baptize as baptizeAll}
-use Rattle.naming.specs.Rules.Run.{Position, endAt, PassPlace, poll, ask, giveName, giveHigh, giveLow, baptize, least, bit, high, low, reply, placeOf}
+use Rattle.naming.specs.Rules.RunRounds.{half, RunRound}
+use Rattle.naming.specs.Rules.Position.{Position, endAt}
+use Rattle.naming.specs.Rules.Pass.{PassPlace, poll, ask, giveName, giveHigh, giveLow, baptize, least, bit, high, low, reply, placeOf}
 use Rattle.naming.specs.Rules.Run.{tried, roundAt, roundHere, isFirst, isRepeated, isNeedless, atStep, passOver, onto, wrote, onward, nextName}
-use Rattle.naming.specs.Rules.Run.{endAllNamed, moveOn, passAdvance, advance, bits}
+use Rattle.naming.specs.Rules.Pass.{bits}
+use Rattle.naming.specs.Rules.Run.{endAllNamed, moveOn, passAdvance, advance}
 use Rattle.naming.specs.Inner.PassPlaces.{questionNumber, partNumber, stepOf}
 use Rattle.naming.specs.Rules.Account.{bitClear, namingComparisons}
 use Rattle.naming.specs.Claims.Passes.{upperBits, lowerBits, ifMade, passRounds, passFor, executesIn, answerFor, placeMade, afterStep, placesMade, afterSteps, PassesMade}
 use Rattle.naming.proofs.Places.{of-least, of-bit, Inner, LegalPlace, inner, at-poll, at-ask, at-name, at-high, at-low, at-baptize, afterBit, afterPlace, place-of-step, step-after}
 use Rattle.naming.proofs.Search.{cleared, cleared-all, cleared-none, answered}
 use Rattle.naming.proofs.Tries.{attempt, lastTry, try-here, upper-low, upper-high, lower-high, lower-low, middle-high, middle-low, given-high, given-low}
-use Rattle.naming.proofs.PositionLaws.{stays}
+use Rattle.naming.proofs.PositionLaws.{stays, each-wrote}
 use Rattle.naming.proofs.RoundsMade.{onto-again, onto-passed, some-counted, moved-counts}
-use Rattle.naming.proofs.Simulation.{position, needlessAt, tries}
+use Rattle.naming.proofs.Simulation.{needlessAt, tries}
 use Rattle.naming.proofs.Passes.{all-executed}
+
+-- the position of these parts
+abbrev position : ℕ → ℕ → ℕ → ℕ → ℕ → ℕ → ℕ → ℕ → Position
+position end index step value rounds comparisons h l =
+    record {
+      end = end;
+      place = record { index = index; step = step; value = value };
+      counts = record { rounds = rounds; comparisons = comparisons };
+      halves = record { high = h; low = l };
+    }
 
 -- ---- a list of rounds made from a position, needless writes passed over, up to a position of which something holds
 
 pub data Makes (names : List ℕ) (p : ℕ) (P : Position → Type 0) : Position → List PassPlace → Type 0 where
   over : {q : Position} → P (onto names q) → Makes names p P q []
-  skip : {q : Position} {ls : List PassPlace} → isNeedless names q ≡ true → Makes names p P (atStep (suc (q .step)) q) ls → Makes names p P q ls
+  skip : {q : Position} {ls : List PassPlace} → isNeedless names q ≡ true → Makes names p P (atStep (suc (q .place .step)) q) ls → Makes names p P q ls
   make :
       {q : Position} {ls : List PassPlace} → isNeedless names q ≡ false →
-      Makes names p P (moveOn (placeOf (q .step)) (length names) (wrote (roundHere names q) q) (answerFor p (placeOf (q .step)) (q .value))) ls →
-      Makes names p P q (placeOf (q .step) ∷ ls)
+      Makes names p P (moveOn (placeOf (q .place .step)) (length names) (wrote (roundHere names q) q) (answerFor p (placeOf (q .place .step)) (q .place .value))) ls →
+      Makes names p P q (placeOf (q .place .step) ∷ ls)
 
 -- moving on leaves both counts
-pass-over-counts : (names : List ℕ) (q : Position) → (passOver names q .rounds ≡ q .rounds) × (passOver names q .comparisons ≡ q .comparisons)
+pass-over-counts : (names : List ℕ) (q : Position) → (passOver names q .counts .rounds ≡ q .counts .rounds) × (passOver names q .counts .comparisons ≡ q .counts .comparisons)
 unfolding passOver atStep
 pass-over-counts names q = byCase (isNeedless names q) (λ t. rw t (refl, refl)) (λ f. rw f (refl, refl))
 
-pub onto-counts : (names : List ℕ) (q : Position) → (onto names q .rounds ≡ q .rounds) × (onto names q .comparisons ≡ q .comparisons)
+pub onto-counts : (names : List ℕ) (q : Position) → (onto names q .counts .rounds ≡ q .counts .rounds) × (onto names q .counts .comparisons ≡ q .counts .comparisons)
 unfolding onto
 onto-counts names q =
     let first = pass-over-counts names q in
     let second = pass-over-counts names (passOver names q) in
     (second .0 ∙ first .0, second .1 ∙ first .1)
 
-onto-some : (names : List ℕ) (q : Position) → 0 < q .rounds → 0 < onto names q .rounds
+onto-some : (names : List ℕ) (q : Position) → 0 < q .counts .rounds → 0 < onto names q .counts .rounds
 onto-some names q c = omega (arith, onto-counts names q .0)
 
 -- a step depends on the position once it is moved on
-after-settled : (names : List ℕ) (p : ℕ) (q : Position) → 0 < q .rounds → afterStep names p (onto names q) ≡ afterStep names p q
+after-settled : (names : List ℕ) (p : ℕ) (q : Position) → 0 < q .counts .rounds → afterStep names p (onto names q) ≡ afterStep names p q
 unfolding afterStep placeMade advance passAdvance
 after-settled names p q c = rw (some-counted q c, some-counted (onto names q) (onto-some names q c), onto-again names q)
 
@@ -60,92 +72,92 @@ place-settled : (names : List ℕ) (q : Position) → placeMade names (onto name
 unfolding placeMade
 place-settled names q = rw (onto-again names q)
 
-places-settled : (names : List ℕ) (p n : ℕ) (q : Position) → 0 < q .rounds → placesMade names p n (onto names q) ≡ placesMade names p n q
+places-settled : (names : List ℕ) (p n : ℕ) (q : Position) → 0 < q .counts .rounds → placesMade names p n (onto names q) ≡ placesMade names p n q
 unfolding placesMade
 places-settled names p zero q c = refl
 places-settled names p (suc n) q c = rw (place-settled names q, after-settled names p q c)
 
 -- the step that makes a round
-place-made : (names : List ℕ) (q : Position) → isNeedless names q ≡ false → placeMade names q ≡ placeOf (q .step)
+place-made : (names : List ℕ) (q : Position) → isNeedless names q ≡ false → placeMade names q ≡ placeOf (q .place .step)
 unfolding placeMade
 place-made names q f = rw (stays names q f)
 
 -- the position once that round is made
 abbrev next : List ℕ → ℕ → Position → Position
-next names p q = moveOn (placeOf (q .step)) (length names) (wrote (roundHere names q) q) (answerFor p (placeOf (q .step)) (q .value))
+next names p q = moveOn (placeOf (q .place .step)) (length names) (wrote (roundHere names q) q) (answerFor p (placeOf (q .place .step)) (q .place .value))
 
-next-some : (names : List ℕ) (p : ℕ) (q : Position) → 0 < next names p q .rounds
+next-some : (names : List ℕ) (p : ℕ) (q : Position) → 0 < next names p q .counts .rounds
 next-some names p q = moved-counts _ _ _ _
 
-step-makes : (names : List ℕ) (p : ℕ) (q : Position) → 0 < q .rounds → isNeedless names q ≡ false → afterStep names p q ≡ onto names (next names p q)
+step-makes : (names : List ℕ) (p : ℕ) (q : Position) → 0 < q .counts .rounds → isNeedless names q ≡ false → afterStep names p q ≡ onto names (next names p q)
 unfolding afterStep placeMade advance passAdvance
 step-makes names p q c f = rw (some-counted q c, stays names q f)
 
-one-place : (names : List ℕ) (p n : ℕ) (q : Position) → 0 < q .rounds → isNeedless names q ≡ false →
-    placesMade names p (suc n) q ≡ placeOf (q .step) ∷ placesMade names p n (next names p q)
+one-place : (names : List ℕ) (p n : ℕ) (q : Position) → 0 < q .counts .rounds → isNeedless names q ≡ false →
+    placesMade names p (suc n) q ≡ placeOf (q .place .step) ∷ placesMade names p n (next names p q)
 unfolding placesMade
 one-place names p n q c f = rw (place-made names q f, step-makes names p q c f, places-settled names p n (next names p q) (next-some names p q))
 
-one-step : (names : List ℕ) (p n : ℕ) (q : Position) → 0 < q .rounds → isNeedless names q ≡ false →
+one-step : (names : List ℕ) (p n : ℕ) (q : Position) → 0 < q .counts .rounds → isNeedless names q ≡ false →
     afterSteps names p (suc n) (onto names q) ≡ afterSteps names p n (onto names (next names p q))
 unfolding afterSteps
 one-step names p n q c f = rw (stays names q f, step-makes names p q c f)
 
-step-some : (k : ℕ) (q : Position) → 0 < q .rounds → 0 < atStep k q .rounds
+step-some : (k : ℕ) (q : Position) → 0 < q .counts .rounds → 0 < atStep k q .counts .rounds
 unfolding atStep
 step-some k q c = c
 
 pub makes-places :
-    {names : List ℕ} {p : ℕ} {P : Position → Type 0} {q : Position} {ls : List PassPlace} → 0 < q .rounds → Makes names p P q ls →
+    {names : List ℕ} {p : ℕ} {P : Position → Type 0} {q : Position} {ls : List PassPlace} → 0 < q .counts .rounds → Makes names p P q ls →
     placesMade names p (length ls) q ≡ ls
 makes-places c (over e) = unfold placesMade in refl
 makes-places {names} {p} {q = q} {ls = ls} c (skip t m) =
-    let d = step-some (suc (q .step)) q c in
+    let d = step-some (suc (q .place .step)) q c in
     sym (places-settled names p (length ls) q c) ∙ ap (placesMade names p (length ls)) (onto-passed names q t)
-    ∙ places-settled names p (length ls) (atStep (suc (q .step)) q) d ∙ makes-places d m
+    ∙ places-settled names p (length ls) (atStep (suc (q .place .step)) q) d ∙ makes-places d m
 makes-places {names} {p} {q = q} c (make {ls = ls} f m) =
-    one-place names p (length ls) q c f ∙ ap (λ (ls : List PassPlace). placeOf (q .step) ∷ ls) (makes-places (next-some names p q) m)
+    one-place names p (length ls) q c f ∙ ap (λ (ls : List PassPlace). placeOf (q .place .step) ∷ ls) (makes-places (next-some names p q) m)
 
 pub makes-after :
-    {names : List ℕ} {p : ℕ} {P : Position → Type 0} {q : Position} {ls : List PassPlace} → 0 < q .rounds → Makes names p P q ls →
+    {names : List ℕ} {p : ℕ} {P : Position → Type 0} {q : Position} {ls : List PassPlace} → 0 < q .counts .rounds → Makes names p P q ls →
     P (afterSteps names p (length ls) (onto names q))
 makes-after c (over e) = unfold afterSteps in e
 makes-after {names} {p} {P} {q = q} {ls = ls} c (skip t m) =
-    subst (λ (r : Position). P (afterSteps names p (length ls) r)) (sym (onto-passed names q t)) (makes-after (step-some (suc (q .step)) q c) m)
+    subst (λ (r : Position). P (afterSteps names p (length ls) r)) (sym (onto-passed names q t)) (makes-after (step-some (suc (q .place .step)) q c) m)
 makes-after {names} {p} {P} {q = q} c (make {ls = ls} f m) = subst P (sym (one-step names p (length ls) q c f)) (makes-after (next-some names p q) m)
 
 -- ---- places by their steps
 
 needless-is :
-    (names : List ℕ) (q : Position) {place : PassPlace} → placeOf (q .step) ≡ place →
-    isNeedless names q ≡ needlessAt place (getD names (q .index) 0) (q .value) q
+    (names : List ℕ) (q : Position) {place : PassPlace} → placeOf (q .place .step) ≡ place →
+    isNeedless names q ≡ needlessAt place (getD names (q .place .index) 0) q
 unfolding isNeedless roundHere
 needless-is names q is =
-    ap (λ (x : PassPlace). both (not (isFirst x)) (isRepeated (roundAt x (getD names (q .index) 0) (q .value)) q)) is
+    ap (λ (x : PassPlace). both (not (isFirst x)) (isRepeated (roundAt x (getD names (q .place .index) 0) (q .place .value)) q)) is
 
-place-is : (q : Position) {place : PassPlace} → LegalPlace place → q .step ≡ stepOf place → placeOf (q .step) ≡ place
+place-is : (q : Position) {place : PassPlace} → LegalPlace place → q .place .step ≡ stepOf place → placeOf (q .place .step) ≡ place
 place-is q legal at = ap placeOf at ∙ place-of-step legal
 
 -- a round is made there
 makes-here :
     {names : List ℕ} {p : ℕ} {P : Position → Type 0} {q : Position} {place : PassPlace} {ls : List PassPlace} →
-    LegalPlace place → q .step ≡ stepOf place → needlessAt place (getD names (q .index) 0) (q .value) q ≡ false →
-    Makes names p P (moveOn place (length names) (wrote (roundAt place (getD names (q .index) 0) (q .value)) q) (answerFor p place (q .value))) ls →
+    LegalPlace place → q .place .step ≡ stepOf place → needlessAt place (getD names (q .place .index) 0) q ≡ false →
+    Makes names p P (moveOn place (length names) (wrote (roundAt place (getD names (q .place .index) 0) (q .place .value)) q) (answerFor p place (q .place .value))) ls →
     Makes names p P q (place ∷ ls)
 unfolding roundHere
 makes-here {names} {p} {P} {q} {place} {ls} legal at f m =
-    let is : placeOf (q .step) ≡ place = place-is q legal at in
+    let is : placeOf (q .place .step) ≡ place = place-is q legal at in
     subst (λ (x : PassPlace). Makes names p P q (x ∷ ls)) is
     (make {q = q} (needless-is names q is ∙ f)
     (subst
-    (λ (x : PassPlace). Makes names p P (moveOn x (length names) (wrote (roundAt x (getD names (q .index) 0) (q .value)) q) (answerFor p x (q .value))) ls)
+    (λ (x : PassPlace). Makes names p P (moveOn x (length names) (wrote (roundAt x (getD names (q .place .index) 0) (q .place .value)) q) (answerFor p x (q .place .value))) ls)
     (sym is) m))
 
 -- a needless write is passed over
 passes-here :
     {names : List ℕ} {p : ℕ} {P : Position → Type 0} {q : Position} {place : PassPlace} {ls : List PassPlace} →
-    LegalPlace place → q .step ≡ stepOf place → needlessAt place (getD names (q .index) 0) (q .value) q ≡ true →
-    Makes names p P (atStep (suc (q .step)) q) ls → Makes names p P q ls
+    LegalPlace place → q .place .step ≡ stepOf place → needlessAt place (getD names (q .place .index) 0) q ≡ true →
+    Makes names p P (atStep (suc (q .place .step)) q) ls → Makes names p P q ls
 passes-here {names} {q = q} legal at t m = skip {q = q} (needless-is names q (place-is q legal at) ∙ t) m
 
 -- the next step is that of the next place
@@ -351,8 +363,8 @@ executes baptize ls = omega arith
 
 -- how a position moves on, both counted
 record Counted (q r : Position) (l : PassPlace) : Type 0 where
-  rounds : r .rounds ≡ suc (q .rounds)
-  comparisons : r .comparisons ≡ q .comparisons + executesIn (l ∷ [])
+  rounds : r .counts .rounds ≡ suc (q .counts .rounds)
+  comparisons : r .counts .comparisons ≡ q .counts .comparisons + executesIn (l ∷ [])
 
 moved-counted : (l : PassPlace) (count : ℕ) (q : Position) (answered : Bool) → Counted q (moveOn l count q answered) l
 unfolding moveOn nextName onward endAllNamed executesIn
@@ -368,89 +380,87 @@ moved-counted giveHigh count q answered = record { rounds = refl; comparisons = 
 moved-counted giveLow count q answered = record { rounds = refl; comparisons = omega arith }
 moved-counted baptize count q answered = record { rounds = refl; comparisons = omega arith }
 
-wrote-counts : (o : RunRound) (q : Position) → (wrote o q .rounds ≡ q .rounds) × (wrote o q .comparisons ≡ q .comparisons)
+wrote-counts : (o : RunRound) (q : Position) → (wrote o q .counts .rounds ≡ q .counts .rounds) × (wrote o q .counts .comparisons ≡ q .counts .comparisons)
 unfolding wrote
-wrote-counts (pollOf n) q = (refl, refl)
-wrote-counts (writeName n) q = (refl, refl)
-wrote-counts (writeHigh h) q = (refl, refl)
-wrote-counts (writeLow l) q = (refl, refl)
-wrote-counts compare q = (refl, refl)
-wrote-counts baptizeAll q = (refl, refl)
+wrote-counts o q =
+    each-wrote (λ (r : Position). (r .counts .rounds ≡ q .counts .rounds) × (r .counts .comparisons ≡ q .counts .comparisons)) q (refl, refl)
+    (λ h. (refl, refl)) (λ l. (refl, refl)) o
 
-step-counted : (names : List ℕ) (p : ℕ) (q : Position) → 0 < q .rounds → Counted q (afterStep names p q) (placeMade names q)
+step-counted : (names : List ℕ) (p : ℕ) (q : Position) → 0 < q .counts .rounds → Counted q (afterStep names p q) (placeMade names q)
 unfolding afterStep advance passAdvance placeMade
 step-counted names p q c =
     let r = onto names q in
     let written = wrote (roundHere names r) r in
-    let moved = moved-counted (placeOf (r .step)) (length names) written (answerFor p (placeOf (r .step)) (r .value)) in
+    let moved = moved-counted (placeOf (r .place .step)) (length names) written (answerFor p (placeOf (r .place .step)) (r .place .value)) in
     let first = onto-counts names q in
     let second = wrote-counts (roundHere names r) r in
-    let third = onto-counts names (moveOn (placeOf (r .step)) (length names) written (answerFor p (placeOf (r .step)) (r .value))) in
+    let third = onto-counts names (moveOn (placeOf (r .place .step)) (length names) written (answerFor p (placeOf (r .place .step)) (r .place .value))) in
     rw (some-counted q c)
     (record {
       rounds = third .0 ∙ moved .rounds ∙ ap suc (second .0 ∙ first .0);
-      comparisons = third .1 ∙ moved .comparisons ∙ ap (λ (n : ℕ). n + executesIn (placeOf (r .step) ∷ [])) (second .1 ∙ first .1);
+      comparisons = third .1 ∙ moved .comparisons ∙ ap (λ (n : ℕ). n + executesIn (placeOf (r .place .step) ∷ [])) (second .1 ∙ first .1);
     })
 
 -- a step leaves a round counted
-step-leaves : (names : List ℕ) (p : ℕ) (q : Position) → 0 < q .rounds → 0 < afterStep names p q .rounds
+step-leaves : (names : List ℕ) (p : ℕ) (q : Position) → 0 < q .counts .rounds → 0 < afterStep names p q .counts .rounds
 step-leaves names p q c = omega (arith, step-counted names p q c .rounds)
 
-steps-rounds : (names : List ℕ) (p n : ℕ) (q : Position) → 0 < q .rounds → afterSteps names p n q .rounds ≡ q .rounds + n
+steps-rounds : (names : List ℕ) (p n : ℕ) (q : Position) → 0 < q .counts .rounds → afterSteps names p n q .counts .rounds ≡ q .counts .rounds + n
 unfolding afterSteps
 steps-rounds names p zero q c = omega arith
 steps-rounds names p (suc n) q c =
     omega (arith, steps-rounds names p n (afterStep names p q) (step-leaves names p q c), step-counted names p q c .rounds)
 
-steps-comparisons : (names : List ℕ) (p n : ℕ) (q : Position) → 0 < q .rounds → afterSteps names p n q .comparisons ≡ q .comparisons + executesIn (placesMade names p n q)
+steps-comparisons : (names : List ℕ) (p n : ℕ) (q : Position) → 0 < q .counts .rounds → afterSteps names p n q .counts .comparisons ≡ q .counts .comparisons + executesIn (placesMade names p n q)
 unfolding afterSteps placesMade
 steps-comparisons names p zero q c = unfold executesIn in omega arith
 steps-comparisons names p (suc n) q c =
-    omega (arith, steps-comparisons names p n (afterStep names p q) (step-leaves names p q c), step-counted names p q c .comparisons, executes (placeMade names q) (placesMade names p n (afterStep names p q)))
+    let first = executes (placeMade names q) (placesMade names p n (afterStep names p q)) in
+    omega (arith, steps-comparisons names p n (afterStep names p q) (step-leaves names p q c), step-counted names p q c .comparisons)
 
 -- ---- the pass
 
 -- the next name's step 0, with p as the value found
 record Reached (names : List ℕ) (p index : ℕ) (q : Position) : Type 0 where
   end : q .end ≡ endAt (length names) (suc index)
-  next : q .index ≡ suc index
-  first : q .step ≡ 0
-  value : q .value ≡ p
-  high : q .high ≡ p / half
-  low : q .low ≡ p % half
+  next : q .place .index ≡ suc index
+  first : q .place .step ≡ 0
+  value : q .place .value ≡ p
+  high : q .halves .high ≡ p / half
+  low : q .halves .low ≡ p % half
 
-same-position : (q : Position) {end index step value rounds comparisons h l : ℕ} → q .end ≡ end → q .index ≡ index → q .step ≡ step → q .value ≡ value →
-    q .rounds ≡ rounds → q .comparisons ≡ comparisons → q .high ≡ h → q .low ≡ l → q ≡ position end index step value rounds comparisons h l
+same-position : (q : Position) {end index step value rounds comparisons h l : ℕ} → q .end ≡ end → q .place .index ≡ index → q .place .step ≡ step → q .place .value ≡ value →
+    q .counts .rounds ≡ rounds → q .counts .comparisons ≡ comparisons → q .halves .high ≡ h → q .halves .low ≡ l → q ≡ position end index step value rounds comparisons h l
 same-position q a b c d e f g h = rw (← a, ← b, ← c, ← d, ← e, ← f, ← g, ← h)
 
 pub passes-made : PassesMade
 passes-made names p q small some at = record { places = makes-places some all; after = after }
   where
-    start : q ≡ position (q .end) (q .index) 0 (q .value) (q .rounds) (q .comparisons) (q .high) (q .low)
+    start : q ≡ position (q .end) (q .place .index) 0 (q .place .value) (q .counts .rounds) (q .counts .comparisons) (q .halves .high) (q .halves .low)
     start = same-position q refl refl at refl refl refl refl refl
 
-    all : Makes names p (Reached names p (q .index)) q (passFor p)
+    all : Makes names p (Reached names p (q .place .index)) q (passFor p)
     all =
-        subst (λ (r : Position). Makes names p (Reached names p (q .index)) r (passFor p)) (sym start)
-        (from-poll names p (Reached names p (q .index)) (q .end) (q .index)
+        subst (λ (r : Position). Makes names p (Reached names p (q .place .index)) r (passFor p)) (sym start)
+        (from-poll names p (Reached names p (q .place .index)) (q .end) (q .place .index)
         (λ value rounds comparisons h l is e f. record { end = refl; next = refl; first = refl; value = is; high = e; low = f })
-        small (q .value) (q .rounds) (q .comparisons) (q .high) (q .low))
+        small (q .place .value) (q .counts .rounds) (q .counts .comparisons) (q .halves .high) (q .halves .low))
 
     settled : onto names q ≡ q
     settled = stays names q (needless-is names q (ap placeOf at) ∙ unfold placeOf isFirst isRepeated roundAt both in refl)
 
-    reached : Reached names p (q .index) (afterSteps names p (length (passFor p)) q)
-    reached = subst (λ (r : Position). Reached names p (q .index) (afterSteps names p (length (passFor p)) r)) settled (makes-after some all)
+    reached : Reached names p (q .place .index) (afterSteps names p (length (passFor p)) q)
+    reached = subst (λ (r : Position). Reached names p (q .place .index) (afterSteps names p (length (passFor p)) r)) settled (makes-after some all)
 
-    counted : afterSteps names p (length (passFor p)) q .comparisons ≡ q .comparisons + namingComparisons
+    counted : afterSteps names p (length (passFor p)) q .counts .comparisons ≡ q .counts .comparisons + namingComparisons
     counted =
         steps-comparisons names p (length (passFor p)) q some
-        ∙ ap (λ (ls : List PassPlace). q .comparisons + executesIn ls) (makes-places some all)
-        ∙ ap (λ (n : ℕ). q .comparisons + n) (unfold passFor in all-executed (eqb (bitClear 32 p) 1) (eqb (bitClear 0 p) 1))
+        ∙ ap (λ (ls : List PassPlace). q .counts .comparisons + executesIn ls) (makes-places some all)
+        ∙ ap (λ (n : ℕ). q .counts .comparisons + n) (unfold passFor in all-executed (eqb (bitClear 32 p) 1) (eqb (bitClear 0 p) 1))
 
     after :
         afterSteps names p (length (passFor p)) q ≡
-        position (endAt (length names) (suc (q .index))) (suc (q .index)) 0 p (q .rounds + length (passFor p)) (q .comparisons + namingComparisons) (p / half) (p % half)
+        position (endAt (length names) (suc (q .place .index))) (suc (q .place .index)) 0 p (q .counts .rounds + length (passFor p)) (q .counts .comparisons + namingComparisons) (p / half) (p % half)
     after =
         same-position (afterSteps names p (length (passFor p)) q) (reached .end) (reached .next) (reached .first) (reached .value)
         (steps-rounds names p (length (passFor p)) q some) counted (reached .high) (reached .low)

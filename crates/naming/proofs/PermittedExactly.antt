@@ -18,11 +18,11 @@ use Rattle.file.proofs.Bytes.{byte-at}
 use Rattle.file.proofs.Order.{byCase, clash, both-left, both-right, both-true, both-next, both-false-left, both-false-right, either-right}
 use Rattle.frame.specs.Rules.Fireworks.{Round, multipartner, msd, msa, noRound}
 use Rattle.frame.specs.Rules.Reading.{partsOf}
-use Rattle.cluster.specs.Rules.Grounds.{roundBy}
+use Rattle.cluster.specs.Rules.RoundGrounds.{roundBy}
 use Rattle.cluster.specs.Rules.Round.{roundOn}
 use Rattle.cluster.specs.Rules.Summary.{roundKeepingGround}
 use Rattle.cluster.proofs.Keeping.{keeping-round, keeping-refused, keeping-accepted}
-use Rattle.naming.specs.Rules.Run.{Position}
+use Rattle.naming.specs.Rules.Position.{Position}
 use Rattle.naming.specs.Rules.Step.{stepKeepingGround, stepOn}
 use Rattle.naming.specs.Rules.Account.{StepArguments, FrameArguments, Call, step, frame}
 use Rattle.naming.specs.Claims.Demand.{State, startOn, halfwayAfter, callOn, changesConfiguration, writesNamed, permittedAddress, permittedFrame}

@@ -12,7 +12,7 @@ use lib.Dec.{eqb}
 use borrow.Author.Tests.{eqb-true, eqb-false, eq-eqb, ne-eqb, le-ltb}
 use Rattle.file.specs.Rules.Bytes.{Byte, Bytes, allEmpty, allNext}
 use Rattle.file.specs.Rules.Order.{both}
-use Rattle.file.specs.Rules.Grounds.{fileGround}
+use Rattle.file.specs.Rules.FileGrounds.{fileGround}
 use Rattle.file.specs.Rules.Cluster.{Cluster, configuration, unnamed, broadcast, operationOf, fileNumberOf, readOperation, writeOperation, executeOperation, pb2Of}
 use Rattle.file.specs.Rules.Changes.{withPending}
 use Rattle.file.specs.Rules.Decode.{decode}
@@ -21,20 +21,20 @@ use Rattle.file.proofs.Order.{byCase, both-unless, both-false-left, both-false-
 use Rattle.frame.specs.Rules.Fireworks.{Round, multipartner, msd, msa, noRound, roundOf, roundIn, dataFirework}
 use Rattle.frame.specs.Rules.Check.{addressCheck}
 use Rattle.frame.specs.Rules.Frames.{frameOf, addressBytes, addressFrame}
-use Rattle.frame.specs.Rules.Grounds.{wrongFrameLength, wrongCheck, noOperation, broadcastRead}
+use Rattle.frame.specs.Rules.FrameGrounds.{wrongFrameLength, wrongCheck, noOperation, broadcastRead}
 use Rattle.frame.specs.Rules.Reading.{Parts, partsOf}
 use Rattle.frame.proofs.Written.{address-bytes, data-bytes}
-use Rattle.cluster.specs.Rules.Slaves.{withAddress}
-use Rattle.cluster.specs.Rules.Bus.{slots}
-use Rattle.cluster.specs.Rules.Grounds.{roundBy, writePending}
+use Rattle.master_slave.specs.Rules.Slaves.{withAddress}
+use Rattle.master_slave.specs.Rules.Bus.{slots}
+use Rattle.cluster.specs.Rules.RoundGrounds.{roundBy, writePending}
 use Rattle.cluster.specs.Rules.Round.{effectOf, frameOn, roundGround, roundOn}
 use Rattle.cluster.specs.Rules.Summary.{Summary, without, roundKeepingGround}
 use Rattle.cluster.specs.Claims.Summary.{Matches, givenNone}
 use Rattle.cluster.proofs.Keeping.{matched-ground, keeping-round}
-use Rattle.cluster.specs.Inner.Grounds.{noFirework, lengthFor, wrongLengthOn, wrongCheckOn, noOperationOn, broadcastReadOn, frameGround}
+use Rattle.cluster.specs.Inner.EachGround.{noFirework, lengthFor, wrongLengthOn, wrongCheckOn, noOperationOn, broadcastReadOn, frameGround}
 use Rattle.cluster.proofs.Sent as Sent
 use Rattle.cluster.proofs.Rounds.{fits-none, round-becomes, round-bytes}
-use Rattle.naming.specs.Rules.Run.{Position, fresh}
+use Rattle.naming.specs.Rules.Position.{Position, fresh}
 use Rattle.naming.specs.Rules.Account.{Call, frame}
 use Rattle.naming.specs.Claims.Demand.{State, startOn, permittedAddress, permittedFrame, permitted, afterCalls}
 use Rattle.naming.specs.Claims.Permitted.{MayAsk, read, otherFile, writeAtName, writeAtAll, Accepted, PermittedList, noCalls, multipartnerRound, masterSlaveRound}
@@ -158,7 +158,8 @@ rounds-listed names p (multipartnerNext {firework} byte is rounds) (oneMore {buf
     let a = multipartner-accepted file g without givenNone buffer long firework is in
     let bytes : Bytes (firework ∷ []) = allNext byte allEmpty in
     multipartnerRound a
-    (rounds-listed names p rounds sent (roundOn file (firework ∷ []) buffer .2) (round-bytes file _ buffer b bytes) (round-becomes file _ buffer b bytes (keeping-round file without _ buffer (a .none)) .accepted))
+    (rounds-listed names p rounds sent (roundOn file (firework ∷ []) buffer .2) (round-bytes file _ buffer b bytes)
+    (round-becomes file _ buffer b bytes (keeping-round file without _ buffer (a .none)) .accepted))
 rounds-listed names p (masterSlaveNext {a = a} {content} may ask d rounds) (oneMore {buffer = buffer} long (oneMore {buffer = buffer′} long′ sent)) file b g =
     let first = address-accepted file g without givenNone buffer long may in
     let middle : List ℕ = roundOn file (addressOf a) buffer .2 in

@@ -6,9 +6,9 @@ use mathlib.Core.Bool.{true}
 use native.Mathlib.Omega.{arith}
 use lib.Dec.{ltb}
 use borrow.Author.Tests.{lt-ltb}
-use Rattle.naming.specs.Rules.Run.{PassPlace, PassPlace.poll, PassPlace.ask, PassPlace.giveName, PassPlace.giveHigh, PassPlace.giveLow}
-use Rattle.naming.specs.Rules.Run.{PassPlace.baptize, Question, least, bit, Part, high, low, reply, questionOf, partOf, giveOf, askOrGive, placeOf}
-use Rattle.naming.specs.Rules.Run.{bits, giveStep, lastStep}
+use Rattle.naming.specs.Rules.Pass.{PassPlace, PassPlace.poll, PassPlace.ask, PassPlace.giveName, PassPlace.giveHigh, PassPlace.giveLow}
+use Rattle.naming.specs.Rules.Pass.{PassPlace.baptize, Question, least, bit, Part, high, low, reply, questionOf, partOf, giveOf, askOrGive, placeOf}
+use Rattle.naming.specs.Rules.Pass.{bits, giveStep, lastStep}
 use Rattle.naming.specs.Inner.PassPlaces.{questionNumber, partNumber, stepOf}
 
 -- a pass has the bits 63 to 0

@@ -13,11 +13,17 @@ use lib.ListN.{length, getD}
 use lib.Dec.{leb, ltb, eqb}
 use mathlib.Core.List.{List}
 use Rattle.file.specs.Rules.Order.{both, either}
-use Rattle.naming.specs.Inner.Answers.{FitCounts, GoesOn, partAt, valueAt, Wrote}
-use Rattle.naming.specs.Rules.Run.{Position, least, PassPlace, poll, giveName, giveHigh, giveLow, baptize, high, low, reply, questionOf, partOf, tried}
-use Rattle.naming.specs.Rules.Run.{ask, bits, placeOf, askOrGive, giveOf, giveStep, roundAt, roundHere, isFirst, isRepeated, isNeedless, atStep}
-use Rattle.naming.specs.Rules.Run.{passOver, onto, wrote, unfitPosition, countLimit, lastStep, running, namesUsedUp}
-use Rattle.naming.specs.Rules.Rounds.{comparisonRounds, half, RunRound, RunRound.poll as pollOf, writeName, writeHigh, writeLow, compare, RunRound.baptize as baptizeAll}
+use Rattle.naming.specs.Inner.StepAnswers.{FitCounts, GoesOn, partAt, valueAt, Wrote}
+use Rattle.naming.specs.Rules.Position.{Position}
+use Rattle.naming.specs.Rules.Pass.{least, PassPlace, poll, giveName, giveHigh, giveLow, baptize, high, low, reply, questionOf, partOf}
+use Rattle.naming.specs.Rules.Run.{tried}
+use Rattle.naming.specs.Rules.Pass.{ask, bits, placeOf, askOrGive, giveOf, giveStep}
+use Rattle.naming.specs.Rules.Run.{roundAt, roundHere, isFirst, isRepeated, isNeedless, atStep}
+use Rattle.naming.specs.Rules.Position.{running, namesUsedUp}
+use Rattle.naming.specs.Rules.Pass.{lastStep}
+use Rattle.naming.specs.Rules.Run.{passOver, onto, wrote}
+use Rattle.naming.specs.Rules.RunGrounds.{unfitPosition, countLimit}
+use Rattle.naming.specs.Rules.RunRounds.{comparisonRounds, half, RunRound, RunRound.poll as pollOf, writeName, writeHigh, writeLow, compare, RunRound.baptize as baptizeAll}
 
 -- ---- the value that a comparison sends
 
@@ -46,6 +52,20 @@ pub place-give : (k : ℕ) → giveStep ≤ k → placeOf k ≡ giveOf (k - give
 unfolding placeOf askOrGive
 place-give zero h = absurd (omega arith)
 place-give (suc k) h = rw (le-ltb (suc k) giveStep h)
+
+-- what holds of the last four rounds of a pass holds of each place behind the comparisons; from the fourth on it is the last
+pub each-given : (P : PassPlace → Type 0) → P giveName → P giveHigh → P giveLow → P baptize → (j : ℕ) → P (giveOf j)
+unfolding giveOf
+each-given P a b c d zero = a
+each-given P a b c d (suc zero) = b
+each-given P a b c d (suc (suc zero)) = c
+each-given P a b c d (suc (suc (suc zero))) = d
+each-given P a b c d (suc (suc (suc (suc j)))) = d
+
+pub give-last : (j : ℕ) → giveOf (suc (suc (suc j))) ≡ baptize
+unfolding giveOf
+give-last zero = refl
+give-last (suc j) = refl
 
 pub first-place : {k : ℕ} → k ≡ comparisonRounds → placeOf k ≡ ask least reply
 unfolding placeOf askOrGive questionOf partOf
@@ -79,7 +99,7 @@ part-none k h m l = rw (place-give k h) (giving (k - giveStep) (other 1 m) (othe
     giving zero m l = unfold giveOf partAt partOf in refl
     giving (suc zero) m l = absurd (m refl)
     giving (suc (suc zero)) m l = absurd (l refl)
-    giving (suc (suc (suc j))) m l = unfold giveOf partAt partOf in refl
+    giving (suc (suc (suc j))) m l = rw (give-last j) (unfold partAt partOf in refl)
 
 pub value-poll : (v : ℕ) {k : ℕ} → k ≡ 0 → v ≡ valueAt (placeOf k) v
 unfolding placeOf valueAt
@@ -90,13 +110,8 @@ unfolding valueAt
 value-asked v k n h e = rw (place-ask k n h) e
 
 pub value-given : (v k : ℕ) → giveStep ≤ k → v ≡ valueAt (placeOf k) v
-value-given v k h = rw (place-give k h) (giving (k - giveStep))
-  where
-    giving : (j : ℕ) → v ≡ valueAt (giveOf j) v
-    giving zero = unfold giveOf valueAt in refl
-    giving (suc zero) = unfold giveOf valueAt in refl
-    giving (suc (suc zero)) = unfold giveOf valueAt in refl
-    giving (suc (suc (suc j))) = unfold giveOf valueAt in refl
+unfolding valueAt
+value-given v k h = rw (place-give k h) (each-given (λ (l : PassPlace). v ≡ valueAt l v) refl refl refl refl (k - giveStep))
 
 -- what it writes
 module _ (n v : ℕ) where
@@ -139,49 +154,47 @@ third-part zero m l = absurd (m refl)
 third-part (suc zero) m l = absurd (l refl)
 third-part (suc (suc j)) m l = refl
 
-module _ (p : Position) {r x : ℕ} (part : partOf r ≡ partAt (placeOf (p .step))) (value : x ≡ valueAt (placeOf (p .step)) (p .value)) where
+module _ (p : Position) {r x : ℕ} (part : partOf r ≡ partAt (placeOf (p .place .step))) (value : x ≡ valueAt (placeOf (p .place .step)) (p .place .value)) where
   pub wrote-high : r ≡ 0 → {q : Position} → q ≡ wrote (writeHigh (x / half)) p → Wrote p q
   unfolding partOf
   wrote-high e is n =
-      let here : high ≡ partAt (placeOf (p .step)) = rw e at part in
-      rw (writes-high n (p .value) (placeOf (p .step)) (sym here), ← value) is
+      let here : high ≡ partAt (placeOf (p .place .step)) = rw e at part in
+      rw (writes-high n (p .place .value) (placeOf (p .place .step)) (sym here), ← value) is
 
   pub wrote-low : r ≡ 1 → {q : Position} → q ≡ wrote (writeLow (x % half)) p → Wrote p q
   unfolding partOf
   wrote-low e is n =
-      let here : low ≡ partAt (placeOf (p .step)) = rw e at part in
-      rw (writes-low n (p .value) (placeOf (p .step)) (sym here), ← value) is
+      let here : low ≡ partAt (placeOf (p .place .step)) = rw e at part in
+      rw (writes-low n (p .place .value) (placeOf (p .place .step)) (sym here), ← value) is
 
   pub wrote-none : (r ≡ 0 → ⊥) → (r ≡ 1 → ⊥) → Wrote p p
-  wrote-none m l n = sym (writes-none n (p .value) p (placeOf (p .step)) (sym part ∙ third-part r m l))
+  wrote-none m l n = sym (writes-none n (p .place .value) p (placeOf (p .place .step)) (sym part ∙ third-part r m l))
 
--- all else stays
+-- all else stays: what holds of a position, and of it with a half written, holds once its round is made
+pub each-wrote :
+    (P : Position → Type 0) (p : Position) → P p → ((h : ℕ) → P (wrote (writeHigh h) p)) → ((l : ℕ) → P (wrote (writeLow l) p)) → (o : RunRound) →
+    P (wrote o p)
+unfolding wrote
+each-wrote P p as-it-was of-high of-low (pollOf n) = as-it-was
+each-wrote P p as-it-was of-high of-low (writeName n) = as-it-was
+each-wrote P p as-it-was of-high of-low (writeHigh h) = of-high h
+each-wrote P p as-it-was of-high of-low (writeLow l) = of-low l
+each-wrote P p as-it-was of-high of-low compare = as-it-was
+each-wrote P p as-it-was of-high of-low baptizeAll = as-it-was
+
 pub wrote-fits : (o : RunRound) {p : Position} → FitCounts p → FitCounts (wrote o p)
 unfolding wrote
-wrote-fits (pollOf n) f = f
-wrote-fits (writeName n) f = f
-wrote-fits (writeHigh h) f = record { place = f .place; few = f .few; fewer = f .fewer }
-wrote-fits (writeLow l) f = record { place = f .place; few = f .few; fewer = f .fewer }
-wrote-fits compare f = f
-wrote-fits baptizeAll f = f
+wrote-fits o {p} f =
+    each-wrote FitCounts p f (λ h. record { place = f .place; few = f .few; fewer = f .fewer })
+    (λ l. record { place = f .place; few = f .few; fewer = f .fewer }) o
 
-pub wrote-step : (o : RunRound) (p : Position) → wrote o p .step ≡ p .step
+pub wrote-step : (o : RunRound) (p : Position) → wrote o p .place .step ≡ p .place .step
 unfolding wrote
-wrote-step (pollOf n) p = refl
-wrote-step (writeName n) p = refl
-wrote-step (writeHigh h) p = refl
-wrote-step (writeLow l) p = refl
-wrote-step compare p = refl
-wrote-step baptizeAll p = refl
+wrote-step o p = each-wrote (λ (q : Position). q .place .step ≡ p .place .step) p refl (λ h. refl) (λ l. refl) o
 
-pub wrote-value : (r : RunRound) (p : Position) → wrote r p .value ≡ p .value
+pub wrote-value : (o : RunRound) (p : Position) → wrote o p .place .value ≡ p .place .value
 unfolding wrote
-wrote-value (pollOf n) p = refl
-wrote-value (writeName n) p = refl
-wrote-value (writeHigh h) p = refl
-wrote-value (writeLow l) p = refl
-wrote-value compare p = refl
-wrote-value baptizeAll p = refl
+wrote-value o p = each-wrote (λ (q : Position). q .place .value ≡ p .place .value) p refl (λ h. refl) (λ l. refl) o
 
 -- ---- needless writes
 
@@ -198,13 +211,13 @@ early-place (suc (suc zero)) h = inr refl
 early-place (suc (suc (suc zero))) h = inr refl
 early-place (suc (suc (suc (suc k)))) h = absurd (omega arith)
 
-pub needless-early : (p : Position) → p .step ≤ comparisonRounds → NeedlessAt p false
+pub needless-early : (p : Position) → p .place .step ≤ comparisonRounds → NeedlessAt p false
 unfolding isNeedless roundHere both
-needless-early p h names = by (early-place (p .step) h)
+needless-early p h names = by (early-place (p .place .step) h)
   where
     by :
-        (placeOf (p .step) ≡ poll) ⊎ (isFirst (placeOf (p .step)) ≡ true) →
-        false ≡ cond (not (isFirst (placeOf (p .step)))) (isRepeated (roundAt (placeOf (p .step)) (getD names (p .index) 0) (p .value)) p) false
+        (placeOf (p .place .step) ≡ poll) ⊎ (isFirst (placeOf (p .place .step)) ≡ true) →
+        false ≡ cond (not (isFirst (placeOf (p .place .step)))) (isRepeated (roundAt (placeOf (p .place .step)) (getD names (p .place .index) 0) (p .place .value)) p) false
     by (inl e) = rw e (unfold roundAt isRepeated isFirst in refl)
     by (inr e) = rw e
 
@@ -223,15 +236,12 @@ late-place k h =
     asked (suc q) h = unfold questionOf isFirst in refl
 
     given : (j : ℕ) → isFirst (giveOf j) ≡ false
-    given zero = unfold giveOf isFirst in refl
-    given (suc zero) = unfold giveOf isFirst in refl
-    given (suc (suc zero)) = unfold giveOf isFirst in refl
-    given (suc (suc (suc j))) = unfold giveOf isFirst in refl
+    given j = unfold isFirst in each-given (λ (l : PassPlace). isFirst l ≡ false) refl refl refl refl j
 
-needless-late : (p : Position) → comparisonRounds < p .step → (names : List ℕ) →
-    isNeedless names p ≡ isRepeated (roundAt (placeOf (p .step)) (getD names (p .index) 0) (p .value)) p
+needless-late : (p : Position) → comparisonRounds < p .place .step → (names : List ℕ) →
+    isNeedless names p ≡ isRepeated (roundAt (placeOf (p .place .step)) (getD names (p .place .index) 0) (p .place .value)) p
 unfolding isNeedless roundHere both
-needless-late p late names = rw (late-place (p .step) late)
+needless-late p late names = rw (late-place (p .place .step) late)
 
 pub writes-nothing : (n v : ℕ) (p : Position) (l : PassPlace) → partAt l ≡ reply → isRepeated (roundAt l n v) p ≡ false
 unfolding partAt roundAt isRepeated
@@ -244,33 +254,35 @@ writes-nothing n v p giveHigh e = cc
 writes-nothing n v p giveLow e = cc
 writes-nothing n v p baptize e = refl
 
-module _ (p : Position) (late : comparisonRounds < p .step) {r x : ℕ} (part : partOf r ≡ partAt (placeOf (p .step))) (value : x ≡ valueAt (placeOf (p .step)) (p .value)) where
-  pub needless-high : r ≡ 0 → NeedlessAt p (eqb (x / half) (p .high))
+module _
+    (p : Position) (late : comparisonRounds < p .place .step) {r x : ℕ} (part : partOf r ≡ partAt (placeOf (p .place .step)))
+    (value : x ≡ valueAt (placeOf (p .place .step)) (p .place .value)) where
+  pub needless-high : r ≡ 0 → NeedlessAt p (eqb (x / half) (p .halves .high))
   unfolding partOf
   needless-high e names =
-      let here : high ≡ partAt (placeOf (p .step)) = rw e at part in
-      sym (needless-late p late names ∙ rw (writes-high (getD names (p .index) 0) (p .value) (placeOf (p .step)) (sym here), ← value) (unfold isRepeated in refl))
+      let here : high ≡ partAt (placeOf (p .place .step)) = rw e at part in
+      sym (needless-late p late names ∙ rw (writes-high (getD names (p .place .index) 0) (p .place .value) (placeOf (p .place .step)) (sym here), ← value) (unfold isRepeated in refl))
 
-  pub needless-low : r ≡ 1 → NeedlessAt p (eqb (x % half) (p .low))
+  pub needless-low : r ≡ 1 → NeedlessAt p (eqb (x % half) (p .halves .low))
   unfolding partOf
   needless-low e names =
-      let here : low ≡ partAt (placeOf (p .step)) = rw e at part in
-      sym (needless-late p late names ∙ rw (writes-low (getD names (p .index) 0) (p .value) (placeOf (p .step)) (sym here), ← value) (unfold isRepeated in refl))
+      let here : low ≡ partAt (placeOf (p .place .step)) = rw e at part in
+      sym (needless-late p late names ∙ rw (writes-low (getD names (p .place .index) 0) (p .place .value) (placeOf (p .place .step)) (sym here), ← value) (unfold isRepeated in refl))
 
   pub needless-none : (r ≡ 0 → ⊥) → (r ≡ 1 → ⊥) → NeedlessAt p false
   needless-none m l names =
-      sym (needless-late p late names ∙ writes-nothing (getD names (p .index) 0) (p .value) p (placeOf (p .step)) (sym part ∙ third-part r m l))
+      sym (needless-late p late names ∙ writes-nothing (getD names (p .place .index) 0) (p .place .value) p (placeOf (p .place .step)) (sym part ∙ third-part r m l))
 
 -- the last round of a pass is no write
 pub last-place : {k : ℕ} → k ≡ lastStep → placeOf k ≡ baptize
 unfolding placeOf askOrGive giveOf
 last-place e = rw e
 
-pub needless-inside : (names : List ℕ) (p : Position) → isNeedless names p ≡ true → p .step ≡ lastStep → ⊥
+pub needless-inside : (names : List ℕ) (p : Position) → isNeedless names p ≡ true → p .place .step ≡ lastStep → ⊥
 unfolding isNeedless roundHere roundAt isRepeated isFirst both
 needless-inside names p t e = let none : isNeedless names p ≡ false = rw (last-place e) in clash t none
 
-pub last-real : (names : List ℕ) (p : Position) → p .step ≡ lastStep → isNeedless names p ≡ false
+pub last-real : (names : List ℕ) (p : Position) → p .place .step ≡ lastStep → isNeedless names p ≡ false
 last-real names p e = byCase (isNeedless names p) (λ t. absurd (needless-inside names p t e)) (λ f. f)
 
 pub pass-over-goes : {count : ℕ} (names : List ℕ) {p : Position} → GoesOn count p → GoesOn count (passOver names p)
@@ -278,9 +290,9 @@ unfolding passOver atStep
 pass-over-goes names {p} g =
     byCase (isNeedless names p)
     (λ t.
-    let inside : p .step ≡ lastStep → ⊥ = needless-inside names p t in
+    let inside : p .place .step ≡ lastStep → ⊥ = needless-inside names p t in
     let place = g .counts .place in
-    let on : suc (p .step) ≤ lastStep = omega arith in
+    let on : suc (p .place .step) ≤ lastStep = omega arith in
     rw t (record { within = g .within; counts = record { place = on; few = g .counts .few; fewer = g .counts .fewer } }))
     (λ f. rw f g)
 
@@ -289,11 +301,11 @@ unfolding onto
 onto-goes names g = pass-over-goes names (pass-over-goes names g)
 
 -- index and comparisons stay
-pass-over-same : (names : List ℕ) (p : Position) → (passOver names p .comparisons ≡ p .comparisons) × (passOver names p .index ≡ p .index)
+pass-over-same : (names : List ℕ) (p : Position) → (passOver names p .counts .comparisons ≡ p .counts .comparisons) × (passOver names p .place .index ≡ p .place .index)
 unfolding passOver atStep
 pass-over-same names p = byCase (isNeedless names p) (λ t. rw t (refl, refl)) (λ f. rw f (refl, refl))
 
-pub onto-same : (names : List ℕ) (p : Position) → (onto names p .comparisons ≡ p .comparisons) × (onto names p .index ≡ p .index)
+pub onto-same : (names : List ℕ) (p : Position) → (onto names p .counts .comparisons ≡ p .counts .comparisons) × (onto names p .place .index ≡ p .place .index)
 unfolding onto
 onto-same names p =
     let first = pass-over-same names p in
@@ -301,11 +313,11 @@ onto-same names p =
     (second .0 ∙ first .0, second .1 ∙ first .1)
 
 -- so does the value
-pass-over-value : (names : List ℕ) (p : Position) → passOver names p .value ≡ p .value
+pass-over-value : (names : List ℕ) (p : Position) → passOver names p .place .value ≡ p .place .value
 unfolding passOver atStep
 pass-over-value names p = byCase (isNeedless names p) (λ t. rw t) (λ f. rw f)
 
-pub onto-value : (names : List ℕ) (p : Position) → onto names p .value ≡ p .value
+pub onto-value : (names : List ℕ) (p : Position) → onto names p .place .value ≡ p .place .value
 unfolding onto
 onto-value names p = pass-over-value names (passOver names p) ∙ pass-over-value names p
 
@@ -316,58 +328,65 @@ stays names p f = rw (f, f)
 
 -- ---- ground 17, part by part
 
--- the position of these parts
-abbrev at : ℕ → ℕ → ℕ → ℕ → ℕ → ℕ → ℕ → ℕ → Position
-at end index step value rounds comparisons h l =
-    record { end = end; index = index; step = step; value = value; rounds = rounds; comparisons = comparisons; high = h; low = l }
-
-module _ (names : List ℕ) (end index step value rounds comparisons h l : ℕ) where
-  pub unfit-end : namesUsedUp < end → true ≡ unfitPosition names (at end index step value rounds comparisons h l)
+module _ (names : List ℕ) (p : Position) where
+  pub unfit-end : namesUsedUp < p .end → true ≡ unfitPosition names p
   unfolding unfitPosition either both
-  unfit-end more = rw (lt-ltb namesUsedUp end more)
+  unfit-end more = rw (lt-ltb namesUsedUp (p .end) more)
 
-  module _ (m : end ≤ namesUsedUp) where
-    pub unfit-index : length names < index → true ≡ unfitPosition names (at end index step value rounds comparisons h l)
+  module _ (m : p .end ≤ namesUsedUp) where
+    pub unfit-index : length names < p .place .index → true ≡ unfitPosition names p
     unfolding unfitPosition either both
-    unfit-index h = rw (le-ltb namesUsedUp end m, lt-ltb (length names) index h)
+    unfit-index h = rw (le-ltb namesUsedUp (p .end) m, lt-ltb (length names) (p .place .index) h)
 
-    module _ (i : index ≤ length names) where
-      pub fit-ended : (end ≡ running → ⊥) → false ≡ unfitPosition names (at end index step value rounds comparisons h l)
+    module _ (i : p .place .index ≤ length names) where
+      pub fit-ended : (p .end ≡ running → ⊥) → false ≡ unfitPosition names p
       unfolding unfitPosition either both
-      fit-ended h = rw (le-ltb namesUsedUp end m, le-ltb (length names) index i, ne-eqb end running h)
+      fit-ended h = rw (le-ltb namesUsedUp (p .end) m, le-ltb (length names) (p .place .index) i, ne-eqb (p .end) running h)
 
-      module _ (runs : end ≡ running) where
-        pub unfit-past : index ≡ length names → true ≡ unfitPosition names (at end index step value rounds comparisons h l)
+      module _ (runs : p .end ≡ running) where
+        pub unfit-past : p .place .index ≡ length names → true ≡ unfitPosition names p
         unfolding unfitPosition either both
-        unfit-past h = rw (le-ltb namesUsedUp end m, le-ltb (length names) index i, eq-eqb end running runs, eq-eqb index (length names) h)
+        unfit-past h =
+            rw (
+              le-ltb namesUsedUp (p .end) m,
+              le-ltb (length names) (p .place .index) i,
+              eq-eqb (p .end) running runs,
+              eq-eqb (p .place .index) (length names) h,
+            )
 
-        module _ (inside : index ≡ length names → ⊥) where
-          pub unfit-step : lastStep < step → true ≡ unfitPosition names (at end index step value rounds comparisons h l)
+        module _ (inside : p .place .index ≡ length names → ⊥) where
+          pub unfit-step : lastStep < p .place .step → true ≡ unfitPosition names p
           unfolding unfitPosition either both
           unfit-step h =
-              rw (le-ltb namesUsedUp end m, le-ltb (length names) index i, eq-eqb end running runs, ne-eqb index (length names) inside, lt-ltb lastStep step h)
+              rw (
+                le-ltb namesUsedUp (p .end) m,
+                le-ltb (length names) (p .place .index) i,
+                eq-eqb (p .end) running runs,
+                ne-eqb (p .place .index) (length names) inside,
+                lt-ltb lastStep (p .place .step) h,
+              )
 
-          module _ (s : step ≤ lastStep) where
-            pub unfit-rounds : countLimit ≤ rounds → true ≡ unfitPosition names (at end index step value rounds comparisons h l)
+          module _ (s : p .place .step ≤ lastStep) where
+            pub unfit-rounds : countLimit ≤ p .counts .rounds → true ≡ unfitPosition names p
             unfolding unfitPosition either both
             unfit-rounds h =
                 rw (
-                  le-ltb namesUsedUp end m,
-                  le-ltb (length names) index i,
-                  eq-eqb end running runs,
-                  ne-eqb index (length names) inside,
-                  le-ltb lastStep step s,
-                  le-leb countLimit rounds h,
+                  le-ltb namesUsedUp (p .end) m,
+                  le-ltb (length names) (p .place .index) i,
+                  eq-eqb (p .end) running runs,
+                  ne-eqb (p .place .index) (length names) inside,
+                  le-ltb lastStep (p .place .step) s,
+                  le-leb countLimit (p .counts .rounds) h,
                 )
 
-            pub unfit-comparisons : rounds < countLimit → leb countLimit comparisons ≡ unfitPosition names (at end index step value rounds comparisons h l)
+            pub unfit-comparisons : p .counts .rounds < countLimit → leb countLimit (p .counts .comparisons) ≡ unfitPosition names p
             unfolding unfitPosition either both
             unfit-comparisons h =
                 rw (
-                  le-ltb namesUsedUp end m,
-                  le-ltb (length names) index i,
-                  eq-eqb end running runs,
-                  ne-eqb index (length names) inside,
-                  le-ltb lastStep step s,
-                  lt-leb countLimit rounds h,
+                  le-ltb namesUsedUp (p .end) m,
+                  le-ltb (length names) (p .place .index) i,
+                  eq-eqb (p .end) running runs,
+                  ne-eqb (p .place .index) (length names) inside,
+                  le-ltb lastStep (p .place .step) s,
+                  lt-leb countLimit (p .counts .rounds) h,
                 )

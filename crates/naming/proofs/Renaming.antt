@@ -12,17 +12,20 @@ use Rattle.file.specs.Rules.Decode.{decode}
 use Rattle.file.specs.Rules.Legal.{LegalSlave}
 use Rattle.file.proofs.Order.{byCase}
 use Rattle.file.proofs.Accepted.{accepted-legal}
-use Rattle.cluster.specs.Rules.Bus.{slots}
-use Rattle.cluster.specs.Rules.Grounds.{shortAnswer}
+use Rattle.master_slave.specs.Rules.Bus.{slots}
+use Rattle.cluster.specs.Rules.RoundGrounds.{shortAnswer}
 use Rattle.cluster.specs.Claims.Renaming.{nameAfter, namesOf}
-use Rattle.cluster.specs.Rules.Slaves.{Duty, slaveAfter, restsAfter}
-use Rattle.cluster.specs.Rules.Slaves as Slaves
-use Rattle.cluster.proofs.Kept.{rests-bytes}
+use Rattle.master_slave.specs.Rules.Slaves.{Duty, slaveAfter, restsAfter}
+use Rattle.master_slave.specs.Rules.Slaves as Slaves
+use Rattle.master_slave.proofs.Kept.{rests-bytes}
 use Rattle.cluster.proofs.Replaced.{write-keeps-name}
 use Rattle.cluster.proofs.Renaming.{baptized}
 use Rattle.cluster.proofs.Rounds.{NoGround, none-holds}
-use Rattle.naming.specs.Rules.Rounds.{RunRound, poll, writeName, writeHigh, writeLow, compare, baptize, sent, atUnnamed}
-use Rattle.naming.specs.Rules.Run.{Position, running, bits, nextRound, runGrounds}
+use Rattle.naming.specs.Rules.RunRounds.{RunRound, poll, writeName, writeHigh, writeLow, compare, baptize, sent, atUnnamed}
+use Rattle.naming.specs.Rules.Position.{Position, running}
+use Rattle.naming.specs.Rules.Pass.{bits}
+use Rattle.naming.specs.Rules.Run.{nextRound}
+use Rattle.naming.specs.Rules.RunGrounds.{runGrounds}
 use Rattle.cluster.specs.Rules.MasterSlave.{roundSent}
 use Rattle.naming.specs.Rules.Step.{stepGround, stepOn}
 use Rattle.naming.specs.Claims.Renaming.{BaptizingStepRenames, OnlyBaptizingStepsRename}
@@ -79,7 +82,7 @@ module _ (file : List ℕ) (p : Position) (names buffer : List ℕ) (b : Bytes f
   unfolding logicalNames
   after s = rw (step-made file p names buffer g going) (ap (map logicalName) (round s .slaves))
 
-  sendable : Bytes names → p .value < 2 ^ bits → Sendable (nextRound names p)
+  sendable : Bytes names → p .place .value < 2 ^ bits → Sendable (nextRound names p)
   sendable n small = next-sendable (runs (none .rest) going) n small
 
 -- ---- the claims
@@ -105,7 +108,7 @@ only-baptizing-steps-rename file p names buffer b n small other =
 
 -- ---- the file that a step leaves is of bytes
 
-pub step-bytes : (file : List ℕ) (p : Position) (names buffer : List ℕ) → Bytes file → Bytes names → p .value < 2 ^ bits → Bytes (stepOn file p names buffer .3)
+pub step-bytes : (file : List ℕ) (p : Position) (names buffer : List ℕ) → Bytes file → Bytes names → p .place .value < 2 ^ bits → Bytes (stepOn file p names buffer .3)
 step-bytes file p names buffer b n small =
     byCase (eqb (stepGround file p names buffer) 0)
     (λ z.
@@ -118,7 +121,7 @@ step-bytes file p names buffer b n small =
     (λ z. rw (step-refused file p names buffer (eqb-false (stepGround file p names buffer) 0 z)) b)
 
 -- and the position it leaves has a value of 64 bits
-pub step-value : (file : List ℕ) (p : Position) (names buffer : List ℕ) → p .value < 2 ^ bits → stepOn file p names buffer .1 .value < 2 ^ bits
+pub step-value : (file : List ℕ) (p : Position) (names buffer : List ℕ) → p .place .value < 2 ^ bits → stepOn file p names buffer .1 .place .value < 2 ^ bits
 step-value file p names buffer small =
     byCase (eqb (stepGround file p names buffer) 0)
     (λ z.
@@ -138,7 +141,7 @@ called-count o ss =
     ∙ sym (length-map ss logicalName)
 
 pub step-count :
-    (file : List ℕ) (p : Position) (names buffer : List ℕ) → Bytes file → Bytes names → p .value < 2 ^ bits →
+    (file : List ℕ) (p : Position) (names buffer : List ℕ) → Bytes file → Bytes names → p .place .value < 2 ^ bits →
     length (namesOf (stepOn file p names buffer .3)) ≡ length (namesOf file)
 unfolding logicalNames
 step-count file p names buffer b n small =

@@ -11,21 +11,23 @@ use lib.ListN.{length, getD}
 use borrow.Author.Tests.{eq-eqb, ne-eqb, ltb-true, ltb-false, eqb-true, eqb-false}
 use Rattle.file.specs.Rules.Order.{both}
 use Rattle.file.proofs.Order.{byCase, clash}
-use Rattle.naming.specs.Inner.Answers.{partAt}
-use Rattle.naming.specs.Rules.Run.{Position, PassPlace, poll, ask, giveName, giveHigh, giveLow, baptize, least, bit, high, low, reply, partOf, placeOf}
-use Rattle.naming.specs.Rules.Run.{giveStep, roundHere, isFirst, isNeedless, atStep, passOver, onto, passRound, isExtra, nextRound, wrote, onward}
+use Rattle.naming.specs.Inner.StepAnswers.{partAt}
+use Rattle.naming.specs.Rules.Position.{Position}
+use Rattle.naming.specs.Rules.Pass.{PassPlace, poll, ask, giveName, giveHigh, giveLow, baptize, least, bit, high, low, reply, partOf, placeOf}
+use Rattle.naming.specs.Rules.Pass.{giveStep}
+use Rattle.naming.specs.Rules.Run.{roundHere, isFirst, isNeedless, atStep, passOver, onto, passRound, isExtra, nextRound, wrote, onward}
 use Rattle.naming.specs.Rules.Run.{nextName, endAllNamed, moveOn, passAdvance, countRaised, advance}
-use Rattle.naming.specs.Rules.Rounds.{comparisonRounds, sent}
+use Rattle.naming.specs.Rules.RunRounds.{comparisonRounds, sent}
 use Rattle.naming.specs.Claims.RoundsMade.{NextMade, MakesExtra, MovesOn, Stands}
 use Rattle.naming.proofs.PositionLaws.{part-poll, part-asked, part-none, third-part, writes-nothing, stays}
 
 -- a round that writes no half is made
-made-at : (names : List ℕ) (p : Position) → partAt (placeOf (p .step)) ≡ reply → isNeedless names p ≡ false
+made-at : (names : List ℕ) (p : Position) → partAt (placeOf (p .place .step)) ≡ reply → isNeedless names p ≡ false
 unfolding isNeedless roundHere both
 made-at names p e =
-    byCase (isFirst (placeOf (p .step)))
+    byCase (isFirst (placeOf (p .place .step)))
     (λ t. rw t)
-    (λ f. rw f (writes-nothing (getD names (p .index) 0) (p .value) p (placeOf (p .step)) e))
+    (λ f. rw f (writes-nothing (getD names (p .place .index) 0) (p .place .value) p (placeOf (p .place .step)) e))
 
 executes : (k : ℕ) → (k ≡ 0 → ⊥) → k < giveStep → (k - 1) % comparisonRounds ≡ 2 → partAt (placeOf k) ≡ reply
 executes k n h e = sym (part-asked k n h) ∙ third-part ((k - 1) % comparisonRounds) (λ z. omega arith) (λ z. omega arith)
@@ -63,67 +65,67 @@ unfolding onto passOver atStep
 needed-there names p =
     byCase (isNeedless names p)
     (λ t.
-    byCase (isNeedless names (atStep (suc (p .step)) p))
+    byCase (isNeedless names (atStep (suc (p .place .step)) p))
     (λ u.
-    let here : partAt (placeOf (p .step)) ≡ reply → ⊥ = λ e. clash t (made-at names p e) in
-    let next : partAt (placeOf (suc (p .step))) ≡ reply → ⊥ = λ e. clash u (made-at names (atStep (suc (p .step)) p) e) in
-    rw (t, u) (made-at names (atStep (suc (suc (p .step))) p) (two-writes (p .step) here next)))
+    let here : partAt (placeOf (p .place .step)) ≡ reply → ⊥ = λ e. clash t (made-at names p e) in
+    let next : partAt (placeOf (suc (p .place .step))) ≡ reply → ⊥ = λ e. clash u (made-at names (atStep (suc (p .place .step)) p) e) in
+    rw (t, u) (made-at names (atStep (suc (suc (p .place .step))) p) (two-writes (p .place .step) here next)))
     (λ f. rw (t, f) f))
     (λ f. rw (f, f) f)
 
 -- it passes over the needless writes before that round, and over nothing else
 module _ (names : List ℕ) (p : Position) where
-  at-own : atStep (p .step) p ≡ p
+  at-own : atStep (p .place .step) p ≡ p
   unfolding atStep
   at-own = refl
 
-  moved-to : onto names p ≡ atStep (onto names p .step) p
+  moved-to : onto names p ≡ atStep (onto names p .place .step) p
   unfolding onto passOver atStep
   moved-to =
       byCase (isNeedless names p)
-      (λ t. byCase (isNeedless names (atStep (suc (p .step)) p)) (λ u. rw (t, u)) (λ f. rw (t, f)))
+      (λ t. byCase (isNeedless names (atStep (suc (p .place .step)) p)) (λ u. rw (t, u)) (λ f. rw (t, f)))
       (λ f. rw (f, f))
 
-  ahead-of : p .step ≤ onto names p .step
+  ahead-of : p .place .step ≤ onto names p .place .step
   unfolding onto passOver atStep
   ahead-of =
       byCase (isNeedless names p)
-      (λ t. byCase (isNeedless names (atStep (suc (p .step)) p)) (λ u. rw (t, u) (omega arith)) (λ f. rw (t, f) (omega arith)))
+      (λ t. byCase (isNeedless names (atStep (suc (p .place .step)) p)) (λ u. rw (t, u) (omega arith)) (λ f. rw (t, f) (omega arith)))
       (λ f. rw (f, f) (omega arith))
 
-  passed-over : (k : ℕ) → p .step ≤ k → k < onto names p .step → isNeedless names (atStep k p) ≡ true
+  passed-over : (k : ℕ) → p .place .step ≤ k → k < onto names p .place .step → isNeedless names (atStep k p) ≡ true
   unfolding onto passOver
   passed-over k from below =
       byCase (isNeedless names p)
       (λ t.
-      byCase (isNeedless names (atStep (suc (p .step)) p))
+      byCase (isNeedless names (atStep (suc (p .place .step)) p))
       (λ u.
-      let short : k < suc (suc (p .step)) = unfold atStep in rw (t, u) at below in
-      byCase (eqb k (p .step))
-      (λ e. let is : k ≡ p .step = eqb-true k (p .step) e in rw is (ap (isNeedless names) at-own ∙ t))
-      (λ n. let other : k ≡ p .step → ⊥ = eqb-false k (p .step) n in let is : k ≡ suc (p .step) = omega (arith, other, short, from) in rw is u))
+      let short : k < suc (suc (p .place .step)) = unfold atStep in rw (t, u) at below in
+      byCase (eqb k (p .place .step))
+      (λ e. let is : k ≡ p .place .step = eqb-true k (p .place .step) e in rw is (ap (isNeedless names) at-own ∙ t))
+      (λ n. let other : k ≡ p .place .step → ⊥ = eqb-false k (p .place .step) n in let is : k ≡ suc (p .place .step) = omega (arith, other, short, from) in rw is u))
       (λ f.
-      let short : k < suc (p .step) = unfold atStep in rw (t, f) at below in
-      let is : k ≡ p .step = omega arith in
+      let short : k < suc (p .place .step) = unfold atStep in rw (t, f) at below in
+      let is : k ≡ p .place .step = omega arith in
       rw is (ap (isNeedless names) at-own ∙ t)))
-      (λ f. let short : k < p .step = rw (f, f) at below in absurd (omega arith))
+      (λ f. let short : k < p .place .step = rw (f, f) at below in absurd (omega arith))
 
 -- no round counted: the extra read
 pub makes-extra : MakesExtra
 unfolding nextRound advance sent countRaised
 makes-extra first others p none =
-    let due : isExtra p ≡ true = unfold isExtra in eq-eqb (p .rounds) 0 none in
+    let due : isExtra p ≡ true = unfold isExtra in eq-eqb (p .counts .rounds) 0 none in
     record { reads = rw due; raised = λ answered. rw (due, none) }
 
-pub some-counted : (p : Position) → 0 < p .rounds → isExtra p ≡ false
+pub some-counted : (p : Position) → 0 < p .counts .rounds → isExtra p ≡ false
 unfolding isExtra
-some-counted p h = ne-eqb (p .rounds) 0 (λ e. omega arith)
+some-counted p h = ne-eqb (p .counts .rounds) 0 (λ e. omega arith)
 
 pub moves-on : MovesOn
 unfolding nextRound passRound
 moves-on names p counted =
     record {
-      step = onto names p .step;
+      step = onto names p .place .step;
       ahead = ahead-of names p;
       needless = passed-over names p;
       needed = rw (sym (moved-to names p)) (needed-there names p);
@@ -144,12 +146,12 @@ next-once a b =
     omega (arith, behind, before)))
 
 -- moved on, the position stands there
-there : (names : List ℕ) (p : Position) → 0 < p .rounds → (here : NextMade names p) → onto names p ≡ atStep (here .step) p
+there : (names : List ℕ) (p : Position) → 0 < p .counts .rounds → (here : NextMade names p) → onto names p ≡ atStep (here .step) p
 unfolding moves-on
 there names p counted here = moved-to names p ∙ ap (λ (k : ℕ). atStep k p) (next-once (moves-on names p counted) here)
 
 -- a round made is counted
-pub moved-counts : (l : PassPlace) (count : ℕ) (p : Position) (answered : Bool) → 0 < moveOn l count p answered .rounds
+pub moved-counts : (l : PassPlace) (count : ℕ) (p : Position) (answered : Bool) → 0 < moveOn l count p answered .counts .rounds
 unfolding moveOn nextName onward endAllNamed
 moved-counts poll count p true = omega arith
 moved-counts poll count p false = omega arith
@@ -166,7 +168,7 @@ moved-counts baptize count p answered = omega arith
 pub stands : Stands
 unfolding advance passAdvance atStep moves-on
 stands names p counted here answered =
-    let go : Position → Position = λ q. moveOn (placeOf (q .step)) (length names) (wrote (roundHere names q) q) answered in
+    let go : Position → Position = λ q. moveOn (placeOf (q .place .step)) (length names) (wrote (roundHere names q) q) answered in
     record {
       next = moves-on names (go (atStep (here .step) p)) (moved-counts _ _ _ answered);
       stands =
@@ -178,10 +180,10 @@ stands names p counted here answered =
 pub onto-again : (names : List ℕ) (p : Position) → onto names (onto names p) ≡ onto names p
 onto-again names p = stays names (onto names p) (needed-there names p)
 
-pub onto-passed : (names : List ℕ) (p : Position) → isNeedless names p ≡ true → onto names p ≡ onto names (atStep (suc (p .step)) p)
+pub onto-passed : (names : List ℕ) (p : Position) → isNeedless names p ≡ true → onto names p ≡ onto names (atStep (suc (p .place .step)) p)
 onto-passed names p t = sym third ∙ unfold onto in rw passed
   where
-    passed : passOver names p ≡ atStep (suc (p .step)) p
+    passed : passOver names p ≡ atStep (suc (p .place .step)) p
     passed = unfold passOver in rw t
 
     third : passOver names (onto names p) ≡ onto names p

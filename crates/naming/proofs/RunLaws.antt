@@ -15,15 +15,19 @@ use Rattle.file.specs.Rules.Cluster.{broadcast, unnamed}
 use Rattle.file.specs.Inner.Accepted.{Placed}
 use Rattle.file.proofs.Order.{byCase, either-false-left, either-false-right, both-false-next, first-none}
 use Rattle.file.proofs.Bytes.{byte-at}
-use Rattle.naming.specs.Rules.Rounds.{half, comparisonRounds, RunRound, sent}
-use Rattle.naming.specs.Rules.Run.{Position, running, unfitName, namesGrounds, startGround, runGrounds, unfitPosition, Question, questionOf, tried}
-use Rattle.naming.specs.Rules.Run.{Part, high, low, reply, partOf, giveOf, ask, bits, giveStep, PassPlace, poll, giveName, giveHigh, giveLow, baptize}
-use Rattle.naming.specs.Rules.Run.{least, bit, lastStep, placeOf, roundAt, roundHere, onto, passRound, nextRound, wrote, onward, nextName, endAllNamed}
+use Rattle.naming.specs.Rules.RunRounds.{half, comparisonRounds, RunRound, sent}
+use Rattle.naming.specs.Rules.Position.{Position, running}
+use Rattle.naming.specs.Rules.Pass.{Question, questionOf}
+use Rattle.naming.specs.Rules.Run.{tried}
+use Rattle.naming.specs.Rules.RunGrounds.{unfitName, namesGrounds, startGround, runGrounds, unfitPosition}
+use Rattle.naming.specs.Rules.Pass.{Part, high, low, reply, partOf, giveOf, ask, bits, giveStep, PassPlace, poll, giveName, giveHigh, giveLow, baptize}
+use Rattle.naming.specs.Rules.Pass.{least, bit, lastStep, placeOf}
+use Rattle.naming.specs.Rules.Run.{roundAt, roundHere, onto, passRound, nextRound, wrote, onward, nextName, endAllNamed}
 use Rattle.naming.specs.Rules.Run.{moveOn, passAdvance, isExtra, countRaised, advance}
 use Rattle.naming.specs.Rules.Step.{isReply, made, madeBy, stepMade}
-use Rattle.cluster.specs.declared.types.MasterSlaveRound.{MasterSlaveRound}
-use Rattle.naming.specs.declared.position.Reply.the-variants as replies
-use Rattle.naming.specs.Inner.Answers.{heard, GoesOn, StepGoes, Settled, Advances, Sends}
+use Rattle.master_slave.specs.declared.types.MasterSlaveRound.{MasterSlaveRound}
+use Rattle.naming.specs.declared.advance.Reply.the-variants as replies
+use Rattle.naming.specs.Inner.StepAnswers.{heard, GoesOn, StepGoes, Settled, Advances, Sends}
 use Rattle.cluster.specs.Rules.MasterSlave.{roundSent}
 use Rattle.cluster.specs.Inner.Sending.{sentFor, MaySend}
 use Rattle.naming.proofs.Facts.{Fit}
@@ -31,7 +35,7 @@ use Rattle.naming.proofs.Places.{LegalQuestion, of-least, of-bit}
 use Rattle.naming.proofs.Search.{tried-small}
 use Rattle.naming.proofs.Abstract.{Sendable, of-poll, of-name, of-high, of-low, of-compare, of-baptize}
 use Rattle.naming.proofs.StepRound.{may-send}
-use Rattle.naming.proofs.PositionLaws.{place-ask, place-give, last-place, onto-goes, onto-same, onto-value, wrote-value}
+use Rattle.naming.proofs.PositionLaws.{place-ask, place-give, each-given, last-place, onto-goes, onto-same, onto-value, wrote-value}
 
 -- ---- grounds 15 to 17
 
@@ -85,8 +89,8 @@ runs {names} {p} e m =
     let inside = both-false-next _ (eq-eqb (p .end) running m) (either-false-right _ _ outside) in
     let later = either-false-right _ _ inside in
     let counts = either-false-right _ _ later in
-    let most : p .index ≤ length names = ltb-false _ _ (either-false-left _ _ outside) in
-    let other : p .index ≡ length names → ⊥ = eqb-false _ _ (either-false-left _ _ inside) in
+    let most : p .place .index ≤ length names = ltb-false _ _ (either-false-left _ _ outside) in
+    let other : p .place .index ≡ length names → ⊥ = eqb-false _ _ (either-false-left _ _ inside) in
     record {
       fit = first .0;
       goes = record {
@@ -129,11 +133,9 @@ module _ {n v : ℕ} (f : Fit n) (small : v < 2 ^ bits) where
   ask-sendable reply l = of-compare
 
   give-sendable : (j : ℕ) → Sendable (roundAt (giveOf j) n v)
-  unfolding roundAt giveOf
-  give-sendable zero = of-name f
-  give-sendable (suc zero) = of-high {h = v / half} (omega arith)
-  give-sendable (suc (suc zero)) = of-low {l = v % half} (omega arith)
-  give-sendable (suc (suc (suc j))) = of-baptize
+  unfolding roundAt
+  give-sendable j =
+      each-given (λ (l : PassPlace). Sendable (roundAt l n v)) (of-name f) (of-high {h = v / half} (omega arith)) (of-low {l = v % half} (omega arith)) of-baptize j
 
   ask-or-give : (k : ℕ) → (k ≡ 0 → ⊥) → Sendable (roundAt (placeOf k) n v)
   ask-or-give k some =
@@ -147,32 +149,32 @@ module _ {n v : ℕ} (f : Fit n) (small : v < 2 ^ bits) where
   place-sendable (suc k) = ask-or-give (suc k) (λ e. omega arith)
 
 here-sendable :
-    (names : List ℕ) {p : Position} → unfitName names ≡ false → GoesOn (length names) p → getD names (p .index) 0 < 256 → p .value < 2 ^ bits →
+    (names : List ℕ) {p : Position} → unfitName names ≡ false → GoesOn (length names) p → getD names (p .place .index) 0 < 256 → p .place .value < 2 ^ bits →
     Sendable (roundHere names p)
 unfolding roundHere
-here-sendable names {p} fit g b v = place-sendable (fit-at names (p .index) fit (g .within) b) v (p .step)
+here-sendable names {p} fit g b v = place-sendable (fit-at names (p .place .index) fit (g .within) b) v (p .place .step)
 
-pass-sendable : {names : List ℕ} {p : Position} → Runs names p → getD names (p .index) 0 < 256 → p .value < 2 ^ bits → Sendable (passRound names p)
+pass-sendable : {names : List ℕ} {p : Position} → Runs names p → getD names (p .place .index) 0 < 256 → p .place .value < 2 ^ bits → Sendable (passRound names p)
 unfolding passRound
 pass-sendable {names} {p} r b v =
     here-sendable names (r .fit) (onto-goes names (r .goes)) (rw (onto-same names p .1) b) (rw (onto-value names p) v)
 
 -- whether the extra read is due
-counted-none : (p : Position) → p .rounds ≡ 0 → isExtra p ≡ true
+counted-none : (p : Position) → p .counts .rounds ≡ 0 → isExtra p ≡ true
 unfolding isExtra
-counted-none p e = eq-eqb (p .rounds) 0 e
+counted-none p e = eq-eqb (p .counts .rounds) 0 e
 
-counted-some : (p : Position) → 0 < p .rounds → isExtra p ≡ false
+counted-some : (p : Position) → 0 < p .counts .rounds → isExtra p ≡ false
 unfolding isExtra
-counted-some p h = ne-eqb (p .rounds) 0 (λ e. omega arith)
+counted-some p h = ne-eqb (p .counts .rounds) 0 (λ e. omega arith)
 
 first-sendable : {names : List ℕ} {p : Position} → Runs names p → getD names 0 0 < 256 → Sendable (RunRound.poll (getD names 0 0))
 first-sendable {names} {p} r b = of-poll (fit-at names 0 (r .fit) (omega (arith, r .goes .within)) b)
 
-pub next-sendable : {names : List ℕ} {p : Position} → Runs names p → Bytes names → p .value < 2 ^ bits → Sendable (nextRound names p)
+pub next-sendable : {names : List ℕ} {p : Position} → Runs names p → Bytes names → p .place .value < 2 ^ bits → Sendable (nextRound names p)
 unfolding nextRound
 next-sendable {names} {p} r b v =
-    byCase (isExtra p) (λ e. rw e (first-sendable r (byte-at b 0))) (λ e. rw e (pass-sendable r (byte-at b (p .index)) v))
+    byCase (isExtra p) (λ e. rw e (first-sendable r (byte-at b 0))) (λ e. rw e (pass-sendable r (byte-at b (p .place .index)) v))
 
 -- ---- the position after the round, by its place and answer
 
@@ -181,7 +183,7 @@ unfolding placeOf
 poll-place e = rw e
 
 -- its step is one of a pass again
-one-more : (l : PassPlace) (count : ℕ) (p : Position) (b : Bool) → moveOn l count p b .step ≤ suc (p .step)
+one-more : (l : PassPlace) (count : ℕ) (p : Position) (b : Bool) → moveOn l count p b .place .step ≤ suc (p .place .step)
 unfolding moveOn onward nextName endAllNamed
 one-more poll count p true = omega arith
 one-more poll count p false = omega arith
@@ -195,34 +197,31 @@ one-more giveHigh count p b = omega arith
 one-more giveLow count p b = omega arith
 one-more baptize count p b = omega arith
 
-pub moved-within : (count : ℕ) (p : Position) (b : Bool) {v : Position} → p .step ≤ lastStep → v ≡ moveOn (placeOf (p .step)) count p b → v .step ≤ lastStep
+pub moved-within : (count : ℕ) (p : Position) (b : Bool) {v : Position} → p .place .step ≤ lastStep → v ≡ moveOn (placeOf (p .place .step)) count p b → v .place .step ≤ lastStep
 moved-within count p b h is =
     rw is
-    (byCase (eqb (p .step) lastStep)
-    (λ t. rw (last-place (eqb-true (p .step) lastStep t)) (unfold moveOn nextName in omega arith))
-    (λ f. let n = eqb-false (p .step) lastStep f in omega (arith, one-more (placeOf (p .step)) count p b)))
+    (byCase (eqb (p .place .step) lastStep)
+    (λ t. rw (last-place (eqb-true (p .place .step) lastStep t)) (unfold moveOn nextName in omega arith))
+    (λ f. let n = eqb-false (p .place .step) lastStep f in omega (arith, one-more (placeOf (p .place .step)) count p b)))
 
 -- its value is one of 64 bits again
-module _ (count : ℕ) (w : Position) (b : Bool) (small : w .value < 2 ^ bits) where
-  asked-small : {q : Question} (r : Part) → LegalQuestion q → moveOn (ask q r) count w b .value < 2 ^ bits
+module _ (count : ℕ) (w : Position) (b : Bool) (small : w .place .value < 2 ^ bits) where
+  asked-small : {q : Question} (r : Part) → LegalQuestion q → moveOn (ask q r) count w b .place .value < 2 ^ bits
   unfolding moveOn onward
   asked-small high l = small
   asked-small low l = small
-  asked-small reply of-least = byCase {P = moveOn (ask least reply) count w b .value < 2 ^ bits} b (λ t. rw t (omega arith)) (λ f. rw f (unfold endAllNamed in small))
-  asked-small {q} reply (of-bit {b = x} h) = byCase {P = moveOn (ask (bit x) reply) count w b .value < 2 ^ bits} b (λ t. rw t (tried-small (of-bit h) (w .value) small)) (λ f. rw f small)
+  asked-small reply of-least = byCase {P = moveOn (ask least reply) count w b .place .value < 2 ^ bits} b (λ t. rw t (omega arith)) (λ f. rw f (unfold endAllNamed in small))
+  asked-small {q} reply (of-bit {b = x} h) = byCase {P = moveOn (ask (bit x) reply) count w b .place .value < 2 ^ bits} b (λ t. rw t (tried-small (of-bit h) (w .place .value) small)) (λ f. rw f small)
 
-  gave-small : (j : ℕ) → moveOn (giveOf j) count w b .value < 2 ^ bits
-  unfolding moveOn giveOf onward nextName
-  gave-small zero = small
-  gave-small (suc zero) = small
-  gave-small (suc (suc zero)) = small
-  gave-small (suc (suc (suc j))) = small
+  gave-small : (j : ℕ) → moveOn (giveOf j) count w b .place .value < 2 ^ bits
+  unfolding moveOn onward nextName
+  gave-small j = each-given (λ (l : PassPlace). moveOn l count w b .place .value < 2 ^ bits) small small small small j
 
-  polled-small : moveOn poll count w b .value < 2 ^ bits
+  polled-small : moveOn poll count w b .place .value < 2 ^ bits
   unfolding moveOn
-  polled-small = byCase {P = moveOn poll count w b .value < 2 ^ bits} b (λ t. rw t (unfold nextName in small)) (λ f. rw f (unfold onward in small))
+  polled-small = byCase {P = moveOn poll count w b .place .value < 2 ^ bits} b (λ t. rw t (unfold nextName in small)) (λ f. rw f (unfold onward in small))
 
-  moved-small : (k : ℕ) → moveOn (placeOf k) count w b .value < 2 ^ bits
+  moved-small : (k : ℕ) → moveOn (placeOf k) count w b .place .value < 2 ^ bits
   moved-small k =
       byCase (eqb k 0)
       (λ z. rw (poll-place (eqb-true k 0 z)) polled-small)
@@ -232,18 +231,18 @@ module _ (count : ℕ) (w : Position) (b : Bool) (small : w .value < 2 ^ bits) w
       (λ e. rw (place-ask k some (ltb-true k giveStep e)) (asked-small (partOf ((k - 1) % comparisonRounds)) (question-legal ((k - 1) / comparisonRounds) (few-questions k (ltb-true k giveStep e)))))
       (λ e. rw (place-give k (ltb-false k giveStep e)) (gave-small (k - giveStep))))
 
-passed-small : (names : List ℕ) (p : Position) (b : Bool) → p .value < 2 ^ bits → passAdvance names p b .value < 2 ^ bits
+passed-small : (names : List ℕ) (p : Position) (b : Bool) → p .place .value < 2 ^ bits → passAdvance names p b .place .value < 2 ^ bits
 unfolding passAdvance
 passed-small names p b small =
     let q = onto names p in
-    let kept : wrote (roundHere names q) q .value < 2 ^ bits = rw (wrote-value (roundHere names q) q, onto-value names p) small in
-    rw (onto-value names (moveOn (placeOf (q .step)) (length names) (wrote (roundHere names q) q) b))
-    (moved-small (length names) (wrote (roundHere names q) q) b kept (q .step))
+    let kept : wrote (roundHere names q) q .place .value < 2 ^ bits = rw (wrote-value (roundHere names q) q, onto-value names p) small in
+    rw (onto-value names (moveOn (placeOf (q .place .step)) (length names) (wrote (roundHere names q) q) b))
+    (moved-small (length names) (wrote (roundHere names q) q) b kept (q .place .step))
 
-pub advanced-small : (names : List ℕ) (p : Position) (b : Bool) → p .value < 2 ^ bits → advance names p b .value < 2 ^ bits
+pub advanced-small : (names : List ℕ) (p : Position) (b : Bool) → p .place .value < 2 ^ bits → advance names p b .place .value < 2 ^ bits
 unfolding advance
 advanced-small names p b small =
-    byCase {P = advance names p b .value < 2 ^ bits} (isExtra p) (λ e. rw e (unfold countRaised in small)) (λ e. rw e (passed-small names p b small))
+    byCase {P = advance names p b .place .value < 2 ^ bits} (isExtra p) (λ e. rw e (unfold countRaised in small)) (λ e. rw e (passed-small names p b small))
 
 -- ---- the whole step
 
@@ -255,7 +254,7 @@ module _
   extra-may byte = rw (round .parts, name) (may-send (first-sendable (runs (step .accepted) (step .runs)) byte))
 
   pub extra-is :
-      {new file : List ℕ} {mask : ℕ} {q : Position} → p .rounds ≡ 0 → (done mask, new, file) ≡ roundSent f (sentFor r) buffer → q ≡ countRaised p →
+      {new file : List ℕ} {mask : ℕ} {q : Position} → p .counts .rounds ≡ 0 → (done mask, new, file) ≡ roundSent f (sentFor r) buffer → q ≡ countRaised p →
       (done (made mask), q, new, file) ≡ stepMade f p names buffer
   unfolding stepMade nextRound advance madeBy
   extra-is none carry is = rw (counted-none p none, ← name, ← (round .parts), ← carry, is)
@@ -268,8 +267,8 @@ module _
   here-goes = rw (settled names) (onto-goes names (runs (step .accepted) (step .runs) .goes))
 
   module _
-      {n : ℕ} {r : MasterSlaveRound} (byte : getD names (s .index) 0 < 256) (small : s .value < 2 ^ bits) (name : n ≡ getD names (s .index) 0)
-      (round : Sends r (sent (roundAt (placeOf (s .step)) n (s .value)))) where
+      {n : ℕ} {r : MasterSlaveRound} (byte : getD names (s .place .index) 0 < 256) (small : s .place .value < 2 ^ bits) (name : n ≡ getD names (s .place .index) 0)
+      (round : Sends r (sent (roundAt (placeOf (s .place .step)) n (s .place .value)))) where
     sends : Sends r (sent (roundHere names s))
     unfolding roundHere
     sends = record { parts = rw name at (round .parts) }
@@ -282,7 +281,7 @@ module _
     send-may = rw (sends .parts) (may-send (here-sendable names (runs (step .accepted) (step .runs) .fit) here-goes byte small))
 
     pub step-is :
-        {new file : List ℕ} {mask : ℕ} {q : Position} {b : Bool} → 0 < p .rounds →
+        {new file : List ℕ} {mask : ℕ} {q : Position} {b : Bool} → 0 < p .counts .rounds →
         (done mask, new, file) ≡ roundSent f (sentFor r) buffer → b ≡ isReply (done mask) → Advances (length names) s b q →
         (done (made mask), q, new, file) ≡ stepMade f p names buffer
     unfolding stepMade nextRound advance passAdvance madeBy

@@ -10,8 +10,9 @@ use lib.Dec.{leb}
 use lib.Bits.{or-shifted, or-lt}
 use lib.Pow.{pow-pos, pow-lt}
 use borrow.Author.Tests.{leb-true, leb-false}
-use Rattle.naming.specs.Rules.Run.{Question, bit, tried, bits}
-use Rattle.naming.specs.Rules.Rounds.{half}
+use Rattle.naming.specs.Rules.Pass.{Question, bit, bits}
+use Rattle.naming.specs.Rules.Run.{tried}
+use Rattle.naming.specs.Rules.RunRounds.{half}
 use Rattle.naming.proofs.Places.{LegalQuestion, of-least, of-bit}
 
 -- p with its low r bits cleared

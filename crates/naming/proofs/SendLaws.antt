@@ -9,11 +9,12 @@ use lib.Dec.{ltb}
 use Rattle.file.specs.Rules.Bytes.{bytesOf}
 use Rattle.file.specs.Rules.Layout.{recordSize}
 use Rattle.file.specs.Rules.Cluster.{unnamed, writeOperation, executeOperation}
-use Rattle.naming.specs.Rules.Rounds.{writeHigh, writeLow, half, comparisonRounds, sent, atUnnamed}
-use Rattle.naming.specs.Rules.Rounds.{RunRound.poll as pollOf}
-use Rattle.naming.specs.Rules.Run.{Question, Part, high, low, reply, partOf, questionOf, ask, giveStep, lastStep, placeOf, askOrGive, giveOf, roundAt}
-use Rattle.cluster.specs.declared.types.MasterSlaveRound.{MasterSlaveRound}
-use Rattle.naming.specs.Inner.Answers.{Sends, partAt, WritesAt}
+use Rattle.naming.specs.Rules.RunRounds.{writeHigh, writeLow, half, comparisonRounds, sent, atUnnamed}
+use Rattle.naming.specs.Rules.RunRounds.{RunRound.poll as pollOf}
+use Rattle.naming.specs.Rules.Pass.{Question, Part, high, low, reply, partOf, questionOf, ask, giveStep, lastStep, placeOf, askOrGive, giveOf}
+use Rattle.naming.specs.Rules.Run.{roundAt}
+use Rattle.master_slave.specs.declared.types.MasterSlaveRound.{MasterSlaveRound}
+use Rattle.naming.specs.Inner.StepAnswers.{Sends, partAt, WritesAt}
 use Rattle.file.proofs.Order.{byCase}
 use Rattle.naming.proofs.PositionLaws.{place-ask, place-give, last-place, third-part, writes-high, writes-low}
 

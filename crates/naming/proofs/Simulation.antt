@@ -7,22 +7,25 @@ use mathlib.Core.List.{List, [], _∷_, map}
 use mathlib.Core.Bool.{Bool, true, false, cond, not}
 use native.Mathlib.Omega.{arith}
 use native.Mathlib.Numerals.{add-one}
-use lib.Dec.{leb}
+use lib.Dec.{eqb, leb, ltb}
 use lib.ListN.{length, drop, getD, length-drop}
 use lib.Seq.{drop-drop, getD-drop}
 use borrow.Author.Tests.{ne-eqb, eqb-true, eqb-false, lt-ltb, le-ltb, le-leb}
 use Rattle.file.specs.Rules.Bytes.{All.allEmpty, All.allNext as also}
-use Rattle.file.specs.Rules.Grounds.{isAmong}
+use Rattle.file.specs.Rules.FileGrounds.{isAmong}
 use Rattle.file.proofs.Bytes.{all-first, all-map}
 use Rattle.file.specs.Rules.Order.{both}
 use Rattle.file.proofs.Order.{byCase, clash}
 use Rattle.naming.specs.Inner.View.{SlaveView, unnamedChange, changeAll, answers, comparisonOf}
-use Rattle.naming.specs.Rules.Rounds.{RunRound, RunRound.poll as pollOf, writeName, writeHigh, writeLow, compare, half}
-use Rattle.naming.specs.Rules.Run.{Position, running, fresh, endAt, PassPlace, PassPlace.poll, ask, giveName, giveHigh, giveLow, PassPlace.baptize}
-use Rattle.naming.specs.Rules.Run.{Question, least, bit, Part, high, low, reply, placeOf, tried, roundAt, roundHere, isFirst, isRepeated, isNeedless}
-use Rattle.naming.specs.Rules.Run.{atStep, passOver, onto, wrote, onward, nextName, endAllNamed, moveOn, bits}
+use Rattle.naming.specs.Rules.RunRounds.{RunRound, RunRound.poll as pollOf, writeName, writeHigh, writeLow, compare, half}
+use Rattle.naming.specs.Rules.Position.{Halves, Position, running, fresh, endAt}
+use Rattle.naming.specs.Rules.Pass.{PassPlace, PassPlace.poll, ask, giveName, giveHigh, giveLow, PassPlace.baptize}
+use Rattle.naming.specs.Rules.Pass.{Question, least, bit, Part, high, low, reply, placeOf}
+use Rattle.naming.specs.Rules.Run.{tried, roundAt, roundHere, isFirst, isRepeated, isNeedless}
+use Rattle.naming.specs.Rules.Pass.{bits}
+use Rattle.naming.specs.Rules.Run.{atStep, passOver, onto, withHalves, wrote, onward, nextName, endAllNamed, moveOn}
 use Rattle.naming.specs.Inner.PassPlaces.{stepOf}
-use Rattle.naming.specs.Rules.Account.{Named, Account, bitClear, comparisonsAfter, highAgain, endWith, give, passOn, namingRounds, namingComparisons, endingRounds}
+use Rattle.naming.specs.Rules.Account.{Named, Account, bitClear, comparisonsAfter, highAgain, namesHeld, endWith, give, passOn, namingRounds, namingComparisons, endingRounds}
 use Rattle.naming.proofs.Places.{of-least, of-bit, Inner, LegalPlace, inner, at-poll, at-ask, at-name, at-high, at-low, at-baptize, afterBit, afterPlace, place-of-step, step-after, legal-after}
 use Rattle.naming.proofs.Places.{comparing as counting}
 use Rattle.naming.proofs.Search.{cleared, cleared-all, cleared-none, tried-bit, answered, tried-small, halves}
@@ -30,8 +33,8 @@ use Rattle.naming.proofs.Tries.{attempt, lastTry, try-here, given-high,
 use Rattle.naming.proofs.Walk.{past, pastOf, compared, compared-after, high-again-one, past-within, past-last, past-reply, high-passed, high-made}
 use Rattle.naming.proofs.Walk.{low-passed, low-made, give-high-passed, give-low-passed, give-low-made}
 use Rattle.naming.proofs.Facts.{Facts, drop-taken, give-greatest, fall-first}
-use Rattle.naming.proofs.Rounds.{account, Goes, goes-on, taken-round, giving-round, ending-round}
-use Rattle.naming.proofs.Tally.{none-compared}
+use Rattle.naming.proofs.AccountRounds.{account, Goes, goes-on, taken-round, giving-round, ending-round}
+use Rattle.naming.proofs.Tally.{none-compared, one-compared}
 use Rattle.naming.proofs.Answers.{namedOf, OfUnnamed, Wait, poll-answers, compare-silent, compare-answers, Quiet, polling, telling-name, telling-high}
 use Rattle.naming.proofs.Answers.{telling-low, comparing, quiet-names, quiet-told, baptize-names}
 
@@ -46,15 +49,15 @@ abbrev pub LowHeld : Question → ℕ → SlaveView → Type 0
 LowHeld least l v = Unit {0}
 LowHeld (bit b) l v = v .low ≡ l
 
-abbrev pub Told : PassPlace → ℕ → ℕ → ℕ → SlaveView → Type 0
-Told poll n h l v = Unit {0}
-Told (ask q high) n h l v = HighHeld q h v × LowHeld q l v
-Told (ask q low) n h l v = (v .high ≡ h) × LowHeld q l v
-Told (ask q reply) n h l v = (v .high ≡ h) × (v .low ≡ l)
-Told giveName n h l v = (v .high ≡ h) × (v .low ≡ l)
-Told giveHigh n h l v = (v .newName ≡ n) × (v .high ≡ h) × (v .low ≡ l)
-Told giveLow n h l v = (v .newName ≡ n) × (v .high ≡ h) × (v .low ≡ l)
-Told baptize n h l v = (v .newName ≡ n) × (v .high ≡ h) × (v .low ≡ l)
+abbrev pub Told : PassPlace → ℕ → Halves → SlaveView → Type 0
+Told poll n h v = Unit {0}
+Told (ask q high) n h v = HighHeld q (h .high) v × LowHeld q (h .low) v
+Told (ask q low) n h v = (v .high ≡ h .high) × LowHeld q (h .low) v
+Told (ask q reply) n h v = (v .high ≡ h .high) × (v .low ≡ h .low)
+Told giveName n h v = (v .high ≡ h .high) × (v .low ≡ h .low)
+Told giveHigh n h v = (v .newName ≡ n) × (v .high ≡ h .high) × (v .low ≡ h .low)
+Told giveLow n h v = (v .newName ≡ n) × (v .high ≡ h .high) × (v .low ≡ h .low)
+Told baptize n h v = (v .newName ≡ n) × (v .high ≡ h .high) × (v .low ≡ h .low)
 
 -- what the halves last written are, for the value so far and the greatest waiting name
 abbrev HighBefore : Question → ℕ → ℕ → Type 0
@@ -65,15 +68,15 @@ abbrev LowBefore : Question → ℕ → ℕ → Type 0
 LowBefore least p l = Unit {0}
 LowBefore (bit b) p l = l ≡ lastTry (suc b) p % half
 
-abbrev pub Halves : PassPlace → ℕ → ℕ → ℕ → ℕ → Type 0
-Halves poll x p h l = Unit {0}
-Halves (ask q high) x p h l = HighBefore q p h × LowBefore q p l
-Halves (ask q low) x p h l = (h ≡ tried q x / half) × LowBefore q p l
-Halves (ask q reply) x p h l = (h ≡ tried q x / half) × (l ≡ tried q x % half)
-Halves giveName x p h l = (h ≡ lastTry 0 p / half) × (l ≡ lastTry 0 p % half)
-Halves giveHigh x p h l = (h ≡ lastTry 0 p / half) × (l ≡ lastTry 0 p % half)
-Halves giveLow x p h l = (h ≡ x / half) × (l ≡ lastTry 0 p % half)
-Halves baptize x p h l = (h ≡ x / half) × (l ≡ x % half)
+abbrev pub LastHalves : PassPlace → ℕ → ℕ → Halves → Type 0
+LastHalves poll x p h = Unit {0}
+LastHalves (ask q high) x p h = HighBefore q p (h .high) × LowBefore q p (h .low)
+LastHalves (ask q low) x p h = (h .high ≡ tried q x / half) × LowBefore q p (h .low)
+LastHalves (ask q reply) x p h = (h .high ≡ tried q x / half) × (h .low ≡ tried q x % half)
+LastHalves giveName x p h = (h .high ≡ lastTry 0 p / half) × (h .low ≡ lastTry 0 p % half)
+LastHalves giveHigh x p h = (h .high ≡ lastTry 0 p / half) × (h .low ≡ lastTry 0 p % half)
+LastHalves giveLow x p h = (h .high ≡ x / half) × (h .low ≡ lastTry 0 p % half)
+LastHalves baptize x p h = (h .high ≡ x / half) × (h .low ≡ x % half)
 
 -- the value so far is the greatest waiting name with its low r bits cleared
 abbrev pub Found : ℕ → ℕ → List ℕ → Type 0
@@ -93,55 +96,60 @@ Known giveHigh n held x ws = (isAmong n held ≡ false) × Found 0 x ws
 Known giveLow n held x ws = (isAmong n held ≡ false) × Found 0 x ws
 Known baptize n held x ws = (isAmong n held ≡ false) × Found 0 x ws
 
-pub record At
-    (names : List ℕ) (vs : List SlaveView) (l : PassPlace) (index step value rounds comparisons h l′ n : ℕ) (ns ws : List ℕ) (slaves : List Named)
-    (held : List ℕ) (done k : ℕ) : Type 0 where
-  pub legal : LegalPlace l
-  pub facts : Facts (n ∷ ns) ws slaves held
-  pub here : drop index names ≡ n ∷ ns
-  pub place : step ≡ stepOf l
-  pub made : k ≡ pastOf l ws
-  pub counted : comparisons ≡ done + compared l
-  pub views : map namedOf vs ≡ slaves
-  pub known : Known l n held value ws
-  pub halves : Halves l value (getD ws 0 0) h l′
-  pub heard : OfUnnamed (Told l n h l′) vs
-  pub small : value < 2 ^ bits
+-- a pass of the account: the name that it is for, the names after it, and what else the account holds while it runs
+pub record Pass : Type 0 where
+  pub name : ℕ
+  pub others : List ℕ
+  pub waiting : List ℕ
+  pub slaves : List Named
+  pub held : List ℕ
+  pub rounds : ℕ
+  pub done : ℕ
+  pub k : ℕ
 
-abbrev pub position : ℕ → ℕ → ℕ → ℕ → ℕ → ℕ → ℕ → ℕ → Position
-position end index step value rounds comparisons h l =
-    record { end = end; index = index; step = step; value = value; rounds = rounds; comparisons = comparisons; high = h; low = l }
+abbrev pub during : Pass → Account
+during a = account (a .name ∷ a .others) (a .waiting) (a .slaves) (a .held) 0 (a .rounds) (a .done) (a .k)
+
+-- with those waiting
+abbrev pub waitedFor : List ℕ → Pass → Pass
+waitedFor ws a =
+    record { name = a .name; others = a .others; waiting = ws; slaves = a .slaves; held = a .held; rounds = a .rounds; done = a .done; k = a .k }
+
+-- running at a place of a pass
+pub record At (names : List ℕ) (vs : List SlaveView) (l : PassPlace) (p : Position) (a : Pass) : Type 0 where
+  pub runs : p .end ≡ running
+  pub legal : LegalPlace l
+  pub facts : Facts (a .name ∷ a .others) (a .waiting) (a .slaves) (a .held)
+  pub here : drop (p .place .index) names ≡ a .name ∷ a .others
+  pub place : p .place .step ≡ stepOf l
+  pub made : a .k ≡ pastOf l (a .waiting)
+  pub rounds : p .counts .rounds ≡ a .rounds
+  pub counted : p .counts .comparisons ≡ a .done + compared l
+  pub views : map namedOf vs ≡ a .slaves
+  pub known : Known l (a .name) (a .held) (p .place .value) (a .waiting)
+  pub halves : LastHalves l (p .place .value) (getD (a .waiting) 0 0) (p .halves)
+  pub heard : OfUnnamed (Told l (a .name) (p .halves)) vs
+  pub small : p .place .value < 2 ^ bits
 
 -- the run has ended as the account says
-pub record Over (names : List ℕ) (vs : List SlaveView) (end index comparisons : ℕ) (ws : List ℕ) (slaves : List Named) (done k : ℕ) : Type 0 where
-  pub views : map namedOf vs ≡ slaves
-  pub some : 0 < end
-  pub most : end ≤ 2
-  pub within : index ≤ length names
-  pub counted : comparisons ≡ done + comparisonsAfter (highAgain ws) k
+pub record Over (names : List ℕ) (vs : List SlaveView) (p : Position) (a : Account) : Type 0 where
+  pub views : map namedOf vs ≡ a .slaves
+  pub end : p .end ≡ a .end
+  pub some : 0 < p .end
+  pub most : p .end ≤ 2
+  pub within : p .place .index ≤ length names
+  pub rounds : p .counts .rounds ≡ a .rounds
+  pub counted : p .counts .comparisons ≡ a .done + comparisonsAfter (highAgain (a .waiting)) (a .k)
 
 -- running at a place, perhaps one of a needless write, or ended
-pub data Loose (names : List ℕ) : List SlaveView → Position → Account → Type 0 where
-  at-place :
-      {vs : List SlaveView} {l : PassPlace} {index step value rounds comparisons h l′ n done k : ℕ} {ns ws held : List ℕ} {slaves : List Named} →
-      At names vs l index step value rounds comparisons h l′ n ns ws slaves held done k →
-      Loose names vs (position running index step value rounds comparisons h l′) (account (n ∷ ns) ws slaves held 0 rounds done k)
-  at-end :
-      {vs : List SlaveView} {end index step value rounds comparisons h l′ done k : ℕ} {left ws held : List ℕ} {slaves : List Named} →
-      Over names vs end index comparisons ws slaves done k →
-      Loose names vs (position end index step value rounds comparisons h l′) (account left ws slaves held end rounds done k)
+pub data Loose (names : List ℕ) (vs : List SlaveView) (p : Position) : Account → Type 0 where
+  at-place : {l : PassPlace} {a : Pass} → At names vs l p a → Loose names vs p (during a)
+  at-end : {a : Account} → Over names vs p a → Loose names vs p a
 
 -- and running at the next round really made, or ended
-pub data Tie (names : List ℕ) : List SlaveView → Position → Account → Type 0 where
-  going :
-      {vs : List SlaveView} {l : PassPlace} {index step value rounds comparisons h l′ n done k : ℕ} {ns ws held : List ℕ} {slaves : List Named} →
-      At names vs l index step value rounds comparisons h l′ n ns ws slaves held done k →
-      isNeedless names (position running index step value rounds comparisons h l′) ≡ false →
-      Tie names vs (position running index step value rounds comparisons h l′) (account (n ∷ ns) ws slaves held 0 rounds done k)
-  over :
-      {vs : List SlaveView} {end index step value rounds comparisons h l′ done k : ℕ} {left ws held : List ℕ} {slaves : List Named} →
-      Over names vs end index comparisons ws slaves done k →
-      Tie names vs (position end index step value rounds comparisons h l′) (account left ws slaves held end rounds done k)
+pub data Tie (names : List ℕ) (vs : List SlaveView) (p : Position) : Account → Type 0 where
+  going : {l : PassPlace} {a : Pass} → At names vs l p a → isNeedless names p ≡ false → Tie names vs p (during a)
+  over : {a : Account} → Over names vs p a → Tie names vs p a
 
 -- ---- a name done
 
@@ -156,35 +164,49 @@ unfolding OfUnnamed
 nothing-told P [] f = allEmpty
 nothing-told P (v ∷ vs) f = also (λ u. f v) (nothing-told P vs f)
 
+-- the account once the pass is done
+abbrev after : Pass → List ℕ → List ℕ → List Named → ℕ → Account
+after a left waiting slaves more = account left waiting slaves (a .held) (endWith left) (suc (a .rounds)) (a .done + more) 0
+
 next-name :
-    (names : List ℕ) {vs : List SlaveView} (index step value rounds comparisons h l′ n done : ℕ) (ns : List ℕ) {ws held : List ℕ} {slaves : List Named} →
-    Facts ns ws slaves held → drop index names ≡ n ∷ ns → map namedOf vs ≡ slaves → value < 2 ^ bits → comparisons ≡ done →
-    Loose names vs (nextName (length names) (position running index step value rounds comparisons h l′)) (account ns ws slaves held (endWith ns) (suc rounds) done 0)
+    {names : List ℕ} {vs : List SlaveView} (p : Position) (a : Pass) (ns ws : List ℕ) (slaves : List Named) (more : ℕ) → Facts ns ws slaves (a .held) →
+    drop (p .place .index) names ≡ a .name ∷ ns → map namedOf vs ≡ slaves → p .place .value < 2 ^ bits → p .counts .rounds ≡ a .rounds →
+    p .counts .comparisons ≡ a .done + more → Loose names vs (nextName (length names) p) (after a ns ws slaves more)
 unfolding nextName endAt endWith past compared stepOf
-next-name names {vs} index step value rounds comparisons h l′ n done [] {ws = ws} {slaves = slaves} f e v s c =
-    let l : length names ≡ suc index = omega (arith, length-here names index n [] e) in
-    let m : length names ≤ suc index = omega arith in
-    let w : suc index ≤ length names = omega arith in
-    let o : Over names vs 2 (suc index) comparisons ws slaves done 0 =
-    record { views = v; some = omega arith; most = omega arith; within = w; counted = omega (arith, none-compared (highAgain ws)) } in
-    rw (le-ltb (suc index) (length names) m) (at-end o)
-next-name names {vs} index step value rounds comparisons h l′ n done (m ∷ ms) {ws = ws} {held = held} {slaves = slaves} f e v s c =
-    let l : suc index < length names = omega (arith, length-here names index n (m ∷ ms) e) in
-    let a : At names vs poll (suc index) 0 value (suc rounds) comparisons h l′ m ms ws slaves held done 0 =
-    record {
+next-name {names} p a [] ws slaves more f e v s r c =
+    let l : length names ≡ suc (p .place .index) = omega (arith, length-here names (p .place .index) (a .name) [] e) in
+    let m : length names ≤ suc (p .place .index) = omega arith in
+    let used : ltb (suc (p .place .index)) (length names) ≡ false = le-ltb (suc (p .place .index)) (length names) m in
+    at-end {a = after a [] ws slaves more}
+    (record {
+      views = v;
+      end = rw used;
+      some = rw used (omega arith);
+      most = rw used (omega arith);
+      within = omega arith;
+      rounds = ap suc r;
+      counted = omega (arith, none-compared (highAgain ws));
+    })
+next-name {names} {vs} p a (m ∷ ms) ws slaves more f e v s r c =
+    let l : suc (p .place .index) < length names = omega (arith, length-here names (p .place .index) (a .name) (m ∷ ms) e) in
+    let next : Pass =
+    record { name = m; others = ms; waiting = ws; slaves = slaves; held = a .held; rounds = suc (a .rounds); done = a .done + more; k = 0 } in
+    at-place {l = poll} {a = next}
+    (record {
+      runs = rw (lt-ltb (suc (p .place .index)) (length names) l);
       legal = inner at-poll;
       facts = f;
-      here = drop-next names index n (m ∷ ms) e;
+      here = drop-next names (p .place .index) (a .name) (m ∷ ms) e;
       place = refl;
       made = refl;
+      rounds = ap suc r;
       counted = omega arith;
       views = v;
       known = tt;
       halves = tt;
       heard = nothing-told (λ v. Unit {0}) vs (λ v. tt);
       small = s;
-    } in
-    rw (lt-ltb (suc index) (length names) l) (at-place a)
+    })
 
 -- ---- a round that goes on within the pass
 
@@ -195,25 +217,40 @@ goes-past :
 goes-past [] {k} i made up n = ne-eqb (suc k) endingRounds (n refl)
 goes-past (p ∷ ps) i made up n = omega (arith, past-within p ps (legal-after i))
 
-go-on :
-    {names : List ℕ} {vs : List SlaveView} {l : PassPlace} {index step value rounds comparisons h l′ n done k : ℕ} {ns ws held : List ℕ}
-    {slaves : List Named} {o : RunRound} (x a b : ℕ) → At names vs l index step value rounds comparisons h l′ n ns ws slaves held done k →
-    Inner l → isAmong n held ≡ false → (ws ≡ [] → suc k ≡ endingRounds → ⊥) → pastOf (afterPlace l) ws ≡ suc (pastOf l ws) → Quiet o →
-    x < 2 ^ bits → Known (afterPlace l) n held x ws → Halves (afterPlace l) x (getD ws 0 0) a b →
-    OfUnnamed (Told (afterPlace l) n a b) (changeAll o vs) →
-    Loose names (changeAll o vs) (onward (position running index step value rounds comparisons a b) x (counting l))
-    (passOn (account (n ∷ ns) ws slaves held 0 rounds done k))
-unfolding onward
-go-on {names} {vs} {l} {index} {step} {value} {rounds} {comparisons} {h} {l′} {n} {done} {k} {ns} {ws} {held} {slaves} {o} x a b i here free g up q small known halves heard =
-    let on : stepOf (afterPlace l) ≡ suc (stepOf l) = step-after here in
-    let more : compared (afterPlace l) ≡ compared l + counting l = compared-after here in
-    let there : At names (changeAll o vs) (afterPlace l) index (suc step) x (suc rounds) (comparisons + counting l) a b n ns ws slaves held done (suc k) =
+-- one round more
+abbrev on : Pass → Pass
+on a =
     record {
+      name = a .name;
+      others = a .others;
+      waiting = a .waiting;
+      slaves = a .slaves;
+      held = a .held;
+      rounds = suc (a .rounds);
+      done = a .done;
+      k = suc (a .k);
+    }
+
+go-on :
+    {names : List ℕ} {vs : List SlaveView} {l : PassPlace} {p : Position} {a : Pass} {o : RunRound} (x : ℕ) (h : Halves) → At names vs l p a → Inner l →
+    isAmong (a .name) (a .held) ≡ false → (a .waiting ≡ [] → suc (a .k) ≡ endingRounds → ⊥) →
+    pastOf (afterPlace l) (a .waiting) ≡ suc (pastOf l (a .waiting)) → Quiet o → x < 2 ^ bits →
+    Known (afterPlace l) (a .name) (a .held) x (a .waiting) → LastHalves (afterPlace l) x (getD (a .waiting) 0 0) h →
+    OfUnnamed (Told (afterPlace l) (a .name) h) (changeAll o vs) →
+    Loose names (changeAll o vs) (onward (withHalves h p) x (counting l)) (passOn (during a))
+unfolding onward
+go-on {names} {vs} {l} {p} {a} {o} x h i here free g up q small known halves heard =
+    let next : stepOf (afterPlace l) ≡ suc (stepOf l) = step-after here in
+    let more : compared (afterPlace l) ≡ compared l + counting l = compared-after here in
+    let there : At names (changeAll o vs) (afterPlace l) (onward (withHalves h p) x (counting l)) (on a) =
+    record {
+      runs = i .runs;
       legal = legal-after here;
       facts = i .facts;
       here = i .here;
-      place = omega (arith, i .place);
+      place = ap suc (i .place) ∙ sym next;
       made = ap suc (i .made) ∙ sym up;
+      rounds = ap suc (i .rounds);
       counted = omega (arith, i .counted);
       views = quiet-names q vs ∙ i .views;
       known = known;
@@ -221,7 +258,9 @@ go-on {names} {vs} {l} {index} {step} {value} {rounds} {comparisons} {h} {l′} 
       heard = heard;
       small = small;
     } in
-    rw (goes-on n ns ws slaves held rounds done k free (goes-past ws here (i .made) up g)) (at-place there)
+    rw (goes-on (a .name) (a .others) (a .waiting) (a .slaves) (a .held) (a .rounds) (a .done) (a .k) free
+    (goes-past (a .waiting) here (i .made) up g))
+    (at-place there)
 
 -- ---- the places
 
@@ -231,15 +270,15 @@ unfolding afterBit
 known-after-bit zero n held x ws f k = (f, k)
 known-after-bit (suc b) n held x ws f k = (f, k)
 
-halves-after-bit : (b x p h l : ℕ) → (h ≡ lastTry b p / half) × (l ≡ lastTry b p % half) → Halves (afterBit b) x p h l
+halves-after-bit : (b x p : ℕ) (h : Halves) → (h .high ≡ lastTry b p / half) × (h .low ≡ lastTry b p % half) → LastHalves (afterBit b) x p h
 unfolding afterBit
-halves-after-bit zero x p h l e = e
-halves-after-bit (suc b) x p h l e = e
+halves-after-bit zero x p h e = e
+halves-after-bit (suc b) x p h e = e
 
-told-after-bit : (b n h l : ℕ) (v : SlaveView) → (v .high ≡ h) × (v .low ≡ l) → Told (afterBit b) n h l v
+told-after-bit : (b n : ℕ) (h : Halves) (v : SlaveView) → (v .high ≡ h .high) × (v .low ≡ h .low) → Told (afterBit b) n h v
 unfolding afterBit
-told-after-bit zero n h l v e = e
-told-after-bit (suc b) n h l v e = e
+told-after-bit zero n h v e = e
+told-after-bit (suc b) n h v e = e
 
 zero-least : (x p : ℕ) → leb (tried least x) p ≡ true
 unfolding tried
@@ -264,49 +303,47 @@ both-halves v e k = halves (e .0 ∙ k .0) (e .1 ∙ k .1)
 
 -- ---- a needless write is passed over
 
--- whether the write of a place is needless, for a name, the value so far and the halves last written
-abbrev pub needlessAt : PassPlace → ℕ → ℕ → Position → Bool
-needlessAt l n value p = both (not (isFirst l)) (isRepeated (roundAt l n value) p)
+-- whether the write of a place is needless, for a name
+abbrev pub needlessAt : PassPlace → ℕ → Position → Bool
+needlessAt l n p = both (not (isFirst l)) (isRepeated (roundAt l n (p .place .value)) p)
 
 name-here : (names : List ℕ) (index n : ℕ) (ns : List ℕ) → drop index names ≡ n ∷ ns → getD names index 0 ≡ n
 name-here names index n ns e =
     let z : index + 0 ≡ index = omega arith in
     rw (← z) (sym (getD-drop index names 0 0) ∙ rw e)
 
-module _
-    {names : List ℕ} {vs : List SlaveView} {l : PassPlace} {index step value rounds comparisons h l′ n done k : ℕ} {ns ws held : List ℕ}
-    {slaves : List Named} (i : At names vs l index step value rounds comparisons h l′ n ns ws slaves held done k) where
-  abbrev here-now : Position
-  here-now = position running index step value rounds comparisons h l′
+module _ {names : List ℕ} {vs : List SlaveView} {l : PassPlace} {p : Position} {a : Pass} (i : At names vs l p a) where
+  pub place-here : placeOf (p .place .step) ≡ l
+  place-here = ap placeOf (i .place) ∙ place-of-step (i .legal)
 
-  pub place-here : placeOf step ≡ l
-  place-here = rw (i .place) (place-of-step (i .legal))
-
-  pub round-here : roundHere names here-now ≡ roundAt l n value
+  pub round-here : roundHere names p ≡ roundAt l (a .name) (p .place .value)
   unfolding roundHere
-  round-here = rw (name-here names index n ns (i .here), place-here)
+  round-here = rw (name-here names (p .place .index) (a .name) (a .others) (i .here), place-here)
 
-  pub needless-here : isNeedless names here-now ≡ needlessAt l n value here-now
+  pub needless-here : isNeedless names p ≡ needlessAt l (a .name) p
   unfolding isNeedless
   needless-here = rw (round-here, place-here)
 
 -- the place after it
+abbrev next : Position → Position
+next p = atStep (suc (p .place .step)) p
+
 skipped :
-    {names : List ℕ} {vs : List SlaveView} {l : PassPlace} {index step value rounds comparisons h l′ n done k : ℕ} {ns ws held : List ℕ}
-    {slaves : List Named} → At names vs l index step value rounds comparisons h l′ n ns ws slaves held done k → Inner l → counting l ≡ 0 →
-    pastOf (afterPlace l) ws ≡ pastOf l ws → Known (afterPlace l) n held value ws → Halves (afterPlace l) value (getD ws 0 0) h l′ →
-    ((v : SlaveView) → Told l n h l′ v → Told (afterPlace l) n h l′ v) →
-    At names vs (afterPlace l) index (suc step) value rounds comparisons h l′ n ns ws slaves held done k
-unfolding OfUnnamed
+    {names : List ℕ} {vs : List SlaveView} {l : PassPlace} {p : Position} {a : Pass} → At names vs l p a → Inner l → counting l ≡ 0 →
+    pastOf (afterPlace l) (a .waiting) ≡ pastOf l (a .waiting) → Known (afterPlace l) (a .name) (a .held) (p .place .value) (a .waiting) →
+    LastHalves (afterPlace l) (p .place .value) (getD (a .waiting) 0 0) (p .halves) →
+    ((v : SlaveView) → Told l (a .name) (p .halves) v → Told (afterPlace l) (a .name) (p .halves) v) → At names vs (afterPlace l) (next p) a
+unfolding OfUnnamed atStep
 skipped i here none same known halves told =
-    let on = step-after here in
     let more = compared-after here in
     record {
+      runs = i .runs;
       legal = legal-after here;
       facts = i .facts;
       here = i .here;
-      place = omega (arith, i .place);
+      place = ap suc (i .place) ∙ sym (step-after here);
       made = i .made ∙ sym same;
+      rounds = i .rounds;
       counted = omega (arith, i .counted);
       views = i .views;
       known = known;
@@ -316,86 +353,78 @@ skipped i here none same known halves told =
     }
 
 skip :
-    {names : List ℕ} {vs : List SlaveView} {l : PassPlace} {index step value rounds comparisons h l′ n done k : ℕ} {ns : List ℕ} (ws : List ℕ)
-    {held : List ℕ} {slaves : List Named} → LegalPlace l → At names vs l index step value rounds comparisons h l′ n ns ws slaves held done k →
-    needlessAt l n value (position running index step value rounds comparisons h l′) ≡ true →
-    At names vs (afterPlace l) index (suc step) value rounds comparisons h l′ n ns ws slaves held done k
+    {names : List ℕ} {vs : List SlaveView} {l : PassPlace} {p : Position} (ws : List ℕ) (a : Pass) → LegalPlace l → At names vs l p (waitedFor ws a) →
+    needlessAt l (a .name) p ≡ true → At names vs (afterPlace l) (next p) (waitedFor ws a)
 unfolding isFirst isRepeated roundAt both afterPlace
-skip ws (inner at-poll) i t = clash t refl
-skip ws (inner (at-ask high of-least)) i t = clash t refl
-skip ws (inner (at-ask low of-least)) i t = clash t refl
-skip ws (inner (at-ask reply of-least)) i t = clash t refl
-skip [] (inner (at-ask r (of-bit small))) i t = absurd (i .known .1)
-skip {value = value} {h = h} (p ∷ ps) (inner (at-ask high (of-bit {b = b} small))) i t =
-    let same : tried (bit b) value / half ≡ h = eqb-true _ _ t in
-    let e : attempt b p / half ≡ lastTry (suc b) p / half = rw (tries b p (i .known .1)) at (same ∙ i .halves .0) in
-    skipped i (at-ask high (of-bit small)) (unfold counting in refl) (high-passed b p ps small e) (i .known) (sym same, i .halves .1) (λ v k. k)
-skip {value = value} {l′ = l′} (p ∷ ps) (inner (at-ask low (of-bit {b = b} small))) i t =
-    let same : tried (bit b) value % half ≡ l′ = eqb-true _ _ t in
-    let e : attempt b p % half ≡ lastTry (suc b) p % half = rw (tries b p (i .known .1)) at (same ∙ i .halves .1) in
-    skipped i (at-ask low (of-bit small)) (unfold counting in refl) (low-passed b p ps small e) (i .known) (i .halves .0, sym same) (λ v k. k)
-skip (p ∷ ps) (inner (at-ask reply (of-bit small))) i t = clash t refl
-skip ws (inner at-name) i t = clash t refl
-skip [] (inner at-high) i t = absurd (i .known .1)
-skip [] (inner at-low) i t = absurd (i .known .1)
-skip {value = value} {h = h} (p ∷ ps) (inner at-high) i t =
-    let same : value / half ≡ h = eqb-true _ _ t in
-    skipped i at-high (unfold counting in refl) (give-high-passed p ps) (i .known) (sym same, i .halves .1) (λ v k. k)
-skip {value = value} {l′ = l′} (p ∷ ps) (inner at-low) i t =
-    let same : value % half ≡ l′ = eqb-true _ _ t in
-    let is : value ≡ p = i .known .1 ∙ cleared-none p in
-    let e : p % half ≡ lastTry 0 p % half = rw is at (same ∙ i .halves .1) in
-    skipped i at-low (unfold counting in refl) (give-low-passed p ps e) (i .known) (i .halves .0, sym same) (λ v k. k)
-skip ws at-baptize i t = clash t refl
+skip ws a (inner at-poll) i t = clash t refl
+skip ws a (inner (at-ask high of-least)) i t = clash t refl
+skip ws a (inner (at-ask low of-least)) i t = clash t refl
+skip ws a (inner (at-ask reply of-least)) i t = clash t refl
+skip [] a (inner (at-ask r (of-bit small))) i t = absurd (i .known .1)
+skip {p = p} (w ∷ ws) a (inner (at-ask high (of-bit {b = b} small))) i t =
+    let same : tried (bit b) (p .place .value) / half ≡ p .halves .high = eqb-true _ _ t in
+    let e : attempt b w / half ≡ lastTry (suc b) w / half = rw (tries b w (i .known .1)) at (same ∙ i .halves .0) in
+    skipped i (at-ask high (of-bit small)) (unfold counting in refl) (high-passed b w ws small e) (i .known) (sym same, i .halves .1) (λ v k. k)
+skip {p = p} (w ∷ ws) a (inner (at-ask low (of-bit {b = b} small))) i t =
+    let same : tried (bit b) (p .place .value) % half ≡ p .halves .low = eqb-true _ _ t in
+    let e : attempt b w % half ≡ lastTry (suc b) w % half = rw (tries b w (i .known .1)) at (same ∙ i .halves .1) in
+    skipped i (at-ask low (of-bit small)) (unfold counting in refl) (low-passed b w ws small e) (i .known) (i .halves .0, sym same) (λ v k. k)
+skip (w ∷ ws) a (inner (at-ask reply (of-bit small))) i t = clash t refl
+skip ws a (inner at-name) i t = clash t refl
+skip [] a (inner at-high) i t = absurd (i .known .1)
+skip [] a (inner at-low) i t = absurd (i .known .1)
+skip {p = p} (w ∷ ws) a (inner at-high) i t =
+    let same : p .place .value / half ≡ p .halves .high = eqb-true _ _ t in
+    skipped i at-high (unfold counting in refl) (give-high-passed w ws) (i .known) (sym same, i .halves .1) (λ v k. k)
+skip {p = p} (w ∷ ws) a (inner at-low) i t =
+    let same : p .place .value % half ≡ p .halves .low = eqb-true _ _ t in
+    let is : p .place .value ≡ w = i .known .1 ∙ cleared-none w in
+    let e : w % half ≡ lastTry 0 w % half = ap (λ (x : ℕ). x % half) (sym is) ∙ same ∙ i .halves .1 in
+    skipped i at-low (unfold counting in refl) (give-low-passed w ws e) (i .known) (i .halves .0, sym same) (λ v k. k)
+skip ws a at-baptize i t = clash t refl
 
 -- at most two writes of halves follow one another
 third-made :
-    (l : PassPlace) (n value : ℕ) (p q r : Position) → needlessAt l n value p ≡ true → needlessAt (afterPlace l) n value q ≡ true →
-    needlessAt (afterPlace (afterPlace l)) n value r ≡ false
+    (l : PassPlace) (n : ℕ) (p q r : Position) → needlessAt l n p ≡ true → needlessAt (afterPlace l) n q ≡ true →
+    needlessAt (afterPlace (afterPlace l)) n r ≡ false
 unfolding isFirst isRepeated roundAt both afterPlace
-third-made poll n value p q r t u = clash t refl
-third-made (ask least high) n value p q r t u = clash t refl
-third-made (ask least low) n value p q r t u = clash t refl
-third-made (ask least reply) n value p q r t u = clash t refl
-third-made (ask (bit b) high) n value p q r t u = refl
-third-made (ask (bit b) low) n value p q r t u = clash u refl
-third-made (ask (bit b) reply) n value p q r t u = clash t refl
-third-made giveName n value p q r t u = clash t refl
-third-made giveHigh n value p q r t u = refl
-third-made giveLow n value p q r t u = clash u refl
-third-made baptize n value p q r t u = clash t refl
+third-made poll n p q r t u = clash t refl
+third-made (ask least high) n p q r t u = clash t refl
+third-made (ask least low) n p q r t u = clash t refl
+third-made (ask least reply) n p q r t u = clash t refl
+third-made (ask (bit b) high) n p q r t u = refl
+third-made (ask (bit b) low) n p q r t u = clash u refl
+third-made (ask (bit b) reply) n p q r t u = clash t refl
+third-made giveName n p q r t u = clash t refl
+third-made giveHigh n p q r t u = refl
+third-made giveLow n p q r t u = clash u refl
+third-made baptize n p q r t u = clash t refl
 
 -- the position stands at the next round really made
 pub settle : {names : List ℕ} {vs : List SlaveView} {p : Position} {a : Account} → Loose names vs p a → Tie names vs (onto names p) a
-unfolding onto passOver atStep
-settle {names} (at-place {l = l} {index = index} {step = step} {value = value} {rounds = rounds} {comparisons = comparisons} {h = h} {l′ = l′} {n = n} {ws = ws} i) =
-    byCase (isNeedless names first)
+unfolding onto passOver
+settle {names} {p = p} (at-place {l = l} {a = a} i) =
+    byCase (isNeedless names p)
     (λ t.
     let u = sym (needless-here i) ∙ t in
-    let j = skip ws (i .legal) i u in
+    let j = skip (a .waiting) a (i .legal) i u in
     rw t
-    (byCase (isNeedless names second)
+    (byCase (isNeedless names (next p))
     (λ w.
     let x = sym (needless-here j) ∙ w in
-    let k = skip ws (j .legal) j x in
-    rw w (going k (needless-here k ∙ third-made l n value first second third u x)))
+    let k = skip (a .waiting) a (j .legal) j x in
+    rw w (going k (needless-here k ∙ third-made l (a .name) p (next p) (next (next p)) u x)))
     (λ f. rw f (going j f))))
     (λ f. rw (f, f) (going i f))
-  where
-    first : Position
-    first = position running index step value rounds comparisons h l′
-
-    second : Position
-    second = position running index (suc step) value rounds comparisons h l′
-
-    third : Position
-    third = position running index (suc (suc step)) value rounds comparisons h l′
-settle {names} (at-end {end = end} {index = index} {step = step} {value = value} {rounds = rounds} {comparisons = comparisons} {h = h} {l′ = l′} o) =
-    byCase (isNeedless names (position end index step value rounds comparisons h l′))
-    (λ t.
-    rw t
-    (byCase (isNeedless names (position end index (suc step) value rounds comparisons h l′)) (λ w. rw w (over o)) (λ f. rw f (over o))))
+settle {names} {p = p} (at-end o) =
+    byCase (isNeedless names p)
+    (λ t. rw t (byCase (isNeedless names (next p)) (λ w. rw w (over (later (later o)))) (λ f. rw f (over (later o)))))
     (λ f. rw (f, f) (over o))
+  where
+    later : {vs : List SlaveView} {p : Position} {a : Account} → Over names vs p a → Over names vs (next p) a
+    later o =
+        unfold atStep in
+        record { views = o .views; end = o .end; some = o .some; most = o .most; within = o .within; rounds = o .rounds; counted = o .counted }
 
 -- ---- the rounds
 
@@ -404,159 +433,178 @@ low-again : (p : ℕ) → (p % half ≡ lastTry 0 p % half → ⊥) → bitClear
 low-again p n = given-low p .1 n
 
 -- a step at the place of a round really made: the round changes the views, the position moves on by the answer, the account makes a round
-abbrev pub Moves :
-    List ℕ → List SlaveView → PassPlace → ℕ → ℕ → ℕ → ℕ → ℕ → ℕ → ℕ → ℕ → List ℕ → List ℕ → List Named → List ℕ → ℕ → ℕ → Type 0
-Moves names vs l index step value rounds comparisons h l′ n ns ws slaves held done k =
-    At names vs l index step value rounds comparisons h l′ n ns ws slaves held done k →
-    needlessAt l n value (position running index step value rounds comparisons h l′) ≡ false →
-    Loose names (changeAll (roundAt l n value) vs)
-    (moveOn l (length names) (wrote (roundAt l n value) (position running index step value rounds comparisons h l′)) (answers (roundAt l n value) vs))
-    (passOn (account (n ∷ ns) ws slaves held 0 rounds done k))
+abbrev pub Moves : List ℕ → List SlaveView → PassPlace → Position → Pass → Type 0
+Moves names vs l p a =
+    At names vs l p a → needlessAt l (a .name) p ≡ false →
+    Loose names (changeAll (roundAt l (a .name) (p .place .value)) vs)
+    (moveOn l (length names) (wrote (roundAt l (a .name) (p .place .value)) p) (answers (roundAt l (a .name) (p .place .value)) vs)) (passOn (during a))
 
-module _
-    (names : List ℕ) (vs : List SlaveView) (index step value rounds comparisons h l′ n : ℕ) (ns ws : List ℕ) (slaves : List Named) (held : List ℕ)
-    (done k : ℕ) where
-  at-poll-moves : Moves names vs poll index step value rounds comparisons h l′ n ns ws slaves held done k
+module _ (names : List ℕ) (vs : List SlaveView) (p : Position) (a : Pass) where
+  at-poll-moves : Moves names vs poll p a
   unfolding moveOn wrote roundAt afterPlace counting past compared
   at-poll-moves i real =
-      byCase (isAmong n held)
+      byCase (isAmong (a .name) (a .held))
       (λ t. rw (replied ∙ t) (taken t))
       (λ f.
       rw (replied ∙ f)
-      (go-on value h l′ i at-poll f (λ e z. omega (arith, i .made)) refl polling (i .small) (f, tt) (tt, tt)
-      (nothing-told (λ v. Unit {0} × Unit {0}) (changeAll (pollOf n) vs) (λ v. (tt, tt)))))
+      (go-on (p .place .value) (p .halves) i at-poll f (λ e z. omega (arith, i .made)) refl polling (i .small) (f, tt) (tt, tt)
+      (nothing-told (λ v. Unit {0} × Unit {0}) (changeAll (pollOf (a .name)) vs) (λ v. (tt, tt)))))
     where
-      replied : answers (pollOf n) vs ≡ isAmong n held
-      replied = poll-answers n vs (all-first (i .facts .fit) .named) ∙ rw (i .views) (sym (all-first (i .facts .taken)))
+      replied : answers (pollOf (a .name)) vs ≡ isAmong (a .name) (a .held)
+      replied =
+          poll-answers (a .name) vs (all-first (i .facts .fit) .named) ∙ ap (λ (ss : List Named). isAmong (a .name) (namesHeld ss)) (i .views)
+          ∙ sym (all-first (i .facts .taken))
 
-      taken : isAmong n held ≡ true →
-          Loose names (changeAll (pollOf n) vs) (nextName (length names) (position running index step value rounds comparisons h l′)) (passOn (account (n ∷ ns) ws slaves held 0 rounds done k))
+      taken : isAmong (a .name) (a .held) ≡ true → Loose names (changeAll (pollOf (a .name)) vs) (nextName (length names) p) (passOn (during a))
       taken t =
-          rw (taken-round n ns ws slaves held rounds done k t)
-          (next-name names index step value rounds comparisons h l′ n (done + 0) ns (drop-taken (i .facts)) (i .here)
-          (quiet-names polling vs ∙ i .views) (i .small) (i .counted))
+          rw (taken-round (a .name) (a .others) (a .waiting) (a .slaves) (a .held) (a .rounds) (a .done) (a .k) t)
+          (next-name p a (a .others) (a .waiting) (a .slaves) 0 (drop-taken (i .facts)) (i .here) (quiet-names polling vs ∙ i .views) (i .small)
+          (i .rounds) (i .counted))
 
   -- the first comparison writes both halves
-  at-first-high : Moves names vs (ask least high) index step value rounds comparisons h l′ n ns ws slaves held done k
+  at-first-high : Moves names vs (ask least high) p a
   unfolding moveOn wrote roundAt afterPlace counting unnamedChange past
   at-first-high i real =
-      go-on value (tried least value / half) l′ i (at-ask high of-least) (i .known .0) (λ e z. omega (arith, i .made)) refl telling-high (i .small)
-      (i .known) (refl, tt)
-      (quiet-told (writeHigh (tried least value / half)) (Told (ask least high) n h l′) (Told (ask least low) n (tried least value / half) l′) vs
+      go-on (p .place .value) written i (at-ask high of-least) (i .known .0) (λ e z. omega (arith, i .made)) refl telling-high (i .small) (i .known) (refl, tt)
+      (quiet-told (writeHigh (written .high)) (Told (ask least high) (a .name) (p .halves)) (Told (ask least low) (a .name) written) vs
       (λ v e. (refl, tt)) (i .heard))
+    where
+      written : Halves
+      written = record { high = tried least (p .place .value) / half; low = p .halves .low }
 
-  at-first-low : Moves names vs (ask least low) index step value rounds comparisons h l′ n ns ws slaves held done k
+  at-first-low : Moves names vs (ask least low) p a
   unfolding moveOn wrote roundAt afterPlace counting unnamedChange past
   at-first-low i real =
-      go-on value h (tried least value % half) i (at-ask low of-least) (i .known .0) (λ e z. omega (arith, i .made)) refl telling-low (i .small)
-      (i .known) (i .halves .0, refl)
-      (quiet-told (writeLow (tried least value % half)) (Told (ask least low) n h l′) (Told (ask least reply) n h (tried least value % half)) vs
+      go-on (p .place .value) written i (at-ask low of-least) (i .known .0) (λ e z. omega (arith, i .made)) refl telling-low (i .small) (i .known)
+      (i .halves .0, refl)
+      (quiet-told (writeLow (written .low)) (Told (ask least low) (a .name) (p .halves)) (Told (ask least reply) (a .name) written) vs
       (λ v e. (e .0, refl)) (i .heard))
+    where
+      written : Halves
+      written = record { high = p .halves .high; low = tried least (p .place .value) % half }
 
 -- with someone who waits
-module _
-    (names : List ℕ) (vs : List SlaveView) (index step value rounds comparisons h l′ n : ℕ) (ns : List ℕ) (p : ℕ) (ps : List ℕ) (slaves : List Named)
-    (held : List ℕ) (done k : ℕ) where
+module _ (names : List ℕ) (vs : List SlaveView) (p : Position) (w : ℕ) (ws : List ℕ) (b : Pass) where
+  abbrev a : Pass
+  a = waitedFor (w ∷ ws) b
+
+  -- with the high half of a value written, or the low one
+  abbrev highOf : ℕ → Halves
+  highOf x = record { high = x / half; low = p .halves .low }
+
+  abbrev lowOf : ℕ → Halves
+  lowOf x = record { high = p .halves .high; low = x % half }
+
   -- the writes of a bit's comparison
-  at-high-moves : (b : ℕ) → b < bits → Moves names vs (ask (bit b) high) index step value rounds comparisons h l′ n ns (p ∷ ps) slaves held done k
+  at-high-moves : (n : ℕ) → n < bits → Moves names vs (ask (bit n) high) p a
   unfolding moveOn wrote roundAt afterPlace counting unnamedChange isFirst isRepeated both
-  at-high-moves b legal i real =
-      let differs : (attempt b p / half ≡ lastTry (suc b) p / half → ⊥) =
-      λ e. eqb-false (tried (bit b) value / half) h real (rw (tries b p (i .known .1)) (e ∙ sym (i .halves .0))) in
-      go-on value (tried (bit b) value / half) l′ i (at-ask high (of-bit legal)) (i .known .0) (λ z. someone-waits z) (high-made b p ps legal differs)
+  at-high-moves n legal i real =
+      let x = tried (bit n) (p .place .value) in
+      let differs : (attempt n w / half ≡ lastTry (suc n) w / half → ⊥) =
+      λ e. eqb-false (x / half) (p .halves .high) real (rw (tries n w (i .known .1)) (e ∙ sym (i .halves .0))) in
+      go-on (p .place .value) (highOf x) i (at-ask high (of-bit legal)) (i .known .0) (λ z. someone-waits z) (high-made n w ws legal differs)
       telling-high (i .small) (i .known) (refl, i .halves .1)
-      (quiet-told (writeHigh (tried (bit b) value / half)) (Told (ask (bit b) high) n h l′) (Told (ask (bit b) low) n (tried (bit b) value / half) l′) vs
+      (quiet-told (writeHigh (x / half)) (Told (ask (bit n) high) (a .name) (p .halves)) (Told (ask (bit n) low) (a .name) (highOf x)) vs
       (λ v e. (refl, e .1)) (i .heard))
 
-  at-low-moves : (b : ℕ) → b < bits → Moves names vs (ask (bit b) low) index step value rounds comparisons h l′ n ns (p ∷ ps) slaves held done k
+  at-low-moves : (n : ℕ) → n < bits → Moves names vs (ask (bit n) low) p a
   unfolding moveOn wrote roundAt afterPlace counting unnamedChange isFirst isRepeated both
-  at-low-moves b legal i real =
-      let differs : (attempt b p % half ≡ lastTry (suc b) p % half → ⊥) =
-      λ e. eqb-false (tried (bit b) value % half) l′ real (rw (tries b p (i .known .1)) (e ∙ sym (i .halves .1))) in
-      go-on value h (tried (bit b) value % half) i (at-ask low (of-bit legal)) (i .known .0) (λ z. someone-waits z) (low-made b p ps legal differs)
+  at-low-moves n legal i real =
+      let x = tried (bit n) (p .place .value) in
+      let differs : (attempt n w % half ≡ lastTry (suc n) w % half → ⊥) =
+      λ e. eqb-false (x % half) (p .halves .low) real (rw (tries n w (i .known .1)) (e ∙ sym (i .halves .1))) in
+      go-on (p .place .value) (lowOf x) i (at-ask low (of-bit legal)) (i .known .0) (λ z. someone-waits z) (low-made n w ws legal differs)
       telling-low (i .small) (i .known) (i .halves .0, refl)
-      (quiet-told (writeLow (tried (bit b) value % half)) (Told (ask (bit b) low) n h l′) (Told (ask (bit b) reply) n h (tried (bit b) value % half)) vs
+      (quiet-told (writeLow (x % half)) (Told (ask (bit n) low) (a .name) (p .halves)) (Told (ask (bit n) reply) (a .name) (lowOf x)) vs
       (λ v e. (e .0, refl)) (i .heard))
 
   -- the writes before baptizing
-  at-name-moves : Moves names vs giveName index step value rounds comparisons h l′ n ns (p ∷ ps) slaves held done k
+  at-name-moves : Moves names vs giveName p a
   unfolding moveOn wrote roundAt afterPlace counting unnamedChange past
   at-name-moves i real =
-      go-on value h l′ i at-name (i .known .0) (λ z. someone-waits z) (omega arith) telling-name (i .small) (i .known) (i .halves)
-      (quiet-told (writeName n) (Told giveName n h l′) (Told giveHigh n h l′) vs (λ v e. (refl, e .0, e .1)) (i .heard))
+      go-on (p .place .value) (p .halves) i at-name (i .known .0) (λ z. someone-waits z) (omega arith) telling-name (i .small) (i .known) (i .halves)
+      (quiet-told (writeName (a .name)) (Told giveName (a .name) (p .halves)) (Told giveHigh (a .name) (p .halves)) vs (λ v e. (refl, e .0, e .1))
+      (i .heard))
 
   -- the high half of the value is always the last one
-  at-give-high-moves : Moves names vs giveHigh index step value rounds comparisons h l′ n ns (p ∷ ps) slaves held done k
-  unfolding roundAt isFirst isRepeated both
-  at-give-high-moves i real =
-      let is : value ≡ p = i .known .1 ∙ cleared-none p in
-      absurd (eqb-false (value / half) h real (rw is (given-high p ∙ sym (i .halves .0))))
+  high-repeated : Found 0 (p .place .value) (w ∷ ws) → p .halves .high ≡ lastTry 0 w / half → p .place .value / half ≡ p .halves .high
+  high-repeated f e = ap (λ (x : ℕ). x / half) (f ∙ cleared-none w) ∙ given-high w ∙ sym e
 
-  at-give-low-moves : Moves names vs giveLow index step value rounds comparisons h l′ n ns (p ∷ ps) slaves held done k
+  -- the low half differs from the last one
+  low-differs :
+      Found 0 (p .place .value) (w ∷ ws) → p .halves .low ≡ lastTry 0 w % half → eqb (p .place .value % half) (p .halves .low) ≡ false →
+      w % half ≡ lastTry 0 w % half → ⊥
+  low-differs f e real same = eqb-false _ _ real (ap (λ (x : ℕ). x % half) (f ∙ cleared-none w) ∙ same ∙ sym e)
+
+  at-give-high-moves : Moves names vs giveHigh p a
+  unfolding roundAt isFirst isRepeated both
+  at-give-high-moves i real = absurd (eqb-false (p .place .value / half) (p .halves .high) real (high-repeated (i .known .1) (i .halves .0)))
+
+  at-give-low-moves : Moves names vs giveLow p a
   unfolding moveOn wrote roundAt afterPlace counting unnamedChange isFirst isRepeated both
   at-give-low-moves i real =
-      let is : value ≡ p = i .known .1 ∙ cleared-none p in
-      let differs : (p % half ≡ lastTry 0 p % half → ⊥) = λ e. eqb-false (value % half) l′ real (rw is (e ∙ sym (i .halves .1))) in
-      go-on value h (value % half) i at-low (i .known .0) (λ z. someone-waits z) (give-low-made p ps differs) telling-low (i .small) (i .known)
-      (i .halves .0, refl)
-      (quiet-told (writeLow (value % half)) (Told giveLow n h l′) (Told baptize n h (value % half)) vs (λ v e. (e .0, e .1, refl)) (i .heard))
+      let x = p .place .value in
+      go-on x (lowOf x) i at-low (i .known .0) (λ z. someone-waits z) (give-low-made w ws (low-differs (i .known .1) (i .halves .1) real)) telling-low (i .small)
+      (i .known) (i .halves .0, refl)
+      (quiet-told (writeLow (x % half)) (Told giveLow (a .name) (p .halves)) (Told baptize (a .name) (lowOf x)) vs (λ v e. (e .0, e .1, refl)) (i .heard))
 
   -- the execute of a comparison, and baptizing
-  waiting : (l : PassPlace) → At names vs l index step value rounds comparisons h l′ n ns (p ∷ ps) slaves held done k → Wait (p ∷ ps) (map namedOf vs)
+  waiting : (l : PassPlace) → At names vs l p a → Wait (w ∷ ws) (map namedOf vs)
   unfolding Wait
   waiting l i = rw (i .views) (i .facts .waits)
 
-  replied-by : (q : Question) → At names vs (ask q reply) index step value rounds comparisons h l′ n ns (p ∷ ps) slaves held done k →
-      answers compare vs ≡ leb (tried q value) p
+  replied-by : (q : Question) → At names vs (ask q reply) p a → answers compare vs ≡ leb (tried q (p .place .value)) w
   unfolding OfUnnamed
   replied-by q i =
-      compare-answers (tried q value) p ps vs (waiting (ask q reply) i) (fall-first (i .facts .falls))
+      compare-answers (tried q (p .place .value)) w ws vs (waiting (ask q reply) i) (fall-first (i .facts .falls))
       (rw (i .views) (all-first (i .facts .there)))
       (all-map (λ (v : SlaveView) e u. both-halves v (e u) (i .halves)) (i .heard))
 
-  at-least-moves : Moves names vs (ask least reply) index step value rounds comparisons h l′ n ns (p ∷ ps) slaves held done k
+  at-least-moves : Moves names vs (ask least reply) p a
   unfolding moveOn wrote roundAt afterPlace counting past unnamedChange
   at-least-moves i real =
-      let r : answers compare vs ≡ true = replied-by least i ∙ zero-least value p in
+      let r : answers compare vs ≡ true = replied-by least i ∙ zero-least (p .place .value) w in
       rw r
-      (go-on 0 h l′ i (at-ask reply of-least) (i .known .0) (λ z. someone-waits z) (omega (arith, high-again-one (p ∷ ps))) comparing (omega arith)
-      (i .known .0, sym (cleared-all p (all-first (i .facts .small))))
+      (go-on 0 (p .halves) i (at-ask reply of-least) (i .known .0) (λ z. someone-waits z) (omega (arith, high-again-one (w ∷ ws))) comparing (omega arith)
+      (i .known .0, sym (cleared-all w (all-first (i .facts .small))))
       (first-halves (i .halves))
-      (quiet-told compare (Told (ask least reply) n h l′) (Told (ask (bit 63) high) n h l′) vs (λ v e. e) (i .heard)))
+      (quiet-told compare (Told (ask least reply) (a .name) (p .halves)) (Told (ask (bit 63) high) (a .name) (p .halves)) vs (λ v e. e) (i .heard)))
     where
-      first-halves : (h ≡ tried least value / half) × (l′ ≡ tried least value % half) → (h ≡ lastTry bits p / half) × (l′ ≡ lastTry bits p % half)
+      first-halves :
+          {h l : ℕ} → (h ≡ tried least (p .place .value) / half) × (l ≡ tried least (p .place .value) % half) →
+          (h ≡ lastTry bits w / half) × (l ≡ lastTry bits w % half)
       first-halves e = (e .0 ∙ unfold tried lastTry in refl, e .1 ∙ unfold tried lastTry in refl)
 
-  at-bit-moves : (b : ℕ) → b < bits → Moves names vs (ask (bit b) reply) index step value rounds comparisons h l′ n ns (p ∷ ps) slaves held done k
+  at-bit-moves : (n : ℕ) → n < bits → Moves names vs (ask (bit n) reply) p a
   unfolding moveOn wrote roundAt afterPlace counting unnamedChange
-  at-bit-moves b legal i real =
-      rw (replied-by (bit b) i)
-      (go-on next h l′ i (at-ask reply (of-bit legal)) (i .known .0) (λ z. someone-waits z) (past-reply (p ∷ ps) b legal) comparing small
-      (known-after-bit b n held next (p ∷ ps) (i .known .0) (answered b p value (i .known .1)))
-      (halves-after-bit b next p h l′ (rw (tries b p (i .known .1), ← try-here b p legal) at (i .halves)))
-      (quiet-told compare (Told (ask (bit b) reply) n h l′) (Told (afterBit b) n h l′) vs (told-after-bit b n h l′) (i .heard)))
+  at-bit-moves n legal i real =
+      rw (replied-by (bit n) i)
+      (go-on found (p .halves) i (at-ask reply (of-bit legal)) (i .known .0) (λ z. someone-waits z) (past-reply (w ∷ ws) n legal) comparing small
+      (known-after-bit n (a .name) (a .held) found (w ∷ ws) (i .known .0) (answered n w (p .place .value) (i .known .1)))
+      (halves-after-bit n found w (p .halves) (rw (tries n w (i .known .1), ← try-here n w legal) at (i .halves)))
+      (quiet-told compare (Told (ask (bit n) reply) (a .name) (p .halves)) (Told (afterBit n) (a .name) (p .halves)) vs
+      (told-after-bit n (a .name) (p .halves)) (i .heard)))
     where
-      next : ℕ
-      next = cond (leb (tried (bit b) value) p) (tried (bit b) value) value
+      found : ℕ
+      found = cond (leb (tried (bit n) (p .place .value)) w) (tried (bit n) (p .place .value)) (p .place .value)
 
-      small : next < 2 ^ bits
-      small = cond-small (leb (tried (bit b) value) p) (tried-small (of-bit legal) value (i .small)) (i .small)
+      small : found < 2 ^ bits
+      small = cond-small (leb (tried (bit n) (p .place .value)) w) (tried-small (of-bit legal) (p .place .value) (i .small)) (i .small)
 
-  at-baptize-moves : Moves names vs baptize index step value rounds comparisons h l′ n ns (p ∷ ps) slaves held done k
+  at-baptize-moves : Moves names vs baptize p a
   unfolding moveOn wrote roundAt compared OfUnnamed
   at-baptize-moves i real =
-      let e : suc k ≡ namingRounds p = ap suc (i .made) ∙ past-last p ps in
-      let x : value ≡ p = i .known .1 ∙ cleared-none p in
-      rw (giving-round n ns p ps slaves held rounds done k (i .known .0) e)
-      (next-name names index step value rounds comparisons h l′ n (done + namingComparisons) ns (give-greatest (i .facts)) (i .here)
-      (baptize-names n p ps vs (waiting baptize i)
+      let e : suc (a .k) ≡ namingRounds w = ap suc (i .made) ∙ past-last w ws in
+      let x : p .place .value ≡ w = i .known .1 ∙ cleared-none w in
+      rw (giving-round (a .name) (a .others) w ws (a .slaves) (a .held) (a .rounds) (a .done) (a .k) (i .known .0) e)
+      (next-name p a (a .others) ws (map (give w (a .name)) (a .slaves)) namingComparisons (give-greatest (i .facts)) (i .here)
+      (baptize-names (a .name) w ws vs (waiting baptize i)
       (all-map (λ (v : SlaveView) e u. (e u .0, both-halves v (e u .1, e u .2) (i .halves) ∙ x)) (i .heard))
-      ∙ ap (map (give p n)) (i .views))
-      (i .small) (i .counted))
+      ∙ ap (map (give w (a .name))) (i .views))
+      (i .small) (i .rounds) (i .counted))
 
   -- a round really made before the last one leaves the last one to be made
-  pub inner-short : {l : PassPlace} → Inner l → At names vs l index step value rounds comparisons h l′ n ns (p ∷ ps) slaves held done k →
-      needlessAt l n value (position running index step value rounds comparisons h l′) ≡ false → suc k < namingRounds p
+  pub inner-short : {l : PassPlace} → Inner l → At names vs l p a → needlessAt l (a .name) p ≡ false → suc (a .k) < namingRounds w
   unfolding past namingRounds highAgain isFirst isRepeated roundAt both
   inner-short at-poll i real = omega (arith, i .made)
   inner-short (at-ask high of-least) i real = omega (arith, i .made)
@@ -566,70 +614,53 @@ module _
   inner-short (at-ask low (of-bit legal)) i real = omega (arith, i .made)
   inner-short (at-ask reply (of-bit legal)) i real = omega (arith, i .made)
   inner-short at-name i real = omega (arith, i .made)
-  inner-short at-high i real =
-      let is : value ≡ p = i .known .1 ∙ cleared-none p in
-      absurd (eqb-false (value / half) h real (rw is (given-high p ∙ sym (i .halves .0))))
-  inner-short at-low i real =
-      let is : value ≡ p = i .known .1 ∙ cleared-none p in
-      let differs : (p % half ≡ lastTry 0 p % half → ⊥) = λ e. eqb-false (value % half) l′ real (rw is (e ∙ sym (i .halves .1))) in
-      omega (arith, i .made, low-again p differs)
+  inner-short at-high i real = absurd (eqb-false (p .place .value / half) (p .halves .high) real (high-repeated (i .known .1) (i .halves .0)))
+  inner-short at-low i real = omega (arith, i .made, low-again w (low-differs (i .known .1) (i .halves .1) real))
 
 -- the comparison with 0 while nobody waits: "all named"
-at-end-moves :
-    (names : List ℕ) (vs : List SlaveView) (index step value rounds comparisons h l′ n : ℕ) (ns : List ℕ) (slaves : List Named) (held : List ℕ)
-    (done k : ℕ) → Moves names vs (ask least reply) index step value rounds comparisons h l′ n ns [] slaves held done k
-unfolding moveOn wrote roundAt past compared endAllNamed Wait comparisonsAfter highAgain
-at-end-moves names vs index step value rounds comparisons h l′ n ns slaves held done k i real =
-    let e : suc k ≡ endingRounds = ap suc (i .made) in
-    let c : comparisons ≡ done + 0 = i .counted in
+at-end-moves : (names : List ℕ) (vs : List SlaveView) (p : Position) (b : Pass) → Moves names vs (ask least reply) p (waitedFor [] b)
+unfolding moveOn wrote roundAt past compared endAllNamed Wait
+at-end-moves names vs p b i real =
+    let e : suc (b .k) ≡ endingRounds = ap suc (i .made) in
     let w : Wait [] (map namedOf vs) = rw (i .views) (i .facts .waits) in
-    let o : Over names (changeAll compare vs) 1 index (suc comparisons) [] slaves done (suc k) =
-    record {
+    rw (compare-silent vs w, ending-round (b .name) (b .others) (b .slaves) (b .held) (b .rounds) (b .done) (b .k) (i .known .0) e)
+    (at-end {a = account (b .name ∷ b .others) [] (b .slaves) (b .held) 1 (suc (b .rounds)) (b .done) (suc (b .k))}
+    (record {
       views = quiet-names comparing vs ∙ i .views;
+      end = refl;
       some = omega arith;
       most = omega arith;
-      within = omega (arith, length-here names index n ns (i .here));
-      counted = rw e (omega arith);
-    } in
-    rw (compare-silent vs w, ending-round n ns slaves held rounds done k (i .known .0) e) (at-end o)
+      within = omega (arith, length-here names (p .place .index) (b .name) (b .others) (i .here));
+      rounds = ap suc (i .rounds);
+      counted = rw (e, one-compared (highAgain [])) (omega (arith, i .counted));
+    }))
 
-pub moves :
-    (names : List ℕ) (vs : List SlaveView) (l : PassPlace) (index step value rounds comparisons h l′ n : ℕ) (ns ws : List ℕ) (slaves : List Named)
-    (held : List ℕ) (done k : ℕ) → LegalPlace l → Moves names vs l index step value rounds comparisons h l′ n ns ws slaves held done k
-moves names vs l index step value rounds comparisons h l′ n ns ws slaves held done k (inner at-poll) i real =
-    at-poll-moves names vs index step value rounds comparisons h l′ n ns ws slaves held done k i real
-moves names vs l index step value rounds comparisons h l′ n ns ws slaves held done k (inner (at-ask high of-least)) i real =
-    at-first-high names vs index step value rounds comparisons h l′ n ns ws slaves held done k i real
-moves names vs l index step value rounds comparisons h l′ n ns ws slaves held done k (inner (at-ask low of-least)) i real =
-    at-first-low names vs index step value rounds comparisons h l′ n ns ws slaves held done k i real
-moves names vs l index step value rounds comparisons h l′ n ns [] slaves held done k (inner (at-ask reply of-least)) i real =
-    at-end-moves names vs index step value rounds comparisons h l′ n ns slaves held done k i real
-moves names vs l index step value rounds comparisons h l′ n ns (p ∷ ps) slaves held done k (inner (at-ask reply of-least)) i real =
-    at-least-moves names vs index step value rounds comparisons h l′ n ns p ps slaves held done k i real
-moves names vs l index step value rounds comparisons h l′ n ns [] slaves held done k (inner (at-ask r (of-bit legal))) i real = absurd (nobody-asked r i)
+moves-waited : (names : List ℕ) (vs : List SlaveView) (l : PassPlace) (p : Position) (ws : List ℕ) (a : Pass) → LegalPlace l → Moves names vs l p (waitedFor ws a)
+moves-waited names vs l p ws a (inner at-poll) i real = at-poll-moves names vs p (waitedFor ws a) i real
+moves-waited names vs l p ws a (inner (at-ask high of-least)) i real = at-first-high names vs p (waitedFor ws a) i real
+moves-waited names vs l p ws a (inner (at-ask low of-least)) i real = at-first-low names vs p (waitedFor ws a) i real
+moves-waited names vs l p [] a (inner (at-ask reply of-least)) i real = at-end-moves names vs p a i real
+moves-waited names vs l p (w ∷ ws) a (inner (at-ask reply of-least)) i real = at-least-moves names vs p w ws a i real
+moves-waited names vs l p [] a (inner (at-ask r (of-bit legal))) i real = absurd (nobody-asked r i)
   where
-    nobody-asked : {b : ℕ} (r : Part) → At names vs (ask (bit b) r) index step value rounds comparisons h l′ n ns [] slaves held done k → ⊥
+    nobody-asked : {b : ℕ} (r : Part) → At names vs (ask (bit b) r) p (waitedFor [] a) → ⊥
     nobody-asked high i = i .known .1
     nobody-asked low i = i .known .1
     nobody-asked reply i = i .known .1
-moves names vs l index step value rounds comparisons h l′ n ns (p ∷ ps) slaves held done k (inner (at-ask high (of-bit {b = b} legal))) i real =
-    at-high-moves names vs index step value rounds comparisons h l′ n ns p ps slaves held done k b legal i real
-moves names vs l index step value rounds comparisons h l′ n ns (p ∷ ps) slaves held done k (inner (at-ask low (of-bit {b = b} legal))) i real =
-    at-low-moves names vs index step value rounds comparisons h l′ n ns p ps slaves held done k b legal i real
-moves names vs l index step value rounds comparisons h l′ n ns (p ∷ ps) slaves held done k (inner (at-ask reply (of-bit {b = b} legal))) i real =
-    at-bit-moves names vs index step value rounds comparisons h l′ n ns p ps slaves held done k b legal i real
-moves names vs l index step value rounds comparisons h l′ n ns [] slaves held done k (inner at-name) i real = absurd (i .known .1)
-moves names vs l index step value rounds comparisons h l′ n ns [] slaves held done k (inner at-high) i real = absurd (i .known .1)
-moves names vs l index step value rounds comparisons h l′ n ns [] slaves held done k (inner at-low) i real = absurd (i .known .1)
-moves names vs l index step value rounds comparisons h l′ n ns [] slaves held done k at-baptize i real = absurd (i .known .1)
-moves names vs l index step value rounds comparisons h l′ n ns (p ∷ ps) slaves held done k (inner at-name) i real =
-    at-name-moves names vs index step value rounds comparisons h l′ n ns p ps slaves held done k i real
-moves names vs l index step value rounds comparisons h l′ n ns (p ∷ ps) slaves held done k (inner at-high) i real =
-    at-give-high-moves names vs index step value rounds comparisons h l′ n ns p ps slaves held done k i real
-moves names vs l index step value rounds comparisons h l′ n ns (p ∷ ps) slaves held done k (inner at-low) i real =
-    at-give-low-moves names vs index step value rounds comparisons h l′ n ns p ps slaves held done k i real
-moves names vs l index step value rounds comparisons h l′ n ns (p ∷ ps) slaves held done k at-baptize i real =
-    at-baptize-moves names vs index step value rounds comparisons h l′ n ns p ps slaves held done k i real
+moves-waited names vs l p (w ∷ ws) a (inner (at-ask high (of-bit {b = b} legal))) i real = at-high-moves names vs p w ws a b legal i real
+moves-waited names vs l p (w ∷ ws) a (inner (at-ask low (of-bit {b = b} legal))) i real = at-low-moves names vs p w ws a b legal i real
+moves-waited names vs l p (w ∷ ws) a (inner (at-ask reply (of-bit {b = b} legal))) i real = at-bit-moves names vs p w ws a b legal i real
+moves-waited names vs l p [] a (inner at-name) i real = absurd (i .known .1)
+moves-waited names vs l p [] a (inner at-high) i real = absurd (i .known .1)
+moves-waited names vs l p [] a (inner at-low) i real = absurd (i .known .1)
+moves-waited names vs l p [] a at-baptize i real = absurd (i .known .1)
+moves-waited names vs l p (w ∷ ws) a (inner at-name) i real = at-name-moves names vs p w ws a i real
+moves-waited names vs l p (w ∷ ws) a (inner at-high) i real = at-give-high-moves names vs p w ws a i real
+moves-waited names vs l p (w ∷ ws) a (inner at-low) i real = at-give-low-moves names vs p w ws a i real
+moves-waited names vs l p (w ∷ ws) a at-baptize i real = at-baptize-moves names vs p w ws a i real
+
+pub moves : (names : List ℕ) (vs : List SlaveView) (l : PassPlace) (p : Position) (a : Pass) → LegalPlace l → Moves names vs l p a
+moves names vs l p a = moves-waited names vs l p (a .waiting) a
 
 -- a fresh run
 pub fresh-at :
@@ -637,22 +668,33 @@ pub fresh-at :
     Tie names vs (fresh names) (account names ws slaves held (endWith names) 0 0 0)
 unfolding fresh endAt endWith past compared stepOf isNeedless roundHere isFirst isRepeated roundAt placeOf both
 fresh-at vs [] ws slaves held f v =
-    let o : Over [] vs 2 0 0 ws slaves 0 0 = record { views = v; some = omega arith; most = omega arith; within = omega arith; counted = omega (arith, none-compared (highAgain ws)) } in
-    over o
+    over {a = account [] ws slaves held 2 0 0 0}
+    (record {
+      views = v;
+      end = refl;
+      some = omega arith;
+      most = omega arith;
+      within = omega arith;
+      rounds = refl;
+      counted = omega (arith, none-compared (highAgain ws));
+    })
 fresh-at vs (n ∷ ns) ws slaves held f v =
-    let a : At (n ∷ ns) vs poll 0 0 0 0 0 0 0 n ns ws slaves held 0 0 =
-    record {
+    let l : 0 < suc (length ns) = omega arith in
+    let first : Pass = record { name = n; others = ns; waiting = ws; slaves = slaves; held = held; rounds = 0; done = 0; k = 0 } in
+    going {l = poll} {a = first}
+    (record {
+      runs = rw (lt-ltb 0 (suc (length ns)) l);
       legal = inner at-poll;
       facts = f;
       here = refl;
       place = refl;
       made = refl;
+      rounds = refl;
       counted = refl;
       views = v;
       known = tt;
       halves = tt;
       heard = nothing-told (λ v. Unit {0}) vs (λ v. tt);
       small = omega arith;
-    } in
-    let l : 0 < suc (length ns) = omega arith in
-    rw (lt-ltb 0 (suc (length ns)) l) (going a refl)
+    })
+    refl

@@ -18,16 +18,16 @@ use Rattle.file.specs.Rules.Legal.{LegalSlave}
 use Rattle.file.specs.Rules.Changes.{putInSlave}
 use Rattle.file.proofs.Order.{byCase, both-next}
 use Rattle.file.proofs.Puts.{inSlave-same, inSlave-other}
-use Rattle.cluster.specs.Rules.Bus.{anyone}
-use Rattle.cluster.specs.Rules.Slaves.{dutyBy, executionOf, addresses, addressed, answersRead, readReply, answersCompare, replyTo, inSlot, sentTo, replaced}
-use Rattle.cluster.specs.Rules.Slaves.{mayWrite, isNameRecord, written, takesWrite, takesName, named, slaveAfter}
-use Rattle.cluster.specs.Rules.Slaves as Slaves
-use Rattle.cluster.proofs.Untouched.{replaced-other}
-use Rattle.cluster.proofs.Replaced.{replaced-sets}
-use Rattle.cluster.proofs.Kept.{rests-bytes, rests-kept}
-use Rattle.cluster.proofs.Asleep.{is-awake}
+use Rattle.master_slave.specs.Rules.Bus.{anyone}
+use Rattle.master_slave.specs.Rules.Slaves.{dutyBy, executionOf, addresses, addressed, answersRead, readReply, answersCompare, replyTo, inSlot, sentTo, replaced}
+use Rattle.master_slave.specs.Rules.Slaves.{mayWrite, isNameRecord, written, takesWrite, takesName, named, slaveAfter}
+use Rattle.master_slave.specs.Rules.Slaves as Slaves
+use Rattle.master_slave.proofs.Untouched.{replaced-other}
+use Rattle.master_slave.proofs.WrittenBytes.{replaced-sets}
+use Rattle.master_slave.proofs.Kept.{rests-bytes, rests-kept}
+use Rattle.master_slave.proofs.Asleep.{is-awake}
 use Rattle.naming.specs.Inner.View.{SlaveView, viewOf, viewUnnamed, comparisonOf, unnamedChange, change, replies, someone, answers, changeAll}
-use Rattle.naming.specs.Rules.Rounds.{RunRound, poll, writeName, writeHigh, writeLow, compare, baptize, sent, atUnnamed}
+use Rattle.naming.specs.Rules.RunRounds.{RunRound, poll, writeName, writeHigh, writeLow, compare, baptize, sent, atUnnamed}
 use Rattle.naming.proofs.Facts.{Fit}
 use Rattle.naming.proofs.Abstract.{Sendable, of-poll, of-name, of-high, of-low, of-compare, of-baptize}
 use Rattle.naming.proofs.SlaveViews.{viewBy, view-alike, view-by, halves-by, wrote-name, wrote-high, wrote-low, took-name}
@@ -106,7 +106,10 @@ write-changes :
 unfolding slaveAfter change
 write-changes s r bs o awake l some most e =
     rw (writes s r awake l some most)
-    (byCase {P = viewOf (cond (viewUnnamed (viewOf s)) (replaced s configuration (recordSize * r) (written configuration r bs)) s) ≡ cond (viewUnnamed (viewOf s)) (unnamedChange o (viewOf s)) (viewOf s)}
+    (byCase
+    {P =
+    viewOf (cond (viewUnnamed (viewOf s)) (replaced s configuration (recordSize * r) (written configuration r bs)) s) ≡
+    cond (viewUnnamed (viewOf s)) (unnamedChange o (viewOf s)) (viewOf s)}
     (viewUnnamed (viewOf s))
     (λ t. rw t (replaced-view s (recordSize * r) (written configuration r bs) ∙ e ∙ ap (unnamedChange o) (sym (view-by s))))
     (λ f. rw f))

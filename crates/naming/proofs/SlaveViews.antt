@@ -2,7 +2,7 @@
 -- of record 1, 2 or 3 of 0x08 and a new logical name make of it.
 -- Assumes nothing.
 use Prim.Native.Nat.{ℕ, _+_, _≤_, _<_}
-use mathlib.Core.Path.{_≡_, refl, _∙_}
+use mathlib.Core.Path.{_≡_, refl}
 use mathlib.Core.List.{List, [], _∷_}
 use native.Mathlib.Omega.{arith}
 use lib.ListN.{length, getD, set, take, drop, length-set, length-drop}
@@ -14,7 +14,7 @@ use Rattle.file.proofs.NumberLaws.{number-append}
 use Rattle.file.proofs.Puts.{part-sets, getD-sets, part-set, sets-part}
 use Rattle.file.proofs.Sizes.{bytesOf-length}
 use Rattle.naming.specs.Inner.View.{SlaveView, viewOf, comparisonOf, unnamedChange}
-use Rattle.naming.specs.Rules.Rounds.{half, writeName, writeHigh, writeLow}
+use Rattle.naming.specs.Rules.RunRounds.{half, writeName, writeHigh, writeLow}
 
 -- ---- the view
 
@@ -32,11 +32,6 @@ viewBy configured documented =
 pub view-by : (s : Slave) → viewOf s ≡ viewBy (bytesIn s configuration) (bytesIn s documentation)
 unfolding viewOf viewBy physicalName logicalName newLogicalName recordOf
 view-by s = refl
-
--- the same bytes there, the same view
-pub view-same :
-    (s t : Slave) → bytesIn t configuration ≡ bytesIn s configuration → bytesIn t documentation ≡ bytesIn s documentation → viewOf t ≡ viewOf s
-view-same s t c d = rw (view-by s, view-by t, c, d)
 
 -- and so with the physical name alone
 pub view-alike :

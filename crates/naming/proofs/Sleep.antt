@@ -9,15 +9,16 @@ use lib.ListN.{length}
 use lib.Dec.{eqb}
 use borrow.Author.Tests.{eqb-true, eqb-false, le-ltb}
 use Rattle.file.specs.Rules.Bytes.{Bytes, All}
-use Rattle.file.specs.Rules.Grounds.{fileGround}
+use Rattle.file.specs.Rules.FileGrounds.{fileGround}
 use Rattle.file.specs.Rules.Decode.{decode}
 use Rattle.file.proofs.Order.{byCase}
 use Rattle.file.proofs.Accepted.{accepted-legal}
-use Rattle.cluster.specs.Rules.Bus.{slots}
-use Rattle.cluster.specs.Rules.Grounds.{shortAnswer}
+use Rattle.master_slave.specs.Rules.Bus.{slots}
+use Rattle.cluster.specs.Rules.RoundGrounds.{shortAnswer}
 use Rattle.cluster.specs.Claims.Sleep.{AllAwake}
 use Rattle.cluster.proofs.Rounds.{NoGround, none-holds}
-use Rattle.naming.specs.Rules.Run.{Position, running, fresh, runGrounds, unfitPosition, countLimit}
+use Rattle.naming.specs.Rules.Position.{Position, running, fresh}
+use Rattle.naming.specs.Rules.RunGrounds.{runGrounds, unfitPosition, countLimit}
 use Rattle.naming.specs.Rules.Step.{stepGround, stepKeepingGround}
 use Rattle.naming.specs.Rules.Account.{Named, Account, StepArguments, Call, step, frame, accountOf, accountCall, namingComparisons, endingRounds, argumentsGround}
 use Rattle.naming.specs.Rules.Figures.{roundsFor, comparisonsFor, namesAfter}
@@ -158,7 +159,7 @@ module _ (file names : List ℕ) (b : Bytes file) (g : fileGround file ≡ 0) (n
 
   counted-from :
       (cs : List Call) → Permitted State (Allowed names) (callOn names) (startOn file, fresh names) cs →
-      afterCalls names (startOn file) (fresh names) cs .1 .rounds ≢ 0 → AllAwake (afterCalls names (startOn file) (fresh names) cs .0 .file)
+      afterCalls names (startOn file) (fresh names) cs .1 .counts .rounds ≢ 0 → AllAwake (afterCalls names (startOn file) (fresh names) cs .0 .file)
   counted-from cs may =
       let after =
       all-calls State names viewIn Good AwakeIn (Allowed names) (callOn names) (byte-laws names n) (roundsFor slaves names) (comparisonsFor slaves names)

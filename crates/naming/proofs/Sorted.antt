@@ -12,7 +12,7 @@ use lib.Dec.{eqb, ltb}
 use borrow.Author.Tests.{eqb-false, ltb-true, ltb-false}
 use Rattle.file.specs.Rules.Bytes.{All, All.allEmpty, All.allNext as also}
 use Rattle.file.specs.Rules.Legal.{Distinct, Distinct.end as alone, Distinct.next as apart}
-use Rattle.file.specs.Rules.Grounds.{isAmong}
+use Rattle.file.specs.Rules.FileGrounds.{isAmong}
 use Rattle.file.specs.Rules.Order.{either}
 use Rattle.file.proofs.Bytes.{all-map}
 use Rattle.file.proofs.Order.{byCase, either-right, either-false-left, either-false-right}

@@ -9,12 +9,12 @@ use borrow.Author.Tests.{eqb-false, ne-eqb}
 use Rattle.file.specs.Rules.Bytes.{All, All.allEmpty, All.allNext as also}
 use Rattle.file.specs.Rules.Legal.{Distinct, Distinct.end as alone, Distinct.next as apart}
 use Rattle.file.specs.Rules.Cluster.{unnamed, broadcast}
-use Rattle.file.specs.Rules.Grounds.{isAmong, hasRepeat}
+use Rattle.file.specs.Rules.FileGrounds.{isAmong, hasRepeat}
 use Rattle.file.specs.Rules.Order.{either}
 use Rattle.file.proofs.Bytes.{all-map}
 use Rattle.file.proofs.AcceptedFacts.{no-repeat}
 use Rattle.file.proofs.Order.{byCase, either-false-left, either-false-right}
-use Rattle.naming.specs.Rules.Run.{unfitName}
+use Rattle.naming.specs.Rules.RunGrounds.{unfitName}
 use Rattle.naming.specs.Rules.Account.{Named, falling, unnamedAmong, namesHeld}
 use Rattle.naming.proofs.Facts.{Facts, Fit, physicals, all-both, among-here, among-next}
 use Rattle.naming.proofs.Sorted.{all-of, all-self, apart-among, all-falling, among-falling, falling-falls}

@@ -9,16 +9,17 @@ use Rattle.file.specs.Rules.Order.{firstOf}
 use Rattle.file.specs.Rules.Results.{Result, refused, done}
 use Rattle.file.specs.Inner.Accepted.{Placed}
 use Rattle.file.specs.Inner.Surveyed.{Surveyed}
-use Rattle.file.specs.Inner.Answers.{checkedOf}
+use Rattle.file.specs.Inner.FileAnswers.{checkedOf}
 use Rattle.file.specs.declared.types.Refusal.{Refusal}
 use Rattle.file.specs.declared.survey.FileAnswer.{FileAnswer}
 use Rattle.file.specs.declared.survey.FileAnswer.the-variants as answers
 use Rattle.file.proofs.Surveyed.{survey-refused}
-use Rattle.cluster.specs.Rules.Bus.{slots}
+use Rattle.master_slave.specs.Rules.Bus.{slots}
 use Rattle.cluster.proofs.Rounds.{file-decides, buffer-decides, others-decide}
-use Rattle.naming.specs.Rules.Run.{Position, running, runGrounds}
+use Rattle.naming.specs.Rules.Position.{Position, running}
+use Rattle.naming.specs.Rules.RunGrounds.{runGrounds}
 use Rattle.naming.specs.Rules.Step.{StepDone, ended, stepGround, stepMade, stepOn}
-use Rattle.naming.specs.Inner.Answers.{StepGoes}
+use Rattle.naming.specs.Inner.StepAnswers.{StepGoes}
 use Rattle.naming.proofs.StepLaws.{step-refused}
 
 -- what no ground but the file's refuses, of a running position

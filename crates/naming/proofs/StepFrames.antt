@@ -9,17 +9,20 @@ use native.Mathlib.Omega.{arith}
 use borrow.Author.Tests.{le-ltb}
 use Rattle.file.specs.Rules.Bytes.{Bytes}
 use Rattle.file.specs.Rules.Order.{firstOf, both, either}
-use Rattle.file.specs.Rules.Grounds.{isAmong, hasRepeat}
+use Rattle.file.specs.Rules.FileGrounds.{isAmong, hasRepeat}
 use Rattle.file.specs.Rules.Decode.{decode}
-use Rattle.cluster.specs.Rules.Bus.{slots, senderMask}
-use Rattle.cluster.specs.Rules.Grounds.{shortAnswer}
+use Rattle.master_slave.specs.Rules.Bus.{slots, senderMask}
+use Rattle.cluster.specs.Rules.RoundGrounds.{shortAnswer}
 use Rattle.cluster.specs.Rules.Round.{Answer, frameOn}
 use Rattle.cluster.specs.Rules.MasterSlave.{addressSent, dataSent, roundSent}
 use Rattle.cluster.specs.Inner.Sending.{MaySend, asked}
 use Rattle.cluster.proofs.Rounds.{NoGround, none-holds, others-decide}
 use Rattle.cluster.proofs.SentRounds as rounds
-use Rattle.naming.specs.Rules.Rounds.{sent}
-use Rattle.naming.specs.Rules.Run.{Position, running, bits, nextRound, fresh, endAt, runGrounds, namesGrounds, unfitName, unfitPosition}
+use Rattle.naming.specs.Rules.RunRounds.{sent}
+use Rattle.naming.specs.Rules.Position.{Position, running, fresh, endAt}
+use Rattle.naming.specs.Rules.Pass.{bits}
+use Rattle.naming.specs.Rules.Run.{nextRound}
+use Rattle.naming.specs.Rules.RunGrounds.{runGrounds, namesGrounds, unfitName, unfitPosition}
 use Rattle.naming.specs.Rules.Step.{isReply, madeBy, stepGround}
 use Rattle.naming.specs.Claims.StepFrames.{TwoFrames, StepsAreFrames}
 use Rattle.naming.specs.Claims.Files.{m10File}
@@ -32,7 +35,7 @@ use Rattle.file.proofs.BytesBelow.{allBelow, bytes-below}
 
 -- the round may be sent
 pub next-sent :
-    (file : List ℕ) (p : Position) (names buffer : List ℕ) → Bytes names → p .value < 2 ^ bits → stepGround file p names buffer ≡ 0 → p .end ≡ running →
+    (file : List ℕ) (p : Position) (names buffer : List ℕ) → Bytes names → p .place .value < 2 ^ bits → stepGround file p names buffer ≡ 0 → p .end ≡ running →
     MaySend (sent (nextRound names p))
 unfolding stepGround
 next-sent file p names buffer n small g going =

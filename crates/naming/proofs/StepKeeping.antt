@@ -8,14 +8,15 @@ use mathlib.Core.Bool.{Bool}
 use borrow.Author.Tests.{ne-eqb}
 use Rattle.file.specs.Rules.Order.{Ground}
 use Rattle.file.specs.Rules.Results.{refused}
-use Rattle.file.specs.Rules.Grounds.{fileGround}
+use Rattle.file.specs.Rules.FileGrounds.{fileGround}
 use Rattle.file.proofs.Edition.{unknown-edition, refused-edition}
-use Rattle.cluster.specs.Rules.Grounds.{shortAnswer}
+use Rattle.cluster.specs.Rules.RoundGrounds.{shortAnswer}
 use Rattle.cluster.specs.Rules.Summary.{Summary, wrongSummary, keptFor}
 use Rattle.cluster.specs.Claims.Renaming.{namesOf}
 use Rattle.cluster.specs.Claims.Summary.{Matches}
 use Rattle.cluster.proofs.SummaryLaws.{matches-right, mismatch-wrong, given-file, given-wrong, given-right, given-none}
-use Rattle.naming.specs.Rules.Run.{Position, runGrounds}
+use Rattle.naming.specs.Rules.Position.{Position}
+use Rattle.naming.specs.Rules.RunGrounds.{runGrounds}
 use Rattle.naming.specs.Rules.Step.{stepGround, stepOn, stepKeepingGround, stepKeeping}
 use Rattle.naming.specs.Claims.Edition.{UnknownEditionStepKeeping}
 

@@ -7,12 +7,13 @@ use mathlib.Core.Path.{_≡_, sym, _∙_}
 use mathlib.Core.Logic.{_≢_}
 use mathlib.Core.List.{List}
 use borrow.Author.Tests.{eq-eqb, ne-eqb}
-use Rattle.file.specs.Rules.Grounds.{fileGround}
+use Rattle.file.specs.Rules.FileGrounds.{fileGround}
 use Rattle.file.specs.Rules.Results.{refused, done}
 use Rattle.file.proofs.Edition.{unknown-edition, refused-edition}
 use Rattle.cluster.proofs.Rounds.{file-decides}
-use Rattle.naming.specs.Rules.Rounds.{sent}
-use Rattle.naming.specs.Rules.Run.{Position, running, nextRound, advance}
+use Rattle.naming.specs.Rules.RunRounds.{sent}
+use Rattle.naming.specs.Rules.Position.{Position, running}
+use Rattle.naming.specs.Rules.Run.{nextRound, advance}
 use Rattle.naming.specs.Rules.Step.{ended, madeBy, stepGround, stepMade, stepOn, isReply}
 use Rattle.cluster.specs.Rules.MasterSlave.{roundSent}
 use Rattle.naming.specs.Claims.StepFrames.{EndedAltersNothing}

@@ -16,26 +16,27 @@ use Rattle.file.specs.Rules.Layout.{recordSize}
 use Rattle.file.specs.Rules.Cluster.{Slave, Cluster, unnamed, broadcast, writeOperation, executeOperation}
 use Rattle.file.specs.Rules.Changes.{withSlaves, withEpoch, withPending}
 use Rattle.file.specs.Rules.Decode.{decode}
-use Rattle.file.specs.Rules.Grounds.{fileGround}
+use Rattle.file.specs.Rules.FileGrounds.{fileGround}
 use Rattle.file.specs.Rules.Legal.{LegalSlave}
 use Rattle.file.specs.Inner.Accepted.{Becomes}
 use Rattle.file.proofs.Order.{byCase, both-false-right}
 use Rattle.file.proofs.Accepted.{accepted-becomes, encode-bytes}
 use Rattle.frame.specs.Rules.Frames.{between, dataFrame, frameOf}
-use Rattle.frame.specs.Rules.Grounds.{broadcastRead}
-use Rattle.cluster.specs.Rules.Bus.{Senders, slots, anyone, senderMask}
-use Rattle.cluster.specs.Rules.Slaves.{withAddress, epochRaised, pendingDuty, sentTo, slavesAfter, slaveAfter, restsAfter, rested}
-use Rattle.cluster.specs.Rules.Grounds.{shortAnswer}
+use Rattle.frame.specs.Rules.FrameGrounds.{broadcastRead}
+use Rattle.master_slave.specs.Rules.Bus.{Senders, slots, anyone, senderMask}
+use Rattle.master_slave.specs.Rules.Slaves.{withAddress, epochRaised, pendingDuty, sentTo, slavesAfter, slaveAfter, restsAfter, rested}
+use Rattle.cluster.specs.Rules.RoundGrounds.{shortAnswer}
 use Rattle.cluster.specs.Rules.Round.{Answer, frameOn}
 use Rattle.cluster.specs.Rules.MasterSlave.{dataSent, roundSent}
 use Rattle.cluster.specs.Inner.Sending.{DataOf, of-write, of-other, MaySend, asked}
-use Rattle.cluster.proofs.Bus.{mask-bit}
+use Rattle.master_slave.proofs.Bus.{mask-bit}
 use Rattle.cluster.proofs.Sleep.{rested-awake}
 use Rattle.cluster.proofs.SentRounds.{asked-duty, data-effect, round-sent-becomes, round-is}
-use Rattle.naming.specs.Rules.Rounds.{RunRound, poll, writeName, writeHigh, writeLow, compare, baptize, sent, atUnnamed, half}
+use Rattle.naming.specs.Rules.RunRounds.{RunRound, poll, writeName, writeHigh, writeLow, compare, baptize, sent, atUnnamed, half}
 use Rattle.naming.specs.Inner.View.{viewOf, view, changeAll, answers}
 use Rattle.naming.specs.Rules.Step.{isReply}
-use Rattle.naming.specs.Rules.Run.{Position, isExtra, nextRound, advance}
+use Rattle.naming.specs.Rules.Position.{Position}
+use Rattle.naming.specs.Rules.Run.{isExtra, nextRound, advance}
 use Rattle.naming.proofs.Abstract.{polled, Sendable, of-poll, of-name, of-high, of-low, of-compare, of-baptize}
 use Rattle.naming.proofs.SlaveRounds.{carriedOut, operation-sent, slaves-send, slaves-change, slaves-rest, never-sleeps}
 
@@ -199,7 +200,7 @@ extra-ignores names p e a b = rw e
 -- the extra read's reply is ignored; before any other round nobody sleeps
 pub step-seen :
     (names f : List ℕ) (p : Position) {after : Answer × List ℕ × List ℕ} → Made f (nextRound names p) after →
-    ((p .rounds ≡ 0 → ⊥) → Seen f (nextRound names p) after) → StepSeen names f p after
+    ((p .counts .rounds ≡ 0 → ⊥) → Seen f (nextRound names p) after) → StepSeen names f p after
 step-seen names f p {after} m seen =
     byCase (isExtra p)
     (λ e.

@@ -4,7 +4,7 @@
 use Prim.Native.Nat.{ℕ, _≤_}
 use mathlib.Core.Path.{_≡_, refl}
 use mathlib.Core.List.{List, [], _∷_}
-use mathlib.Core.Logic.{_⊎_, inl, inr}
+use mathlib.Core.Logic.{_⊎_, inl}
 use native.Mathlib.Omega.{arith}
 use lib.ListN.{replicate}
 use Rattle.file.specs.Rules.Layout.{widthOf}
@@ -15,24 +15,27 @@ use Rattle.file.specs.Rules.Cluster.{isAwake, noOperation, broadcastRead, bytes
 use Rattle.file.specs.Rules.Changes.{putAmong, putInSlave, withSleep, withSlaves, withEpoch, withPending}
 use Rattle.file.specs.Rules.Decode.{decode, decodeAt, slavesAt, slaveAt, filesAt, fileAt, fileSize, offsetAt}
 use Rattle.file.specs.Rules.Encode.{directoryEntry, directory, contents, slaveSize, slaveBytes, tableEntry, slavesBytes, table, slavesPlace, slavesSize, fileLength, header, encodeAt, encode}
-use Rattle.file.specs.Rules.Grounds.{isAmong, hasRepeat, fileGrounds, fileGroundsAt, wrongSize, wrongMark, wrongEdition, wrongLength, wrongHeader}
-use Rattle.file.specs.Rules.Grounds.{wrongPending, brokenLayout, walkFile, tableEnd, walkSlaves, andThen, walkSlave, goodTableEntry, walkDirectory, goodEntry}
-use Rattle.file.specs.Rules.Grounds.{endsAt, lacksNeeded, allHaveNeeded, hasNeeded, equalPhysicalNames}
+use Rattle.file.specs.Rules.FileGrounds.{isAmong, hasRepeat, fileGrounds, fileGroundsAt, wrongSize, wrongMark, wrongEdition, wrongLength, wrongHeader}
+use Rattle.file.specs.Rules.FileGrounds.{wrongPending, brokenLayout, walkFile, tableEnd, walkSlaves, andThen, walkSlave, goodTableEntry, walkDirectory, goodEntry}
+use Rattle.file.specs.Rules.FileGrounds.{endsAt, lacksNeeded, allHaveNeeded, hasNeeded, equalPhysicalNames}
 use Rattle.frame.specs.Rules.Fireworks.{roundOf, roundIn}
 use Rattle.frame.specs.Rules.Check.{exclusiveOr, checkOf, addressCheck, dataCheck}
 use Rattle.frame.specs.Rules.Frames.{frameOf, addressBytes, addressFrame, dataFrame}
-use Rattle.frame.specs.Rules.Grounds as frames
-use Rattle.cluster.specs.Rules.Bus.{joined, busByte, anyone, maskBelow, senderMask, slotBytes, answerBytes, answerIn, nobody}
-use Rattle.cluster.specs.Rules.Slaves.{withAddress, nextEpoch, epochRaised, executionOf, dutyBy, pendingDuty, isUnnamed, addresses, addressed, answersRead}
-use Rattle.cluster.specs.Rules.Slaves.{readReply, answersCompare, replyTo, inSlot, sentTo}
-use Rattle.cluster.specs.Rules.Slaves.{replaced, mayWrite, isNameRecord, written, takesWrite, takesName, named, slaveAfter, slavesAfter, fallsAsleep, restsAfter, rested}
-use Rattle.cluster.specs.Rules.Grounds.{shortAnswer, roundBy, writePending, groundsOn}
+use Rattle.frame.specs.Rules.FrameGrounds as frames
+use Rattle.master_slave.specs.Rules.Bus.{joined, busByte, anyone, maskBelow, senderMask, slotBytes, answerBytes, answerIn, nobody}
+use Rattle.master_slave.specs.Rules.Slaves.{withAddress, nextEpoch, epochRaised, executionOf, dutyBy, pendingDuty, isUnnamed, addresses, addressed, answersRead}
+use Rattle.master_slave.specs.Rules.Slaves.{readReply, answersCompare, replyTo, inSlot, sentTo}
+use Rattle.master_slave.specs.Rules.Slaves.{replaced, mayWrite, isNameRecord, written, takesWrite, takesName, named, slaveAfter, slavesAfter, fallsAsleep, restsAfter, rested}
+use Rattle.cluster.specs.Rules.RoundGrounds.{shortAnswer, roundBy, writePending, groundsOn}
 use Rattle.cluster.specs.Rules.Round.{effectOf, frameOn, roundGround, roundOn}
 use Rattle.cluster.specs.Rules.MasterSlave.{addressSent, dataSent, roundSent}
-use Rattle.naming.specs.Rules.Rounds.{sent, atUnnamed}
-use Rattle.naming.specs.Rules.Run.{Position, fresh, endAt, atStep, placeOf, askOrGive, questionOf, partOf, giveOf, tried, roundAt, roundHere, isFirst}
+use Rattle.naming.specs.Rules.RunRounds.{sent, atUnnamed}
+use Rattle.naming.specs.Rules.Position.{Position, fresh, endAt}
+use Rattle.naming.specs.Rules.Pass.{placeOf, askOrGive, questionOf, partOf, giveOf}
+use Rattle.naming.specs.Rules.Run.{atStep, tried, roundAt, roundHere, isFirst}
 use Rattle.naming.specs.Rules.Run.{isRepeated, isNeedless, passOver, onto, passRound, isExtra, nextRound}
-use Rattle.naming.specs.Rules.Run.{wrote, onward, nextName, moveOn, passAdvance, countRaised, advance, unfitName, namesGrounds, unfitPosition, runGrounds}
+use Rattle.naming.specs.Rules.Run.{wrote, onward, nextName, moveOn, passAdvance, countRaised, advance}
+use Rattle.naming.specs.Rules.RunGrounds.{unfitName, namesGrounds, unfitPosition, runGrounds}
 use Rattle.naming.specs.Rules.Step.{ended, isReply, madeBy, stepGround, stepMade, stepOn}
 use Rattle.naming.specs.Rules.Steps.{isMade, maskIn, begun, nextStep, withStep, stepsFrom, StepsDone, steps, stepsOn}
 use Rattle.naming.specs.Claims.Files.{oneSlave, m6File, m8File}
@@ -46,11 +49,12 @@ five = 5 ∷ []
 
 -- a running position by its step and its counts
 abbrev at : ℕ → ℕ → ℕ → Position
-at step rounds comparisons = record { end = 0; index = 0; step = step; value = 7; rounds = rounds; comparisons = comparisons; high = 0; low = 7 }
+at step rounds comparisons =
+    record { end = 0; place = record { index = 0; step = step; value = 7 }; counts = record { rounds = rounds; comparisons = comparisons }; halves = record { high = 0; low = 7 } }
 
 -- one at the name behind it, with that end
 abbrev behind : ℕ → ℕ → Position
-behind end rounds = record { end = end; index = 1; step = 0; value = 7; rounds = rounds; comparisons = 65; high = 0; low = 7 }
+behind end rounds = record { end = end; place = record { index = 1; step = 0; value = 7 }; counts = record { rounds = rounds; comparisons = 65 }; halves = record { high = 0; low = 7 } }
 
 -- answer and position
 abbrev told : Result StepsDone × Position × List ℕ × List ℕ → Result StepsDone × Position
@@ -65,7 +69,10 @@ unfolding stepsOn stepGround fileGrounds fileGroundsAt firstOf either wrongSize 
 no-file k = refl
 
 short : (k : ℕ) → stepsOn k sleeper (fresh five) five [] ≡ (refused 9, fresh five, [], sleeper)
-unfolding no-file sleeper both wrongMark wrongEdition wrongLength wrongHeader wrongPending noOperation broadcastRead allZero part numberOf offsetAt brokenLayout walkFile tableEnd walkSlaves andThen walkSlave goodTableEntry walkDirectory goodEntry fileSize endsAt lacksNeeded allHaveNeeded hasNeeded lastRecord decodeAt slavesAt slaveAt filesAt fileAt equalPhysicalNames hasRepeat isAmong physicalName bytesIn bytesAmong shortAnswer
+unfolding no-file sleeper both wrongMark wrongEdition wrongLength wrongHeader wrongPending noOperation broadcastRead allZero part numberOf
+    offsetAt brokenLayout walkFile tableEnd walkSlaves andThen walkSlave goodTableEntry walkDirectory goodEntry fileSize endsAt lacksNeeded
+    allHaveNeeded hasNeeded lastRecord decodeAt slavesAt slaveAt filesAt fileAt equalPhysicalNames hasRepeat isAmong physicalName bytesIn
+    bytesAmong shortAnswer
 short k = refl
 
 unfit-name : (k : ℕ) → stepsOn k sleeper (fresh five) (5 ∷ 0 ∷ []) answerBuffer ≡ (refused 15, fresh five, answerBuffer, sleeper)
@@ -102,18 +109,23 @@ ended-already = refl
 -- answers in slot 1; one write more, which nobody answers. The mask is the last one's
 
 after : ℕ → ℕ → ℕ → ℕ → Position
-after step rounds comparisons high = record { end = 0; index = 0; step = step; value = 0; rounds = rounds; comparisons = comparisons; high = high; low = 0 }
+after step rounds comparisons high =
+    record { end = 0; place = record { index = 0; step = step; value = 0 }; counts = record { rounds = rounds; comparisons = comparisons }; halves = record { high = high; low = 0 } }
 
 encoded-again : encode (decode sleeper) ≡ sleeper
 unfolding ended-already decode encode encodeAt header fileLength slavesPlace slavesSize slaveSize contents bytesOf table tableEntry slavesBytes slaveBytes directory directoryEntry
 encoded-again = refl
 
 address-carried : roundOn sleeper (addressSent (decode sleeper) (sent (nextRound five (fresh five)))) answerBuffer .0 ≡ done 0
-unfolding encoded-again fresh endAt nextRound isExtra sent addressSent addressFrame addressBytes frameOf addressCheck checkOf exclusiveOr pb2Of roundOn roundGround groundsOn roundBy roundOf roundIn frames.wrongFrameLength frames.wrongCheck frameOn effectOf nextEpoch withAddress withEpoch withPending senderMask maskBelow anyone nobody
+unfolding encoded-again fresh endAt nextRound isExtra sent addressSent addressFrame addressBytes frameOf addressCheck checkOf exclusiveOr
+    pb2Of roundOn roundGround groundsOn roundBy roundOf roundIn frames.wrongFrameLength frames.wrongCheck frameOn effectOf nextEpoch
+    withAddress withEpoch withPending senderMask maskBelow anyone nobody
 address-carried = refl
 
 one-step : told (stepsOn 1 sleeper (fresh five) five answerBuffer) ≡ (done (steps 1 0), after 0 1 0 0)
-unfolding address-carried after stepMade isReply madeBy countRaised advance roundSent dataSent writePending epochRaised pendingDuty dutyBy executionOf sentTo replyTo inSlot answersRead addressed addresses isAwake isUnnamed logicalName hasRecord slavesAfter slaveAfter withSlaves rested restsAfter fallsAsleep withSleep answerIn answerBytes slotBytes busByte joined withStep maskIn
+unfolding address-carried after stepMade isReply madeBy countRaised advance roundSent dataSent writePending epochRaised pendingDuty dutyBy
+    executionOf sentTo replyTo inSlot answersRead addressed addresses isAwake isUnnamed logicalName hasRecord slavesAfter slaveAfter
+    withSlaves rested restsAfter fallsAsleep withSleep answerIn answerBytes slotBytes busByte joined withStep maskIn
 one-step = refl
 
 two-steps : told (stepsOn 2 sleeper (fresh five) five answerBuffer) ≡ (done (steps 2 0), after 1 2 0 0)
@@ -143,7 +155,7 @@ six-steps = refl
 
 name-taken :
     told (stepsOn 3 m8File (fresh (1 ∷ [])) (1 ∷ []) answerBuffer) ≡
-    (done (steps 2 62), record { end = 2; index = 1; step = 0; value = 0; rounds = 2; comparisons = 0; high = 0; low = 0 })
+    (done (steps 2 62), record { end = 2; place = record { index = 1; step = 0; value = 0 }; counts = record { rounds = 2; comparisons = 0 }; halves = record { high = 0; low = 0 } })
 unfolding six-steps m8File readReply nextName
 name-taken = refl
 

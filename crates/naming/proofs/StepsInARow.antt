@@ -13,16 +13,18 @@ use Rattle.file.specs.Rules.Bytes.{Bytes}
 use Rattle.file.specs.Rules.Order.{firstOf, both}
 use Rattle.file.specs.Rules.Results.{Result, refused, done}
 use Rattle.file.specs.Rules.Decode.{decode}
-use Rattle.file.specs.Rules.Grounds.{fileGround}
+use Rattle.file.specs.Rules.FileGrounds.{fileGround}
 use Rattle.file.proofs.Order.{byCase, clash}
-use Rattle.cluster.specs.Rules.Bus.{slots}
+use Rattle.master_slave.specs.Rules.Bus.{slots}
 use Rattle.cluster.specs.Rules.Round.{Answer, roundGround, roundOn, frameOn}
 use Rattle.cluster.specs.Rules.MasterSlave.{Sent, roundSent}
 use Rattle.cluster.specs.Inner.Sending.{MaySend}
-use Rattle.cluster.proofs.Bus.{answer-length}
+use Rattle.master_slave.proofs.Bus.{answer-length}
 use Rattle.cluster.proofs.Rounds.{round-bytes, round-keeps-file, others-decide, none-holds}
 use Rattle.cluster.proofs.SentRounds.{data-sent-bytes}
-use Rattle.naming.specs.Rules.Run.{Position, running, bits, unfitPosition, startGround, runGrounds}
+use Rattle.naming.specs.Rules.Position.{Position, running}
+use Rattle.naming.specs.Rules.Pass.{bits}
+use Rattle.naming.specs.Rules.RunGrounds.{unfitPosition, startGround, runGrounds}
 use Rattle.naming.specs.Rules.Step.{StepDone, ended, made, madeBy, stepGround, stepOn}
 use Rattle.naming.specs.Rules.Steps.{isMade, maskIn, Progress, begun, nextStep, withStep, stepsFrom, nowhere, StepsDone, steps, stepsOn}
 use Rattle.naming.specs.Claims.Steps.{eachStep, answerAfter, StepsInARow, StepsRefused, NumberAnswered, StepsAnswered, Told, StepsTold, NoOtherTold, StopsBy17, StopsAtFirst}
@@ -272,7 +274,7 @@ sent-sound {file} sound {s} may = round-sound (round-sound sound (address-of (de
 
 module _ (names : List ℕ) (bytes : Bytes names) (list : startGround names ≡ 0) where
   step-sound :
-      (t : Progress) → Sound (t .file) (t .buffer) → t .run .value < 2 ^ bits → isMade (nextStep names t .0) ≡ true →
+      (t : Progress) → Sound (t .file) (t .buffer) → t .run .place .value < 2 ^ bits → isMade (nextStep names t .0) ≡ true →
       Sound (withStep t (nextStep names t) .file) (withStep t (nextStep names t) .buffer)
   unfolding withStep nextStep
   step-sound t s small m =
@@ -311,7 +313,7 @@ module _ (names : List ℕ) (bytes : Bytes names) (list : startGround names ≡ 
         (λ u. byCase (eqb (t .run .end) running) (λ r. clash (next-made u (eqb-true _ _ r)) e) (λ r. inr (next-ended u (eqb-false _ _ r))))
 
   reason :
-      (i : ℕ) (t : Progress) → Sound (t .file) (t .buffer) → t .run .value < 2 ^ bits → ((j : ℕ) → j < i → isMade (answerFrom names j t) ≡ true) →
+      (i : ℕ) (t : Progress) → Sound (t .file) (t .buffer) → t .run .place .value < 2 ^ bits → ((j : ℕ) → j < i → isMade (answerFrom names j t) ≡ true) →
       isMade (answerFrom names i t) ≡ false → (answerFrom names i t ≡ refused 17) ⊎ (answerFrom names i t ≡ done ended)
   reason zero t s small before e = rw (answer-first names t) (unmade t s (rw (answer-first names t) at e))
   reason (suc i) t s small before e =

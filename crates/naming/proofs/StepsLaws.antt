@@ -12,21 +12,23 @@ use lib.Dec.{eqb}
 use Rattle.file.specs.Rules.Bytes.{Bytes}
 use Rattle.file.specs.Rules.Order.{firstOf, both, either}
 use Rattle.file.specs.Rules.Results.{Result, refused, done}
-use Rattle.file.specs.Rules.Grounds.{fileGround}
+use Rattle.file.specs.Rules.FileGrounds.{fileGround}
 use Rattle.file.specs.Inner.Accepted.{Placed}
 use Rattle.file.specs.Inner.Surveyed.{Surveyed}
-use Rattle.file.specs.Inner.Answers.{checkedOf}
+use Rattle.file.specs.Inner.FileAnswers.{checkedOf}
 use Rattle.file.specs.declared.types.Refusal.{Refusal}
 use Rattle.file.specs.declared.survey.FileAnswer.{FileAnswer}
 use Rattle.file.specs.declared.survey.FileAnswer.the-variants as files
 use Rattle.file.proofs.Surveyed.{survey-accepted, survey-refused}
 use Rattle.file.proofs.Order.{byCase, clash, both-false-left, both-false-right, either-false, either-false-left, either-false-right}
-use Rattle.cluster.specs.Rules.Bus.{slots}
+use Rattle.master_slave.specs.Rules.Bus.{slots}
 use Rattle.cluster.proofs.Rounds.{file-decides, buffer-decides, others-decide, none-holds}
-use Rattle.naming.specs.Rules.Run.{Position, running, bits, lastStep, unfitPosition, startGround, runGrounds}
+use Rattle.naming.specs.Rules.Position.{Position, running}
+use Rattle.naming.specs.Rules.Pass.{bits, lastStep}
+use Rattle.naming.specs.Rules.RunGrounds.{unfitPosition, startGround, runGrounds}
 use Rattle.naming.specs.Rules.Step.{StepDone, made, stepGround, stepMade, stepOn}
 use Rattle.naming.specs.Rules.Steps.{isMade, maskIn, Progress, begun, nextStep, withStep, stepsFrom, nowhere, StepsDone, steps, stepsOn}
-use Rattle.naming.specs.Inner.Answers.{positionOf, StepGoes}
+use Rattle.naming.specs.Inner.StepAnswers.{positionOf, StepGoes}
 use Rattle.naming.specs.Inner.Steps.{standsAt, stepsEnd, StepsMade}
 use Rattle.naming.specs.declared.steps.MadeSteps.{MadeSteps}
 use Rattle.naming.proofs.RunLaws.{runs, run-names, run-unfit, run-fits}
@@ -37,17 +39,17 @@ use Rattle.naming.proofs.Moves.{step-moved}
 -- ---- whether no other step is made
 
 module _ (names : List ℕ) (until : ℕ) (p : Position) where
-  pub end-here : p .step ≡ until → true ≡ stepsEnd names until p
+  pub end-here : p .place .step ≡ until → true ≡ stepsEnd names until p
   unfolding stepsEnd either
-  end-here e = rw (eq-eqb (p .step) until e)
+  end-here e = rw (eq-eqb (p .place .step) until e)
 
-  pub end-over : (p .step ≡ until → ⊥) → (p .end ≡ running → ⊥) → true ≡ stepsEnd names until p
+  pub end-over : (p .place .step ≡ until → ⊥) → (p .end ≡ running → ⊥) → true ≡ stepsEnd names until p
   unfolding stepsEnd either
-  end-over n m = rw (ne-eqb (p .step) until n, ne-eqb (p .end) running m)
+  end-over n m = rw (ne-eqb (p .place .step) until n, ne-eqb (p .end) running m)
 
-  pub end-unfit : (p .step ≡ until → ⊥) → p .end ≡ running → {t : Bool} → t ≡ unfitPosition names p → t ≡ stepsEnd names until p
+  pub end-unfit : (p .place .step ≡ until → ⊥) → p .end ≡ running → {t : Bool} → t ≡ unfitPosition names p → t ≡ stepsEnd names until p
   unfolding stepsEnd either
-  end-unfit n e is = is ∙ rw (ne-eqb (p .step) until n, eq-eqb (p .end) running e)
+  end-unfit n e is = is ∙ rw (ne-eqb (p .place .step) until n, eq-eqb (p .end) running e)
 
 not-false : (b : Bool) → not b ≡ false → b ≡ true
 not-false true e = refl
@@ -79,7 +81,7 @@ module _ (names : List ℕ) (until : ℕ) (t : Progress) (good : fileGround (t .
   pub end-goes : stepsEnd names until (t .run) ≡ false → StepGoes names (t .run) (t .buffer)
   unfolding stepsEnd
   end-goes e =
-      let rest = either-false-right (eqb (t .run .step) until) _ e in
+      let rest = either-false-right (eqb (t .run .place .step) until) _ e in
       record {
         long = long;
         accepted = sym (fits (either-false-right (not (eqb (t .run .end) running)) _ rest));
@@ -87,7 +89,7 @@ module _ (names : List ℕ) (until : ℕ) (t : Progress) (good : fileGround (t .
       }
 
   -- where no other is made
-  stopped : stepsEnd names until (t .run) ≡ true → both (not (eqb (t .run .step) until)) (isMade (nextStep names t .0)) ≡ false
+  stopped : stepsEnd names until (t .run) ≡ true → both (not (eqb (t .run .place .step) until)) (isMade (nextStep names t .0)) ≡ false
   unfolding stepsEnd
   stopped e =
       byCase (isMade (nextStep names t .0))
@@ -95,7 +97,7 @@ module _ (names : List ℕ) (until : ℕ) (t : Progress) (good : fileGround (t .
       let makes = made-makes names t m in
       let none : firstOf (runGrounds names (t .run)) ≡ 0 = sym (others-decide (t .file) (t .buffer) (runGrounds names (t .run)) good long) ∙ unfold stepGround in makes .none in
       both-false-left _
-      (byCase (eqb (t .run .step) until)
+      (byCase (eqb (t .run .place .step) until)
       (λ here. rw here)
       (λ other.
       byCase (unfitPosition names (t .run))
@@ -111,9 +113,9 @@ module _ (names : List ℕ) (until : ℕ) (t : Progress) (good : fileGround (t .
 -- one more
 until-next :
     (names : List ℕ) (until k : ℕ) (t : Progress) {s : Result StepDone × Position × List ℕ × List ℕ} → s ≡ nextStep names t → isMade (s .0) ≡ true →
-    (t .run .step ≡ until → ⊥) → stepsFrom (standsAt until) names (suc k) t ≡ stepsFrom (standsAt until) names k (withStep t s)
+    (t .run .place .step ≡ until → ⊥) → stepsFrom (standsAt until) names (suc k) t ≡ stepsFrom (standsAt until) names k (withStep t s)
 unfolding stepsFrom both
-until-next names until k t is m n = rw (ne-eqb (t .run .step) until n, ← is, m)
+until-next names until k t is m n = rw (ne-eqb (t .run .place .step) until n, ← is, m)
 
 -- ---- what the loop keeps: those that are left, of the steps so far, are all of them from the start
 
@@ -145,7 +147,7 @@ module _ {names : List ℕ} {until most : ℕ} {places : List ℕ} {start now : 
     comes : (done (made mask), q, buffer, file) ≡ stepOn (now .file) (now .run) names (now .buffer)
     comes = let goes = stepping-goes e in step-goes (now .file) (now .run) names (now .buffer) (h .placed) (h .long) (sym (goes .accepted)) refl (goes .runs) is
 
-    other : now .run .step ≡ until → ⊥
+    other : now .run .place .step ≡ until → ⊥
     other here = clash (test ∙ sym (end-here names until (now .run) here)) e
 
     left-next :
@@ -157,7 +159,7 @@ module _ {names : List ℕ} {until most : ℕ} {places : List ℕ} {start now : 
         rw e (sym (until-next names until (most - suc (now .made)) now comes refl other) ∙ rw one at (h .left))
 
     pub stepping-next :
-        Bytes names → now .run .value < 2 ^ bits → slots ≤ length buffer →
+        Bytes names → now .run .place .value < 2 ^ bits → slots ≤ length buffer →
         Stepping names until most places start (record { made = now .made + 1; senders = mask; run = q; buffer = buffer; file = file })
     stepping-next bytes small long =
         record {
@@ -187,8 +189,8 @@ until-none names until (suc k) t h =
     let makes = made-makes names t m in
     let none = none-holds (t .file) (t .buffer) (runGrounds names (t .run)) (unfold stepGround in makes .none) in
     let place = runs (none .rest) (makes .runs) .goes .counts .place in
-    rw (m, ne-eqb (t .run .step) until (λ z. omega arith)) (until-none names until k (withStep t (nextStep names t)) h))
-    (λ m. rw (m, both-false-right (not (eqb (t .run .step) until)) {b = false} refl))
+    rw (m, ne-eqb (t .run .place .step) until (λ z. omega arith)) (until-none names until k (withStep t (nextStep names t)) h))
+    (λ m. rw (m, both-false-right (not (eqb (t .run .place .step) until)) {b = false} refl))
 
 -- ---- the returns of the code
 

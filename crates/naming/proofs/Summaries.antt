@@ -11,7 +11,7 @@ use borrow.Author.Tests.{eqb-true, eqb-false}
 use Rattle.file.specs.Rules.Bytes.{Bytes, All, allEmpty}
 use Rattle.file.specs.Rules.Order.{Ground, firstOf}
 use Rattle.file.specs.Rules.Decode.{decode}
-use Rattle.file.specs.Rules.Grounds.{fileGround, fileGrounds}
+use Rattle.file.specs.Rules.FileGrounds.{fileGround, fileGrounds}
 use Rattle.file.proofs.Order.{byCase, first-most, joined-next}
 use Rattle.file.proofs.Results.{file-first, file-numbered}
 use Rattle.cluster.specs.Rules.Summary.{Summary, without, kept, keptFor, roundKeepingGround, roundKeeping}
@@ -20,7 +20,9 @@ use Rattle.cluster.proofs.Rounds.{round-bytes}
 use Rattle.cluster.proofs.SummaryLaws.{keptFor-true, rest-same, rest-trans, numbered-most}
 use Rattle.cluster.proofs.Keeping.{keeping-refused, keeping-accepted, round-keeps-summary, same-names, still-matches, still-matches-exactly}
 use Rattle.cluster.proofs.Holders.{filling-matches, question-is-reading}
-use Rattle.naming.specs.Rules.Run.{Position, bits, runGrounds, namesGrounds}
+use Rattle.naming.specs.Rules.Position.{Position}
+use Rattle.naming.specs.Rules.Pass.{bits}
+use Rattle.naming.specs.Rules.RunGrounds.{runGrounds, namesGrounds}
 use Rattle.naming.specs.Rules.Step.{stepGround, stepOn, stepKeepingGround, stepKeeping}
 use Rattle.naming.specs.Claims.Summary.{StepWithout, StepsInOrder, StepRefusedBy24, RefusedStepKeepsSummary, KeepingIsStep, StepKeepsSummary, StepStillMatches, StepStillMatchesBaptized}
 use Rattle.naming.specs.Claims.Summary.{AnyCall, WellTyped, typedStep, typedFrame, keepingCall, plainCall, given, notGiven, listedCall, listedCalls}
@@ -98,7 +100,7 @@ step-still-matches-baptized file p names buffer count slice fb b m =
 
 -- the file that a call given a summary leaves is of bytes
 pub keeping-step-bytes :
-    (file : List ℕ) (p : Position) (names : List ℕ) (summary : Summary) (buffer : List ℕ) → Bytes file → Bytes names → p .value < 2 ^ bits →
+    (file : List ℕ) (p : Position) (names : List ℕ) (summary : Summary) (buffer : List ℕ) → Bytes file → Bytes names → p .place .value < 2 ^ bits →
     Bytes (stepKeeping file p names summary buffer .3)
 keeping-step-bytes file p names summary buffer fb nb small =
     byCase (eqb (stepKeepingGround file p names summary buffer) 0)
@@ -107,8 +109,8 @@ keeping-step-bytes file p names summary buffer fb nb small =
 
 -- and the position has a value of 64 bits
 pub keeping-step-value :
-    (file : List ℕ) (p : Position) (names : List ℕ) (summary : Summary) (buffer : List ℕ) → p .value < 2 ^ bits →
-    stepKeeping file p names summary buffer .1 .value < 2 ^ bits
+    (file : List ℕ) (p : Position) (names : List ℕ) (summary : Summary) (buffer : List ℕ) → p .place .value < 2 ^ bits →
+    stepKeeping file p names summary buffer .1 .place .value < 2 ^ bits
 keeping-step-value file p names summary buffer small =
     byCase (eqb (stepKeepingGround file p names summary buffer) 0)
     (λ t. rw (step-keeping-accepted file p names summary buffer (eqb-true _ _ t)) (step-value file p names buffer small))

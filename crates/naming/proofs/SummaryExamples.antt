@@ -14,13 +14,13 @@ use Rattle.file.specs.Rules.Results.{refused, done}
 use Rattle.file.specs.Rules.Bytes.{All, Bytes, allEmpty, allNext, numberOf, part, allZero}
 use Rattle.file.specs.Rules.Cluster.{isAwake, bytesAmong, bytesIn, lastRecord, physicalName, newLogicalName, logicalName, logicalNames, comparisonValue, pb2Of, noOperation, broadcastRead}
 use Rattle.file.specs.Rules.Decode.{decode, decodeAt, slavesAt, slaveAt, filesAt, fileAt, fileSize, offsetAt}
-use Rattle.file.specs.Rules.Grounds.{isAmong, hasRepeat, fileGrounds, fileGround, fileGroundAt, fileGroundsAt, wrongSize, wrongMark, wrongEdition}
-use Rattle.file.specs.Rules.Grounds.{wrongLength, wrongHeader, wrongPending, brokenLayout, walkFile, tableEnd, walkSlaves, andThen, walkSlave, goodTableEntry}
-use Rattle.file.specs.Rules.Grounds.{walkDirectory, goodEntry, endsAt, lacksNeeded, allHaveNeeded, hasNeeded, equalPhysicalNames}
+use Rattle.file.specs.Rules.FileGrounds.{isAmong, hasRepeat, fileGrounds, fileGround, fileGroundAt, fileGroundsAt, wrongSize, wrongMark, wrongEdition}
+use Rattle.file.specs.Rules.FileGrounds.{wrongLength, wrongHeader, wrongPending, brokenLayout, walkFile, tableEnd, walkSlaves, andThen, walkSlave, goodTableEntry}
+use Rattle.file.specs.Rules.FileGrounds.{walkDirectory, goodEntry, endsAt, lacksNeeded, allHaveNeeded, hasNeeded, equalPhysicalNames}
 use Rattle.file.proofs.Bytes.{all-first}
 use Rattle.frame.specs.Rules.Fireworks.{Round, multipartner, msd, noRound, roundIn, roundOf}
-use Rattle.cluster.specs.Rules.Slaves.{addressed, addresses, isUnnamed, takesName}
-use Rattle.cluster.specs.Rules.Grounds.{writePending, roundBy}
+use Rattle.master_slave.specs.Rules.Slaves.{addressed, addresses, isUnnamed, takesName}
+use Rattle.cluster.specs.Rules.RoundGrounds.{writePending, roundBy}
 use Rattle.cluster.specs.Rules.Round.{roundGround, roundOn}
 use Rattle.cluster.specs.Rules.Summary.{Summary, without, kept, alike, wrongSummary, keptFor, roundKeepingGround, roundKeeping, fillGround, fillOn, nobody, at, firstFrom, holderIn}
 use Rattle.cluster.specs.Claims.Cases.{dataRound}
@@ -31,9 +31,13 @@ use Rattle.cluster.proofs.Rounds.{buffer-decides, others-decide}
 use Rattle.cluster.proofs.Sent.{alone-round, alone-fits, round-fits}
 use Rattle.cluster.proofs.Renaming.{baptizing-renames}
 use Rattle.cluster.proofs.Keeping.{rounds-in-order, matched-ground, keeping-refused, keeping-accepted, still-matches-baptized}
-use Rattle.naming.specs.Rules.Run.{Position, fresh, runGrounds, namesGrounds, unfitName, unfitPosition, isExtra, nextRound, passRound, roundHere, onto}
-use Rattle.naming.specs.Rules.Run.{passOver, isNeedless, isFirst, isRepeated, roundAt, placeOf, askOrGive, giveOf, startGround}
-use Rattle.naming.specs.Rules.Rounds.{RunRound}
+use Rattle.naming.specs.Rules.Position.{Position, fresh}
+use Rattle.naming.specs.Rules.Run.{isExtra, nextRound, passRound, roundHere, onto}
+use Rattle.naming.specs.Rules.RunGrounds.{runGrounds, namesGrounds, unfitName, unfitPosition}
+use Rattle.naming.specs.Rules.Pass.{placeOf, askOrGive, giveOf}
+use Rattle.naming.specs.Rules.Run.{passOver, isNeedless, isFirst, isRepeated, roundAt}
+use Rattle.naming.specs.Rules.RunGrounds.{startGround}
+use Rattle.naming.specs.Rules.RunRounds.{RunRound}
 use Rattle.naming.specs.Rules.Step.{stepGround, stepOn, stepKeepingGround, stepKeeping}
 use Rattle.naming.specs.Rules.Account.{Call, step}
 use Rattle.naming.specs.Claims.Demand.{startOn, permitted, of-step}
@@ -133,7 +137,10 @@ baptized = oneSlave 0x22 1 0x10
 
 -- `unfolding baptized-accepted` below unfolds what stands here: a file's grounds
 baptized-accepted : fileGround baptized ≡ 0
-unfolding baptized oneSlave fileGround fileGroundAt fileGroundsAt firstOf both either wrongSize wrongMark wrongEdition wrongLength wrongHeader wrongPending noOperation broadcastRead allZero part numberOf offsetAt brokenLayout walkFile tableEnd walkSlaves andThen walkSlave goodTableEntry walkDirectory goodEntry fileSize endsAt lacksNeeded allHaveNeeded hasNeeded lastRecord decode widthOf decodeAt slavesAt slaveAt filesAt fileAt equalPhysicalNames hasRepeat isAmong physicalName bytesIn bytesAmong
+unfolding baptized oneSlave fileGround fileGroundAt fileGroundsAt firstOf both either wrongSize wrongMark wrongEdition wrongLength
+    wrongHeader wrongPending noOperation broadcastRead allZero part numberOf offsetAt brokenLayout walkFile tableEnd walkSlaves andThen
+    walkSlave goodTableEntry walkDirectory goodEntry fileSize endsAt lacksNeeded allHaveNeeded hasNeeded lastRecord decode widthOf decodeAt
+    slavesAt slaveAt filesAt fileAt equalPhysicalNames hasRepeat isAmong physicalName bytesIn bytesAmong
 baptized-accepted = refl
 
 -- ---- the filling from the file of M10, whose two slaves have no name: room for two and a byte more, for two, and for one
@@ -215,7 +222,8 @@ baptizes =
     }
 
 taken : map (nameAfter 0xFF) (decode baptized .slaves) ≡ 0x00 ∷ []
-unfolding baptized oneSlave decode widthOf decodeAt slavesAt slaveAt filesAt fileAt fileSize offsetAt part numberOf nameAfter takesName addressed addresses isAwake isUnnamed physicalName comparisonValue newLogicalName logicalName bytesIn bytesAmong both either
+unfolding baptized oneSlave decode widthOf decodeAt slavesAt slaveAt filesAt fileAt fileSize offsetAt part numberOf nameAfter takesName
+    addressed addresses isAwake isUnnamed physicalName comparisonValue newLogicalName logicalName bytesIn bytesAmong both either
 taken = refl
 
 names-after : namesOf (roundOn baptized dataRound answerBuffer .2) ≡ 0x00 ∷ []
@@ -269,7 +277,7 @@ nobody-renamed =
 -- ---- a step that baptizes: the last of a pass for name 1, its value found
 
 last-of-pass : Position
-last-of-pass = record { end = 0; index = 0; step = 199; value = 0x10; rounds = 136; comparisons = 65; high = 7; low = 0x10 }
+last-of-pass = record { end = 0; place = record { index = 0; step = 199; value = 0x10 }; counts = record { rounds = 136; comparisons = 65 }; halves = record { high = 7; low = 0x10 } }
 
 pass-fits : firstOf (runGrounds (1 ∷ []) last-of-pass) ≡ 0
 unfolding last-of-pass runGrounds namesGrounds firstOf unfitName unfitPosition hasRepeat isAmong both either

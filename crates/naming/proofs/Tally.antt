@@ -8,12 +8,13 @@ use native.Mathlib.Omega.{arith}
 use lib.Dec.{eqb}
 use borrow.Author.Tests.{eqb-true, eqb-false, eq-eqb, ne-eqb}
 use Rattle.file.specs.Rules.Order.{both}
-use Rattle.file.specs.Rules.Grounds.{isAmong}
+use Rattle.file.specs.Rules.FileGrounds.{isAmong}
 use Rattle.file.proofs.Order.{byCase, clash, both-left, both-right, both-true, either-false-left, either-false-right}
 use Rattle.naming.specs.Rules.Account.{Named, Account, endWith, give, passOn, extra, oneRound, comparisonsAfter, highAgain, namingRounds, namingComparisons, endingRounds, endingComparisons}
 use Rattle.naming.specs.Rules.Figures.{freeNames, givings, nameGiven, renamed}
 use Rattle.naming.proofs.Facts.{Falling, fall-first, fall-others, not-among}
-use Rattle.naming.proofs.Rounds.{account, goes-on, taken-round, giving-round, ending-round}
+use Rattle.naming.proofs.PassCount.{counted-after}
+use Rattle.naming.proofs.AccountRounds.{account, goes-on, taken-round, giving-round, ending-round}
 
 -- the rounds and comparisons of the passes from here on
 unfoldable pub due : List ℕ → List ℕ → List ℕ → ℕ
@@ -125,8 +126,11 @@ module _ (n : ℕ) (ns held : List ℕ) (t : isAmong n held ≡ true) where
 
 -- a pass that has made no round has made no comparison
 pub none-compared : (e : ℕ) → comparisonsAfter e 0 ≡ 0
-unfolding comparisonsAfter
-none-compared e = omega arith
+none-compared e = counted-after e 0 ∙ omega arith
+
+-- the pass that ends the run has made the comparison with 0
+pub one-compared : (e : ℕ) → comparisonsAfter e endingRounds ≡ endingComparisons
+one-compared e = counted-after e endingRounds ∙ omega arith
 
 pass-positive : (b : Bool) (ws : List ℕ) → 0 < length-of-pass b ws
 unfolding length-of-pass
@@ -194,12 +198,12 @@ module _ (R C : ℕ) (F : List Named) where
   ending-pass :
       (n : ℕ) (ns : List ℕ) (slaves : List Named) (held : List ℕ) (rounds done k : ℕ) → extraLeft rounds ≡ 0 → Due R C F n ns [] slaves held rounds done k →
       isAmong n held ≡ false → suc k ≡ endingRounds → Tally R C F (account (n ∷ ns) [] slaves held 1 (suc rounds) done (suc k))
-  unfolding due dueComparisons finally givings comparisonsAfter highAgain
+  unfolding due dueComparisons finally givings
   ending-pass n ns slaves held rounds done k made d f e =
       let r : extraLeft rounds + rounds + endingRounds ≡ R + k = rw f at (d .all) in
       let c : done + endingComparisons ≡ C = rw f at (d .comparisons) in
       let g : Done R C F [] slaves 1 (suc rounds) done (suc k) =
-      record { all = omega arith; some = omega arith; comparisons = rw e c; names = sym (all-stay slaves) ∙ d .names } in
+      record { all = omega arith; some = omega arith; comparisons = rw (e, one-compared (highAgain [])) c; names = sym (all-stay slaves) ∙ d .names } in
       ended g
 
   free-pass :

@@ -11,8 +11,8 @@ use lib.Dec.{ltb}
 use lib.Pow.{pow-pos, pow-lt, pow-add, shl-shr, shr-shr, high}
 use borrow.Author.Tests.{lt-ltb, ltb-true, ltb-false}
 use Rattle.file.proofs.Order.{byCase}
-use Rattle.naming.specs.Rules.Run.{bits}
-use Rattle.naming.specs.Rules.Rounds.{half}
+use Rattle.naming.specs.Rules.Pass.{bits}
+use Rattle.naming.specs.Rules.RunRounds.{half}
 use Rattle.naming.specs.Rules.Account.{bitClear}
 use Rattle.naming.proofs.Search.{cleared}
 

@@ -13,14 +13,15 @@ use Rattle.file.specs.Rules.Order.{firstOf, both, either}
 use Rattle.file.specs.Rules.Cluster.{unnamed}
 use Rattle.file.specs.Rules.Decode.{decode}
 use Rattle.file.specs.Rules.Legal.{Distinct}
-use Rattle.file.specs.Rules.Grounds.{isAmong, hasRepeat, fileGround}
+use Rattle.file.specs.Rules.FileGrounds.{isAmong, hasRepeat, fileGround}
 use Rattle.file.proofs.Order.{byCase, clash, either-false, either-false-left, either-false-right, both-false-right}
 use Rattle.file.proofs.Accepted.{accepted-legal}
 use Rattle.file.proofs.Bytes.{all-append, all-map}
-use Rattle.cluster.specs.Rules.Grounds.{shortAnswer}
-use Rattle.cluster.specs.Rules.Bus.{slots}
+use Rattle.cluster.specs.Rules.RoundGrounds.{shortAnswer}
+use Rattle.master_slave.specs.Rules.Bus.{slots}
 use Rattle.cluster.specs.Rules.Summary.{without, wrongSummary}
-use Rattle.naming.specs.Rules.Run.{Position, fresh, unfitName, namesGrounds, startGround}
+use Rattle.naming.specs.Rules.Position.{Position, fresh}
+use Rattle.naming.specs.Rules.RunGrounds.{unfitName, namesGrounds, startGround}
 use Rattle.naming.specs.Rules.Account.{Named, Account, Call, step, frame, argumentsGround, accountCall, accountAfter, accountOf}
 use Rattle.naming.specs.Rules.Account.{oneRound, extra, passOn, pass, freePass, passDone, goOn, give, falling, unnamedAmong}
 use Rattle.naming.specs.Rules.Account.{namesHeld, namesIn, namingRounds, endingRounds}
@@ -33,7 +34,7 @@ use Rattle.naming.proofs.Facts.{Falling, Falling.end as lowest, Falling
 use Rattle.naming.proofs.Facts.{not-among, among-here, among-next, drop-taken, give-physicals, give-greatest}
 use Rattle.naming.proofs.Sorted.{among-falling, falling-falls}
 use Rattle.naming.proofs.Start.{Slaves, Names, distinct-unnamed, start-facts}
-use Rattle.naming.proofs.Rounds.{account}
+use Rattle.naming.proofs.AccountRounds.{account}
 use Rattle.naming.proofs.Tally.{Tally, in-pass, ended, finally, no-names, all-stay, given-now, free-taken, tally-round, ended-stays}
 use Rattle.naming.proofs.Abstract.{tally-running}
 use Rattle.naming.proofs.Demand.{tally-start}

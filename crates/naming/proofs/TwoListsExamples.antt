@@ -12,11 +12,12 @@ use Rattle.file.specs.Rules.Order.{both, either}
 use Rattle.file.specs.Rules.Bytes.{Bytes, All, All.allEmpty, All.allNext as also, numberOf, part}
 use Rattle.file.specs.Rules.Cluster.{bytesAmong, bytesIn, physicalName, logicalName}
 use Rattle.file.specs.Rules.Decode.{decode, decodeAt, slavesAt, slaveAt, filesAt, fileAt, fileSize, offsetAt}
-use Rattle.file.specs.Rules.Grounds.{isAmong, fileGround}
+use Rattle.file.specs.Rules.FileGrounds.{isAmong, fileGround}
 use Rattle.file.proofs.Bytes.{all-first, all-append}
 use Rattle.file.proofs.BytesBelow.{allBelow, bytes-below}
 use Rattle.cluster.specs.Rules.Summary.{without}
-use Rattle.naming.specs.Rules.Run.{fresh, startGround}
+use Rattle.naming.specs.Rules.Position.{fresh}
+use Rattle.naming.specs.Rules.RunGrounds.{startGround}
 use Rattle.naming.specs.Rules.Account.{Named, Call, frame, accountCall, accountOf, bitClear, namingRounds, namesOf, namesIn, insert, falling, unnamedAmong, namesHeld}
 use Rattle.naming.specs.Rules.Figures.{takenNames, freeNames, beforeFree, takenTried, givings, nameGiven, renamed, namesAfter}
 use Rattle.naming.specs.Rules.Figures.{namingSum, extraFor, roundsFor, endFor, roundsForNobody, extraAgain}

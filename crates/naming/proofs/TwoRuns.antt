@@ -12,11 +12,12 @@ use Rattle.file.specs.Rules.Bytes.{Bytes, All, All.allEmpty, All.allNext as als
 use Rattle.file.specs.Rules.Order.{both}
 use Rattle.file.specs.Rules.Decode.{decode}
 use Rattle.file.specs.Rules.Legal.{Distinct}
-use Rattle.file.specs.Rules.Grounds.{isAmong, fileGround}
+use Rattle.file.specs.Rules.FileGrounds.{isAmong, fileGround}
 use Rattle.file.proofs.Order.{byCase, clash}
 use Rattle.file.proofs.Accepted.{accepted-legal}
 use Rattle.file.proofs.Bytes.{all-append, all-map}
-use Rattle.naming.specs.Rules.Run.{Position, allNamed, namesUsedUp, startGround}
+use Rattle.naming.specs.Rules.Position.{Position, allNamed, namesUsedUp}
+use Rattle.naming.specs.Rules.RunGrounds.{startGround}
 use Rattle.naming.specs.Rules.Account.{Named, Account, Call, step, frame, argumentsGround, accountCall, accountAfter, accountOf}
 use Rattle.naming.specs.Rules.Account.{endWith, oneRound, extra, passOn, pass, freePass, passDone, goOn, give, falling, unnamedAmong}
 use Rattle.naming.specs.Rules.Account.{namesHeld, namesIn, namingRounds, namingComparisons, endingRounds, endingComparisons}
@@ -27,7 +28,7 @@ use Rattle.naming.specs.Claims.TwoLists.{ToItsEnd, EndMark, SecondRun, S
 use Rattle.naming.proofs.Facts.{Facts, physicals, fall-first, not-among, drop-taken, give-physicals, give-greatest}
 use Rattle.naming.proofs.Sorted.{length-falling}
 use Rattle.naming.proofs.Start.{Slaves, Names, start-facts}
-use Rattle.naming.proofs.Rounds.{account}
+use Rattle.naming.proofs.AccountRounds.{account}
 use Rattle.naming.proofs.Tally.{due, dueComparisons, finally, extraDue, extraLeft, free-taken, due-taken, due-comparisons-taken}
 use Rattle.naming.proofs.Demand.{rounds-whole, comparisons-whole}
 use Rattle.naming.proofs.FromFile.{legal-slaves, accepted-names}
@@ -405,8 +406,8 @@ rounds-nobody ss names e =
 -- the figures of a run at its end, from these slaves over these names
 pub record Whole (ss : List Named) (names : List ℕ) (p : Position) : Type 0 where
   pub end : p .end ≡ endFor ss names
-  pub rounds : p .rounds ≡ roundsFor ss names
-  pub comparisons : p .comparisons ≡ comparisonsFor ss names
+  pub rounds : p .counts .rounds ≡ roundsFor ss names
+  pub comparisons : p .counts .comparisons ≡ comparisonsFor ss names
 
 pub second-run :
     {ss : List Named} {A B : List ℕ} → Slaves ss → Names A → Names B → {found : List Named} {second : Position} →

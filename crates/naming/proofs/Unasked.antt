@@ -10,13 +10,13 @@ use lib.Dec.{eqb}
 use borrow.Author.Tests.{eqb-true, eqb-false}
 use Rattle.file.specs.Rules.Order.{both}
 use Rattle.file.proofs.Order.{byCase}
-use Rattle.cluster.specs.Rules.Grounds.{roundBy}
+use Rattle.cluster.specs.Rules.RoundGrounds.{roundBy}
 use Rattle.cluster.specs.Rules.Round.{roundGround, roundOn}
 use Rattle.cluster.specs.Rules.Summary.{without, roundKeepingGround}
 use Rattle.cluster.specs.Claims.Summary.{Matches, givenNone}
 use Rattle.cluster.proofs.Rounds.{round-refused}
 use Rattle.cluster.proofs.Keeping.{matched-ground, keeping-refused, keeping-accepted, round-without}
-use Rattle.naming.specs.Rules.Run.{Position}
+use Rattle.naming.specs.Rules.Position.{Position}
 use Rattle.naming.specs.Rules.Step.{stepGround, stepOn, stepKeepingGround}
 use Rattle.naming.specs.Rules.Account.{StepArguments, FrameArguments, Call, step, frame}
 use Rattle.naming.specs.Claims.Demand.{State, halfwayAfter, callOn, permittedFrame, permittedCall, permitted, afterCalls}

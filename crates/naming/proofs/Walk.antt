@@ -8,9 +8,10 @@ use native.Mathlib.Omega.{arith}
 use lib.Dec.{eqb, ltb}
 use borrow.Author.Tests.{eqb-true, eqb-false, ltb-true, ltb-false}
 use Rattle.file.proofs.Order.{byCase}
-use Rattle.naming.specs.Rules.Run.{PassPlace, poll, ask, giveName, giveHigh, giveLow, baptize, least, bit, high, low, reply, bits}
-use Rattle.naming.specs.Rules.Rounds.{half}
+use Rattle.naming.specs.Rules.Pass.{PassPlace, poll, ask, giveName, giveHigh, giveLow, baptize, least, bit, high, low, reply, bits}
+use Rattle.naming.specs.Rules.RunRounds.{half}
 use Rattle.naming.specs.Rules.Account.{bitClear, highAgain, namingRounds, comparisonsAfter}
+use Rattle.naming.proofs.PassCount.{counted-after}
 use Rattle.naming.proofs.Places.{of-least, of-bit, Inner, LegalPlace, inner, at-poll, at-ask, at-name, at-high, at-low, at-baptize, afterBit, afterPlace, comparing}
 use Rattle.naming.proofs.Tries.{attempt, lastTry, upper-low, upper-high, lower-high, lower-low, middle-high, middle-low, given-low}
 
@@ -75,23 +76,20 @@ module _ (e z : ℕ) (one : e ≤ 1) (single : z ≤ 1) where
 
   -- the comparisons that the account counts are those made
   count-upper : (c k : ℕ) → c ≤ 31 → 4 + 2 * c ≤ k → k ≤ 5 + 2 * c → comparisonsAfter e k ≡ 1 + c
-  unfolding comparisonsAfter
   count-upper c k h l m =
       let first : min k 68 ≡ k = omega arith in
       let made : (k - 2) / 2 ≡ 1 + c = omega arith in
       let later : (k - 68 - e) / 2 ≡ 0 = omega arith in
-      rw (first, made, later) (omega arith)
+      counted-after e k ∙ rw (first, made, later) (omega arith)
 
   count-middle : comparisonsAfter e 68 ≡ 33
-  unfolding comparisonsAfter
-  count-middle = omega arith
+  count-middle = counted-after e 68 ∙ omega arith
 
   count-lower : (c k : ℕ) → c ≤ 31 → 68 + e + 2 * c ≤ k → k ≤ 69 + e + 2 * c → comparisonsAfter e k ≡ 33 + c
-  unfolding comparisonsAfter
   count-lower c k h l m =
       let first : min k 68 ≡ 68 = omega arith in
       let later : (k - 68 - e) / 2 ≡ c = omega arith in
-      rw (first, later) (omega arith)
+      counted-after e k ∙ rw (first, later) (omega arith)
 
   lower-bit : (b c k : ℕ) → b + c ≡ 31 → 4 + 2 * (63 - b) + e ≤ k → k ≤ 5 + 2 * (63 - b) + e → comparisonsAfter e k ≡ 64 - b
   lower-bit b c k is l m =
@@ -174,15 +172,14 @@ module _ (e z : ℕ) (one : e ≤ 1) (single : z ≤ 1) where
       upper-bit b (63 - b) k (whole b 63 (below-last b h)) (few b upper) (plain k (4 + 2 * (63 - b)) least) (plain′ k (5 + 2 * (63 - b)) most))
 
   count-give : (k : ℕ) → 132 + e ≤ k → comparisonsAfter e k ≡ 65
-  unfolding comparisonsAfter
-  count-give k h = omega arith
+  count-give k h = counted-after e k ∙ omega arith
 
   pub past-count : {l : PassPlace} → LegalPlace l → comparisonsAfter e (past l e z) ≡ compared l
   unfolding past compared
-  past-count (inner at-poll) = unfold comparisonsAfter in omega arith
-  past-count (inner (at-ask high of-least)) = unfold comparisonsAfter in omega arith
-  past-count (inner (at-ask low of-least)) = unfold comparisonsAfter in omega arith
-  past-count (inner (at-ask reply of-least)) = unfold comparisonsAfter in omega arith
+  past-count (inner at-poll) = counted-after e _ ∙ omega arith
+  past-count (inner (at-ask high of-least)) = counted-after e _ ∙ omega arith
+  past-count (inner (at-ask low of-least)) = counted-after e _ ∙ omega arith
+  past-count (inner (at-ask reply of-least)) = counted-after e _ ∙ omega arith
   past-count (inner (at-ask high (of-bit {b = b} h))) = count-bit b _ h (omega arith) (omega arith)
   past-count (inner (at-ask low (of-bit {b = b} h))) = count-bit b _ h (omega arith) (omega arith)
   past-count (inner (at-ask reply (of-bit {b = b} h))) = count-bit b _ h (omega arith) (omega arith)

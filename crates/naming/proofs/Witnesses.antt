@@ -13,23 +13,24 @@ use Rattle.file.specs.Rules.Results.{done}
 use Rattle.file.specs.Rules.Bytes.{Bytes, All, allEmpty, allNext, numberOf, part, allZero}
 use Rattle.file.specs.Rules.Cluster.{isAwake, noOperation, broadcastRead, bytesAmong, bytesIn, lastRecord, hasRecord, recordOf, physicalName, logicalName, comparisonValue}
 use Rattle.file.specs.Rules.Decode.{decode, decodeAt, slavesAt, slaveAt, filesAt, fileAt, fileSize, offsetAt}
-use Rattle.file.specs.Rules.Grounds.{isAmong, hasRepeat, fileGrounds, fileGround, fileGroundAt, fileGroundsAt, wrongSize, wrongMark, wrongEdition}
-use Rattle.file.specs.Rules.Grounds.{wrongLength, wrongHeader, wrongPending, brokenLayout, walkFile, tableEnd, walkSlaves, andThen, walkSlave, goodTableEntry}
-use Rattle.file.specs.Rules.Grounds.{walkDirectory, goodEntry, endsAt, lacksNeeded, allHaveNeeded, hasNeeded, equalPhysicalNames}
+use Rattle.file.specs.Rules.FileGrounds.{isAmong, hasRepeat, fileGrounds, fileGround, fileGroundAt, fileGroundsAt, wrongSize, wrongMark, wrongEdition}
+use Rattle.file.specs.Rules.FileGrounds.{wrongLength, wrongHeader, wrongPending, brokenLayout, walkFile, tableEnd, walkSlaves, andThen, walkSlave, goodTableEntry}
+use Rattle.file.specs.Rules.FileGrounds.{walkDirectory, goodEntry, endsAt, lacksNeeded, allHaveNeeded, hasNeeded, equalPhysicalNames}
 use Rattle.frame.specs.Rules.Check.{exclusiveOr, checkOf}
 use Rattle.frame.specs.Rules.Fireworks.{dataFirework, roundOf, roundIn}
-use Rattle.frame.specs.Rules.Grounds as frames
-use Rattle.cluster.specs.Rules.Bus.{joined, busByte, slotBytes, answerBytes, answerIn, nobody}
-use Rattle.cluster.specs.Rules.Slaves.{isUnnamed, addresses, addressed, executionOf, dutyBy, pendingDuty, answersRead}
-use Rattle.cluster.specs.Rules.Grounds.{shortAnswer, roundBy, writePending, groundsOn}
-use Rattle.cluster.specs.Inner.Grounds.{noFirework, lengthFor, wrongLengthOn, wrongCheckOn, noOperationOn, broadcastReadOn, frameGround}
+use Rattle.frame.specs.Rules.FrameGrounds as frames
+use Rattle.master_slave.specs.Rules.Bus.{joined, busByte, slotBytes, answerBytes, answerIn, nobody}
+use Rattle.master_slave.specs.Rules.Slaves.{isUnnamed, addresses, addressed, executionOf, dutyBy, pendingDuty, answersRead}
+use Rattle.cluster.specs.Rules.RoundGrounds.{shortAnswer, roundBy, writePending, groundsOn}
+use Rattle.cluster.specs.Inner.EachGround.{noFirework, lengthFor, wrongLengthOn, wrongCheckOn, noOperationOn, broadcastReadOn, frameGround}
 use Rattle.cluster.specs.Rules.Round.{roundGround, roundOn}
 use Rattle.cluster.specs.Rules.Summary.{without, wrongSummary}
 use Rattle.cluster.specs.Claims.Cases.{dataRound}
 use Rattle.cluster.proofs.Cases as rounds
 use Rattle.cluster.specs.Claims.Sleep.{AllAwake}
 use Rattle.cluster.proofs.Rounds.{others-decide}
-use Rattle.naming.specs.Rules.Run.{fresh, endAt, startGround, runGrounds, namesGrounds, unfitName, unfitPosition}
+use Rattle.naming.specs.Rules.Position.{fresh, endAt}
+use Rattle.naming.specs.Rules.RunGrounds.{startGround, runGrounds, namesGrounds, unfitName, unfitPosition}
 use Rattle.naming.specs.Rules.Step.{stepGround, stepKeepingGround, stepKeeping}
 use Rattle.naming.specs.Rules.Account.{Call, bitClear, namingRounds, namesOf, namesIn, namesHeld, unnamedAmong, insert, falling, endWith, accountOf}
 use Rattle.naming.specs.Rules.Account.{goOn, freePass, pass, passOn, extra, oneRound, argumentsGround, accountCall, accountAfter}
@@ -46,7 +47,12 @@ use Rattle.naming.proofs.Sleep.{step-wakes, stays-awake, counted-awake}
 
 -- `unfolding m6` below unfolds what stands here: a file's, buffer's and frame's grounds, and what the file holds
 pub m6 : roundOn m6File dataRound answerBuffer .0 ≡ done 2
-unfolding m6File oneSlave fileGround fileGroundAt fileGroundsAt firstOf both either wrongSize wrongMark wrongEdition wrongLength wrongHeader wrongPending noOperation broadcastRead allZero part numberOf offsetAt brokenLayout walkFile tableEnd walkSlaves andThen walkSlave goodTableEntry walkDirectory goodEntry fileSize endsAt lacksNeeded allHaveNeeded hasNeeded lastRecord decode widthOf decodeAt slavesAt slaveAt filesAt fileAt equalPhysicalNames hasRepeat isAmong physicalName bytesIn bytesAmong roundGround fileGrounds shortAnswer frameGround groundsOn roundBy roundOf roundIn noFirework wrongLengthOn lengthFor writePending frames.wrongFrameLength wrongCheckOn noOperationOn broadcastReadOn pendingDuty dutyBy executionOf isAwake isUnnamed logicalName comparisonValue
+unfolding m6File oneSlave fileGround fileGroundAt fileGroundsAt firstOf both either wrongSize wrongMark wrongEdition wrongLength wrongHeader
+    wrongPending noOperation broadcastRead allZero part numberOf offsetAt brokenLayout walkFile tableEnd walkSlaves andThen walkSlave
+    goodTableEntry walkDirectory goodEntry fileSize endsAt lacksNeeded allHaveNeeded hasNeeded lastRecord decode widthOf decodeAt slavesAt
+    slaveAt filesAt fileAt equalPhysicalNames hasRepeat isAmong physicalName bytesIn bytesAmong roundGround fileGrounds shortAnswer
+    frameGround groundsOn roundBy roundOf roundIn noFirework wrongLengthOn lengthFor writePending frames.wrongFrameLength wrongCheckOn
+    noOperationOn broadcastReadOn pendingDuty dutyBy executionOf isAwake isUnnamed logicalName comparisonValue
 m6 = rounds.m6 m6File answerBuffer refl refl (slaveAt 2 m6File 16) refl refl refl refl
 
 pub m7 : roundOn m7File dataRound answerBuffer .0 ≡ done 0
@@ -131,12 +137,13 @@ sleeper-stays-awake =
     (byFirst (wakesByStep first-accepted (unfold fresh endAt in refl)))
 
 -- the run then counts two rounds
-pub two-counted : afterCalls (5 ∷ []) (startOn sleeper) (fresh (5 ∷ [])) two-steps .1 .rounds ≡ 2
-unfolding m6 sleeper two-steps namesIn namesOf accountOf unnamedAmong namesHeld falling insert endWith accountAfter accountCall argumentsGround wrongSummary oneRound extra passOn pass freePass namingRounds bitClear goOn
+pub two-counted : afterCalls (5 ∷ []) (startOn sleeper) (fresh (5 ∷ [])) two-steps .1 .counts .rounds ≡ 2
+unfolding m6 sleeper two-steps namesIn namesOf accountOf unnamedAmong namesHeld falling insert endWith accountAfter accountCall
+    argumentsGround wrongSummary oneRound extra passOn pass freePass namingRounds bitClear goOn
 two-counted = sleeper-demand .rounds
 
 sleeper-counted : AllAwake (afterCalls (5 ∷ []) (startOn sleeper) (fresh (5 ∷ [])) two-steps .0 .file)
 unfolding two-steps
 sleeper-counted =
     counted-awake sleeper sleeper-bytes sleeper-accepted (5 ∷ []) one-name one-name-accepted two-steps [] steps-bytes steps-may
-    (λ (z : afterCalls (5 ∷ []) (startOn sleeper) (fresh (5 ∷ [])) two-steps .1 .rounds ≡ 0). omega (arith, two-counted, z))
+    (λ (z : afterCalls (5 ∷ []) (startOn sleeper) (fresh (5 ∷ [])) two-steps .1 .counts .rounds ≡ 0). omega (arith, two-counted, z))

@@ -13,16 +13,16 @@ use Rattle.file.specs.Rules.Results.{Result, done}
 use Rattle.file.specs.Rules.Bytes.{Bytes, numberOf, part, allZero}
 use Rattle.file.specs.Rules.Cluster.{isAwake, noOperation, broadcastRead, bytesAmong, bytesIn, lastRecord, hasRecord, recordOf, physicalName, logicalName, pb2Of, executeOperation}
 use Rattle.file.specs.Rules.Decode.{decode, decodeAt, slavesAt, slaveAt, filesAt, fileAt, fileSize, offsetAt}
-use Rattle.file.specs.Rules.Grounds.{isAmong, hasRepeat, fileGround, fileGroundAt, fileGroundsAt, wrongSize, wrongMark, wrongEdition, wrongLength}
-use Rattle.file.specs.Rules.Grounds.{wrongHeader, wrongPending, brokenLayout, walkFile, tableEnd, walkSlaves, andThen, walkSlave, goodTableEntry}
-use Rattle.file.specs.Rules.Grounds.{walkDirectory, goodEntry, endsAt, lacksNeeded, allHaveNeeded, hasNeeded, equalPhysicalNames}
+use Rattle.file.specs.Rules.FileGrounds.{isAmong, hasRepeat, fileGround, fileGroundAt, fileGroundsAt, wrongSize, wrongMark, wrongEdition, wrongLength}
+use Rattle.file.specs.Rules.FileGrounds.{wrongHeader, wrongPending, brokenLayout, walkFile, tableEnd, walkSlaves, andThen, walkSlave, goodTableEntry}
+use Rattle.file.specs.Rules.FileGrounds.{walkDirectory, goodEntry, endsAt, lacksNeeded, allHaveNeeded, hasNeeded, equalPhysicalNames}
 use Rattle.frame.specs.Rules.Check.{dataCheck, checkOf, exclusiveOr}
 use Rattle.frame.specs.Rules.Frames.{frameSize, frameOf, dataFrame}
 use Rattle.frame.specs.Rules.Writing.{writeAddress, writeData}
 use Rattle.frame.specs.Claims.Cases.{sixZeros}
 use Rattle.frame.proofs.RoundTrip.{frame-cases}
-use Rattle.cluster.specs.Rules.Slaves.{writing, dutyBy, pendingDuty, addresses, addressed}
-use Rattle.cluster.specs.Rules.Grounds.{writePending}
+use Rattle.master_slave.specs.Rules.Slaves.{writing, dutyBy, pendingDuty, addresses, addressed}
+use Rattle.cluster.specs.Rules.RoundGrounds.{writePending}
 use Rattle.cluster.specs.Rules.Round.{roundOn}
 use Rattle.cluster.specs.Claims.Written.{SameAddress}
 use Rattle.cluster.specs.Claims.Writes.{slaveIn, WriteReaches, Holds}
@@ -50,7 +50,10 @@ halfWrite : List ℕ
 halfWrite = oneSlave 0x21 2 0x10
 
 name-accepted : fileGround nameWrite ≡ 0
-unfolding nameWrite oneSlave fileGround fileGroundAt fileGroundsAt firstOf both either wrongSize wrongMark wrongEdition wrongLength wrongHeader wrongPending noOperation broadcastRead allZero part numberOf offsetAt brokenLayout walkFile tableEnd walkSlaves andThen walkSlave goodTableEntry walkDirectory goodEntry fileSize endsAt lacksNeeded allHaveNeeded hasNeeded lastRecord decode widthOf decodeAt slavesAt slaveAt filesAt fileAt equalPhysicalNames hasRepeat isAmong physicalName bytesIn bytesAmong
+unfolding nameWrite oneSlave fileGround fileGroundAt fileGroundsAt firstOf both either wrongSize wrongMark wrongEdition wrongLength
+    wrongHeader wrongPending noOperation broadcastRead allZero part numberOf offsetAt brokenLayout walkFile tableEnd walkSlaves andThen
+    walkSlave goodTableEntry walkDirectory goodEntry fileSize endsAt lacksNeeded allHaveNeeded hasNeeded lastRecord decode widthOf decodeAt
+    slavesAt slaveAt filesAt fileAt equalPhysicalNames hasRepeat isAmong physicalName bytesIn bytesAmong
 name-accepted = refl
 
 half-accepted : fileGround halfWrite ≡ 0

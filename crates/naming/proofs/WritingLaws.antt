@@ -11,14 +11,17 @@ use borrow.Author.Tests.{eq-eqb, ne-eqb, ltb-true, ltb-false, eqb-true, eqb-fals
 use lib.Dec.{ltb, eqb}
 use lib.ListN.{getD}
 use Rattle.file.proofs.Order.{byCase}
-use Rattle.naming.specs.Rules.Rounds.{half, comparisonRounds}
-use Rattle.naming.specs.Rules.Run.{Position, PassPlace, poll, giveName, giveHigh, giveLow, baptize, high, low, reply, questionOf, partOf, tried, ask}
-use Rattle.naming.specs.Rules.Run.{placeOf, giveOf, giveStep, lastStep, isNeedless, atStep, passOver, onto, roundAt, roundHere, wrote, onward, nextName}
+use Rattle.naming.specs.Rules.RunRounds.{half, comparisonRounds}
+use Rattle.naming.specs.Rules.Position.{Position}
+use Rattle.naming.specs.Rules.Pass.{PassPlace, poll, giveName, giveHigh, giveLow, baptize, high, low, reply, questionOf, partOf, ask}
+use Rattle.naming.specs.Rules.Run.{tried}
+use Rattle.naming.specs.Rules.Pass.{placeOf, giveOf, giveStep, lastStep}
+use Rattle.naming.specs.Rules.Run.{isNeedless, atStep, passOver, onto, roundAt, roundHere, wrote, onward, nextName}
 use Rattle.naming.specs.Rules.Run.{endAllNamed, moveOn}
-use Rattle.naming.specs.declared.position.Reply.{Reply}
-use Rattle.naming.specs.declared.position.Reply.the-variants as replies
-use Rattle.naming.specs.Inner.Answers.{heard, FitCounts, partAt, valueAt, WritesAt, NeedlessFrom, Settled, Stands, Wrote, Asks, Advances, Writes}
-use Rattle.naming.proofs.PositionLaws.{place-ask, place-give, part-poll, part-asked, part-low, part-none, value-poll, value-asked, value-given}
+use Rattle.naming.specs.declared.advance.Reply.{Reply}
+use Rattle.naming.specs.declared.advance.Reply.the-variants as replies
+use Rattle.naming.specs.Inner.StepAnswers.{heard, FitCounts, partAt, valueAt, WritesAt, NeedlessFrom, Settled, Stands, Wrote, Asks, Advances, Writes}
+use Rattle.naming.proofs.PositionLaws.{place-ask, place-give, give-last, part-poll, part-asked, part-low, part-none, value-poll, value-asked, value-given}
 use Rattle.naming.proofs.PositionLaws.{third-part, NeedlessAt, needless-early, needless-high, needless-low, needless-none, stays, last-place}
 use Rattle.naming.proofs.PositionLaws.{first-place, wrote-none, wrote-fits, wrote-step, wrote-value}
 
@@ -95,7 +98,7 @@ module _ (v r x : ℕ) where
           halved = same ∙ value-given v (k + 1) (omega arith);
         };
       }
-  given-next k (suc (suc (suc j))) e is small same = absurd (no-half r small is)
+  given-next k (suc (suc (suc j))) e is small same = absurd (no-half r small (is ∙ ap partAt (give-last j)))
 
   pub next-writes : (k : ℕ) → WritesAt k v r x → r < 2 → Follows k v r x 1
   next-writes k w small =
@@ -128,19 +131,19 @@ follows k v r x (suc n) inside w few =
 
 -- ---- how many needless writes follow one another
 
-at-same : (p : Position) {k : ℕ} → k ≡ p .step → atStep k p ≡ p
+at-same : (p : Position) {k : ℕ} → k ≡ p .place .step → atStep k p ≡ p
 unfolding atStep
 at-same p e = rw e
 
-at-one : (names : List ℕ) (p : Position) {k : ℕ} → k ≡ suc (p .step) → isNeedless names p ≡ true → isNeedless names (atStep k p) ≡ false → atStep k p ≡ onto names p
+at-one : (names : List ℕ) (p : Position) {k : ℕ} → k ≡ suc (p .place .step) → isNeedless names p ≡ true → isNeedless names (atStep k p) ≡ false → atStep k p ≡ onto names p
 unfolding onto passOver
 at-one names p e t f = sym (rw (t, ← e, f))
 
-at-two : (names : List ℕ) (p : Position) {k l : ℕ} → k ≡ suc (p .step) → l ≡ suc k → isNeedless names p ≡ true → isNeedless names (atStep k p) ≡ true → atStep l p ≡ onto names p
+at-two : (names : List ℕ) (p : Position) {k l : ℕ} → k ≡ suc (p .place .step) → l ≡ suc k → isNeedless names p ≡ true → isNeedless names (atStep k p) ≡ true → atStep l p ≡ onto names p
 unfolding onto passOver
 at-two names p {k} {l} e d t u = sym (rw (t, ← e, u) (unfold atStep in rw (← d)))
 
-module _ (p : Position) (inside : p .step ≤ lastStep) {r x : ℕ} (w : WritesAt (p .step) (p .value) r x) where
+module _ (p : Position) (inside : p .place .step ≤ lastStep) {r x : ℕ} (w : WritesAt (p .place .step) (p .place .value) r x) where
   none : NeedlessAt p false → NeedlessFrom p r 0
   none is =
       record {
@@ -148,84 +151,84 @@ module _ (p : Position) (inside : p .step ≤ lastStep) {r x : ℕ} (w : WritesA
         halves = omega (arith, w .few);
       }
 
-  pub none-early : p .step ≤ comparisonRounds → NeedlessFrom p r 0
+  pub none-early : p .place .step ≤ comparisonRounds → NeedlessFrom p r 0
   none-early h = none (needless-early p h)
 
-  module _ (late : comparisonRounds < p .step) where
-    pub none-high : r ≡ 0 → (x / half ≡ p .high → ⊥) → NeedlessFrom p r 0
-    none-high e n = none (λ names. sym (ne-eqb (x / half) (p .high) n) ∙ needless-high p late (w .which) (w .halved) e names)
+  module _ (late : comparisonRounds < p .place .step) where
+    pub none-high : r ≡ 0 → (x / half ≡ p .halves .high → ⊥) → NeedlessFrom p r 0
+    none-high e n = none (λ names. sym (ne-eqb (x / half) (p .halves .high) n) ∙ needless-high p late (w .which) (w .halved) e names)
 
-    pub none-low : r ≡ 1 → (x % half ≡ p .low → ⊥) → NeedlessFrom p r 0
-    none-low e n = none (λ names. sym (ne-eqb (x % half) (p .low) n) ∙ needless-low p late (w .which) (w .halved) e names)
+    pub none-low : r ≡ 1 → (x % half ≡ p .halves .low → ⊥) → NeedlessFrom p r 0
+    none-low e n = none (λ names. sym (ne-eqb (x % half) (p .halves .low) n) ∙ needless-low p late (w .which) (w .halved) e names)
 
     pub none-other : (r ≡ 0 → ⊥) → (r ≡ 1 → ⊥) → NeedlessFrom p r 0
     none-other m l = none (needless-none p late (w .which) (w .halved) m l)
 
     -- at the high half, and at the low one after it
-    high-needless : r ≡ 0 → x / half ≡ p .high → (names : List ℕ) → isNeedless names p ≡ true
-    high-needless e same names = sym (needless-high p late (w .which) (w .halved) e names) ∙ eq-eqb (x / half) (p .high) same
+    high-needless : r ≡ 0 → x / half ≡ p .halves .high → (names : List ℕ) → isNeedless names p ≡ true
+    high-needless e same names = sym (needless-high p late (w .which) (w .halved) e names) ∙ eq-eqb (x / half) (p .halves .high) same
 
-    low-after : r ≡ 0 → NeedlessAt (atStep (p .step + 1) p) (eqb (x % half) (p .low))
+    low-after : r ≡ 0 → NeedlessAt (atStep (p .place .step + 1) p) (eqb (x % half) (p .halves .low))
     unfolding atStep
     low-after e =
-        let next = next-writes (p .value) r x (p .step) w (omega arith) in
-        needless-low (atStep (p .step + 1) p) (omega arith) (next .writes .which) (next .writes .halved) (omega arith)
+        let next = next-writes (p .place .value) r x (p .place .step) w (omega arith) in
+        needless-low (atStep (p .place .step + 1) p) (omega arith) (next .writes .which) (next .writes .halved) (omega arith)
 
-    pub one-high : r ≡ 0 → x / half ≡ p .high → (x % half ≡ p .low → ⊥) → NeedlessFrom p r 1
+    pub one-high : r ≡ 0 → x / half ≡ p .halves .high → (x % half ≡ p .halves .low → ⊥) → NeedlessFrom p r 1
     one-high e same n =
         record {
-          settles = λ names. at-one names p (add-one _) (high-needless e same names) (sym (low-after e names) ∙ ne-eqb (x % half) (p .low) n);
+          settles = λ names. at-one names p (add-one _) (high-needless e same names) (sym (low-after e names) ∙ ne-eqb (x % half) (p .halves .low) n);
           halves = omega arith;
         }
 
-    pub two-high : r ≡ 0 → x / half ≡ p .high → x % half ≡ p .low → NeedlessFrom p r 2
+    pub two-high : r ≡ 0 → x / half ≡ p .halves .high → x % half ≡ p .halves .low → NeedlessFrom p r 2
     two-high e same too =
         record {
-          settles = λ names. at-two names p {k = p .step + 1} (add-one _) (omega arith) (high-needless e same names) (sym (low-after e names) ∙ eq-eqb (x % half) (p .low) too);
+          settles = λ names. at-two names p {k = p .place .step + 1} (add-one _) (omega arith) (high-needless e same names) (sym (low-after e names) ∙ eq-eqb (x % half) (p .halves .low) too);
           halves = omega arith;
         }
 
-    none-after : r ≡ 1 → NeedlessAt (atStep (p .step + 1) p) false
+    none-after : r ≡ 1 → NeedlessAt (atStep (p .place .step + 1) p) false
     unfolding atStep
     none-after e =
-        let next = next-writes (p .value) r x (p .step) w (omega arith) in
-        needless-none (atStep (p .step + 1) p) (omega arith) (next .writes .which) (next .writes .halved) (λ z. omega arith) (λ z. omega arith)
+        let next = next-writes (p .place .value) r x (p .place .step) w (omega arith) in
+        needless-none (atStep (p .place .step + 1) p) (omega arith) (next .writes .which) (next .writes .halved) (λ z. omega arith) (λ z. omega arith)
 
-    pub one-low : r ≡ 1 → x % half ≡ p .low → NeedlessFrom p r 1
+    pub one-low : r ≡ 1 → x % half ≡ p .halves .low → NeedlessFrom p r 1
     one-low e same =
         record {
           settles =
               λ names.
-              at-one names p (add-one _) (sym (needless-low p late (w .which) (w .halved) e names) ∙ eq-eqb (x % half) (p .low) same)
+              at-one names p (add-one _) (sym (needless-low p late (w .which) (w .halved) e names) ∙ eq-eqb (x % half) (p .halves .low) same)
               (sym (none-after e names));
           halves = omega arith;
         }
 
 -- past them
-module _ (p : Position) (inside : p .step ≤ lastStep) {r x n : ℕ} (w : WritesAt (p .step) (p .value) r x) (needless : NeedlessFrom p r n) where
-  pub passes-within : p .step + n ≤ lastStep
-  passes-within = follows (p .step) (p .value) r x n inside w (needless .halves) .inside
+module _ (p : Position) (inside : p .place .step ≤ lastStep) {r x n : ℕ} (w : WritesAt (p .place .step) (p .place .value) r x) (needless : NeedlessFrom p r n) where
+  pub passes-within : p .place .step + n ≤ lastStep
+  passes-within = follows (p .place .step) (p .place .value) r x n inside w (needless .halves) .inside
 
-  pub settles-at : {q : Position} → q ≡ atStep (p .step + n) p → Settled p q
+  pub settles-at : {q : Position} → q ≡ atStep (p .place .step + n) p → Settled p q
   settles-at is names = is ∙ needless .settles names
 
-  pub stands-at : {q : Position} → q ≡ atStep (p .step + n) p → Stands p q (r + n) x
+  pub stands-at : {q : Position} → q ≡ atStep (p .place .step + n) p → Stands p q (r + n) x
   unfolding atStep
   stands-at is =
-      let there = follows (p .step) (p .value) r x n inside w (needless .halves) in
+      let there = follows (p .place .step) (p .place .value) r x n inside w (needless .halves) in
       record { settled = settles-at is; place = rw is (there .inside); writes = rw is (there .writes) }
 
 -- ---- how a position moves on
 
 module _ (count : ℕ) (p : Position) where
-  give-quiet : (j : ℕ) (b : Bool) → j < 3 → onward p (p .value) 0 ≡ moveOn (giveOf j) count p b
+  give-quiet : (j : ℕ) (b : Bool) → j < 3 → onward p (p .place .value) 0 ≡ moveOn (giveOf j) count p b
   unfolding moveOn giveOf
   give-quiet zero b h = refl
   give-quiet (suc zero) b h = refl
   give-quiet (suc (suc zero)) b h = refl
   give-quiet (suc (suc (suc j))) b h = absurd (omega arith)
 
-  half-quiet : (l : PassPlace) (b : Bool) {r : ℕ} → partOf r ≡ partAt l → r < 2 → onward p (p .value) 0 ≡ moveOn l count p b
+  half-quiet : (l : PassPlace) (b : Bool) {r : ℕ} → partOf r ≡ partAt l → r < 2 → onward p (p .place .value) 0 ≡ moveOn l count p b
   unfolding moveOn partAt
   half-quiet poll b {r} e h = absurd (no-half r h e)
   half-quiet (ask q high) b e h = refl
@@ -246,7 +249,7 @@ module _ (count : ℕ) (p : Position) {r : Position} where
   unfolding moveOn
   moved-last b e is = is ∙ rw (last-place e)
 
-  pub moved-giving : {k : ℕ} (b : Bool) → giveStep ≤ k → (k ≡ lastStep → ⊥) → k ≤ lastStep → r ≡ onward p (p .value) 0 → r ≡ moveOn (placeOf k) count p b
+  pub moved-giving : {k : ℕ} (b : Bool) → giveStep ≤ k → (k ≡ lastStep → ⊥) → k ≤ lastStep → r ≡ onward p (p .place .value) 0 → r ≡ moveOn (placeOf k) count p b
   moved-giving {k} b h n l is = is ∙ rw (place-give k h) (give-quiet count p (k - giveStep) b (few k h n l))
     where
       few : (k : ℕ) → giveStep ≤ k → (k ≡ lastStep → ⊥) → k ≤ lastStep → k - giveStep < 3
@@ -263,7 +266,7 @@ module _ (count : ℕ) (p : Position) {r : Position} where
   unfolding moveOn heard
   polled-taken e is = rw e is
 
-  pub polled-free : {a : Reply} → a ≡ replies.Silence → r ≡ onward p (p .value) 0 → r ≡ moveOn poll count p (heard a)
+  pub polled-free : {a : Reply} → a ≡ replies.Silence → r ≡ onward p (p .place .value) 0 → r ≡ moveOn poll count p (heard a)
   unfolding moveOn heard
   polled-free e is = rw e is
 
@@ -281,17 +284,17 @@ module _ {k v x : ℕ} (asks : Asks k v x) where
   unfolding valueAt
   compared-value = rw executed at (asks .asked)
 
-heard-at : (count q : ℕ) (p : Position) → onward p (tried (questionOf q) (p .value)) 1 ≡ moveOn (ask (questionOf q) reply) count p true
+heard-at : (count q : ℕ) (p : Position) → onward p (tried (questionOf q) (p .place .value)) 1 ≡ moveOn (ask (questionOf q) reply) count p true
 unfolding moveOn questionOf
 heard-at count zero p = unfold tried in refl
 heard-at count (suc q) p = refl
 
-silent-at : (count q : ℕ) (p : Position) → 1 ≤ q → onward p (p .value) 1 ≡ moveOn (ask (questionOf q) reply) count p false
+silent-at : (count q : ℕ) (p : Position) → 1 ≤ q → onward p (p .place .value) 1 ≡ moveOn (ask (questionOf q) reply) count p false
 unfolding moveOn questionOf
 silent-at count zero p h = absurd (omega arith)
 silent-at count (suc q) p h = refl
 
-module _ (count : ℕ) (p : Position) {k x : ℕ} (asks : Asks k (p .value) x) {q : Position} {a : Reply} where
+module _ (count : ℕ) (p : Position) {k x : ℕ} (asks : Asks k (p .place .value) x) {q : Position} {a : Reply} where
   pub compared-heard : a ≡ replies.Heard → q ≡ onward p x 1 → q ≡ moveOn (placeOf k) count p (heard a)
   compared-heard e is = is ∙ rw (executed asks, compared-value asks, e) (unfold heard in heard-at count ((k - 1) / comparisonRounds) p)
 
@@ -299,7 +302,7 @@ module _ (count : ℕ) (p : Position) {k x : ℕ} (asks : Asks k (p .value) x) {
   unfolding moveOn heard
   compared-last e first is = is ∙ rw (first-place first, e)
 
-  pub compared-silent : a ≡ replies.Silence → (k ≡ comparisonRounds → ⊥) → q ≡ onward p (p .value) 1 → q ≡ moveOn (placeOf k) count p (heard a)
+  pub compared-silent : a ≡ replies.Silence → (k ≡ comparisonRounds → ⊥) → q ≡ onward p (p .place .value) 1 → q ≡ moveOn (placeOf k) count p (heard a)
   compared-silent e later is =
       let part = executes-part asks in
       let some = asks .some in
@@ -309,36 +312,39 @@ module _ (count : ℕ) (p : Position) {k x : ℕ} (asks : Asks k (p .value) x) {
 
 wrote-here : (names : List ℕ) (p : Position) {w : Position} → Wrote p w → w ≡ wrote (roundHere names p) p
 unfolding roundHere
-wrote-here names p is = is (getD names (p .index) 0)
+wrote-here names p is = is (getD names (p .place .index) 0)
 
 pub fits-wrote : (p : Position) {w : Position} → FitCounts p → Wrote p w → FitCounts w
-fits-wrote p fits is = rw (is 0) (wrote-fits (roundAt (placeOf (p .step)) 0 (p .value)) fits)
+fits-wrote p fits is = rw (is 0) (wrote-fits (roundAt (placeOf (p .place .step)) 0 (p .place .value)) fits)
 
-module _ (p : Position) {r x : ℕ} (w : WritesAt (p .step) (p .value) r x) where
-  module _ (halves : r < 2) {v n : Position} (written : Wrote p v) (on : n ≡ onward v (v .value) 0) where
+module _ (p : Position) {r x : ℕ} (w : WritesAt (p .place .step) (p .place .value) r x) where
+  module _ (halves : r < 2) {v n : Position} (written : Wrote p v) (on : n ≡ onward v (v .place .value) 0) where
     -- the next step, and what its round writes
-    stepped : n .step ≡ p .step + 1
+    stepped : n .place .step ≡ p .place .step + 1
     unfolding onward
-    stepped = rw (on, written 0) (ap suc (wrote-step (roundAt (placeOf (p .step)) 0 (p .value)) p) ∙ sym (add-one (p .step)))
+    stepped = rw (on, written 0) (ap suc (wrote-step (roundAt (placeOf (p .place .step)) 0 (p .place .value)) p) ∙ sym (add-one (p .place .step)))
 
-    same-value : n .value ≡ p .value
+    same-value : n .place .value ≡ p .place .value
     unfolding onward
-    same-value = rw (on, written 0) (wrote-value (roundAt (placeOf (p .step)) 0 (p .value)) p)
+    same-value = rw (on, written 0) (wrote-value (roundAt (placeOf (p .place .step)) 0 (p .place .value)) p)
 
-    pub written-within : n .step ≤ lastStep
-    written-within = omega (arith, stepped, next-writes (p .value) r x (p .step) w halves .inside)
+    pub written-within : n .place .step ≤ lastStep
+    written-within = omega (arith, stepped, next-writes (p .place .value) r x (p .place .step) w halves .inside)
 
-    pub written-next : WritesAt (n .step) (n .value) (r + 1) x
-    written-next = rw (stepped, same-value) (next-writes (p .value) r x (p .step) w halves .writes)
+    pub written-next : WritesAt (n .place .step) (n .place .value) (r + 1) x
+    written-next = rw (stepped, same-value) (next-writes (p .place .value) r x (p .place .step) w halves .writes)
 
     pub written-settled : {q : Position} → Settled n q → Writes p q
     written-settled settled count b names long =
-        settled names ∙ ap (onto names) (on ∙ half-quiet count v (placeOf (p .step)) b (w .which) halves ∙ ap (λ (z : Position). moveOn (placeOf (p .step)) count z b) (wrote-here names p written))
+        settled names
+        ∙ ap (onto names)
+        (on ∙ half-quiet count v (placeOf (p .place .step)) b (w .which) halves
+        ∙ ap (λ (z : Position). moveOn (placeOf (p .place .step)) count z b) (wrote-here names p written))
 
   pub advanced-written : (count : ℕ) (b : Bool) {q : Position} → Writes p q → Advances count p b q
   advanced-written count b is = is count b
 
-  pub advanced-moved : 2 ≤ r → (count : ℕ) (b : Bool) {v q : Position} {part whole : ℕ} → v ≡ moveOn (placeOf (p .step)) count p b → Stands v q part whole → Advances count p b q
+  pub advanced-moved : 2 ≤ r → (count : ℕ) (b : Bool) {v q : Position} {part whole : ℕ} → v ≡ moveOn (placeOf (p .place .step)) count p b → Stands v q part whole → Advances count p b q
   advanced-moved none count b is stands names long =
       let same = wrote-here names p (wrote-none p (w .which) (w .halved) (λ z. omega arith) (λ z. omega arith)) in
-      stands .settled names ∙ ap (onto names) (is ∙ ap (λ (z : Position). moveOn (placeOf (p .step)) count z b) same)
+      stands .settled names ∙ ap (onto names) (is ∙ ap (λ (z : Position). moveOn (placeOf (p .place .step)) count z b) same)

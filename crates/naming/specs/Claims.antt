@@ -12,7 +12,7 @@ pub mod Renaming
 pub mod Sleep
 pub mod Summary
 pub mod Edition
-pub mod Editions
+pub mod StepEditions
 pub mod Files
 pub mod Passes
 pub mod Cases

@@ -1,7 +1,7 @@
 // Grounds 15 and 16, of a list of names.
 ghost use mathlib.Core.Path.{_≡_};
 ghost use mathlib.Core.List.{[], _∷_};
-ghost use Rattle.naming.specs.Rules.Run.{unfitName, startGround};
+ghost use Rattle.naming.specs.Rules.RunGrounds.{unfitName, startGround};
 use file::held::NAME_VALUES;
 use file::types::LogicalName;
 use file::types::Refusal;

@@ -4,28 +4,28 @@ ghost use Prim.Native.Nat.{_<_};
 ghost use Rattle.file.specs.Rules.Order.{firstOf};
 ghost use Rattle.file.specs.Rules.Results.{done};
 ghost use Rattle.file.specs.Inner.Accepted.{Placed};
-ghost use Rattle.naming.specs.Rules.Run.{startOver, runGrounds};
+ghost use Rattle.naming.specs.Rules.RunGrounds.{startOver, runGrounds};
 ghost use Rattle.naming.specs.Rules.Step.{made, stepMade, stepOn};
-ghost use Rattle.naming.specs.Inner.Answers.{positionOf, startedOf, steppedOf, runAfter, StepGoes};
+ghost use Rattle.naming.specs.Inner.StepAnswers.{positionOf, startedOf, steppedOf, runAfter, StepGoes};
+use crate::advance::advanced;
 use crate::names::names_ground;
 use crate::position::RUNNING;
 use crate::position::RunPosition;
-use crate::position::advanced;
 use crate::position::count_raised;
 use crate::position::first_position;
 use crate::position::is_unfit;
-use crate::position::standing_at;
 use crate::sending::poll_round;
 use crate::sending::reply_in;
 use crate::sending::round_at;
-use cluster::answer::SLOTS;
-use cluster::master_slave::send;
+use crate::standing::standing_at;
+use cluster::sending::send;
 use file::survey::FileAnswer;
 use file::survey::survey;
 use file::types::LogicalName;
 use file::types::PLACES;
 use file::types::Refusal;
 use file::types::SlavePlaces;
+use master_slave::slots::SLOTS;
 
 pub enum Started {
     Refused(Refusal),
@@ -78,7 +78,7 @@ fn extra_step(
     names: &[u8],
     answer: &mut [u8],
 ) -> MadeStep
-    requires { ⌜ Placed (now file) (now places) × StepGoes (now names) (positionOf run) (now answer) × (run .rounds ≡ 0) ⌝ }
+    requires { ⌜ Placed (now file) (now places) × StepGoes (now names) (positionOf run) (now answer) × (run .counts .rounds ≡ 0) ⌝ }
     ensures { λ r. ⌜ (done (made (r .senders)), positionOf (r .run), now (answer .exit), now (file .exit)) ≡ stepMade (now (file .entry)) (positionOf run) (now (names .entry)) (now (answer .entry)) ⌝ }
 {
     let first = LogicalName::new(names[0]);
@@ -96,11 +96,11 @@ fn pass_step(
     names: &[u8],
     answer: &mut [u8],
 ) -> MadeStep
-    requires { ⌜ Placed (now file) (now places) × StepGoes (now names) (positionOf run) (now answer) × (0 < run .rounds) ⌝ }
+    requires { ⌜ Placed (now file) (now places) × StepGoes (now names) (positionOf run) (now answer) × (0 < run .counts .rounds) ⌝ }
     ensures { λ r. ⌜ (done (made (r .senders)), positionOf (r .run), now (answer .exit), now (file .exit)) ≡ stepMade (now (file .entry)) (positionOf run) (now (names .entry)) (now (answer .entry)) ⌝ }
 {
     let at = standing_at(run);
-    let index = at.run.index as usize;
+    let index = at.run.place.index as usize;
     let name = LogicalName::new(names[index]);
     let next = round_at(at, name);
     let senders = send(file, places, next, answer);
@@ -119,7 +119,7 @@ pub fn make_step(
     requires { ⌜ Placed (now file) (now places) × StepGoes (now names) (positionOf run) (now answer) ⌝ }
     ensures { λ r. ⌜ (done (made (r .senders)), positionOf (r .run), now (answer .exit), now (file .exit)) ≡ stepMade (now (file .entry)) (positionOf run) (now (names .entry)) (now (answer .entry)) ⌝ }
 {
-    if run.rounds == 0 {
+    if run.counts.rounds == 0 {
         return extra_step(file, places, run, names, answer);
     }
     pass_step(file, places, run, names, answer)

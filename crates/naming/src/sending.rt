@@ -7,25 +7,26 @@ ghost use Rattle.file.specs.Rules.Layout.{recordSize};
 ghost use Rattle.file.specs.Rules.Results.{done};
 ghost use Rattle.file.specs.Rules.Cluster.{writeOperation, executeOperation};
 ghost use Rattle.file.specs.Inner.Typed.{recordIn, nameIn};
-ghost use Rattle.naming.specs.Rules.Rounds.{half, poll, writeHigh, writeLow, sent, atUnnamed};
-ghost use Rattle.naming.specs.Rules.Run.{placeOf, reply, roundAt, lastStep};
+ghost use Rattle.naming.specs.Rules.RunRounds.{half, poll, writeHigh, writeLow, sent, atUnnamed};
+ghost use Rattle.naming.specs.Rules.Pass.{placeOf, reply, lastStep};
+ghost use Rattle.naming.specs.Rules.Run.{roundAt};
 ghost use Rattle.naming.specs.Rules.Step.{isReply};
-ghost use Rattle.naming.specs.Inner.Answers.{heard, Sends, partAt, WritesAt};
-use crate::position::BYTE;
-use crate::position::GIVE_NAME;
-use crate::position::HALF;
-use crate::position::HIGH;
-use crate::position::LAST_STEP;
-use crate::position::LOW;
-use crate::position::POLL;
-use crate::position::Reply;
-use crate::position::Standing;
-use cluster::answer::FIRST_SLOT;
-use cluster::types::MasterSlaveRound;
+ghost use Rattle.naming.specs.Inner.StepAnswers.{heard, Sends, partAt, WritesAt};
+use crate::advance::Reply;
+use crate::pass::BYTE;
+use crate::pass::GIVE_NAME;
+use crate::pass::HALF;
+use crate::pass::HIGH;
+use crate::pass::LAST_STEP;
+use crate::pass::LOW;
+use crate::pass::POLL;
+use crate::standing::Standing;
 use file::types::FileNumber;
 use file::types::LogicalName;
 use file::types::Operation;
 use file::types::RecordNumber;
+use master_slave::slots::FIRST_SLOT;
+use master_slave::types::MasterSlaveRound;
 
 // "a reply in slot 1".
 const REPLY_SLOT: u64 = FIRST_SLOT as u64;
@@ -121,8 +122,8 @@ fn other_round(step: u64, name: LogicalName) -> MasterSlaveRound
 
 // The round at a position that stands there, for a name.
 pub fn round_at(at: Standing, name: LogicalName) -> MasterSlaveRound
-    requires { ⌜ (at .run .step ≤ lastStep) × WritesAt (at .run .step) (at .run .value) (at .writing .part) (at .writing .value) ⌝ }
-    ensures { λ r. ⌜ Sends r (sent (roundAt (placeOf (at .run .step)) (nameIn name) (at .run .value))) ⌝ }
+    requires { ⌜ (at .run .place .step ≤ lastStep) × WritesAt (at .run .place .step) (at .run .place .value) (at .writing .part) (at .writing .value) ⌝ }
+    ensures { λ r. ⌜ Sends r (sent (roundAt (placeOf (at .run .place .step)) (nameIn name) (at .run .place .value))) ⌝ }
 {
     if at.writing.part == HIGH {
         return high_round(at.writing.value);
@@ -130,7 +131,7 @@ pub fn round_at(at: Standing, name: LogicalName) -> MasterSlaveRound
     if at.writing.part == LOW {
         return low_round(at.writing.value);
     }
-    other_round(at.run.step, name)
+    other_round(at.run.place.step, name)
 }
 
 // Whether someone sent in slot 1.

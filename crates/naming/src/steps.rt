@@ -3,24 +3,24 @@ ghost use mathlib.Core.Path.{_≡_};
 ghost use Prim.Native.Nat.{_+_, _≤_};
 ghost use lib.ListN.{length};
 ghost use Rattle.file.specs.Inner.Accepted.{Placed};
-ghost use Rattle.cluster.specs.Rules.Bus.{slots};
-ghost use Rattle.naming.specs.Rules.Run.{startGround};
+ghost use Rattle.master_slave.specs.Rules.Bus.{slots};
+ghost use Rattle.naming.specs.Rules.RunGrounds.{startGround};
 ghost use Rattle.naming.specs.Rules.Steps.{stepsOn};
-ghost use Rattle.naming.specs.Inner.Answers.{positionOf};
+ghost use Rattle.naming.specs.Inner.StepAnswers.{positionOf};
 ghost use Rattle.naming.specs.Inner.Steps.{stepsOf, runThen, stepsEnd, StepsMade};
-use crate::position::NO_STEP;
+use crate::pass::NO_STEP;
 use crate::position::RUNNING;
 use crate::position::RunPosition;
 use crate::position::is_unfit;
 use crate::run::make_step;
 use crate::run::run_ground;
-use cluster::answer::NOBODY;
-use cluster::answer::SLOTS;
 use file::survey::FileAnswer;
 use file::survey::survey;
 use file::types::PLACES;
 use file::types::Refusal;
 use file::types::SlavePlaces;
+use master_slave::slots::NOBODY;
+use master_slave::slots::SLOTS;
 
 // Steps that made their rounds: how many, the mask of the last one's data frame, 0 where none did, and the run.
 pub struct MadeSteps {
@@ -33,7 +33,7 @@ pub struct MadeSteps {
 fn is_over(names: &[u8], run: RunPosition, until: u64) -> bool
     ensures { λ r. ⌜ r ≡ stepsEnd (now (names .entry)) until (positionOf run) ⌝ }
 {
-    if run.step == until {
+    if run.place.step == until {
         return true;
     }
     if run.end != RUNNING {

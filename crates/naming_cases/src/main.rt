@@ -19,6 +19,9 @@ use case_input::fields::number_at;
 use case_input::show;
 use case_input::show::text;
 use cluster::round::round;
+use naming::position::RunCounts;
+use naming::position::RunHalves;
+use naming::position::RunPlace;
 use naming::position::RunPosition;
 use naming::run::Started;
 use naming::run::Stepped;
@@ -155,7 +158,7 @@ fn one_by_one(
     let mut run = start;
     while made < most {
         let answer = stepped(file, run, names, buffer);
-        if answer.run.rounds == run.rounds {
+        if answer.run.counts.rounds == run.counts.rounds {
             return SeveralSteps {
                 number: number_of(made, answer.number),
                 made,
@@ -179,13 +182,19 @@ fn one_by_one(
 fn position_at(case: &[u8]) -> RunPosition {
     RunPosition {
         end: number_at(case, 3),
-        index: number_at(case, 4),
-        step: number_at(case, 5),
-        value: number_at(case, 6),
-        rounds: number_at(case, 7),
-        comparisons: number_at(case, 8),
-        high: number_at(case, 9),
-        low: number_at(case, 10),
+        place: RunPlace {
+            index: number_at(case, 4),
+            step: number_at(case, 5),
+            value: number_at(case, 6),
+        },
+        counts: RunCounts {
+            rounds: number_at(case, 7),
+            comparisons: number_at(case, 8),
+        },
+        halves: RunHalves {
+            high: number_at(case, 9),
+            low: number_at(case, 10),
+        },
     }
 }
 
@@ -193,19 +202,19 @@ fn position(run: RunPosition, between: &[u8]) {
     text(b" ");
     show::decimal(run.end);
     text(between);
-    show::decimal(run.index);
+    show::decimal(run.place.index);
     text(between);
-    show::decimal(run.step);
+    show::decimal(run.place.step);
     text(between);
-    show::decimal(run.value);
+    show::decimal(run.place.value);
     text(between);
-    show::decimal(run.rounds);
+    show::decimal(run.counts.rounds);
     text(between);
-    show::decimal(run.comparisons);
+    show::decimal(run.counts.comparisons);
     text(between);
-    show::decimal(run.high);
+    show::decimal(run.halves.high);
     text(between);
-    show::decimal(run.low);
+    show::decimal(run.halves.low);
 }
 
 fn start_case(names: &[u8]) {

@@ -12,16 +12,16 @@ use Rattle.file.specs.Rules.Order.{both}
 use Rattle.file.specs.Rules.Cluster.{File, Slave, Cluster, bytesIn, logicalName}
 use Rattle.file.specs.Rules.Decode.{decode}
 use Rattle.file.specs.Rules.Changes.{withSleep}
-use Rattle.file.specs.Rules.Grounds.{fileGround}
+use Rattle.file.specs.Rules.FileGrounds.{fileGround}
 use Rattle.file.proofs.Order.{byCase}
-use Rattle.cluster.specs.Rules.Slaves.{isUnnamed}
-use Rattle.cluster.specs.Rules.Entries.{Entry, Acting, noEntry, acts, acting}
-use Rattle.cluster.specs.Rules.Multipartner.{within, sendPlace, plansFrom}
-use Rattle.cluster.specs.Rules.Bus.{slots}
+use Rattle.master_slave.specs.Rules.Slaves.{isUnnamed}
+use Rattle.multipartner.specs.Rules.Entries.{Entry, Acting, noEntry, acts, acting}
+use Rattle.multipartner.specs.Rules.Multipartner.{within, sendPlace, plansFrom}
+use Rattle.master_slave.specs.Rules.Bus.{slots}
 use Rattle.owner.specs.Rules.Plan.{rounds, isOwned, isMultiplexedReceive, sendsIn, sendersAmong, sendersIn, someBelow, twoSendIn, twoSend, someEntry}
 use Rattle.owner.specs.Rules.Plan.{someEntryOf, isMultiplexedSend, multiplexedSend}
 use Rattle.owner.specs.Rules.OwnerFile.{nameOf, ownerOf, lastOwned, ownersBelow, ownersOf, rowOf, rowsBelow, indexOf, indexBelow, ownerFile}
-use Rattle.owner.specs.Rules.Writing.{tooShort, ownerGround, ownerOn}
+use Rattle.owner.specs.Rules.OwnerWriting.{tooShort, ownerGround, ownerOn}
 use Rattle.owner.specs.Claims.Call.{filesOf, PlannedAwake}
 use Rattle.owner.proofs.Calls.{file-decides, after-file}
 

@@ -13,18 +13,18 @@ use Rattle.file.specs.Rules.Layout.{recordSize}
 use Rattle.file.specs.Rules.Results.{Result, refused, done, writtenIn}
 use Rattle.file.specs.Rules.Decode.{decode}
 use Rattle.file.specs.Rules.Changes.{withEpoch}
-use Rattle.file.specs.Rules.Grounds.{fileGround}
+use Rattle.file.specs.Rules.FileGrounds.{fileGround}
 use Rattle.file.proofs.Order.{byCase}
-use Rattle.cluster.specs.Rules.Bus.{slots}
+use Rattle.master_slave.specs.Rules.Bus.{slots}
 use Rattle.frame.specs.Rules.Fireworks.{multipartner}
-use Rattle.cluster.specs.Rules.Grounds.{roundBy}
+use Rattle.cluster.specs.Rules.RoundGrounds.{roundBy}
 use Rattle.cluster.specs.Rules.Round.{effectOf, frameOn, roundOn}
 use Rattle.cluster.specs.Claims.Sleep.{awakeAmong}
 use Rattle.cluster.proofs.Mask.{bits-are-senders}
 use Rattle.owner.specs.Rules.Plan.{rounds, isOwned, sendersIn, twoSend, multiplexedSend}
 use Rattle.owner.specs.Rules.OwnerFile.{rowOf, ownerOf, ownerFile}
-use Rattle.owner.specs.Rules.Writing.{ownerGround, ownerOn}
-use Rattle.owner.specs.Claims.Rounds.{sentAsRun, MaskAsPlanned, PlainMaskAsPlanned}
+use Rattle.owner.specs.Rules.OwnerWriting.{ownerGround, ownerOn}
+use Rattle.owner.specs.Claims.PlannedRounds.{sentAsRun, MaskAsPlanned, PlainMaskAsPlanned}
 use Rattle.owner.specs.Claims.Call.{BufferRuns, PlainBufferRuns}
 use Rattle.owner.proofs.Calls.{file-decides, multiplexed-decides, clash-decides, owner-refused, owner-written}
 use Rattle.owner.proofs.Runs.{no-length, count-as-planned, someone-sends, owners-run, plain-count-as-planned, plain-owners-run}

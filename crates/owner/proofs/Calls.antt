@@ -15,8 +15,8 @@ use Rattle.file.specs.Rules.Results.{refused, done, writtenIn}
 use Rattle.file.specs.Rules.Layout.{recordSize}
 use Rattle.file.specs.Rules.Cluster.{Slave}
 use Rattle.file.specs.Rules.Decode.{decode}
-use Rattle.file.specs.Rules.Grounds.{fileGrounds, fileGround}
-use Rattle.file.specs.Inner.Answers.{checkedOf}
+use Rattle.file.specs.Rules.FileGrounds.{fileGrounds, fileGround}
+use Rattle.file.specs.Inner.FileAnswers.{checkedOf}
 use Rattle.file.specs.Inner.Surveyed.{Surveyed}
 use Rattle.file.specs.declared.survey.FileAnswer.{FileAnswer}
 use Rattle.file.specs.declared.survey.FileAnswer.the-variants as answers
@@ -27,7 +27,7 @@ use Rattle.file.proofs.Surveyed.{survey-accepted, survey-refused}
 use Rattle.file.proofs.Edition.{unknown-edition, refused-edition}
 use Rattle.owner.specs.Rules.Plan.{rounds, twoSend, multiplexedSend}
 use Rattle.owner.specs.Rules.OwnerFile.{noOwner, rowsBelow, indexBelow, ownerFile}
-use Rattle.owner.specs.Rules.Writing.{tooShort, ownerGrounds, ownerGround, ownerOn}
+use Rattle.owner.specs.Rules.OwnerWriting.{tooShort, ownerGrounds, ownerGround, ownerOn}
 use Rattle.owner.specs.Claims.Call.{UnknownEdition}
 use Rattle.owner.specs.Inner.Planned.{RoundsWritten}
 use Rattle.owner.proofs.RowLaws.{head-room, rows-written}

@@ -8,25 +8,25 @@ use mathlib.Core.Bool.{Bool, true, false, not, _||_}
 use lib.ListN.{length, getD}
 use lib.Dec.{eqb, leb, ltb}
 use lib.Bits.{bitAnd, bitOr, bitXor}
-use borrow.Author.Tests.{eq-eqb, ne-eqb, eqb-true, eqb-false, le-leb, lt-leb, leb-true, leb-false, lt-ltb, le-ltb, ltb-true, ltb-false, not-true, not-false}
+use borrow.Author.Tests.{eq-eqb, ne-eqb, eqb-true, eqb-false, le-leb, lt-leb, leb-true, lt-ltb, le-ltb, ltb-true, ltb-false, not-true, not-false}
 use Rattle.file.specs.Rules.Order.{both, either}
 use Rattle.file.specs.Rules.Cluster.{Slave, Cluster, bytesIn}
 use Rattle.file.specs.Inner.Numbers.{ByteAt}
 use Rattle.file.specs.Inner.Places.{slaveOf}
 use Rattle.file.specs.Inner.Accepted.{findFile}
-use Rattle.file.specs.Inner.Answers.{foundFile}
-use Rattle.file.specs.declared.readers.FileBytes.{FileBytes}
-use Rattle.file.specs.declared.readers.FilePlace.{FilePlace}
-use Rattle.file.specs.declared.readers.FilePlace.the-variants.{Bytes, NoFile}
+use Rattle.file.specs.Inner.FileAnswers.{foundFile}
+use Rattle.file.specs.declared.records.FileBytes.{FileBytes}
+use Rattle.file.specs.declared.records.FilePlace.{FilePlace}
+use Rattle.file.specs.declared.records.FilePlace.the-variants.{Bytes, NoFile}
 use Rattle.file.proofs.Order.{byCase, clash, both-left, both-right, both-true, both-false-left, both-false-right, both-next, both-unless, either-left, either-next}
-use Rattle.cluster.specs.Rules.Bus.{slots}
-use Rattle.cluster.specs.Rules.Entries.{Entry, entryOf, entryThere, isMultiplexed, receives, covers, sends, ends, eligible, bytePlace}
-use Rattle.cluster.specs.Rules.Multipartner.{within}
-use Rattle.cluster.proofs.EntryLaws.{sends-deaf, multiplexed-either}
-use Rattle.cluster.proofs.SlotActLaws.{found-facts, missing-empty}
+use Rattle.master_slave.specs.Rules.Bus.{slots}
+use Rattle.multipartner.specs.Rules.Entries.{Entry, entryOf, entryThere, isMultiplexed, covers, sends, ends, eligible, bytePlace}
+use Rattle.multipartner.specs.Rules.Multipartner.{within}
+use Rattle.multipartner.proofs.EntryLaws.{sends-deaf, multiplexed-either}
+use Rattle.multipartner.proofs.SlotActLaws.{found-facts, missing-empty}
 use Rattle.owner.specs.Rules.Plan.{isMultiplexedReceive, isMultiplexedSend}
 use Rattle.owner.specs.Inner.Masks.{isSet, Marks, between}
-use Rattle.owner.specs.Inner.Entries.{kindAt, isSingle, Kept, wouldSend, hiddenWith, sendsWith, EntryTaken}
+use Rattle.owner.specs.Inner.OwnerEntries.{kindAt, isSingle, Kept, wouldSend, hiddenWith, sendsWith, EntryTaken}
 use Rattle.owner.proofs.MaskLaws.{or-either, either-false, both-all, set-none, set-or, set-and, set-free, one-shifted, one-bit}
 
 -- ---- an entry's byte tests

@@ -12,13 +12,13 @@ use Rattle.file.specs.Rules.Order.{both, either}
 use Rattle.file.specs.Rules.Bytes.{numberOf, part}
 use Rattle.file.specs.Rules.Cluster.{bytesAmong, bytesIn, lastRecord, logicalName}
 use Rattle.file.specs.Rules.Decode.{offsetAt, fileSize, fileAt, filesAt, slaveAt, slavesAt, decodeAt, decode}
-use Rattle.cluster.specs.Rules.Slaves.{isUnnamed}
-use Rattle.cluster.specs.Rules.Entries.{Entry, entryOf, entryThere, entryAt, isMultiplexed, receives, sends, ends, covers, eligible, actingFrom, acting, bytePlace}
-use Rattle.cluster.specs.Rules.Multipartner.{within, sendPlace, plansFrom}
+use Rattle.master_slave.specs.Rules.Slaves.{isUnnamed}
+use Rattle.multipartner.specs.Rules.Entries.{Entry, entryOf, entryThere, entryAt, isMultiplexed, receives, sends, ends, covers, eligible, actingFrom, acting, bytePlace}
+use Rattle.multipartner.specs.Rules.Multipartner.{within, sendPlace, plansFrom}
 use Rattle.owner.specs.Rules.Plan.{isOwned, isMultiplexedReceive, isThere, sendsIn, sendersAmong, sendersIn, someBelow, twoSendIn, twoSend}
 use Rattle.owner.specs.Rules.Plan.{someEntryFrom, someEntry, someEntryOf, isMultiplexedSend, multiplexedSend}
 use Rattle.owner.specs.Rules.OwnerFile.{nameOf, ownerOf, lastOwned, ownersBelow, ownersOf, padded, rowOf, rowsBelow, indexOf, indexBelow, ownerFile}
-use Rattle.owner.specs.Claims.Rounds.{mayReceive, Plain}
+use Rattle.owner.specs.Claims.PlannedRounds.{mayReceive, Plain}
 
 abbrev pub eight : List ℕ
 eight =
@@ -162,6 +162,29 @@ unfolding eight-named isUnnamed entryOf entryThere entryAt isMultiplexed receive
 eight-sends = refl
 
 pub examples : Examples
-unfolding eight-sends isOwned sendersAmong sendersIn someBelow twoSendIn twoSend nameOf ownerOf lastOwned ownersBelow ownersOf padded rowOf rowsBelow indexOf indexBelow ownerFile someEntryFrom someEntry someEntryOf isMultiplexedSend multiplexedSend mayReceive
+unfolding eight-sends isOwned sendersAmong sendersIn someBelow twoSendIn twoSend nameOf ownerOf lastOwned ownersBelow ownersOf padded rowOf rowsBelow
+    indexOf indexBelow ownerFile someEntryFrom someEntry someEntryOf isMultiplexedSend multiplexedSend mayReceive
 examples =
-    record { eightOwners = refl; hiddenOwners = refl; slot63Owners = refl; twoRoundsOwners = refl; eightOnce = refl; clashTwice = refl; roundOneAside = refl; passedOwners = refl; passedNone = refl; unseenOwners = refl; unseenNone = refl; roundOneNone = refl; roundOneThere = refl; outrankedSend = refl; outrankedTwice = refl; eightNone = refl; eightPlain = refl; passedNotPlain = refl; passedSends = refl; passedCovered = refl; passedFree = refl }
+    record {
+      eightOwners = refl;
+      hiddenOwners = refl;
+      slot63Owners = refl;
+      twoRoundsOwners = refl;
+      eightOnce = refl;
+      clashTwice = refl;
+      roundOneAside = refl;
+      passedOwners = refl;
+      passedNone = refl;
+      unseenOwners = refl;
+      unseenNone = refl;
+      roundOneNone = refl;
+      roundOneThere = refl;
+      outrankedSend = refl;
+      outrankedTwice = refl;
+      eightNone = refl;
+      eightPlain = refl;
+      passedNotPlain = refl;
+      passedSends = refl;
+      passedCovered = refl;
+      passedFree = refl;
+    }

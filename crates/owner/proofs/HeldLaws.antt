@@ -2,29 +2,29 @@
 -- Assumes nothing.
 use Prim.Native.Nat.{ℕ, _+_, _*_, _%_, _^_, _≤_, _<_}
 use native.Mathlib.Omega.{arith}
-use mathlib.Core.Path.{_≡_, refl, sym, ap, _∙_}
+use mathlib.Core.Path.{_≡_, sym, ap, _∙_}
 use mathlib.Core.List.{List}
-use mathlib.Core.Bool.{Bool, true, false}
-use lib.ListN.{length, getD, set, length-set}
+use mathlib.Core.Bool.{true, false}
+use lib.ListN.{length, getD, set}
 use lib.Seq.{getD-set-same, getD-set-other}
-use lib.Dec.{eqb, leb, ltb}
+use lib.Dec.{eqb}
 use lib.Bits.{bitOr}
 use borrow.Author.Tests.{eqb-true, eqb-false, lt-ltb, le-leb}
 use Rattle.file.specs.Rules.Order.{either}
 use Rattle.file.specs.Rules.Layout.{headerSize}
-use Rattle.file.specs.Rules.Cluster.{Slave, Cluster, bytesIn}
+use Rattle.file.specs.Rules.Cluster.{Cluster}
 use Rattle.file.specs.Rules.Decode.{decode}
 use Rattle.file.specs.Inner.Numbers.{ByteAt, NumberAt}
 use Rattle.file.specs.Inner.Places.{slaveOf}
-use Rattle.file.specs.Inner.Accepted.{AcceptedFile, WidthOf, slaveCount, FoundFile}
-use Rattle.file.specs.Inner.Checked.{EntriesFit, searchDirectory}
+use Rattle.file.specs.Inner.Accepted.{AcceptedFile, WidthOf, slaveCount}
+use Rattle.file.specs.Inner.Checked.{EntriesFit}
 use Rattle.file.proofs.Order.{byCase, clash, both-true, either-false-left, either-false-right}
 use Rattle.file.proofs.ReaderLaws.{Searching, searching-start, searching-next, searching-done, file-found}
-use Rattle.cluster.proofs.SlotActLaws.{missing-empty}
+use Rattle.multipartner.proofs.SlotActLaws.{missing-empty}
 use Rattle.owner.specs.Rules.Plan.{rounds}
 use Rattle.owner.specs.Inner.Masks.{isSet, between}
 use Rattle.owner.specs.Inner.Held.{DirectoryMarked, Holds, AllHold}
-use Rattle.owner.proofs.MaskLaws.{set-none, set-or, low-bit, one-shifted, one-bit}
+use Rattle.owner.proofs.MaskLaws.{set-or, low-bit, one-shifted, one-bit}
 
 -- ---- a directory's marks
 

@@ -13,9 +13,9 @@ pub mod RoundLaws
 pub mod RowLaws
 -- the call, by its answers, and that it does not ask who sleeps
 pub mod Calls
-pub mod Grounds
+pub mod OwnerGrounds
 pub mod Asleep
-pub mod Editions
+pub mod OwnerEditions
 pub mod Witnesses
 pub mod Distinct
 -- who sends in a round as it runs; the file's size and its index

@@ -9,10 +9,10 @@ use lib.Bits.{bitAnd, bitOr, bitXor, differ, and-step, or-step, xor-step, and-sh
 use lib.Count.{leadingZeros, leading-top, trailingZeros}
 use lib.Pow.{pow-pos, pow-mono, shl-exact, shr-shr, shr-lt, high, split, field, mod-mod-pow, high-ones}
 use lib.Dec.{eqb, leb, ltb}
-use borrow.Author.Tests.{lt-ltb, eq-eqb, ne-eqb, eqb-true, eqb-false, leb-true, leb-false, ltb-true, ltb-false}
+use borrow.Author.Tests.{eq-eqb, ne-eqb, eqb-true, eqb-false, leb-true, leb-false, ltb-true, ltb-false}
 use Rattle.file.specs.Rules.Order.{both, either}
 use Rattle.file.proofs.Order.{byCase, both-true, both-false-left, both-false-right, both-next}
-use Rattle.cluster.specs.Rules.Bus.{slots}
+use Rattle.master_slave.specs.Rules.Bus.{slots}
 use Rattle.owner.specs.Rules.Plan.{someBelow}
 use Rattle.owner.specs.Inner.Masks.{isSet, Marks, between, longestEntry, LastIs}
 
@@ -38,25 +38,23 @@ both-all false = refl
 digit : (q : ℕ) {d : ℕ} → d < 2 → (q * 2 + d) % 2 ≡ d
 digit q l = omega arith
 
+-- a law of two digits, by its four cases
+two-digits : (P : ℕ → ℕ → Type 0) → P 0 0 → P 0 1 → P 1 0 → P 1 1 → (x y : ℕ) → x < 2 → y < 2 → P x y
+two-digits P none second first all zero zero p q = none
+two-digits P none second first all zero (suc zero) p q = second
+two-digits P none second first all (suc zero) zero p q = first
+two-digits P none second first all (suc zero) (suc zero) p q = all
+two-digits P none second first all (suc (suc x)) y p q = absurd (omega arith)
+two-digits P none second first all zero (suc (suc y)) p q = absurd (omega arith)
+two-digits P none second first all (suc zero) (suc (suc y)) p q = absurd (omega arith)
+
 or-digit : (x y : ℕ) → x < 2 → y < 2 → eqb (max x y) 1 ≡ either (eqb x 1) (eqb y 1)
 unfolding either
-or-digit zero zero p q = refl
-or-digit zero (suc zero) p q = refl
-or-digit (suc zero) zero p q = refl
-or-digit (suc zero) (suc zero) p q = refl
-or-digit (suc (suc x)) y p q = absurd (omega arith)
-or-digit zero (suc (suc y)) p q = absurd (omega arith)
-or-digit (suc zero) (suc (suc y)) p q = absurd (omega arith)
+or-digit = two-digits (λ (x y : ℕ). eqb (max x y) 1 ≡ either (eqb x 1) (eqb y 1)) refl refl refl refl
 
 and-digit : (x y : ℕ) → x < 2 → y < 2 → eqb (min x y) 1 ≡ both (eqb x 1) (eqb y 1)
 unfolding both
-and-digit zero zero p q = refl
-and-digit zero (suc zero) p q = refl
-and-digit (suc zero) zero p q = refl
-and-digit (suc zero) (suc zero) p q = refl
-and-digit (suc (suc x)) y p q = absurd (omega arith)
-and-digit zero (suc (suc y)) p q = absurd (omega arith)
-and-digit (suc zero) (suc (suc y)) p q = absurd (omega arith)
+and-digit = two-digits (λ (x y : ℕ). eqb (min x y) 1 ≡ both (eqb x 1) (eqb y 1)) refl refl refl refl
 
 xor-digit : (x y : ℕ) → x < 2 → y ≡ 1 → eqb (differ x y) 1 ≡ not (eqb x 1)
 xor-digit zero y p q = rw q

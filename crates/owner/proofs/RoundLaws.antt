@@ -15,13 +15,13 @@ use Rattle.file.specs.Rules.Order.{both, either}
 use Rattle.file.specs.Rules.Cluster.{Slave, Cluster, bytesIn, lastRecord, logicalName}
 use Rattle.file.specs.Inner.Places.{noSlave, slaveOf}
 use Rattle.file.proofs.Order.{byCase, both-false-right}
-use Rattle.cluster.specs.Rules.Bus.{slots}
-use Rattle.cluster.specs.Rules.Slaves.{isUnnamed}
-use Rattle.cluster.specs.Rules.Entries.{Entry, actingFrom, acting}
-use Rattle.cluster.specs.Rules.Multipartner.{sendPlace, plansFrom}
+use Rattle.master_slave.specs.Rules.Bus.{slots}
+use Rattle.master_slave.specs.Rules.Slaves.{isUnnamed}
+use Rattle.multipartner.specs.Rules.Entries.{Entry, actingFrom, acting}
+use Rattle.multipartner.specs.Rules.Multipartner.{sendPlace, plansFrom}
 use Rattle.owner.specs.Rules.Plan.{rounds, isThere, sendsIn, sendersAmong, sendersIn, someEntryFrom, someEntry, someEntryOf, isMultiplexedSend}
 use Rattle.owner.specs.Rules.OwnerFile.{noOwner, nameOf, ownerOf}
-use Rattle.owner.specs.Inner.Masks.{isSet, Marks}
+use Rattle.owner.specs.Inner.Masks.{isSet}
 use Rattle.owner.specs.Inner.Held.{AllHold}
 use Rattle.owner.specs.declared.plan.RoundPlan.{RoundPlan}
 use Rattle.owner.specs.Inner.Planned.{plannedIn, SlavePlanned, OwnerPut, someone, twoThere, RoundPlanned, RoundPlanning, SlaveAdded}

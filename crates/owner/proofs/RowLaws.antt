@@ -15,7 +15,7 @@ use Rattle.file.specs.Rules.Order.{both, either}
 use Rattle.file.specs.Rules.Layout.{recordSize}
 use Rattle.file.specs.Rules.Cluster.{Slave}
 use Rattle.file.proofs.Order.{byCase}
-use Rattle.cluster.specs.Rules.Bus.{slots}
+use Rattle.master_slave.specs.Rules.Bus.{slots}
 use Rattle.owner.specs.Rules.Plan.{rounds, isOwned, sendersIn, someBelow, twoSendIn, someEntryOf, isMultiplexedSend}
 use Rattle.owner.specs.Rules.OwnerFile.{noOwner, nameOf, ownerOf, lastOwned, ownersBelow, ownersOf, padded, rowOf, rowsBelow, indexOf, indexBelow}
 use Rattle.owner.specs.Inner.Masks.{isSet, Marks, LastIs}

@@ -16,23 +16,24 @@ use Rattle.file.specs.Rules.Changes.{withEpoch}
 use Rattle.file.specs.Inner.Places.{SameFiles, SameShape, noSlaves, sameSlave}
 use Rattle.file.proofs.Order.{byCase, clash, both-true, both-right, both-false-left, both-false-right, both-false-next, either-false-left, either-false-right}
 use Rattle.file.proofs.Shape.{files-bytes-length}
-use Rattle.cluster.specs.Rules.Bus.{slots}
-use Rattle.cluster.specs.Rules.Slaves.{isUnnamed, epochRaised}
-use Rattle.cluster.specs.Rules.Entries.{Entry, entryAt, isMultiplexed, sends, ends, covers, outOfTurn, eligible, Acting, noEntry, acts, acting, actingFrom}
-use Rattle.cluster.specs.Rules.Multipartner.{SlaveByte, nowhere, byteOf, within, sendPlace, plansFrom, sendsFrom, byteThere, sentBy, sentIn, clusterBelow, sentDuring}
-use Rattle.cluster.specs.Rules.Round.{passedOver}
+use Rattle.master_slave.specs.Rules.Bus.{slots}
+use Rattle.master_slave.specs.Rules.Slaves.{isUnnamed, epochRaised}
+use Rattle.multipartner.specs.Rules.Entries.{Entry, entryAt, isMultiplexed, sends, ends, covers, outOfTurn, eligible, Acting, noEntry, acts, acting, actingFrom}
+use Rattle.multipartner.specs.Rules.Multipartner.{SlaveByte, nowhere, byteOf, within, sendPlace, plansFrom, sendsFrom, byteThere, sentBy, sentIn, clusterBelow, sentDuring}
+use Rattle.multipartner.specs.Rules.Multipartner.{passedOver}
 use Rattle.cluster.specs.Claims.Sleep.{awakeAmong}
-use Rattle.cluster.proofs.EntryLaws.{plain-turn, multiplexed-either, eligible-covers}
-use Rattle.cluster.proofs.Kept.{kept-below}
-use Rattle.cluster.proofs.Asleep.{awake-byte}
-use Rattle.cluster.proofs.Untouched.{filesOf, below-other, below-awake}
+use Rattle.multipartner.proofs.EntryLaws.{plain-turn, multiplexed-either, eligible-covers}
+use Rattle.multipartner.proofs.StoresKept.{kept-below}
+use Rattle.master_slave.proofs.Asleep.{awake-byte}
+use Rattle.master_slave.proofs.Untouched.{filesOf}
+use Rattle.multipartner.proofs.Unstored.{below-other, below-awake}
 use Rattle.owner.specs.Rules.Plan.{rounds, isOwned, isMultiplexedReceive, isThere, sendsIn, sendersAmong, sendersIn, someBelow, twoSendIn, twoSend}
 use Rattle.owner.specs.Rules.Plan.{someEntryFrom, someEntry, someEntryOf, isMultiplexedSend, multiplexedSend}
 use Rattle.owner.specs.Rules.OwnerFile.{nameOf, ownerOf, lastOwned}
-use Rattle.owner.specs.Claims.Rounds as claims
-use Rattle.owner.specs.Claims.Rounds.{sentAsRun, sendsAsRun, mayReceive, AsPlanned, nextSlave, SendAsPlanned, CountAsPlanned, OwnsSlot, SenderOwns}
-use Rattle.owner.specs.Claims.Rounds.{OwnerRuns, nobodySends, oneMaySend, OwnersRun, Plain, PlainCountAsPlanned, PlainAsPlanned, PlainOwnerRuns}
-use Rattle.owner.specs.Claims.Rounds.{noneSends, oneSends, PlainOwnersRun}
+use Rattle.owner.specs.Claims.PlannedRounds as claims
+use Rattle.owner.specs.Claims.PlannedRounds.{sentAsRun, sendsAsRun, mayReceive, AsPlanned, nextSlave, SendAsPlanned, CountAsPlanned, OwnsSlot, SenderOwns}
+use Rattle.owner.specs.Claims.PlannedRounds.{OwnerRuns, nobodySends, oneMaySend, OwnersRun, Plain, PlainCountAsPlanned, PlainAsPlanned, PlainOwnerRuns}
+use Rattle.owner.specs.Claims.PlannedRounds.{noneSends, oneSends, PlainOwnersRun}
 
 -- ---- a multiplexed entry that does not send is a receive
 

@@ -13,11 +13,11 @@ use Rattle.file.specs.Rules.Order.{either}
 use Rattle.file.specs.Rules.Layout.{recordSize}
 use Rattle.file.specs.Rules.Cluster.{Slave}
 use Rattle.file.proofs.Order.{byCase}
-use Rattle.cluster.specs.Rules.Bus.{slots}
+use Rattle.master_slave.specs.Rules.Bus.{slots}
 use Rattle.owner.specs.Rules.Plan.{rounds, isOwned, sendersIn}
 use Rattle.owner.specs.Rules.OwnerFile.{noOwner, nameOf, ownerOf, lastOwned, ownersBelow, ownersOf, padded, rowOf, rowsBelow, indexOf, indexBelow, ownerFile}
-use Rattle.owner.specs.Rules.Writing.{tooShort}
-use Rattle.owner.specs.Claims.Sizes.{longest, AtMostLongest, LongestFits, IndexBytes, FoundByIndex, NobodyPastRow}
+use Rattle.owner.specs.Rules.OwnerWriting.{tooShort}
+use Rattle.owner.specs.Claims.Sizes.{AtMostLongest, LongestFits, IndexBytes, FoundByIndex, NobodyPastRow}
 use Rattle.owner.proofs.RowLaws.{owners-length, owners-at, index-length}
 
 last-most : (round : ℕ) (ss : List Slave) (n : ℕ) → lastOwned round ss n ≤ n
@@ -222,22 +222,20 @@ unfolding ownerOf nameOf
 past-owner master round ss zero some e = absurd (omega arith)
 past-owner master round ss (suc slot) some e = rw e
 
+-- past the owners stand zeros, and behind these nothing
+padding-zero : (owners : List ℕ) (n slot : ℕ) → length owners ≤ slot → getD (owners ++ replicate n noOwner) slot 0 ≡ 0
+padding-zero [] zero slot past = refl
+padding-zero [] (suc n) zero past = refl
+padding-zero [] (suc n) (suc slot) past = padding-zero [] n slot (omega arith)
+padding-zero (o ∷ owners) n zero past = absurd (omega (arith, past))
+padding-zero (o ∷ owners) n (suc slot) past = padding-zero owners n slot (omega (arith, past))
+
 module _ (master : ℕ) (ss : List Slave) (round : ℕ) (owned : isOwned round ≡ true) (slot : ℕ) where
   row-padding : last master ss round < slot → getD (rowOf master ss round) slot 0 ≡ 0
-  unfolding rowOf padded ownersOf
+  unfolding rowOf padded
   row-padding l =
-      rw owned
-      (ap (λ (k : ℕ). getD (ownersBelow master round ss (last master ss round + 1) ++ replicate ((recordSize - length (ownersBelow master round ss (last master ss round + 1)) % recordSize) % recordSize) noOwner) k 0) split
-      ∙ (getD-append-add (ownersBelow master round ss (last master ss round + 1)) _ (slot - (last master ss round + 1)) 0
-      ∙ zeros ((recordSize - length (ownersBelow master round ss (last master ss round + 1)) % recordSize) % recordSize) (slot - (last master ss round + 1))))
-    where
-      split : slot ≡ length (ownersBelow master round ss (last master ss round + 1)) + (slot - (last master ss round + 1))
-      split = omega (arith, owners-length master round ss (last master ss round + 1))
-
-      zeros : (n k : ℕ) → getD (replicate n noOwner) k 0 ≡ 0
-      zeros zero k = refl
-      zeros (suc n) zero = refl
-      zeros (suc n) (suc k) = zeros n k
+      let owners = ownersOf master round ss in
+      rw owned (padding-zero owners ((recordSize - length owners % recordSize) % recordSize) slot (omega (arith, l, owners-count master ss round)))
 
   row-owner : slot < length (rowOf master ss round) → getD (rowOf master ss round) slot 0 ≡ ownerOf master round ss slot
   row-owner inside =

@@ -4,10 +4,10 @@ use Prim.Native.Nat.{ℕ, zero, suc, _+_, _-_, _/_, _^_, _≤_, _<_}
 use native.Mathlib.Omega.{arith}
 use mathlib.Core.Path.{_≡_, refl, sym, ap, _∙_, subst}
 use mathlib.Core.List.{List}
-use mathlib.Core.Bool.{Bool, true, false, not, cond, _||_}
+use mathlib.Core.Bool.{Bool, true, false, not, cond}
 use lib.ListN.{length, getD, set, length-set}
 use lib.Seq.{getD-set-same, getD-set-other}
-use lib.Dec.{eqb, ltb}
+use lib.Dec.{eqb}
 use lib.Bits.{bitAnd, and-le-l}
 use borrow.Author.Tests.{eq-eqb, ne-eqb, eqb-true, eqb-false, ltb-true}
 use Rattle.file.specs.Rules.Order.{both, either}
@@ -16,20 +16,22 @@ use Rattle.file.specs.Rules.Cluster.{Slave, bytesIn}
 use Rattle.file.specs.Rules.Decode.{decode}
 use Rattle.file.specs.Inner.Places.{slaveOf}
 use Rattle.file.specs.Inner.Accepted.{AcceptedFile, slaveCount}
+use Rattle.file.specs.Inner.Typed.{fileIn}
+use Rattle.file.specs.declared.types.FileNumber.{FileNumber}
 use Rattle.file.proofs.Order.{byCase, both-left, both-right, both-false-left, both-false-right}
 use Rattle.file.proofs.ReaderLaws.{length-limit}
-use Rattle.cluster.specs.Rules.Bus.{slots}
-use Rattle.cluster.specs.Rules.Slaves.{isUnnamed}
-use Rattle.cluster.specs.Rules.Entries.{Entry, entryOf, entryThere, entryAt, isMultiplexed, ends, covers, sends, eligible, Acting, noEntry, acts, actingFrom}
-use Rattle.cluster.specs.Rules.Multipartner.{within, sendPlace}
-use Rattle.cluster.specs.Inner.EntryForm.{fileNumbers}
-use Rattle.cluster.specs.Inner.Slots.{PlannedFileIs, plannedEntries}
-use Rattle.cluster.proofs.EntryLaws.{sends-deaf}
-use Rattle.cluster.proofs.OpenLaws.{acting-end, acting-none, planned-few, RestOf, rest-start, rest-within, rest-next, rest-entry}
-use Rattle.cluster.proofs.SearchLaws.{planned-sends}
+use Rattle.master_slave.specs.Rules.Bus.{slots}
+use Rattle.master_slave.specs.Rules.Slaves.{isUnnamed}
+use Rattle.multipartner.specs.Rules.Entries.{Entry, entryOf, entryThere, entryAt, isMultiplexed, ends, covers, sends, eligible, Acting, noEntry, acts, actingFrom}
+use Rattle.multipartner.specs.Rules.Multipartner.{within, sendPlace}
+use Rattle.multipartner.specs.Inner.EntryForm.{fileNumbers}
+use Rattle.multipartner.specs.Inner.Slots.{PlannedFileIs, plannedEntries}
+use Rattle.multipartner.proofs.EntryLaws.{sends-deaf}
+use Rattle.multipartner.proofs.OpenLaws.{acting-end, acting-none, planned-few, RestOf, rest-start, rest-within, rest-next, rest-entry}
+use Rattle.multipartner.proofs.SearchLaws.{planned-sends}
 use Rattle.owner.specs.Rules.Plan.{isMultiplexedReceive, isThere, sendsIn, someEntryFrom, someEntry, isMultiplexedSend}
-use Rattle.owner.specs.Inner.Masks.{isSet, Marks}
-use Rattle.owner.specs.Inner.Entries.{isSingle, Kept, wouldSend, EntryOf, hiddenWith, sendsWith, EntryTaken}
+use Rattle.owner.specs.Inner.Masks.{isSet}
+use Rattle.owner.specs.Inner.OwnerEntries.{isSingle, Kept, wouldSend, EntryOf, hiddenWith, sendsWith, EntryTaken}
 use Rattle.owner.specs.declared.entries.SlavePlan.{SlavePlan}
 use Rattle.owner.specs.Inner.Planned.{plannedIn, SlavePlanned, OwnerPut}
 use Rattle.owner.proofs.MaskLaws.{either-false, both-all, set-none, set-first, set-later, FirstIs}
@@ -272,9 +274,9 @@ module _ {f : List ℕ} {round s covered planned : ℕ} {multiplexed : Bool} {at
 -- the loop along a slave's entries, for whatever round they are planned, with the size that is kept
 pub record Working (f : List ℕ) (s start end : ℕ) (plan : SlavePlan) (at : ℕ) : Type 0 where
   pub planning : (round : ℕ) → PlannedFileIs (decode f) round s start end → Planning f round s (plan .hidden) (plan .sends) (plan .multiplexed) at end
-  pub kept : Kept (slaveOf (decode f) s) (plan .number) (plan .size)
+  pub kept : Kept (slaveOf (decode f) s) (fileIn (plan .number)) (plan .size)
 
-pub working-start : (f : List ℕ) (s start end : ℕ) → AcceptedFile f → {none : ℕ} → fileNumbers ≤ none
+pub working-start : (f : List ℕ) (s start end : ℕ) → AcceptedFile f → {none : FileNumber} → fileNumbers ≤ fileIn none
     → Working f s start end (record { hidden = 1; sends = 0; multiplexed = false; number = none; size = 0 }) start
 working-start f s start end h no-file = record { planning = λ round is. planning-start h is; kept = record { known = λ l. absurd (omega arith) } }
 
@@ -290,7 +292,7 @@ module _ {f : List ℕ} {s start end : ℕ} {plan : SlavePlan} {at : ℕ} (h : W
       pub working-low : at < 2 ^ 32
       working-low = entry-low (h .planning round is) more
 
-      pub working-entry : AcceptedFile f → s < slaveCount f → EntryOf f s at (plan .number) (plan .size)
+      pub working-entry : AcceptedFile f → s < slaveCount f → EntryOf f s at (fileIn (plan .number)) (plan .size)
       working-entry accepted listed = record { accepted = accepted; listed = listed; inside = working-within; kept = h .kept }
 
       pub working-end : {t : Bool} → t ≡ ends (getD f (at + 2) 0 / 16) → t ≡ true → SlavePlanned round (slaveOf (decode f) s) (plan .sends) (plan .multiplexed)
@@ -298,7 +300,7 @@ module _ {f : List ℕ} {s start end : ℕ} {plan : SlavePlan} {at : ℕ} (h : W
 
   -- one entry more
   module _ (more : at < end) {r new : SlavePlan}
-      (taken : EntryTaken (slaveOf (decode f) s) (entryThere f at) (plan .hidden) (plan .sends) (plan .multiplexed) (r .hidden) (r .sends) (r .multiplexed) (r .number) (r .size))
+      (taken : EntryTaken (slaveOf (decode f) s) (entryThere f at) (plan .hidden) (plan .sends) (plan .multiplexed) (r .hidden) (r .sends) (r .multiplexed) (fileIn (r .number)) (r .size))
       (same : new ≡ r) where
     pub working-single : {t : Bool} → t ≡ isSingle (getD f (at + 2) 0) → t ≡ true → Working f s start end new (at + 4)
     working-single is one =

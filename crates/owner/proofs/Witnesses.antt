@@ -15,18 +15,21 @@ use Rattle.file.specs.Rules.Results.{Result, refused, done, writtenIn}
 use Rattle.file.specs.Rules.Bytes.{numberOf, part, allZero}
 use Rattle.file.specs.Rules.Cluster.{isAwake, bytesAmong, bytesIn, lastRecord, physicalName}
 use Rattle.file.specs.Rules.Decode.{decode, decodeAt, slavesAt, slaveAt, filesAt, fileAt, fileSize, offsetAt}
-use Rattle.file.specs.Rules.Grounds.{isAmong, hasRepeat, fileGround, fileGroundAt, fileGroundsAt, wrongSize, wrongMark, wrongEdition, wrongLength}
-use Rattle.file.specs.Rules.Grounds.{wrongHeader, wrongPending, brokenLayout, walkFile, tableEnd, walkSlaves, andThen, walkSlave, goodTableEntry}
-use Rattle.file.specs.Rules.Grounds.{walkDirectory, goodEntry, endsAt, lacksNeeded, allHaveNeeded, hasNeeded, equalPhysicalNames}
+use Rattle.file.specs.Rules.FileGrounds.{isAmong, hasRepeat, fileGround, fileGroundAt, fileGroundsAt, wrongSize, wrongMark, wrongEdition, wrongLength}
+use Rattle.file.specs.Rules.FileGrounds.{wrongHeader, wrongPending, brokenLayout, walkFile, tableEnd, walkSlaves, andThen, walkSlave, goodTableEntry}
+use Rattle.file.specs.Rules.FileGrounds.{walkDirectory, goodEntry, endsAt, lacksNeeded, allHaveNeeded, hasNeeded, equalPhysicalNames}
 use Rattle.owner.specs.Rules.OwnerFile.{ownerFile}
-use Rattle.owner.specs.Rules.Writing.{tooShort, ownerGround, ownerOn}
+use Rattle.owner.specs.Rules.OwnerWriting.{tooShort, ownerGround, ownerOn}
 use Rattle.owner.specs.Claims.Call.{filesOf}
 use Rattle.owner.proofs.Examples.{eight, outranked, examples}
 use Rattle.owner.proofs.Calls.{multiplexed-decides, none-holds, owner-refused, owner-written}
 use Rattle.owner.proofs.Asleep.{planned-awake}
 
 eight-accepted : fileGround eight ≡ 0
-unfolding fileGround fileGroundAt fileGroundsAt firstOf both either wrongSize wrongMark wrongEdition wrongLength wrongHeader wrongPending allZero part numberOf offsetAt brokenLayout walkFile tableEnd walkSlaves andThen walkSlave goodTableEntry walkDirectory goodEntry fileSize endsAt lacksNeeded allHaveNeeded hasNeeded lastRecord widthOf decodeAt slavesAt slaveAt filesAt fileAt equalPhysicalNames hasRepeat isAmong physicalName bytesIn bytesAmong
+unfolding fileGround fileGroundAt fileGroundsAt firstOf both either wrongSize wrongMark wrongEdition wrongLength wrongHeader wrongPending allZero part
+    numberOf offsetAt brokenLayout walkFile tableEnd walkSlaves andThen walkSlave goodTableEntry walkDirectory goodEntry fileSize endsAt lacksNeeded
+    allHaveNeeded hasNeeded lastRecord widthOf decodeAt slavesAt slaveAt filesAt fileAt equalPhysicalNames hasRepeat isAmong physicalName bytesIn
+    bytesAmong
 eight-accepted = refl
 
 outranked-accepted : fileGround outranked ≡ 0

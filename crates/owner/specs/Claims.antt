@@ -1,7 +1,7 @@
 -- Statements of theorems: who sends as planned, the owner file's bytes, the call, and both editions.
-pub mod Rounds
+pub mod PlannedRounds
 pub mod Sizes
 pub mod Header
-pub mod Grounds
+pub mod OwnerGrounds
 pub mod Call
-pub mod Editions
+pub mod OwnerEditions

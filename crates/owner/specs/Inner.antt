@@ -1,6 +1,6 @@
 -- Maps of the code's types, and words of the contracts between functions.
-pub mod Answers
-pub mod Entries
+pub mod OwnerAnswers
+pub mod OwnerEntries
 pub mod Held
 pub mod Masks
 pub mod Planned

@@ -2,4 +2,4 @@
 -- sends in which slot, the file's bytes, and the call with grounds 23, 20 and 21.
 pub mod Plan
 pub mod OwnerFile
-pub mod Writing
+pub mod OwnerWriting

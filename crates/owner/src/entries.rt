@@ -7,30 +7,31 @@ ghost use Rattle.file.specs.Rules.Layout.{recordSize};
 ghost use Rattle.file.specs.Rules.Cluster.{bytesIn};
 ghost use Rattle.file.specs.Rules.Decode.{decode};
 ghost use Rattle.file.specs.Inner.Places.{slaveOf};
+ghost use Rattle.file.specs.Inner.Typed.{fileIn};
 ghost use Rattle.file.specs.Inner.Accepted.{AcceptedFile, slaveCount};
-ghost use Rattle.cluster.specs.Rules.Entries.{entryThere, ends, sends, bytePlace};
-ghost use Rattle.cluster.specs.Inner.EntryForm.{firstMultiplexed, fileNumbers};
+ghost use Rattle.multipartner.specs.Rules.Entries.{entryThere, ends, sends, bytePlace};
+ghost use Rattle.multipartner.specs.Inner.EntryForm.{firstMultiplexed, fileNumbers};
 ghost use Rattle.owner.specs.Inner.Masks.{Marks, longestEntry};
-ghost use Rattle.owner.specs.Inner.Entries.{kindAt, isSingle, Kept, wouldSend, EntryOf, EntryTaken};
+ghost use Rattle.owner.specs.Inner.OwnerEntries.{kindAt, isSingle, Kept, wouldSend, EntryOf, EntryTaken};
 use crate::masks::ALL_SLOTS;
 use crate::masks::NO_SLOTS;
 use crate::masks::slots_from;
-use cluster::entry::ALIGN_VALUES;
-use cluster::entry::END_OF_ROUND;
-use cluster::entry::EXECUTE_AND_END;
-use cluster::entry::FIRST_MULTIPLEXED;
-use cluster::entry::KIND_PLACE;
-use cluster::entry::LENGTH_VALUES;
-use cluster::entry::RECORD_PLACE;
-use cluster::entry::SEND;
-use cluster::entry::SEND_SPEEDUP;
-use cluster::entry::START_PLACE;
-use cluster::entry::START_VALUES;
 use file::layout::RECORD_SIZE;
 use file::numbers::byte_at;
-use file::readers::FilePlace;
-use file::readers::find_file;
+use file::records::FilePlace;
+use file::records::find_file;
 use file::types::FileNumber;
+use multipartner::entry::ALIGN_VALUES;
+use multipartner::entry::END_OF_ROUND;
+use multipartner::entry::EXECUTE_AND_END;
+use multipartner::entry::FIRST_MULTIPLEXED;
+use multipartner::entry::KIND_PLACE;
+use multipartner::entry::LENGTH_VALUES;
+use multipartner::entry::RECORD_PLACE;
+use multipartner::entry::SEND;
+use multipartner::entry::SEND_SPEEDUP;
+use multipartner::entry::START_PLACE;
+use multipartner::entry::START_VALUES;
 
 // The slots that a slave's entries hide from later ones, those in which it sends, whether it has a multiplexed send, and the file that
 // was looked for last, with its size.
@@ -38,7 +39,7 @@ pub struct SlavePlan {
     pub hidden: u64,
     pub sends: u64,
     pub multiplexed: bool,
-    pub number: u8,
+    pub number: FileNumber,
     pub size: usize,
 }
 
@@ -80,11 +81,11 @@ fn is_send(operation: u8) -> bool
 }
 
 // How many bytes a slave's file has, 0 where there is none.
-fn file_size(file: &[u8], slave: usize, number: u8) -> usize
+fn file_size(file: &[u8], slave: usize, number: FileNumber) -> usize
     requires { ⌜ AcceptedFile (now file) × (slave < slaveCount (now file)) ⌝ }
-    ensures { λ r. ⌜ r ≡ length (bytesIn (slaveOf (decode (now (file .entry))) slave) number) ⌝ }
+    ensures { λ r. ⌜ r ≡ length (bytesIn (slaveOf (decode (now (file .entry))) slave) (fileIn number)) ⌝ }
 {
-    let found = find_file(file, slave, FileNumber(number));
+    let found = find_file(file, slave, number);
     match found {
         FilePlace::Bytes(bytes) => bytes.size,
         FilePlace::NoFile => 0,
@@ -92,11 +93,11 @@ fn file_size(file: &[u8], slave: usize, number: u8) -> usize
 }
 
 // The same: the size of the file that was looked for last is known.
-fn known_size(file: &[u8], slave: usize, number: u8, plan: SlavePlan) -> usize
-    requires { ⌜ AcceptedFile (now file) × (slave < slaveCount (now file)) × (number < fileNumbers) × Kept (slaveOf (decode (now file)) slave) (plan .number) (plan .size) ⌝ }
-    ensures { λ r. ⌜ r ≡ length (bytesIn (slaveOf (decode (now (file .entry))) slave) number) ⌝ }
+fn known_size(file: &[u8], slave: usize, number: FileNumber, plan: SlavePlan) -> usize
+    requires { ⌜ AcceptedFile (now file) × (slave < slaveCount (now file)) × (fileIn number < fileNumbers) × Kept (slaveOf (decode (now file)) slave) (fileIn (plan .number)) (plan .size) ⌝ }
+    ensures { λ r. ⌜ r ≡ length (bytesIn (slaveOf (decode (now (file .entry))) slave) (fileIn number)) ⌝ }
 {
-    if plan.number == number {
+    if plan.number.0 == number.0 {
         return plan.size;
     }
     file_size(file, slave, number)
@@ -114,8 +115,8 @@ fn first_byte(file: &[u8], at: usize) -> usize
 
 // An entry of one slot, neither multiplexed nor an end, as most are. Where its slot is hidden, nothing more is read of it.
 pub fn with_slot(file: &[u8], slave: usize, at: usize, plan: SlavePlan) -> SlavePlan
-    requires { ⌜ EntryOf (now file) slave at (plan .number) (plan .size) × (isSingle (kindAt (now file) at) ≡ true) ⌝ }
-    ensures { λ r. ⌜ EntryTaken (slaveOf (decode (now (file .entry))) slave) (entryThere (now (file .entry)) at) (plan .hidden) (plan .sends) (plan .multiplexed) (r .hidden) (r .sends) (r .multiplexed) (r .number) (r .size) ⌝ }
+    requires { ⌜ EntryOf (now file) slave at (fileIn (plan .number)) (plan .size) × (isSingle (kindAt (now file) at) ≡ true) ⌝ }
+    ensures { λ r. ⌜ EntryTaken (slaveOf (decode (now (file .entry))) slave) (entryThere (now (file .entry)) at) (plan .hidden) (plan .sends) (plan .multiplexed) (r .hidden) (r .sends) (r .multiplexed) (fileIn (r .number)) (r .size) ⌝ }
 {
     let start = (file[at + START_PLACE] % START_VALUES) as u64;
     if (plan.hidden >> start) % 2 == 1 {
@@ -127,7 +128,7 @@ pub fn with_slot(file: &[u8], slave: usize, at: usize, plan: SlavePlan) -> Slave
     if !is_plain_send(file[at + KIND_PLACE] / LENGTH_VALUES) {
         return next;
     }
-    let number = file[at] / ALIGN_VALUES;
+    let number = FileNumber(file[at] / ALIGN_VALUES);
     let size = known_size(file, slave, number, plan);
     next.number = number;
     next.size = size;
@@ -145,7 +146,7 @@ fn sending_slots(file: &[u8], slave: usize, at: usize) -> u64
 {
     let start = (file[at + START_PLACE] % START_VALUES) as usize;
     let length = (file[at + KIND_PLACE] % LENGTH_VALUES) as usize + 1;
-    let size = file_size(file, slave, file[at] / ALIGN_VALUES);
+    let size = file_size(file, slave, FileNumber(file[at] / ALIGN_VALUES));
     let first = first_byte(file, at);
     if size <= first {
         return NO_SLOTS;
@@ -158,8 +159,8 @@ fn sending_slots(file: &[u8], slave: usize, at: usize) -> u64
 
 // Any other entry. A multiplexed receive is passed over.
 pub fn with_slots(file: &[u8], slave: usize, at: usize, plan: SlavePlan) -> SlavePlan
-    requires { ⌜ EntryOf (now file) slave at (plan .number) (plan .size) ⌝ }
-    ensures { λ r. ⌜ EntryTaken (slaveOf (decode (now (file .entry))) slave) (entryThere (now (file .entry)) at) (plan .hidden) (plan .sends) (plan .multiplexed) (r .hidden) (r .sends) (r .multiplexed) (r .number) (r .size) ⌝ }
+    requires { ⌜ EntryOf (now file) slave at (fileIn (plan .number)) (plan .size) ⌝ }
+    ensures { λ r. ⌜ EntryTaken (slaveOf (decode (now (file .entry))) slave) (entryThere (now (file .entry)) at) (plan .hidden) (plan .sends) (plan .multiplexed) (r .hidden) (r .sends) (r .multiplexed) (fileIn (r .number)) (r .size) ⌝ }
 {
     let kind = file[at + KIND_PLACE];
     let operation = kind / LENGTH_VALUES;

@@ -1,5 +1,4 @@
 // Which slaves have a file for which round.
-ghost use mathlib.Core.Path.{_≡_};
 ghost use Prim.Native.Nat.{_≤_, _<_};
 ghost use lib.ListN.{length};
 ghost use Rattle.file.specs.Rules.Decode.{decode};

@@ -1,8 +1,8 @@
 // Slots of a round as a 64-bit mask: bit s stands for slot s.
 ghost use Prim.Native.Nat.{_+_, _≤_, _<_};
-ghost use Rattle.cluster.specs.Rules.Bus.{slots};
+ghost use Rattle.master_slave.specs.Rules.Bus.{slots};
 ghost use Rattle.owner.specs.Inner.Masks.{Marks, between, longestEntry, LastIs};
-use cluster::answer::SLOTS;
+use master_slave::slots::SLOTS;
 
 pub const NO_SLOTS: u64 = 0;
 

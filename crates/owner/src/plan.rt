@@ -6,7 +6,7 @@ ghost use Rattle.file.specs.Rules.Decode.{decode};
 ghost use Rattle.file.specs.Inner.Places.{slaveOf};
 ghost use Rattle.file.specs.Inner.Typed.{fileIn, nameIn};
 ghost use Rattle.file.specs.Inner.Accepted.{Placed, slaveCount};
-ghost use Rattle.cluster.specs.Rules.Bus.{slots};
+ghost use Rattle.master_slave.specs.Rules.Bus.{slots};
 ghost use Rattle.owner.specs.Rules.Plan.{rounds};
 ghost use Rattle.owner.specs.Rules.OwnerFile.{noOwner};
 ghost use Rattle.owner.specs.Inner.Held.{AllHold};
@@ -19,16 +19,16 @@ use crate::entries::with_slots;
 use crate::masks::ALL_SLOTS;
 use crate::masks::FIREWORK_SLOTS;
 use crate::masks::NO_SLOTS;
-use cluster::answer::FIREWORK_SLOT;
-use cluster::entry::KIND_PLACE;
-use cluster::entry::NO_FILE;
-use cluster::multipartner::planned_file;
 use file::layout::RECORD_SIZE;
 use file::readers::logical_name;
 use file::readers::slave_count;
 use file::types::FileNumber;
 use file::types::LogicalName;
 use file::types::SlavePlaces;
+use master_slave::slots::FIREWORK_SLOT;
+use multipartner::entry::KIND_PLACE;
+use multipartner::entry::NO_FILE;
+use multipartner::round_files::planned_file;
 
 // Its entries are read once, first to last: a slot that an earlier one covers is hidden from a later one, so the entry that finds its
 // slot free is the one that acts there. An entry that is passed over hides no slot.
@@ -42,7 +42,7 @@ fn plan_slave(file: &[u8], places: &SlavePlaces, slave: usize, round: FileNumber
         hidden: FIREWORK_SLOTS,
         sends: NO_SLOTS,
         multiplexed: false,
-        number: NO_FILE,
+        number: FileNumber(NO_FILE),
         size: 0,
     };
     let mut at = found.start;

@@ -5,7 +5,7 @@ ghost use lib.ListN.{replicate};
 ghost use Rattle.file.specs.Rules.Decode.{decode};
 ghost use Rattle.file.specs.Inner.Typed.{fileIn, nameIn};
 ghost use Rattle.file.specs.Inner.Accepted.{Placed};
-ghost use Rattle.cluster.specs.Rules.Bus.{slots};
+ghost use Rattle.master_slave.specs.Rules.Bus.{slots};
 ghost use Rattle.owner.specs.Rules.Plan.{rounds, isOwned};
 ghost use Rattle.owner.specs.Rules.OwnerFile.{noOwner};
 ghost use Rattle.owner.specs.Inner.Held.{AllHold};
@@ -14,12 +14,12 @@ use crate::held::all_held;
 use crate::masks::NO_SLOTS;
 use crate::masks::last_slot;
 use crate::plan::plan_round;
-use cluster::answer::SLOTS;
 use file::layout::RECORD_SIZE;
 use file::types::FileNumber;
 use file::types::LogicalName;
 use file::types::SLAVES_ROOM;
 use file::types::SlavePlaces;
+use master_slave::slots::SLOTS;
 
 // "the eight index bytes"
 pub const ROUNDS: usize = 8;
@@ -97,7 +97,8 @@ fn write_round(
     before: Rows,
     rows: &mut [u8],
 ) -> Rows
-    requires { ⌜ Placed (now file) (now places) × AllHold (decode (now file)) (now held) × (round < rounds) × RowsWritten (decode (now file) .slaves) (nameIn master) round (now rows) (before .length) (before .clash) (before .multiplexed) ⌝ }
+    requires { ⌜ Placed (now file) (now places) × AllHold (decode (now file)) (now held) × (round < rounds)
+        × RowsWritten (decode (now file) .slaves) (nameIn master) round (now rows) (before .length) (before .clash) (before .multiplexed) ⌝ }
     ensures { λ r. ⌜ RowsWritten (decode (now (file .entry)) .slaves) (nameIn master) (round + 1) (now (rows .exit)) (r .length) (r .clash) (r .multiplexed) ⌝ }
 {
     if !is_owned(round) {

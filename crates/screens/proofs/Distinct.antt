@@ -1,4 +1,4 @@
--- Answers are told apart: no two of one type are taken to the same, since the maps of `specs/Inner/Answers.antt` can be undone.
+-- Answers are told apart: no two of one type are taken to the same, since the maps of `specs/Inner/ScreenAnswers.antt` can be undone.
 -- Assumes nothing.
 use Prim.Native.Nat.{ℕ}
 use mathlib.Core.Path.{_≡_, refl, sym, _∙_, ap}
@@ -14,7 +14,7 @@ use Rattle.screens.specs.declared.turn.Turned.{Turned}
 use Rattle.screens.specs.declared.turn.Turned.the-variants as turns
 use Rattle.screens.specs.Rules.Screens.{Due, nobody, screen}
 use Rattle.screens.specs.Rules.Turn.{Turn, idle, served, servedBy}
-use Rattle.screens.specs.Inner.Answers.{dueOf, postedOf, turnedOf}
+use Rattle.screens.specs.Inner.ScreenAnswers.{dueOf, postedOf, turnedOf}
 
 looking : Due → DueScreen
 looking nobody = dues.Nobody

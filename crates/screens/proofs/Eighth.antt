@@ -7,16 +7,16 @@ use native.Mathlib.Omega.{arith}
 use lib.ListN.{length, replicate}
 use Rattle.file.specs.Rules.Order.{firstOf, both, either}
 use Rattle.file.specs.Rules.Results.{Result, done, resultOf}
-use Rattle.file.specs.Rules.Grounds.{fileGround}
-use Rattle.frame.specs.Rules.Grounds.{broadcastRead, noFileNumber}
-use Rattle.cluster.specs.Rules.Bus.{slots}
+use Rattle.file.specs.Rules.FileGrounds.{fileGround}
+use Rattle.frame.specs.Rules.FrameGrounds.{broadcastRead, noFileNumber}
+use Rattle.master_slave.specs.Rules.Bus.{slots}
 use Rattle.screens.specs.Rules.Screens.{lastServed, placeOf, isWaiting, Read, readOf, screen, nextScreen, dueFrom, due, noScreen}
 use Rattle.screens.specs.Rules.Screens.{readBy, readGrounds, postGround, posted, postOn}
 use Rattle.screens.specs.Rules.Turn.{Turn, afterServing, dueGrounds, stateGrounds, turnGround}
 use Rattle.screens.specs.Claims.Fairness.{Call, post, turn, stateAfter, acceptedBy, acceptedTurns, Serves, ServedWithin}
 use Rattle.screens.specs.Claims.Fairness.{ServedAmong, here, behind, allWaiting, SevenAreTooFew}
 use Rattle.screens.proofs.Distinct.{served-by-same}
-use Rattle.screens.proofs.Grounds.{turn-none}
+use Rattle.screens.proofs.ScreenGrounds.{turn-none}
 use Rattle.screens.proofs.Turns.{turn-serves}
 use Rattle.screens.proofs.Fairness.{state-left, counted, one-done, posted-is-served}
 

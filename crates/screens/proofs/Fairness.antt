@@ -4,7 +4,7 @@
 use Prim.Native.Nat.{ℕ, zero, suc, _+_, _-_, _≤_, _<_}
 use mathlib.Core.Path.{_≡_, refl, sym, ap, _∙_, subst}
 use mathlib.Core.List.{List, [], _∷_}
-use mathlib.Core.Bool.{true, false}
+use mathlib.Core.Bool.{true}
 use native.Mathlib.Omega.{arith}
 use lib.ListN.{length, List·getD-eq-default}
 use lib.Dec.{eqb, ltb}
@@ -19,7 +19,7 @@ use Rattle.screens.specs.Claims.Fairness.{Call, post, turn, stateAfter, 
 use Rattle.screens.specs.Claims.Fairness.{now, later, Fair, PostedIsServed}
 use Rattle.screens.proofs.StateBytes.{same-waits, same-read, serving-same, posted-same, posted-last, serving-last}
 use Rattle.screens.proofs.Posts.{post-free, post-accepted, post-turned, post-ground, post-waits}
-use Rattle.screens.proofs.Grounds.{turn-free, turn-refused, state-last}
+use Rattle.screens.proofs.ScreenGrounds.{turn-free, turn-refused, state-last}
 use Rattle.screens.proofs.Turns.{turn-serves}
 use Rattle.screens.proofs.Due.{Near, near, due-near}
 

@@ -7,7 +7,7 @@ pub mod Distinct
 pub mod StateLaws
 pub mod PostLaws
 -- the grounds in their order, and who is due
-pub mod Grounds
+pub mod ScreenGrounds
 pub mod Due
 -- a law for each way of a turn's functions
 pub mod TurnLaws
@@ -20,6 +20,6 @@ pub mod Names
 pub mod Fairness
 pub mod Eighth
 -- turns on both editions
-pub mod Editions
+pub mod ScreenEditions
 -- each claim with its theorem
 pub mod Claimed

@@ -15,8 +15,8 @@ use Rattle.file.specs.Rules.Decode.{decode}
 use Rattle.file.proofs.Order.{byCase, clash}
 use Rattle.frame.specs.Rules.Fireworks.{Round, multipartner, msd, msa, noRound, roundOf, roundIn}
 use Rattle.frame.specs.Rules.Frames.{frameOf, addressBytes, addressFrame}
-use Rattle.cluster.specs.Rules.Slaves.{withAddress}
-use Rattle.cluster.specs.Rules.Grounds.{roundBy}
+use Rattle.master_slave.specs.Rules.Slaves.{withAddress}
+use Rattle.cluster.specs.Rules.RoundGrounds.{roundBy}
 use Rattle.cluster.specs.Rules.Round.{effectOf, frameOn, roundGround, roundOn}
 use Rattle.cluster.specs.Rules.MasterSlave.{addressSent, dataSent, roundSent}
 use Rattle.cluster.specs.Inner.Sending.{MaySend}
@@ -28,7 +28,7 @@ use Rattle.cluster.proofs.SentRounds as rounds
 use Rattle.screens.specs.Rules.Screens.{Read, readOf, Due, nobody, screen, due}
 use Rattle.screens.specs.Rules.Turn.{Turn, readSent, turnGround, turnOn}
 use Rattle.screens.specs.Claims.Turns.{TurnRenamesNobody, TurnKeepsSummary}
-use Rattle.screens.proofs.Grounds.{turn-free, turn-refused}
+use Rattle.screens.proofs.ScreenGrounds.{turn-free, turn-refused}
 use Rattle.screens.proofs.Turns.{may-send-bytes, turn-idles, turn-serves, turn-address}
 
 -- ---- the read's two frames

@@ -10,7 +10,7 @@ use borrow.Author.Tests.{eqb-false, ne-eqb, lt-ltb, le-ltb, ltb-false}
 use Rattle.file.specs.Rules.Order.{firstOf, both, either}
 use Rattle.file.specs.Rules.Results.{refused, done, resultOf}
 use Rattle.file.proofs.Order.{first-none}
-use Rattle.frame.specs.Rules.Grounds.{broadcastRead, noFileNumber}
+use Rattle.frame.specs.Rules.FrameGrounds.{broadcastRead, noFileNumber}
 use Rattle.screens.specs.Rules.Screens.{screens, lastServed, placeOf, isWaiting, Read, readBy, noScreen, readGrounds, postGround}
 use Rattle.screens.specs.Rules.Screens.{posted, postOn}
 use Rattle.screens.specs.Inner.Parts.{PostGround}

@@ -9,7 +9,7 @@ use lib.ListN.{getD, set}
 use lib.Dec.{eqb}
 use Rattle.file.specs.declared.types.LogicalName.{LogicalName}
 use Rattle.file.specs.Inner.Typed.{nameIn}
-use Rattle.cluster.specs.declared.types.RecordAddress.{RecordAddress}
+use Rattle.master_slave.specs.declared.types.RecordAddress.{RecordAddress}
 use Rattle.screens.specs.Rules.Screens.{screens, lastServed, placeOf, isWaiting, readOf, nobody, screen, nextScreen, dueFrom, due}
 use Rattle.screens.specs.Rules.Turn.{afterServing}
 use Rattle.screens.specs.Claims.Turns.{away}

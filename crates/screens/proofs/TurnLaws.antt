@@ -10,25 +10,25 @@ use Rattle.file.specs.Rules.Bytes.{Byte}
 use Rattle.file.specs.Rules.Order.{firstOf, both}
 use Rattle.file.specs.Rules.Results.{Result, refused, done}
 use Rattle.file.specs.Inner.Surveyed.{Surveyed}
-use Rattle.file.specs.Inner.Answers.{checkedOf}
+use Rattle.file.specs.Inner.FileAnswers.{checkedOf}
 use Rattle.file.specs.declared.types.Refusal.{Refusal}
 use Rattle.file.specs.declared.survey.FileAnswer.{FileAnswer}
 use Rattle.file.specs.declared.survey.FileAnswer.the-variants as answers
 use Rattle.file.proofs.Surveyed.{survey-accepted, survey-refused}
-use Rattle.frame.specs.Rules.Grounds.{broadcastRead}
-use Rattle.cluster.specs.Rules.Bus.{slots}
+use Rattle.frame.specs.Rules.FrameGrounds.{broadcastRead}
+use Rattle.master_slave.specs.Rules.Bus.{slots}
 use Rattle.cluster.specs.Rules.MasterSlave.{Sent, roundSent}
 use Rattle.cluster.specs.Inner.Sending.{MaySend, of-other}
-use Rattle.cluster.specs.declared.types.RecordAddress.{RecordAddress}
+use Rattle.master_slave.specs.declared.types.RecordAddress.{RecordAddress}
 use Rattle.screens.specs.declared.state.DueScreen.{DueScreen}
 use Rattle.screens.specs.declared.state.DueScreen.the-variants as dues
 use Rattle.screens.specs.Rules.Screens.{screens, lastServed, Read, nobody, screen, due, readGrounds}
 use Rattle.screens.specs.Rules.Turn.{Turn, idle, served, servedBy, readSent, afterServing, stateGrounds, turnGround, turnMade, turnOn}
-use Rattle.screens.specs.Inner.Answers.{dueOf}
+use Rattle.screens.specs.Inner.ScreenAnswers.{dueOf}
 use Rattle.screens.specs.Inner.Parts.{readIn, PostedRead}
 use Rattle.screens.proofs.PostLaws.{Readable}
-use Rattle.screens.proofs.Grounds.{last-refused, by-nobody, by-read, state-last, state-read, state-decides, turn-file, turn-buffer, turn-none}
-use Rattle.screens.proofs.Grounds.{turn-refused, turn-made}
+use Rattle.screens.proofs.ScreenGrounds.{last-refused, by-nobody, by-read, state-last, state-read, state-decides, turn-file, turn-buffer, turn-none}
+use Rattle.screens.proofs.ScreenGrounds.{turn-refused, turn-made}
 use Rattle.screens.proofs.Due.{due-is-next}
 
 pub may-read : {r : Read} → Byte (r .name) → Byte (r .«record») → Readable r → MaySend (readSent r)

@@ -14,8 +14,8 @@ use Rattle.file.specs.Rules.Results.{Result, refused, done}
 use Rattle.file.specs.Rules.Decode.{decode}
 use Rattle.file.proofs.Order.{byCase}
 use Rattle.file.proofs.Bytes.{byte-at}
-use Rattle.cluster.specs.Rules.Bus.{slots, senderMask}
-use Rattle.cluster.specs.Rules.Grounds.{shortAnswer}
+use Rattle.master_slave.specs.Rules.Bus.{slots, senderMask}
+use Rattle.cluster.specs.Rules.RoundGrounds.{shortAnswer}
 use Rattle.cluster.specs.Rules.Round.{Answer, frameOn, roundGround}
 use Rattle.cluster.specs.Rules.MasterSlave.{addressSent, dataSent, roundSent}
 use Rattle.cluster.specs.Inner.Sending.{MaySend, asked}
@@ -25,7 +25,7 @@ use Rattle.screens.specs.Rules.Turn.{Turn, idle, served, servedBy, readS
 use Rattle.screens.specs.Claims.Turns.{NoneWaiting, TurnIsRound, TurnsAreRounds, IdleTurns, ServedBytes, ServedWaitsNoMore}
 use Rattle.screens.specs.Claims.Fairness.{Serves}
 use Rattle.screens.proofs.TurnLaws.{may-read}
-use Rattle.screens.proofs.Grounds.{Free, turn-free, turn-refused, turn-made, state-last, state-read}
+use Rattle.screens.proofs.ScreenGrounds.{Free, turn-free, turn-refused, turn-made, state-last, state-read}
 use Rattle.screens.proofs.Due.{due-is-next}
 use Rattle.screens.proofs.StateBytes.{same-waits, same-read, serving-byte, serving-same, serving-last, serving-clears, serving-read}
 use Rattle.screens.proofs.Distinct.{done-refused, idle-served, served-same, served-by-same}

@@ -2,7 +2,7 @@
 ghost use mathlib.Core.Path.{_≡_};
 ghost use Rattle.file.specs.Rules.Order.{firstOf};
 ghost use Rattle.screens.specs.Rules.Screens.{readGrounds, postOn};
-ghost use Rattle.screens.specs.Inner.Answers.{postedOf};
+ghost use Rattle.screens.specs.Inner.ScreenAnswers.{postedOf};
 ghost use Rattle.screens.specs.Inner.Parts.{readIn, PostGround};
 use crate::state::LAST_SCREEN;
 use crate::state::LAST_SERVED;
@@ -10,10 +10,10 @@ use crate::state::ScreenState;
 use crate::state::WAITING;
 use crate::state::is_waiting;
 use crate::state::place_of;
-use cluster::types::RecordAddress;
 use file::types::FileNumber;
 use file::types::LogicalName;
 use file::types::Refusal;
+use master_slave::types::RecordAddress;
 
 pub enum Posted {
     Refused(Refusal),

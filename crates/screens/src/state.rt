@@ -4,12 +4,12 @@ ghost use Prim.Native.Nat.{_+_, _<_};
 ghost use lib.ListN.{length};
 ghost use Rattle.screens.specs.Rules.Screens.{screens, placeOf, nextScreen, lastServed, isWaiting, fresh, due};
 ghost use Rattle.screens.specs.Rules.Turn.{afterServing};
-ghost use Rattle.screens.specs.Inner.Answers.{dueOf};
+ghost use Rattle.screens.specs.Inner.ScreenAnswers.{dueOf};
 ghost use Rattle.screens.specs.Inner.Parts.{ReadAt, PostedRead};
-use cluster::types::RecordAddress;
 use file::types::FileNumber;
 use file::types::LogicalName;
 use file::types::RecordNumber;
+use master_slave::types::RecordAddress;
 
 const SCREENS: u8 = 8;
 

@@ -4,11 +4,11 @@ ghost use Prim.Native.Nat.{_≤_, _<_};
 ghost use lib.ListN.{length};
 ghost use Rattle.file.specs.Rules.Order.{firstOf};
 ghost use Rattle.file.specs.Inner.Accepted.{Placed};
-ghost use Rattle.cluster.specs.Rules.Bus.{slots};
+ghost use Rattle.master_slave.specs.Rules.Bus.{slots};
 ghost use Rattle.cluster.specs.Inner.Sending.{sentFor};
 ghost use Rattle.screens.specs.Rules.Screens.{screens, lastServed, due};
 ghost use Rattle.screens.specs.Rules.Turn.{readSent, stateGrounds, turnMade, turnOn};
-ghost use Rattle.screens.specs.Inner.Answers.{dueOf, turnedOf};
+ghost use Rattle.screens.specs.Inner.ScreenAnswers.{dueOf, turnedOf};
 ghost use Rattle.screens.specs.Inner.Parts.{readIn};
 use crate::post::read_ground;
 use crate::state::DueScreen;
@@ -18,16 +18,16 @@ use crate::state::ScreenState;
 use crate::state::due_screen;
 use crate::state::mark_served;
 use crate::state::posted_read;
-use cluster::answer::SLOTS;
-use cluster::master_slave::send;
-use cluster::types::MasterSlaveRound;
-use cluster::types::RecordAddress;
+use cluster::sending::send;
 use file::survey::FileAnswer;
 use file::survey::survey;
 use file::types::Operation;
 use file::types::PLACES;
 use file::types::Refusal;
 use file::types::SlavePlaces;
+use master_slave::slots::SLOTS;
+use master_slave::types::MasterSlaveRound;
+use master_slave::types::RecordAddress;
 
 // A turn is refused, has nobody to serve, or served a screen, with the mask of the read's data frame.
 pub enum Turned {

@@ -1,4 +1,4 @@
--- No two answers of a call are taken to the same: the maps of `specs/Inner/Answers.antt` can be undone.
+-- No two answers of a call are taken to the same: the maps of `specs/Inner/SummaryAnswers.antt` can be undone.
 -- Assumes nothing.
 use Prim.Native.Nat.{ℕ}
 use mathlib.Core.Path.{_≡_, refl, sym, _∙_, ap}
@@ -8,7 +8,7 @@ use Rattle.summary.specs.declared.fill.Filling.{Filling}
 use Rattle.summary.specs.declared.fill.Filling.the-variants as fillings
 use Rattle.summary.specs.declared.holder.Holder.{Holder}
 use Rattle.summary.specs.declared.holder.Holder.the-variants as holders
-use Rattle.summary.specs.Inner.Answers.{filledOf, holderOf}
+use Rattle.summary.specs.Inner.SummaryAnswers.{filledOf, holderOf}
 
 filling : Result ℕ → Filling
 filling (refused n) = fillings.Refused (record { 0 = n })

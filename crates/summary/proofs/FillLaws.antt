@@ -10,7 +10,7 @@ use Rattle.file.specs.Rules.Cluster.{logicalNames}
 use Rattle.file.specs.Rules.Decode.{decode}
 use Rattle.file.specs.Inner.Accepted.{slaveCount}
 use Rattle.file.specs.Inner.Surveyed.{Surveyed}
-use Rattle.file.specs.Inner.Answers.{checkedOf}
+use Rattle.file.specs.Inner.FileAnswers.{checkedOf}
 use Rattle.file.specs.declared.types.Refusal.{Refusal}
 use Rattle.file.specs.declared.survey.FileAnswer.{FileAnswer}
 use Rattle.file.specs.declared.survey.FileAnswer.the-variants as answers

@@ -5,16 +5,16 @@ use Prim.Native.Nat.{ℕ, suc, _+_, _≤_, _<_}
 use native.Mathlib.Omega.{arith}
 use native.Mathlib.Numerals.{add-one}
 use mathlib.Core.Path.{_≡_, refl, sym, ap, _∙_}
-use mathlib.Core.List.{List, [], _∷_, _++_}
+use mathlib.Core.List.{List, [], _∷_}
 use mathlib.Core.Bool.{Bool, true, false, not}
-use lib.ListN.{length, getD, take, drop, take-append-drop}
+use lib.ListN.{length, getD, take, drop}
 use lib.Seq.{drop-cons, getD-take, drop-length, length-take-le}
 use borrow.Author.Tests.{eq-eqb, ne-eqb, lt-ltb, le-ltb}
 use Rattle.file.specs.Rules.Cluster.{Cluster, logicalName, logicalNames}
 use Rattle.file.specs.Inner.Places.{noSlave, slaveOf}
 use Rattle.file.proofs.Order.{byCase, both-next, both-false-left, either-left, either-next}
 use Rattle.file.proofs.NameReadLaws.{names-count, name-in}
-use Rattle.cluster.specs.Rules.Summary.{kept, alike, wrongSummary, keptFor}
+use Rattle.cluster.specs.Rules.Summary.{kept, alike, wrongSummary}
 use Rattle.cluster.specs.Claims.Renaming.{namesOf}
 use Rattle.cluster.specs.Claims.Summary.{Matches, givenNames}
 use Rattle.cluster.proofs.SummaryLaws.{alike-same}
@@ -32,13 +32,6 @@ front-count count slice room same = ap length (sym same) ∙ length-take-le coun
 -- the slice has room for the names
 pub matches-room : (file : List ℕ) {count : ℕ} {slice : List ℕ} → Matches file (kept count slice) → length (namesOf file) ≤ length slice
 matches-room file (givenNames {count} {slice} room same) = let whole = front-count count slice room same in omega (arith, room)
-
--- they stand there already
-pub matches-kept : (file : List ℕ) {count : ℕ} {slice : List ℕ} → Matches file (kept count slice) → keptFor (kept count slice) (namesOf file) ≡ kept count slice
-unfolding keptFor
-matches-kept file (givenNames {count} {slice} room same) =
-    let whole : namesOf file ++ drop (length (namesOf file)) slice ≡ slice = rw (front-count count slice room same, ← same) (take-append-drop count slice) in
-    ap (λ (l : List ℕ). kept count l) whole
 
 -- ---- name by name
 

@@ -15,19 +15,19 @@ use Rattle.file.specs.Rules.Cluster.{logicalNames}
 use Rattle.file.specs.Rules.Decode.{decode}
 use Rattle.file.specs.Inner.Accepted.{Placed, slaveCount}
 use Rattle.file.specs.Inner.Surveyed.{Surveyed}
-use Rattle.file.specs.Inner.Answers.{checkedOf}
+use Rattle.file.specs.Inner.FileAnswers.{checkedOf}
 use Rattle.file.specs.declared.types.Refusal.{Refusal}
 use Rattle.file.specs.declared.survey.FileAnswer.{FileAnswer}
 use Rattle.file.specs.declared.survey.FileAnswer.the-variants as answers
 use Rattle.file.proofs.Order.{byCase}
 use Rattle.file.proofs.NameReadLaws.{names-count}
 use Rattle.file.proofs.Surveyed.{survey-accepted, survey-refused}
-use Rattle.cluster.specs.Rules.Bus.{slots}
+use Rattle.master_slave.specs.Rules.Bus.{slots}
 use Rattle.cluster.specs.Rules.Round.{Answer, roundGround, roundOn}
 use Rattle.cluster.specs.Rules.Summary.{kept, wrongSummary, keptFor, roundKeepingGround, roundKeeping}
 use Rattle.cluster.specs.Claims.Renaming.{namesOf}
-use Rattle.cluster.specs.Inner.Carried.{Exchanged}
-use Rattle.cluster.specs.Inner.Answers.{answerOf}
+use Rattle.cluster.specs.Inner.Exchanged.{Exchanged}
+use Rattle.cluster.specs.Inner.RoundAnswers.{answerOf}
 use Rattle.cluster.specs.declared.answer.RoundAnswer.{RoundAnswer}
 use Rattle.cluster.specs.declared.answer.RoundAnswer.the-variants as rounds
 use Rattle.cluster.proofs.Rounds.{round-refused, round-accepted}

@@ -12,7 +12,7 @@ use Rattle.file.specs.Rules.Results.{Result, refused, done}
 use Rattle.file.specs.Rules.Cluster.{logicalNames}
 use Rattle.file.specs.Rules.Decode.{decode}
 use Rattle.file.specs.Inner.Surveyed.{Surveyed}
-use Rattle.file.specs.Inner.Answers.{checkedOf}
+use Rattle.file.specs.Inner.FileAnswers.{checkedOf}
 use Rattle.file.specs.declared.types.Refusal.{Refusal}
 use Rattle.file.specs.declared.survey.FileAnswer.{FileAnswer}
 use Rattle.file.specs.declared.survey.FileAnswer.the-variants as answers
@@ -22,7 +22,7 @@ use Rattle.cluster.specs.Rules.Summary.{kept, wrongSummary, keptFor}
 use Rattle.cluster.specs.Claims.Renaming.{namesOf}
 use Rattle.cluster.specs.Claims.Summary.{Matches}
 use Rattle.cluster.proofs.SummaryLaws.{right-matches, given-wrong}
-use Rattle.naming.specs.Rules.Run.{Position, running}
+use Rattle.naming.specs.Rules.Position.{Position, running}
 use Rattle.naming.specs.Rules.Step.{StepDone, stepGround, stepOn, stepKeepingGround, stepKeeping}
 use Rattle.naming.proofs.StepLaws.{step-refused, step-ended, step-made}
 use Rattle.naming.proofs.StepKeeping.{file-step, matched-step, step-keeping-refused, step-keeping-accepted}

@@ -1,7 +1,7 @@
 // A summary filled from a cluster file.
 ghost use mathlib.Core.Path.{_≡_};
 ghost use Rattle.cluster.specs.Rules.Summary.{fillOn};
-ghost use Rattle.summary.specs.Inner.Answers.{filledOf};
+ghost use Rattle.summary.specs.Inner.SummaryAnswers.{filledOf};
 use file::readers::logical_names;
 use file::readers::slave_count;
 use file::survey::FileAnswer;

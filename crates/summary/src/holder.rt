@@ -2,7 +2,7 @@
 ghost use mathlib.Core.Path.{_≡_};
 ghost use Rattle.file.specs.Inner.Typed.{nameIn};
 ghost use Rattle.cluster.specs.Rules.Summary.{holderIn};
-ghost use Rattle.summary.specs.Inner.Answers.{holderOf};
+ghost use Rattle.summary.specs.Inner.SummaryAnswers.{holderOf};
 use file::types::LogicalName;
 use file::types::Refusal;
 

@@ -3,13 +3,12 @@ ghost use mathlib.Core.Path.{_≡_};
 ghost use Prim.Native.Nat.{_≤_};
 ghost use lib.ListN.{length};
 ghost use Rattle.file.specs.Inner.Accepted.{Placed, slaveCount};
-ghost use Rattle.cluster.specs.Rules.Bus.{slots};
+ghost use Rattle.master_slave.specs.Rules.Bus.{slots};
 ghost use Rattle.cluster.specs.Rules.Summary.{kept, roundKeeping};
-ghost use Rattle.cluster.specs.Inner.Answers.{answerOf};
+ghost use Rattle.cluster.specs.Inner.RoundAnswers.{answerOf};
 ghost use Rattle.summary.specs.Inner.Kept.{RoundKept};
 use crate::matching::is_wrong;
 use cluster::answer::RoundAnswer;
-use cluster::answer::SLOTS;
 use cluster::round::one_frame;
 use file::readers::logical_names;
 use file::survey::FileAnswer;
@@ -17,6 +16,7 @@ use file::survey::survey;
 use file::types::PLACES;
 use file::types::Refusal;
 use file::types::SlavePlaces;
+use master_slave::slots::SLOTS;
 
 // One frame on a file that is known to be accepted; where it is carried out, the names that the file then holds are put into the slice.
 fn carry_keeping(
@@ -48,7 +48,8 @@ pub fn round_keeping(
     held: &mut [u8],
     count: usize,
 ) -> RoundAnswer
-    ensures { λ r. ⌜ (answerOf r, now (buffer .exit), now (file .exit), kept count (now (held .exit))) ≡ roundKeeping (now (file .entry)) (kept count (now (held .entry))) (now (frame .entry)) (now (buffer .entry)) ⌝ }
+    ensures { λ r. ⌜ (answerOf r, now (buffer .exit), now (file .exit), kept count (now (held .exit)))
+        ≡ roundKeeping (now (file .entry)) (kept count (now (held .entry))) (now (frame .entry)) (now (buffer .entry)) ⌝ }
 {
     let mut places = [0u16; PLACES];
     let surveyed = survey(file, &mut places);

@@ -5,7 +5,7 @@ ghost use lib.ListN.{length};
 ghost use Rattle.file.specs.Inner.Accepted.{Placed, slaveCount};
 ghost use Rattle.cluster.specs.Rules.Summary.{kept};
 ghost use Rattle.naming.specs.Rules.Step.{stepKeeping};
-ghost use Rattle.naming.specs.Inner.Answers.{positionOf, steppedOf, runAfter};
+ghost use Rattle.naming.specs.Inner.StepAnswers.{positionOf, steppedOf, runAfter};
 ghost use Rattle.summary.specs.Inner.Kept.{isRefused, StepKept};
 use crate::matching::is_wrong;
 use file::readers::logical_names;
@@ -57,7 +57,8 @@ pub fn step_keeping(
     held: &mut [u8],
     count: usize,
 ) -> Stepped
-    ensures { λ r. ⌜ (steppedOf r, runAfter (positionOf run) r, now (answer .exit), now (file .exit), kept count (now (held .exit))) ≡ stepKeeping (now (file .entry)) (positionOf run) (now (names .entry)) (kept count (now (held .entry))) (now (answer .entry)) ⌝ }
+    ensures { λ r. ⌜ (steppedOf r, runAfter (positionOf run) r, now (answer .exit), now (file .exit), kept count (now (held .exit)))
+        ≡ stepKeeping (now (file .entry)) (positionOf run) (now (names .entry)) (kept count (now (held .entry))) (now (answer .entry)) ⌝ }
 {
     let mut places = [0u16; PLACES];
     let verdict = survey(file, &mut places);

@@ -1,19 +1,18 @@
--- The call that runs a trace: its grounds in their order, what it answers, and the claims of `specs/Claims/Run.antt`.
+-- The call that runs a trace: its grounds in their order, what it answers, and the claims of `specs/Claims/TraceRun.antt`.
 -- Assumes nothing.
 use Prim.Native.Nat.{ℕ}
 use native.Mathlib.Omega.{arith}
 use mathlib.Core.Path.{_≡_, refl, sym, ap, _∙_}
 use mathlib.Core.Logic.{_≢_}
-use mathlib.Core.List.{List, [], _∷_, _++_}
+use mathlib.Core.List.{List, [], _∷_}
 use mathlib.Core.Bool.{Bool, true, false}
-use lib.ListN.{length, getD, take}
+use lib.ListN.{length}
 use lib.Dec.{eqb}
 use borrow.Author.Tests.{eqb-true, eqb-false, eq-eqb, ne-eqb}
-use Rattle.file.specs.Rules.Bytes.{Bytes}
 use Rattle.file.specs.Rules.Order.{firstOf}
 use Rattle.file.specs.Rules.Results.{Result, refused, done}
-use Rattle.file.specs.Rules.Grounds.{fileGrounds, fileGround}
-use Rattle.file.specs.Inner.Answers.{checkedOf}
+use Rattle.file.specs.Rules.FileGrounds.{fileGrounds, fileGround}
+use Rattle.file.specs.Inner.FileAnswers.{checkedOf}
 use Rattle.file.specs.Inner.Surveyed.{Surveyed}
 use Rattle.file.specs.declared.survey.FileAnswer.{FileAnswer}
 use Rattle.file.specs.declared.survey.FileAnswer.the-variants as answers
@@ -23,9 +22,9 @@ use Rattle.file.proofs.Results.{file-first, file-numbered}
 use Rattle.file.proofs.Surveyed.{survey-accepted, survey-refused}
 use Rattle.file.proofs.Edition.{unknown-edition, refused-edition}
 use Rattle.trace.specs.Rules.Trace.{frameCount, dataPlace, brokenTrace, framesOf}
-use Rattle.trace.specs.Rules.Run.{afterFrames, Report, noFrames, sumOf, reportFrom, traceGrounds, traceGround, traceOn}
+use Rattle.trace.specs.Rules.TraceRun.{afterFrames, Report, noFrames, sumOf, reportFrom, traceGrounds, traceGround, traceOn}
 use Rattle.trace.specs.Inner.Sent.{FewFrames, TraceSent}
-use Rattle.trace.specs.Claims.Run.{SumIsCount, FileKept, RunKeepsFile, UnknownEdition}
+use Rattle.trace.specs.Claims.TraceRun.{SumIsCount, RunKeepsFile, UnknownEdition}
 use Rattle.trace.proofs.Facts.{trace-facts}
 use Rattle.trace.proofs.Encoded.{frames-count}
 use Rattle.trace.proofs.Runs.{report-sum, frames-bytes, frames-keep}

@@ -1,12 +1,12 @@
--- No two answers to a trace are taken to the same: the map of `specs/Inner/Answers.antt` can be undone.
+-- No two answers to a trace are taken to the same: the map of `specs/Inner/TraceAnswers.antt` can be undone.
 -- Assumes nothing.
 use mathlib.Core.Path.{_≡_, refl, sym, _∙_, ap}
 use Rattle.file.specs.Rules.Results.{Result, refused, done}
 use Rattle.trace.specs.declared.report.Report as Code
 use Rattle.trace.specs.declared.run.TraceAnswer.{TraceAnswer}
 use Rattle.trace.specs.declared.run.TraceAnswer.the-variants as answers
-use Rattle.trace.specs.Rules.Run.{Report}
-use Rattle.trace.specs.Inner.Answers.{reportIn, tracedOf}
+use Rattle.trace.specs.Rules.TraceRun.{Report}
+use Rattle.trace.specs.Inner.TraceAnswers.{tracedOf}
 
 report : Report → Code.Report
 report r = record { msa = r .msa; msd = r .msd; multipartner = r .multipartner; refused = r .refused }

@@ -2,10 +2,8 @@
 -- the other.
 -- Assumes nothing.
 use Prim.Native.Nat.{ℕ, zero, suc, _+_, _*_, _^_, _≤_, _<_}
-use native.Mathlib.Nat.{add-zero}
 use native.Mathlib.Omega.{arith}
 use mathlib.Core.Path.{_≡_, refl, sym, ap, ap₂, _∙_, subst}
-use mathlib.Core.Logic.{_↔_}
 use mathlib.Core.List.{List, [], _∷_, _++_}
 use mathlib.Core.Bool.{true, false}
 use borrow.Author.Tests.{eqb-true, eq-eqb}
@@ -15,11 +13,11 @@ use Rattle.file.proofs.NumberLaws.{part-length}
 use Rattle.file.proofs.Sizes.{bytesOf-length}
 use Rattle.file.proofs.Bytes.{all-first, all-others, bytes-part, numberOf-below}
 use Rattle.file.proofs.Stands.{Stands, stands-part, part-stands, stands-at, stands-left, stands-right, stands-append, stands-none, stands-number, number-stands, stands-whole, whole-stands}
-use Rattle.trace.specs.Rules.Layout.{headerSize, rowSize, maxFrame, maxTrace}
+use Rattle.trace.specs.Rules.Layout.{headerSize, rowSize}
 use Rattle.trace.specs.Rules.Encode.{rowOf, rows, dataOf, encodeTrace, Frame, Frames}
 use Rattle.trace.specs.Rules.Trace.{frameCount, dataLength, offsetIn, lengthIn, dataPlace, wholeRows, brokenTrace, framesFrom, framesOf}
-use Rattle.trace.specs.Claims.Encoding.{AcceptedIsEncoded, ReadBack, EncodedIsAccepted}
-use Rattle.trace.proofs.Facts.{row-next, row-here, row-rest, rows-end, TraceFacts, trace-facts, trace-yes}
+use Rattle.trace.specs.Claims.Encoding.{AcceptedIsEncoded, EncodedIsAccepted}
+use Rattle.trace.proofs.Facts.{row-next, row-here, row-rest, rows-end, trace-facts, trace-yes}
 
 -- ---- lengths
 

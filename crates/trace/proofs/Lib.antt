@@ -11,10 +11,10 @@ pub mod RunExamples
 -- what running frames keeps, and the call
 pub mod Runs
 pub mod Calls
-pub mod Grounds
+pub mod TraceGrounds
 -- who is awake after a trace
 pub mod Sleep
-pub mod Editions
+pub mod TraceEditions
 -- one frame more in a report, and the loop along the frames
 pub mod ReportLaws
 pub mod RunLaws

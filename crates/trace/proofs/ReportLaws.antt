@@ -5,10 +5,10 @@ use mathlib.Core.Path.{_≡_}
 use mathlib.Core.Bool.{Bool, true, false, not, cond}
 use borrow.Author.Tests.{not-true, not-false}
 use Rattle.frame.specs.Rules.Fireworks.{Round}
-use Rattle.frame.specs.Inner.Answers.{fireworkRound}
+use Rattle.frame.specs.Inner.FrameAnswers.{fireworkRound}
 use Rattle.frame.specs.declared.firework.Firework.{Firework}
 use Rattle.frame.specs.declared.firework.Firework.the-variants as fireworks
-use Rattle.trace.specs.Rules.Run.{Report, oneRefused, oneCarried}
+use Rattle.trace.specs.Rules.TraceRun.{Report, oneRefused, oneCarried}
 
 -- by the firework
 module _ (w : Firework) (r : Report) {x : Report} where

@@ -8,7 +8,6 @@ use native.Mathlib.Omega.{arith}
 use lib.ListN.{length}
 use lib.Dec.{eqb}
 use borrow.Author.Tests.{lt-ltb, le-ltb, eq-eqb, ne-eqb}
-use Rattle.file.specs.Rules.Bytes.{numberOf, part}
 use Rattle.file.specs.Inner.Numbers.{ByteAt, NumberAt}
 use Rattle.file.proofs.Order.{either-left, either-right, either-next}
 use Rattle.file.proofs.Facts.{not-yes}

@@ -11,19 +11,19 @@ use Rattle.file.specs.Rules.Cluster.{noOperation, broadcastRead}
 use Rattle.file.specs.Rules.Changes.{withSlaves, withEpoch, withPending}
 use Rattle.file.specs.Rules.Decode.{decode, decodeAt, slavesAt, offsetAt}
 use Rattle.file.specs.Rules.Encode.{slavesBytes, table, slavesPlace, slavesSize, fileLength, header, encodeAt, encode}
-use Rattle.file.specs.Rules.Grounds.{fileGrounds, fileGroundsAt, wrongSize, wrongMark, wrongEdition, wrongLength, wrongHeader, wrongPending, brokenLayout, lacksNeeded, equalPhysicalNames}
-use Rattle.file.specs.Rules.Grounds.{walkFile, tableEnd, walkSlaves, andThen, endsAt, allHaveNeeded, hasRepeat}
+use Rattle.file.specs.Rules.FileGrounds.{fileGrounds, fileGroundsAt, wrongSize, wrongMark, wrongEdition, wrongLength, wrongHeader, wrongPending, brokenLayout, lacksNeeded, equalPhysicalNames}
+use Rattle.file.specs.Rules.FileGrounds.{walkFile, tableEnd, walkSlaves, andThen, endsAt, allHaveNeeded, hasRepeat}
 use Rattle.frame.specs.Rules.Fireworks.{roundOf, roundIn}
 use Rattle.frame.specs.Rules.Check.{exclusiveOr, checkOf, addressCheck}
-use Rattle.frame.specs.Rules.Grounds as frames
-use Rattle.cluster.specs.Rules.Bus.{anyone, maskBelow, senderMask, nobody}
-use Rattle.cluster.specs.Rules.Slaves.{withAddress, nextEpoch, epochRaised, executionOf, dutyBy, pendingDuty, sentTo, slavesAfter, rested}
-use Rattle.cluster.specs.Rules.Multipartner.{sentBy, sentDuring, sentIn, receivedIn, clusterBelow}
-use Rattle.cluster.specs.Rules.Grounds.{shortAnswer, roundBy, writePending, groundsOn}
-use Rattle.cluster.specs.Inner.Grounds.{noFirework, lengthFor, wrongLengthOn, wrongCheckOn, noOperationOn, broadcastReadOn}
+use Rattle.frame.specs.Rules.FrameGrounds as frames
+use Rattle.master_slave.specs.Rules.Bus.{anyone, maskBelow, senderMask, nobody}
+use Rattle.master_slave.specs.Rules.Slaves.{withAddress, nextEpoch, epochRaised, executionOf, dutyBy, pendingDuty, sentTo, slavesAfter, rested}
+use Rattle.multipartner.specs.Rules.Multipartner.{sentBy, sentDuring, sentIn, receivedIn, clusterBelow}
+use Rattle.cluster.specs.Rules.RoundGrounds.{shortAnswer, roundBy, writePending, groundsOn}
+use Rattle.cluster.specs.Inner.EachGround.{noFirework, lengthFor, wrongLengthOn, wrongCheckOn, noOperationOn, broadcastReadOn}
 use Rattle.cluster.specs.Rules.Round.{effectOf, frameOn, roundGround, roundOn}
 use Rattle.trace.specs.Rules.Trace.{frameCount, dataLength, offsetIn, lengthIn, dataPlace, wholeRows, brokenTrace, framesFrom, framesOf}
-use Rattle.trace.specs.Rules.Run.{sent, afterFrames, Report, oneRefused, oneCarried, counted, reportFrom, traceGrounds, traceGround, traceOn}
+use Rattle.trace.specs.Rules.TraceRun.{sent, afterFrames, Report, oneRefused, oneCarried, counted, reportFrom, traceGrounds, traceGround, traceOn}
 
 -- by its epoch, flag and pending bytes
 abbrev pub fileWith : ℕ → ℕ → ℕ → ℕ → ℕ → List ℕ

@@ -1,12 +1,11 @@
 -- The loop along the frames of a trace: what one frame does, what the loop keeps, and one law for each way.
 -- Assumes nothing.
 use Prim.Native.Nat.{ℕ, zero, suc, _+_, _*_, _-_, _≤_, _<_}
-use native.Mathlib.Nat.{add-zero}
 use native.Mathlib.Omega.{arith}
 use mathlib.Core.Path.{_≡_, refl, sym, ap, ap₂, _∙_, subst}
-use mathlib.Core.List.{List, [], _∷_}
+use mathlib.Core.List.{List, _∷_}
 use mathlib.Core.Bool.{Bool, true, false, cond}
-use lib.ListN.{length, getD, take, drop, replicate, length-replicate}
+use lib.ListN.{length, getD, replicate, length-replicate}
 use lib.Dec.{eqb}
 use borrow.Author.Tests.{eqb-true}
 use mir.Val.{Fits}
@@ -19,20 +18,20 @@ use Rattle.file.specs.Inner.Accepted.{Becomes, Placed}
 use Rattle.file.proofs.Order.{byCase, clash}
 use Rattle.file.proofs.SurveyLaws.{bytes-known}
 use Rattle.file.proofs.NumberLaws.{byte-number}
-use Rattle.cluster.specs.Rules.Bus.{slots}
-use Rattle.cluster.specs.Rules.Grounds.{roundBy}
+use Rattle.master_slave.specs.Rules.Bus.{slots}
+use Rattle.cluster.specs.Rules.RoundGrounds.{roundBy}
 use Rattle.cluster.specs.Rules.Round.{Answer}
-use Rattle.cluster.specs.Inner.Grounds.{frameGround}
-use Rattle.cluster.specs.Inner.Carried.{answerTo, leftBy, heardIn, Exchanged}
+use Rattle.cluster.specs.Inner.EachGround.{frameGround}
+use Rattle.cluster.specs.Inner.Exchanged.{answerTo, leftBy, heardIn, Exchanged}
 use Rattle.cluster.specs.Inner.Unheard.{MaySleep, LeftUnheard}
 use Rattle.cluster.proofs.RoundCall.{exchanged-round}
 use Rattle.cluster.proofs.FrameCall.{left-placed}
 use Rattle.frame.specs.Rules.Fireworks.{Round}
-use Rattle.frame.specs.Inner.Answers.{fireworkRound}
+use Rattle.frame.specs.Inner.FrameAnswers.{fireworkRound}
 use Rattle.frame.specs.declared.firework.Firework.{Firework}
 use Rattle.trace.specs.Rules.Layout.{headerSize, rowSize}
-use Rattle.trace.specs.Rules.Trace.{frameCount, dataLength, offsetIn, lengthIn, dataPlace, wholeRows, brokenTrace, framesFrom, framesOf}
-use Rattle.trace.specs.Rules.Run.{sent, afterFrames, Report, noFrames, sumOf, oneRefused, oneCarried, counted, reportFrom}
+use Rattle.trace.specs.Rules.Trace.{frameCount, dataLength, lengthIn, dataPlace, wholeRows, brokenTrace, framesFrom, framesOf}
+use Rattle.trace.specs.Rules.TraceRun.{sent, afterFrames, Report, noFrames, sumOf, oneRefused, oneCarried, counted, reportFrom}
 use Rattle.trace.specs.Inner.Sent.{FewFrames, FrameSent, TraceSent}
 use Rattle.trace.proofs.Facts.{row-here, row-rest, rows-end, TraceFacts, trace-facts}
 use Rattle.trace.proofs.Runs.{counted-sum}

@@ -15,19 +15,19 @@ use Rattle.file.specs.Rules.Order.{firstOf}
 use Rattle.file.specs.Rules.Results.{Result, refused, done}
 use Rattle.file.specs.Rules.Cluster.{Cluster}
 use Rattle.file.specs.Rules.Decode.{decode}
-use Rattle.file.specs.Rules.Grounds.{fileGround}
+use Rattle.file.specs.Rules.FileGrounds.{fileGround}
 use Rattle.file.proofs.Order.{byCase, clash}
 use Rattle.file.proofs.Bytes.{bytes-part}
-use Rattle.cluster.specs.Rules.Bus.{slots}
-use Rattle.cluster.specs.Rules.Grounds.{shortAnswer, roundBy, groundsOn}
-use Rattle.cluster.specs.Inner.Grounds.{noFirework, frameGround}
+use Rattle.master_slave.specs.Rules.Bus.{slots}
+use Rattle.cluster.specs.Rules.RoundGrounds.{shortAnswer, roundBy, groundsOn}
+use Rattle.cluster.specs.Inner.EachGround.{noFirework, frameGround}
 use Rattle.cluster.specs.Rules.Round.{Answer, roundGround, roundOn}
 use Rattle.cluster.proofs.Rounds.{fits-facts, round-facts, round-refused, round-accepted, round-becomes, round-bytes, round-length}
 use Rattle.frame.specs.Rules.Fireworks.{Round, noRound}
 use Rattle.trace.specs.Rules.Layout.{rowSize}
 use Rattle.trace.specs.Rules.Trace.{dataPlace, offsetIn, lengthIn, framesFrom}
-use Rattle.trace.specs.Rules.Run.{sent, afterFrames, Report, sumOf, oneRefused, oneCarried, counted, reportFrom}
-use Rattle.trace.specs.Claims.Run.{CarriedHasRound, FileKept}
+use Rattle.trace.specs.Rules.TraceRun.{sent, afterFrames, Report, sumOf, oneRefused, oneCarried, counted, reportFrom}
+use Rattle.trace.specs.Claims.TraceRun.{CarriedHasRound, FileKept}
 
 -- ---- the sum
 

@@ -13,15 +13,15 @@ use Rattle.file.specs.Rules.Cluster.{Slave}
 use Rattle.file.specs.Rules.Decode.{decode}
 use Rattle.file.proofs.Order.{byCase}
 use Rattle.frame.specs.Rules.Fireworks.{Round, multipartner, msd, msa, noRound}
-use Rattle.cluster.specs.Rules.Bus.{slots}
-use Rattle.cluster.specs.Rules.Grounds.{roundBy}
-use Rattle.cluster.specs.Inner.Grounds.{frameGround}
+use Rattle.master_slave.specs.Rules.Bus.{slots}
+use Rattle.cluster.specs.Rules.RoundGrounds.{roundBy}
+use Rattle.cluster.specs.Inner.EachGround.{frameGround}
 use Rattle.cluster.specs.Rules.Round.{roundGround, roundOn}
 use Rattle.cluster.specs.Claims.Sleep.{AllAwake, PutsToSleep}
 use Rattle.cluster.proofs.Rounds.{round-facts, round-refused, round-bytes}
 use Rattle.cluster.proofs.Sleep.{data-wakes, multipartner-wakes, address-wakes-nobody}
 use Rattle.trace.specs.Rules.Trace.{frameCount, framesOf}
-use Rattle.trace.specs.Rules.Run.{sent, afterFrames, traceGround, traceOn}
+use Rattle.trace.specs.Rules.TraceRun.{sent, afterFrames, traceGround, traceOn}
 use Rattle.trace.specs.Claims.Sleep.{EachSent, noneLeft, oneSent, NoSleep, Woken, woken, later, TraceWakes, TraceStaysAwake, OnlyAddress, AddressesWakeNobody}
 use Rattle.trace.proofs.Runs.{none-fits, frames-bytes}
 use Rattle.trace.proofs.Calls.{trace-refused, trace-run}

@@ -1,7 +1,7 @@
 -- Statements of theorems: what a trace is, its grounds, a refused frame, what running it keeps, who is awake after it, and both editions.
 pub mod Encoding
-pub mod Grounds
+pub mod TraceGrounds
 pub mod Refused
-pub mod Run
-pub mod Editions
+pub mod TraceRun
+pub mod TraceEditions
 pub mod Sleep

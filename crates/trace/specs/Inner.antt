@@ -1,3 +1,3 @@
 -- Maps of the code's types, and words of the contracts between functions.
-pub mod Answers
+pub mod TraceAnswers
 pub mod Sent

@@ -3,4 +3,4 @@
 pub mod Layout
 pub mod Encode
 pub mod Trace
-pub mod Run
+pub mod TraceRun

@@ -1,9 +1,9 @@
 // The report of a run: "the numbers of MSA, MSD, multipartner and refused frames".
 ghost use mathlib.Core.Path.{_≡_};
 ghost use mathlib.Core.Bool.{cond};
-ghost use Rattle.frame.specs.Inner.Answers.{fireworkRound};
-ghost use Rattle.trace.specs.Rules.Run.{oneRefused, oneCarried};
-ghost use Rattle.trace.specs.Inner.Answers.{reportIn};
+ghost use Rattle.frame.specs.Inner.FrameAnswers.{fireworkRound};
+ghost use Rattle.trace.specs.Rules.TraceRun.{oneRefused, oneCarried};
+ghost use Rattle.trace.specs.Inner.TraceAnswers.{reportIn};
 ghost use Rattle.trace.specs.Inner.Sent.{FewFrames};
 use frame::firework::Firework;
 

@@ -5,8 +5,8 @@ ghost use Rattle.file.specs.Rules.Decode.{decode};
 ghost use Rattle.file.specs.Inner.Accepted.{Placed};
 ghost use Rattle.cluster.specs.Inner.Unheard.{MaySleep};
 ghost use Rattle.trace.specs.Rules.Trace.{brokenTrace};
-ghost use Rattle.trace.specs.Rules.Run.{traceOn};
-ghost use Rattle.trace.specs.Inner.Answers.{reportIn, tracedOf};
+ghost use Rattle.trace.specs.Rules.TraceRun.{traceOn};
+ghost use Rattle.trace.specs.Inner.TraceAnswers.{reportIn, tracedOf};
 ghost use Rattle.trace.specs.Inner.Sent.{FewFrames, FrameSent, TraceSent};
 use crate::layout::COUNT_PLACE;
 use crate::layout::HEADER_SIZE;
@@ -16,7 +16,6 @@ use crate::layout::is_broken;
 use crate::report::NO_FRAMES;
 use crate::report::Report;
 use crate::report::counted;
-use cluster::answer::SLOTS;
 use cluster::round::firework_in;
 use cluster::round::one_unheard;
 use file::numbers::byte_at;
@@ -26,6 +25,7 @@ use file::survey::survey;
 use file::types::PLACES;
 use file::types::Refusal;
 use file::types::SlavePlaces;
+use master_slave::slots::SLOTS;
 
 pub enum TraceAnswer {
     Refused(Refusal),

@@ -3,8 +3,8 @@
 use Prim.Native.Nat.{ℕ, _-_, _^_}
 use mathlib.Core.Path.{_≡_, refl, ap}
 use mathlib.Core.List.{List, [], _∷_}
-use Rattle.file.specs.Rules.Grounds.{loadVerdict}
-use Rattle.file.specs.Inner.Answers.{checkedOf}
+use Rattle.file.specs.Rules.FileGrounds.{loadVerdict}
+use Rattle.file.specs.Inner.FileAnswers.{checkedOf}
 use Rattle.file.specs.declared.survey.FileAnswer.{FileAnswer}
 use Rattle.file.specs.declared.survey.FileAnswer.the-variants as answers
 use Rattle.file.specs.declared.types.Refusal.{Refusal}
@@ -18,36 +18,37 @@ use Rattle.frame.specs.declared.types.FrameWriting.{FrameWriting}
 use Rattle.frame.specs.declared.types.FrameWriting.the-variants as writings
 use Rattle.frame.specs.Rules.Reading.{parts, readAddress}
 use Rattle.frame.specs.Rules.Writing.{writeAddress, writeData}
-use Rattle.frame.specs.Inner.Answers.{readingOf, writingOf}
+use Rattle.frame.specs.Inner.FrameAnswers.{readingOf, writingOf}
 use Rattle.file.specs.Rules.Results.{Result, refused, done, numberIn}
 use Rattle.cluster.specs.Rules.Round.{Answer, roundOn}
 use Rattle.cluster.specs.Rules.Summary.{kept, roundKeeping, fillOn, nobody, at, holderIn}
-use Rattle.cluster.specs.Inner.Answers.{answerOf}
+use Rattle.cluster.specs.Inner.RoundAnswers.{answerOf}
 use Rattle.cluster.specs.declared.answer.RoundAnswer.{RoundAnswer}
 use Rattle.cluster.specs.declared.answer.RoundAnswer.the-variants as rounds
-use Rattle.trace.specs.Rules.Run.{reportWords, traceOn}
-use Rattle.trace.specs.Inner.Answers.{reportIn, tracedOf}
+use Rattle.trace.specs.Rules.TraceRun.{reportWords, traceOn}
+use Rattle.trace.specs.Inner.TraceAnswers.{reportIn, tracedOf}
 use Rattle.trace.specs.Inner.Sent.{FewFrames}
 use Rattle.trace.specs.declared.report.Report.{Report}
 use Rattle.trace.specs.declared.run.TraceAnswer.{TraceAnswer}
 use Rattle.trace.specs.declared.run.TraceAnswer.the-variants as traces
 use Rattle.trace.proofs.Calls.{ran-few}
 use Rattle.convert.specs.Rules.Convert.{convertOn}
-use Rattle.convert.specs.Inner.Answers.{editionIn, convertedOf}
+use Rattle.convert.specs.Inner.ConversionAnswers.{editionIn, convertedOf}
 use Rattle.convert.specs.declared.editions.Edition.the-variants as editions
 use Rattle.convert.specs.declared.convert.Conversion.{Conversion}
 use Rattle.convert.specs.declared.convert.Conversion.the-variants as conversions
 use Rattle.join.specs.Rules.Join.{joinOn}
-use Rattle.join.specs.Inner.Answers.{joiningOf}
+use Rattle.join.specs.Inner.JoinAnswers.{joiningOf}
 use Rattle.join.specs.declared.join.Joining.{Joining}
 use Rattle.join.specs.declared.join.Joining.the-variants as joinings
-use Rattle.owner.specs.Rules.Writing.{ownerOn}
-use Rattle.owner.specs.Inner.Answers.{writtenOf}
+use Rattle.owner.specs.Rules.OwnerWriting.{ownerOn}
+use Rattle.owner.specs.Inner.OwnerAnswers.{writtenOf}
 use Rattle.owner.specs.declared.write.OwnerAnswer.{OwnerAnswer}
 use Rattle.owner.specs.declared.write.OwnerAnswer.the-variants as owners
-use Rattle.naming.specs.Rules.Run.{Position, startOver}
+use Rattle.naming.specs.Rules.Position.{Position}
+use Rattle.naming.specs.Rules.RunGrounds.{startOver}
 use Rattle.naming.specs.Rules.Step.{stepOn, stepKeeping}
-use Rattle.naming.specs.Inner.Answers.{positionOf, startedOf, steppedOf, runAfter}
+use Rattle.naming.specs.Inner.StepAnswers.{positionOf, startedOf, steppedOf, runAfter}
 use Rattle.naming.specs.declared.position.RunPosition.{RunPosition}
 use Rattle.naming.specs.declared.run.Started.{Started}
 use Rattle.naming.specs.declared.run.Started.the-variants as starts
@@ -55,18 +56,18 @@ use Rattle.naming.specs.declared.run.Stepped.{Stepped}
 use Rattle.naming.specs.declared.run.Stepped.the-variants as steps
 use Rattle.screens.specs.Rules.Screens.{readBy, fresh, postOn}
 use Rattle.screens.specs.Rules.Turn.{idle, served, turnOn}
-use Rattle.screens.specs.Inner.Answers.{postedOf, turnedOf}
+use Rattle.screens.specs.Inner.ScreenAnswers.{postedOf, turnedOf}
 use Rattle.screens.specs.declared.post.Posted.{Posted}
 use Rattle.screens.specs.declared.post.Posted.the-variants as posts
 use Rattle.screens.specs.declared.turn.Turned.{Turned}
 use Rattle.screens.specs.declared.turn.Turned.the-variants as turns
 use Rattle.line.specs.Rules.Patterns.{patternOn}
-use Rattle.line.specs.Inner.Answers.{classIn, readOf}
+use Rattle.line.specs.Inner.LineAnswers.{classIn, readOf}
 use Rattle.line.specs.declared.pattern.PatternAnswer.{PatternAnswer}
 use Rattle.line.specs.declared.pattern.PatternAnswer.the-variants as patterns
 use Rattle.line.specs.declared.pattern.PatternClass.{PatternClass}
 use Rattle.line.specs.declared.pattern.PatternClass.the-variants as classes
-use Rattle.summary.specs.Inner.Answers.{filledOf, holderOf}
+use Rattle.summary.specs.Inner.SummaryAnswers.{filledOf, holderOf}
 use Rattle.summary.specs.declared.fill.Filling.{Filling}
 use Rattle.summary.specs.declared.fill.Filling.the-variants as fillings
 use Rattle.summary.specs.declared.holder.Holder.{Holder}

@@ -13,7 +13,7 @@ use Rattle.join.specs.Rules.Join.{joinOn}
 use Rattle.join.specs.Claims.Result.{JoinOf}
 use Rattle.join.proofs.Order.{join-written}
 use Rattle.join.proofs.Result.{call-joins}
-use Rattle.join.proofs.Editions.{joined-forms}
+use Rattle.join.proofs.JoinEditions.{joined-forms}
 use Rattle.ttpa.specs.Rules.Calls.{convertCall, joinCall, lentAfter}
 use Rattle.ttpa.specs.Claims.Join.{JoinNumbers, JoinWritten, JoinLeft, JoinsConverted}
 use Rattle.ttpa.proofs.Numbers.{join-number}

@@ -1,6 +1,8 @@
 pub mod CallLaws
 pub mod Numbers
 pub mod Refusals
+-- the words of a run
+pub mod WordExamples
 -- what the question tells
 pub mod HolderLaws
 -- what conversions leave

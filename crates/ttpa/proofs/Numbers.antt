@@ -14,21 +14,22 @@ use Rattle.file.specs.Rules.Order.{Ground, firstOf}
 use Rattle.file.specs.Rules.Results.{refused, resultOf, numberIn}
 use Rattle.file.specs.Rules.Cluster.{Cluster}
 use Rattle.file.specs.Rules.Decode.{decode}
-use Rattle.file.specs.Rules.Grounds.{fileGroundsAt, fileGrounds, loadGround, loadVerdict}
+use Rattle.file.specs.Rules.FileGrounds.{fileGroundsAt, fileGrounds, loadGround, loadVerdict}
 use Rattle.file.proofs.Order.{byCase}
 use Rattle.file.proofs.Width.{two-widths}
 use Rattle.frame.specs.Rules.Fireworks.{Round, multipartner, msd, msa, noRound}
 use Rattle.frame.specs.Rules.Reading.{readGround, partsOf, readAddress}
 use Rattle.frame.specs.Rules.Writing.{writeFrame, writeGround, writeAddress, dataGround, writeData}
-use Rattle.cluster.specs.Rules.Grounds.{shortAnswer, roundBy, groundsOn}
+use Rattle.cluster.specs.Rules.RoundGrounds.{shortAnswer, roundBy, groundsOn}
 use Rattle.cluster.specs.Rules.Round.{roundGround, roundOn}
 use Rattle.cluster.specs.Rules.Summary.{kept, fillGround, fillOn, holderIn, roundKeepingGround, roundKeeping}
-use Rattle.trace.specs.Rules.Run.{traceGrounds, traceGround, traceOn}
-use Rattle.owner.specs.Rules.Writing.{ownerGrounds, ownerGround, ownerOn}
+use Rattle.trace.specs.Rules.TraceRun.{traceGrounds, traceGround, traceOn}
+use Rattle.owner.specs.Rules.OwnerWriting.{ownerGrounds, ownerGround, ownerOn}
 use Rattle.convert.specs.Rules.Convert.{convertGrounds, convertGround, convertOn}
-use Rattle.convert.proofs.Grounds.{only-narrowing}
+use Rattle.convert.proofs.ConversionGrounds.{only-narrowing}
 use Rattle.join.specs.Rules.Join.{joinGrounds, joinGround, joinOn}
-use Rattle.naming.specs.Rules.Run.{Position, running, namesGrounds, startGround, runGrounds, fresh, startOver}
+use Rattle.naming.specs.Rules.Position.{Position, running, fresh}
+use Rattle.naming.specs.Rules.RunGrounds.{namesGrounds, startGround, runGrounds, startOver}
 use Rattle.naming.specs.Rules.Step.{StepDone, stepGround, stepMade, stepOn, stepKeepingGround, stepKeeping}
 use Rattle.screens.specs.Rules.Screens.{Due, nobody, screen, readBy, due, readGrounds, postGround, postOn}
 use Rattle.screens.specs.Rules.Turn.{dueGrounds, stateGrounds, turnGround, turnMade, turnOn}

@@ -7,7 +7,7 @@ use mathlib.Core.Bool.{cond, true}
 use native.Mathlib.Omega.{arith}
 use lib.Dec.{eqb}
 use Rattle.file.specs.Rules.Results.{Result, refused, done, numberIn}
-use Rattle.file.specs.Rules.Grounds.{isAmong}
+use Rattle.file.specs.Rules.FileGrounds.{isAmong}
 use Rattle.line.specs.Claims.Classes.{theEight}
 use Rattle.line.specs.Rules.Patterns.{PatternClass, dataByte, firework, broken, classOf, patternOn}
 use Rattle.line.proofs.Table.{below}

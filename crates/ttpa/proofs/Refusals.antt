@@ -4,6 +4,7 @@ use Prim.Native.Nat.{ℕ}
 use mathlib.Core.Path.{_≡_, sym, _∙_}
 use mathlib.Core.Logic.{_≢_}
 use mathlib.Core.List.{List}
+use mathlib.Core.Bool.{cond}
 use lib.Dec.{eqb}
 use borrow.Author.Tests.{eqb-true}
 use Rattle.file.specs.Rules.Results.{Result, refused, done, resultOf, numberIn}
@@ -14,16 +15,17 @@ use Rattle.frame.specs.Rules.Writing.{writeFrame, writeGround, writeAddress, da
 use Rattle.cluster.specs.Rules.Round.{roundGround, roundOn}
 use Rattle.cluster.specs.Rules.Summary.{kept, fillGround, fillOn, holderIn, roundKeepingGround, roundKeeping}
 use Rattle.cluster.proofs.Keeping.{keeping-round}
-use Rattle.trace.specs.Rules.Run.{traceGround, traceOn}
-use Rattle.owner.specs.Rules.Writing.{ownerGround, ownerOn}
+use Rattle.trace.specs.Rules.TraceRun.{reportWords, traceGround, traceOn}
+use Rattle.owner.specs.Rules.OwnerWriting.{ownerGround, ownerOn}
 use Rattle.convert.specs.Rules.Convert.{convertGround, convertOn}
 use Rattle.join.specs.Rules.Join.{joinGround, joinOn}
-use Rattle.naming.specs.Rules.Run.{running, startOver}
+use Rattle.naming.specs.Rules.Position.{running}
+use Rattle.naming.specs.Rules.RunGrounds.{startOver}
 use Rattle.naming.specs.Rules.Step.{stepGround, stepMade, stepOn, stepKeepingGround, stepKeeping}
 use Rattle.naming.proofs.StepKeeping.{keeping-step}
 use Rattle.screens.specs.Rules.Screens.{readBy, postGround, postOn}
 use Rattle.screens.specs.Rules.Turn.{turnGround}
-use Rattle.screens.proofs.Grounds.{turn-refused}
+use Rattle.screens.proofs.ScreenGrounds.{turn-refused}
 use Rattle.ttpa.specs.Rules.Calls.{lentAfter, partBytes, readAddressCall, writeAddressCall, writeDataCall, roundCall, traceCall, ownerCall, convertCall}
 use Rattle.ttpa.specs.Rules.Calls.{positionIn, wordsOf, startCall, stepSenders, stepWords, stepCall, fillCall, placeOf, holderCall, sliceOf}
 use Rattle.ttpa.specs.Rules.Calls.{roundKeepingCall, stepKeepingCall, postCall, turnScreen, turnSenders, turnCall, joinCall}
@@ -53,6 +55,21 @@ write-kept ground frame buffer n some e =
 
 -- ---- a frame or a trace on a file, and its owner file
 
+-- the answer of a layer below, by its ground, and what it leaves
+abbrev answered : {A C : Type 0} → ℕ → A → C → C → Result A × C
+answered ground value new was = cond (eqb ground 0) (done value, new) (refused ground, was)
+
+answer-kept :
+    {A B C : Type 0} (ground : ℕ) (value : A) (new was : C) (old : B) (to : A → B) (n : ℕ) → n ≢ 0 → numberIn (answered ground value new was .0) ≡ n →
+    _≡_ {A = ℕ × B × C}
+    (numberIn (answered ground value new was .0), lentAfter (answered ground value new was .0) old to, answered ground value new was .1)
+    (n, old, was)
+unfolding numberIn lentAfter
+answer-kept ground value new was old to n some e =
+    byCase (eqb ground 0)
+    (λ t. absurd (some (sym (rw t at e))))
+    (λ t. let same : ground ≡ n = rw t at e in rw (t, same))
+
 round-kept :
     (file frame answer : List ℕ) (senders n : ℕ) → n ≢ 0 → roundCall file frame answer senders .0 ≡ n →
     roundCall file frame answer senders ≡ (n, senders, answer, file)
@@ -63,38 +80,26 @@ round-kept file frame answer senders n some e =
     (λ t. let same : roundGround file frame answer ≡ n = rw t at e in rw (t, same))
 
 trace-kept : (file t report : List ℕ) (n : ℕ) → n ≢ 0 → traceCall file t report .0 ≡ n → traceCall file t report ≡ (n, report, file)
-unfolding traceCall traceOn numberIn lentAfter
-trace-kept file t report n some e =
-    byCase (eqb (traceGround file t) 0)
-    (λ x. absurd (some (sym (rw x at e))))
-    (λ x. let same : traceGround file t ≡ n = rw x at e in rw (x, same))
+unfolding traceCall traceOn
+trace-kept file t report n some e = answer-kept (traceGround file t) _ _ file report reportWords n some e
 
 owner-kept :
     (file : List ℕ) (master : ℕ) (buffer : List ℕ) (length n : ℕ) → n ≢ 0 → ownerCall file master buffer length .0 ≡ n →
     ownerCall file master buffer length ≡ (n, length, buffer)
-unfolding ownerCall ownerOn numberIn lentAfter
-owner-kept file master buffer length n some e =
-    byCase (eqb (ownerGround file master buffer) 0)
-    (λ x. absurd (some (sym (rw x at e))))
-    (λ x. let same : ownerGround file master buffer ≡ n = rw x at e in rw (x, same))
+unfolding ownerCall ownerOn
+owner-kept file master buffer length n some e = answer-kept (ownerGround file master buffer) _ _ buffer length (λ (written : ℕ). written) n some e
 
 convert-kept :
     (edition : ℕ) (file out : List ℕ) (length n : ℕ) → n ≢ 0 → convertCall edition file out length .0 ≡ n →
     convertCall edition file out length ≡ (n, length, out)
-unfolding convertCall convertOn numberIn lentAfter
-convert-kept edition file out length n some e =
-    byCase (eqb (convertGround file edition out) 0)
-    (λ x. absurd (some (sym (rw x at e))))
-    (λ x. let same : convertGround file edition out ≡ n = rw x at e in rw (x, same))
+unfolding convertCall convertOn
+convert-kept edition file out length n some e = answer-kept (convertGround file edition out) _ _ out length (λ (written : ℕ). written) n some e
 
 join-kept :
     (first second out : List ℕ) (length n : ℕ) → n ≢ 0 → joinCall first second out length .0 ≡ n →
     joinCall first second out length ≡ (n, length, out)
-unfolding joinCall joinOn numberIn lentAfter
-join-kept first second out length n some e =
-    byCase (eqb (joinGround first second out) 0)
-    (λ x. absurd (some (sym (rw x at e))))
-    (λ x. let same : joinGround first second out ≡ n = rw x at e in rw (x, same))
+unfolding joinCall joinOn
+join-kept first second out length n some e = answer-kept (joinGround first second out) _ _ out length (λ (written : ℕ). written) n some e
 
 -- ---- a run
 
@@ -113,11 +118,8 @@ step-kept file run names answer senders n some e =
 -- ---- a summary
 
 fill-kept : (file held : List ℕ) (count n : ℕ) → n ≢ 0 → fillCall file held count .0 ≡ n → fillCall file held count ≡ (n, count, held)
-unfolding fillCall fillOn numberIn lentAfter
-fill-kept file held count n some e =
-    byCase (eqb (fillGround file held) 0)
-    (λ x. absurd (some (sym (rw x at e))))
-    (λ x. let same : fillGround file held ≡ n = rw x at e in rw (x, same))
+unfolding fillCall fillOn
+fill-kept file held count n some e = answer-kept (fillGround file held) _ _ held count (λ (filled : ℕ). filled) n some e
 
 round-keeping-kept :
     (file frame answer : List ℕ) (senders : ℕ) (held : List ℕ) (count n : ℕ) → n ≢ 0 → roundKeepingCall file frame answer senders held count .0 ≡ n →

@@ -5,35 +5,27 @@ use Prim.Native.Nat.{ℕ}
 use mathlib.Core.Path.{_≡_, refl}
 use mathlib.Core.List.{List, [], _∷_, _++_}
 use lib.ListN.{set, replicate}
-use Rattle.file.specs.Rules.Bytes.{allZero, part, numberOf, bytesOf}
 use Rattle.file.specs.Rules.Changes.{withSlaves, withEpoch, withPending, withSleep}
-use Rattle.file.specs.Rules.Cluster.{lastRecord, physicalName, bytesIn, bytesAmong, logicalName, isAwake, hasRecord, pb2Of, recordOf}
-use Rattle.file.specs.Rules.Cluster.{noOperation, broadcastRead, logicalNames}
-use Rattle.file.specs.Rules.Decode.{offsetAt, fileSize, decode, decodeAt, slavesAt, slaveAt, filesAt, fileAt}
-use Rattle.file.specs.Rules.Encode.{encode, encodeAt, header, fileLength, slavesPlace, slavesSize, table, tableEntry, slavesBytes}
-use Rattle.file.specs.Rules.Encode.{slaveSize, slaveBytes, contents, directory, directoryEntry}
-use Rattle.file.specs.Rules.Grounds.{fileGround, fileGrounds, fileGroundAt, fileGroundsAt, wrongSize, wrongMark, wrongEdition}
-use Rattle.file.specs.Rules.Grounds.{wrongLength, wrongHeader, wrongPending, brokenLayout, walkFile, tableEnd, walkSlaves, andThen}
-use Rattle.file.specs.Rules.Grounds.{walkSlave, goodTableEntry, walkDirectory, goodEntry, endsAt, lacksNeeded, allHaveNeeded, hasNeeded}
-use Rattle.file.specs.Rules.Grounds.{equalPhysicalNames, hasRepeat, isAmong, loadGround, loadVerdict, equalLogicalNames, heldNames}
-use Rattle.file.specs.Rules.Layout.{widthOf}
+use Rattle.file.specs.Rules.Cluster.{logicalName, isAwake, hasRecord, pb2Of, recordOf, noOperation, broadcastRead, logicalNames}
+use Rattle.file.specs.Rules.FileGrounds.{loadGround, loadVerdict, equalLogicalNames, heldNames}
 use Rattle.file.specs.Rules.Order.{firstOf, both, either}
 use Rattle.file.specs.Rules.Results.{numberIn, resultOf}
 use Rattle.frame.specs.Rules.Check.{exclusiveOr, checkOf, addressCheck, dataCheck}
 use Rattle.frame.specs.Rules.Fireworks.{roundOf, roundIn}
 use Rattle.frame.specs.Rules.Frames.{frameOf, addressBytes, addressFrame}
-use Rattle.frame.specs.Rules.Grounds.{wrongFrameLength, wrongCheck, noFileNumber}
-use Rattle.cluster.specs.Inner.Carried.{sendersTo}
-use Rattle.cluster.specs.Rules.Bus.{anyone, maskBelow, senderMask, joined, busByte, answerBytes, answerIn, slotBytes, nobody}
-use Rattle.cluster.specs.Rules.Grounds.{shortAnswer, roundBy, writePending, groundsOn}
+use Rattle.frame.specs.Rules.FrameGrounds.{wrongFrameLength, wrongCheck, noFileNumber}
+use Rattle.master_slave.specs.Inner.Carried.{sendersTo}
+use Rattle.master_slave.specs.Rules.Bus.{anyone, maskBelow, senderMask, joined, busByte, answerBytes, answerIn, slotBytes, nobody}
+use Rattle.cluster.specs.Rules.RoundGrounds.{shortAnswer, roundBy, writePending, groundsOn}
 use Rattle.cluster.specs.Rules.MasterSlave.{addressSent, dataSent, roundSent}
 use Rattle.cluster.specs.Rules.Round.{effectOf, frameOn, roundGround, roundOn}
-use Rattle.cluster.specs.Rules.Slaves.{inSlot, withAddress, nextEpoch, epochRaised, executionOf, dutyBy, pendingDuty, sentTo, slavesAfter}
-use Rattle.cluster.specs.Rules.Slaves.{slaveAfter, rested, restsAfter, fallsAsleep, addressed, addresses, isUnnamed, answersRead}
-use Rattle.cluster.specs.Rules.Slaves.{answersCompare, readReply, replyTo}
+use Rattle.master_slave.specs.Rules.Slaves.{inSlot, withAddress, nextEpoch, epochRaised, executionOf, dutyBy, pendingDuty, sentTo, slavesAfter}
+use Rattle.master_slave.specs.Rules.Slaves.{slaveAfter, rested, restsAfter, fallsAsleep, addressed, addresses, isUnnamed, answersRead}
+use Rattle.master_slave.specs.Rules.Slaves.{answersCompare, readReply, replyTo}
 use Rattle.screens.specs.Rules.Screens.{lastServed, isWaiting, readOf, fresh, nextScreen, dueFrom, due, noScreen, readGrounds, postGround}
 use Rattle.screens.specs.Rules.Screens.{posted, postOn, placeOf}
 use Rattle.screens.specs.Rules.Turn.{servedBy, readSent, afterServing, dueGrounds, stateGrounds, turnGround, turnMade, turnOn}
+use Rattle.convert.proofs.Examples.{examples as convertExamples}
 use Rattle.ttpa.specs.Rules.Calls.{checkCall, screensCall, postCall, noneWaited, turnScreen, turnSenders, turnCall}
 
 -- a slave named 5, epoch 0xE0
@@ -203,7 +195,13 @@ pub record TurnExamples : Type 0 where
   pub stillServed : turnCall equalNames sharing long 9 9 .2 ≡ 5
 
 pub turn-examples : TurnExamples
-unfolding fileGround fileGrounds fileGroundAt fileGroundsAt firstOf both either wrongSize wrongMark wrongEdition wrongLength wrongHeader wrongPending allZero part numberOf offsetAt brokenLayout walkFile tableEnd walkSlaves andThen walkSlave goodTableEntry walkDirectory goodEntry fileSize endsAt lacksNeeded allHaveNeeded hasNeeded lastRecord widthOf decode decodeAt slavesAt slaveAt filesAt fileAt equalPhysicalNames hasRepeat isAmong physicalName bytesIn bytesAmong encode encodeAt header fileLength slavesPlace slavesSize table tableEntry slavesBytes slaveSize slaveBytes contents directory directoryEntry bytesOf withSlaves withEpoch withPending withSleep logicalName isAwake hasRecord pb2Of loadGround loadVerdict equalLogicalNames numberIn resultOf roundOf roundIn exclusiveOr checkOf addressCheck wrongFrameLength wrongCheck noFileNumber frameOf addressBytes addressFrame anyone maskBelow senderMask joined busByte answerBytes answerIn inSlot sendersTo withAddress nextEpoch epochRaised executionOf dutyBy pendingDuty sentTo slavesAfter slaveAfter rested restsAfter fallsAsleep addressed addresses isUnnamed answersRead answersCompare shortAnswer roundBy writePending groundsOn effectOf frameOn roundGround roundOn addressSent dataSent roundSent lastServed isWaiting readOf fresh nextScreen dueFrom due noScreen readGrounds servedBy readSent afterServing dueGrounds stateGrounds turnGround turnMade turnOn checkCall noneWaited turnScreen turnSenders turnCall slotBytes nobody readReply replyTo recordOf noOperation broadcastRead heldNames logicalNames dataCheck placeOf
+unfolding convertExamples withSlaves withEpoch withPending withSleep logicalName isAwake hasRecord pb2Of loadGround loadVerdict equalLogicalNames
+    numberIn resultOf roundOf roundIn exclusiveOr checkOf addressCheck wrongFrameLength wrongCheck noFileNumber frameOf addressBytes addressFrame
+    anyone maskBelow senderMask joined busByte answerBytes answerIn inSlot sendersTo withAddress nextEpoch epochRaised executionOf dutyBy pendingDuty
+    sentTo slavesAfter slaveAfter rested restsAfter fallsAsleep addressed addresses isUnnamed answersRead answersCompare shortAnswer roundBy
+    writePending groundsOn effectOf frameOn roundGround roundOn addressSent dataSent roundSent lastServed isWaiting readOf fresh nextScreen dueFrom
+    due noScreen readGrounds servedBy readSent afterServing dueGrounds stateGrounds turnGround turnMade turnOn checkCall noneWaited turnScreen
+    turnSenders turnCall slotBytes nobody readReply replyTo recordOf noOperation broadcastRead heldNames logicalNames dataCheck placeOf
 turn-examples =
     record {
       afterSeven = refl;

@@ -3,7 +3,7 @@
 use Prim.Native.Nat.{ℕ, _+_, _≤_}
 use mathlib.Core.Path.{_≡_, refl, sym, ap, _∙_, subst}
 use mathlib.Core.List.{List, [], _∷_, map}
-use mathlib.Core.Bool.{true, false, cond}
+use mathlib.Core.Bool.{true, cond}
 use native.Mathlib.Omega.{arith}
 use lib.ListN.{length, drop, replicate, drop-of-length-le}
 use lib.Dec.{eqb}
@@ -11,17 +11,17 @@ use borrow.Author.Tests.{eqb-true, eqb-false}
 use Rattle.file.specs.Rules.Bytes.{Byte, Bytes, All, allEmpty, allNext}
 use Rattle.file.specs.Rules.Order.{firstOf, both, either}
 use Rattle.file.specs.Rules.Results.{Result, refused, done, resultOf, numberIn}
-use Rattle.file.specs.Rules.Grounds.{fileGround}
+use Rattle.file.specs.Rules.FileGrounds.{fileGround}
 use Rattle.file.specs.Rules.Cluster.{readOperation}
 use Rattle.file.specs.Rules.Decode.{decode}
 use Rattle.file.proofs.Order.{byCase}
 use Rattle.file.proofs.Bytes.{byte-at}
 use Rattle.frame.specs.Rules.Frames.{frameSize, frameOf, addressBytes, addressFrame}
-use Rattle.frame.specs.Rules.Grounds.{noFileNumber, broadcastRead}
+use Rattle.frame.specs.Rules.FrameGrounds.{noFileNumber, broadcastRead}
 use Rattle.frame.proofs.Written.{write-fits, address-writes}
-use Rattle.cluster.specs.Rules.Bus.{slots}
+use Rattle.master_slave.specs.Rules.Bus.{slots}
 use Rattle.cluster.specs.Rules.Round.{Answer}
-use Rattle.cluster.specs.Rules.Slaves.{nextEpoch}
+use Rattle.master_slave.specs.Rules.Slaves.{nextEpoch}
 use Rattle.cluster.specs.Rules.MasterSlave.{addressSent, dataSent, roundSent}
 use Rattle.cluster.specs.Inner.Sending.{MaySend}
 use Rattle.screens.specs.Rules.Screens.{lastServed, placeOf, isWaiting, Read, readBy, readOf, Due, nobody, due, noScreen, readGrounds}
@@ -31,7 +31,7 @@ use Rattle.screens.specs.Rules.Turn.{Turn, idle, served, servedBy, readSent, af
 use Rattle.screens.specs.Claims.Turns.{DueExactly, TurnIsRound, WaitsNoMore}
 use Rattle.screens.specs.Claims.Fairness.{allWaiting}
 use Rattle.screens.specs.Claims.Fairness as Fairness
-use Rattle.screens.proofs.Grounds.{turn-refused, turn-free, state-last}
+use Rattle.screens.proofs.ScreenGrounds.{turn-refused, turn-free, state-last}
 use Rattle.screens.proofs.Due.{due-is-next, starts-at-zero}
 use Rattle.screens.proofs.Names.{turn-keeps-summary}
 use Rattle.screens.proofs.Turns as turns

@@ -2,20 +2,20 @@
 // return. Each is the call of the layer below, with the answer as a number.
 ghost use mathlib.Core.Path.{_≡_};
 ghost use mathlib.Core.List.{[], _∷_};
-ghost use Rattle.ttpa.specs.Rules.Calls.{versionCall, checkCall, readAddressCall, writeAddressCall, writeDataCall, roundCall, traceCall, ownerCall, convertCall, wordsOf, positionIn, startCall, stepCall, fillCall, holderCall, roundKeepingCall, stepKeepingCall, screensCall, postCall, turnCall, joinCall, classNumber, patternCall};
+ghost use Rattle.ttpa.specs.Rules.Calls.{versionCall, checkCall, readAddressCall, writeAddressCall, writeDataCall, roundCall, traceCall, ownerCall, convertCall, wordsOf, positionIn, startCall};
+ghost use Rattle.ttpa.specs.Rules.Calls.{stepCall, fillCall, holderCall, roundKeepingCall, stepKeepingCall, screensCall, postCall, turnCall, joinCall, classNumber, patternCall};
 ghost use Rattle.ttpa.specs.Inner.Told.{roundTold, stepTold};
-ghost use Rattle.cluster.specs.Inner.Answers.{answerOf};
-ghost use Rattle.convert.specs.Inner.Answers.{editionIn};
-ghost use Rattle.naming.specs.Inner.Answers.{positionOf, steppedOf, runAfter};
+ghost use Rattle.cluster.specs.Inner.RoundAnswers.{answerOf};
+ghost use Rattle.convert.specs.Inner.ConversionAnswers.{editionIn};
+ghost use Rattle.naming.specs.Inner.StepAnswers.{positionOf, steppedOf, runAfter};
 ghost use Rattle.file.specs.Rules.Results.{numberIn};
-ghost use Rattle.frame.specs.Inner.Answers.{writingOf};
-ghost use Rattle.line.specs.Inner.Answers.{classIn};
-ghost use Rattle.trace.specs.Rules.Run.{reportWords};
-ghost use Rattle.trace.specs.Inner.Answers.{reportIn};
+ghost use Rattle.frame.specs.Inner.FrameAnswers.{writingOf};
+ghost use Rattle.line.specs.Inner.LineAnswers.{classIn};
+ghost use Rattle.trace.specs.Rules.TraceRun.{reportWords};
+ghost use Rattle.trace.specs.Inner.TraceAnswers.{reportIn};
 ghost use Rattle.trace.specs.Inner.Sent.{FewFrames};
 use cluster::answer::RoundAnswer;
 use cluster::round::round;
-use cluster::types::RecordAddress;
 use convert::convert::Conversion;
 use convert::convert::convert;
 use convert::editions::Edition;
@@ -35,6 +35,10 @@ use join::join::join;
 use line::pattern::PatternAnswer;
 use line::pattern::PatternClass;
 use line::pattern::read_pattern;
+use master_slave::types::RecordAddress;
+use naming::position::RunCounts;
+use naming::position::RunHalves;
+use naming::position::RunPlace;
 use naming::position::RunPosition;
 use naming::run::Started;
 use naming::run::Stepped;
@@ -285,13 +289,13 @@ fn words_of(position: RunPosition) -> [u64; WORDS]
 {
     [
         position.end,
-        position.index,
-        position.step,
-        position.value,
-        position.rounds,
-        position.comparisons,
-        position.high,
-        position.low,
+        position.place.index,
+        position.place.step,
+        position.place.value,
+        position.counts.rounds,
+        position.counts.comparisons,
+        position.halves.high,
+        position.halves.low,
     ]
 }
 
@@ -300,13 +304,19 @@ fn position_in(run: &[u64; WORDS]) -> RunPosition
 {
     RunPosition {
         end: run[END],
-        index: run[INDEX],
-        step: run[STEP],
-        value: run[VALUE],
-        rounds: run[ROUNDS],
-        comparisons: run[COMPARISONS],
-        high: run[HIGH],
-        low: run[LOW],
+        place: RunPlace {
+            index: run[INDEX],
+            step: run[STEP],
+            value: run[VALUE],
+        },
+        counts: RunCounts {
+            rounds: run[ROUNDS],
+            comparisons: run[COMPARISONS],
+        },
+        halves: RunHalves {
+            high: run[HIGH],
+            low: run[LOW],
+        },
     }
 }
 
@@ -350,7 +360,8 @@ pub extern "C" fn ttpa_step(
     answer: &mut [u8],
     senders: &mut u64,
 ) -> u8
-    ensures { λ r. ⌜ (r, now (senders .exit), now (run .exit), now (answer .exit), now (file .exit)) ≡ stepCall (now (file .entry)) (now (run .entry)) (now (names .entry)) (now (answer .entry)) (now (senders .entry)) ⌝ }
+    ensures { λ r. ⌜ (r, now (senders .exit), now (run .exit), now (answer .exit), now (file .exit))
+        ≡ stepCall (now (file .entry)) (now (run .entry)) (now (names .entry)) (now (answer .entry)) (now (senders .entry)) ⌝ }
 {
     let stepped = step(file, position_in(run), names, answer);
     step_number(stepped, senders, run)
@@ -397,7 +408,8 @@ pub extern "C" fn ttpa_round_keeping(
     held: &mut [u8],
     count: u64,
 ) -> u8
-    ensures { λ r. ⌜ (r, now (senders .exit), now (answer .exit), now (file .exit), now (held .exit)) ≡ roundKeepingCall (now (file .entry)) (now (frame .entry)) (now (answer .entry)) (now (senders .entry)) (now (held .entry)) count ⌝ }
+    ensures { λ r. ⌜ (r, now (senders .exit), now (answer .exit), now (file .exit), now (held .exit))
+        ≡ roundKeepingCall (now (file .entry)) (now (frame .entry)) (now (answer .entry)) (now (senders .entry)) (now (held .entry)) count ⌝ }
 {
     let done = round_keeping(file, frame, answer, held, count as usize);
     round_number(done, senders)
@@ -413,7 +425,8 @@ pub extern "C" fn ttpa_step_keeping(
     held: &mut [u8],
     count: u64,
 ) -> u8
-    ensures { λ r. ⌜ (r, now (senders .exit), now (run .exit), now (answer .exit), now (file .exit), now (held .exit)) ≡ stepKeepingCall (now (file .entry)) (now (run .entry)) (now (names .entry)) (now (answer .entry)) (now (senders .entry)) (now (held .entry)) count ⌝ }
+    ensures { λ r. ⌜ (r, now (senders .exit), now (run .exit), now (answer .exit), now (file .exit), now (held .exit))
+        ≡ stepKeepingCall (now (file .entry)) (now (run .entry)) (now (names .entry)) (now (answer .entry)) (now (senders .entry)) (now (held .entry)) count ⌝ }
 {
     let stepped = step_keeping(file, position_in(run), names, answer, held, count as usize);
     step_number(stepped, senders, run)
@@ -457,7 +470,8 @@ pub extern "C" fn ttpa_turn(
     senders: &mut u64,
     screen: &mut u8,
 ) -> u8
-    ensures { λ r. ⌜ (r, now (senders .exit), now (screen .exit), now (state .exit), now (answer .exit), now (file .exit)) ≡ turnCall (now (file .entry)) (now (state .entry)) (now (answer .entry)) (now (senders .entry)) (now (screen .entry)) ⌝ }
+    ensures { λ r. ⌜ (r, now (senders .exit), now (screen .exit), now (state .exit), now (answer .exit), now (file .exit))
+        ≡ turnCall (now (file .entry)) (now (state .entry)) (now (answer .entry)) (now (senders .entry)) (now (screen .entry)) ⌝ }
 {
     let turned = turn(file, state, answer);
     match turned {

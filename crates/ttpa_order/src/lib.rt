@@ -3,7 +3,8 @@
 // which has none, is not here.
 ghost use mathlib.Core.Path.{_≡_};
 ghost use mathlib.Core.List.{[], _∷_};
-ghost use Rattle.ttpa.specs.Rules.Calls.{checkCall, readAddressCall, writeAddressCall, writeDataCall, roundCall, traceCall, ownerCall, convertCall, startCall, stepCall, fillCall, holderCall, roundKeepingCall, stepKeepingCall, screensCall, postCall, turnCall, joinCall, patternCall};
+ghost use Rattle.ttpa.specs.Rules.Calls.{checkCall, readAddressCall, writeAddressCall, writeDataCall, roundCall, traceCall, ownerCall, convertCall, startCall, stepCall, fillCall, holderCall};
+ghost use Rattle.ttpa.specs.Rules.Calls.{roundKeepingCall, stepKeepingCall, screensCall, postCall, turnCall, joinCall, patternCall};
 use screens::state::ScreenState;
 use ttpa::PARTS;
 use ttpa::REPORT_WORDS;
@@ -109,7 +110,8 @@ pub fn step(
     answer: &mut [u8],
     senders: &mut u64,
 ) -> u8
-    ensures { λ r. ⌜ (r, now (senders .exit), now (run .exit), now (answer .exit), now (file .exit)) ≡ stepCall (now (file .entry)) (now (run .entry)) (now (names .entry)) (now (answer .entry)) (now (senders .entry)) ⌝ }
+    ensures { λ r. ⌜ (r, now (senders .exit), now (run .exit), now (answer .exit), now (file .exit))
+        ≡ stepCall (now (file .entry)) (now (run .entry)) (now (names .entry)) (now (answer .entry)) (now (senders .entry)) ⌝ }
 {
     ttpa_step(file, run, names, answer, senders)
 }
@@ -134,7 +136,8 @@ pub fn round_keeping(
     held: &mut [u8],
     count: u64,
 ) -> u8
-    ensures { λ r. ⌜ (r, now (senders .exit), now (answer .exit), now (file .exit), now (held .exit)) ≡ roundKeepingCall (now (file .entry)) (now (frame .entry)) (now (answer .entry)) (now (senders .entry)) (now (held .entry)) count ⌝ }
+    ensures { λ r. ⌜ (r, now (senders .exit), now (answer .exit), now (file .exit), now (held .exit))
+        ≡ roundKeepingCall (now (file .entry)) (now (frame .entry)) (now (answer .entry)) (now (senders .entry)) (now (held .entry)) count ⌝ }
 {
     ttpa_round_keeping(file, frame, answer, senders, held, count)
 }
@@ -148,7 +151,8 @@ pub fn step_keeping(
     held: &mut [u8],
     count: u64,
 ) -> u8
-    ensures { λ r. ⌜ (r, now (senders .exit), now (run .exit), now (answer .exit), now (file .exit), now (held .exit)) ≡ stepKeepingCall (now (file .entry)) (now (run .entry)) (now (names .entry)) (now (answer .entry)) (now (senders .entry)) (now (held .entry)) count ⌝ }
+    ensures { λ r. ⌜ (r, now (senders .exit), now (run .exit), now (answer .exit), now (file .exit), now (held .exit))
+        ≡ stepKeepingCall (now (file .entry)) (now (run .entry)) (now (names .entry)) (now (answer .entry)) (now (senders .entry)) (now (held .entry)) count ⌝ }
 {
     ttpa_step_keeping(file, run, names, answer, senders, held, count)
 }
@@ -172,7 +176,8 @@ pub fn turn(
     senders: &mut u64,
     screen: &mut u8,
 ) -> u8
-    ensures { λ r. ⌜ (r, now (senders .exit), now (screen .exit), now (state .exit), now (answer .exit), now (file .exit)) ≡ turnCall (now (file .entry)) (now (state .entry)) (now (answer .entry)) (now (senders .entry)) (now (screen .entry)) ⌝ }
+    ensures { λ r. ⌜ (r, now (senders .exit), now (screen .exit), now (state .exit), now (answer .exit), now (file .exit))
+        ≡ turnCall (now (file .entry)) (now (state .entry)) (now (answer .entry)) (now (senders .entry)) (now (screen .entry)) ⌝ }
 {
     ttpa_turn(file, state, answer, senders, screen)
 }

@@ -13,6 +13,9 @@ use std::collections::{BTreeMap, BTreeSet};
 /// A line that is longer counts as several.
 pub const LINE_CHARACTERS: usize = 130;
 
+/// The rules of document 01 and of all fourteen requests have fewer lines than this; the claims have no limit.
+pub const RULES_LIMIT: usize = 1800;
+
 /// Where a definition stands, and its name.
 pub type Place = (String, String);
 
@@ -156,6 +159,12 @@ impl Specs {
     }
 }
 
+/// What is wrong with rules of this size, if they have grown beyond their limit.
+pub fn too_many(rules: Size) -> Option<String> {
+    (rules.lines >= RULES_LIMIT)
+        .then(|| format!("the rules have {} lines, not fewer than {RULES_LIMIT}", rules.lines))
+}
+
 /// Those of a folder among the definitions reached.
 pub fn within(folder: Folder, reached: &BTreeSet<Place>) -> Vec<&Place> {
     reached.iter().filter(|(path, _)| Folder::of(path) == Some(folder)).collect()
@@ -261,5 +270,14 @@ mod tests {
     fn a_long_line_counts_as_several() {
         let text = format!("unfoldable pub long : ℕ\nlong = {}\n", "9".repeat(2 * LINE_CHARACTERS));
         assert_eq!(module(&text).definitions[0].lines, 4);
+    }
+    #[test]
+    fn rules_are_fewer_than_their_limit() {
+        let of = |lines| Size { definitions: 1, lines };
+        assert_eq!(too_many(of(RULES_LIMIT - 1)), None);
+        assert_eq!(
+            too_many(of(RULES_LIMIT)).as_deref(),
+            Some("the rules have 1800 lines, not fewer than 1800")
+        );
     }
 }

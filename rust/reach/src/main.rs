@@ -1,11 +1,12 @@
 //! `reach CRATES CLAIMS`: counts what a reader has to believe, and fails where a definition of Rules or Claims is reached by
-//! nothing, where a C call's contract reaches one of Inner, or where the document of claims does not have the figures.
+//! nothing, where a C call's contract reaches one of Inner, where the rules have grown beyond their limit, or where the document of
+//! claims does not have the figures.
 //!
 //! The last line is `N passed, M failed`; the status is 1 if something failed.
 
 use reach::source::contracts;
 use reach::tree::{modules, theorems};
-use reach::{within, Folder, Place, Specs};
+use reach::{too_many, within, Folder, Place, Specs};
 use std::collections::{BTreeMap, BTreeSet};
 use std::fs;
 use std::io;
@@ -50,6 +51,7 @@ fn wrong(crates: &Path, claims: &Path) -> io::Result<Vec<String>> {
         within(Folder::Inner, &calls).iter().map(|(path, name)| format!("a C call reaches {path} {name}")),
     );
     wrong.extend(specs.lost().iter().map(|(module, (path, name))| format!("{module}: no {name} in {path}")));
+    wrong.extend(too_many(specs.size(Folder::Rules, &every)));
     let document = fs::read_to_string(claims)?;
     let mut rows = vec![
         ("the C calls".to_string(), calls),

@@ -10,8 +10,8 @@ use Rattle.file.specs.Rules.Cluster.{Slave, recordOf, physicalName, comparisonV
 use Rattle.file.specs.Rules.Decode.{decode}
 use Rattle.frame.specs.Rules.Check.{checkOf}
 use Rattle.frame.specs.Rules.Fireworks.{dataFirework}
-use Rattle.cluster.specs.Rules.Bus.{busByte, answerBytes, answerIn, nobody}
-use Rattle.cluster.specs.Rules.Slaves.{isUnnamed, reading, comparing, pendingDuty, answersRead}
+use Rattle.master_slave.specs.Rules.Bus.{busByte, answerBytes, answerIn, nobody}
+use Rattle.master_slave.specs.Rules.Slaves.{isUnnamed, reading, comparing, pendingDuty, answersRead}
 use Rattle.cluster.specs.Rules.Round.{roundGround, roundOn}
 
 -- the data frame with no write pending: the firework alone

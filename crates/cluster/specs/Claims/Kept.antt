@@ -6,7 +6,7 @@ use mathlib.Core.List.{List}
 use lib.ListN.{length}
 use Rattle.file.specs.Rules.Bytes.{Bytes}
 use Rattle.file.specs.Rules.Results.{refused}
-use Rattle.file.specs.Rules.Grounds.{fileGround}
+use Rattle.file.specs.Rules.FileGrounds.{fileGround}
 use Rattle.cluster.specs.Rules.Round.{roundGround, roundOn}
 
 -- document 01: "A refusal returns its number and alters nothing lent"

@@ -6,7 +6,7 @@ use mathlib.Core.Logic.{_≢_, _↔_}
 use mathlib.Core.List.{List, []}
 use Rattle.file.specs.Rules.Results.{done}
 use Rattle.file.specs.Rules.Decode.{decode}
-use Rattle.cluster.specs.Rules.Bus.{slots}
+use Rattle.master_slave.specs.Rules.Bus.{slots}
 use Rattle.cluster.specs.Rules.Round.{frameOn, roundOn}
 
 -- "a 64-bit number whose bit s is set exactly when someone sent in slot s"

@@ -10,7 +10,7 @@ use Rattle.file.specs.Rules.Layout.{pendingFlag}
 use Rattle.file.specs.Rules.Cluster.{Cluster}
 use Rattle.file.specs.Rules.Decode.{decode}
 use Rattle.frame.specs.Rules.Fireworks.{Round, multipartner, msd, msa}
-use Rattle.cluster.specs.Rules.Grounds.{roundBy}
+use Rattle.cluster.specs.Rules.RoundGrounds.{roundBy}
 use Rattle.cluster.specs.Rules.Round.{roundGround, roundOn}
 
 -- a round call's frame and buffer

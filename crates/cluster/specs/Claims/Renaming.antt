@@ -9,8 +9,8 @@ use Rattle.file.specs.Rules.Layout.{pendingFlag}
 use Rattle.file.specs.Rules.Cluster.{Slave, logicalName, logicalNames, newLogicalName, configuration, pb2Of, executeOperation}
 use Rattle.file.specs.Rules.Decode.{decode}
 use Rattle.frame.specs.Rules.Fireworks.{msd}
-use Rattle.cluster.specs.Rules.Slaves.{takesName}
-use Rattle.cluster.specs.Rules.Grounds.{roundBy}
+use Rattle.master_slave.specs.Rules.Slaves.{takesName}
+use Rattle.cluster.specs.Rules.RoundGrounds.{roundBy}
 use Rattle.cluster.specs.Rules.Round.{roundGround, roundOn}
 use Rattle.cluster.specs.Claims.Pending.{FrameCall, fileAfter, Pending}
 

@@ -13,10 +13,11 @@ use Rattle.file.specs.Rules.Decode.{decode}
 use Rattle.file.specs.Rules.Changes.{withSlaves}
 use Rattle.file.specs.Rules.Results.{done}
 use Rattle.frame.specs.Rules.Fireworks.{multipartner, msd, msa}
-use Rattle.cluster.specs.Rules.Bus.{Senders, senderMask, answerBytes, answerIn, nobody}
-use Rattle.cluster.specs.Rules.Slaves.{addresses}
-use Rattle.cluster.specs.Rules.Grounds.{roundBy}
-use Rattle.cluster.specs.Rules.Round.{Effect, frameOn, roundGround, roundOn}
+use Rattle.master_slave.specs.Rules.Bus.{Senders, senderMask, answerBytes, answerIn, nobody}
+use Rattle.master_slave.specs.Rules.Slaves.{addresses}
+use Rattle.cluster.specs.Rules.RoundGrounds.{roundBy}
+use Rattle.master_slave.specs.Rules.Effect.{Effect}
+use Rattle.cluster.specs.Rules.Round.{frameOn, roundGround, roundOn}
 use Rattle.cluster.specs.Claims.Pending.{Pending}
 use Rattle.cluster.specs.Claims.Writes.{slaveIn}
 

@@ -11,9 +11,9 @@ use Rattle.file.specs.Rules.Results.{refused, done}
 use Rattle.file.specs.Rules.Cluster.{Slave, Cluster, logicalName, configuration, pb2Of, executeOperation}
 use Rattle.file.specs.Rules.Layout.{pendingFlag}
 use Rattle.file.specs.Rules.Decode.{decode}
-use Rattle.file.specs.Rules.Grounds.{fileGround}
+use Rattle.file.specs.Rules.FileGrounds.{fileGround}
 use Rattle.frame.specs.Rules.Fireworks.{msd}
-use Rattle.cluster.specs.Rules.Grounds.{roundBy}
+use Rattle.cluster.specs.Rules.RoundGrounds.{roundBy}
 use Rattle.cluster.specs.Rules.Round.{roundGround, roundOn}
 use Rattle.cluster.specs.Rules.Summary.{Summary, without, kept, wrongSummary, roundKeepingGround, roundKeeping, fillOn, nobody, at, holderIn, firstHolder}
 use Rattle.cluster.specs.Claims.Renaming.{namesOf, nameAfter, Baptizes}

@@ -13,8 +13,8 @@ use Rattle.file.specs.Rules.Decode.{decode}
 use Rattle.file.specs.Rules.Changes.{withSleep}
 use Rattle.frame.specs.Rules.Fireworks.{msd}
 use Rattle.frame.specs.Rules.Frames.{between}
-use Rattle.cluster.specs.Rules.Slaves.{addressed, isNameRecord}
-use Rattle.cluster.specs.Rules.Grounds.{roundBy}
+use Rattle.master_slave.specs.Rules.Slaves.{addressed, isNameRecord}
+use Rattle.cluster.specs.Rules.RoundGrounds.{roundBy}
 use Rattle.cluster.specs.Rules.Round.{roundGround, roundOn}
 use Rattle.cluster.specs.Claims.Pending.{Pending}
 

@@ -9,13 +9,13 @@ use Rattle.file.specs.Rules.Results.{done}
 use Rattle.file.specs.Rules.Cluster.{Cluster, pb2Of, readOperation, writeOperation, executeOperation}
 use Rattle.file.specs.Rules.Encode.{encode}
 use Rattle.file.specs.Rules.Decode.{decode}
-use Rattle.file.specs.Rules.Grounds.{fileGround}
+use Rattle.file.specs.Rules.FileGrounds.{fileGround}
 use Rattle.frame.specs.Rules.Fireworks.{dataFirework, addressFirework}
 use Rattle.frame.specs.Rules.Frames.{frameSize}
 use Rattle.frame.specs.Rules.Writing.{writeAddress, writeData}
-use Rattle.cluster.specs.Rules.Bus.{slots, senderMask, answerBytes, answerIn, nobody}
-use Rattle.cluster.specs.Rules.Slaves.{withAddress, epochRaised, nothing, reading, writing, executionOf, pendingDuty, sentTo, slavesAfter, rested}
-use Rattle.cluster.specs.Rules.Grounds.{writePending}
+use Rattle.master_slave.specs.Rules.Bus.{slots, senderMask, answerBytes, answerIn, nobody}
+use Rattle.master_slave.specs.Rules.Slaves.{withAddress, epochRaised, nothing, reading, writing, executionOf, pendingDuty, sentTo, slavesAfter, rested}
+use Rattle.cluster.specs.Rules.RoundGrounds.{writePending}
 use Rattle.cluster.specs.Rules.Round.{roundOn}
 
 -- a frame that is accepted and in which nobody sends, and what the cluster becomes

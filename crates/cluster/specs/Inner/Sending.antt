@@ -7,11 +7,11 @@ use lib.Dec.{eqb}
 use Rattle.file.specs.Rules.Bytes.{Byte}
 use Rattle.file.specs.Rules.Cluster.{Cluster, pb2Of, writeOperation, executeOperation}
 use Rattle.file.specs.Inner.Typed.{fileIn, recordIn, nameIn, operationIn}
-use Rattle.frame.specs.Rules.Grounds.{broadcastRead}
-use Rattle.cluster.specs.Rules.Slaves.{withAddress, nextEpoch}
+use Rattle.frame.specs.Rules.FrameGrounds.{broadcastRead}
+use Rattle.master_slave.specs.Rules.Slaves.{withAddress, nextEpoch}
 use Rattle.cluster.specs.Rules.MasterSlave.{Sent}
-use Rattle.cluster.specs.Inner.Duties.{roundData}
-use Rattle.cluster.specs.declared.types.MasterSlaveRound.{MasterSlaveRound}
+use Rattle.master_slave.specs.Inner.Duties.{roundData}
+use Rattle.master_slave.specs.declared.types.MasterSlaveRound.{MasterSlaveRound}
 
 -- the round that a struct stands for; without a write its four bytes are not sent, so structs that differ in these alone stand for one
 abbrev pub sentFor : MasterSlaveRound → Sent

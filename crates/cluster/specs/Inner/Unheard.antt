@@ -9,32 +9,13 @@ use Rattle.file.specs.Rules.Results.{Result}
 use Rattle.file.specs.Rules.Cluster.{Slave, Cluster}
 use Rattle.file.specs.Inner.Accepted.{Becomes}
 use Rattle.cluster.specs.Rules.Round.{Answer}
-use Rattle.cluster.specs.Inner.Grounds.{frameGround}
-use Rattle.cluster.specs.Inner.Carried.{leftBy}
-use Rattle.cluster.specs.declared.duty.Duty.{Duty as CodeDuty}
-use Rattle.cluster.specs.declared.duty.Duty.the-variants as duties
+use Rattle.cluster.specs.Inner.EachGround.{frameGround}
+use Rattle.cluster.specs.Inner.Exchanged.{leftBy}
 
 -- whether an answer is no refusal
 unfoldable pub isDone : Answer → Bool
 isDone (Result.refused n) = false
 isDone (Result.done mask) = true
-
--- whether a duty puts slaves to sleep, and whether it leaves each slave's files as they are and puts nobody to sleep
-unfoldable pub putsToSleep : CodeDuty → Bool
-putsToSleep duties.Nothing = false
-putsToSleep duties.Read = false
-putsToSleep duties.Write = false
-putsToSleep duties.Compare = false
-putsToSleep duties.Baptize = false
-putsToSleep duties.Sleep = true
-
-unfoldable pub leavesSlaves : CodeDuty → Bool
-leavesSlaves duties.Nothing = true
-leavesSlaves duties.Read = true
-leavesSlaves duties.Write = false
-leavesSlaves duties.Compare = true
-leavesSlaves duties.Baptize = false
-leavesSlaves duties.Sleep = false
 
 -- where nobody may be asleep every slave is awake
 abbrev pub MaySleep : Bool → Cluster → Type 0

@@ -8,7 +8,7 @@ use Rattle.file.specs.Rules.Cluster.{Cluster, writeOperation}
 use Rattle.file.specs.Rules.Decode.{decode}
 use Rattle.frame.specs.Rules.Fireworks.{dataFirework}
 use Rattle.frame.specs.Rules.Frames.{addressFrame, dataFrame}
-use Rattle.cluster.specs.Rules.Slaves.{nextEpoch}
+use Rattle.master_slave.specs.Rules.Slaves.{nextEpoch}
 use Rattle.cluster.specs.Rules.Round.{Answer, roundOn}
 
 -- what the master sends: logical name, file, operation and record of the address frame, and the data of a write

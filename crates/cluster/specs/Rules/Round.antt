@@ -2,7 +2,7 @@
 -- for every input.").
 use Prim.Native.Nat.{ℕ}
 use mathlib.Core.List.{List, _∷_, _++_}
-use mathlib.Core.Bool.{Bool, cond}
+use mathlib.Core.Bool.{cond}
 use lib.ListN.{getD}
 use lib.Dec.{eqb}
 use Rattle.file.specs.Rules.Order.{firstOf}
@@ -10,23 +10,14 @@ use Rattle.file.specs.Rules.Results.{Result, refused, done}
 use Rattle.file.specs.Rules.Cluster.{Cluster}
 use Rattle.file.specs.Rules.Encode.{encode}
 use Rattle.file.specs.Rules.Decode.{decode}
-use Rattle.file.specs.Rules.Grounds.{fileGrounds}
+use Rattle.file.specs.Rules.FileGrounds.{fileGrounds}
 use Rattle.frame.specs.Rules.Fireworks.{Round, multipartner, msd, msa, noRound}
 use Rattle.frame.specs.Rules.Frames.{between}
-use Rattle.cluster.specs.Rules.Bus.{Senders, slots, senderMask, answerBytes, answerIn, nobody}
-use Rattle.cluster.specs.Rules.Slaves.{withAddress, epochRaised, nothing, pendingDuty, sentTo, slavesAfter, rested}
-use Rattle.cluster.specs.Rules.Entries.{Entry, outOfTurn}
-use Rattle.cluster.specs.Rules.Multipartner.{clusterBelow, sentDuring}
-use Rattle.cluster.specs.Rules.Grounds.{shortAnswer, roundBy, groundsOn}
-
--- what an accepted frame does: who sends in each slot, and what the cluster becomes
-pub record Effect : Type 0 where
-  pub senders : Senders
-  pub after : Cluster
-
--- the entries that a multipartner round passes over: those out of turn, "the epoch already raised for this round" (document 02, job 7)
-unfoldable pub passedOver : Cluster → Entry → Bool
-passedOver c = outOfTurn (epochRaised c .epoch)
+use Rattle.master_slave.specs.Rules.Bus.{slots, senderMask, answerBytes, answerIn, nobody}
+use Rattle.master_slave.specs.Rules.Slaves.{withAddress, epochRaised, nothing, pendingDuty, sentTo, slavesAfter, rested}
+use Rattle.master_slave.specs.Rules.Effect.{Effect}
+use Rattle.multipartner.specs.Rules.Multipartner.{clusterBelow, sentDuring, passedOver}
+use Rattle.cluster.specs.Rules.RoundGrounds.{shortAnswer, roundBy, groundsOn}
 
 -- MSA: "An accepted MSA sets the epoch to PB0 and becomes pending until the next one; nobody sends."
 -- MSD: "MSD carries out the pending operation, or nothing." Multipartner: "Slots 1 to 63 run in order"

@@ -10,8 +10,8 @@ use Rattle.file.specs.Rules.Order.{firstOf, both, either}
 use Rattle.file.specs.Rules.Results.{Result, refused, done}
 use Rattle.file.specs.Rules.Cluster.{Slave, Cluster, logicalName, logicalNames}
 use Rattle.file.specs.Rules.Decode.{decode}
-use Rattle.file.specs.Rules.Grounds.{fileGrounds}
-use Rattle.cluster.specs.Rules.Grounds.{shortAnswer, roundBy, groundsOn}
+use Rattle.file.specs.Rules.FileGrounds.{fileGrounds}
+use Rattle.cluster.specs.Rules.RoundGrounds.{shortAnswer, roundBy, groundsOn}
 use Rattle.cluster.specs.Rules.Round.{Answer, roundOn}
 
 -- "Every round and naming step may be given the summary": none, or a count and the lent slice

@@ -12,7 +12,7 @@ use Rattle.file.specs.Rules.Results.{done, writtenIn}
 use Rattle.file.specs.Rules.Decode.{decode}
 use Rattle.file.specs.Rules.Changes.{withEdition}
 use Rattle.file.specs.Rules.Editions.{inEdition, exceeds}
-use Rattle.file.specs.Rules.Grounds.{fileGround, loadGround}
+use Rattle.file.specs.Rules.FileGrounds.{fileGround, loadGround}
 use Rattle.convert.specs.Rules.Convert.{convertOn}
 
 -- where the call writes, and how many bytes: the file is accepted, the edition's limits and the buffer have room for its form

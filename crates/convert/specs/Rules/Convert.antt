@@ -10,11 +10,11 @@ use Rattle.file.specs.Rules.Results.{Result, refused, done, writtenIn}
 use Rattle.file.specs.Rules.Encode.{fileLength}
 use Rattle.file.specs.Rules.Decode.{decode}
 use Rattle.file.specs.Rules.Editions.{inEdition, exceeds}
-use Rattle.file.specs.Rules.Grounds.{fileGrounds}
+use Rattle.file.specs.Rules.FileGrounds.{fileGrounds}
 
 -- "New numbers: 25, narrowing a file with more than 32 slaves or an edition-1 form above 32,768 bytes; 26, a conversion buffer too short;
 -- in this order after 8." The limits are those of the edition asked for: an accepted file exceeds neither its own nor, of edition 1, those
--- of edition 2, so that 25 refuses only where a file is narrowed (`Claims/Grounds`).
+-- of edition 2, so that 25 refuses only where a file is narrowed (`Claims/ConversionGrounds`).
 unfoldable pub convertGrounds : List ℕ → ℕ → List ℕ → List Ground
 convertGrounds f edition out =
     let slaves = decode f .slaves in

@@ -11,14 +11,15 @@ use Rattle.file.specs.Rules.Bytes.{Bytes, All}
 use Rattle.file.specs.Rules.Order.{either}
 use Rattle.file.specs.Rules.Results.{done}
 use Rattle.file.specs.Rules.Cluster.{unnamed}
-use Rattle.file.specs.Rules.Grounds.{isAmong, fileGround}
+use Rattle.file.specs.Rules.FileGrounds.{isAmong, fileGround}
 use Rattle.join.specs.Rules.Join.{joinOn}
 use Rattle.naming.specs.Rules.Account.{Named, falling, unnamedAmong, namesHeld, accountOf, Call}
-use Rattle.naming.specs.Rules.Run.{startGround, fresh}
+use Rattle.naming.specs.Rules.Position.{fresh}
+use Rattle.naming.specs.Rules.RunGrounds.{startGround}
 use Rattle.naming.specs.Claims.Demand.{startOn, afterCalls as afterByRules, permitted as permittedByRules, OfBytes, Demand}
 use Rattle.ttpa.specs.Rules.Calls.{checkCall, startCall, joinCall}
-use Rattle.demand.specs.Claims.Calls.{CCall, GivenBytes, afterCalls, permitted, slavesIn, TakenByRounds, CallsDemand, started}
-use Rattle.demand.specs.Claims.Editions.{CallOrConversion, afterConverting, permittedConverting, callsAmong, Fitting}
+use Rattle.demand.specs.Claims.DemandCalls.{CCall, GivenBytes, afterCalls, permitted, slavesIn, TakenByRounds, CallsDemand, started}
+use Rattle.demand.specs.Claims.DemandEditions.{CallOrConversion, afterConverting, permittedConverting, callsAmong, Fitting}
 
 -- ---- the unnamed
 

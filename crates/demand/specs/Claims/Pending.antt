@@ -8,12 +8,12 @@ use Rattle.file.specs.Rules.Bytes.{Bytes, All}
 use Rattle.file.specs.Rules.Decode.{decode}
 use Rattle.cluster.specs.Rules.Summary.{roundKeepingGround}
 use Rattle.cluster.specs.Claims.Pending.{AcceptedMsa, Pending}
-use Rattle.naming.specs.Rules.Run.{Position, running}
+use Rattle.naming.specs.Rules.Position.{Position, running}
 use Rattle.naming.specs.Rules.Step.{stepKeepingGround}
 use Rattle.naming.specs.Rules.Account.{StepArguments, FrameArguments, Call, step, frame}
 use Rattle.naming.specs.Claims.Demand.{State, startOn, callOn}
 use Rattle.demand.specs.Claims.Traces.{CallOrTrace, AllBytes, singly, afterAll}
-use Rattle.demand.specs.Claims.Calls.{CCall, GivenBytes, afterCalls, memoryOf, argumentsOfAll}
+use Rattle.demand.specs.Claims.DemandCalls.{CCall, GivenBytes, afterCalls, memoryOf, argumentsOfAll}
 
 -- no MSA is accepted in a call. A step of a running position sends an MSA of its own, so this is a step that is refused, or of an ended
 -- run.

@@ -9,15 +9,15 @@ use lib.ListN.{length}
 use Rattle.file.specs.Rules.Bytes.{Bytes, All}
 use Rattle.trace.specs.Rules.Layout.{maxTrace}
 use Rattle.trace.specs.Rules.Encode.{encodeTrace}
-use Rattle.naming.specs.Rules.Run.{fresh}
+use Rattle.naming.specs.Rules.Position.{fresh}
 use Rattle.naming.specs.Rules.Account.{Call}
 use Rattle.naming.specs.Claims.Demand.{startOn, permitted as permittedByRules}
 use Rattle.naming.specs.Claims.Permitted.{PermittedList}
 use Rattle.naming.specs.Claims.PermittedRounds.{PermittedFrom, IsStep as IsStepByRules, Rounds, SentBy}
 use Rattle.ttpa.specs.Rules.Calls.{startCall}
 use Rattle.demand.specs.Claims.Traces.{CallOrTrace, singly}
-use Rattle.demand.specs.Claims.Calls.{CCall, ttpaTrace, GivenBytes, permitted, TakenByRounds, afterCalls, started, IsStep, Memory}
-use Rattle.demand.specs.Claims.Calls.{argumentsOfAll}
+use Rattle.demand.specs.Claims.DemandCalls.{CCall, ttpaTrace, GivenBytes, permitted, TakenByRounds, afterCalls, started, IsStep, Memory}
+use Rattle.demand.specs.Claims.DemandCalls.{argumentsOfAll}
 
 -- a list of C calls, made after a ttpa_start that returns 0, is permitted if and only if the calls that it stands for are such a list
 abbrev pub CallsPermittedExactly : Type 0

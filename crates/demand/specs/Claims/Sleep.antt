@@ -8,20 +8,21 @@ use mathlib.Core.List.{List, [], _∷_, _++_}
 use mathlib.Core.Bool.{true, false}
 use Rattle.file.specs.Rules.Bytes.{Bytes, All}
 use Rattle.frame.specs.Rules.Fireworks.{msa}
-use Rattle.cluster.specs.Rules.Grounds.{roundBy}
+use Rattle.cluster.specs.Rules.RoundGrounds.{roundBy}
 use Rattle.cluster.specs.Rules.Summary.{roundKeepingGround}
 use Rattle.cluster.specs.Claims.Sleep.{AllAwake, PutsToSleep}
 use Rattle.trace.specs.Rules.Trace.{framesOf}
-use Rattle.trace.specs.Rules.Run.{sent}
+use Rattle.trace.specs.Rules.TraceRun.{sent}
 use Rattle.trace.specs.Claims.Sleep.{sentGround}
-use Rattle.naming.specs.Rules.Run.{Position, running, bits}
+use Rattle.naming.specs.Rules.Position.{Position, running}
+use Rattle.naming.specs.Rules.Pass.{bits}
 use Rattle.naming.specs.Rules.Account.{StepArguments, FrameArguments, Call, step, frame}
 use Rattle.naming.specs.Claims.Demand.{State, startOn, callOn}
 use Rattle.naming.specs.Claims.Sleep.{Wakes}
 use Rattle.ttpa.specs.Rules.Calls.{startCall, positionIn}
-use Rattle.demand.specs.Claims.Calls.{CCall, ttpaRound, ttpaRoundKeeping, ttpaTrace, ttpaTurn, turnFrames, GivenBytes, Memory}
-use Rattle.demand.specs.Claims.Calls.{returned, memoryAfter, afterCalls, permitted, TakenByRounds, started, IsStep, memoryOf}
-use Rattle.demand.specs.Claims.Calls.{argumentsOfAll}
+use Rattle.demand.specs.Claims.DemandCalls.{CCall, ttpaRound, ttpaRoundKeeping, ttpaTrace, ttpaTurn, turnFrames, GivenBytes, Memory}
+use Rattle.demand.specs.Claims.DemandCalls.{returned, memoryAfter, afterCalls, permitted, TakenByRounds, started, IsStep, memoryOf}
+use Rattle.demand.specs.Claims.DemandCalls.{argumentsOfAll}
 use Rattle.demand.specs.Claims.Traces.{singly}
 
 -- ---- the lists of demand 3
@@ -64,7 +65,7 @@ CallsCountedAwake =
     (file : List ℕ) → Bytes file → TakenByRounds file →
     (names : List ℕ) → Bytes names → (run : List ℕ) → startCall names run .0 ≡ 0 →
     (calls more : List CCall) → All GivenBytes calls → permitted false names (started file names run) (calls ++ more) ≡ true →
-    positionIn (afterCalls names (started file names run) calls .run) .rounds ≢ 0 →
+    positionIn (afterCalls names (started file names run) calls .run) .counts .rounds ≢ 0 →
     AllAwake (afterCalls names (started file names run) calls .file)
 
 -- ---- every list, permitted or not, on any file and from any position whose value is one of 64 bits; the frames of a trace are sent singly
@@ -95,6 +96,6 @@ pub data AwakeToEnd (names : List ℕ) : State → Position → List Call → Ty
 -- then all are awake after them
 abbrev pub CCallsWake : Type 0
 CCallsWake =
-    (file names : List ℕ) (p : Position) (calls : List CCall) → Bytes file → Bytes names → p .value < 2 ^ bits → All GivenBytes calls →
+    (file names : List ℕ) (p : Position) (calls : List CCall) → Bytes file → Bytes names → p .place .value < 2 ^ bits → All GivenBytes calls →
     AwakeToEnd names (startOn file) p (singly (argumentsOfAll names (memoryOf (startOn file) p) calls)) →
     AllAwake (afterCalls names (memoryOf (startOn file) p) calls .file)

@@ -12,10 +12,12 @@ use Rattle.file.specs.Rules.Cluster.{writeOperation}
 use Rattle.file.specs.Rules.Decode.{decode}
 use Rattle.frame.specs.Rules.Fireworks.{dataFirework}
 use Rattle.frame.specs.Rules.Frames.{frameSize}
-use Rattle.cluster.specs.Rules.Slaves.{nextEpoch}
+use Rattle.master_slave.specs.Rules.Slaves.{nextEpoch}
 use Rattle.cluster.specs.Rules.MasterSlave.{Sent}
-use Rattle.naming.specs.Rules.Rounds.{sent}
-use Rattle.naming.specs.Rules.Run.{running, bits, nextRound, advance}
+use Rattle.naming.specs.Rules.RunRounds.{sent}
+use Rattle.naming.specs.Rules.Position.{running}
+use Rattle.naming.specs.Rules.Pass.{bits}
+use Rattle.naming.specs.Rules.Run.{nextRound, advance}
 use Rattle.ttpa.specs.Rules.Calls.{writeAddressCall, writeDataCall, roundCall, stepCall, wordsOf, positionIn}
 
 -- what a master sends, "PB0 being the file's epoch plus 1 modulo 256", and the six bytes that ttpa_write_address writes for it
@@ -58,5 +60,5 @@ pub record StepIsRounds (file run names answer : List ℕ) (senders : ℕ) : Typ
 -- a step that returns 0, of a running position whose value is one of 64 bits
 abbrev pub StepsAreRounds : Type 0
 StepsAreRounds =
-    (file run names answer : List ℕ) (senders : ℕ) → Bytes file → Bytes names → positionIn run .value < 2 ^ bits →
+    (file run names answer : List ℕ) (senders : ℕ) → Bytes file → Bytes names → positionIn run .place .value < 2 ^ bits →
     stepCall file run names answer senders .0 ≡ 0 → positionIn run .end ≡ running → StepIsRounds file run names answer senders

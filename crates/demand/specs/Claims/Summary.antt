@@ -15,10 +15,10 @@ use Rattle.file.specs.Rules.Decode.{decode}
 use Rattle.cluster.specs.Rules.Summary.{kept, firstHolder}
 use Rattle.cluster.specs.Claims.Renaming.{namesOf}
 use Rattle.cluster.specs.Claims.Summary.{Matches, LeavesRest, FirstAt}
-use Rattle.naming.specs.Rules.Run.{bits}
+use Rattle.naming.specs.Rules.Pass.{bits}
 use Rattle.ttpa.specs.Rules.Calls.{positionIn, roundCall, stepCall, fillCall, nobodyPlace, placeOf, holderCall, roundKeepingCall, stepKeepingCall}
-use Rattle.demand.specs.Claims.Calls.{CCall, ttpaStep, ttpaStepKeeping, ttpaRound, ttpaRoundKeeping, ttpaTrace, ttpaTurn}
-use Rattle.demand.specs.Claims.Calls.{GivenBytes, Memory, returned, memoryAfter, afterCalls, permitted, TakenByRounds}
+use Rattle.demand.specs.Claims.DemandCalls.{CCall, ttpaStep, ttpaStepKeeping, ttpaRound, ttpaRoundKeeping, ttpaTrace, ttpaTurn}
+use Rattle.demand.specs.Claims.DemandCalls.{GivenBytes, Memory, returned, memoryAfter, afterCalls, permitted, TakenByRounds}
 
 -- ---- from the filling to the question
 
@@ -53,9 +53,9 @@ allMade count file held (c ∷ cs) = let r = madeOn count file held c in allMade
 pub data Keeps (file : List ℕ) : Made → Type 0 where
   inRound : {bytes buffer : List ℕ} {senders : ℕ} → Bytes bytes → Keeps file (keepingRound bytes buffer senders)
   inStep :
-      {run names buffer : List ℕ} {senders : ℕ} → Bytes names → positionIn run .value < 2 ^ bits → Keeps file (keepingStep run names buffer senders)
+      {run names buffer : List ℕ} {senders : ℕ} → Bytes names → positionIn run .place .value < 2 ^ bits → Keeps file (keepingStep run names buffer senders)
   inOther :
-      {run names : List ℕ} {c : CCall} → Bytes names → positionIn run .value < 2 ^ bits → GivenBytes c →
+      {run names : List ℕ} {c : CCall} → Bytes names → positionIn run .place .value < 2 ^ bits → GivenBytes c →
       namesOf (otherFile file run names c) ≡ namesOf file → Keeps file (other run names c)
   inTurn :
       {run names state buffer : List ℕ} {senders screen : ℕ} → Bytes state →

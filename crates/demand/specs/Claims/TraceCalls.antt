@@ -7,14 +7,14 @@ use mathlib.Core.List.{List, [], _∷_}
 use mathlib.Core.Bool.{cond}
 use lib.ListN.{length}
 use lib.Dec.{eqb}
-use Rattle.cluster.specs.Rules.Bus.{slots}
-use Rattle.cluster.specs.Rules.Grounds.{roundBy}
+use Rattle.master_slave.specs.Rules.Bus.{slots}
+use Rattle.cluster.specs.Rules.RoundGrounds.{roundBy}
 use Rattle.cluster.specs.Rules.Summary.{kept}
 use Rattle.cluster.specs.Claims.Summary.{Matches}
 use Rattle.trace.specs.Rules.Trace.{framesOf}
-use Rattle.trace.specs.Rules.Run.{Report, noFrames, reportWords, oneRefused, oneCarried}
+use Rattle.trace.specs.Rules.TraceRun.{Report, noFrames, reportWords, oneRefused, oneCarried}
 use Rattle.ttpa.specs.Rules.Calls.{traceCall}
-use Rattle.demand.specs.Claims.Calls.{CCall, ttpaRound, ttpaRoundKeeping, Memory, returned, memoryAfter, afterCalls, ttpaTrace}
+use Rattle.demand.specs.Claims.DemandCalls.{CCall, ttpaRound, ttpaRoundKeeping, Memory, returned, memoryAfter, afterCalls, ttpaTrace}
 
 -- the calls for frames in order, with any answer buffers of 64 bytes or more and any senders' words, and the report that their numbers
 -- give, each frame counting by its firework where the call returns 0: "a refused frame counting as refused only"

@@ -7,13 +7,14 @@ use mathlib.Core.Bool.{Bool, true, false, cond}
 use lib.ListN.{replicate}
 use Rattle.file.specs.Rules.Bytes.{Bytes, All}
 use Rattle.file.specs.Rules.Results.{Result, refused, done}
-use Rattle.file.specs.Rules.Grounds.{fileGround}
-use Rattle.cluster.specs.Rules.Bus.{slots}
-use Rattle.cluster.specs.Rules.Grounds.{roundBy}
+use Rattle.file.specs.Rules.FileGrounds.{fileGround}
+use Rattle.master_slave.specs.Rules.Bus.{slots}
+use Rattle.cluster.specs.Rules.RoundGrounds.{roundBy}
 use Rattle.cluster.specs.Rules.Summary.{without}
 use Rattle.trace.specs.Rules.Trace.{brokenTrace, framesOf}
-use Rattle.trace.specs.Rules.Run.{sent, Report, traceOn}
-use Rattle.naming.specs.Rules.Run.{Position, fresh, startGround}
+use Rattle.trace.specs.Rules.TraceRun.{sent, Report, traceOn}
+use Rattle.naming.specs.Rules.Position.{Position, fresh}
+use Rattle.naming.specs.Rules.RunGrounds.{startGround}
 use Rattle.naming.specs.Rules.Account.{Call, frame, Account, accountAfter}
 use Rattle.naming.specs.Claims.PermittedRounds.{SentBy}
 use Rattle.naming.specs.Claims.Demand.{State, startOn, halfwayAfter, callOn, permitted, afterCalls, OfBytes, Demand}

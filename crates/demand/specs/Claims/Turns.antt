@@ -7,12 +7,12 @@ use mathlib.Core.List.{List, [], _∷_, _++_}
 use mathlib.Core.Bool.{Bool, true, false}
 use Rattle.file.specs.Rules.Bytes.{Bytes, All}
 use Rattle.cluster.specs.Claims.Sleep.{AllAwake}
-use Rattle.naming.specs.Rules.Run.{Position}
+use Rattle.naming.specs.Rules.Position.{Position}
 use Rattle.naming.specs.Claims.Demand.{State}
 use Rattle.naming.specs.Claims.PermittedRounds.{Rounds, SentBy}
 use Rattle.ttpa.specs.Rules.Calls.{startCall, noneWaited, turnCall}
-use Rattle.demand.specs.Claims.Calls.{CCall, ttpaTurn, GivenBytes, Memory, memoryAfter, turnFrames, permitted, TakenByRounds, started}
-use Rattle.demand.specs.Claims.Calls.{IsStep, argumentsOf, argumentsOfAll}
+use Rattle.demand.specs.Claims.DemandCalls.{CCall, ttpaTurn, GivenBytes, Memory, memoryAfter, turnFrames, permitted, TakenByRounds, started}
+use Rattle.demand.specs.Claims.DemandCalls.{IsStep, argumentsOf, argumentsOfAll}
 use Rattle.demand.specs.Claims.Traces.{singly}
 use Rattle.demand.specs.Claims.Renaming.{NoneBaptizes}
 use Rattle.demand.specs.Claims.Sleep.{SomeWakes, NoneSleeps}

@@ -9,13 +9,13 @@ use mathlib.Core.Bool.{true, false, cond}
 use lib.ListN.{length}
 use lib.Dec.{eqb}
 use Rattle.file.specs.Rules.Bytes.{Bytes, All}
-use Rattle.cluster.specs.Rules.Bus.{slots}
-use Rattle.naming.specs.Rules.Run.{Position, running}
+use Rattle.master_slave.specs.Rules.Bus.{slots}
+use Rattle.naming.specs.Rules.Position.{Position, running}
 use Rattle.naming.specs.Rules.Figures.{roundsFor, endFor}
 use Rattle.naming.specs.Claims.TwoLists.{NoCommon, SecondRun, RunsTogether}
 use Rattle.ttpa.specs.Rules.Calls.{startCall, positionIn}
-use Rattle.demand.specs.Claims.Calls.{CCall, ttpaStep, ttpaStepKeeping, ttpaRound, ttpaRoundKeeping, ttpaTrace, ttpaTurn, GivenBytes}
-use Rattle.demand.specs.Claims.Calls.{Memory, returned, memoryAfter, afterCalls, permitted, slavesIn, TakenByRounds, started}
+use Rattle.demand.specs.Claims.DemandCalls.{CCall, ttpaStep, ttpaStepKeeping, ttpaRound, ttpaRoundKeeping, ttpaTrace, ttpaTurn, GivenBytes}
+use Rattle.demand.specs.Claims.DemandCalls.{Memory, returned, memoryAfter, afterCalls, permitted, slavesIn, TakenByRounds, started}
 use Rattle.demand.specs.Claims.Summary.{AllGivenRight}
 
 -- the file that the calls after ttpa_start leave, and the position in the run's words

@@ -11,7 +11,7 @@ use Rattle.file.specs.Rules.Encode.{encode}
 use Rattle.file.specs.Rules.Decode.{decode}
 use Rattle.file.specs.Rules.Legal.{Legal, Distinct}
 use Rattle.file.specs.Rules.Results.{refused, done}
-use Rattle.file.specs.Rules.Grounds.{fileGround, heldNames, loadVerdict}
+use Rattle.file.specs.Rules.FileGrounds.{fileGround, heldNames, loadVerdict}
 
 -- bytes are accepted exactly where they are the encoding of a legal cluster
 abbrev pub AcceptedExactly : Type 0

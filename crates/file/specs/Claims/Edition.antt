@@ -9,7 +9,7 @@ use lib.ListN.{length, getD, take}
 use lib.Dec.{eqb}
 use Rattle.file.specs.Rules.Order.{either}
 use Rattle.file.specs.Rules.Layout.{widthOf}
-use Rattle.file.specs.Rules.Grounds.{wrongEdition, fileGround, loadVerdict}
+use Rattle.file.specs.Rules.FileGrounds.{wrongEdition, fileGround, loadVerdict}
 
 -- byte 2 is no edition: neither 1 nor 2
 pub record NoEdition (f : List ℕ) : Type 0 where

@@ -14,10 +14,11 @@ use lib.Dec.{eqb, ltb}
 use Rattle.file.specs.Rules.Bytes.{numberOf, bytesOf, part}
 use Rattle.file.specs.Rules.Order.{either}
 use Rattle.file.specs.Rules.Layout.{widthIn, widthOf, editionOf, zerosLength, headerSize, entrySize, fillLength, maxSlaves, maxLength}
+use Rattle.file.specs.Rules.Layout.{markPlace, editionPlace, countPlace, tablePlace, lengthPlace, epochPlace, flagPlace, pendingNamePlace, pendingPB2Place, pendingPB3Place, zerosPlace}
 use Rattle.file.specs.Rules.Cluster.{File, Slave, noSlave, Cluster, lastRecord, bytesIn, physicalName, newLogicalName, logicalName, comparisonValue}
 use Rattle.file.specs.Rules.Encode.{directoryEntry, tableEntry, header, fileLength}
 use Rattle.file.specs.Rules.Decode.{offsetAt, decode}
-use Rattle.file.specs.Rules.Grounds.{wrongSize, wrongLength, brokenLayout, fileGround}
+use Rattle.file.specs.Rules.FileGrounds.{wrongSize, wrongLength, brokenLayout, fileGround}
 
 -- where a file keeps the sleep byte of each slave; above 1 it is 6 that holds, and no accepted file has one
 pub record SleepBytes (f : List ℕ) (place : ℕ → ℕ) : Type 0 where
@@ -40,6 +41,20 @@ pub record ReadAsOne (f : List ℕ) : Type 0 where
 pub record EditionOne : Type 0 where
   pub width : widthIn 1 ≡ 2
   pub edition : editionOf 2 ≡ 1
+  -- the edition of an edition's width is that edition
+  pub editionBack : (e : ℕ) → editionOf (widthIn e) ≡ e
+  -- where each field of the header begins
+  pub markFrom : markPlace ≡ 0
+  pub editionFrom : editionPlace ≡ 2
+  pub countFrom : countPlace ≡ 3
+  pub tableFrom : tablePlace ≡ 4
+  pub lengthFrom : lengthPlace 2 ≡ 6
+  pub epochFrom : epochPlace 2 ≡ 8
+  pub flagFrom : flagPlace 2 ≡ 9
+  pub nameFrom : pendingNamePlace 2 ≡ 10
+  pub pb2From : pendingPB2Place 2 ≡ 11
+  pub pb3From : pendingPB3Place 2 ≡ 12
+  pub zerosFrom : zerosPlace 2 ≡ 13
   -- of a file of either edition: bytes 2 and 3 are the edition and the slave count in both
   pub editionAt : (f : List ℕ) → fileGround f ≡ 0 → decode f .edition ≡ getD f 2 0
   pub countAt : (f : List ℕ) → length (decode f .slaves) ≡ getD f 3 0

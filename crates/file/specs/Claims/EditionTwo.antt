@@ -12,10 +12,11 @@ use lib.Dec.{eqb, ltb}
 use Rattle.file.specs.Rules.Bytes.{bytesOf, part}
 use Rattle.file.specs.Rules.Order.{either}
 use Rattle.file.specs.Rules.Layout.{widthIn, widthOf, editionOf, zerosLength, headerSize, entrySize, fillLength, maxSlaves, maxLength}
+use Rattle.file.specs.Rules.Layout.{lengthPlace, epochPlace, flagPlace, pendingNamePlace, pendingPB2Place, pendingPB3Place, zerosPlace}
 use Rattle.file.specs.Rules.Cluster.{File, Slave, Cluster, lastRecord}
 use Rattle.file.specs.Rules.Encode.{directoryEntry, tableEntry, header, fileLength}
 use Rattle.file.specs.Rules.Decode.{offsetAt, decode}
-use Rattle.file.specs.Rules.Grounds.{wrongSize, wrongLength, wrongHeader, brokenLayout, walkSlave, to}
+use Rattle.file.specs.Rules.FileGrounds.{wrongSize, wrongLength, wrongHeader, brokenLayout, walkSlave, to}
 use Rattle.file.specs.Claims.EditionOne.{SleepBytes}
 
 -- the zeros of edition 2: one that is not zero is 5 in the header, 6 in an entry. Slave i's table entry begins at byte 24 + 8 i and its
@@ -54,6 +55,14 @@ pub record LastEntry (f : List ℕ) (t : ℕ) : Type 0 where
 pub record EditionTwo : Type 0 where
   pub width : widthIn 2 ≡ 4
   pub edition : editionOf 4 ≡ 2
+  -- where each field of the header begins: the mark, the edition, the slave count and the table's offset as in edition 1
+  pub lengthFrom : lengthPlace 4 ≡ 8
+  pub epochFrom : epochPlace 4 ≡ 12
+  pub flagFrom : flagPlace 4 ≡ 13
+  pub nameFrom : pendingNamePlace 4 ≡ 14
+  pub pb2From : pendingPB2Place 4 ≡ 15
+  pub pb3From : pendingPB3Place 4 ≡ 16
+  pub zerosFrom : zerosPlace 4 ≡ 17
   pub read : (f : List ℕ) → getD f 2 0 ≡ 2 → ReadAsTwo f
   pub zerosAt : headerSize 4 - zerosLength 4 ≡ 17
   pub zeros : zerosLength 4 ≡ 7

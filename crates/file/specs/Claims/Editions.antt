@@ -11,7 +11,7 @@ use Rattle.file.specs.Rules.Layout.{OffsetWidth, widthIn}
 use Rattle.file.specs.Rules.Encode.{fileLength}
 use Rattle.file.specs.Rules.Decode.{decode}
 use Rattle.file.specs.Rules.Changes.{withEdition}
-use Rattle.file.specs.Rules.Grounds.{fileGroundAt, fileGround}
+use Rattle.file.specs.Rules.FileGrounds.{fileGroundAt, fileGround}
 use Rattle.file.specs.Rules.Editions.{inEdition, exceeds}
 
 -- what an accepted file is in another edition that has room for it: accepted, of the length that its slaves take there, with the same

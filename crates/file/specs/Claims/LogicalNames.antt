@@ -12,7 +12,7 @@ use Rattle.file.specs.Rules.Cluster.{Slave, configuration, logicalNames}
 use Rattle.file.specs.Rules.Encode.{encode}
 use Rattle.file.specs.Rules.Decode.{decode}
 use Rattle.file.specs.Rules.Changes.{putInSlave, withSlaves}
-use Rattle.file.specs.Rules.Grounds.{fileGround, hasRepeat, heldNames, loadGround}
+use Rattle.file.specs.Rules.FileGrounds.{fileGround, hasRepeat, heldNames, loadGround}
 
 -- slaves with these logical names in place of their own, "the logical name in byte 3" of record 1, and every other byte as it was
 unfoldable pub renamed : List Slave → List ℕ → List Slave

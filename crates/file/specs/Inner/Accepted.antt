@@ -6,13 +6,13 @@ use mathlib.Core.Bool.{Bool, cond}
 use lib.ListN.{length, getD}
 use lib.Dec.{eqb, leb}
 use Rattle.file.specs.Rules.Order.{both}
-use Rattle.file.specs.Rules.Layout.{widthIn, OffsetWidth, recordSize}
-use Rattle.file.specs.Inner.Layout.{epochPlace, neededDocumentation}
+use Rattle.file.specs.Rules.Layout.{widthIn, OffsetWidth, epochPlace, recordSize}
+use Rattle.file.specs.Inner.Layout.{neededDocumentation}
 use Rattle.file.specs.Rules.Cluster.{Cluster, bytesIn, hasRecord, configuration, documentation, fileNumberOf, operationOf}
 use Rattle.file.specs.Rules.Encode.{encode}
 use Rattle.file.specs.Rules.Decode.{decode}
 use Rattle.file.specs.Rules.Legal.{Legal}
-use Rattle.file.specs.Rules.Grounds.{fileGround}
+use Rattle.file.specs.Rules.FileGrounds.{fileGround}
 use Rattle.file.specs.Inner.Places.{slaveOf, filePlace, sleepPlace, configurationIndex, documentationIndex}
 
 -- the file is accepted, and it is that cluster's one encoding

@@ -6,7 +6,7 @@ use mathlib.Core.Bool.{Bool, true, false, cond}
 use lib.ListN.{length, getD, take, drop}
 use lib.Dec.{eqb, leb}
 use Rattle.file.specs.Rules.Order.{firstOf, both}
-use Rattle.file.specs.Rules.Layout.{OffsetWidth, headerSize, entrySize}
+use Rattle.file.specs.Rules.Layout.{OffsetWidth, countPlace, headerSize, entrySize}
 use Rattle.file.specs.Rules.Layout.{fillLength, maxSlaves, maxLength}
 use Rattle.file.specs.Inner.Layout.{neededConfiguration, neededDocumentation, physicalNamePlace, longWidth}
 use Rattle.file.specs.Rules.Cluster.{configuration, documentation}
@@ -15,7 +15,8 @@ use Rattle.file.specs.Rules.Decode.{offsetAt, fileSize}
 use Rattle.file.specs.Inner.Places.{placesEach, documentationIndex}
 use Rattle.file.specs.Inner.Accepted.{FoundFile, fileFound}
 use Rattle.file.specs.Inner.Marked.{remainder}
-use Rattle.file.specs.Rules.Grounds.{wrongSize, wrongMark, wrongEdition, wrongLength, wrongHeader, fileGroundAt, Walk, broken, to, walkDirectory, walkSlave, walkSlaves, walkFile, brokenLayout, lacksNeeded, equalPhysicalNames, isAmong}
+use Rattle.file.specs.Rules.FileGrounds.{wrongSize, wrongMark, wrongEdition, wrongLength, wrongHeader, fileGroundAt}
+use Rattle.file.specs.Rules.FileGrounds.{Walk, broken, to, walkDirectory, walkSlave, walkSlaves, walkFile, brokenLayout, lacksNeeded, equalPhysicalNames, isAmong}
 
 -- the file has room for its header
 pub record HeaderFits (w : ℕ) (f : List ℕ) : Type 0 where
@@ -121,7 +122,7 @@ pub record PlacesFit (w : ℕ) (places : List ℕ) : Type 0 where
 pub record WholeWalk (w : ℕ) (f places : List ℕ) : Type 0 where
   pub header : GoodHeader w f
   pub walk : walkFile w f ≡ to (length f)
-  pub stated : take (placesEach * getD f 3 0) places ≡ statedPlaces w f (headerSize w) (getD f 3 0)
+  pub stated : take (placesEach * getD f countPlace 0) places ≡ statedPlaces w f (headerSize w) (getD f countPlace 0)
 
 -- the layout is broken, or walked whole
 pub record BodyWalked (w : ℕ) (f : List ℕ) (good : Bool) (places : List ℕ) : Type 0 where

@@ -2,28 +2,6 @@
 use Prim.Native.Nat.{ℕ, _+_, _*_}
 use Rattle.file.specs.Rules.Layout.{recordSize}
 
--- the header's places behind the table's offset: the length, the five free fields, the zeros
-abbrev pub lengthPlace : ℕ → ℕ
-lengthPlace w = 4 + w
-
-abbrev pub epochPlace : ℕ → ℕ
-epochPlace w = 4 + 2 * w
-
-abbrev pub flagPlace : ℕ → ℕ
-flagPlace w = 5 + 2 * w
-
-abbrev pub pendingNamePlace : ℕ → ℕ
-pendingNamePlace w = 6 + 2 * w
-
-abbrev pub pendingPB2Place : ℕ → ℕ
-pendingPB2Place w = 7 + 2 * w
-
-abbrev pub pendingPB3Place : ℕ → ℕ
-pendingPB3Place w = 8 + 2 * w
-
-abbrev pub zerosPlace : ℕ → ℕ
-zerosPlace w = 9 + 2 * w
-
 -- a number of two bytes, and one of two records
 abbrev pub shortWidth : ℕ
 shortWidth = 2

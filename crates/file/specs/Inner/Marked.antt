@@ -4,7 +4,7 @@ use mathlib.Core.Path.{_≡_}
 use mathlib.Core.List.{List}
 use mathlib.Core.Bool.{Bool, false}
 use lib.ListN.{length, getD}
-use Rattle.file.specs.Rules.Grounds.{isAmong}
+use Rattle.file.specs.Rules.FileGrounds.{isAmong}
 
 -- a mark is seen exactly where it is among the marks
 pub record Marked (seen : List Bool) (marks : List ℕ) : Type 0 where

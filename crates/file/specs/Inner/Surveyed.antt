@@ -3,7 +3,7 @@ use mathlib.Core.Path.{_≡_}
 use Prim.Native.Nat.{ℕ}
 use mathlib.Core.List.{List}
 use Rattle.file.specs.Rules.Results.{Result, done, resultOf}
-use Rattle.file.specs.Rules.Grounds.{fileGround}
+use Rattle.file.specs.Rules.FileGrounds.{fileGround}
 use Rattle.file.specs.Inner.Accepted.{Placed}
 
 -- The answer is that of the file's ground. Where the file is accepted, the places are those of its slaves. Free are the places of a

@@ -5,6 +5,7 @@ use mathlib.Core.List.{List, [], _∷_}
 use lib.ListN.{getD}
 use Rattle.file.specs.Rules.Bytes.{numberOf, part}
 use Rattle.file.specs.Rules.Layout.{widthOf, editionOf, headerSize, entrySize, recordSize}
+use Rattle.file.specs.Rules.Layout.{countPlace, epochPlace, flagPlace, pendingNamePlace, pendingPB2Place, pendingPB3Place}
 use Rattle.file.specs.Rules.Cluster.{File, Slave, Cluster}
 
 -- a number of the offset's width at a place
@@ -37,7 +38,16 @@ slavesAt w f t (suc n) = slaveAt w f t ∷ slavesAt w f (t + entrySize w) n
 -- the epoch, the pending flag, the pending logical name, PB2 and PB3 are bytes 8 to 12 in edition 1, "12 to 16 epoch and pending bytes" in
 -- edition 2 (document 02, job 10); byte 3 is the slave count
 unfoldable pub decodeAt : ℕ → List ℕ → Cluster
-decodeAt w f = record { edition = editionOf w; epoch = getD f (4 + 2 * w) 0; flag = getD f (5 + 2 * w) 0; pendingName = getD f (6 + 2 * w) 0; pendingPB2 = getD f (7 + 2 * w) 0; pendingPB3 = getD f (8 + 2 * w) 0; slaves = slavesAt w f (headerSize w) (getD f 3 0) }
+decodeAt w f =
+    record {
+      edition = editionOf w;
+      epoch = getD f (epochPlace w) 0;
+      flag = getD f (flagPlace w) 0;
+      pendingName = getD f (pendingNamePlace w) 0;
+      pendingPB2 = getD f (pendingPB2Place w) 0;
+      pendingPB3 = getD f (pendingPB3Place w) 0;
+      slaves = slavesAt w f (headerSize w) (getD f countPlace 0);
+    }
 
 -- at the width of the file's edition: "All calls take both editions" (document 02, job 10)
 unfoldable pub decode : List ℕ → Cluster

@@ -7,7 +7,7 @@ use Rattle.file.specs.Rules.Results.{Result, resultOf}
 use Rattle.file.specs.Rules.Cluster.{fileNumberOf, operationOf}
 use Rattle.frame.specs.Rules.Check.{addressCheck}
 use Rattle.frame.specs.Rules.Frames.{frameSize}
-use Rattle.frame.specs.Rules.Grounds.{noAddress, wrongFrameLength, wrongCheck, noOperation, broadcastRead}
+use Rattle.frame.specs.Rules.FrameGrounds.{noAddress, wrongFrameLength, wrongCheck, noOperation, broadcastRead}
 
 -- what an address frame says
 -- "A file number, a record number and a logical name are never taken for one another.": each by its name here, by its own type in code

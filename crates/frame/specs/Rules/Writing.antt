@@ -7,7 +7,7 @@ use lib.Dec.{eqb}
 use Rattle.file.specs.Rules.Order.{firstOf}
 use Rattle.file.specs.Rules.Results.{Result, resultOf}
 use Rattle.frame.specs.Rules.Frames.{frameSize, addressFrame, dataFrame}
-use Rattle.frame.specs.Rules.Grounds.{shortFrameBuffer, noOperation, broadcastRead, noFileNumber}
+use Rattle.frame.specs.Rules.FrameGrounds.{shortFrameBuffer, noOperation, broadcastRead, noFileNumber}
 
 -- "A refusal returns its number and alters nothing lent"; "Past the bytes a call writes, a buffer keeps its content."
 unfoldable pub writeFrame : ℕ → List ℕ → List ℕ → Result (Unit {0}) × List ℕ

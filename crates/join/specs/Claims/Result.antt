@@ -12,10 +12,10 @@ use Rattle.file.specs.Rules.Decode.{decode}
 use Rattle.file.specs.Rules.Legal.{Legal}
 use Rattle.file.specs.Rules.Encode.{encode}
 use Rattle.file.specs.Rules.Results.{done, writtenIn}
-use Rattle.file.specs.Rules.Grounds.{fileGround, loadGround}
+use Rattle.file.specs.Rules.FileGrounds.{fileGround, loadGround}
 use Rattle.join.specs.Rules.Joined.{joined, joinedFile}
 use Rattle.join.specs.Rules.Join.{joinOn}
-use Rattle.join.specs.Claims.Grounds.{countIn, slaveIn, SharedName, TooLarge}
+use Rattle.join.specs.Claims.JoinGrounds.{countIn, slaveIn, SharedName, TooLarge}
 
 -- where the call writes, and how many bytes
 pub record Writable (f g out : List ℕ) (n : ℕ) : Type 0 where

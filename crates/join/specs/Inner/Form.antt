@@ -33,14 +33,14 @@ pub record HeaderFits (w : ℕ) (out : List ℕ) (count size : ℕ) : Type 0 whe
 
 -- a list has room for the form of the two lists of slaves at a width, which is within the edition's limits; the first list's form alone has
 -- so many bytes
-pub record JoinFits (w : ℕ) (out : List ℕ) (own : ℕ) (ss ts : List Slave) : Type 0 where
+pub record JoinFits (w : ℕ) (out : List ℕ) (alone : ℕ) (ss ts : List Slave) : Type 0 where
   pub width : OffsetWidth w
-  pub first : own ≡ fileLength w ss
+  pub first : alone ≡ fileLength w ss
   pub room : fileLength w (ss ++ ts) ≤ length out
   pub short : fileLength w (ss ++ ts) ≤ maxLength w
   pub few : length (ss ++ ts) ≤ maxSlaves w
 
 -- the same, and the form of both has so many bytes
-pub record JoinedFits (w : ℕ) (out : List ℕ) (own size : ℕ) (ss ts : List Slave) : Type 0 where
-  pub fits : JoinFits w out own ss ts
+pub record JoinedFits (w : ℕ) (out : List ℕ) (alone size : ℕ) (ss ts : List Slave) : Type 0 where
+  pub fits : JoinFits w out alone ss ts
   pub whole : size ≡ fileLength w (ss ++ ts)

@@ -10,7 +10,7 @@ use Rattle.file.specs.Rules.Results.{Result, refused, done, writtenIn}
 use Rattle.file.specs.Rules.Encode.{fileLength}
 use Rattle.file.specs.Rules.Decode.{decode}
 use Rattle.file.specs.Rules.Editions.{exceeds}
-use Rattle.file.specs.Rules.Grounds.{fileGrounds}
+use Rattle.file.specs.Rules.FileGrounds.{fileGrounds}
 use Rattle.join.specs.Rules.Joined.{joined, joinedFile, sharesName}
 
 -- "New numbers: 29, a physical name in both files; 30, the joined file exceeds the edition's limits or the buffer; in this order after 8,

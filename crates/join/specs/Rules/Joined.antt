@@ -8,7 +8,7 @@ use Rattle.file.specs.Rules.Cluster.{Slave, Cluster, configuration, unnamed, ph
 use Rattle.file.specs.Rules.Encode.{encode}
 use Rattle.file.specs.Rules.Decode.{decode}
 use Rattle.file.specs.Rules.Changes.{putInSlave, withSleep}
-use Rattle.file.specs.Rules.Grounds.{isAmong}
+use Rattle.file.specs.Rules.FileGrounds.{isAmong}
 
 -- "A slave of the second whose logical name the first also holds becomes 0xFF (byte 3 of record 1 of 0x08)."
 unfoldable pub turned : List ℕ → Slave → Slave

@@ -5,7 +5,7 @@ use mathlib.Core.Logic.{_↔_, _≢_, _⊎_}
 use mathlib.Core.List.{List, [], _∷_}
 use mathlib.Core.Bool.{true}
 use Rattle.file.specs.Rules.Results.{refused, done}
-use Rattle.file.specs.Rules.Grounds.{isAmong}
+use Rattle.file.specs.Rules.FileGrounds.{isAmong}
 use Rattle.frame.specs.Rules.Fireworks.{noRound, roundOf}
 use Rattle.line.specs.Rules.Patterns.{dataByte, firework, broken, patternOn}
 

@@ -6,7 +6,7 @@ use lib.Dec.{eqb, ltb}
 use lib.Count.{onesIn}
 use Rattle.file.specs.Rules.Order.{firstOf}
 use Rattle.file.specs.Rules.Results.{Result, resultOf}
-use Rattle.file.specs.Rules.Grounds.{isAmong}
+use Rattle.file.specs.Rules.FileGrounds.{isAmong}
 use Rattle.frame.specs.Rules.Fireworks.{Round, fireworks}
 
 -- "data byte (even count of ones), a firework (odd count and in the list), or broken"

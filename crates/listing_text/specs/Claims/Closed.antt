@@ -7,7 +7,7 @@ use mathlib.Core.List.{List, [], _∷_, _++_}
 use lib.ListN.{length}
 use Rattle.file.specs.Rules.Bytes.{Bytes}
 use Rattle.file.specs.Rules.Decode.{decode}
-use Rattle.file.specs.Rules.Grounds.{loadGround}
+use Rattle.file.specs.Rules.FileGrounds.{loadGround}
 use Rattle.naming.specs.Rules.Account.{Named, namesIn, falling, unnamedAmong, namesHeld, namingComparisons}
 use Rattle.naming.specs.Rules.Figures.{freeNames, givings, roundsFor, comparisonsFor}
 use Rattle.listing_text.specs.Rules.Text.{nameLine, totalsLine}

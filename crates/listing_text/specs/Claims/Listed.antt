@@ -4,8 +4,8 @@ use mathlib.Core.Path.{_≡_}
 use mathlib.Core.List.{List}
 use Rattle.file.specs.Rules.Bytes.{Bytes}
 use Rattle.file.specs.Rules.Decode.{decode}
-use Rattle.file.specs.Rules.Grounds.{fileGround, loadGround}
-use Rattle.naming.specs.Rules.Run.{running}
+use Rattle.file.specs.Rules.FileGrounds.{fileGround, loadGround}
+use Rattle.naming.specs.Rules.Position.{running}
 use Rattle.naming.specs.Rules.Account.{namesIn}
 use Rattle.naming.specs.Rules.Figures.{namesAfter}
 use Rattle.listing_text.specs.Rules.Text.{refusedLine}

@@ -5,11 +5,13 @@ use mathlib.Core.List.{List}
 use mathlib.Core.Bool.{Bool, cond, not}
 use lib.Dec.{eqb}
 use lib.ListN.{length, take, drop}
-use Rattle.naming.specs.Rules.Run.{Position, lastStep, countLimit}
+use Rattle.naming.specs.Rules.Position.{Position}
+use Rattle.naming.specs.Rules.Pass.{lastStep}
+use Rattle.naming.specs.Rules.RunGrounds.{countLimit}
 use Rattle.file.specs.Rules.Order.{either}
 use Rattle.file.specs.Rules.Results.{Result}
 use Rattle.naming.specs.Rules.Step.{StepDone}
-use Rattle.naming.specs.Inner.Answers.{positionOf}
+use Rattle.naming.specs.Inner.StepAnswers.{positionOf}
 use Rattle.naming.specs.declared.position.RunPosition.{RunPosition}
 use Rattle.listing_text.specs.Rules.Listing.{ListState, withoutName, withName, nameCount, textSize}
 use Rattle.listing_text.specs.Rules.Text.{lineSize}
@@ -29,12 +31,12 @@ stateOf r file answer text =
 
 -- the lines so far leave room for the others; and a run that counts no round is at its begin, so the extra read is no last round of a pass
 pub record Room (r : ListProgress) (size : ℕ) : Type 0 where
-  pub counted : r .begun ≤ r .run .comparisons
-  pub few : r .given ≤ r .run .index
+  pub counted : r .begun ≤ r .run .counts .comparisons
+  pub few : r .given ≤ r .run .place .index
   pub most : r .given ≤ nameCount
   pub within : r .at ≤ r .given * lineSize
   pub long : textSize ≤ size
-  pub begins : r .run .rounds ≡ 0 → r .run .step ≡ 0
+  pub begins : r .run .counts .rounds ≡ 0 → r .run .place .step ≡ 0
 
 -- from one run under way to another, with that much of the text written
 pub record StateIs (wanted : ListState) (old : List ℕ) (at : ℕ) (r : ListProgress) (file answer text : List ℕ) : Type 0 where
@@ -46,19 +48,19 @@ pub record StateIs (wanted : ListState) (old : List ℕ) (at : ℕ) (r : ListPro
 
 -- what a round of the run leaves of a position
 pub record Moves (p q : Position) : Type 0 where
-  pub inside : p .index < nameCount
-  pub compared : p .comparisons ≤ q .comparisons
-  pub small : q .comparisons ≤ countLimit
-  pub further : p .index ≤ q .index
-  pub named : p .step ≡ lastStep → q .index ≡ suc (p .index)
-  pub made : 0 < q .rounds
+  pub inside : p .place .index < nameCount
+  pub compared : p .counts .comparisons ≤ q .counts .comparisons
+  pub small : q .counts .comparisons ≤ countLimit
+  pub further : p .place .index ≤ q .place .index
+  pub named : p .place .step ≡ lastStep → q .place .index ≡ suc (p .place .index)
+  pub made : 0 < q .counts .rounds
 
 -- the state after such a round, whatever file and answer it left
 pub record StepListed (state : ListProgress) (next : Position) (old : List ℕ) (r : ListProgress) (new : List ℕ) : Type 0 where
   pub reached :
       (s : Result StepDone) (file answer file′ answer′ : List ℕ) →
       StateIs
-      (cond (eqb (state .run .step) lastStep) (withName (stateOf state file answer old) (s, next, answer′, file′))
+      (cond (eqb (state .run .place .step) lastStep) (withName (stateOf state file answer old) (s, next, answer′, file′))
       (withoutName (stateOf state file answer old) (s, next, answer′, file′)))
       old
       (state .at)

@@ -7,9 +7,10 @@ use lib.ListN.{length, getD, drop, replicate}
 use lib.Dec.{eqb}
 use Rattle.file.specs.Rules.Order.{both}
 use Rattle.file.specs.Rules.Results.{Result, refused, done}
-use Rattle.file.specs.Rules.Grounds.{loadGround}
-use Rattle.cluster.specs.Rules.Bus.{slots}
-use Rattle.naming.specs.Rules.Run.{Position, running, fresh, lastStep}
+use Rattle.file.specs.Rules.FileGrounds.{loadGround}
+use Rattle.master_slave.specs.Rules.Bus.{slots}
+use Rattle.naming.specs.Rules.Position.{Position, running, fresh}
+use Rattle.naming.specs.Rules.Pass.{lastStep}
 use Rattle.naming.specs.Rules.Step.{StepDone, ended, made, stepOn}
 use Rattle.listing_text.specs.Rules.Text.{nameLine, totalsLine, refusedLine, lineSize, totalsSize}
 
@@ -43,7 +44,7 @@ isMade (done (made mask)) = true
 -- "one line for each name given, in order, none for a taken name or the pass that ends the run": the last round of a pass gives its
 -- name
 unfoldable pub givesName : Result StepDone → Position → Bool
-givesName s p = both (isMade s) (eqb (p .step) lastStep)
+givesName s p = both (isMade s) (eqb (p .place .step) lastStep)
 
 -- a step with no name given, and one that gives it: "name, physical name, that pass's comparisons"
 unfoldable pub withoutName : ListState → Result StepDone × Position × List ℕ × List ℕ → ListState
@@ -51,8 +52,8 @@ withoutName t s = record { file = s .3; run = s .1; buffer = s .2; begun = t .be
 
 unfoldable pub withName : ListState → Result StepDone × Position × List ℕ × List ℕ → ListState
 withName t s =
-    let line = nameLine (getD allNames (t .run .index) 0) (t .run .value) (s .1 .comparisons - t .begun) in
-    record { file = s .3; run = s .1; buffer = s .2; begun = s .1 .comparisons; given = suc (t .given); lines = t .lines ++ line }
+    let line = nameLine (getD allNames (t .run .place .index) 0) (t .run .place .value) (s .1 .counts .comparisons - t .begun) in
+    record { file = s .3; run = s .1; buffer = s .2; begun = s .1 .counts .comparisons; given = suc (t .given); lines = t .lines ++ line }
 
 unfoldable pub listStep : ListState → ListState
 listStep t =
@@ -76,7 +77,7 @@ endState file = listSteps mostSteps (startState file)
 
 -- "then one line of totals, decimal: names given, comparisons, rounds of the run"
 unfoldable pub withTotals : ListState → List ℕ
-withTotals t = t .lines ++ totalsLine (t .given) (t .run .comparisons) (t .run .rounds)
+withTotals t = t .lines ++ totalsLine (t .given) (t .run .counts .comparisons) (t .run .counts .rounds)
 
 -- "A refused file gives only the line `refused`, a space and its number.": on loading, so 22 among them (document 02, job 5)
 unfoldable pub listing : List ℕ → List ℕ

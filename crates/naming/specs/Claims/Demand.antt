@@ -11,12 +11,13 @@ use Rattle.file.specs.Rules.Order.{both, either}
 use Rattle.file.specs.Rules.Results.{refused, done}
 use Rattle.file.specs.Rules.Cluster.{configuration, unnamed, fileNumberOf, operationOf, pb2Of, readOperation, writeOperation}
 use Rattle.file.specs.Rules.Decode.{decode}
-use Rattle.file.specs.Rules.Grounds.{fileGround}
+use Rattle.file.specs.Rules.FileGrounds.{fileGround}
 use Rattle.frame.specs.Rules.Fireworks.{Round, multipartner, msd, msa, noRound}
-use Rattle.cluster.specs.Rules.Grounds.{roundBy}
+use Rattle.cluster.specs.Rules.RoundGrounds.{roundBy}
 use Rattle.cluster.specs.Rules.Round.{Answer}
 use Rattle.cluster.specs.Rules.Summary.{roundKeepingGround, roundKeeping}
-use Rattle.naming.specs.Rules.Run.{Position, fresh, startGround, unfitPosition}
+use Rattle.naming.specs.Rules.Position.{Position, fresh}
+use Rattle.naming.specs.Rules.RunGrounds.{startGround, unfitPosition}
 use Rattle.naming.specs.Rules.Step.{stepKeepingGround, stepKeeping}
 use Rattle.naming.specs.Rules.Account.{StepArguments, FrameArguments, Call, step, frame, argumentsGround}
 use Rattle.naming.specs.Rules.Account.{namesIn, accountOf, accountAfter, comparisonsOf}
@@ -100,12 +101,12 @@ pub record Demand (file names : List ℕ) (calls : List Call) (now : List ℕ) (
   pub accepted : fileGround now ≡ 0
   pub logical : namesIn (decode now) ≡ accountAfter (accountOf (namesIn (decode file)) names) calls .slaves
   pub end : p .end ≡ accountAfter (accountOf (namesIn (decode file)) names) calls .end
-  pub rounds : p .rounds ≡ accountAfter (accountOf (namesIn (decode file)) names) calls .rounds
-  pub comparisons : p .comparisons ≡ comparisonsOf (accountAfter (accountOf (namesIn (decode file)) names) calls)
+  pub rounds : p .counts .rounds ≡ accountAfter (accountOf (namesIn (decode file)) names) calls .rounds
+  pub comparisons : p .counts .comparisons ≡ comparisonsOf (accountAfter (accountOf (namesIn (decode file)) names) calls)
   pub fit : unfitPosition names p ≡ false
   pub grounds :
       (arguments : StepArguments) → stepKeepingGround now p names (arguments .summary) (arguments .buffer) ≡ argumentsGround (namesIn (decode now)) arguments
-  pub outcome : Outcome (namesIn (decode file)) names (namesIn (decode now)) (p .end) (p .rounds) (p .comparisons)
+  pub outcome : Outcome (namesIn (decode file)) names (namesIn (decode now)) (p .end) (p .counts .rounds) (p .counts .comparisons)
 
 -- Demand 3: "It is one claim about the whole list of calls, not one for each."
 -- "Demand 3 shuts out: a master that says "all named" before polling; .. counts not made."

@@ -5,7 +5,7 @@ use mathlib.Core.List.{List}
 use lib.ListN.{length, take}
 use Rattle.file.specs.Rules.Results.{Result}
 use Rattle.file.specs.Claims.Edition.{NoEdition}
-use Rattle.naming.specs.Rules.Run.{Position}
+use Rattle.naming.specs.Rules.Position.{Position}
 use Rattle.cluster.specs.Rules.Summary.{Summary}
 use Rattle.naming.specs.Rules.Step.{StepDone, stepOn, stepKeeping}
 

@@ -1,14 +1,17 @@
--- A pass that names a slave, its rounds written out in order (document 02, request 6): the run makes just these rounds, and what the plain
--- account says of them: how many there are, and how many comparisons after each.
-use Prim.Native.Nat.{ℕ, zero, suc, _+_, _/_, _%_, _^_, _<_}
+-- A pass that names a slave, its rounds written out in order, each at its place (document 02, request 6): the run makes just these rounds, they
+-- are those of the plain account, and what it says of them: how many there are, and how many comparisons after each.
+use Prim.Native.Nat.{ℕ, zero, suc, _+_, _-_, _/_, _%_, _^_, _<_, min}
 use mathlib.Core.Path.{_≡_}
-use mathlib.Core.List.{List, [], _∷_, _++_}
+use mathlib.Core.List.{List, [], _∷_, _++_, map}
 use mathlib.Core.Bool.{Bool, false, cond}
 use lib.ListN.{length, take}
 use lib.Dec.{eqb, leb}
-use Rattle.naming.specs.Rules.Rounds.{half}
-use Rattle.naming.specs.Rules.Run.{Position, endAt, bits, PassPlace, poll, ask, giveName, giveHigh, giveLow, baptize, least, bit, high, low, reply, tried, placeOf, onto, advance}
+use Rattle.naming.specs.Rules.RunRounds.{half}
+use Rattle.naming.specs.Rules.Position.{Position, endAt}
+use Rattle.naming.specs.Rules.Pass.{bits, PassPlace, poll, ask, giveName, giveHigh, giveLow, baptize, least, bit, high, low, reply, placeOf}
+use Rattle.naming.specs.Rules.Run.{tried, onto, advance}
 use Rattle.naming.specs.Rules.Account.{bitClear, namingRounds, namingComparisons, comparisonsAfter}
+use Rattle.naming.specs.Rules.Account.{RoundKind, readRound, writeRound, compareRound, nameRound, namingPass, comparesIn}
 
 -- bits 31 + n down to 32: the high half changes, the low one does not
 unfoldable pub upperBits : ℕ → List PassPlace
@@ -34,6 +37,17 @@ passRounds highAgain lowAgain =
 unfoldable pub passFor : ℕ → List PassPlace
 passFor p = passRounds (eqb (bitClear 32 p) 1) (eqb (bitClear 0 p) 1)
 
+-- what the plain account sees of a round
+unfoldable pub seen : PassPlace → RoundKind
+seen poll = readRound
+seen (ask q high) = writeRound
+seen (ask q low) = writeRound
+seen (ask q reply) = compareRound
+seen giveName = writeRound
+seen giveHigh = writeRound
+seen giveLow = writeRound
+seen baptize = nameRound
+
 -- its comparisons, each at its execute
 unfoldable pub executesIn : List PassPlace → ℕ
 executesIn [] = 0
@@ -46,10 +60,15 @@ executesIn (giveHigh ∷ ls) = executesIn ls
 executesIn (giveLow ∷ ls) = executesIn ls
 executesIn (baptize ∷ ls) = executesIn ls
 
--- the account's figures are those of the pass written out, for every physical name and after any number of rounds
+-- the account's pass is this one, for every physical name, and its figures are those of it, after any number of rounds too. The comparisons in
+-- closed form: the one with 0 at round 4, those of bits 63 to 32 at every second round up to round 68, and those of bits 31 to 0 at
+-- every second round after that or, if the high half is written again between the two, after one round more
 pub record PassesCounted : Type 0 where
+  pub same : (p : ℕ) → map seen (passFor p) ≡ namingPass p
   pub rounds : (p : ℕ) → length (passFor p) ≡ namingRounds p
   pub comparisons : (p k : ℕ) → executesIn (take k (passFor p)) ≡ comparisonsAfter (bitClear 32 p) k
+  pub all : (p : ℕ) → comparesIn (namingPass p) ≡ namingComparisons
+  pub formula : (again k : ℕ) → comparisonsAfter again k ≡ (min k 68 - 2) / 2 + min 32 ((k - 68 - again) / 2)
 
 -- ---- the run makes them
 
@@ -68,10 +87,10 @@ answerFor p baptize value = false
 -- the place of the round that a step makes once a round is counted (`nextRound` is the round there), and the position after it; the step
 -- that makes the extra read makes none of the pass (`Claims/RoundsMade` MakesExtra)
 unfoldable pub placeMade : List ℕ → Position → PassPlace
-placeMade names q = placeOf (onto names q .step)
+placeMade names q = placeOf (onto names q .place .step)
 
 unfoldable pub afterStep : List ℕ → ℕ → Position → Position
-afterStep names p q = advance names q (answerFor p (placeMade names q) (onto names q .value))
+afterStep names p q = advance names q (answerFor p (placeMade names q) (onto names q .place .value))
 
 -- n steps, one after the other
 unfoldable pub placesMade : List ℕ → ℕ → ℕ → Position → List PassPlace
@@ -88,16 +107,12 @@ pub record PassMade (names : List ℕ) (p : ℕ) (q : Position) : Type 0 where
   pub after :
       afterSteps names p (length (passFor p)) q ≡
       record {
-        end = endAt (length names) (suc (q .index));
-        index = suc (q .index);
-        step = 0;
-        value = p;
-        rounds = q .rounds + length (passFor p);
-        comparisons = q .comparisons + namingComparisons;
-        high = p / half;
-        low = p % half;
+        end = endAt (length names) (suc (q .place .index));
+        place = record { index = suc (q .place .index); step = 0; value = p };
+        counts = record { rounds = q .counts .rounds + length (passFor p); comparisons = q .counts .comparisons + namingComparisons };
+        halves = record { high = p / half; low = p % half };
       }
 
 -- from step 0 of any name, some round counted and whatever else the position holds, for every physical name
 abbrev pub PassesMade : Type 0
-PassesMade = (names : List ℕ) (p : ℕ) (q : Position) → p < 2 ^ bits → 0 < q .rounds → q .step ≡ 0 → PassMade names p q
+PassesMade = (names : List ℕ) (p : ℕ) (q : Position) → p < 2 ^ bits → 0 < q .counts .rounds → q .place .step ≡ 0 → PassMade names p q

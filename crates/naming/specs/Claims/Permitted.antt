@@ -9,10 +9,10 @@ use Rattle.file.specs.Rules.Bytes.{All}
 use Rattle.file.specs.Rules.Cluster.{configuration, broadcast, readOperation, writeOperation}
 use Rattle.frame.specs.Rules.Fireworks.{Round, multipartner, msd, msa}
 use Rattle.frame.specs.Rules.Reading.{Parts, partsOf}
-use Rattle.cluster.specs.Rules.Grounds.{roundBy}
+use Rattle.cluster.specs.Rules.RoundGrounds.{roundBy}
 use Rattle.cluster.specs.Rules.Round.{roundOn}
 use Rattle.cluster.specs.Rules.Summary.{roundKeepingGround}
-use Rattle.naming.specs.Rules.Run.{Position}
+use Rattle.naming.specs.Rules.Position.{Position}
 use Rattle.naming.specs.Rules.Step.{stepKeepingGround, stepOn}
 use Rattle.naming.specs.Rules.Account.{StepArguments, FrameArguments, Call, step, frame}
 use Rattle.naming.specs.Claims.Demand.{startOn, permitted, OfBytes}

@@ -10,16 +10,17 @@ use lib.Dec.{eqb}
 use Rattle.file.specs.Rules.Bytes.{Byte, Bytes, All}
 use Rattle.file.specs.Rules.Cluster.{configuration, unnamed, broadcast, readOperation, writeOperation, executeOperation}
 use Rattle.file.specs.Rules.Decode.{decode}
-use Rattle.file.specs.Rules.Grounds.{fileGround}
+use Rattle.file.specs.Rules.FileGrounds.{fileGround}
 use Rattle.frame.specs.Rules.Fireworks.{Round, multipartner, msd, dataFirework, roundOf}
 use Rattle.frame.specs.Rules.Frames.{addressFrame, dataFrame}
 use Rattle.frame.specs.Rules.Reading.{Parts}
-use Rattle.cluster.specs.Rules.Bus.{slots}
-use Rattle.cluster.specs.Rules.Grounds.{writePending}
+use Rattle.master_slave.specs.Rules.Bus.{slots}
+use Rattle.cluster.specs.Rules.RoundGrounds.{writePending}
 use Rattle.cluster.specs.Rules.Round.{roundOn}
 use Rattle.cluster.specs.Rules.Summary.{Summary, without}
 use Rattle.cluster.specs.Claims.Summary.{Matches}
-use Rattle.naming.specs.Rules.Run.{Position, fresh, startGround}
+use Rattle.naming.specs.Rules.Position.{Position, fresh}
+use Rattle.naming.specs.Rules.RunGrounds.{startGround}
 use Rattle.naming.specs.Rules.Step.{stepKeepingGround}
 use Rattle.naming.specs.Rules.Account.{StepArguments, FrameArguments, Call, step, frame}
 use Rattle.naming.specs.Claims.Demand.{startOn, permitted, afterCalls, OfBytes}

@@ -8,10 +8,13 @@ use mathlib.Core.Bool.{true}
 use Rattle.file.specs.Rules.Bytes.{Bytes, All}
 use Rattle.file.specs.Rules.Cluster.{unnamed}
 use Rattle.file.specs.Rules.Decode.{decode}
-use Rattle.file.specs.Rules.Grounds.{loadGround}
+use Rattle.file.specs.Rules.FileGrounds.{loadGround}
 use Rattle.cluster.specs.Claims.Renaming.{nameAfter, namesOf}
-use Rattle.naming.specs.Rules.Rounds.{baptize}
-use Rattle.naming.specs.Rules.Run.{Position, running, bits, fresh, startGround, nextRound}
+use Rattle.naming.specs.Rules.RunRounds.{baptize}
+use Rattle.naming.specs.Rules.Position.{Position, running, fresh}
+use Rattle.naming.specs.Rules.Pass.{bits}
+use Rattle.naming.specs.Rules.Run.{nextRound}
+use Rattle.naming.specs.Rules.RunGrounds.{startGround}
 use Rattle.naming.specs.Rules.Step.{stepGround, stepOn}
 use Rattle.naming.specs.Rules.Account.{Call}
 use Rattle.naming.specs.Claims.Demand.{startOn, permitted, afterCalls, OfBytes}
@@ -31,7 +34,7 @@ BaptizingStepRenames =
 -- "by baptizing only": any other step, of a position whose value is one of 64 bits, leaves every logical name
 abbrev pub OnlyBaptizingStepsRename : Type 0
 OnlyBaptizingStepsRename =
-    (file : List ℕ) (p : Position) (names buffer : List ℕ) → Bytes file → Bytes names → p .value < 2 ^ bits →
+    (file : List ℕ) (p : Position) (names buffer : List ℕ) → Bytes file → Bytes names → p .place .value < 2 ^ bits →
     (StepBaptizes file p names buffer → ⊥) → namesOf (stepOn file p names buffer .3) ≡ namesOf file
 
 -- demand 3's calls keep 22 away: a file that loading accepts, and a fresh run

@@ -6,12 +6,14 @@ use mathlib.Core.Logic.{_≢_}
 use mathlib.Core.List.{List, _∷_, _++_}
 use mathlib.Core.Bool.{true}
 use Rattle.file.specs.Rules.Bytes.{Bytes, All}
-use Rattle.file.specs.Rules.Grounds.{fileGround}
+use Rattle.file.specs.Rules.FileGrounds.{fileGround}
 use Rattle.frame.specs.Rules.Fireworks.{msa}
-use Rattle.cluster.specs.Rules.Grounds.{roundBy}
+use Rattle.cluster.specs.Rules.RoundGrounds.{roundBy}
 use Rattle.cluster.specs.Rules.Summary.{Summary, roundKeepingGround}
 use Rattle.cluster.specs.Claims.Sleep.{AllAwake}
-use Rattle.naming.specs.Rules.Run.{Position, running, bits, fresh, startGround}
+use Rattle.naming.specs.Rules.Position.{Position, running, fresh}
+use Rattle.naming.specs.Rules.Pass.{bits}
+use Rattle.naming.specs.Rules.RunGrounds.{startGround}
 use Rattle.naming.specs.Rules.Step.{stepKeepingGround, stepKeeping}
 use Rattle.naming.specs.Rules.Account.{StepArguments, FrameArguments, Call, step, frame}
 use Rattle.naming.specs.Claims.Demand.{State, startOn, callOn, permitted, afterCalls, OfBytes}
@@ -22,7 +24,7 @@ use Rattle.naming.specs.Claims.Demand.{State, startOn, callOn, permitted
 -- an accepted step of a running position makes a round: all are awake after it, whoever slept
 abbrev pub StepWakes : Type 0
 StepWakes =
-    (file : List ℕ) (p : Position) (names : List ℕ) (summary : Summary) (buffer : List ℕ) → Bytes file → Bytes names → p .value < 2 ^ bits →
+    (file : List ℕ) (p : Position) (names : List ℕ) (summary : Summary) (buffer : List ℕ) → Bytes file → Bytes names → p .place .value < 2 ^ bits →
     stepKeepingGround file p names summary buffer ≡ 0 → p .end ≡ running → AllAwake (stepKeeping file p names summary buffer .3)
 
 -- any other makes none, refused or of an ended run: it leaves the file, and so wakes nobody
@@ -62,4 +64,4 @@ abbrev pub CountedAwake : Type 0
 CountedAwake =
     (file : List ℕ) → Bytes file → fileGround file ≡ 0 → (names : List ℕ) → Bytes names → startGround names ≡ 0 → (cs ds : List Call) →
     All OfBytes cs → permitted names (startOn file) (fresh names) (cs ++ ds) ≡ true →
-    afterCalls names (startOn file) (fresh names) cs .1 .rounds ≢ 0 → AllAwake (afterCalls names (startOn file) (fresh names) cs .0 .file)
+    afterCalls names (startOn file) (fresh names) cs .1 .counts .rounds ≢ 0 → AllAwake (afterCalls names (startOn file) (fresh names) cs .0 .file)

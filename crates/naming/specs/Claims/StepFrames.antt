@@ -10,8 +10,10 @@ use Rattle.file.specs.Rules.Results.{done}
 use Rattle.file.specs.Rules.Decode.{decode}
 use Rattle.cluster.specs.Rules.Round.{Answer, roundGround, roundOn}
 use Rattle.cluster.specs.Rules.MasterSlave.{addressSent, dataSent}
-use Rattle.naming.specs.Rules.Rounds.{sent}
-use Rattle.naming.specs.Rules.Run.{Position, running, bits, nextRound, advance}
+use Rattle.naming.specs.Rules.RunRounds.{sent}
+use Rattle.naming.specs.Rules.Position.{Position, running}
+use Rattle.naming.specs.Rules.Pass.{bits}
+use Rattle.naming.specs.Rules.Run.{nextRound, advance}
 use Rattle.naming.specs.Rules.Step.{ended, made, stepGround, stepOn}
 
 -- "that round's two frames": the MSA on the file and buffer handed in, the MSD on those that the MSA left
@@ -38,7 +40,7 @@ pub record TwoFrames (file : List ℕ) (p : Position) (names buffer : List ℕ) 
 
 abbrev pub StepsAreFrames : Type 0
 StepsAreFrames =
-    (file : List ℕ) (p : Position) (names buffer : List ℕ) → Bytes file → Bytes names → p .value < 2 ^ bits →
+    (file : List ℕ) (p : Position) (names buffer : List ℕ) → Bytes file → Bytes names → p .place .value < 2 ^ bits →
     stepGround file p names buffer ≡ 0 → p .end ≡ running → TwoFrames file p names buffer
 
 -- "a step of an ended run alters nothing" (document 01): no round and no count, of a position that counts no round too (document 02, job 9: the

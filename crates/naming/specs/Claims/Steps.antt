@@ -8,7 +8,8 @@ use mathlib.Core.List.{List}
 use mathlib.Core.Bool.{true}
 use Rattle.file.specs.Rules.Bytes.{Bytes}
 use Rattle.file.specs.Rules.Results.{Result, refused, done}
-use Rattle.naming.specs.Rules.Run.{Position, bits}
+use Rattle.naming.specs.Rules.Position.{Position}
+use Rattle.naming.specs.Rules.Pass.{bits}
 use Rattle.naming.specs.Rules.Step.{StepDone, ended, made, stepGround, stepOn}
 use Rattle.naming.specs.Rules.Steps.{isMade, steps, stepsOn}
 
@@ -67,7 +68,7 @@ NoOtherTold =
 -- where they are fewer, the next step is refused by 17, in mid-run too, or the run has ended
 abbrev pub StopsBy17 : Type 0
 StopsBy17 =
-    (k : ℕ) (file : List ℕ) (p : Position) (names buffer : List ℕ) (n mask : ℕ) → Bytes file → Bytes names → p .value < 2 ^ bits →
+    (k : ℕ) (file : List ℕ) (p : Position) (names buffer : List ℕ) (n mask : ℕ) → Bytes file → Bytes names → p .place .value < 2 ^ bits →
     stepsOn k file p names buffer .0 ≡ done (steps n mask) → n < k →
     (answerAfter names n file p buffer ≡ refused 17) ⊎ (answerAfter names n file p buffer ≡ done ended)
 

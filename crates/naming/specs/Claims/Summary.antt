@@ -10,12 +10,13 @@ use Rattle.file.specs.Rules.Bytes.{Bytes}
 use Rattle.file.specs.Rules.Cluster.{unnamed}
 use Rattle.file.specs.Rules.Results.{refused, done}
 use Rattle.file.specs.Rules.Decode.{decode}
-use Rattle.file.specs.Rules.Grounds.{fileGround}
+use Rattle.file.specs.Rules.FileGrounds.{fileGround}
 use Rattle.cluster.specs.Rules.Round.{roundOn}
 use Rattle.cluster.specs.Rules.Summary.{Summary, without, kept, roundKeeping, fillOn, holderIn, firstHolder}
 use Rattle.cluster.specs.Claims.Renaming.{nameAfter, namesOf, Baptizes}
 use Rattle.cluster.specs.Claims.Summary.{Matches, LeavesRest}
-use Rattle.naming.specs.Rules.Run.{Position, bits}
+use Rattle.naming.specs.Rules.Position.{Position}
+use Rattle.naming.specs.Rules.Pass.{bits}
 use Rattle.naming.specs.Rules.Step.{stepGround, stepOn, stepKeepingGround, stepKeeping}
 use Rattle.naming.specs.Rules.Account.{StepArguments, FrameArguments, Call, step, frame}
 use Rattle.naming.specs.Claims.Demand.{State, callOn, permitted, afterCalls}
@@ -72,7 +73,7 @@ KeepingIsStep =
 -- "and keeps it true": after the step, refused, of an ended run or made
 abbrev pub StepKeepsSummary : Type 0
 StepKeepsSummary =
-    (file : List ℕ) (p : Position) (names : List ℕ) (summary : Summary) (buffer : List ℕ) → Bytes file → Bytes names → p .value < 2 ^ bits →
+    (file : List ℕ) (p : Position) (names : List ℕ) (summary : Summary) (buffer : List ℕ) → Bytes file → Bytes names → p .place .value < 2 ^ bits →
     Matches file summary →
     Matches (stepKeeping file p names summary buffer .3) (stepKeeping file p names summary buffer .4) ×
     LeavesRest summary (stepKeeping file p names summary buffer .4)
@@ -82,7 +83,7 @@ StepKeepsSummary =
 -- after every step but a baptizing one it matches still, and after that one where all whom it names had that name already
 abbrev pub StepStillMatches : Type 0
 StepStillMatches =
-    (file : List ℕ) (p : Position) (names : List ℕ) (summary : Summary) (buffer : List ℕ) → Bytes file → Bytes names → p .value < 2 ^ bits →
+    (file : List ℕ) (p : Position) (names : List ℕ) (summary : Summary) (buffer : List ℕ) → Bytes file → Bytes names → p .place .value < 2 ^ bits →
     Matches file summary → (StepBaptizes file p names buffer → ⊥) → Matches (stepOn file p names buffer .3) summary
 
 abbrev pub StepStillMatchesBaptized : Type 0
@@ -100,7 +101,7 @@ pub data AnyCall : Type 0 where
 
 -- names and frames are bytes, and a run's value has 64 bits
 pub data WellTyped : AnyCall → Type 0 where
-  typedStep : {p : Position} {names buffer : List ℕ} → Bytes names → p .value < 2 ^ bits → WellTyped (aStep p names buffer)
+  typedStep : {p : Position} {names buffer : List ℕ} → Bytes names → p .place .value < 2 ^ bits → WellTyped (aStep p names buffer)
   typedFrame : {bytes buffer : List ℕ} → Bytes bytes → WellTyped (aFrame bytes buffer)
 
 -- the file and the summary after a call that is given it

@@ -5,8 +5,9 @@ use mathlib.Core.Path.{_≡_}
 use mathlib.Core.List.{List, _++_}
 use mathlib.Core.Bool.{true}
 use Rattle.file.specs.Rules.Bytes.{Bytes, All}
-use Rattle.file.specs.Rules.Grounds.{fileGround}
-use Rattle.naming.specs.Rules.Run.{fresh, startGround}
+use Rattle.file.specs.Rules.FileGrounds.{fileGround}
+use Rattle.naming.specs.Rules.Position.{fresh}
+use Rattle.naming.specs.Rules.RunGrounds.{startGround}
 use Rattle.naming.specs.Rules.Account.{Call}
 use Rattle.naming.specs.Claims.Demand.{startOn, permitted, afterCalls, OfBytes, Demand}
 

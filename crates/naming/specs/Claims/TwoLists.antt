@@ -10,10 +10,11 @@ use lib.ListN.{length, drop}
 use lib.Dec.{eqb}
 use Rattle.file.specs.Rules.Bytes.{Bytes, All}
 use Rattle.file.specs.Rules.Decode.{decode}
-use Rattle.file.specs.Rules.Grounds.{isAmong, fileGround}
-use Rattle.cluster.specs.Rules.Bus.{slots}
+use Rattle.file.specs.Rules.FileGrounds.{isAmong, fileGround}
+use Rattle.master_slave.specs.Rules.Bus.{slots}
 use Rattle.cluster.specs.Rules.Summary.{without}
-use Rattle.naming.specs.Rules.Run.{Position, running, allNamed, namesUsedUp, fresh, startGround}
+use Rattle.naming.specs.Rules.Position.{Position, running, allNamed, namesUsedUp, fresh}
+use Rattle.naming.specs.Rules.RunGrounds.{startGround}
 use Rattle.naming.specs.Rules.Step.{stepKeepingGround}
 use Rattle.naming.specs.Rules.Account.{Named, Call, step, frame, namesIn, unnamedAmong, namesHeld, falling}
 use Rattle.naming.specs.Rules.Figures.{freeNames, roundsFor, comparisonsFor, namesAfter, endFor, roundsForNobody, extraAgain}
@@ -93,8 +94,8 @@ pub record SecondRun (slaves : List Named) (A B : List ℕ) (found : List Named)
   pub names : found ≡ namesAfter slaves A
   pub unnamed : falling (unnamedAmong found) ≡ drop (length (freeNames (namesHeld slaves) A)) (falling (unnamedAmong slaves))
   pub held : NoCommon A B → All (λ (n : ℕ). isAmong n (namesHeld found) ≡ isAmong n (namesHeld slaves)) B
-  pub rounds : second .rounds ≡ roundsFor found B
-  pub comparisons : second .comparisons ≡ comparisonsFor found B
+  pub rounds : second .counts .rounds ≡ roundsFor found B
+  pub comparisons : second .counts .comparisons ≡ comparisonsFor found B
 
 abbrev pub SecondFinds : Type 0
 SecondFinds =
@@ -108,12 +109,12 @@ SecondFinds =
 -- the ends of the run over A, of the one over B after it, and of the one over both, the slaves being those before the first
 pub record RunsTogether (slaves : List Named) (A B : List ℕ) (first second whole : Position) : Type 0 where
   -- A's names used up: B's run goes on where the one over both does, but for its extra read if neither list is empty
-  pub usedUp : first .end ≡ namesUsedUp → first .rounds + second .rounds ≡ whole .rounds + extraAgain A B
-  pub usedUpCompared : first .end ≡ namesUsedUp → first .comparisons + second .comparisons ≡ whole .comparisons
+  pub usedUp : first .end ≡ namesUsedUp → first .counts .rounds + second .counts .rounds ≡ whole .counts .rounds + extraAgain A B
+  pub usedUpCompared : first .end ≡ namesUsedUp → first .counts .comparisons + second .counts .comparisons ≡ whole .counts .comparisons
   -- all named: the run over both has A's rounds and comparisons and no more, and the whole of B's run comes on top
-  pub named : first .end ≡ allNamed → first .rounds ≡ whole .rounds
-  pub namedCompared : first .end ≡ allNamed → first .comparisons ≡ whole .comparisons
-  pub nobody : first .end ≡ allNamed → second .rounds ≡ roundsForNobody (namesHeld (namesAfter slaves A)) B
+  pub named : first .end ≡ allNamed → first .counts .rounds ≡ whole .counts .rounds
+  pub namedCompared : first .end ≡ allNamed → first .counts .comparisons ≡ whole .counts .comparisons
+  pub nobody : first .end ≡ allNamed → second .counts .rounds ≡ roundsForNobody (namesHeld (namesAfter slaves A)) B
   -- the run over both ends as B's does if it comes to B's names, else as A's
   pub usedUpEnd : first .end ≡ namesUsedUp → whole .end ≡ second .end
   pub namedEnd : first .end ≡ allNamed → whole .end ≡ allNamed

@@ -1,7 +1,7 @@
 -- The places of a pass by their number: the step of a place, the inverse of the place of a step.
 use Prim.Native.Nat.{ℕ, suc, _+_, _*_, _-_}
-use Rattle.naming.specs.Rules.Run.{Question, least, bit, Part, high, low, reply, PassPlace, poll, ask, giveName, giveHigh, giveLow, baptize, bits, giveStep, lastStep}
-use Rattle.naming.specs.Rules.Rounds.{comparisonRounds}
+use Rattle.naming.specs.Rules.Pass.{Question, least, bit, Part, high, low, reply, PassPlace, poll, ask, giveName, giveHigh, giveLow, baptize, bits, giveStep, lastStep}
+use Rattle.naming.specs.Rules.RunRounds.{comparisonRounds}
 
 unfoldable pub questionNumber : Question → ℕ
 questionNumber least = 0

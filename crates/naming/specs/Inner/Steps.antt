@@ -7,9 +7,10 @@ use lib.Dec.{eqb}
 use Rattle.file.specs.Rules.Order.{either}
 use Rattle.file.specs.Rules.Results.{Result, refused, done}
 use Rattle.file.specs.Inner.Accepted.{Placed}
-use Rattle.naming.specs.Rules.Run.{Position, running, unfitPosition}
+use Rattle.naming.specs.Rules.Position.{Position, running}
+use Rattle.naming.specs.Rules.RunGrounds.{unfitPosition}
 use Rattle.naming.specs.Rules.Steps.{Progress, begun, stepsFrom, StepsDone, steps}
-use Rattle.naming.specs.Inner.Answers.{positionOf}
+use Rattle.naming.specs.Inner.StepAnswers.{positionOf}
 use Rattle.naming.specs.declared.steps.MadeSteps.{MadeSteps}
 use Rattle.naming.specs.declared.steps.StepsAnswer.{StepsAnswer}
 use Rattle.naming.specs.declared.steps.StepsAnswer.the-variants as answers
@@ -28,7 +29,7 @@ runThen p (answers.Made m) = positionOf (m .run)
 
 -- a position at a step of its pass
 abbrev pub standsAt : ℕ → Position → Bool
-standsAt step p = eqb (p .step) step
+standsAt step p = eqb (p .place .step) step
 
 -- one that no other step is made of, on an accepted file: at a step that they stop at, ended, or refused by 17
 unfoldable pub stepsEnd : List ℕ → ℕ → Position → Bool

@@ -7,7 +7,7 @@ use lib.Dec.{eqb, leb}
 use Rattle.file.specs.Rules.Bytes.{numberOf}
 use Rattle.file.specs.Rules.Order.{both, either}
 use Rattle.file.specs.Rules.Cluster.{Slave, Cluster, recordOf, physicalName, logicalName, newLogicalName, configuration, unnamed}
-use Rattle.naming.specs.Rules.Rounds.{RunRound, poll, writeName, writeHigh, writeLow, compare, baptize, half}
+use Rattle.naming.specs.Rules.RunRounds.{RunRound, poll, writeName, writeHigh, writeLow, compare, baptize, half}
 
 -- a slave's physical name, logical name, new logical name, and the two halves of its comparison value, records 2 and 3 of 0x08
 pub record SlaveView : Type 0 where

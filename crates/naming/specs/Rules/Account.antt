@@ -1,13 +1,14 @@
 -- The plain account (document 01's term; "The naming run", second paragraph; document 02, requests 6 and 9) that the naming run is measured
--- against. It knows nothing of frames, positions and comparison values.
-use Prim.Native.Nat.{ℕ, suc, _+_, _-_, _/_, _%_, _^_, min}
-use mathlib.Core.List.{List, [], _∷_, map}
+-- against. It knows what a round is for, and nothing of frames, positions and comparison values.
+use Prim.Native.Nat.{ℕ, zero, suc, _+_, _-_, _/_, _%_, _^_}
+use mathlib.Core.List.{List, [], _∷_, _++_, map}
 use mathlib.Core.Bool.{cond}
+use lib.ListN.{take, replicate}
 use lib.Dec.{eqb, ltb}
 use Rattle.file.specs.Rules.Order.{firstOf, both}
 use Rattle.file.specs.Rules.Cluster.{Slave, Cluster, physicalName, logicalName, unnamed}
-use Rattle.file.specs.Rules.Grounds.{isAmong}
-use Rattle.cluster.specs.Rules.Grounds.{shortAnswer}
+use Rattle.file.specs.Rules.FileGrounds.{isAmong}
+use Rattle.cluster.specs.Rules.RoundGrounds.{shortAnswer}
 use Rattle.cluster.specs.Rules.Summary.{Summary, wrongSummary}
 
 -- a slave's physical and logical name
@@ -53,13 +54,47 @@ endingRounds = 4
 abbrev pub endingComparisons : ℕ
 endingComparisons = 1
 
--- request 6: "it counts a comparison at its execute". After k rounds of a pass: the comparison with 0 at round 4, those of bits 63 to 32 at
--- every second round up to round 68, and those of bits 31 to 0 at every second round after that or, if the high half is written again
--- between the two, after one round more. Claims/Passes has the same over the pass written out.
-unfoldable pub comparisonsAfter : ℕ → ℕ → ℕ
-comparisonsAfter more k = (min k 68 - 2) / 2 + min 32 ((k - 68 - more) / 2)
+-- ---- a pass that names a slave, its rounds written out in order
 
--- that one round more of the pass for the first of those who wait
+-- what a round does: it reads, writes a record, or executes; "A comparison is three rounds at 0xFF: write record 2, write record 3, execute
+-- record 2", and the execute of record 1 gives the name
+pub data RoundKind : Type 0 where
+  readRound writeRound compareRound nameRound : RoundKind
+
+-- so many comparisons, one after the other, each with one half to write
+unfoldable pub oneHalfEach : ℕ → List RoundKind
+oneHalfEach zero = []
+oneHalfEach (suc n) = writeRound ∷ compareRound ∷ oneHalfEach n
+
+-- "read 0x3D record 1 there", "compare with 0", and "from bit 63 down to bit 0, compare"; request 6: "The first comparison of a pass writes both
+-- halves; after it, record 2 or 3 is written exactly if its four bytes differ": the high half for bits 63 to 32 and the low half for
+-- bits 31 to 0; between the two the high half once more, if bit 32, tried last, was not kept
+unfoldable pub searchRounds : ℕ → List RoundKind
+searchRounds again =
+    readRound ∷ writeRound ∷ writeRound ∷ compareRound ∷ (oneHalfEach 32 ++ (replicate again writeRound ++ oneHalfEach 32))
+
+-- "Then write 00 00 name FF to record 1, the value to records 2 and 3, execute record 1": of the value only the low half, if bit 0, tried
+-- last, was not kept
+unfoldable pub givingRounds : ℕ → List RoundKind
+givingRounds again = writeRound ∷ (replicate again writeRound ++ (nameRound ∷ []))
+
+-- the pass, by the physical name that it finds. Claims/Passes: the run makes just these rounds, and there are `namingRounds` of them
+unfoldable pub namingPass : ℕ → List RoundKind
+namingPass p = searchRounds (bitClear 32 p) ++ givingRounds (bitClear 0 p)
+
+-- request 6: "it counts a comparison at its execute"
+unfoldable pub comparesIn : List RoundKind → ℕ
+comparesIn [] = 0
+comparesIn (readRound ∷ rs) = comparesIn rs
+comparesIn (writeRound ∷ rs) = comparesIn rs
+comparesIn (compareRound ∷ rs) = suc (comparesIn rs)
+comparesIn (nameRound ∷ rs) = comparesIn rs
+
+-- the comparisons after k rounds of a pass: all of them are among the rounds of the search. Claims/Passes has them as a formula
+unfoldable pub comparisonsAfter : ℕ → ℕ → ℕ
+comparisonsAfter again k = comparesIn (take k (searchRounds again))
+
+-- how often the high half is written once more in the pass for the first of those who wait
 unfoldable pub highAgain : List ℕ → ℕ
 highAgain [] = 0
 highAgain (p ∷ ps) = bitClear 32 p

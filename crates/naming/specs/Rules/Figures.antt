@@ -6,8 +6,8 @@ use mathlib.Core.List.{List, [], _∷_, map}
 use mathlib.Core.Bool.{cond}
 use lib.ListN.{length}
 use lib.Dec.{eqb, ltb}
-use Rattle.file.specs.Rules.Grounds.{isAmong}
-use Rattle.naming.specs.Rules.Run.{allNamed, namesUsedUp}
+use Rattle.file.specs.Rules.FileGrounds.{isAmong}
+use Rattle.naming.specs.Rules.Position.{allNamed, namesUsedUp}
 use Rattle.naming.specs.Rules.Account.{Named, falling, unnamedAmong, namesHeld, namingRounds, namingComparisons, endingRounds, endingComparisons}
 
 -- the listed names that are held, and those that are free, by the names held at the start

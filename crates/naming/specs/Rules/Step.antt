@@ -7,13 +7,15 @@ use Rattle.file.specs.Rules.Order.{firstOf}
 use Rattle.file.specs.Rules.Results.{Result, refused, done}
 use Rattle.file.specs.Rules.Cluster.{logicalNames}
 use Rattle.file.specs.Rules.Decode.{decode}
-use Rattle.file.specs.Rules.Grounds.{fileGrounds}
-use Rattle.cluster.specs.Rules.Grounds.{shortAnswer}
+use Rattle.file.specs.Rules.FileGrounds.{fileGrounds}
+use Rattle.cluster.specs.Rules.RoundGrounds.{shortAnswer}
 use Rattle.cluster.specs.Rules.Round.{Answer}
 use Rattle.cluster.specs.Rules.MasterSlave.{roundSent}
 use Rattle.cluster.specs.Rules.Summary.{Summary, wrongSummary, keptFor}
-use Rattle.naming.specs.Rules.Rounds.{sent}
-use Rattle.naming.specs.Rules.Run.{Position, running, nextRound, advance, runGrounds}
+use Rattle.naming.specs.Rules.RunRounds.{sent}
+use Rattle.naming.specs.Rules.Position.{Position, running}
+use Rattle.naming.specs.Rules.Run.{nextRound, advance}
+use Rattle.naming.specs.Rules.RunGrounds.{runGrounds}
 
 -- "a reply in slot 1": bit 1 of the mask
 unfoldable pub isReply : Answer → Bool

@@ -6,7 +6,7 @@ use mathlib.Core.Bool.{Bool, true, false, cond, not}
 use lib.Dec.{eqb}
 use Rattle.file.specs.Rules.Order.{both}
 use Rattle.file.specs.Rules.Results.{Result, refused, done}
-use Rattle.naming.specs.Rules.Run.{Position}
+use Rattle.naming.specs.Rules.Position.{Position}
 use Rattle.naming.specs.Rules.Step.{StepDone, ended, made, stepGround, stepOn}
 
 -- whether a step made its round, and the mask of its data frame

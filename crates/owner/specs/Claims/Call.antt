@@ -9,12 +9,12 @@ use Rattle.file.specs.Rules.Cluster.{File, Slave, Cluster}
 use Rattle.file.specs.Rules.Results.{done}
 use Rattle.file.specs.Rules.Decode.{decode}
 use Rattle.file.specs.Rules.Changes.{withEpoch}
-use Rattle.file.specs.Rules.Grounds.{fileGround}
+use Rattle.file.specs.Rules.FileGrounds.{fileGround}
 use Rattle.file.specs.Claims.Edition.{NoEdition}
 use Rattle.owner.specs.Rules.Plan.{rounds, isOwned}
 use Rattle.owner.specs.Rules.OwnerFile.{rowOf}
-use Rattle.owner.specs.Rules.Writing.{ownerOn}
-use Rattle.owner.specs.Claims.Rounds.{OwnerRuns, Plain, PlainOwnerRuns}
+use Rattle.owner.specs.Rules.OwnerWriting.{ownerOn}
+use Rattle.owner.specs.Claims.PlannedRounds.{OwnerRuns, Plain, PlainOwnerRuns}
 
 -- the byte of a buffer that stands for a slot of a round, by the round's index byte
 abbrev pub slotByte : List ℕ → ℕ → ℕ → ℕ

@@ -7,10 +7,10 @@ use lib.ListN.{length, getD}
 use Rattle.file.specs.Rules.Bytes.{Byte}
 use Rattle.file.specs.Rules.Layout.{recordSize}
 use Rattle.file.specs.Rules.Cluster.{Slave}
-use Rattle.cluster.specs.Rules.Bus.{slots}
+use Rattle.master_slave.specs.Rules.Bus.{slots}
 use Rattle.owner.specs.Rules.Plan.{rounds, isOwned, sendersIn}
 use Rattle.owner.specs.Rules.OwnerFile.{ownerOf, lastOwned, rowOf, indexOf, ownerFile}
-use Rattle.owner.specs.Rules.Writing.{tooShort}
+use Rattle.owner.specs.Rules.OwnerWriting.{tooShort}
 
 -- record 0x00, the index and six rows of 64 bytes at most
 abbrev pub longest : ℕ

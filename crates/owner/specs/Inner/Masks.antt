@@ -1,10 +1,10 @@
 -- Masks of slots: bit s stands for slot s.
-use Prim.Native.Nat.{ℕ, _+_, _/_, _%_, _^_, _<_}
+use Prim.Native.Nat.{ℕ, _/_, _%_, _^_, _<_}
 use mathlib.Core.Path.{_≡_}
 use mathlib.Core.Bool.{Bool, true, false}
 use lib.Dec.{eqb, leb, ltb}
 use Rattle.file.specs.Rules.Order.{both}
-use Rattle.cluster.specs.Rules.Bus.{slots}
+use Rattle.master_slave.specs.Rules.Bus.{slots}
 
 unfoldable pub isSet : ℕ → ℕ → Bool
 isSet mask slot = eqb (mask / 2 ^ slot % 2) 1

@@ -8,7 +8,7 @@ use lib.Dec.{eqb, leb}
 use Rattle.file.specs.Rules.Order.{both}
 use Rattle.file.specs.Rules.Layout.{recordSize}
 use Rattle.file.specs.Rules.Cluster.{Slave}
-use Rattle.cluster.specs.Rules.Bus.{slots}
+use Rattle.master_slave.specs.Rules.Bus.{slots}
 use Rattle.owner.specs.Rules.Plan.{rounds, sendsIn, sendersIn, twoSendIn, someBelow, isOwned, someEntry, someEntryOf, isMultiplexedSend}
 use Rattle.owner.specs.Rules.OwnerFile.{noOwner, ownerOf, ownersOf, padded, rowsBelow, firstRowRecord, indexBelow}
 use Rattle.owner.specs.Inner.Masks.{isSet, Marks}

@@ -6,7 +6,7 @@ use lib.ListN.{length, replicate}
 use lib.Dec.{eqb}
 use Rattle.file.specs.Rules.Layout.{recordSize}
 use Rattle.file.specs.Rules.Cluster.{Slave, logicalName}
-use Rattle.cluster.specs.Rules.Bus.{slots}
+use Rattle.master_slave.specs.Rules.Bus.{slots}
 use Rattle.owner.specs.Rules.Plan.{rounds, isOwned, sendersIn}
 
 -- "the logical name that sends in slot .., 0x00 where none does". Where two send, 20 refuses the file.

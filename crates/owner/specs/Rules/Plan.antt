@@ -7,10 +7,10 @@ use lib.ListN.{length}
 use lib.Dec.{eqb, leb}
 use Rattle.file.specs.Rules.Order.{both, either}
 use Rattle.file.specs.Rules.Cluster.{Slave, bytesIn, lastRecord}
-use Rattle.cluster.specs.Rules.Bus.{slots}
-use Rattle.cluster.specs.Rules.Slaves.{isUnnamed}
-use Rattle.cluster.specs.Rules.Entries.{Entry, entryAt, isMultiplexed, receives, sends, ends}
-use Rattle.cluster.specs.Rules.Multipartner.{SlaveByte, nowhere, byteOf, plansFrom}
+use Rattle.master_slave.specs.Rules.Bus.{slots}
+use Rattle.master_slave.specs.Rules.Slaves.{isUnnamed}
+use Rattle.multipartner.specs.Rules.Entries.{Entry, entryAt, isMultiplexed, receives, sends, ends}
+use Rattle.multipartner.specs.Rules.Multipartner.{SlaveByte, nowhere, byteOf, plansFrom}
 
 -- the eight rounds, and the two of them that are no multipartner rounds, MSD and MSA
 abbrev pub rounds : ℕ

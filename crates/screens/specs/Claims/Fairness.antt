@@ -6,8 +6,8 @@ use mathlib.Core.List.{List, [], _∷_}
 use mathlib.Core.Bool.{true}
 use lib.ListN.{length, replicate}
 use Rattle.file.specs.Rules.Results.{Result, refused, done}
-use Rattle.file.specs.Rules.Grounds.{fileGround}
-use Rattle.cluster.specs.Rules.Bus.{slots}
+use Rattle.file.specs.Rules.FileGrounds.{fileGround}
+use Rattle.master_slave.specs.Rules.Bus.{slots}
 use Rattle.cluster.specs.Rules.MasterSlave.{roundSent}
 use Rattle.screens.specs.Rules.Screens.{screens, isWaiting, Read, readOf, postOn}
 use Rattle.screens.specs.Rules.Turn.{Turn, servedBy, readSent, afterServing, turnOn}

@@ -5,7 +5,7 @@ use mathlib.Core.List.{List}
 use lib.ListN.{getD}
 use Rattle.file.specs.Rules.Bytes.{Byte}
 use Rattle.file.specs.Inner.Typed.{fileIn, recordIn, nameIn}
-use Rattle.cluster.specs.declared.types.RecordAddress.{RecordAddress}
+use Rattle.master_slave.specs.declared.types.RecordAddress.{RecordAddress}
 use Rattle.screens.specs.Rules.Screens.{screens, Read, readBy, readOf, postGround}
 
 abbrev pub readIn : RecordAddress → Read

@@ -7,7 +7,7 @@ use lib.Dec.{eqb, ltb}
 use Rattle.file.specs.Rules.Order.{Ground, firstOf, either}
 use Rattle.file.specs.Rules.Results.{Result, resultOf}
 use Rattle.file.specs.Rules.Cluster.{readOperation}
-use Rattle.frame.specs.Rules.Grounds.{broadcastRead, noFileNumber}
+use Rattle.frame.specs.Rules.FrameGrounds.{broadcastRead, noFileNumber}
 
 -- "Up to eight screens"
 abbrev pub screens : ℕ

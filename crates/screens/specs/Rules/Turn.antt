@@ -7,8 +7,8 @@ use lib.Dec.{eqb}
 use Rattle.file.specs.Rules.Order.{Ground, firstOf}
 use Rattle.file.specs.Rules.Results.{Result, refused, done}
 use Rattle.file.specs.Rules.Cluster.{readOperation}
-use Rattle.file.specs.Rules.Grounds.{fileGrounds}
-use Rattle.cluster.specs.Rules.Grounds.{shortAnswer}
+use Rattle.file.specs.Rules.FileGrounds.{fileGrounds}
+use Rattle.cluster.specs.Rules.RoundGrounds.{shortAnswer}
 use Rattle.cluster.specs.Rules.Round.{Answer}
 use Rattle.cluster.specs.Rules.MasterSlave.{Sent, roundSent}
 use Rattle.screens.specs.Rules.Screens.{Read, readOf, placeOf, lastServed, Due, nobody, screen, due, noScreen, readGrounds}

@@ -9,7 +9,7 @@ use Rattle.file.specs.Rules.Cluster.{logicalNames}
 use Rattle.file.specs.Rules.Decode.{decode}
 use Rattle.file.specs.Inner.Accepted.{slaveCount}
 use Rattle.cluster.specs.Rules.Round.{Answer, roundOn}
-use Rattle.naming.specs.Rules.Run.{Position}
+use Rattle.naming.specs.Rules.Position.{Position}
 use Rattle.naming.specs.Rules.Step.{StepDone, stepOn}
 
 -- a file's names in front of whatever else a slice holds

@@ -4,7 +4,7 @@ use Prim.Native.Nat.{ℕ}
 use mathlib.Core.Path.{_≡_}
 use mathlib.Core.List.{List, _∷_}
 use Rattle.file.specs.Rules.Results.{refused}
-use Rattle.trace.specs.Rules.Run.{sent, afterFrames, Report, oneRefused, reportFrom}
+use Rattle.trace.specs.Rules.TraceRun.{sent, afterFrames, Report, oneRefused, reportFrom}
 
 abbrev pub RefusedIsCounted : Type 0
 RefusedIsCounted =

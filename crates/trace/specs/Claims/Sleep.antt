@@ -8,12 +8,12 @@ use lib.ListN.{replicate}
 use Rattle.file.specs.Rules.Bytes.{Bytes}
 use Rattle.file.specs.Rules.Decode.{decode}
 use Rattle.frame.specs.Rules.Fireworks.{msa}
-use Rattle.cluster.specs.Rules.Bus.{slots}
-use Rattle.cluster.specs.Rules.Grounds.{roundBy}
+use Rattle.master_slave.specs.Rules.Bus.{slots}
+use Rattle.cluster.specs.Rules.RoundGrounds.{roundBy}
 use Rattle.cluster.specs.Rules.Round.{roundGround}
 use Rattle.cluster.specs.Claims.Sleep.{AllAwake, PutsToSleep}
 use Rattle.trace.specs.Rules.Trace.{framesOf}
-use Rattle.trace.specs.Rules.Run.{sent, traceGround, traceOn}
+use Rattle.trace.specs.Rules.TraceRun.{sent, traceGround, traceOn}
 
 -- the ground of a frame that is sent
 abbrev pub sentGround : List ℕ → List ℕ → ℕ

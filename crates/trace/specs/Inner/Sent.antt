@@ -3,10 +3,10 @@ use Prim.Native.Nat.{ℕ, _^_, _<_}
 use mathlib.Core.Path.{_≡_}
 use mathlib.Core.List.{List}
 use Rattle.file.specs.Inner.Accepted.{Placed}
-use Rattle.cluster.specs.Rules.Grounds.{roundBy}
+use Rattle.cluster.specs.Rules.RoundGrounds.{roundBy}
 use Rattle.trace.specs.Rules.Layout.{countWidth}
 use Rattle.trace.specs.Rules.Trace.{framesOf}
-use Rattle.trace.specs.Rules.Run.{sent, afterFrames, Report, noFrames, sumOf, counted, reportFrom}
+use Rattle.trace.specs.Rules.TraceRun.{sent, afterFrames, Report, noFrames, sumOf, counted, reportFrom}
 
 -- fewer frames than 2 bytes can count
 abbrev pub FewFrames : Report → Type 0

@@ -8,7 +8,7 @@ use Rattle.file.specs.Rules.Bytes.{Bytes}
 use Rattle.file.specs.Rules.Layout.{OffsetWidth, widthIn}
 use Rattle.file.specs.Rules.Results.{writtenIn}
 use Rattle.file.specs.Rules.Editions.{inEdition}
-use Rattle.file.specs.Rules.Grounds.{fileGround}
+use Rattle.file.specs.Rules.FileGrounds.{fileGround}
 use Rattle.ttpa.specs.Rules.Calls.{convertCall}
 
 -- a call that returns 0 leaves the file's form in that edition, and its length: from there on the program may go on with the form, of which

@@ -11,10 +11,10 @@ use Rattle.file.specs.Rules.Editions.{inEdition}
 use Rattle.join.specs.Rules.Joined.{joinedFile}
 use Rattle.join.specs.Rules.Join.{joinGround}
 use Rattle.join.specs.Claims.Result.{JoinOf}
-use Rattle.join.specs.Claims.Editions.{HasForm}
+use Rattle.join.specs.Claims.JoinEditions.{HasForm}
 use Rattle.ttpa.specs.Rules.Calls.{convertCall, joinCall}
 
--- the number is that of the first ground that holds, whose order is `join/specs/Claims/Grounds`
+-- the number is that of the first ground that holds, whose order is `join/specs/Claims/JoinGrounds`
 abbrev pub JoinNumbers : Type 0
 JoinNumbers = (first second out : List ℕ) (size : ℕ) → joinCall first second out size .0 ≡ joinGround first second out
 

@@ -4,7 +4,9 @@ use Prim.Native.Nat.{ℕ}
 use mathlib.Core.Path.{_≡_}
 use mathlib.Core.List.{List, [], _∷_, _++_}
 use Rattle.file.specs.Rules.Bytes.{Bytes}
-use Rattle.ttpa.specs.Rules.Calls.{checkCall, readAddressCall, writeAddressCall, writeDataCall, roundCall, traceCall, ownerCall, convertCall, startCall, stepCall, fillCall, holderCall, roundKeepingCall, stepKeepingCall, screensCall, postCall, turnCall, joinCall, patternCall}
+use Rattle.ttpa.specs.Rules.Calls.{checkCall, readAddressCall, writeAddressCall, writeDataCall, roundCall, traceCall, ownerCall, convertCall}
+use Rattle.ttpa.specs.Rules.Calls.{startCall, stepCall, fillCall, holderCall, roundKeepingCall, stepKeepingCall, screensCall, postCall}
+use Rattle.ttpa.specs.Rules.Calls.{turnCall, joinCall, patternCall}
 
 pub data OneOf : ℕ → List ℕ → Type 0 where
   here : {n : ℕ} {ns : List ℕ} → OneOf n (n ∷ ns)

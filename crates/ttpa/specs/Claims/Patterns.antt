@@ -5,7 +5,7 @@ use mathlib.Core.Path.{_≡_}
 use mathlib.Core.Logic.{_↔_, _≢_, _⊎_}
 use mathlib.Core.Bool.{true}
 use lib.Bits.{bitXor}
-use Rattle.file.specs.Rules.Grounds.{isAmong}
+use Rattle.file.specs.Rules.FileGrounds.{isAmong}
 use Rattle.frame.specs.Rules.Fireworks.{noRound, roundOf}
 use Rattle.line.specs.Claims.Classes.{allOnes, theEight}
 use Rattle.line.specs.Claims.Parity.{patternBy, evenParity, oddParity, OfRound}

@@ -5,7 +5,8 @@ use Prim.Native.Nat.{ℕ}
 use mathlib.Core.Path.{_≡_}
 use mathlib.Core.Logic.{_≢_}
 use mathlib.Core.List.{List}
-use Rattle.ttpa.specs.Rules.Calls.{readAddressCall, writeAddressCall, writeDataCall, roundCall, traceCall, ownerCall, convertCall, startCall, stepCall, fillCall, holderCall, roundKeepingCall, stepKeepingCall, postCall, turnCall, joinCall, patternCall}
+use Rattle.ttpa.specs.Rules.Calls.{readAddressCall, writeAddressCall, writeDataCall, roundCall, traceCall, ownerCall, convertCall, startCall}
+use Rattle.ttpa.specs.Rules.Calls.{stepCall, fillCall, holderCall, roundKeepingCall, stepKeepingCall, postCall, turnCall, joinCall, patternCall}
 
 pub record RefusalsAlterNothing : Type 0 where
   -- the five parts

@@ -13,7 +13,7 @@ use Rattle.file.specs.Rules.Cluster.{readOperation}
 use Rattle.file.specs.Rules.Decode.{decode}
 use Rattle.frame.specs.Rules.Fireworks.{dataFirework}
 use Rattle.frame.specs.Rules.Frames.{frameSize}
-use Rattle.cluster.specs.Rules.Slaves.{nextEpoch}
+use Rattle.master_slave.specs.Rules.Slaves.{nextEpoch}
 use Rattle.cluster.specs.Rules.Summary.{kept}
 use Rattle.cluster.specs.Claims.Summary.{Matches}
 use Rattle.screens.specs.Rules.Screens.{screens, lastServed, isWaiting, Read, readBy, readOf, postGround}

@@ -3,7 +3,7 @@ use Prim.Native.Nat.{ℕ}
 use mathlib.Core.List.{List}
 use Rattle.file.specs.Rules.Results.{Result, numberIn}
 use Rattle.cluster.specs.Rules.Round.{Answer}
-use Rattle.naming.specs.Rules.Run.{Position}
+use Rattle.naming.specs.Rules.Position.{Position}
 use Rattle.naming.specs.Rules.Step.{StepDone}
 use Rattle.ttpa.specs.Rules.Calls.{lentAfter, stepSenders, stepWords}
 

@@ -3,17 +3,18 @@
 use Prim.Native.Nat.{ℕ, _+_, _-_, _*_, _^_}
 use mathlib.Core.List.{List, [], _∷_}
 use lib.ListN.{getD}
-use Rattle.file.specs.Rules.Grounds.{loadVerdict}
+use Rattle.file.specs.Rules.FileGrounds.{loadVerdict}
 use Rattle.file.specs.Rules.Results.{Result, refused, done, numberIn}
 use Rattle.frame.specs.Rules.Reading.{Parts, readAddress}
 use Rattle.frame.specs.Rules.Writing.{writeAddress, writeData}
 use Rattle.cluster.specs.Rules.Round.{roundOn}
 use Rattle.cluster.specs.Rules.Summary.{Summary, without, kept, roundKeeping, fillOn, Held, nobody, at, holderIn}
-use Rattle.trace.specs.Rules.Run.{reportWords, traceOn}
-use Rattle.owner.specs.Rules.Writing.{ownerOn}
+use Rattle.trace.specs.Rules.TraceRun.{reportWords, traceOn}
+use Rattle.owner.specs.Rules.OwnerWriting.{ownerOn}
 use Rattle.convert.specs.Rules.Convert.{convertOn}
 use Rattle.join.specs.Rules.Join.{joinOn}
-use Rattle.naming.specs.Rules.Run.{Position, startOver}
+use Rattle.naming.specs.Rules.Position.{Position}
+use Rattle.naming.specs.Rules.RunGrounds.{startOver}
 use Rattle.naming.specs.Rules.Step.{StepDone, ended, made, stepOn, stepKeeping}
 use Rattle.screens.specs.Rules.Screens.{readBy, fresh, postOn}
 use Rattle.screens.specs.Rules.Turn.{Turn, idle, served, turnOn}
@@ -82,10 +83,16 @@ joinCall first second out length = let r = joinOn first second out in (numberIn 
 
 -- a run's eight words, by their places: end, index, step, value, rounds, comparisons, and the two halves last written
 unfoldable pub wordsOf : Position → List ℕ
-wordsOf p = p .end ∷ p .index ∷ p .step ∷ p .value ∷ p .rounds ∷ p .comparisons ∷ p .high ∷ p .low ∷ []
+wordsOf p = p .end ∷ p .place .index ∷ p .place .step ∷ p .place .value ∷ p .counts .rounds ∷ p .counts .comparisons ∷ p .halves .high ∷ p .halves .low ∷ []
 
 unfoldable pub positionIn : List ℕ → Position
-positionIn run = record { end = getD run 0 0; index = getD run 1 0; step = getD run 2 0; value = getD run 3 0; rounds = getD run 4 0; comparisons = getD run 5 0; high = getD run 6 0; low = getD run 7 0 }
+positionIn run =
+    record {
+      end = getD run 0 0;
+      place = record { index = getD run 1 0; step = getD run 2 0; value = getD run 3 0 };
+      counts = record { rounds = getD run 4 0; comparisons = getD run 5 0 };
+      halves = record { high = getD run 6 0; low = getD run 7 0 };
+    }
 
 -- a fresh run
 unfoldable pub startCall : List ℕ → List ℕ → ℕ × List ℕ

@@ -19,7 +19,7 @@ struct Round {
 }
 
 /// So many edges there are; each turn of each operation, and naming runs, aside.
-const EDGES: usize = 142;
+const EDGES: usize = 148;
 
 pub fn hold(engine: &dyn Engine) {
     let groups = [
@@ -28,6 +28,7 @@ pub fn hold(engine: &dyn Engine) {
         passed_over(),
         covering(),
         receiving(),
+        stored_by_many(),
         modulo_4_and_8(),
         others(),
     ];
@@ -196,6 +197,26 @@ fn receiving() -> Vec<Round> {
         ),
         with("out of turn, then a plain receive", into(8, 1) + &entry(0, 0, 1, 6), 3, vec![(1, 6, 0xD4)]),
     ]
+}
+
+/// One slave's byte of slot 1 stored by so many others, each in a place of its own that is 5, 6 or 7; they stand before the
+/// sender and behind it. Every fourth that receives is out of turn and stores nothing.
+fn stored_by_many() -> Vec<Round> {
+    let of = |receivers: usize| {
+        let sender = receivers / 2;
+        let place = |receiver: usize| 5 + receiver % 3;
+        let operation = |receiver: usize| if receiver % 4 == 3 { 8 } else { 0 };
+        // Field 1 is out of turn in the epoch raised to 4.
+        let receives = |receiver: usize| entry(operation(receiver), 1, 1, place(receiver) as u8);
+        let row = |receiver: usize| receiver + usize::from(receiver >= sender);
+        let mut slaves: Vec<Slave> =
+            (0..receivers).map(|receiver| slave(1 + receiver as u8, 2, &receives(receiver))).collect();
+        slaves.insert(sender, slave(0x70, 2, &entry(1, 0, 1, 4)));
+        let stores = (0..receivers).filter(|&receiver| operation(receiver) == 0);
+        let stored = stores.map(|receiver| (row(receiver), place(receiver), 0xD4)).collect();
+        Round { stored, ..round("stored by many", &slaves, 3, &[(1, 0xD4)]) }
+    };
+    [3, 4, 5, 8, 16, 31].map(of).into()
 }
 
 /// Epochs that, already raised, differ modulo 8 and not modulo 4, and 255 going to 0: operations 8, 9, 12 and 13 act in

@@ -1,6 +1,6 @@
 -- `cluster::answer::is_carried` meets its contract: by cases.
 -- Assumes nothing.
-use Rattle.cluster.specs.Inner.Answers.{answerOf}
+use Rattle.cluster.specs.Inner.RoundAnswers.{answerOf}
 use Rattle.cluster.specs.Inner.Unheard.{isDone}
 use borrow.Author.Needs.{needs}
 use Rattle.cluster.proofs.answer.is_carried.Statement.{statement}

@@ -1,6 +1,6 @@
 -- `cluster::msa::pend_address` meets its contract: a law for each way.
 -- Assumes nothing.
-use Rattle.cluster.specs.Inner.Answers.{answerOf}
+use Rattle.cluster.specs.Inner.RoundAnswers.{answerOf}
 use Rattle.cluster.proofs.FrameLaws.{address-refused, address-legal, address-taken}
 use borrow.Author.Needs.{needs}
 use Rattle.cluster.proofs.msa.pend_address.Statement.{statement}

@@ -1,6 +1,6 @@
 -- `cluster::msa::take_address` meets its contract: a law for each answer.
 -- Assumes nothing.
-use Rattle.cluster.specs.Inner.Answers.{answerOf}
+use Rattle.cluster.specs.Inner.RoundAnswers.{answerOf}
 use Rattle.cluster.proofs.FrameLaws.{address-alone, address-heard}
 use borrow.Author.Needs.{needs}
 use Rattle.cluster.proofs.msa.take_address.Statement.{statement}

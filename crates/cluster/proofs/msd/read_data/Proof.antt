@@ -1,6 +1,6 @@
 -- `cluster::msd::read_data` meets its contract: a law for each way.
 -- Assumes nothing.
-use Rattle.cluster.specs.Inner.Answers.{dataRead}
+use Rattle.cluster.specs.Inner.RoundAnswers.{dataRead}
 use Rattle.cluster.proofs.FrameLaws.{data-not-one, data-one, data-not-six, data-wrong, data-right}
 use borrow.Author.Needs.{needs}
 use Rattle.cluster.proofs.msd.read_data.Statement.{statement}

@@ -1,6 +1,6 @@
 -- `cluster::msd::take_data` meets its contract: a law for each way.
 -- Assumes nothing.
-use Rattle.cluster.specs.Inner.Answers.{answerOf}
+use Rattle.cluster.specs.Inner.RoundAnswers.{answerOf}
 use Rattle.cluster.proofs.FrameLaws.{data-refused, data-taken}
 use borrow.Author.Needs.{needs}
 use Rattle.cluster.proofs.msd.take_data.Statement.{statement}

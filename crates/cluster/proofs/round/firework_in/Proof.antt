@@ -1,6 +1,6 @@
 -- `cluster::round::firework_in` meets its contract: a law for each way.
 -- Assumes nothing.
-use Rattle.frame.specs.Inner.Answers.{fireworkRound}
+use Rattle.frame.specs.Inner.FrameAnswers.{fireworkRound}
 use Rattle.cluster.proofs.FrameCall.{empty-opens, byte-opens}
 use borrow.Author.Needs.{needs}
 use Rattle.cluster.proofs.round.firework_in.Statement.{statement}

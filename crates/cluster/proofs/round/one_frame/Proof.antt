@@ -1,6 +1,6 @@
 -- `cluster::round::one_frame` meets its contract: a law for each firework.
 -- Assumes nothing.
-use Rattle.cluster.specs.Inner.Answers.{answerOf}
+use Rattle.cluster.specs.Inner.RoundAnswers.{answerOf}
 use Rattle.cluster.proofs.FrameCall.{frame-none, frame-address, frame-data, round-low, frame-long, frame-carried}
 use borrow.Author.Needs.{needs}
 use Rattle.cluster.proofs.round.one_frame.Statement.{statement}

@@ -1,6 +1,6 @@
 -- `cluster::round::round` meets its contract: a law for each way.
 -- Assumes nothing.
-use Rattle.cluster.specs.Inner.Answers.{answerOf}
+use Rattle.cluster.specs.Inner.RoundAnswers.{answerOf}
 use Rattle.file.proofs.Surveyed.{survey-placed}
 use Rattle.cluster.proofs.FrameCall.{call-refused, call-short, call-made}
 use borrow.Author.Needs.{needs}

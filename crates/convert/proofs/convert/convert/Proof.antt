@@ -1,7 +1,7 @@
 -- `convert::convert::convert` meets its contract: a law for each way.
 -- Assumes nothing.
 use Rattle.file.proofs.Surveyed.{survey-becomes}
-use Rattle.convert.specs.Inner.Answers.{convertedOf}
+use Rattle.convert.specs.Inner.ConversionAnswers.{convertedOf}
 use Rattle.convert.proofs.EditionLaws.{width-there}
 use Rattle.convert.proofs.Calls.{call-refused, call-over, call-short, call-fits, call-written}
 use borrow.Author.Needs.{needs}

@@ -1,7 +1,6 @@
 -- `convert::put::put_fill` meets its contract: none, or two zeros.
 -- Assumes nothing.
-use Rattle.convert.proofs.Putting.{put-room, fill-none, fill-two, fill-fits}
-use native.Mathlib.Omega.{arith}
+use Rattle.convert.proofs.Putting.{fill-none, fill-two, fill-fits}
 use borrow.Author.Needs.{needs}
 use Rattle.convert.proofs.put.put_fill.Statement.{statement}
 use Rattle.convert.proofs.put.put_fill.Tie as tie

@@ -38,7 +38,8 @@ loop-again c =
     let put : tie.After-put-directory Inv-loop μ-loop = search in
     let entry : tie.After-put-table-entry Inv-loop μ-loop = search in
     let more = below-count _ (counted .slave-count .ensures) (turn .loop-test .taken) in
-    moved-again (turn .before .loop .inv) (start .pre .2) more (put .put-directory .ensures) (start .pre .0) (start .pre .1) (files .file-count .ensures) (all-awake _ _) (entry .put-table-entry .ensures)
+    moved-again (turn .before .loop .inv) (start .pre .2) more (put .put-directory .ensures) (start .pre .0) (start .pre .1)
+    (files .file-count .ensures) (all-awake _ _) (entry .put-table-entry .ensures)
 
 pub put-moved-at-spec : {M : Type 1} → statement M
 put-moved-at-spec =

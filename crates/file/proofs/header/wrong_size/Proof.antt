@@ -2,7 +2,7 @@
 -- Assumes nothing.
 use borrow.Author.Tests.{lt-ltb, le-ltb}
 use Rattle.file.specs.Rules.Order.{either}
-use Rattle.file.specs.Rules.Grounds.{wrongSize}
+use Rattle.file.specs.Rules.FileGrounds.{wrongSize}
 use native.Mathlib.Omega.{arith}
 use Rattle.file.proofs.header.wrong_size.Statement.{statement}
 use Rattle.file.proofs.header.wrong_size.Tie as tie

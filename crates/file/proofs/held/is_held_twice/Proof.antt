@@ -1,6 +1,5 @@
 -- `file::held::is_held_twice` meets its contract: a law for each number of slaves.
 -- Assumes nothing.
-use native.Mathlib.Omega.{arith}
 use borrow.Author.Needs.{needs}
 use Rattle.file.proofs.HeldLaws.{few-slaves, two-slaves-unnamed, two-slaves}
 use Rattle.file.proofs.held.is_held_twice.Statement.{statement}

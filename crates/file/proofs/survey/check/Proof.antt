@@ -1,6 +1,6 @@
 -- `file::survey::check` meets its contract: the survey's ground, then 22.
 -- Assumes nothing.
-use Rattle.file.specs.Inner.Answers.{checkedOf}
+use Rattle.file.specs.Inner.FileAnswers.{checkedOf}
 use Rattle.file.proofs.Surveyed.{survey-placed, check-surveyed, check-equal, check-accepts}
 use borrow.Author.Needs.{needs}
 use Rattle.file.proofs.survey.check.Statement.{statement}

@@ -4,7 +4,7 @@ use native.Mathlib.Omega.{arith}
 use borrow.Author.Tests.{not-true, not-false}
 use denote.Ref.{now}
 use Rattle.file.specs.Rules.Bytes.{Bytes}
-use Rattle.file.specs.Inner.Answers.{checkedOf}
+use Rattle.file.specs.Inner.FileAnswers.{checkedOf}
 use Rattle.file.proofs.SurveyLaws.{header-good, refused-by-header, refused-by-layout, refused-by-slaves, whole, survey-accepts, bytes-known}
 use borrow.Author.Needs.{needs}
 use Rattle.file.proofs.survey.survey.Statement.{statement}

@@ -1,7 +1,5 @@
 -- `file::walk::configuration_place` meets its contract: none, the first entry, or what the search from the front finds.
 -- Assumes nothing.
-use borrow.Author.Tests.{not-true, not-false}
-use native.Mathlib.Omega.{arith}
 use borrow.Author.Needs.{needs}
 use Rattle.file.proofs.SeekLaws.{none-stated, first-two, first-short, first-here}
 use Rattle.file.proofs.walk.configuration_place.Statement.{statement}

@@ -1,7 +1,5 @@
 -- `file::walk::walk_slave` meets its contract: the width is one of the two.
 -- Assumes nothing.
-use borrow.Author.Tests.{not-true, not-false}
-use native.Mathlib.Omega.{arith}
 use borrow.Author.Needs.{needs}
 use Rattle.file.proofs.SlaveWalkLaws.{narrow-fits, narrow-place, narrow-walked, wide-fits, wide-place, wide-walked}
 use Rattle.file.proofs.walk.walk_slave.Statement.{statement}

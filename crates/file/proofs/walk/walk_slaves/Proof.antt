@@ -29,14 +29,16 @@ slice-write-places-2 c = simp length-set (omega arith)
 
 add-entry-2 : tie.Need-add-entry-2 Inv-loop μ-loop
 add-entry-2 c =
-    let turn = c .before .before .before in
-    let pre = turn .before .before .before .before .pre .0 in
+    let start : tie.Start Inv-loop μ-loop = search in
+    let turn : tie.In-loop Inv-loop μ-loop = search in
+    let pre = start .pre .0 in
     omega (arith, surveying-entry (turn .before .loop .inv) pre (turn .loop-test .taken) .within, pre .short, pre .width .most)
 
 loop-again : tie.Need-loop-again Inv-loop μ-loop
 loop-again c =
-    let turn = c .before .before .before in
-    surveying-next (turn .before .loop .inv) (turn .loop-test .taken) (c .before .before .walk-slave .ensures) (not-false _ (c .if1 .left))
+    let turn : tie.In-loop Inv-loop μ-loop = search in
+    let walked : tie.After-walk-slave Inv-loop μ-loop = search in
+    surveying-next (turn .before .loop .inv) (turn .loop-test .taken) (walked .walk-slave .ensures) (not-false _ (c .if1 .left))
 
 returns-2 : tie.Need-returns-2 Inv-loop μ-loop
 returns-2 c = search (needs, surveying-done)

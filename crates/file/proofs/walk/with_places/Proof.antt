@@ -1,6 +1,5 @@
 -- `file::walk::with_places` meets its contract: what its directory states.
 -- Assumes nothing.
-use borrow.Author.Tests.{not-true, not-false}
 use native.Mathlib.Omega.{arith}
 use borrow.Author.Needs.{needs}
 use Rattle.file.proofs.SlaveWalkLaws.{slave-entries, slave-arrives, slave-stated}

@@ -1,7 +1,7 @@
 -- `frame::firework::firework_of` meets its contract: the round by the bits is the round by the list.
 -- Assumes nothing.
 use borrow.Author.Needs.{needs}
-use Rattle.frame.specs.Inner.Answers.{fireworkRound}
+use Rattle.frame.specs.Inner.FrameAnswers.{fireworkRound}
 use Rattle.frame.proofs.FireworkBits.{opens-none, opens-data, opens-address, opens-multipartner}
 use Rattle.frame.proofs.firework.firework_of.Statement.{statement}
 use Rattle.frame.proofs.firework.firework_of.Tie as tie

@@ -3,7 +3,7 @@
 use Prim.Native.Nat.{ℕ}
 use mathlib.Core.List.{List}
 use denote.Ref.{now}
-use Rattle.frame.specs.Inner.Answers.{readingOf}
+use Rattle.frame.specs.Inner.FrameAnswers.{readingOf}
 use Rattle.frame.proofs.Tests.{other-length}
 use Rattle.frame.proofs.Reading.{Formed, refuse-10, refuse-11, refuse-12, refuse-13, refuse-14, formed-by, accept}
 use borrow.Author.Needs.{needs}
@@ -44,12 +44,13 @@ returns-5 c = search (refuse-14, formed-by)
 returns-6 : tie.Need-returns-6
 unfolding readingOf read-frame
 returns-6 c =
-    let read = c .before .before .before in
-    let known = read .before .before in
-    let does = known .before .before in
-    let tested = does .before .before in
-    accept _ (well-formed (tested .before .before))
-    (does .before .new .ensures)
+    let formed : tie.Else3 = search in
+    let named : tie.After-new = search in
+    let does : tie.After-operation-of = search in
+    let known : tie.Else4 = search in
+    let read : tie.Else5 = search in
+    accept _ (well-formed formed)
+    (named .new .ensures)
     (does .operation-of .ensures)
     (known .before .is-no-operation .ensures)
     (known .if4 .left)

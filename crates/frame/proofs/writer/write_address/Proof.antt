@@ -1,6 +1,6 @@
 -- `frame::writer::write_address` meets its contract: at each `return` one law of the writing says what the tests before it leave.
 -- Assumes nothing.
-use Rattle.frame.specs.Inner.Answers.{writingOf}
+use Rattle.frame.specs.Inner.FrameAnswers.{writingOf}
 use Rattle.frame.proofs.Tests.{short, long, file-high, file-fits}
 use Rattle.frame.proofs.Writing.{joined-byte, address-9, address-13, address-14, address-18, address-written}
 use borrow.Author.Needs.{needs}

@@ -1,6 +1,6 @@
 -- `frame::writer::write_data` meets its contract.
 -- Assumes nothing.
-use Rattle.frame.specs.Inner.Answers.{writingOf}
+use Rattle.frame.specs.Inner.FrameAnswers.{writingOf}
 use Rattle.frame.proofs.Tests.{short, long}
 use Rattle.frame.proofs.Writing.{data-9, data-written}
 use borrow.Author.Needs.{needs}

@@ -1,7 +1,7 @@
 -- `join::join::join` meets its contract: the first file's refusal, or the answer to an accepted one.
 -- Assumes nothing.
 use Rattle.file.proofs.Surveyed.{survey-placed}
-use Rattle.join.specs.Inner.Answers.{joiningOf}
+use Rattle.join.specs.Inner.JoinAnswers.{joiningOf}
 use Rattle.join.proofs.JoinLaws.{call-first}
 use borrow.Author.Needs.{needs}
 use Rattle.join.proofs.join.join.Statement.{statement}

@@ -1,6 +1,6 @@
 -- `join::join::join_apart` meets its contract: a law for each way.
 -- Assumes nothing.
-use Rattle.join.specs.Inner.Answers.{joiningOf}
+use Rattle.join.specs.Inner.JoinAnswers.{joiningOf}
 use Rattle.join.proofs.JoinLaws.{sum-fits, header-below, call-over, call-short, call-fits, call-written}
 use borrow.Author.Needs.{needs}
 use Rattle.join.proofs.join.join_apart.Statement.{statement}

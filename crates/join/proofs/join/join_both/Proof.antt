@@ -1,6 +1,6 @@
 -- `join::join::join_both` meets its contract: 29, or the answer to files that share no name.
 -- Assumes nothing.
-use Rattle.join.specs.Inner.Answers.{joiningOf}
+use Rattle.join.specs.Inner.JoinAnswers.{joiningOf}
 use Rattle.join.proofs.JoinLaws.{call-shared, names-apart}
 use borrow.Author.Needs.{needs}
 use Rattle.join.proofs.join.join_both.Statement.{statement}

@@ -1,7 +1,7 @@
 -- `join::join::join_second` meets its contract: the second file's refusal, or the answer to two accepted files.
 -- Assumes nothing.
 use Rattle.file.proofs.Surveyed.{survey-placed}
-use Rattle.join.specs.Inner.Answers.{joiningOf}
+use Rattle.join.specs.Inner.JoinAnswers.{joiningOf}
 use Rattle.join.proofs.JoinLaws.{call-second}
 use borrow.Author.Needs.{needs}
 use Rattle.join.proofs.join.join_second.Statement.{statement}

@@ -1,7 +1,7 @@
 -- `line::pattern::read_pattern` meets its contract: a law for each entry that stands in the pattern's row.
 -- Assumes nothing.
 use borrow.Author.Needs.{needs}
-use Rattle.line.specs.Inner.Answers.{classIn, readOf}
+use Rattle.line.specs.Inner.LineAnswers.{classIn, readOf}
 use Rattle.line.proofs.Table.{above, data-entry, firework-entry, broken-entry, other-entry}
 use Rattle.line.proofs.pattern.read_pattern.Statement.{statement}
 use Rattle.line.proofs.pattern.read_pattern.Tie as tie

@@ -1,6 +1,7 @@
 -- `listing_text::run::after_step` meets its contract.
 -- Assumes nothing.
 use Rattle.listing_text.proofs.ListLaws.{length-names, after-step-silent, after-step-named}
+use native.Mathlib.Omega.{arith}
 use borrow.Author.Needs.{needs}
 use Rattle.listing_text.proofs.run.after_step.Statement.{statement}
 use Rattle.listing_text.proofs.run.after_step.Tie as tie
@@ -22,6 +23,6 @@ after-step-spec =
     (λ c. search needs)
     shared-slice-read-put-name
     (λ c κs. search needs)
-    (λ c. search needs)
+    (λ c. let start : tie.Start = search in omega (arith, start .pre .1 .few, start .pre .2 .inside))
     (λ c. search needs)
     returns-2)

@@ -6,7 +6,7 @@ use native.Mathlib.Omega.{arith}
 use borrow.Author.Needs.{needs}
 use lib.ListN.{length}
 use Rattle.file.specs.Inner.Accepted.{Placed}
-use Rattle.naming.specs.Rules.Run.{bits}
+use Rattle.naming.specs.Rules.Pass.{bits}
 use Rattle.listing_text.specs.Rules.Listing.{listSteps, mostSteps}
 use Rattle.listing_text.specs.Inner.ListRuns.{stateOf}
 use Rattle.listing_text.proofs.ListLaws.{Going, going-start, going-done, going-next}
@@ -33,13 +33,13 @@ make-steps-requires c κs =
 
 -- the steps made at once, before the state has them, and the loop's test before them
 abbrev made : tie.After-moved-to Inv-loop μ-loop → tie.After-make-steps Inv-loop μ-loop
-made moved = moved .before .before .before .before .before
+made moved = search
 
 abbrev looped : tie.After-make-steps Inv-loop μ-loop → tie.At-loop Inv-loop μ-loop
-looped steps = steps .before .before .before .before
+looped steps = search
 
 abbrev start : tie.After-make-steps Inv-loop μ-loop → tie.Start Inv-loop μ-loop
-start steps = looped steps .before .before .before .before .before
+start steps = search
 
 few : (steps : tie.After-make-steps Inv-loop μ-loop) → steps .make-steps .result .steps ≤ looped steps .loop .left
 few steps = batch-few (looped steps .loop .inv .0) (start steps .pre .0) (steps .make-steps .ensures)
@@ -57,15 +57,19 @@ returns c =
 
 one-step-requires : tie.Need-one-step-requires Inv-loop μ-loop
 one-step-requires c κs =
-    let moved = c .before .before .before .before .before .before in
+    let moved : tie.After-moved-to Inv-loop μ-loop = search in
     let steps = made moved in
     (start steps .pre .0, batch-going (looped steps .loop .inv .0) (start steps .pre .0) (steps .make-steps .ensures) (moved .moved-to .ensures) .room, steps .make-steps .ensures .placed)
 
-left-some : (way : tie.Else1 Inv-loop μ-loop) → 1 ≤ looped (made (way .before .before .before)) .loop .left - made (way .before .before .before) .make-steps .result .steps
+-- the state has them where steps are left
+abbrev carried : tie.Else1 Inv-loop μ-loop → tie.After-moved-to Inv-loop μ-loop
+carried way = search
+
+left-some : (way : tie.Else1 Inv-loop μ-loop) → 1 ≤ looped (made (carried way)) .loop .left - made (carried way) .make-steps .result .steps
 left-some way = some-left _ _ (way .before .is-over .ensures) (way .if1 .left)
 
 abbrev way : tie.After-one-step Inv-loop μ-loop → tie.Else1 Inv-loop μ-loop
-way one = one .before .before .before .before
+way one = search
 
 sub-left-2 : tie.Need-sub-left-2 Inv-loop μ-loop
 sub-left-2 c = let one : tie.After-one-step Inv-loop μ-loop = search in left-some (way one)
@@ -73,13 +77,13 @@ sub-left-2 c = let one : tie.After-one-step Inv-loop μ-loop = search in left-so
 loop-less : tie.Need-loop-less Inv-loop μ-loop
 loop-less c = let one : tie.After-one-step Inv-loop μ-loop = search in omega (arith, left-some (way one))
 
-moved-small : (moved : tie.After-moved-to Inv-loop μ-loop) → moved .moved-to .result .run .value < 2 ^ bits
-moved-small moved = omega arith
+moved-small : (moved : tie.After-moved-to Inv-loop μ-loop) → moved .moved-to .result .run .place .value < 2 ^ bits
+moved-small moved = omega (arith, moved .moved-to .ok)
 
 loop-again : tie.Need-loop-again Inv-loop μ-loop
 loop-again c =
     let one : tie.After-one-step Inv-loop μ-loop = search in
-    let moved = way one .before .before .before in
+    let moved = carried (way one) in
     let steps = made moved in
     let inv = looped steps .loop .inv in (
       going-next (batch-going (inv .0) (start steps .pre .0) (steps .make-steps .ensures) (moved .moved-to .ensures)) (left-some (way one)) (one .one-step .ensures),
@@ -101,7 +105,7 @@ all-steps-spec =
     (λ c κs. search needs)
     (λ c. search needs)
     (λ c. search needs)
-    (λ c. search needs)
+    (λ c. let at : tie.At-loop Inv-loop μ-loop = search in at .loop .inv .0 .same)
     returns
     one-step-requires
     sub-left-2

@@ -34,8 +34,8 @@ marked-ground-spec =
     (λ c. search needs)
     (λ c. let h = c .before .before .loop .inv .within in omega arith)
     (λ c. omega (arith, c .shared-slice-known .given (c .before .before .loop .i - 1)))
-    (λ c. omega (arith, c .shared-slice-known .given (c .before .before .loop .i - 1), c .before .before .loop .inv .room))
-    (λ c. omega (arith, c .before .shared-slice-known .given (c .before .before .before .loop .i - 1), c .before .before .before .loop .inv .room))
+    (λ c. let at : tie.At-loop Inv-loop μ-loop = search in omega (arith, c .shared-slice-known .given (at .loop .i - 1), at .loop .inv .room))
+    (λ c. let at : tie.At-loop Inv-loop μ-loop = search in omega (arith, c .before .shared-slice-known .given (at .loop .i - 1), at .loop .inv .room))
     (λ c. search needs)
     loop-again
     (λ c. search needs)

@@ -1,7 +1,7 @@
 -- `naming::position::end_at` meets its contract: the test decides.
 -- Assumes nothing.
 use borrow.Author.Tests.{lt-ltb, le-ltb}
-use Rattle.naming.specs.Rules.Run.{endAt}
+use Rattle.naming.specs.Rules.Position.{endAt}
 use Rattle.naming.proofs.position.end_at.Statement.{statement}
 use Rattle.naming.proofs.position.end_at.Tie as tie
 

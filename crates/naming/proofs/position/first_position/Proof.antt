@@ -1,6 +1,6 @@
 -- `naming::position::first_position` meets its contract.
 -- Assumes nothing.
-use Rattle.naming.specs.Rules.Run.{fresh}
+use Rattle.naming.specs.Rules.Position.{fresh}
 use borrow.Author.Needs.{needs}
 use Rattle.naming.proofs.position.first_position.Statement.{statement}
 use Rattle.naming.proofs.position.first_position.Tie as tie

@@ -8,7 +8,7 @@ use Rattle.naming.proofs.position.next_name.Tie as tie
 
 returns : tie.Need-returns
 unfolding nextName
-returns c = simp (c .before .before .end-at .ensures, add-one)
+returns c = let ends : tie.After-end-at = search in simp (ends .end-at .ensures, add-one)
 
 pub next-name-spec : {M : Type 1} → statement M
 next-name-spec = tie.close (tie.spec (λ c. search needs) (λ c κs. search needs) (λ c. search needs) (λ c. search needs) returns)

@@ -4,7 +4,7 @@ use Prim.Native.Nat.{_<_}
 use native.Mathlib.Omega.{arith}
 use lib.ListN.{getD}
 use denote.Ref.{now}
-use Rattle.naming.specs.Inner.Answers.{steppedOf, runAfter}
+use Rattle.naming.specs.Inner.StepAnswers.{steppedOf, runAfter}
 use Rattle.naming.proofs.RunLaws.{runs, extra-may, extra-is}
 use borrow.Author.Needs.{needs}
 use Rattle.naming.proofs.run.extra_step.Statement.{statement}

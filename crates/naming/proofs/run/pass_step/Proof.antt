@@ -4,8 +4,8 @@ use Prim.Native.Nat.{_^_, _<_}
 use native.Mathlib.Omega.{arith}
 use lib.ListN.{length, getD}
 use denote.Ref.{now}
-use Rattle.naming.specs.Rules.Run.{bits}
-use Rattle.naming.specs.Inner.Answers.{positionOf, GoesOn}
+use Rattle.naming.specs.Rules.Pass.{bits}
+use Rattle.naming.specs.Inner.StepAnswers.{positionOf, GoesOn}
 use Rattle.naming.proofs.RunLaws.{runs, here-goes, send-may, step-is}
 use borrow.Author.Needs.{needs}
 use Rattle.naming.proofs.run.pass_step.Statement.{statement}
@@ -16,16 +16,16 @@ standing-at-requires c κs = let start : tie.Start = search in runs (start .pre 
 
 -- where the step stands, and what it has once its round is made
 abbrev start : tie.After-standing-at → tie.Start
-start at = at .before .before .before .before
+start at = search
 
 stands : (at : tie.After-standing-at) → GoesOn (length (now (start at .args .names))) (positionOf (at .standing-at .result .run))
 stands at = here-goes _ (start at .pre .0) (start at .pre .1) (at .standing-at .ensures .settled)
 
-value-small : (at : tie.After-standing-at) → at .standing-at .result .run .value < 2 ^ bits
+value-small : (at : tie.After-standing-at) → at .standing-at .result .run .place .value < 2 ^ bits
 value-small at = omega arith
 
-name-byte : (known : tie.After-shared-slice-known2) → getD (now (start (known .before) .args .names)) (known .before .standing-at .result .run .index) 0 < 256
-name-byte known = omega (arith, known .shared-slice-known2 .given (known .before .standing-at .result .run .index))
+name-byte : (known : tie.After-shared-slice-known2) → getD (now (start (known .before) .args .names)) (known .before .standing-at .result .run .place .index) 0 < 256
+name-byte known = omega (arith, known .shared-slice-known2 .given (known .before .standing-at .result .run .place .index))
 
 send-requires : tie.Need-send-requires
 send-requires c κs =

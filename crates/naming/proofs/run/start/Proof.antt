@@ -1,6 +1,6 @@
 -- `naming::run::start` meets its contract.
 -- Assumes nothing.
-use Rattle.naming.specs.Inner.Answers.{startedOf}
+use Rattle.naming.specs.Inner.StepAnswers.{startedOf}
 use Rattle.naming.proofs.NameLaws.{start-refused, start-fresh}
 use borrow.Author.Needs.{needs}
 use Rattle.naming.proofs.run.start.Statement.{statement}

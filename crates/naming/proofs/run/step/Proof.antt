@@ -1,6 +1,6 @@
 -- `naming::run::step` meets its contract: one law for each return.
 -- Assumes nothing.
-use Rattle.naming.specs.Inner.Answers.{steppedOf, runAfter}
+use Rattle.naming.specs.Inner.StepAnswers.{steppedOf, runAfter}
 use Rattle.file.proofs.Surveyed.{survey-placed}
 use Rattle.naming.proofs.StepCode.{step-turned}
 use borrow.Author.Needs.{needs}

@@ -1,6 +1,6 @@
 -- `naming::run::step_on` meets its contract: one law for each return.
 -- Assumes nothing.
-use Rattle.naming.specs.Inner.Answers.{steppedOf, runAfter}
+use Rattle.naming.specs.Inner.StepAnswers.{steppedOf, runAfter}
 use Rattle.naming.proofs.StepCode.{step-short, step-unfit, step-over, step-ready, step-goes}
 use borrow.Author.Needs.{needs}
 use Rattle.naming.proofs.run.step_on.Statement.{statement}

@@ -1,6 +1,6 @@
 -- `naming::sending::high_round` meets its contract.
 -- Assumes nothing.
-use Rattle.naming.specs.Rules.Rounds.{sent}
+use Rattle.naming.specs.Rules.RunRounds.{sent}
 use borrow.Author.Needs.{needs}
 use Rattle.naming.proofs.sending.high_round.Statement.{statement}
 use Rattle.naming.proofs.sending.high_round.Tie as tie

@@ -1,6 +1,6 @@
 -- `naming::sending::low_round` meets its contract.
 -- Assumes nothing.
-use Rattle.naming.specs.Rules.Rounds.{sent}
+use Rattle.naming.specs.Rules.RunRounds.{sent}
 use borrow.Author.Needs.{needs}
 use Rattle.naming.proofs.sending.low_round.Statement.{statement}
 use Rattle.naming.proofs.sending.low_round.Tie as tie

@@ -1,7 +1,7 @@
 -- `naming::sending::write_round` meets its contract.
 -- Assumes nothing.
 use mathlib.Core.Path.{refl}
-use Rattle.naming.specs.Rules.Rounds.{sent, atUnnamed}
+use Rattle.naming.specs.Rules.RunRounds.{sent, atUnnamed}
 use Rattle.naming.proofs.sending.write_round.Statement.{statement}
 use Rattle.naming.proofs.sending.write_round.Tie as tie
 

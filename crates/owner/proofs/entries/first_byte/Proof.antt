@@ -1,6 +1,5 @@
 -- `owner::entries::first_byte` meets its contract.
 -- Assumes nothing.
-use native.Mathlib.Omega.{arith}
 use borrow.Author.Needs.{needs}
 use Rattle.owner.proofs.EntryMasks.{first-place}
 use Rattle.owner.proofs.entries.first_byte.Statement.{statement}

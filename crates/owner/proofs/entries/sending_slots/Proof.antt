@@ -1,6 +1,5 @@
 -- `owner::entries::sending_slots` meets its contract: a law for each way.
 -- Assumes nothing.
-use native.Mathlib.Omega.{arith}
 use borrow.Author.Needs.{needs}
 use Rattle.owner.proofs.EntryMasks.{slots-none, slots-part, slots-all}
 use Rattle.owner.proofs.entries.sending_slots.Statement.{statement}

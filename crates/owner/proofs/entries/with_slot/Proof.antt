@@ -1,6 +1,5 @@
 -- `owner::entries::with_slot` meets its contract: a law for each way.
 -- Assumes nothing.
-use native.Mathlib.Omega.{arith}
 use borrow.Author.Needs.{needs}
 use Rattle.owner.proofs.EntryMasks.{single-plain, slot-hidden, slot-silent, slot-outside, slot-sends}
 use Rattle.owner.proofs.entries.with_slot.Statement.{statement}

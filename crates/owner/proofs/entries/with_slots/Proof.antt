@@ -1,6 +1,5 @@
 -- `owner::entries::with_slots` meets its contract: a law for each way.
 -- Assumes nothing.
-use native.Mathlib.Omega.{arith}
 use borrow.Author.Needs.{needs}
 use Rattle.owner.proofs.EntryMasks.{send-there, slots-send, slots-passed, slots-hide}
 use Rattle.owner.proofs.entries.with_slots.Statement.{statement}

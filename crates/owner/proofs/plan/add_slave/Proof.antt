@@ -12,7 +12,7 @@ returns c =
     let start : tie.Start = search in
     let planned : tie.After-plan-slave = search in
     let put : tie.After-put-name = search in
-    let named = put .before .before .before in
+    let named : tie.After-logical-name = search in
     record { planned = λ master h. round-next h (start .pre .1) (planned .plan-slave .ensures) (named .logical-name .ensures) (put .put-name .ensures) }
 
 pub add-slave-spec : {M : Type 1} → statement M

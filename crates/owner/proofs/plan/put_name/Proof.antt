@@ -2,7 +2,6 @@
 -- Assumes nothing.
 use Prim.Native.Nat.{_-_}
 use native.Mathlib.Omega.{arith}
-use borrow.Author.Needs.{needs}
 use lib.Bits.{and-le-r}
 use Rattle.owner.proofs.MaskLaws.{first-of}
 use Rattle.owner.proofs.SlavePlan.{Putting, putting-start, putting-next, putting-done}

@@ -7,7 +7,10 @@ use Rattle.owner.proofs.rounds.write_row.Statement.{statement}
 use Rattle.owner.proofs.rounds.write_row.Tie as tie
 
 returns : tie.Need-returns
-returns c = row-written (c .before .before .before .before .plan-round .ensures) (c .before .last-slot .ensures) (omega arith)
+returns c =
+    let planned : tie.After-plan-round = search in
+    let last : tie.After-last-slot = search in
+    row-written (planned .plan-round .ensures) (last .last-slot .ensures) (omega arith)
 
 pub write-row-spec : {M : Type 1} → statement M
 write-row-spec =

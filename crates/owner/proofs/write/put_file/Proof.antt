@@ -7,9 +7,9 @@ use Rattle.owner.proofs.write.put_file.Tie as tie
 
 returns : tie.Need-returns
 returns c =
-    let second = c .before .before in
-    let first = c .before .before .before .before .before .before in
-    let start = first .before .before .before .before .before in
+    let second : tie.After-copy2 = search in
+    let first : tie.After-copy = search in
+    let start : tie.Start = search in
     put-parts (start .args .buffer .now) (start .args .head .now) (start .args .rows .now) (first .copy .last .1 .0) (second .copy2 .last .1 .0) (first .copy .result) (start .pre)
     (first .copy .ensures .0) (first .copy .ensures .1) (second .copy2 .ensures .1)
 

@@ -2,7 +2,7 @@
 -- Assumes nothing.
 use mathlib.Core.Path.{refl}
 use Rattle.file.proofs.Surveyed.{survey-placed}
-use Rattle.owner.specs.Inner.Answers.{writtenOf}
+use Rattle.owner.specs.Inner.OwnerAnswers.{writtenOf}
 use Rattle.owner.proofs.Calls.{written-size, written-fits, call-refused, call-multiplexed, call-clash, call-short, call-written}
 use borrow.Author.Needs.{needs}
 use Rattle.owner.proofs.write.write_owner.Statement.{statement}
@@ -10,8 +10,8 @@ use Rattle.owner.proofs.write.write_owner.Tie as tie
 
 write-rounds-requires : tie.Need-write-rounds-requires
 write-rounds-requires c κs =
-    let told = c .before .before .before in
-    let surveyed = c .before .before .before .before .before in
+    let told : tie.After-enum-told = search in
+    let surveyed : tie.After-survey = search in
     (survey-placed (surveyed .survey .ensures) (told .enum-told .given .1), refl, refl)
 
 returns : tie.Need-returns

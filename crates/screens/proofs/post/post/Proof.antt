@@ -1,6 +1,6 @@
 -- `screens::post::post` meets its contract: a law for each way.
 -- Assumes nothing.
-use Rattle.screens.specs.Inner.Answers.{postedOf}
+use Rattle.screens.specs.Inner.ScreenAnswers.{postedOf}
 use Rattle.screens.proofs.PostLaws.{post-few, post-refused, post-done}
 use borrow.Author.Needs.{needs}
 use Rattle.screens.proofs.post.post.Statement.{statement}

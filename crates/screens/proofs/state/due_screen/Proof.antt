@@ -1,7 +1,7 @@
 -- `screens::state::due_screen` meets its contract.
 -- Assumes nothing.
 use borrow.Author.Needs.{needs}
-use Rattle.screens.specs.Inner.Answers.{dueOf}
+use Rattle.screens.specs.Inner.ScreenAnswers.{dueOf}
 use Rattle.screens.specs.Claims.Turns.{away}
 use Rattle.screens.proofs.StateLaws.{Asking, asking-start, asking-few, next-few, asking-found, asking-none, asking-less, asking-on}
 use Rattle.screens.proofs.state.due_screen.Statement.{statement}

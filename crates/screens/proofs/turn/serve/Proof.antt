@@ -1,6 +1,6 @@
 -- `screens::turn::serve` meets its contract.
 -- Assumes nothing.
-use Rattle.screens.specs.Inner.Answers.{turnedOf}
+use Rattle.screens.specs.Inner.ScreenAnswers.{turnedOf}
 use Rattle.screens.proofs.TurnLaws.{serve-few, may-serve, serve-idle, serve-done}
 use borrow.Author.Needs.{needs}
 use Rattle.screens.proofs.turn.serve.Statement.{statement}

@@ -2,7 +2,7 @@
 -- Assumes nothing.
 use Rattle.file.proofs.Surveyed.{survey-placed}
 use Rattle.screens.proofs.TurnLaws.{turn-screen, last-few, state-free, turn-unfit, turn-unaccepted, turn-short, turn-carried}
-use Rattle.screens.specs.Inner.Answers.{turnedOf}
+use Rattle.screens.specs.Inner.ScreenAnswers.{turnedOf}
 use borrow.Author.Needs.{needs}
 use Rattle.screens.proofs.turn.turn.Statement.{statement}
 use Rattle.screens.proofs.turn.turn.Tie as tie

@@ -2,7 +2,7 @@
 -- Assumes nothing.
 use borrow.Author.Needs.{needs}
 use Rattle.file.proofs.Surveyed.{survey-becomes, survey-placed}
-use Rattle.summary.specs.Inner.Answers.{filledOf}
+use Rattle.summary.specs.Inner.SummaryAnswers.{filledOf}
 use Rattle.summary.proofs.FillLaws.{fill-refused, fill-short, fill-done}
 use Rattle.summary.proofs.fill.fill.Statement.{statement}
 use Rattle.summary.proofs.fill.fill.Tie as tie

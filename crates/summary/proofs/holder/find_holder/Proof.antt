@@ -4,7 +4,7 @@ use Prim.Native.Nat.{_-_}
 use native.Mathlib.Omega.{arith}
 use borrow.Author.Needs.{needs}
 use Rattle.file.specs.Inner.Typed.{nameIn}
-use Rattle.summary.specs.Inner.Answers.{holderOf}
+use Rattle.summary.specs.Inner.SummaryAnswers.{holderOf}
 use Rattle.summary.proofs.HolderLaws.{Asking, holder-refused, asking-start, asking-here, asking-next, asking-done}
 use Rattle.summary.proofs.holder.find_holder.Statement.{statement}
 use Rattle.summary.proofs.holder.find_holder.Tie as tie

@@ -3,7 +3,7 @@
 use native.Mathlib.Omega.{arith}
 use borrow.Author.Needs.{needs}
 use Rattle.file.proofs.SurveyLaws.{bytes-known}
-use Rattle.cluster.specs.Inner.Answers.{answerOf}
+use Rattle.cluster.specs.Inner.RoundAnswers.{answerOf}
 use Rattle.summary.proofs.RoundLaws.{frame-moved, frame-refused, frame-carried}
 use Rattle.summary.proofs.round.carry_keeping.Statement.{statement}
 use Rattle.summary.proofs.round.carry_keeping.Tie as tie

@@ -2,7 +2,7 @@
 -- Assumes nothing.
 use borrow.Author.Needs.{needs}
 use Rattle.file.proofs.Surveyed.{survey-placed}
-use Rattle.cluster.specs.Inner.Answers.{answerOf}
+use Rattle.cluster.specs.Inner.RoundAnswers.{answerOf}
 use Rattle.summary.proofs.RoundLaws.{keeping-refused, keeping-wrong, keeping-short, keeping-made, names-fit}
 use Rattle.summary.proofs.round.round_keeping.Statement.{statement}
 use Rattle.summary.proofs.round.round_keeping.Tie as tie

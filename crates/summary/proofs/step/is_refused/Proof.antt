@@ -1,6 +1,6 @@
 -- `summary::step::is_refused` meets its contract.
 -- Assumes nothing.
-use Rattle.naming.specs.Inner.Answers.{steppedOf}
+use Rattle.naming.specs.Inner.StepAnswers.{steppedOf}
 use Rattle.summary.specs.Inner.Kept.{isRefused}
 use borrow.Author.Needs.{needs}
 use Rattle.summary.proofs.step.is_refused.Statement.{statement}

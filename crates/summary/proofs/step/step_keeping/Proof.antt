@@ -1,7 +1,7 @@
 -- `summary::step::step_keeping` meets its contract: a law for each return.
 -- Assumes nothing.
 use Rattle.file.proofs.Surveyed.{survey-placed}
-use Rattle.naming.specs.Inner.Answers.{steppedOf, runAfter}
+use Rattle.naming.specs.Inner.StepAnswers.{steppedOf, runAfter}
 use Rattle.summary.proofs.RoundLaws.{names-fit}
 use Rattle.summary.proofs.StepLaws.{stepping-refused, stepping-wrong, stepping-kept}
 use borrow.Author.Needs.{needs}

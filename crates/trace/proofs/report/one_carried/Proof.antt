@@ -1,6 +1,6 @@
 -- `trace::report::one_carried` meets its contract: a law for each firework.
 -- Assumes nothing.
-use Rattle.trace.specs.Rules.Run.{oneCarried}
+use Rattle.trace.specs.Rules.TraceRun.{oneCarried}
 use Rattle.trace.proofs.ReportLaws.{carried-none, carried-address, carried-data, carried-multipartner}
 use borrow.Author.Needs.{needs}
 use Rattle.trace.proofs.report.one_carried.Statement.{statement}

@@ -2,7 +2,7 @@
 -- Assumes nothing.
 use borrow.Author.Needs.{needs}
 use mathlib.Core.Path.{refl}
-use Rattle.trace.specs.Rules.Run.{oneRefused}
+use Rattle.trace.specs.Rules.TraceRun.{oneRefused}
 use Rattle.trace.proofs.report.one_refused.Statement.{statement}
 use Rattle.trace.proofs.report.one_refused.Tie as tie
 

@@ -9,7 +9,7 @@ use borrow.Author.Needs.{needs}
 use Rattle.file.specs.Rules.Bytes.{part}
 use Rattle.file.specs.Rules.Decode.{decode}
 use Rattle.cluster.specs.Inner.Unheard.{MaySleep}
-use Rattle.trace.specs.Inner.Answers.{reportIn}
+use Rattle.trace.specs.Inner.TraceAnswers.{reportIn}
 use Rattle.trace.proofs.Facts.{trace-facts}
 use Rattle.trace.proofs.RunLaws.{Running, running-start, row-within, frame-within, few-frames, running-next, running-done, anyone-may}
 use Rattle.trace.proofs.run.run_frames.Statement.{statement}

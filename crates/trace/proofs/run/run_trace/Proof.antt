@@ -3,7 +3,7 @@
 use borrow.Author.Needs.{needs}
 use mathlib.Core.Path.{sym, _∙_}
 use Rattle.file.proofs.Surveyed.{survey-placed}
-use Rattle.trace.specs.Inner.Answers.{tracedOf}
+use Rattle.trace.specs.Inner.TraceAnswers.{tracedOf}
 use Rattle.trace.proofs.Calls.{call-refused, call-broken, call-run}
 use Rattle.trace.proofs.run.run_trace.Statement.{statement}
 use Rattle.trace.proofs.run.run_trace.Tie as tie
