@@ -301,7 +301,7 @@ static void print_plan(const uint8_t *owners, size_t bytes)
         printf("round %d:", owned[i]);
         for (size_t slot = 0; slot < end - begin; slot++) {
             if (owners[begin + slot] != 0x00) {
-                printf(" %zu=%02X", slot, (unsigned)owners[begin + slot]);
+                printf(" %u=%02X", (unsigned)slot, (unsigned)owners[begin + slot]);
             }
         }
         printf("\n");

@@ -21,9 +21,18 @@
  *
  * The language. C99 or later, C++11 or later.
  *
- * The library. libttpa.a is for x86-64 alone, which is all that today's toolchain makes. It follows the
- * System V calling convention, uses SSE2 registers and the 128 bytes below the stack pointer (the red zone),
- * and needs at most memcpy, memmove and memset from the program that it is linked into. */
+ * The library, on one of two ways.
+ * - libttpa.a, for x86-64 alone. It follows the System V calling convention, uses SSE2 registers and the 128 bytes below the stack pointer
+ *   (the red zone), and needs at most memcpy, memmove and memset from the program that it is linked into.
+ * - portable/ttpa.c, for any processor: one file of C99, compiled with this header. It needs memcpy, memset and what the compiler itself
+ *   needs for 64-bit arithmetic, has no data but constants, and does not recurse. Code and constants of all calls, and the most stack that a
+ *   call uses, without what memcpy, memset and the compiler's own functions take, with gcc 12.2 at -Os:
+ *
+ *       Cortex-M4   16,008 bytes of code, 2,140 of stack
+ *       Cortex-M0   18,436 bytes of code, 2,228 of stack
+ *       RV32IMAC    20,288 bytes of code, 2,112 of stack
+ *
+ *   With -ffunction-sections and -Wl,--gc-sections a program has only what the calls that it makes need. */
 #ifndef TTPA_H
 #define TTPA_H
 
@@ -46,7 +55,7 @@ extern "C" {
 #define TTPA_VERSION_PATCH 0
 #define TTPA_VERSION (10000 * TTPA_VERSION_MAJOR + 100 * TTPA_VERSION_MINOR + TTPA_VERSION_PATCH)
 
-/* What the library takes: code and constants of all calls, and the most stack that a call uses, with its
+/* What libttpa.a takes: code and constants of all calls, and the most stack that a call uses, with its
  * return address and arguments. No other memory. Both are measured, and rounded up. */
 #define TTPA_CODE_BYTES 19968
 #define TTPA_STACK_BYTES 2048
