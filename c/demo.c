@@ -4,9 +4,9 @@
  * slave, has a foreign master try to name slaves by a write, names unnamed slaves until the list of names runs dry and
  * the last one by a second list, while other rounds go on in between, tells before and after it who holds a name, runs a
  * captured trace, plans who sends in which slot, has a slot multiplexed, puts the cluster to sleep and wakes it, converts
- * the file to edition 2 and back, serves three screens in turn, joins the file with that of a second segment and names
- * whom the join left unnamed, reads the patterns of a frame on the line, and prints what happened. examples/demo.rs of the
- * Rust crate does the same and prints the same. */
+ * the file to edition 2 and back, serves three screens in turn, looks at what each slave does in round 2, joins the file
+ * with that of a second segment and names whom the join left unnamed, reads the patterns of a frame on the line, and
+ * prints what happened. examples/demo.rs of the Rust crate does the same and prints the same. */
 #include <inttypes.h>
 #include <stdio.h>
 #include <string.h>
@@ -18,6 +18,8 @@
 #define MASTER 0x80
 /* where the demo's file has the logical name of its second slave, which is unnamed */
 #define SECOND_NAME 0x7F
+/* where a cluster file tells how many slaves it has */
+#define SLAVE_COUNT 3
 /* where a cluster file of edition 1 tells whether its first slave sleeps, and how far it is to the next slave's byte */
 #define FIRST_SLEEP 19
 #define ENTRY_BYTES 4
@@ -491,6 +493,25 @@ static void show_line(void)
     }
 }
 
+/* What each slave does in round 2: its file 0x02, read without a round; and of one slave more than there are. */
+static void show_contents(void)
+{
+    uint8_t bytes[TTPA_SLAVE_FILE_BYTES];
+    for (uint64_t slave = 0; slave <= cluster[SLAVE_COUNT]; slave++) {
+        uint64_t size = 0;
+        uint8_t number = ttpa_contents(cluster, length, slave, 0x02, bytes, sizeof bytes, &size);
+        if (number != TTPA_ACCEPTED) {
+            print_verdict("file 02", number);
+            return;
+        }
+        printf("file 02 of slave %" PRIu64 ":", slave);
+        for (uint64_t i = 0; i < size; i++) {
+            printf(" %02X", (unsigned)bytes[i]);
+        }
+        fputs(size == 0 ? " none\n" : "\n", stdout);
+    }
+}
+
 int main(int count, char **arguments)
 {
     static const uint8_t names[] = {0x01, 0x02};
@@ -555,6 +576,7 @@ int main(int count, char **arguments)
     show_sleep();
     show_editions();
     show_screens();
+    show_contents();
     show_join();
     show_line();
     print_verdict("a short answer buffer", ttpa_round(cluster, length, round, sizeof round, answer,

@@ -133,6 +133,7 @@ VALUE(TTPA_NO_SCREEN, 8);
 VALUE(TTPA_DATA_BYTE, 0);
 VALUE(TTPA_FIREWORK, 1);
 VALUE(TTPA_BROKEN, 2);
+VALUE(TTPA_SLAVE_FILE_BYTES, 1024);
 
 /* ---- the prototypes */
 
@@ -160,6 +161,7 @@ typedef uint8_t post_type(uint8_t *, uint8_t, uint8_t, uint8_t, uint8_t);
 typedef uint8_t turn_type(uint8_t *, size_t, uint8_t *, uint8_t *, size_t, uint64_t *, uint8_t *);
 typedef uint8_t join_type(const uint8_t *, size_t, const uint8_t *, size_t, uint8_t *, size_t, uint64_t *);
 typedef uint8_t pattern_type(uint16_t, uint8_t *);
+typedef uint8_t contents_type(const uint8_t *, size_t, uint64_t, uint8_t, uint8_t *, size_t, uint64_t *);
 
 PROTOTYPE(ttpa_refusal_text, text_type);
 PROTOTYPE(ttpa_version, version_type);
@@ -183,6 +185,7 @@ PROTOTYPE(ttpa_post, post_type);
 PROTOTYPE(ttpa_turn, turn_type);
 PROTOTYPE(ttpa_join, join_type);
 PROTOTYPE(ttpa_pattern, pattern_type);
+PROTOTYPE(ttpa_contents, contents_type);
 
 /* ---- the comparisons */
 
@@ -1643,6 +1646,61 @@ static void line_patterns(void)
     flipped_patterns();
 }
 
+/* ---- slaves' files */
+
+/* A slave's file, or a part of it, with two bytes more, and its length. */
+static uint8_t contents[14];
+static uint64_t contents_length;
+
+static uint8_t read_contents(const uint8_t *file, size_t n, uint64_t slave, uint8_t number, size_t room)
+{
+    memset(contents, OLD, sizeof contents);
+    contents_length = OLD;
+    return ttpa_contents(file, n, slave, number, room == 0 ? NULL : contents, room, &contents_length);
+}
+
+/* Whether the first bytes of the buffer are those of the second slave's 0x3D in M10, and the others are as they were. */
+static int contents_are(size_t bytes, uint64_t length)
+{
+    static const uint8_t documented[] = {0, 0, 0, 0, 0, 0, 0, 0x07, 0, 0, 0, 0xA0};
+    int stay = 1;
+    for (size_t i = bytes; i < sizeof contents; i++) {
+        stay &= contents[i] == OLD;
+    }
+    return stay && memcmp(contents, documented, bytes) == 0 && contents_length == length;
+}
+
+/* In both editions: room left, just enough, a byte too little, none; then no such slave and no such file. */
+static void contents_of(const uint8_t *file, size_t n)
+{
+    EXPECT(read_contents(file, n, 1, TTPA_FILE_DOCUMENTATION, 14) == TTPA_ACCEPTED && contents_are(12, 12));
+    EXPECT(read_contents(file, n, 1, TTPA_FILE_DOCUMENTATION, 12) == TTPA_ACCEPTED && contents_are(12, 12));
+    EXPECT(read_contents(file, n, 1, TTPA_FILE_DOCUMENTATION, 11) == TTPA_ACCEPTED && contents_are(11, 12));
+    EXPECT(read_contents(file, n, 1, TTPA_FILE_DOCUMENTATION, 0) == TTPA_ACCEPTED && contents_are(0, 12));
+    EXPECT(read_contents(file, n, 0, TTPA_FILE_CONFIGURATION, 0) == TTPA_ACCEPTED && contents_are(0, 16));
+    EXPECT(read_contents(file, n, 2, TTPA_FILE_DOCUMENTATION, 14) == TTPA_ACCEPTED && contents_are(0, 0));
+    EXPECT(read_contents(file, n, UINT64_MAX, TTPA_FILE_DOCUMENTATION, 14) == TTPA_ACCEPTED && contents_are(0, 0));
+    EXPECT(read_contents(file, n, 1, 0x02, 14) == TTPA_ACCEPTED && contents_are(0, 0));
+    EXPECT(read_contents(file, n, 1, 0xFF, 14) == TTPA_ACCEPTED && contents_are(0, 0));
+    EXPECT(read_contents(file, n - 1, 1, TTPA_FILE_DOCUMENTATION, 14) == TTPA_REFUSED_LENGTH_FIELD);
+    EXPECT(contents_are(0, OLD));
+}
+
+static void slave_files(void)
+{
+    contents_of(m10, sizeof m10);
+    contents_of(wide_m10, sizeof wide_m10);
+    EXPECT(read_contents(NULL, 0, 0, TTPA_FILE_CONFIGURATION, 14) == TTPA_REFUSED_FILE_SIZE && contents_are(0, OLD));
+    /* both slaves named 0x05, and the second asleep: it is read all the same */
+    renew();
+    cluster[FIRST_NAME] = 0x05;
+    cluster[SECOND_NAME] = 0x05;
+    cluster[SECOND_SLEEP] = 1;
+    EXPECT(ttpa_check(cluster, sizeof cluster) == TTPA_REFUSED_EQUAL_LOGICAL_NAMES);
+    EXPECT(read_contents(cluster, sizeof cluster, 1, TTPA_FILE_DOCUMENTATION, 12) == TTPA_ACCEPTED);
+    EXPECT(contents_are(12, 12));
+}
+
 int main(void)
 {
     EXPECT(ttpa_version() == TTPA_VERSION);
@@ -1676,6 +1734,7 @@ int main(void)
     shared_turns();
     joined_files();
     line_patterns();
+    slave_files();
     printf("%d comparisons, %d failed\n", comparisons, failures);
     return failures == 0 ? 0 : 1;
 }

@@ -389,6 +389,17 @@ static int holds_join(const struct vector *v)
     return is_written(v, refusal, length, &third);
 }
 
+static int holds_contents(const struct vector *v)
+{
+    uint64_t length = UNTOLD;
+    uint8_t refusal;
+    if (!take_bytes(v->given[0], &first) || !take_answer(v->given[3], &third)) {
+        return 0;
+    }
+    refusal = ttpa_contents(first.at, first.n, number(v->given[1]), byte(v->given[2]), third.at, third.n, &length);
+    return is_written(v, refusal, length, &third);
+}
+
 static int holds_fill(const struct vector *v)
 {
     uint64_t count = UNTOLD;
@@ -542,6 +553,7 @@ static const struct {
     {"turn", 3, 6, holds_turn},
     {"pattern", 1, 1, holds_pattern},
     {"patterns", 1, 1, holds_patterns},
+    {"contents", 4, 3, holds_contents},
     {"two", 3, 1, holds_two},
 };
 

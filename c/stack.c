@@ -4,8 +4,8 @@
  * another value afterwards is the deepest that was used. The calls are made on a cluster file of the
  * greatest length with the most slaves in each edition: every kind of frame, a whole naming run over all names, both
  * without and with a summary, the frames again as a trace, owner files, conversions, turns of all screens, joins, and
- * refusals; and every pattern of the line is told. All of it runs three times: first to have the linker's work done, then
- * with two different fillings, since a byte may be written with the value that it has. */
+ * refusals; every file of every slave is read, and every pattern of the line is told. All of it runs three times: first to
+ * have the linker's work done, then with two different fillings, since a byte may be written with the value that it has. */
 #define _XOPEN_SOURCE 700
 #include <stdio.h>
 #include <string.h>
@@ -46,6 +46,10 @@ static uint8_t state[TTPA_SCREENS_BYTES];
 static uint8_t screen;
 static uint16_t pattern;
 static uint8_t kind_of_pattern;
+static uint64_t slave;
+static uint8_t file_number;
+static uint8_t contents[TTPA_SLAVE_FILE_BYTES];
+static uint64_t contents_length;
 static uint8_t number;
 static uint32_t version;
 
@@ -273,6 +277,11 @@ static void pattern_call(void)
     number = ttpa_pattern(pattern, &kind_of_pattern);
 }
 
+static void contents_call(void)
+{
+    number = ttpa_contents(cluster, cluster_bytes, slave, file_number, contents, sizeof contents, &contents_length);
+}
+
 enum kind {
     NOTHING,
     VERSION,
@@ -296,6 +305,7 @@ enum kind {
     TURN,
     JOIN,
     PATTERN,
+    CONTENTS,
     KINDS
 };
 
@@ -327,6 +337,7 @@ static const struct call calls[KINDS] = {
     [TURN] = {"ttpa_turn", turn_call},
     [JOIN] = {"ttpa_join", join_call},
     [PATTERN] = {"ttpa_pattern", pattern_call},
+    [CONTENTS] = {"ttpa_contents", contents_call},
 };
 
 /* The most stack that a call of each kind has used. */
@@ -666,6 +677,24 @@ static void tell_patterns(void)
     make(PATTERN, TTPA_REFUSED_PATTERN);
 }
 
+/* Every number of the first slave, of the last and of the one behind it; then a refused file. */
+static void read_files(void)
+{
+    const uint64_t asked[] = {0, slaves - 1, slaves};
+    for (size_t i = 0; i < sizeof asked / sizeof *asked; i++) {
+        slave = asked[i];
+        for (file_number = 0; file_number <= 64; file_number++) {
+            make(CONTENTS, TTPA_ACCEPTED);
+            int there = slave < slaves && (file_number == TTPA_FILE_CONFIGURATION || file_number == TTPA_FILE_DOCUMENTATION);
+            failed |= there && contents_length == 0;
+            failed |= (slave == slaves || file_number == 64) && contents_length != 0;
+        }
+    }
+    cluster[0] ^= 1;
+    make(CONTENTS, TTPA_REFUSED_MARK);
+    cluster[0] ^= 1;
+}
+
 static void all_calls_on(uint8_t of_edition)
 {
     edition = of_edition;
@@ -673,6 +702,7 @@ static void all_calls_on(uint8_t of_edition)
     data_bytes = 0;
     make_cluster();
     check_files();
+    read_files();
     convert();
     join();
     multipartner_rounds();

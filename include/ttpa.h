@@ -1,8 +1,8 @@
 /* The TTP/A cluster engine for C and C++: check a cluster file, read and write frames, carry out rounds on
  * the file, name its slaves, run captured traces, write the owner file, tell who holds a logical name, convert a
- * file between its two editions, serve the reads of several screens in turn, join the files of two clusters and tell
- * the class of a pattern of the line. The words and rules are those of document 01, the scope document, and of document
- * 02, the change requests.
+ * file between its two editions, serve the reads of several screens in turn, join the files of two clusters, tell
+ * the class of a pattern of the line and read a slave's files without a round. The words and rules are those of document
+ * 01, the scope document, and of document 02, the change requests.
  *
  * Numbers. Every call but ttpa_version returns 0 or the number of the ground on which it refused, see enum
  * ttpa_refusal. The comment of a call gives its numbers in the order in which it checks them; the first that
@@ -28,9 +28,9 @@
  *   needs for 64-bit arithmetic, has no data but constants, and does not recurse. Code and constants of all calls, and the most stack that a
  *   call uses, without what memcpy, memset and the compiler's own functions take, with gcc 12.2 at -Os:
  *
- *       Cortex-M4   16,008 bytes of code, 2,140 of stack
- *       Cortex-M0   18,436 bytes of code, 2,228 of stack
- *       RV32IMAC    20,288 bytes of code, 2,112 of stack
+ *       Cortex-M4   16,168 bytes of code, 2,140 of stack
+ *       Cortex-M0   18,616 bytes of code, 2,228 of stack
+ *       RV32IMAC    20,534 bytes of code, 2,112 of stack
  *
  *   With -ffunction-sections and -Wl,--gc-sections a program has only what the calls that it makes need. */
 #ifndef TTPA_H
@@ -51,13 +51,13 @@ extern "C" {
  * A call that is lent an array of another size than before gets another name, so that a program with an older header
  * does not link (docs/DECISIONS.md has what was before 1.0.0). */
 #define TTPA_VERSION_MAJOR 1
-#define TTPA_VERSION_MINOR 0
+#define TTPA_VERSION_MINOR 1
 #define TTPA_VERSION_PATCH 0
 #define TTPA_VERSION (10000 * TTPA_VERSION_MAJOR + 100 * TTPA_VERSION_MINOR + TTPA_VERSION_PATCH)
 
 /* What libttpa.a takes: code and constants of all calls, and the most stack that a call uses, with its
  * return address and arguments. No other memory. Both are measured, and rounded up. */
-#define TTPA_CODE_BYTES 19968
+#define TTPA_CODE_BYTES 20480
 #define TTPA_STACK_BYTES 2048
 
 /* What the calls return: 0, or the documents' number for the ground on which something was refused. */
@@ -241,6 +241,9 @@ static inline const char *ttpa_refusal_text(uint8_t number)
 /* The most slaves that a cluster file has, and of those of edition 1. */
 #define TTPA_MOST_SLAVES 64
 #define TTPA_EDITION_1_SLAVES 32
+
+/* The most bytes of a slave's file, 4 for each of records 0x00 to 255. */
+#define TTPA_SLAVE_FILE_BYTES 1024
 
 /* No file of edition 1 has more bytes than this when it is converted to edition 2. */
 #define TTPA_WIDENED_BYTES 41096
@@ -562,9 +565,19 @@ uint8_t ttpa_turn(uint8_t *file, size_t n, uint8_t state[TTPA_SCREENS_BYTES], ui
  * *length bytes of out, and no other, are written. */
 uint8_t ttpa_join(const uint8_t *first, size_t n, const uint8_t *second, size_t m, uint8_t *out, size_t room,
                   uint64_t *length);
+
 /* Tells the class of a pattern of the line.
  * Refuses by 31, for a pattern above 511. On 0 *kind is TTPA_DATA_BYTE, TTPA_FIREWORK or TTPA_BROKEN. */
 uint8_t ttpa_pattern(uint16_t pattern, uint8_t *kind);
+
+/* Reads a file of a slave from the cluster file of n bytes, with record 0x00 in front: slave is its place in the slave
+ * table, 0 the first, and number the file's. No round is made, so it also tells of an unnamed or sleeping slave, and the
+ * cluster file, its epoch and its pending operation stay as they are.
+ * Refuses by 1, 2, 3, 4, 5, 6, 7, 8 in this order. On 0 *length is the length of that file, 0 where there is no such
+ * slave or no such file. The front of the k bytes at buffer is the file, or as much of it as they have room for, and no
+ * other byte is written; a buffer of 0 bytes asks for the length alone, and TTPA_SLAVE_FILE_BYTES are always enough. */
+uint8_t ttpa_contents(const uint8_t *file, size_t n, uint64_t slave, uint8_t number, uint8_t *buffer, size_t k,
+                      uint64_t *length);
 
 #ifdef __cplusplus
 }

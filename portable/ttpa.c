@@ -68,10 +68,40 @@ typedef struct {
     } as;
 } file_survey_FileAnswer;
 
+/* file::records::FileBytes. Where a slave keeps a file, and how many bytes it has. */
+typedef struct {
+    uint64_t place;
+    uint64_t size;
+} file_records_FileBytes;
+
+/* file::records::FilePlace. */
+typedef struct {
+    uint8_t tag; /* 0 Bytes, 1 NoFile */
+    union {
+        struct {
+            file_records_FileBytes f0;
+        } Bytes;
+    } as;
+} file_records_FilePlace;
+
 typedef struct {
     uint8_t *at;
     uint64_t len;
 } slice_mut_u8;
+
+/* contents::read::ContentsAnswer. A cluster file is refused, or the slave's file has so many bytes: none
+ * where there is no such slave or file. */
+typedef struct {
+    uint8_t tag; /* 0 Refused, 1 Size */
+    union {
+        struct {
+            file_types_Refusal f0;
+        } Refused;
+        struct {
+            uint64_t f0;
+        } Size;
+    } as;
+} contents_read_ContentsAnswer;
 
 /* summary::fill::Filling. A file is refused, or its slaves' names are filled in, with how many there are. */
 typedef struct {
@@ -118,22 +148,6 @@ typedef struct {
         } Written;
     } as;
 } join_join_Joining;
-
-/* file::records::FileBytes. Where a slave keeps a file, and how many bytes it has. */
-typedef struct {
-    uint64_t place;
-    uint64_t size;
-} file_records_FileBytes;
-
-/* file::records::FilePlace. */
-typedef struct {
-    uint8_t tag; /* 0 Bytes, 1 NoFile */
-    union {
-        struct {
-            file_records_FileBytes f0;
-        } Bytes;
-    } as;
-} file_records_FilePlace;
 
 /* multipartner::round_files::RoundFile. Where a slave's entries of a round begin, and where they end. */
 typedef struct {
@@ -1301,6 +1315,133 @@ uint8_t ttpa_check(const uint8_t *file_at, size_t file_len)
     }
 }
 
+/* file::records::search_directory. What a directory states for a file number. */
+static inline file_records_FilePlace file_records_search_directory(slice_u8 file, uint64_t width,
+        uint64_t directory, uint64_t count, uint64_t number)
+{
+    uint64_t entry_size = 2 * width;
+    uint64_t end = directory + entry_size * count;
+    uint64_t entry = directory;
+    while (entry < end) {
+        if (file_numbers_byte_at(file, entry) == number) {
+            uint64_t last = file_numbers_byte_at(file, entry + 1);
+            uint64_t place = file_numbers_offset_at(file, width, entry + width);
+            uint64_t size = 4 * (last + 1);
+            return (file_records_FilePlace){.tag = 0, .as.Bytes.f0 = (file_records_FileBytes){.place = place,
+                    .size = size}};
+        }
+        entry = entry + entry_size;
+    }
+    return (file_records_FilePlace){.tag = 1};
+}
+
+/* file::records::find_file_at. Where a slave keeps a file, or that it has none, at the file's width. */
+static inline file_records_FilePlace file_records_find_file_at(slice_u8 file, uint64_t width, uint64_t slave,
+        file_types_FileNumber number)
+{
+    uint64_t table = 8 + 4 * width;
+    uint64_t size = 2 * width;
+    uint64_t entry = table + size * slave;
+    uint64_t directory = file_numbers_offset_at(file, width, entry);
+    uint64_t count = file_numbers_byte_at(file, entry + width);
+    return file_records_search_directory(file, width, directory, count, (uint64_t)number.f0);
+}
+
+/* file::records::find_file. The same, each width as a literal, since a round asks it of every slave. */
+static inline file_records_FilePlace file_records_find_file(slice_u8 file, uint64_t slave,
+        file_types_FileNumber number)
+{
+    if (file.at[2] == 2) {
+        return file_records_find_file_at(file, 4, slave, number);
+    }
+    return file_records_find_file_at(file, 2, slave, number);
+}
+
+/* contents::read::lesser. */
+static inline uint64_t contents_read_lesser(uint64_t a, uint64_t b)
+{
+    if (a < b) {
+        return a;
+    }
+    return b;
+}
+
+/* bytes::copy. */
+static inline uint64_t bytes_copy(slice_u8 t1, slice_mut_u8 t2)
+{
+    uint64_t t3 = 0;
+    while (t3 < t1.len) {
+        t2.at[t3] = t1.at[t3];
+        t3 = t3 + 1;
+    }
+    return t1.len;
+}
+
+/* contents::read::put_front. The first bytes of a part of the file, as many as the buffer has room for, put
+ * in front of whatever else it holds. */
+static inline void contents_read_put_front(slice_u8 file, uint64_t place, uint64_t size, slice_mut_u8 buffer)
+{
+    uint64_t end = place + contents_read_lesser(size, buffer.len);
+    (void)bytes_copy((slice_u8){cut_u8(file.at, place), end - place}, buffer);
+}
+
+/* contents::read::read_contents. A file of the slave at a place of the table: the cluster file is refused by
+ * its number, with the buffer as it was, or the buffer has in front as many of the file's bytes as it has
+ * room for. The cluster file is checked once and not altered. */
+static inline contents_read_ContentsAnswer contents_read_read_contents(slice_u8 file, uint64_t slave,
+        file_types_FileNumber number, slice_mut_u8 buffer)
+{
+    uint16_t places[130];
+    memset(places, 0, sizeof places);
+    file_survey_FileAnswer surveyed = file_survey_survey(file, places);
+    switch (surveyed.tag) {
+    case 1: {
+        file_types_Refusal why = surveyed.as.Refused.f0;
+        return (contents_read_ContentsAnswer){.tag = 0, .as.Refused.f0 = why};
+    }
+    case 0:
+    default: {
+        if (file_readers_slave_count(file) <= slave) {
+            return (contents_read_ContentsAnswer){.tag = 1, .as.Size.f0 = 0};
+        }
+        file_records_FilePlace found = file_records_find_file(file, slave, number);
+        file_records_FileBytes bytes;
+        switch (found.tag) {
+        case 0:
+            bytes = found.as.Bytes.f0;
+            break;
+        case 1:
+        default:
+            return (contents_read_ContentsAnswer){.tag = 1, .as.Size.f0 = 0};
+        }
+        contents_read_put_front(file, bytes.place, bytes.size, buffer);
+        return (contents_read_ContentsAnswer){.tag = 1, .as.Size.f0 = bytes.size};
+    }
+    }
+}
+
+/* ttpa::ttpa_contents. */
+uint8_t ttpa_contents(const uint8_t *file_at, size_t file_len, uint64_t slave, uint8_t number,
+        uint8_t *buffer_at, size_t buffer_len, uint64_t *length)
+{
+    slice_u8 file = {file_at, file_len};
+    slice_mut_u8 buffer = {buffer_at, buffer_len};
+    contents_read_ContentsAnswer read = contents_read_read_contents(file, slave,
+            (file_types_FileNumber){.f0 = number}, buffer);
+    switch (read.tag) {
+    case 0: {
+        file_types_Refusal why = read.as.Refused.f0;
+        return why.f0;
+    }
+    case 1:
+    default: {
+        uint64_t told = read.as.Size.f0;
+        *length = told;
+        return 0;
+    }
+    }
+}
+
 /* file::readers::logical_names. Each slave's logical name, in the order of the slave table, put in front of
  * whatever else the lent slice holds. */
 static inline void file_readers_logical_names(slice_u8 file, const uint16_t *places, slice_mut_u8 names)
@@ -1552,17 +1693,6 @@ static inline void join_form_put_joined_header(slice_mut_u8 out, uint64_t width,
     convert_header_put_front(out, width, count, size);
     uint64_t fields = 4 + 2 * width;
     convert_put_put_zeros(out, fields, 5 + 2 * width - 1);
-}
-
-/* bytes::copy. */
-static inline uint64_t bytes_copy(slice_u8 t1, slice_mut_u8 t2)
-{
-    uint64_t t3 = 0;
-    while (t3 < t1.len) {
-        t2.at[t3] = t1.at[t3];
-        t3 = t3 + 1;
-    }
-    return t1.len;
 }
 
 /* convert::put::put_run. The bytes of a file from one place up to another. */
@@ -1952,48 +2082,6 @@ static inline uint8_t owner_rounds_index_byte(uint64_t round, uint64_t start)
         return 0;
     }
     return (uint8_t)(3 + start / 4);
-}
-
-/* file::records::search_directory. What a directory states for a file number. */
-static inline file_records_FilePlace file_records_search_directory(slice_u8 file, uint64_t width,
-        uint64_t directory, uint64_t count, uint64_t number)
-{
-    uint64_t entry_size = 2 * width;
-    uint64_t end = directory + entry_size * count;
-    uint64_t entry = directory;
-    while (entry < end) {
-        if (file_numbers_byte_at(file, entry) == number) {
-            uint64_t last = file_numbers_byte_at(file, entry + 1);
-            uint64_t place = file_numbers_offset_at(file, width, entry + width);
-            uint64_t size = 4 * (last + 1);
-            return (file_records_FilePlace){.tag = 0, .as.Bytes.f0 = (file_records_FileBytes){.place = place,
-                    .size = size}};
-        }
-        entry = entry + entry_size;
-    }
-    return (file_records_FilePlace){.tag = 1};
-}
-
-/* file::records::find_file_at. Where a slave keeps a file, or that it has none, at the file's width. */
-static inline file_records_FilePlace file_records_find_file_at(slice_u8 file, uint64_t width, uint64_t slave,
-        file_types_FileNumber number)
-{
-    uint64_t table = 8 + 4 * width;
-    uint64_t size = 2 * width;
-    uint64_t entry = table + size * slave;
-    uint64_t directory = file_numbers_offset_at(file, width, entry);
-    uint64_t count = file_numbers_byte_at(file, entry + width);
-    return file_records_search_directory(file, width, directory, count, (uint64_t)number.f0);
-}
-
-/* file::records::find_file. The same, each width as a literal, since a round asks it of every slave. */
-static inline file_records_FilePlace file_records_find_file(slice_u8 file, uint64_t slave,
-        file_types_FileNumber number)
-{
-    if (file.at[2] == 2) {
-        return file_records_find_file_at(file, 4, slave, number);
-    }
-    return file_records_find_file_at(file, 2, slave, number);
 }
 
 /* multipartner::round_files::planned_file. The entries planned for a slave, awake or asleep. */
@@ -4544,7 +4632,7 @@ uint8_t ttpa_turn(uint8_t *file_at, size_t file_len, uint8_t state[33], uint8_t 
 /* ttpa::ttpa_version. */
 uint32_t ttpa_version(void)
 {
-    return 10000;
+    return 10100;
 }
 
 /* naming::names::marked_ground. Both grounds in one loop without an exit, from the last name to the first:

@@ -44,6 +44,7 @@ require() {
     command -v "$cc" >/dev/null || fail "missing: C compiler ($cc)"
     command -v "$cxx" >/dev/null || fail "missing: C++ compiler ($cxx)"
     command -v nm >/dev/null && command -v size >/dev/null || fail "missing: nm and size"
+    command -v script >/dev/null || fail "missing: script (util-linux), which gives the program a terminal"
     [ -f "$TTPA_LIB_DIR/libttpa.a" ] || fail "missing: $TTPA_LIB_DIR/libttpa.a"
     [ -x "$listing" ] || fail "missing: $listing"
     [ "$failed" -eq 0 ] || finish
@@ -324,13 +325,16 @@ document_shows() {
     fi
 }
 
-# The tests of all crates, the wrapper's among them; each test counts.
+# The tests of all crates, the wrapper's and the program's among them; each test counts. Those of the program tell how many files and texts
+# they went through.
 cargo_tests() {
-    if ! (cd rust && cargo test --offline --release -j1 --workspace --no-fail-fast) >"$work/tests" 2>&1; then
+    local count kind name
+    : >"$work/program"
+    if ! (cd rust && TTPA_COUNTS=$work/program cargo test --offline --release -j1 --workspace --no-fail-fast) >"$work/tests" 2>&1; then
         cat "$work/tests"
         fail "cargo test"
     fi
-    local count
+    while read -r kind name count; do counted "$kind" "$name" "$count"; done <"$work/program"
     count=$(sed -n 's/^test result: .* \([0-9]*\) passed;.*/\1/p' "$work/tests" | awk '{ sum += $1 } END { print sum + 0 }')
     if [ "$count" -eq 0 ]; then
         fail "cargo test: no test ran"

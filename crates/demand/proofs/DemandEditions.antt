@@ -30,6 +30,7 @@ use Rattle.screens.proofs.ScreenEditions.{turns-converted}
 use Rattle.convert.specs.Rules.Convert.{convertGrounds, convertGround, convertOn}
 use Rattle.join.specs.Rules.Join.{joinOn}
 use Rattle.join.proofs.JoinEditions.{second-in-either}
+use Rattle.contents.specs.Rules.Contents.{contentsIn, contentsOn}
 use Rattle.naming.specs.Rules.Account.{Named, argumentsGround}
 use Rattle.naming.specs.Rules.Position.{Position, fresh}
 use Rattle.naming.specs.Rules.Pass.{bits}
@@ -40,7 +41,7 @@ use Rattle.naming.proofs.Renaming.{step-value}
 use Rattle.naming.proofs.Summaries.{keeping-step-value}
 use Rattle.naming.proofs.StepEditions.{steps-converted, steps-keeping-converted, names-in}
 use Rattle.ttpa.specs.Rules.Calls.{checkCall, startCall, stepCall, stepWords, stepKeepingCall, roundCall, roundKeepingCall, traceCall}
-use Rattle.ttpa.specs.Rules.Calls.{turnCall, ownerCall, convertCall, joinCall, fillCall, wordsOf, positionIn}
+use Rattle.ttpa.specs.Rules.Calls.{turnCall, ownerCall, convertCall, joinCall, fillCall, contentsCall, wordsOf, positionIn}
 use Rattle.demand.specs.Claims.Traces.{halfwayFrom}
 use Rattle.demand.specs.Claims.DemandCalls.{CCall, GivenBytes, given-step, given-step-keeping, given-frame, given-frame-keeping}
 use Rattle.demand.specs.Claims.DemandCalls.{given-trace, given-turn, Memory, returned, memoryAfter, afterCalls}
@@ -79,8 +80,15 @@ join-same {f} {e} first out convertible =
     second-in-either first f e out
     (record { bytes = convertible .bytes; accepted = convertible .accepted; width = convertible .width; room = convertible .room })
 
+-- a slave's file is that of the slaves
+contents-same :
+    {f : List ℕ} {e : ℕ} (slave number : ℕ) (buffer : List ℕ) → Convertible f e →
+    contentsOn (inEdition f e) slave number buffer ≡ contentsOn f slave number buffer
+unfolding contentsOn contentsIn
+contents-same slave number buffer convertible = rw (form convertible .accepted, convertible .accepted, slaves-same convertible)
+
 pub all-calls-alike : AllCallsAlike
-unfolding roundCall roundKeepingCall stepCall stepKeepingCall traceCall turnCall ownerCall convertCall joinCall fillCall
+unfolding roundCall roundKeepingCall stepCall stepKeepingCall traceCall turnCall ownerCall convertCall joinCall fillCall contentsCall
 all-calls-alike f e convertible =
     record {
       check = check-same convertible;
@@ -95,6 +103,7 @@ all-calls-alike f e convertible =
       convert = λ d out length. rw (conversion-same d out convertible);
       joinSecond = λ first out length. rw (join-same first out convertible);
       fill = λ held count. rw (filling-converted f e held convertible);
+      contents = λ slave number buffer length. rw (contents-same slave number buffer convertible);
     }
 
 -- ---- the frames of a trace

@@ -67,6 +67,10 @@ use Rattle.line.specs.declared.pattern.PatternAnswer.{PatternAnswer}
 use Rattle.line.specs.declared.pattern.PatternAnswer.the-variants as patterns
 use Rattle.line.specs.declared.pattern.PatternClass.{PatternClass}
 use Rattle.line.specs.declared.pattern.PatternClass.the-variants as classes
+use Rattle.contents.specs.Rules.Contents.{contentsOn}
+use Rattle.contents.specs.Inner.ContentsAnswers.{sizeOf}
+use Rattle.contents.specs.declared.read.ContentsAnswer.{ContentsAnswer}
+use Rattle.contents.specs.declared.read.ContentsAnswer.the-variants as contents
 use Rattle.summary.specs.Inner.SummaryAnswers.{filledOf, holderOf}
 use Rattle.summary.specs.declared.fill.Filling.{Filling}
 use Rattle.summary.specs.declared.fill.Filling.the-variants as fillings
@@ -76,7 +80,7 @@ use Rattle.ttpa.specs.Rules.Calls.{lentAfter, checkCall, partBytes, read
 use Rattle.ttpa.specs.Rules.Calls.{convertCall, wordsOf, positionIn, startCall, stepSenders, stepWords, stepCall, fillCall, nobodyPlace, placeOf}
 use Rattle.ttpa.specs.Rules.Calls.{holderCall, sliceOf, roundKeepingCall, stepKeepingCall, screensCall, postCall, noneWaited, turnScreen, turnSenders}
 use Rattle.ttpa.specs.Rules.Calls.{turnCall, joinCall}
-use Rattle.ttpa.specs.Rules.Calls.{classNumber, patternCall}
+use Rattle.ttpa.specs.Rules.Calls.{classNumber, patternCall, contentsCall}
 use Rattle.ttpa.specs.Inner.Told.{roundTold, stepTold}
 
 -- ---- the checker
@@ -392,3 +396,19 @@ module _ (pattern kind : ℕ) {a : PatternAnswer} (is : readOf a ≡ patternOn p
       {c : PatternClass} {n : ℕ} → a ≡ patterns.Read c → n ≡ classNumber (classIn c) → (0, n) ≡ patternCall pattern kind
   unfolding patternCall numberIn lentAfter readOf
   pattern-reads {c} e same = let r : done (classIn c) ≡ patternOn pattern = rw e at is in rw (← r, same)
+
+-- ---- a slave's file
+
+module _ (file : List ℕ) (slave number : ℕ) (buffer : List ℕ) (length : ℕ) {buffer′ : List ℕ} (a : ContentsAnswer)
+    (is : (sizeOf a, buffer′) ≡ contentsOn file slave number buffer) where
+  pub contents-refuses : {why : Refusal} → a ≡ contents.Refused why → (why .0, length, buffer′) ≡ contentsCall file slave number buffer length
+  unfolding contentsCall numberIn lentAfter sizeOf
+  contents-refuses {why} e =
+      let r : (refused (why .0), buffer′) ≡ contentsOn file slave number buffer = rw e at is in
+      rw (← r)
+
+  pub contents-reads : {size : ℕ} → a ≡ contents.Size size → (0, size, buffer′) ≡ contentsCall file slave number buffer length
+  unfolding contentsCall numberIn lentAfter sizeOf
+  contents-reads {size} e =
+      let r : (done size, buffer′) ≡ contentsOn file slave number buffer = rw e at is in
+      rw (← r)

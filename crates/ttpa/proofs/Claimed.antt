@@ -7,6 +7,7 @@ use Rattle.ttpa.specs.Claims.Turns.{ScreensStart, PostNumbers, TurnNumbe
 use Rattle.ttpa.specs.Claims.Turns.{TurnsAreRounds, TurnKeepsSummary, FairOverCalls, PostedIsServed}
 use Rattle.ttpa.specs.Claims.Join.{JoinNumbers, JoinWritten, JoinLeft, JoinsConverted}
 use Rattle.ttpa.specs.Claims.Patterns.{PatternsTold, ParityTold, FlippedIsNotTold, ToldFireworksApart}
+use Rattle.ttpa.specs.Claims.Contents.{ContentsNumbers, ContentsLeft, LengthAlone}
 use Rattle.ttpa.proofs.HolderLaws.{holder-tells-first}
 use Rattle.ttpa.proofs.Numbers.{refused-by-numbers}
 use Rattle.ttpa.proofs.Refusals.{refusals-alter-nothing}
@@ -15,6 +16,7 @@ use Rattle.ttpa.proofs.Turns.{screens-start, post-numbers, turn-numbers
 use Rattle.ttpa.proofs.Turns.{turns-are-rounds, turn-keeps-summary-call, fair-over-calls, posted-is-served}
 use Rattle.ttpa.proofs.Joins.{join-numbers, join-written-call, join-left-call, joins-converted}
 use Rattle.ttpa.proofs.Patterns.{patterns-told, parity-told, flipped-is-not-told, told-fireworks-apart}
+use Rattle.ttpa.proofs.Contents.{contents-numbers, contents-left, length-alone}
 
 pub held-refused-by-numbers : RefusedByNumbers
 held-refused-by-numbers = refused-by-numbers
@@ -87,3 +89,12 @@ held-flipped-is-not-told = flipped-is-not-told
 
 pub held-told-fireworks-apart : ToldFireworksApart
 held-told-fireworks-apart = told-fireworks-apart
+
+pub held-contents-numbers : ContentsNumbers
+held-contents-numbers = contents-numbers
+
+pub held-contents-left : ContentsLeft
+held-contents-left = contents-left
+
+pub held-length-alone : LengthAlone
+held-length-alone = length-alone

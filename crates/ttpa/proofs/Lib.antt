@@ -15,5 +15,7 @@ pub mod Joins
 -- patterns of the line
 pub mod Patterns
 pub mod PatternExamples
+-- a slave's file
+pub mod Contents
 -- each claim with its theorem
 pub mod Claimed

@@ -14,8 +14,9 @@ use Rattle.file.specs.Rules.Order.{Ground, firstOf}
 use Rattle.file.specs.Rules.Results.{refused, resultOf, numberIn}
 use Rattle.file.specs.Rules.Cluster.{Cluster}
 use Rattle.file.specs.Rules.Decode.{decode}
-use Rattle.file.specs.Rules.FileGrounds.{fileGroundsAt, fileGrounds, loadGround, loadVerdict}
+use Rattle.file.specs.Rules.FileGrounds.{fileGroundsAt, fileGrounds, fileGround, loadGround, loadVerdict}
 use Rattle.file.proofs.Order.{byCase}
+use Rattle.file.proofs.Results.{file-first}
 use Rattle.file.proofs.Width.{two-widths}
 use Rattle.frame.specs.Rules.Fireworks.{Round, multipartner, msd, msa, noRound}
 use Rattle.frame.specs.Rules.Reading.{readGround, partsOf, readAddress}
@@ -37,7 +38,8 @@ use Rattle.ttpa.specs.Rules.Calls.{checkCall, readAddressCall, writeAddr
 use Rattle.ttpa.specs.Rules.Calls.{positionIn, startCall, stepCall, fillCall, holderCall, roundKeepingCall, stepKeepingCall, screensCall, postCall}
 use Rattle.ttpa.specs.Rules.Calls.{turnCall, joinCall}
 use Rattle.line.specs.Rules.Patterns.{classOf, patternGround, patternOn}
-use Rattle.ttpa.specs.Rules.Calls.{patternCall}
+use Rattle.contents.specs.Rules.Contents.{contentsOn}
+use Rattle.ttpa.specs.Rules.Calls.{patternCall, contentsCall}
 use Rattle.ttpa.specs.Claims.Numbers.{OneOf, here, later, ZeroOr, fileNumbers, RefusedByNumbers}
 
 -- ---- the first ground that holds
@@ -105,6 +107,11 @@ convert-number edition file out length = byCase (eqb (convertGround file edition
 pub join-number : (first second out : List ℕ) (length : ℕ) → joinCall first second out length .0 ≡ joinGround first second out
 unfolding joinCall joinOn numberIn
 join-number first second out length = byCase (eqb (joinGround first second out) 0) (λ e. rw e (sym (eqb-true _ _ e))) (λ e. rw e)
+
+pub contents-number :
+    (file : List ℕ) (slave number : ℕ) (buffer : List ℕ) (length : ℕ) → contentsCall file slave number buffer length .0 ≡ fileGround file
+unfolding contentsCall contentsOn numberIn
+contents-number file slave number buffer length = byCase (eqb (fileGround file) 0) (λ e. rw e (sym (eqb-true _ _ e))) (λ e. rw e)
 
 step-number : (file run names answer : List ℕ) (senders : ℕ) → stepCall file run names answer senders .0 ≡ stepGround file (positionIn run) names answer
 unfolding stepCall stepOn stepMade numberIn
@@ -190,6 +197,10 @@ widen-numbers file out b =
 join-numbers : (first second out : List ℕ) → ZeroOr (joinGround first second out) (fileNumbers ++ 29 ∷ 30 ∷ [])
 unfolding joinGround joinGrounds fileGrounds fileGroundsAt numbersOf
 join-numbers first second out = split (0 ∷ fileNumbers) (in-front (29 ∷ 30 ∷ [])) later (first-number _)
+
+file-numbers : (file : List ℕ) → ZeroOr (fileGround file) fileNumbers
+unfolding fileGrounds fileGroundsAt numbersOf
+file-numbers file = rw (← file-first file) (first-number (fileGrounds file))
 
 start-numbers : (names : List ℕ) → ZeroOr (startGround names) (15 ∷ 16 ∷ [])
 unfolding startGround namesGrounds numbersOf
@@ -315,4 +326,5 @@ refused-by-numbers =
       post = λ state i name file record′. rw (post-number state i name file record′) (post-numbers state i name file record′);
       turn = λ file state answer senders told. rw (turn-number file state answer senders told) (turn-numbers file state answer);
       pattern = pattern-returns;
+      contents = λ file slave number buffer length. rw (contents-number file slave number buffer length) (file-numbers file);
     }

@@ -8,6 +8,7 @@ use mathlib.Core.Bool.{cond}
 use lib.Dec.{eqb}
 use borrow.Author.Tests.{eqb-true}
 use Rattle.file.specs.Rules.Results.{Result, refused, done, resultOf, numberIn}
+use Rattle.file.specs.Rules.FileGrounds.{fileGround}
 use Rattle.file.proofs.Order.{byCase}
 use Rattle.frame.specs.Rules.Reading.{readAddress}
 use Rattle.frame.specs.Rules.Frames.{addressFrame, dataFrame}
@@ -30,7 +31,8 @@ use Rattle.ttpa.specs.Rules.Calls.{lentAfter, partBytes, readAddressCall
 use Rattle.ttpa.specs.Rules.Calls.{positionIn, wordsOf, startCall, stepSenders, stepWords, stepCall, fillCall, placeOf, holderCall, sliceOf}
 use Rattle.ttpa.specs.Rules.Calls.{roundKeepingCall, stepKeepingCall, postCall, turnScreen, turnSenders, turnCall, joinCall}
 use Rattle.line.specs.Rules.Patterns.{patternOn}
-use Rattle.ttpa.specs.Rules.Calls.{classNumber, patternCall}
+use Rattle.contents.specs.Rules.Contents.{contentsOn}
+use Rattle.ttpa.specs.Rules.Calls.{classNumber, patternCall, contentsCall}
 use Rattle.ttpa.specs.Claims.Refusals.{RefusalsAlterNothing}
 use Rattle.ttpa.proofs.Numbers.{turn-number}
 
@@ -100,6 +102,12 @@ join-kept :
     joinCall first second out length ≡ (n, length, out)
 unfolding joinCall joinOn
 join-kept first second out length n some e = answer-kept (joinGround first second out) _ _ out length (λ (written : ℕ). written) n some e
+
+contents-kept :
+    (file : List ℕ) (slave number : ℕ) (buffer : List ℕ) (length n : ℕ) → n ≢ 0 → contentsCall file slave number buffer length .0 ≡ n →
+    contentsCall file slave number buffer length ≡ (n, length, buffer)
+unfolding contentsCall contentsOn
+contents-kept file slave number buffer length n some e = answer-kept (fileGround file) _ _ buffer length (λ (size : ℕ). size) n some e
 
 -- ---- a run
 
@@ -180,6 +188,7 @@ refusals-alter-nothing =
       owner = owner-kept;
       convert = convert-kept;
       join = join-kept;
+      contents = contents-kept;
       start = λ names run n some e. lent-kept (startOver names) run wordsOf n some e;
       step = step-kept;
       fill = fill-kept;

@@ -3,7 +3,7 @@
 ghost use mathlib.Core.Path.{_≡_};
 ghost use mathlib.Core.List.{[], _∷_};
 ghost use Rattle.ttpa.specs.Rules.Calls.{versionCall, checkCall, readAddressCall, writeAddressCall, writeDataCall, roundCall, traceCall, ownerCall, convertCall, wordsOf, positionIn, startCall};
-ghost use Rattle.ttpa.specs.Rules.Calls.{stepCall, fillCall, holderCall, roundKeepingCall, stepKeepingCall, screensCall, postCall, turnCall, joinCall, classNumber, patternCall};
+ghost use Rattle.ttpa.specs.Rules.Calls.{stepCall, fillCall, holderCall, roundKeepingCall, stepKeepingCall, screensCall, postCall, turnCall, joinCall, classNumber, patternCall, contentsCall};
 ghost use Rattle.ttpa.specs.Inner.Told.{roundTold, stepTold};
 ghost use Rattle.cluster.specs.Inner.RoundAnswers.{answerOf};
 ghost use Rattle.convert.specs.Inner.ConversionAnswers.{editionIn};
@@ -16,6 +16,8 @@ ghost use Rattle.trace.specs.Inner.TraceAnswers.{reportIn};
 ghost use Rattle.trace.specs.Inner.Sent.{FewFrames};
 use cluster::answer::RoundAnswer;
 use cluster::round::round;
+use contents::read::ContentsAnswer;
+use contents::read::read_contents;
 use convert::convert::Conversion;
 use convert::convert::convert;
 use convert::editions::Edition;
@@ -63,7 +65,7 @@ use trace::run::TraceAnswer;
 use trace::run::run_trace;
 
 // The version, as one number: its three numbers stand in specs/Rules/Calls.
-const VERSION: u32 = 10000;
+const VERSION: u32 = 10100;
 
 // The parts of an address frame.
 pub const PARTS: usize = 5;
@@ -517,6 +519,26 @@ pub extern "C" fn ttpa_pattern(pattern: u16, kind: &mut u8) -> u8
         PatternAnswer::Refused(why) => why.0,
         PatternAnswer::Read(class) => {
             *kind = class_number(class);
+            0
+        }
+    }
+}
+
+#[no_mangle]
+pub extern "C" fn ttpa_contents(
+    file: &[u8],
+    slave: u64,
+    number: u8,
+    buffer: &mut [u8],
+    length: &mut u64,
+) -> u8
+    ensures { λ r. ⌜ (r, now (length .exit), now (buffer .exit)) ≡ contentsCall (now (file .entry)) slave number (now (buffer .entry)) (now (length .entry)) ⌝ }
+{
+    let read = read_contents(file, slave as usize, FileNumber(number), buffer);
+    match read {
+        ContentsAnswer::Refused(why) => why.0,
+        ContentsAnswer::Size(told) => {
+            *length = told as u64;
             0
         }
     }

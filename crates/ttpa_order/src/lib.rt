@@ -4,12 +4,13 @@
 ghost use mathlib.Core.Path.{_≡_};
 ghost use mathlib.Core.List.{[], _∷_};
 ghost use Rattle.ttpa.specs.Rules.Calls.{checkCall, readAddressCall, writeAddressCall, writeDataCall, roundCall, traceCall, ownerCall, convertCall, startCall, stepCall, fillCall, holderCall};
-ghost use Rattle.ttpa.specs.Rules.Calls.{roundKeepingCall, stepKeepingCall, screensCall, postCall, turnCall, joinCall, patternCall};
+ghost use Rattle.ttpa.specs.Rules.Calls.{roundKeepingCall, stepKeepingCall, screensCall, postCall, turnCall, joinCall, patternCall, contentsCall};
 use screens::state::ScreenState;
 use ttpa::PARTS;
 use ttpa::REPORT_WORDS;
 use ttpa::WORDS;
 use ttpa::ttpa_check;
+use ttpa::ttpa_contents;
 use ttpa::ttpa_fill;
 use ttpa::ttpa_holder;
 use ttpa::ttpa_join;
@@ -186,4 +187,10 @@ pub fn pattern(pattern: u16, kind: &mut u8) -> u8
     ensures { λ r. ⌜ (r, now (kind .exit)) ≡ patternCall pattern (now (kind .entry)) ⌝ }
 {
     ttpa_pattern(pattern, kind)
+}
+
+pub fn contents(file: &[u8], slave: u64, number: u8, buffer: &mut [u8], length: &mut u64) -> u8
+    ensures { λ r. ⌜ (r, now (length .exit), now (buffer .exit)) ≡ contentsCall (now (file .entry)) slave number (now (buffer .entry)) (now (length .entry)) ⌝ }
+{
+    ttpa_contents(file, slave, number, buffer, length)
 }

@@ -39,6 +39,9 @@ pub fn of(workload: &Workload) -> u64 {
         Workload::Turn { file, state } => round::turn(file, state),
         Workload::Join { first, second, .. } => file::join(&cluster_of(first), &cluster_of(second)),
         Workload::Pattern { .. } => pattern(),
+        Workload::Contents { file, slave, number, buffer } => {
+            contents(&cluster_of(file), *slave as usize, *number, buffer.len())
+        }
     }
 }
 
@@ -70,6 +73,15 @@ fn post() -> u64 {
 /// That it is below 512; its class in a table; that class.
 fn pattern() -> u64 {
     TEST + LOAD + STORE
+}
+
+/// That there is the slave; its table entry; the directory entries up to that of the file; the room; its bytes; their number.
+fn contents(cluster: &Cluster, slave: usize, number: u8, room: usize) -> u64 {
+    let files = &cluster.slaves[slave].files;
+    let place = files.iter().position(|file| file.number.0 == number).expect("a file that is there");
+    let looked_at = place as u64 + 1;
+    let bytes = files[place].bytes.len().min(room);
+    file::walk(cluster) + TEST + LOAD + looked_at * (LOAD + TEST) + TEST + copied(bytes) + STORE
 }
 
 fn loads(bytes: usize) -> u64 {
@@ -177,6 +189,13 @@ mod tests {
     fn of_owners_by_hand() {
         let lists = 6 * (1 + 2 + 15 * (6 + 1));
         assert_eq!(floor("owner-1-15-of-4"), floor("check-1-8") + 2 + lists + 1 + 2 * 13 + 1);
+    }
+
+    /// That there is the slave, its table entry; two directory entries of a load and a test each; the room; 12 bytes moved at once;
+    /// their number.
+    #[test]
+    fn of_contents_by_hand() {
+        assert_eq!(floor("contents-1"), floor("check-1-2") + 2 + 2 * 2 + 1 + 2 + 1);
     }
 
     #[test]

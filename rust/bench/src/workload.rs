@@ -7,7 +7,7 @@ use model::{closed_figures, encode_trace, post, screens, to_edition, Edition, MS
 use std::hint::black_box;
 
 /// The lines of the table.
-pub const TABLE: [&str; 57] = [
+pub const TABLE: [&str; 59] = [
     "check-32-2",
     "check-named-32",
     "check-shared-byte-32",
@@ -53,6 +53,8 @@ pub const TABLE: [&str; 57] = [
     "pattern-data",
     "pattern-firework",
     "pattern-broken",
+    "contents-32",
+    "contents-long",
     "wide-check-32-2",
     "wide-check-64-2",
     "wide-check-most",
@@ -68,6 +70,8 @@ pub const TABLE: [&str; 57] = [
 ];
 
 pub const MOST_OWNER_BYTES: usize = 396;
+/// The most bytes of a slave's file.
+const MOST_SLAVE_FILE_BYTES: usize = 1_024;
 /// The name of slot 0 in an owner file.
 pub const MASTER: u8 = 0x63;
 
@@ -129,6 +133,13 @@ pub enum Workload {
     /// The class of a pattern of the line.
     Pattern {
         pattern: u16,
+    },
+    /// A file of the last slave, read.
+    Contents {
+        file: Vec<u8>,
+        slave: u64,
+        number: u8,
+        buffer: Vec<u8>,
     },
 }
 
@@ -193,6 +204,8 @@ impl Workload {
             ["fill" | "holder" | "keeping", ..] => Workload::WithSummary(WithSummary::of(name)?),
             ["post" | "turn", ..] => Workload::of_screens(&words)?,
             ["pattern", class] => Workload::Pattern { pattern: pattern_of(class)? },
+            ["contents", "long"] => contents(files::owner_of_all(), 0x02),
+            ["contents", slaves] => contents(named(number(slaves)?), 0x3D),
             _ => return None,
         })
     }
@@ -309,6 +322,11 @@ impl Workload {
                 Workload::Post { state, screen } => post_read(engine, *state, *screen),
                 Workload::Turn { file, state } => take_turn(engine, file, *state, &mut answer, &mut senders),
                 Workload::Pattern { pattern } => tell_class(engine, *pattern),
+                Workload::Contents { file, slave, number, buffer } => {
+                    write_file(buffer, |buffer, length| {
+                        engine.contents(black_box(file), *slave, *number, buffer, length)
+                    });
+                }
             }
         }
         black_box(senders);
@@ -417,6 +435,12 @@ fn reads_as_rounds(reads: usize, slaves: usize) -> Workload {
 
 /// The read that screens post: record 1 of 0x3D of one slave.
 const SHOWN: [u8; 3] = [0x11, 0x3D, 1];
+
+/// A file of the last slave of this cluster file, into a buffer that has room for every file.
+fn contents(file: Vec<u8>, number: u8) -> Workload {
+    let slaves = model::check(&file).expect("an accepted file").slaves.len() as u64;
+    Workload::Contents { file, slave: slaves - 1, number, buffer: vec![0; MOST_SLAVE_FILE_BYTES] }
+}
 
 /// A pattern of this class: a data byte 0x55, an MSA, and 0x54 with an odd count of ones.
 fn pattern_of(class: &str) -> Option<u16> {

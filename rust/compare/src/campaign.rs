@@ -3,8 +3,8 @@
 use crate::case::{Call, Outcome};
 use crate::draws::random::Random;
 use crate::draws::{
-    clusters, conversions, inputs, joins, owners, patterns, runs, screens, sleepers, summaries, traces,
-    two_lists,
+    clusters, contents, conversions, inputs, joins, owners, patterns, runs, screens, sleepers, summaries,
+    traces, two_lists,
 };
 use crate::engine::{Engine, Model};
 use crate::frames::MULTIPARTNER;
@@ -42,6 +42,8 @@ pub struct Amounts {
     pub screens: usize,
     pub joins: usize,
     pub patterns: usize,
+    /// Slaves' files that are read.
+    pub contents: usize,
     pub runs: usize,
 }
 
@@ -61,6 +63,7 @@ impl Amounts {
         screens: 40_000,
         joins: 10_000,
         patterns: 20_000,
+        contents: 10_000,
         runs: 65,
     };
 
@@ -80,6 +83,7 @@ impl Amounts {
             screens: self.screens * factor,
             joins: self.joins * factor,
             patterns: self.patterns * factor,
+            contents: self.contents * factor,
             runs: self.runs * factor,
         }
     }
@@ -100,6 +104,7 @@ impl Amounts {
             screens: self.screens / divisor,
             joins: self.joins / divisor,
             patterns: self.patterns / divisor,
+            contents: self.contents / divisor,
             runs: self.runs / divisor,
         }
     }
@@ -185,6 +190,7 @@ impl<'a> Campaign<'a> {
         screens::posts_and_turns(self, amounts.screens, &mut Random::from_seed(seed ^ 19));
         joins::joins(self, amounts.joins, &mut Random::from_seed(seed ^ 20));
         patterns::patterns(self, amounts.patterns, &mut Random::from_seed(seed ^ 21));
+        contents::contents(self, amounts.contents, &mut Random::from_seed(seed ^ 22));
         self.runs(amounts.runs, seed);
         self.sorts_reached(&Sort::REACHED, amounts.rounds);
         self.sorts_reached(&Sort::REACHED_ABOUT_NAMES, amounts.rounds);
@@ -199,6 +205,7 @@ impl<'a> Campaign<'a> {
         self.sorts_reached(&Sort::REACHED_BY_SCREENS, amounts.screens);
         self.sorts_reached(&Sort::REACHED_BY_JOINS, amounts.joins);
         self.sorts_reached(&Sort::REACHED_BY_PATTERNS, amounts.patterns);
+        self.sorts_reached(&Sort::REACHED_BY_CONTENTS, amounts.contents);
         self.sorts_reached(&Sort::REACHED_BY_RUNS, amounts.runs);
         self.sorts_reached(&Sort::REACHED_BY_TWO_LISTS, amounts.runs);
         self.reached();

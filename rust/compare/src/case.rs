@@ -1,7 +1,7 @@
 //! One call as a line of text: `round FILE FRAME answer-length = number mask FILE-after ANSWER-after`.
 //!
 //! Bytes are hexadecimal and `-` is none; other numbers are decimal, masks sixteen hexadecimal digits. The
-//! answer buffer, and that for an owner file, a converted file or a joined one, hold EE throughout before the call. A mask, a
+//! answer buffer, and that for an owner file, a converted file, a joined one or a slave's, hold EE throughout before the call. A mask, a
 //! report, a length, a count or a screen that the call leaves alone is shown as 0, the place of a holder as `-` where nobody
 //! holds the name.
 
@@ -117,6 +117,13 @@ pub enum Call {
     Pattern {
         pattern: u16,
     },
+    /// A slave's file, read.
+    Contents {
+        file: Vec<u8>,
+        slave: u64,
+        number: u8,
+        buffer_length: usize,
+    },
 }
 
 /// Everything a call answers and leaves in lent memory; None is memory that was not lent.
@@ -125,7 +132,8 @@ pub struct Outcome {
     pub number: u8,
     pub senders: Option<u64>,
     pub file: Option<Vec<u8>>,
-    /// The frame buffer of a writer, the answer buffer, or the buffer for an owner file, a converted file or a joined one.
+    /// The frame buffer of a writer, the answer buffer, or the buffer for an owner file, a converted file, a joined one or a
+    /// slave's.
     pub buffer: Option<Vec<u8>>,
     pub parts: Option<[u8; 5]>,
     pub run: Option<RunWords>,
@@ -160,7 +168,7 @@ impl Outcome {
         self
     }
 
-    /// How many bytes of an owner file, a converted file or a joined one were written.
+    /// How many bytes of an owner file, a converted file or a joined one were written, or a slave's file has.
     pub fn written(&self) -> Option<u64> {
         self.length.filter(|_| self.number == 0)
     }
@@ -238,6 +246,7 @@ impl Call {
             Call::Turn { .. } => "turn",
             Call::Join { .. } => "join",
             Call::Pattern { .. } => "pattern",
+            Call::Contents { .. } => "contents",
         }
     }
 
@@ -252,6 +261,7 @@ impl Call {
             | Call::Convert { file, .. }
             | Call::Fill { file, .. }
             | Call::Turn { file, .. }
+            | Call::Contents { file, .. }
             | Call::Join { first: file, .. } => Some(file),
             Call::Keeping { call, .. } => call.file(),
             Call::Read { .. }
@@ -276,6 +286,7 @@ impl Call {
             | Call::Owner { file, .. }
             | Call::Convert { file, .. }
             | Call::Fill { file, .. }
+            | Call::Contents { file, .. }
             | Call::Turn { file, .. } => *file = other,
             Call::Keeping { call, .. } => **call = call.on(other)?,
             _ => return None,
@@ -329,6 +340,13 @@ impl Call {
                 engine.join(first, second, lent_bytes(&mut outcome.buffer), lent(&mut outcome.length))
             }
             Call::Pattern { pattern } => engine.pattern(*pattern, lent(&mut outcome.class)),
+            Call::Contents { file, slave, number, .. } => engine.contents(
+                file,
+                *slave,
+                *number,
+                lent_bytes(&mut outcome.buffer),
+                lent(&mut outcome.length),
+            ),
         };
         outcome
     }
@@ -395,6 +413,7 @@ impl Call {
             }
             Call::Owner { buffer_length, .. }
             | Call::Convert { buffer_length, .. }
+            | Call::Contents { buffer_length, .. }
             | Call::Join { buffer_length, .. } => {
                 Outcome { buffer: answer(*buffer_length), length: Some(LENGTH_BEFORE), ..nothing }
             }
@@ -437,7 +456,7 @@ impl Call {
                 let report = outcome.report_words().unwrap_or([0; 5]);
                 format!("{number} {} {}", decimals(&report, " "), after(&outcome.file))
             }
-            Call::Owner { .. } | Call::Convert { .. } | Call::Join { .. } => {
+            Call::Owner { .. } | Call::Convert { .. } | Call::Join { .. } | Call::Contents { .. } => {
                 format!("{number} {} {}", outcome.written().unwrap_or(0), after(&outcome.buffer))
             }
             Call::Fill { .. } => {
@@ -534,6 +553,12 @@ impl Call {
                 buffer_length: length.parse().ok()?,
             }),
             ["pattern", pattern] => Some(Call::Pattern { pattern: pattern.parse().ok()? }),
+            ["contents", file, slave, number, length] => Some(Call::Contents {
+                file: bytes(file)?,
+                slave: slave.parse().ok()?,
+                number: number.parse().ok()?,
+                buffer_length: length.parse().ok()?,
+            }),
             _ => None,
         }
     }
@@ -582,6 +607,9 @@ impl Call {
                 format!("{} {} {buffer_length}", hex(first), hex(second))
             }
             Call::Pattern { pattern } => pattern.to_string(),
+            Call::Contents { file, slave, number, buffer_length } => {
+                format!("{} {slave} {number} {buffer_length}", hex(file))
+            }
         }
     }
 }

@@ -30,7 +30,7 @@ pub const DATA_BYTE: u8 = 0;
 pub const FIREWORK: u8 = 1;
 pub const BROKEN: u8 = 2;
 
-/// One implementation of the twenty calls, the version's aside. 0 is "carried out", every other number a refusal.
+/// One implementation of the twenty-one calls, the version's aside. 0 is "carried out", every other number a refusal.
 pub trait Engine {
     /// What the comparison says it ran against.
     fn name(&self) -> &'static str;
@@ -76,6 +76,7 @@ pub trait Engine {
     fn turn(&self, file: &mut [u8], state: &mut State, answer: &mut [u8], told: Turn) -> u8;
     fn join(&self, first: &[u8], second: &[u8], buffer: &mut [u8], length: &mut u64) -> u8;
     fn pattern(&self, pattern: u16, kind: &mut u8) -> u8;
+    fn contents(&self, file: &[u8], slave: u64, number: u8, buffer: &mut [u8], length: &mut u64) -> u8;
 }
 
 /// The documents read as plain Rust.
@@ -205,6 +206,11 @@ impl Engine for Model {
 
     fn pattern(&self, pattern: u16, kind: &mut u8) -> u8 {
         number(model::pattern(pattern).map(|class| *kind = class.number()))
+    }
+
+    fn contents(&self, file: &[u8], slave: u64, file_number: u8, buffer: &mut [u8], length: &mut u64) -> u8 {
+        let read = model::contents(file, slave, model::FileNumber(file_number), buffer);
+        number(read.map(|bytes| *length = bytes as u64))
     }
 }
 
@@ -341,6 +347,10 @@ impl Engine for Plain {
     fn pattern(&self, pattern: u16, kind: &mut u8) -> u8 {
         plain::pattern(pattern, kind)
     }
+
+    fn contents(&self, file: &[u8], slave: u64, number: u8, buffer: &mut [u8], length: &mut u64) -> u8 {
+        plain::contents(file, slave, number, buffer, length)
+    }
 }
 
 /// The engine as it is linked.
@@ -452,5 +462,9 @@ impl Engine for Library {
 
     fn pattern(&self, pattern: u16, kind: &mut u8) -> u8 {
         ttpa::calls::pattern(pattern, kind)
+    }
+
+    fn contents(&self, file: &[u8], slave: u64, number: u8, buffer: &mut [u8], length: &mut u64) -> u8 {
+        ttpa::calls::contents(file, slave, number, buffer, length)
     }
 }

@@ -9,6 +9,7 @@
 
 mod account;
 mod cluster;
+mod contents;
 mod conversion;
 mod edition;
 mod file;
@@ -27,6 +28,7 @@ mod trace;
 
 pub use account::{closed_figures, naming_pass, naming_rounds, Account, ClosedFigures};
 pub use cluster::{Cluster, File, Pending, Slave};
+pub use contents::contents;
 pub use conversion::to_edition;
 pub use edition::Edition;
 pub use file::{check, load};

@@ -6,6 +6,7 @@
 
 #![forbid(unsafe_code)]
 
+mod contents;
 mod conversion;
 mod edition;
 mod frames;
@@ -21,6 +22,7 @@ mod summary;
 mod survey;
 mod trace;
 
+pub use contents::contents;
 pub use conversion::{to_edition_1, to_edition_2};
 pub use frames::{read_address, write_address, write_data};
 pub use join::join;

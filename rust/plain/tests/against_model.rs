@@ -86,6 +86,11 @@ fn the_edges_of_patterns_hold() {
     edges::patterns::hold(&Plain { nested: false });
 }
 
+#[test]
+fn the_edges_of_contents_hold() {
+    edges::contents::hold(&Plain { nested: false });
+}
+
 /// A file of edition 2 of 65,536 bytes whose second slave has its directory at the end, with places from 0 on as if they went round:
 /// 64 files of 1,024 bytes, which end at 65,536 again.
 #[test]

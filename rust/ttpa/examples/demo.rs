@@ -4,19 +4,19 @@
 //! slave, has a foreign master try to name slaves by a write, names unnamed slaves until the list of names runs dry and
 //! the last one by a second list, while other rounds go on in between, tells before and after it who holds a name, runs a
 //! captured trace, plans who sends in which slot, has a slot multiplexed, puts the cluster to sleep and wakes it, converts
-//! the file to edition 2 and back, serves three screens in turn, joins the file with that of a second segment and names
-//! whom the join left unnamed, reads the patterns of a frame on the line, and prints what happened. c/demo.c does the same
-//! and prints the same.
+//! the file to edition 2 and back, serves three screens in turn, looks at what each slave does in round 2, joins the file
+//! with that of a second segment and names whom the join left unnamed, reads the patterns of a frame on the line, and
+//! prints what happened. c/demo.c does the same and prints the same.
 
 use std::fs::File;
 use std::io::Read;
 use std::process::ExitCode;
 use ttpa::{
-    join, pattern, to_edition, Address, Edition, End, Owners, PatternClass, RecordRead, Report, Run, Screens,
-    Senders, Summary, TtpaError, ANSWER_BYTES, EDITION_1_FILE_BYTES, FILE_CONFIGURATION, FILE_DOCUMENTATION,
-    FIREWORK_MSA, FIREWORK_MSD, FIREWORK_ROUND_2, FRAME_BYTES, MOST_FILE_BYTES, MOST_OWNER_BYTES,
-    NAME_BROADCAST, NAME_UNNAMED, OPERATION_EXECUTE, OPERATION_READ, OPERATION_WRITE, RECORD_SLEEP,
-    WIDENED_BYTES,
+    contents, join, pattern, to_edition, Address, Edition, End, Owners, PatternClass, RecordRead, Report, Run,
+    Screens, Senders, Summary, TtpaError, ANSWER_BYTES, EDITION_1_FILE_BYTES, FILE_CONFIGURATION,
+    FILE_DOCUMENTATION, FIREWORK_MSA, FIREWORK_MSD, FIREWORK_ROUND_2, FRAME_BYTES, MOST_FILE_BYTES,
+    MOST_OWNER_BYTES, NAME_BROADCAST, NAME_UNNAMED, OPERATION_EXECUTE, OPERATION_READ, OPERATION_WRITE,
+    RECORD_SLEEP, SLAVE_FILE_BYTES, WIDENED_BYTES,
 };
 
 const ROUND_2: [u8; 1] = [FIREWORK_ROUND_2];
@@ -26,6 +26,8 @@ const STEPS_BETWEEN_TRAFFIC: u64 = 50;
 const MASTER: u8 = 0x80;
 /// Where the demo's file has the logical name of its second slave, which is unnamed.
 const SECOND_NAME: usize = 0x7F;
+/// Where a cluster file tells how many slaves it has.
+const SLAVE_COUNT: usize = 3;
 /// Where a cluster file of edition 1 tells whether its first slave sleeps, and how far it is to the next slave's byte.
 const FIRST_SLEEP: usize = 19;
 const ENTRY_BYTES: usize = 4;
@@ -132,8 +134,8 @@ impl Cluster {
 
     /// Each slot in which someone sent, with its byte.
     fn print_answer(&self) {
-        let slots = (1..ANSWER_BYTES).filter(|&slot| self.senders.sent_in(slot as u32));
-        let shown: String = slots.map(|slot| format!(" {slot}={:02X}", self.answer[slot])).collect();
+        let slots = self.senders.slots();
+        let shown: String = slots.map(|slot| format!(" {slot}={:02X}", self.answer[slot as usize])).collect();
         println!("answer:{}", if shown.is_empty() { " silence" } else { &shown });
     }
 
@@ -310,6 +312,17 @@ impl Cluster {
         }
     }
 
+    /// What each slave does in round 2: its file 0x02, read without a round; and of one slave more than there are.
+    fn show_contents(&self) -> Result<(), TtpaError> {
+        let mut bytes = [0; SLAVE_FILE_BYTES];
+        for slave in 0..=u64::from(self.file[SLAVE_COUNT]) {
+            let size = contents(&self.file, slave, 0x02, &mut bytes)? as usize;
+            let shown: String = bytes[..size].iter().map(|byte| format!(" {byte:02X}")).collect();
+            println!("file 02 of slave {slave}:{}", if size == 0 { " none" } else { &shown });
+        }
+        Ok(())
+    }
+
     /// The two segments are cabled together. The joined file takes the place of the first; its slave 02 keeps that name,
     /// the other 02 becomes unnamed, and a naming run names it and the one that was unnamed.
     fn show_join(&mut self) {
@@ -441,6 +454,9 @@ fn main() -> ExitCode {
         println!("a conversion: {error}");
     }
     cluster.show_screens();
+    if let Err(error) = cluster.show_contents() {
+        println!("file 02: {error}");
+    }
     cluster.show_join();
     show_line();
     let mut short = [0; ANSWER_BYTES - 1];

@@ -168,6 +168,15 @@ mod c {
             length: *mut u64,
         ) -> u8;
         pub fn ttpa_pattern(pattern: u16, kind: *mut u8) -> u8;
+        pub fn ttpa_contents(
+            file: *const u8,
+            n: usize,
+            slave: u64,
+            number: u8,
+            buffer: *mut u8,
+            k: usize,
+            length: *mut u64,
+        ) -> u8;
     }
 }
 
@@ -376,4 +385,11 @@ pub fn join(first: &[u8], second: &[u8], out: &mut [u8], length: &mut u64) -> u8
 /// Tells the class of a nine-bit pattern of the line: 0, or 31. On 0 it is [`DATA_BYTE`], [`FIREWORK`] or [`BROKEN`].
 pub fn pattern(pattern: u16, kind: &mut u8) -> u8 {
     unsafe { c::ttpa_pattern(pattern, kind) }
+}
+
+/// Reads a slave's file and writes its length, 0 where there is no such slave or file: 0, or 1 to 8.
+pub fn contents(file: &[u8], slave: u64, number: u8, buffer: &mut [u8], length: &mut u64) -> u8 {
+    unsafe {
+        c::ttpa_contents(file.as_ptr(), file.len(), slave, number, buffer.as_mut_ptr(), buffer.len(), length)
+    }
 }

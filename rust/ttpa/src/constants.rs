@@ -8,6 +8,8 @@ pub const EDITION_1_FILE_BYTES: usize = 32_768;
 pub const MOST_SLAVES: usize = 64;
 /// A cluster file of edition 1 has at most this many slaves.
 pub const EDITION_1_SLAVES: usize = 32;
+/// A slave's file has at most this many bytes, 4 for each of records 0x00 to 255.
+pub const SLAVE_FILE_BYTES: usize = 1024;
 /// A file of edition 1 has at most this many bytes when it is converted to edition 2.
 pub const WIDENED_BYTES: usize = 41_096;
 /// The bytes of a state of screens.

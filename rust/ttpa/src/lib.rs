@@ -1,7 +1,7 @@
 //! The TTP/A cluster engine for Rust programs: check a cluster file, read and write frames, carry out
 //! rounds on the file, name its slaves, run captured traces, write the owner file, tell who holds a name, convert the file
 //! between its two editions, serve the reads of several screens in turn, join the files of two clusters, tell the class of a
-//! nine-bit pattern of the line.
+//! nine-bit pattern of the line, read a slave's files without a round.
 //!
 //! The engine keeps no state, never allocates and always returns. Everything it works on is lent to it for
 //! the time of one call. A call that refuses alters nothing it was lent.
@@ -26,6 +26,7 @@
 
 pub mod calls;
 mod constants;
+mod contents;
 mod edition;
 mod error;
 mod join;
@@ -38,6 +39,7 @@ mod trace;
 mod version;
 
 pub use constants::*;
+pub use contents::contents;
 pub use edition::{to_edition, Edition};
 pub use error::TtpaError;
 pub use join::join;
@@ -72,6 +74,11 @@ impl Senders {
     /// Whether someone sent in the slot.
     pub fn sent_in(self, slot: u32) -> bool {
         self.0.checked_shr(slot).unwrap_or(0) & 1 == 1
+    }
+
+    /// The slots in which someone sent, in their order.
+    pub fn slots(self) -> impl Iterator<Item = u32> {
+        (0..u64::BITS).filter(move |&slot| self.sent_in(slot))
     }
 }
 

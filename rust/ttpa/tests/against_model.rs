@@ -167,6 +167,10 @@ impl Engine for Wrapper {
             }
         }))
     }
+
+    fn contents(&self, file: &[u8], slave: u64, file_number: u8, buffer: &mut [u8], length: &mut u64) -> u8 {
+        number(ttpa::contents(file, slave, file_number, buffer).map(|bytes| *length = bytes))
+    }
 }
 
 /// The summary that owns these names; none where there are fewer than the count, or more than a file has slaves. Such a
@@ -274,4 +278,9 @@ fn the_edges_of_joins_hold() {
 #[test]
 fn the_edges_of_patterns_hold() {
     edges::patterns::hold(&Wrapper);
+}
+
+#[test]
+fn the_edges_of_contents_hold() {
+    edges::contents::hold(&Wrapper);
 }

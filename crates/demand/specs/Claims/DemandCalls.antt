@@ -31,8 +31,9 @@ use Rattle.demand.specs.Claims.Traces.{CallOrTrace, halfwayFrom, frameCa
 -- buffer and the senders' word; a trace and the report's words; a turn's state, answer buffer, senders' word and screen's byte, each turn
 -- with any state, so also with the one that the last turn or post left. "Every round and naming step may be given the summary" (document
 -- 02, job 8): then a slice and a count come last, any slice and any count, and a list may have such calls and others in any order. The
--- other C calls, ttpa_start aside, write neither file nor run: ttpa_fill, ttpa_owner, ttpa_to_edition_1, ttpa_to_edition_2 and ttpa_join
--- only read the file, ttpa_holder reads the slice alone, ttpa_screens and ttpa_post write the state alone, ttpa_pattern the class alone.
+-- other C calls, ttpa_start aside, write neither file nor run: ttpa_fill, ttpa_owner, ttpa_to_edition_1, ttpa_to_edition_2, ttpa_join and
+-- ttpa_contents only read the file, ttpa_holder reads the slice alone, ttpa_screens and ttpa_post write the state alone, ttpa_pattern the
+-- class alone.
 pub data CCall : Type 0 where
   ttpaStep : List ℕ → ℕ → CCall
   ttpaStepKeeping : List ℕ → ℕ → List ℕ → ℕ → CCall

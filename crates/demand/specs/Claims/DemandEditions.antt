@@ -14,7 +14,7 @@ use Rattle.file.specs.Rules.Editions.{inEdition, exceeds}
 use Rattle.cluster.specs.Claims.RoundEditions.{Convertible}
 use Rattle.naming.specs.Rules.Pass.{bits}
 use Rattle.ttpa.specs.Rules.Calls.{checkCall, startCall, stepCall, stepKeepingCall, roundCall, roundKeepingCall, traceCall, turnCall}
-use Rattle.ttpa.specs.Rules.Calls.{ownerCall, convertCall, joinCall, fillCall, positionIn}
+use Rattle.ttpa.specs.Rules.Calls.{ownerCall, convertCall, joinCall, fillCall, contentsCall, positionIn}
 use Rattle.demand.specs.Claims.DemandCalls.{CCall, GivenBytes, Memory, returned, memoryAfter, afterCalls, permittedCall, halfwayOn, permitted, TakenByRounds, CallsDemand, started}
 
 -- ---- each call
@@ -79,6 +79,9 @@ pub record CallsAlike (f : List ℕ) (e : ℕ) : Type 0 where
   -- as the second file of a join; the first file's edition is the result's (`ttpa/specs/Claims/Join` JoinsConverted)
   pub joinSecond : (first out : List ℕ) (length : ℕ) → joinCall first (inEdition f e) out length ≡ joinCall first f out length
   pub fill : (held : List ℕ) (count : ℕ) → fillCall (inEdition f e) held count ≡ fillCall f held count
+  pub contents :
+      (slave number : ℕ) (buffer : List ℕ) (length : ℕ) →
+      contentsCall (inEdition f e) slave number buffer length ≡ contentsCall f slave number buffer length
 
 abbrev pub AllCallsAlike : Type 0
 AllCallsAlike = (f : List ℕ) (e : ℕ) → Convertible f e → CallsAlike f e

@@ -6,7 +6,7 @@ use mathlib.Core.List.{List, [], _∷_, _++_}
 use Rattle.file.specs.Rules.Bytes.{Bytes}
 use Rattle.ttpa.specs.Rules.Calls.{checkCall, readAddressCall, writeAddressCall, writeDataCall, roundCall, traceCall, ownerCall, convertCall}
 use Rattle.ttpa.specs.Rules.Calls.{startCall, stepCall, fillCall, holderCall, roundKeepingCall, stepKeepingCall, screensCall, postCall}
-use Rattle.ttpa.specs.Rules.Calls.{turnCall, joinCall, patternCall}
+use Rattle.ttpa.specs.Rules.Calls.{turnCall, joinCall, patternCall, contentsCall}
 
 pub data OneOf : ℕ → List ℕ → Type 0 where
   here : {n : ℕ} {ns : List ℕ} → OneOf n (n ∷ ns)
@@ -62,3 +62,7 @@ pub record RefusedByNumbers : Type 0 where
       ZeroOr (turnCall file state answer senders screen .0) (27 ∷ 18 ∷ 14 ∷ fileNumbers ++ 9 ∷ [])
   -- "31, a pattern above 511, checked first" (document 02, job 14)
   pub pattern : (pattern kind : ℕ) → ZeroOr (patternCall pattern kind .0) (31 ∷ [])
+  -- a slave's file is read of every file that is accepted
+  pub contents :
+      (file : List ℕ) (slave number : ℕ) (buffer : List ℕ) (length : ℕ) →
+      ZeroOr (contentsCall file slave number buffer length .0) fileNumbers

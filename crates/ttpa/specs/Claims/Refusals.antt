@@ -6,7 +6,7 @@ use mathlib.Core.Path.{_≡_}
 use mathlib.Core.Logic.{_≢_}
 use mathlib.Core.List.{List}
 use Rattle.ttpa.specs.Rules.Calls.{readAddressCall, writeAddressCall, writeDataCall, roundCall, traceCall, ownerCall, convertCall, startCall}
-use Rattle.ttpa.specs.Rules.Calls.{stepCall, fillCall, holderCall, roundKeepingCall, stepKeepingCall, postCall, turnCall, joinCall, patternCall}
+use Rattle.ttpa.specs.Rules.Calls.{stepCall, fillCall, holderCall, roundKeepingCall, stepKeepingCall, postCall, turnCall, joinCall, patternCall, contentsCall}
 
 pub record RefusalsAlterNothing : Type 0 where
   -- the five parts
@@ -32,6 +32,9 @@ pub record RefusalsAlterNothing : Type 0 where
   pub join :
       (first second out : List ℕ) (length n : ℕ) → n ≢ 0 →
       joinCall first second out length .0 ≡ n → joinCall first second out length ≡ (n, length, out)
+  pub contents :
+      (file : List ℕ) (slave number : ℕ) (buffer : List ℕ) (length n : ℕ) → n ≢ 0 →
+      contentsCall file slave number buffer length .0 ≡ n → contentsCall file slave number buffer length ≡ (n, length, buffer)
   -- the run
   pub start : (names run : List ℕ) (n : ℕ) → n ≢ 0 → startCall names run .0 ≡ n → startCall names run ≡ (n, run)
   -- senders, run, answer buffer and file

@@ -19,13 +19,14 @@ use Rattle.naming.specs.Rules.Step.{StepDone, ended, made, stepOn, stepKeeping}
 use Rattle.screens.specs.Rules.Screens.{readBy, fresh, postOn}
 use Rattle.screens.specs.Rules.Turn.{Turn, idle, served, turnOn}
 use Rattle.line.specs.Rules.Patterns.{PatternClass, dataByte, firework, broken, patternOn}
+use Rattle.contents.specs.Rules.Contents.{contentsOn}
 
 -- the version of these definitions, which is that of include/ttpa.h: the gate compares the three numbers
 unfoldable pub versionMajor : ℕ
 versionMajor = 1
 
 unfoldable pub versionMinor : ℕ
-versionMinor = 0
+versionMinor = 1
 
 unfoldable pub versionPatch : ℕ
 versionPatch = 0
@@ -189,3 +190,10 @@ classNumber broken = 2
 -- number and class
 unfoldable pub patternCall : ℕ → ℕ → ℕ × ℕ
 patternCall pattern kind = let r = patternOn pattern in (numberIn r, lentAfter r kind classNumber)
+
+-- ---- a slave's file, read without a round
+
+-- number, length and buffer
+unfoldable pub contentsCall : List ℕ → ℕ → ℕ → List ℕ → ℕ → ℕ × ℕ × List ℕ
+contentsCall file slave number buffer length =
+    let r = contentsOn file slave number buffer in (numberIn (r .0), lentAfter (r .0) length (λ (size : ℕ). size), r .1)

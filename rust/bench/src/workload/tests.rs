@@ -42,6 +42,7 @@ recorded! {
     turn(file: &mut [u8], state: &mut State, answer: &mut [u8], told: Turn);
     join(first: &[u8], second: &[u8], buffer: &mut [u8], length: &mut u64);
     pattern(pattern: u16, kind: &mut u8);
+    contents(file: &[u8], slave: u64, number: u8, buffer: &mut [u8], length: &mut u64);
 }
 
 /// The call that a workload makes, by its name.
@@ -61,6 +62,7 @@ fn call_of(name: &str) -> &'static str {
         ["turn", "first" | "last" | "none", _] => "turn",
         ["join", ..] => "join",
         ["pattern", _] => "pattern",
+        ["contents", _] => "contents",
         _ => "round",
     }
 }

@@ -84,7 +84,8 @@ fn there_and_back(campaign: &mut Campaign, file: &[u8], converted: &[u8]) {
 /// "rounds give equal answers on a file and its converted form", and so do the other calls, conversions among them.
 fn on_both_forms(campaign: &mut Campaign, random: &mut Random, file: &[u8], converted: &[u8]) {
     let cluster = check(file).expect("a file that was converted");
-    let mut calls = [any_call(random, file, &cluster), any_call(random, file, &cluster)];
+    let of_first = Call::Contents { file: file.to_vec(), slave: 0, number: 0x08, buffer_length: 16 };
+    let mut calls = [any_call(random, file, &cluster), any_call(random, file, &cluster), of_first];
     for call in &mut calls {
         let expected = campaign.call(call);
         let call = call.on(converted.to_vec()).expect("a call on a file");

@@ -1,7 +1,8 @@
 //! Random inputs: numbers, clusters, frames, positions, traces, owner files, summaries, sleepers, conversions, screens,
-//! pairs of files to be joined, line patterns, whole naming runs and pairs of lists.
+//! pairs of files to be joined, line patterns, files that are read, whole naming runs and pairs of lists.
 
 pub mod clusters;
+pub mod contents;
 pub mod conversions;
 pub mod inputs;
 pub mod joins;

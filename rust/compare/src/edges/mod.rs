@@ -2,6 +2,7 @@
 //! documents, and no input is made by the model or an engine. An engine, the model too, has to give what stands here, and on
 //! the file in the other edition the same.
 
+pub mod contents;
 pub mod editions;
 mod files;
 pub mod joins;

@@ -1,5 +1,6 @@
 //! What calls are examples of: the sorts that have to occur, and the tally of outcomes.
 
+pub mod contents;
 pub mod conversions;
 pub mod grounds;
 pub mod joins;
@@ -32,5 +33,6 @@ pub fn of(call: &Call, outcome: &Outcome) -> Vec<Sort> {
     sorts.extend(screens::sorts(call, outcome));
     sorts.extend(joins::sorts(call, outcome));
     sorts.extend(patterns::sorts(call, outcome));
+    sorts.extend(contents::sorts(call, outcome));
     sorts
 }

@@ -409,6 +409,24 @@ pub enum Sort {
     GreatestPattern,
     /// A pattern above 511 whose lower nine bits are a firework's.
     FireworkAbove,
+    /// A file that is read of the last of several slaves, the first and the last of a slave's files, one of a slave that is
+    /// unnamed, and of one that sleeps.
+    ReadOfLastSlave,
+    ReadFirstFile,
+    ReadLastFile,
+    ReadOfUnnamed,
+    ReadOfSleeper,
+    /// One that just fits into the buffer, one that is a byte longer, and one that leaves a byte.
+    ReadJustFits,
+    ReadOneShort,
+    ReadOneMore,
+    /// One asked of the place behind the last slave, of the greatest place, and of one whose lower 32 bits are a slave's.
+    ReadBehindLast,
+    ReadAtGreatestPlace,
+    ReadAtWidePlace,
+    /// One that the slave has not, of a number above 63, and of one that another slave has.
+    ReadAboveLastNumber,
+    ReadOfAnother,
 }
 
 /// A sort, one in how many calls has to be of it, and what is printed of it.
@@ -731,6 +749,23 @@ impl Sort {
         (Sort::FirstAbove, 1_000, "patterns 512"),
         (Sort::GreatestPattern, 1_000, "patterns 65,535"),
         (Sort::FireworkAbove, 20, "patterns above 511 whose nine bits are a firework's"),
+    ];
+
+    /// Sorts of slaves' files that are read, with one in how many of those asked for.
+    pub const REACHED_BY_CONTENTS: [Reached; 13] = [
+        (Sort::ReadOfLastSlave, 20, "files read of the last slave"),
+        (Sort::ReadFirstFile, 20, "first files of a slave read"),
+        (Sort::ReadLastFile, 20, "last files of a slave read"),
+        (Sort::ReadOfUnnamed, 20, "files read of an unnamed slave"),
+        (Sort::ReadOfSleeper, 100, "files read of a sleeper"),
+        (Sort::ReadJustFits, 20, "files read into as many bytes as they have"),
+        (Sort::ReadOneShort, 20, "files read into a byte less"),
+        (Sort::ReadOneMore, 60, "files read into a byte more"),
+        (Sort::ReadBehindLast, 40, "files asked of the slave behind the last"),
+        (Sort::ReadAtGreatestPlace, 100, "files asked of the greatest place"),
+        (Sort::ReadAtWidePlace, 100, "files asked of a place whose lower 32 bits are a slave's"),
+        (Sort::ReadAboveLastNumber, 100, "files asked by a number above 63"),
+        (Sort::ReadOfAnother, 100, "files asked that another slave has"),
     ];
 
     /// Sorts of calls in naming runs, with one in how many of the runs asked for.

@@ -8,7 +8,7 @@ use std::collections::BTreeMap;
 
 /// Each kind of call with what it can do when it is carried out, and the numbers that can refuse it. A whole run is a
 /// kind of its own, and so are the runs over two lists.
-const OUTCOMES: [(&str, &[&str], &[u8]); 22] = [
+const OUTCOMES: [(&str, &[&str], &[u8]); 23] = [
     ("check", &[PLAIN], CHECK_NUMBERS),
     ("read", &["read", "write", "execute"], READ_NUMBERS),
     ("write", &["read", "write", "execute"], WRITE_NUMBERS),
@@ -29,6 +29,7 @@ const OUTCOMES: [(&str, &[&str], &[u8]); 22] = [
     ("turn", &["answered", "silent", "none-waiting"], TURN_NUMBERS),
     ("join", &["no-slave", "none-turned", "some-turned"], JOIN_NUMBERS),
     ("pattern", &["data-byte", "firework", "broken"], PATTERN_NUMBERS),
+    ("contents", &["no-slave", "no-file", "whole", "in-part", "length-alone"], CONTENTS_NUMBERS),
     (TWO, &[EMPTY_LIST, ALL_NAMED, USED_UP], &[]),
     (RUN, &[ALL_NAMED, USED_UP], &[]),
 ];
@@ -97,6 +98,7 @@ const POST_NUMBERS: &[u8] = &[27, 28, 18, 14];
 const TURN_NUMBERS: &[u8] = &[27, 18, 14, 1, 2, 3, 4, 5, 6, 7, 8, 9];
 const JOIN_NUMBERS: &[u8] = &[1, 2, 3, 4, 5, 6, 7, 8, 1, 2, 3, 4, 5, 6, 7, 8, 29, 30];
 const PATTERN_NUMBERS: &[u8] = &[31];
+const CONTENTS_NUMBERS: &[u8] = &[1, 2, 3, 4, 5, 6, 7, 8];
 // .ci/refusals writes to here
 
 /// A call that does one thing only.
@@ -237,6 +239,19 @@ fn done(call: &Call, outcome: &Outcome) -> &'static str {
             Some(FIREWORK) => "firework",
             _ => "broken",
         },
+        Call::Contents { file, slave, buffer_length, .. } => {
+            in_contents(file, *slave, *buffer_length as u64, outcome.written())
+        }
+    }
+}
+
+/// Whether there is the slave and the file, and how much of it the buffer has room for.
+fn in_contents(file: &[u8], slave: u64, room: u64, length: Option<u64>) -> &'static str {
+    let slaves = check(file).map_or(0, |cluster| cluster.slaves.len() as u64);
+    match length {
+        Some(0) => either(slave < slaves, "no-file", "no-slave"),
+        _ if room == 0 => "length-alone",
+        _ => either(length <= Some(room), "whole", "in-part"),
     }
 }
 

@@ -177,3 +177,13 @@ fn the_class_of_a_pattern_is_written_on_success_only() {
     assert_eq!((calls::pattern(0x055, &mut kind), kind), (0, calls::DATA_BYTE));
     assert_eq!((calls::pattern(511, &mut kind), kind), (0, calls::BROKEN));
 }
+
+#[test]
+fn the_length_of_a_slaves_file_is_written_on_success_only() {
+    let (mut buffer, mut length) = ([FILL; 18], MASK_BEFORE);
+    assert_eq!(calls::contents(&M10[..95], 0, 0x08, &mut buffer, &mut length), 4);
+    assert_eq!((buffer, length), ([FILL; 18], MASK_BEFORE));
+    assert_eq!(calls::contents(M10, 0, 0x08, &mut buffer, &mut length), 0);
+    assert_eq!((length, buffer[7], &buffer[15..]), (16, 0xFF, &[0, FILL, FILL][..]));
+    assert_eq!((calls::contents(M10, 2, 0x08, &mut buffer, &mut length), length), (0, 0));
+}

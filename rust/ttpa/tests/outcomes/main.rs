@@ -2,6 +2,7 @@
 //! lent memory is then as it was.
 
 mod calls;
+mod contents;
 mod editions;
 mod errors;
 mod frames;

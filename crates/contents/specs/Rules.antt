@@ -1,0 +1,2 @@
+-- What the call says that reads a slave's file.
+pub mod Contents
