@@ -1,4 +1,6 @@
 // The cluster file: its checker, the readers of header, slaves and records, and the stores.
+#![tactic(auto)]
+
 mod header;
 pub mod held;
 pub mod layout;
