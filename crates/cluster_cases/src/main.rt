@@ -1,6 +1,8 @@
 // Frames on cluster files against vectors of an independent model. A line of the input is `round FILE FRAME LENGTH`, LENGTH
 // that of the answer buffer, which holds EE throughout. After it stand the number of the answer, 0 where the frame is carried
 // out, the mask, the file and the buffer afterwards.
+#![tactic(auto)]
+
 use case_input::fields::{after, bytes_at, count_at, input_buffer, is, line};
 use case_input::show;
 use case_input::show::text;

@@ -2,6 +2,8 @@
 // independent model. A line of the input is `check FILE` or `readers FILE`, each with a LENGTH where zeros follow up to it.
 // After the first stands the number of the answer, 0 where the file is accepted; after the second how many slaves there are and
 // what the readers say, slave by slave.
+#![tactic(auto)]
+
 mod describe;
 
 use case_input::fields::{after, filled, input_buffer, is, line};

@@ -6,6 +6,8 @@
 //   firework BYTE
 // After it stand the number of the answer, 0 where nothing is refused, and the parts of the address or the buffer afterwards;
 // of a firework its round: a number, MSD, MSA, or - for none.
+#![tactic(auto)]
+
 use case_input::fields::{after, byte_at, bytes_at, input_buffer, is, line};
 use case_input::show;
 use case_input::show::text;

@@ -1,4 +1,6 @@
 // Lists a cluster file: reads it from standard input, runs names 0x01 to 0xFE on it, and writes the names that were given.
+#![tactic(auto)]
+
 use file::layout::LONGEST;
 use libc::{STDIN_FILENO, STDOUT_FILENO};
 use listing_text::run::{TEXT_SIZE, list};

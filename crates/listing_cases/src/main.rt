@@ -1,5 +1,7 @@
 // Listings of cluster files. A line of the input is `list FILE`, or `list FILE LENGTH` where zeros follow up to a length; the
 // listing is written after it.
+#![tactic(auto)]
+
 use case_input::fields::{after, counted, filled, input_buffer, is, line};
 use case_input::show::text;
 use listing_text::run::list;

@@ -9,6 +9,8 @@
 // steps from the fourth on. After the line stand the number of the answer and the position; of a step the number, the mask, the file,
 // the position and the buffer afterwards; of several steps the number, how many made their round, and the same; of a run the position
 // and the file at its end.
+#![tactic(auto)]
+
 use case_input::fields::{after, bytes_at, count_at, input_buffer, is, line, number_at};
 use case_input::show;
 use case_input::show::text;
@@ -42,7 +44,7 @@ const FIRST_FRAME: usize = 4;
 const PAST_FRAMES: usize = 20;
 
 // What a start or a step answers: the number of the refusal, 0 where there is none, the mask, and the position afterwards.
-#[derive(Drop)]
+#[derive(Clone, Copy)]
 struct Answer {
     number: u8,
     mask: u64,
@@ -91,7 +93,7 @@ fn stepped(file: &mut [u8], run: RunPosition, names: &[u8], buffer: &mut [u8]) -
 
 // What several steps answer: the number, 0 where they are not refused at once, how many made their round, the mask of the last one,
 // and the position afterwards.
-#[derive(Drop)]
+#[derive(Clone, Copy)]
 struct SeveralSteps {
     number: u8,
     made: u64,
