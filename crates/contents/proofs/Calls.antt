@@ -57,7 +57,7 @@ module _ (file buffer : List ℕ) (place size : ℕ) (within : place + size ≤ 
       let room : size ≤ length (drop place file) = simp length-drop (omega (arith, within)) in
       let fits = take_min (length buffer) size (drop place file) room in
       let long : length (take (min size (length buffer)) (drop place file)) ≡ n =
-          length-take-le (min size (length buffer)) (drop place file) (omega (arith, room)) ∙ sym least in
+      length-take-le (min size (length buffer)) (drop place file) (omega (arith, room)) ∙ sym least in
       rw (is, count, fits, long)
 
 -- ---- a file that was looked for

@@ -27,16 +27,16 @@ overflow_shr-row c = search rules
 
 pub returns-in-0 : goal.returns-in-0
 unfolding read_of class_in
-returns-in-0 c = data-entry _ (search rules) c.row_at-row.ensures c.in_default.keys1
+returns-in-0 c = data-entry _ (search rules) c.row_at-row.ensures c.in-0.is
 
 pub returns-in-1 : goal.returns-in-1
 unfolding read_of class_in
-returns-in-1 c = firework-entry _ (search rules) c.row_at-row.ensures c.in_default.keys2
+returns-in-1 c = firework-entry _ (search rules) c.row_at-row.ensures c.in-1.is
 
 pub returns-in-2 : goal.returns-in-2
 unfolding read_of class_in
-returns-in-2 c = broken-entry _ (search rules) c.row_at-row.ensures c.in_default.keys3
+returns-in-2 c = broken-entry _ (search rules) c.row_at-row.ensures c.in-2.is
 
 pub returns-in_default : goal.returns-in_default
 unfolding read_of class_in
-returns-in_default c = other-entry _ (search rules) c.row_at-row.ensures c.in_default.rest
+returns-in_default c = other-entry _ (search rules) c.row_at-row.ensures c.in_default-own.rest

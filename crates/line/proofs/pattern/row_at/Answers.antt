@@ -70,64 +70,64 @@ bounds-15 c = search rules
 
 pub returns-in-0 : goal.returns-in-0
 unfolding rows
-returns-in-0 c = row_by_rule (search rules) c.in_default.keys1
+returns-in-0 c = row_by_rule (search rules) c.in-0.is
 
 pub returns-in-1 : goal.returns-in-1
 unfolding rows
-returns-in-1 c = row_by_rule (search rules) c.in_default.keys2
+returns-in-1 c = row_by_rule (search rules) c.in-1.is
 
 pub returns-in-2 : goal.returns-in-2
 unfolding rows
-returns-in-2 c = row_by_rule (search rules) c.in_default.keys3
+returns-in-2 c = row_by_rule (search rules) c.in-2.is
 
 pub returns-in-3 : goal.returns-in-3
 unfolding rows
-returns-in-3 c = row_by_rule (search rules) c.in_default.keys4
+returns-in-3 c = row_by_rule (search rules) c.in-3.is
 
 pub returns-in-4 : goal.returns-in-4
 unfolding rows
-returns-in-4 c = row_by_rule (search rules) c.in_default.keys5
+returns-in-4 c = row_by_rule (search rules) c.in-4.is
 
 pub returns-in-5 : goal.returns-in-5
 unfolding rows
-returns-in-5 c = row_by_rule (search rules) c.in_default.keys6
+returns-in-5 c = row_by_rule (search rules) c.in-5.is
 
 pub returns-in-6 : goal.returns-in-6
 unfolding rows
-returns-in-6 c = row_by_rule (search rules) c.in_default.keys7
+returns-in-6 c = row_by_rule (search rules) c.in-6.is
 
 pub returns-in-7 : goal.returns-in-7
 unfolding rows
-returns-in-7 c = row_by_rule (search rules) c.in_default.keys8
+returns-in-7 c = row_by_rule (search rules) c.in-7.is
 
 pub returns-in-8 : goal.returns-in-8
 unfolding rows
-returns-in-8 c = row_by_rule (search rules) c.in_default.keys9
+returns-in-8 c = row_by_rule (search rules) c.in-8.is
 
 pub returns-in-9 : goal.returns-in-9
 unfolding rows
-returns-in-9 c = row_by_rule (search rules) c.in_default.keys10
+returns-in-9 c = row_by_rule (search rules) c.in-9.is
 
 pub returns-in-10 : goal.returns-in-10
 unfolding rows
-returns-in-10 c = row_by_rule (search rules) c.in_default.keys11
+returns-in-10 c = row_by_rule (search rules) c.in-10.is
 
 pub returns-in-11 : goal.returns-in-11
 unfolding rows
-returns-in-11 c = row_by_rule (search rules) c.in_default.keys12
+returns-in-11 c = row_by_rule (search rules) c.in-11.is
 
 pub returns-in-12 : goal.returns-in-12
 unfolding rows
-returns-in-12 c = row_by_rule (search rules) c.in_default.keys13
+returns-in-12 c = row_by_rule (search rules) c.in-12.is
 
 pub returns-in-13 : goal.returns-in-13
 unfolding rows
-returns-in-13 c = row_by_rule (search rules) c.in_default.keys14
+returns-in-13 c = row_by_rule (search rules) c.in-13.is
 
 pub returns-in-14 : goal.returns-in-14
 unfolding rows
-returns-in-14 c = row_by_rule (search rules) c.in_default.keys15
+returns-in-14 c = row_by_rule (search rules) c.in-14.is
 
 pub returns-in_default : goal.returns-in_default
 unfolding rows
-returns-in_default c = last_by_rule (search rules) c.in_default.rest
+returns-in_default c = last_by_rule (search rules) c.in_default-own.rest

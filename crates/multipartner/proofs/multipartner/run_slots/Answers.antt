@@ -4,7 +4,6 @@
 -- Assumes nothing.
 use Rattle.std.proofs.Common.{arith}
 use mathlib.Core.Path.{◌∙◌}
-use mathlib.Core.Logic.{⊎_elim}
 use lib.ListN.{length-set}
 use Rattle.std.proofs.Common.{rules}
 use Rattle.master_slave.proofs.Bus.{filled-length}
@@ -13,41 +12,8 @@ use Rattle.multipartner.proofs.SlotLaws.{heard-none, ends_low, starts-low, store
 use Rattle.multipartner.proofs.SlotLaws.{looking_start, looking_done, looking_end, looking_wait, looking_over, looking_stores}
 use Rattle.multipartner.proofs.SlotLaws.{looking_acts, heard-same, next_low, running-start, mask-small, slot_fits, running_silent, running-heard, running-done}
 use Rattle.multipartner.proofs.multipartner.run_slots.Goals as goal
-
--- the places that the answers name: a slot, all its slaves done; an entry tried, one before the end, one that has begun, one that acts
-Slot : Type 0
-Slot = tie.In-slots invariant-entries decreases-entries invariant-slaves decreases-slaves invariant-slots decreases-slots
-
-Heard : Type 0
-Heard = tie.After-slaves invariant-entries decreases-entries invariant-slaves decreases-slaves invariant-slots decreases-slots
-
-Tried : Type 0
-Tried = tie.In-entries invariant-entries decreases-entries invariant-slaves decreases-slaves invariant-slots decreases-slots
-
-Before-end : Type 0
-Before-end = tie.Else1 invariant-entries decreases-entries invariant-slaves decreases-slaves invariant-slots decreases-slots
-
-Begun : Type 0
-Begun = tie.Then2 invariant-entries decreases-entries invariant-slaves decreases-slaves invariant-slots decreases-slots
-
-Acts : Type 0
-Acts = tie.Then3 invariant-entries decreases-entries invariant-slaves decreases-slaves invariant-slots decreases-slots
-
-Acted : Type 0
-Acted = tie.After-act-at invariant-entries decreases-entries invariant-slaves decreases-slaves invariant-slots decreases-slots
-
--- from each the one before it: in one search they lie too far back
-tried_of : Before-end → Tried
-tried_of c = search
-
-going_of : Begun → Before-end
-going_of c = search
-
-begun-of : Acts → Begun
-begun-of c = search
-
-acts-of : Acted → Acts
-acts-of c = search
+use Rattle.multipartner.proofs.multipartner.run_slots.Goals.{then-not-waits_at+else-acts_at, else-not-waits_at, then-heard, else-heard}
+use Rattle.multipartner.proofs.multipartner.run_slots.Goals.{else-entries-test, then-entries-test+then-ends_at, then-entries-test+else-ends_at+then-not-waits_at+then-acts_at}
 
 pub slots-init : goal.slots-init
 slots-init c = search (rules, running-start)
@@ -65,119 +31,95 @@ pub entries-init : goal.entries-init
 entries-init c = looking_start c.slaves.invariant c.slaves-test.true
 
 pub ends_at-requires : goal.ends_at-requires
-ends_at-requires c =
-    let tried : Tried = search in
-    entry-within tried.before.entries.inv.search tried.entries-test.taken
+ends_at-requires c = entry-within c.entries.invariant.search c.entries-test.true
 
 pub waits_at-requires : goal.waits_at-requires
-waits_at-requires c =
-    let tried : Tried = search in
-    entry-within tried.before.entries.inv.search tried.entries-test.taken
+waits_at-requires c = entry-within c.entries.invariant.search c.entries-test.true
 
 pub acts_at-requires : goal.acts_at-requires
-acts_at-requires c =
-    let tried : Tried = search in
-    entry-within tried.before.entries.inv.search tried.entries-test.taken
+acts_at-requires c = entry-within c.entries.invariant.search c.entries-test.true
 
 pub act_at-act-requires : goal.act_at-act-requires
 act_at-act-requires c =
-    let tried : Tried = search in
-    let started : Begun = search in
-    let looking = tried.before.entries.inv in (
+    let looking = c.entries.invariant in (
       looking.search.becomes,
       looking.search.slave,
-      entry-within looking.search tried.entries-test.taken,
-      begun started.before.waits-at.ensures started.if2.taken,
+      entry-within looking.search c.entries-test.true,
+      begun c.waits_at.ensures c.if-not-waits_at.true,
       search rules,
       looking.before.ready.kept,
     )
 
 pub put_store-stored-requires : goal.put_store-stored-requires
 put_store-stored-requires c =
-    let acted : Acted = search in
-    let acts = acts-of acted in
-    let started = begun-of acts in
-    let going = going_of started in
-    let tried = tried_of going in
-    looking_stores tried.before.entries.inv tried.entries-test.taken going.before.ends-at.ensures going.if1.left
-    (begun started.before.waits-at.ensures started.if2.taken) acts.before.acts-at.ensures
-    acts.if3.taken acted.act-at.ensures.does
+    looking_stores c.entries.invariant c.entries-test.true c.ends_at.ensures c.if-ends_at.false
+    (begun c.waits_at.ensures c.if-not-waits_at.true) c.acts_at.ensures
+    c.if-acts_at.true c.act_at-act.ensures.does
 
 pub next_after-next-requires : goal.next_after-next-requires
 next_after-next-requires c =
-    let acted : Acted = search in
-    let started = begun-of (acts-of acted) in
-    let tried = tried_of (going_of started) in
-    let looking = tried.before.entries.inv in (
-      entry-low looking.search tried.entries-test.taken,
-      entry-within looking.search tried.entries-test.taken,
-      begun started.before.waits-at.ensures started.if2.taken,
+    let looking = c.entries.invariant in (
+      entry-low looking.search c.entries-test.true,
+      entry-within looking.search c.entries-test.true,
+      begun c.waits_at.ensures c.if-not-waits_at.true,
     )
 
 pub next_past-next-requires : goal.next_past-next-requires
-next_past-next-requires c =
-    let tried : Tried = search in
-    entry-low tried.before.entries.inv.search tried.entries-test.taken
+next_past-next-requires c = entry-low c.entries.invariant.search c.entries-test.true
 
 pub overflow_add-at : goal.overflow_add-at
-overflow_add-at c =
-    let tried : Tried = search in
-    omega (arith, entry-low tried.before.entries.inv.search tried.entries-test.taken)
+overflow_add-at c = omega (arith, entry-low c.entries.invariant.search c.entries-test.true)
 
 pub entries-preserved : goal.entries-preserved
 entries-preserved c =
-    let going : Before-end = search in
-    let tried : Tried = search in
-    let looking = tried.before.entries.inv in
-    ⊎_elim
-    (λ w.
-    looking_over looking tried.entries-test.taken going.before.ends-at.ensures going.if1.left (begun c.waits_at.ensures w.0.taken) w.2.ensures w.3.left
-    (w.5 ∙ w.4.ensures))
-    (λ w. looking_wait looking tried.entries-test.taken going.before.ends-at.ensures going.if1.left c.waits_at.ensures w.0.left w.1)
-    c.if-not-waits_at.branch
-
-pub overflow_cast-starts : goal.overflow_cast-starts
-overflow_cast-starts c = omega (arith, next_low c.entries.invariant c.entries-test.next (slaves-again c))
+    let looking = c.entries.invariant in
+    elim c.if-not-waits_at.branch [
+      | then-not-waits_at+else-acts_at w ↦
+          looking_over looking c.entries-test.true c.ends_at.ensures c.if-ends_at.false (begun c.waits_at.ensures w.if-not-waits_at.true)
+          w.acts_at.ensures w.if-acts_at.false (w.next-is ∙ w.next_past-next.ensures)
+      | else-not-waits_at w ↦
+          looking_wait looking c.entries-test.true c.ends_at.ensures c.if-ends_at.false c.waits_at.ensures w.if-not-waits_at.false w.next-is
+    ]
 
 pub slaves-preserved : goal.slaves-preserved
 slaves-preserved c =
     let looking = c.entries.invariant in
-    -- the three ways c of the search meet here
-    ⊎_elim
-    (λ w. heard-same looking w.1 w.2 w.3 w.4 w.5 w.6 w.7 w.8 (looking_done looking w.0.left))
-    (λ w.
-    ⊎_elim
-    (λ v.
-    heard-same looking v.4 v.5 v.6 v.7 v.8 v.9 v.10 v.11 (looking_end looking v.0.taken v.2.ensures v.3.taken))
-    (λ v.
-    heard-same looking v.21 v.22 v.23 v.24 v.25 v.26 v.27 v.28
-    (looking_acts looking v.0.taken v.2.ensures v.3.left (begun v.5.ensures v.6.taken) v.8.ensures v.9.taken v.14.ensures v.15.ensures v.16.ensures
-    v.18.ensures
-    v.20.ensures))
-    w)
-    c.entries-test.branch
+    -- the three ways out of the search meet here
+    elim c.entries-test.branch [
+      | else-entries-test w ↦
+          heard-same looking w.numbers-is w.froms-is w.sizes-is w.stores-is w.bus-is w.heard-is w.stored-is w.next-is
+          (looking_done looking w.entries-test.false)
+      | then-entries-test+then-ends_at w ↦
+          heard-same looking w.numbers-is w.froms-is w.sizes-is w.stores-is w.bus-is w.heard-is w.stored-is w.next-is
+          (looking_end looking w.entries-test.true w.ends_at.ensures w.if-ends_at.true)
+      | then-entries-test+else-ends_at+then-not-waits_at+then-acts_at w ↦
+          heard-same looking w.numbers-is w.froms-is w.sizes-is w.stores-is w.bus-is w.heard-is w.stored-is w.next-is
+          (looking_acts looking w.entries-test.true w.ends_at.ensures w.if-ends_at.false (begun w.waits_at.ensures w.if-not-waits_at.true)
+          w.acts_at.ensures w.if-acts_at.true w.act_at-act.ensures w.bus_with-bus.ensures w.heard_with-heard.ensures
+          w.put_store-stored.ensures w.next_after-next.ensures)
+    ]
+
+pub overflow_cast-starts : goal.overflow_cast-starts
+overflow_cast-starts c = omega (arith, next_low c.entries.invariant c.entries-test.next (slaves-preserved c))
 
 pub with_sender-mask-requires : goal.with_sender-mask-requires
 with_sender-mask-requires c = search (rules, mask-small)
 
 pub store-requires : goal.store-requires
-store-requires c =
-    let heard : Heard = search in
-    stores-within heard.before.slaves.inv heard.slaves-test.left
+store-requires c = stores-within c.slaves.invariant c.slaves-test.false
 
 pub bounds-buffer-slot : goal.bounds-buffer-slot
-bounds-buffer-slot c =
-    let slot : Slot = search in
-    slot_fits slot.before.slots.inv slot.slots-test.taken
+bounds-buffer-slot c = slot_fits c.slots.invariant c.slots-test.true
 
 pub slots-preserved : goal.slots-preserved
 slots-preserved c =
-    let slot : Slot = search in
-    let run = slot.before.slots.inv in
-    ⊎_elim
-    (λ w. running-heard run slot.slots-test.taken c.slaves.invariant c.slaves-test.false w.0.taken (w.8 ∙ w.1.ensures) (w.7 ∙ w.4.ensures))
-    (λ w. running_silent run slot.slots-test.taken c.slaves.invariant c.slaves-test.false w.0.left w.2 w.1)
-    c.if-heard.branch
+    let run = c.slots.invariant in
+    elim c.if-heard.branch [
+      | then-heard w ↦
+          running-heard run c.slots-test.true c.slaves.invariant c.slaves-test.false w.if-heard.true (w.mask-is ∙ w.with_sender-mask.ensures)
+          (w.file-is ∙ w.store.ensures)
+      | else-heard w ↦ running_silent run c.slots-test.true c.slaves.invariant c.slaves-test.false w.if-heard.false w.mask-is w.file-is
+    ]
 
 pub shape_of-file : goal.shape_of-file
 shape_of-file c = c.slots.invariant.size
