@@ -39,4 +39,4 @@ returns-in-2 c = broken-entry _ (search rules) c.row_at-row.ensures c.in-2.is
 
 pub returns-in_default : goal.returns-in_default
 unfolding read_of class_in
-returns-in_default c = other-entry _ (search rules) c.row_at-row.ensures c.in_default-own.rest
+returns-in_default c = other-entry _ (search rules) c.row_at-row.ensures (search rules)

@@ -130,4 +130,4 @@ returns-in-14 c = row_by_rule (search rules) c.in-14.is
 
 pub returns-in_default : goal.returns-in_default
 unfolding rows
-returns-in_default c = last_by_rule (search rules) c.in_default-own.rest
+returns-in_default c = last_by_rule (search rules) (search rules)
