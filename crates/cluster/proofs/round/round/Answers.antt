@@ -12,7 +12,7 @@ returns-then-buffer-lt-SLOTS c = search (rules, call-short)
 
 pub one_frame-requires : goal.one_frame-requires
 one_frame-requires c =
-    (survey-placed c.survey-surveyed.ensures c.in-V.is, c.if-buffer-lt-SLOTS.false)
+    (survey-placed c.survey-surveyed.ensures c.in-Accepted.is, c.if-buffer-lt-SLOTS.false)
 
 pub returns-in-Refused : goal.returns-in-Refused
 unfolding answer_of

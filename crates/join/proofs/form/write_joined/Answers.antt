@@ -14,9 +14,9 @@ put_joined_header-requires c = search (rules, form-header)
 pub put_joined_body-requires : goal.put_joined_body-requires
 put_joined_body-requires c = (
   c.requires.0.file,
-  c.width_of_lem.ensures,
+  c.width_of-width.ensures,
   c.requires.1,
-  form_body c.requires.0 c.requires.1 c.requires.2 c.width_of_lem.ensures c.slave_count.ensures
+  form_body c.requires.0 c.requires.1 c.requires.2 c.width_of-width.ensures c.slave_count.ensures
       c.slave_count-2.ensures c.put_joined_header.ensures,
 )
 

@@ -23,7 +23,7 @@ pub write_joined-requires : goal.write_joined-requires
 write_joined-requires c = (
   c.requires.0,
   c.requires.1,
-  call_fits c.requires.0 c.requires.1 _ c.width_of_lem.ensures c.length_in-alone.ensures c.length_in-more.ensures
+  call_fits c.requires.0 c.requires.1 _ c.width_of-width.ensures c.length_in-alone.ensures c.length_in-more.ensures
       c.slave_count.ensures c.slave_count-2.ensures c.requires.2 c.is_over.ensures c.if-is_over.false c.if-out-size.false,
 )
 

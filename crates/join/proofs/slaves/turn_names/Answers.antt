@@ -47,22 +47,22 @@ overflow_add-to c =
 pub overflow_sub-to : goal.overflow_sub-to
 overflow_sub-to c =
     let more = below-count _ c.slave_count-count.ensures c.loop-slave-test.true in
-    lost_order c.loop-slave.invariant c.requires.0 c.requires.1 more c.width_of_lem.ensures c.file_count-files.ensures
+    lost_order c.loop-slave.invariant c.requires.0 c.requires.1 more c.width_of-own.ensures c.file_count-files.ensures
 
 pub overflow_add-to-in-loop-slave : goal.overflow_add-to-in-loop-slave
 overflow_add-to-in-loop-slave c =
     let more = below-count _ c.slave_count-count.ensures c.loop-slave-test.true in
-    name-fits c.loop-slave.invariant c.requires.0 c.requires.1 more c.width_of_lem.ensures c.file_count-files.ensures
+    name-fits c.loop-slave.invariant c.requires.0 c.requires.1 more c.width_of-own.ensures c.file_count-files.ensures
 
 pub turn_name-requires : goal.turn_name-requires
 turn_name-requires c =
     let more = below-count _ c.slave_count-count.ensures c.loop-slave-test.true in
-    name-room c.loop-slave.invariant c.requires.0 c.requires.1 more c.width_of_lem.ensures c.file_count-files.ensures
+    name-room c.loop-slave.invariant c.requires.0 c.requires.1 more c.width_of-own.ensures c.file_count-files.ensures
 
 pub loop-slave-preserved : goal.loop-slave-preserved
 loop-slave-preserved c =
     let more = below-count _ c.slave_count-count.ensures c.loop-slave-test.true in
-    turning_next c.loop-slave.invariant c.requires.0 c.requires.1 more c.width_of_lem.ensures c.file_count-files.ensures
+    turning_next c.loop-slave.invariant c.requires.0 c.requires.1 more c.width_of-own.ensures c.file_count-files.ensures
     c.logical_name-name.ensures refl c.turn_name.ensures
 
 pub shape_of-out : goal.shape_of-out
