@@ -57,9 +57,9 @@ use Rattle.demand.proofs.TurnFrames.{turn-left, none-sent, turn-frames-bytes}
 
 -- ---- numbers and words
 
-number_result : {A : Type 0} (ground : ℕ) (value : A) → number_in (result_of ground value) ≡ ground
+number_result : {A : Type 0} (reason : ℕ) (value : A) → number_in (result_of reason value) ≡ reason
 unfolding number_in result_of
-number_result ground value = by_case (eqb ground 0) (λ z. rw z (sym (eqb-true ground 0 z))) (λ z. rw z)
+number_result reason value = by_case (eqb reason 0) (λ z. rw z (sym (eqb-true reason 0 z))) (λ z. rw z)
 
 pub position-back : (p : Position) → position_in (words_of p) ≡ p
 unfolding position_in words_of

@@ -106,9 +106,9 @@ module _ {ss : List Slave} {master : ℕ} {head rows : List ℕ} {size : ℕ} {c
 module _ (master : ℕ) (buffer : List ℕ) {file places : List ℕ} {a : FileAnswer} (s : Surveyed file (checked_of a) places) where
   pub call-refused : {why : Refusal} → a ≡ answers.Refused why → (refused why.0, buffer) ≡ owner_on file master buffer
   call-refused {why} e =
-      let ground = survey-refused s e in
-      let here : owner_ground file master buffer ≡ file_ground file = file_decides file master buffer (λ z. ground.1 (ground.0 ∙ z)) in
-      sym (owner-refused file master buffer (λ z. ground.1 (ground.0 ∙ sym here ∙ z)) ∙ rw (here, ground.0))
+      let reason = survey-refused s e in
+      let here : owner_ground file master buffer ≡ file_ground file = file_decides file master buffer (λ z. reason.1 (reason.0 ∙ z)) in
+      sym (owner-refused file master buffer (λ z. reason.1 (reason.0 ∙ sym here ∙ z)) ∙ rw (here, reason.0))
 
   module _ (accepted : a ≡ answers.Accepted) {head rows : List ℕ} {size : ℕ} {clash multiplexed : Bool} (h : RoundsWritten (decode file).slaves master rounds head rows size clash multiplexed) where
     pub call_multiplexed : multiplexed ≡ true → (refused 23, buffer) ≡ owner_on file master buffer
