@@ -9,11 +9,11 @@ use Rattle.naming.proofs.advance.written.Goals as goal
 use Rattle.naming.proofs.advance.written.Goals.{After-go_on-next}
 
 -- the next step, and what its round writes
-within : (on : After-go_on-next) → on.go_on.result.place.step ≤ last_step
+within : (on : After-go_on-next) → on.go_on-next.result.place.step ≤ last_step
 within c =
     written-within _ c.requires.1 c.requires.2 c.wrote-run.ensures c.go_on-next.ensures
 
-next : (on : After-go_on-next) → WritesAt on.go_on.result.place.step on.go_on.result.place.value (on.before.before.args.at.writing.part + 1) on.before.before.args.at.writing.value
+next : (on : After-go_on-next) → WritesAt on.go_on-next.result.place.step on.go_on-next.result.place.value (on.args.at.writing.part + 1) on.args.at.writing.value
 next c =
     written_next _ c.requires.1 c.requires.2 c.wrote-run.ensures c.go_on-next.ensures
 

@@ -1,11 +1,11 @@
 -- `naming::names::marked_ground` meets its contract: the marks are those of the names from the place on.
 -- Assumes nothing.
 use Prim.Native.Nat.{◌-◌}
-use mathlib.Core.Logic.{⊎_elim}
 use Rattle.std.proofs.Common.{arith}
 use Rattle.std.proofs.Common.{rules}
 use Rattle.naming.proofs.NameLaws.{listed_start, listed_again, listed-new, listed-broadcast, listed-unnamed, listed-twice, listed-fit}
 use Rattle.naming.proofs.names.marked_ground.Goals as goal
+use Rattle.naming.proofs.names.marked_ground.Goals.{then-seen-mark, else-seen-mark}
 
 pub loop-i-init : goal.loop-i-init
 loop-i-init c = listed_start _
@@ -26,10 +26,10 @@ pub loop-i-preserved : goal.loop-i-preserved
 loop-i-preserved c =
     let loop = c.loop-i in
     let more = c.loop-i-test.true in
-    ⊎_elim
-    (λ w. listed_again loop.invariant more (omega (arith, c.shared_slice_known-1.given (loop.i - 1))) w.0.taken w.1)
-    (λ w. listed-new loop.invariant more (omega (arith, c.shared_slice_known-1.given (loop.i - 1))) w.0.left w.1)
-    c.if-seen-mark.branch
+    elim c.if-seen-mark.branch [
+      | then-seen-mark w ↦ listed_again loop.invariant more (omega (arith, c.shared_slice_known-1.given (loop.i - 1))) w.if-seen-mark.true w.twice-is
+      | else-seen-mark w ↦ listed-new loop.invariant more (omega (arith, c.shared_slice_known-1.given (loop.i - 1))) w.if-seen-mark.false w.twice-is
+    ]
 
 pub returns-then-seen : goal.returns-then-seen
 returns-then-seen c = search (rules, listed-broadcast)

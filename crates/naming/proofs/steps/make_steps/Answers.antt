@@ -12,8 +12,8 @@ use Rattle.naming.proofs.StepsLaws.{stepping-start, stepping_goes, stepping_stop
 use Rattle.naming.proofs.steps.make_steps.Goals as goal
 use Rattle.naming.proofs.steps.make_steps.Goals.{After-make_step-made}
 
-made-small : (stepped : After-make_step-made) → stepped.make-step.result.run.place.value < 2 ^ bits
-made-small c = omega (arith, c.make_step-made.type-inv)
+made-small : (stepped : After-make_step-made) → stepped.make_step-made.result.run.place.value < 2 ^ bits
+made-small stepped = omega (arith, stepped.make_step-made.type_inv)
 
 pub loop-steps-init : goal.loop-steps-init
 unfolding begun
@@ -32,9 +32,9 @@ loop-steps-preserved c =
     let bytes = bytes-known c.args.names.now (λ k. omega (arith, c.shared_slice_known-1.given k)) in
     let inv = c.loop-steps.invariant in (
       stepping-next inv.0 c.is_over.ensures c.if-is_over.false c.loop-steps-test.true c.make_step-made.ensures bytes inv.3
-          (omega (arith, c.make_step-made.kept.1, inv.2, inv.0.long)),
-      c.make_step-made.kept.0 ∙ inv.1,
-      omega (arith, c.make_step-made.kept.1, inv.2),
+          (omega (arith, c.make_step-made.auto.answer, inv.2, inv.0.long)),
+      c.make_step-made.auto.file ∙ inv.1,
+      omega (arith, c.make_step-made.auto.answer, inv.2),
       made-small (goal.at.loop-steps-preserved c).After-make_step-made,
     )
 

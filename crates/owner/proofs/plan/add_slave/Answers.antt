@@ -7,4 +7,4 @@ use Rattle.owner.proofs.plan.add_slave.Goals as goal
 pub returns : goal.returns
 unfolding slave_of
 returns c =
-    record { (goal.at.returns c).After-plan_slave-plan = λ master h. round-next h c.requires.1 c.plan_slave-plan.ensures c.logical_name-name.ensures c.put_name.ensures }
+    record { planned = λ master h. round-next h c.requires.1 c.plan_slave-plan.ensures c.logical_name-name.ensures c.put_name.ensures }

@@ -2,13 +2,13 @@
 -- Assumes nothing.
 use Prim.Native.Nat.{ℕ, ◌<◌}
 use mathlib.Core.Path.{◌≡◌, sym, ap, ◌∙◌}
-use mathlib.Core.Logic.{⊎_elim}
 use Rattle.std.proofs.Common.{arith}
 use lib.ListN.{length, length-replicate}
 use lib.Seq.{get_or-set_same}
 use Rattle.file.specs.Rules.Decode.{decode}
 use Rattle.owner.proofs.RoundLaws.{round-start, turn_added, turn_skipped, round-done}
 use Rattle.owner.proofs.plan.plan_round.Goals as goal
+use Rattle.owner.proofs.plan.plan_round.Goals.{then-held-slave-eq1, else-held-slave-eq1}
 use Rattle.owner.proofs.plan.plan_round.Goals.{Start}
 
 -- the row at the start has all slots
@@ -37,10 +37,10 @@ pub loop-slave-preserved : goal.loop-slave-preserved
 loop-slave-preserved c =
     let inv = c.loop-slave.invariant in
     let more : c.loop-slave.slave < length (decode c.args.file.now).slaves = omega (arith, c.slave_count-count.ensures) in
-    ⊎_elim
-    (λ w. turn_added inv w.2.ensures w.5 w.6)
-    (λ w. turn_skipped (decode c.args.file.now) inv c.requires.1 more c.requires.2 w.0.left w.1 w.2)
-    c.if-held-slave-eq1.branch
+    elim c.if-held-slave-eq1.branch [
+      | then-held-slave-eq1 w ↦ turn_added inv w.add_slave-plan.ensures w.row-is w.plan-is
+      | else-held-slave-eq1 w ↦ turn_skipped (decode c.args.file.now) inv c.requires.1 more c.requires.2 w.if-held-slave-eq1.false w.row-is w.plan-is
+    ]
 
 pub shape_of-row : goal.shape_of-row
 shape_of-row c = c.loop-slave.invariant.planned.room ∙ sym (room (goal.at.shape_of-row c).Start)

@@ -1,11 +1,11 @@
 -- `owner::plan::plan_slave` meets its contract. The invariant is `Working`.
 -- Assumes nothing.
-use mathlib.Core.Logic.{⊎_elim}
 use Rattle.std.proofs.Common.{arith}
 use Rattle.std.proofs.Common.{rules}
 use Rattle.owner.proofs.EntryMasks.{single_there}
 use Rattle.owner.proofs.SlavePlan.{working_start, working_done, working_within, working_low, working_entry, working_end, working_single, working_other}
 use Rattle.owner.proofs.plan.plan_slave.Goals as goal
+use Rattle.owner.proofs.plan.plan_slave.Goals.{then-is_single, else-is_single+else-is_end}
 
 pub loop-at-init : goal.loop-at-init
 loop-at-init c = working_start _ _ _ _ c.requires.0.file (omega arith)
@@ -31,7 +31,8 @@ overflow_add-at c =
     omega (arith, working_low c.loop-at.invariant c.planned_file-found.ensures c.loop-at-test.true)
 
 pub loop-at-preserved : goal.loop-at-preserved
-loop-at-preserved c = ⊎_elim (λ w. search (rules, working_single)) (λ w. search (rules, working_other)) c.if-is_single.branch
+loop-at-preserved c =
+    elim c.if-is_single.branch [ then-is_single w ↦ search (rules, working_single) | else-is_single+else-is_end w ↦ search (rules, working_other) ]
 
 pub returns : goal.returns
 returns c = search (rules, working_done)

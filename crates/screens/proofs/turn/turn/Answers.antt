@@ -29,7 +29,7 @@ returns-then-buffer-lt-SLOTS c = search turn-short
 
 pub serve-requires : goal.serve-requires
 serve-requires c =
-    let placed = survey-placed c.survey-verdict.ensures c.in-V.is in
+    let placed = survey-placed c.survey-verdict.ensures c.in_default.is in
     (c.due_screen-next.ensures, state_free _ c.due_ground-ground.ensures c.if-ground-ne0.false, placed, c.if-buffer-lt-SLOTS.false)
 
 pub returns : goal.returns

@@ -38,7 +38,7 @@ unfolding part
 loop-row-preserved c =
     let inv = c.loop-row.invariant in (
       running-next inv.0 c.loop-row-test.true c.byte_at.ensures c.run_frame-progress.ensures.0,
-      c.run_frame-progress.auto.0 ∙ inv.1,
+      c.run_frame-progress.auto.file ∙ inv.1,
       c.run_frame-progress.ensures.1,
     )
 
