@@ -34,7 +34,7 @@ else ifeq ($(ENGINE),c)
 archive := $(built)/c/libttpa.a
 else
 archive := target/staticlib/libttpa.a
-proved := crates.txt $(shell find crates -type f)
+proved := crates.txt $(shell find crates -name out -prune -o -type f -print)
 endif
 
 # nothing that is for a debugger is left in the program, and no folder's name, which would come with that or with a crate from elsewhere;
@@ -48,7 +48,7 @@ sources := rust/Cargo.toml rust/Cargo.lock $(shell find rust/program rust/ttpa -
 all: $(program)
 
 target/staticlib/libttpa.a: $(proved)
-	rt staticlib ttpa
+	.ci/build archive
 
 $(built)/c/libttpa.a: portable/ttpa.c include/ttpa.h $(built)/compiler
 	mkdir -p $(built)/c

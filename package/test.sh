@@ -180,9 +180,12 @@ makes_anew() {
 # A folder that cannot be made is a failure: here a file is in its place.
 cannot_install() { touch "$work/file" && ! make --silent -C "$work/rattle" install PREFIX=/prefix DESTDIR="$work/file" 2>"$work/messages"; }
 
+# All crates, the static library among them.
+crates() { sed -nE 's/^([a-z_]+)( staticlib)?:.*/\1/p' crates.txt; }
+
 # Every crate but those of test programs has its room, and there is no other.
 rooms_of_crates() {
-    diff <(sed -nE 's/^([a-z_]+):.*/\1/p' crates.txt | grep -vE '_cases$|^case_input$' | sort) \
+    diff <(crates | grep -vE '_cases$|^case_input$' | sort) \
         <(sed -nE 's,.*font-weight="bold">([a-z_]+)</text>,\1,p' docs/map.svg | sort)
 }
 
@@ -197,8 +200,9 @@ drawn_uses() {
 
 # Which crate uses which, test programs aside.
 kept_uses() {
-    awk '/^#/ || /_cases:|^case_input:/ { next } { a = $1; sub(":", "", a); room[a] = 1; for (i = 2; i <= NF; i++) use[a, $i] = 1 }
-        END { for (a in room) for (b in room) if ((a, b) in use) print a, b }' crates.txt
+    sed 's/ staticlib:/:/' crates.txt |
+        awk '/^#/ || /_cases:|^case_input:/ { next } { a = $1; sub(":", "", a); room[a] = 1; for (i = 2; i <= NF; i++) use[a, $i] = 1 }
+        END { for (a in room) for (b in room) if ((a, b) in use) print a, b }'
 }
 
 # With all that is reached.
@@ -213,7 +217,7 @@ rooms_stand() { diff <(kept_uses | closed) <(drawn_uses | closed); }
 
 # README has a row for each crate.
 crates_told() {
-    diff <(sed -nE 's/^([a-z_]+):.*/\1/p' crates.txt | sort) \
+    diff <(crates | sort) \
         <(sed -n '/^| crate |/,/^$/p' README.md | sed 's/ | .*//' | grep -oE '`[a-z_]+`' | tr -d '`' | cat - <(echo case_input) | sort)
 }
 

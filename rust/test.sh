@@ -261,7 +261,7 @@ header_whole() {
 header_version() {
     local version defined
     version=$(sed -n 's/^#define TTPA_VERSION_[A-Z]* //p' include/ttpa.h | paste -sd.)
-    defined=$(sed -nE 's/^version(Major|Minor|Patch) = //p' crates/ttpa/specs/Rules/Calls.antt | paste -sd.)
+    defined=$(sed -nE 's/^version_(major|minor|patch) = //p' crates/ttpa/specs/Rules/Calls.antt | paste -sd.)
     mkdir -p "$work/large"
     sed -E 's/^(#define TTPA_VERSION_MAJOR) .*/\1 12/; s/^(#define TTPA_VERSION_MINOR) .*/\1 34/; s/^(#define TTPA_VERSION_PATCH) .*/\1 56/' \
         include/ttpa.h >"$work/large/ttpa.h"

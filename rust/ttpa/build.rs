@@ -12,7 +12,7 @@ fn main() {
     println!("cargo:rerun-if-changed={}", archive.display());
     if !archive.is_file() {
         eprintln!("the engine's archive is missing: {}", archive.display());
-        eprintln!("make it with `rt staticlib ttpa` (Rattle toolchain) in the repository's root,");
+        eprintln!("make it with `.ci/build archive` (Rattle toolchain) in the repository's root,");
         eprintln!("or have TTPA_LIB_DIR name the folder that holds it, by its full path");
         exit(1);
     }

@@ -377,15 +377,15 @@ calls-fed :
     account_after a (traces_aside (arguments_of_all names m cs)) ≡ account_after a (calls_fed cs)
 unfolding traces_aside calls_fed arguments_of_all arguments_of account_after
 calls-fed names m a [] = refl
-calls-fed names m a (ttpa_step buffer senders ∷ cs) = calls-fed names _ (account_call a (plain_step buffer)) cs
+calls-fed names m a (ttpa_step buffer senders ∷ cs) = calls-fed names (memory_after names m (ttpa_step buffer senders)) (account_call a (plain_step buffer)) cs
 calls-fed names m a (ttpa_step_keeping buffer senders held count ∷ cs) =
-    calls-fed names _ (account_call a (step (record { summary = kept count held; buffer = buffer }))) cs
-calls-fed names m a (ttpa_round bytes buffer senders ∷ cs) = calls-fed names _ (account_call a (plain_frame bytes buffer)) cs
+    calls-fed names (memory_after names m (ttpa_step_keeping buffer senders held count)) (account_call a (step (record { summary = kept count held; buffer = buffer }))) cs
+calls-fed names m a (ttpa_round bytes buffer senders ∷ cs) = calls-fed names (memory_after names m (ttpa_round bytes buffer senders)) (account_call a (plain_frame bytes buffer)) cs
 calls-fed names m a (ttpa_round_keeping bytes buffer senders held count ∷ cs) =
-    calls-fed names _ (account_call a (frame (record { summary = kept count held; bytes = bytes; buffer = buffer }))) cs
-calls-fed names m a (ttpa_trace_lem t report ∷ cs) = calls-fed names _ a cs
+    calls-fed names (memory_after names m (ttpa_round_keeping bytes buffer senders held count)) (account_call a (frame (record { summary = kept count held; bytes = bytes; buffer = buffer }))) cs
+calls-fed names m a (ttpa_trace_lem t report ∷ cs) = calls-fed names (memory_after names m (ttpa_trace_lem t report)) a cs
 calls-fed names m a (ttpa_turn state buffer senders screen ∷ cs) =
-    turn-unaccounted a (turn_frames m.file state buffer) _ ∙ calls-fed names _ a cs
+    turn-unaccounted a (turn_frames m.file state buffer) _ ∙ calls-fed names (memory_after names m (ttpa_turn state buffer senders screen)) a cs
 
 pub check-number : (file : List ℕ) → check_call file ≡ load_ground file
 unfolding check_call load_verdict

@@ -148,6 +148,9 @@ turn-number file state answer senders told =
 -- those of a frame, whatever round it opens
 frame-numbers : (c : Cluster) (round : Round) (frame : List ℕ) {n : ℕ} → OneOf n (numbers_of (grounds_on c round frame)) → OneOf n (10 ∷ 11 ∷ 12 ∷ 13 ∷ 14 ∷ [])
 unfolding grounds_on numbers_of
+frame-numbers c (multipartner r) frame (later never) = elim never [ ]
+frame-numbers c msd frame (later (later never)) = elim never [ ]
+frame-numbers c no_round frame (later never) = elim never [ ]
 frame-numbers c no_round frame here = here
 frame-numbers c (multipartner r) frame here = later here
 frame-numbers c msd frame here = later here

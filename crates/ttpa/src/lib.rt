@@ -1,5 +1,5 @@
-// The engine as firmware and test software link it: C calls on numbers and slices. They keep no state, never allocate and always
-// return. Each is the call of the layer below, with the answer as a number.
+// The engine's C calls, on numbers and slices: `ttpa_c` exports each of them, as firmware and test software link it. They keep no state,
+// never allocate and always return. Each is the call of the layer below, with the answer as a number.
 #![tactic(auto)]
 
 ghost use Rattle.std.specs.Prelude.{◌≡◌, [], ◌∷◌};
@@ -76,15 +76,13 @@ const NOBODY: u64 = 0xFFFFFFFFFFFFFFFF;
 // Told where no screen waited: TTPA_NO_SCREEN.
 const NO_SCREEN: u8 = 8;
 
-#[unsafe(no_mangle)]
-pub extern "C" fn ttpa_version() -> u32
+pub fn ttpa_version() -> u32
     ensures { result ≡ version_call }
 {
     VERSION
 }
 
-#[unsafe(no_mangle)]
-pub extern "C" fn ttpa_check(file: &[u8]) -> u8
+pub fn ttpa_check(file: &[u8]) -> u8
     ensures { result ≡ check_call file.now }
 {
     let answer = check(file);
@@ -94,8 +92,7 @@ pub extern "C" fn ttpa_check(file: &[u8]) -> u8
     }
 }
 
-#[unsafe(no_mangle)]
-pub extern "C" fn ttpa_read_address(frame: &[u8], parts: &mut [u8; PARTS]) -> u8
+pub fn ttpa_read_address(frame: &[u8], parts: &mut [u8; PARTS]) -> u8
     ensures { (result, parts.new) ≡ read_address_call frame.now parts.old }
 {
     let reading = read_address(frame);
@@ -123,8 +120,7 @@ fn writing_number(writing: FrameWriting) -> u8
     }
 }
 
-#[unsafe(no_mangle)]
-pub extern "C" fn ttpa_write_address(
+pub fn ttpa_write_address(
     frame: &mut [u8],
     epoch: u8,
     name: u8,
@@ -145,8 +141,7 @@ pub extern "C" fn ttpa_write_address(
     writing_number(written)
 }
 
-#[unsafe(no_mangle)]
-pub extern "C" fn ttpa_write_data(frame: &mut [u8], b0: u8, b1: u8, b2: u8, b3: u8) -> u8
+pub fn ttpa_write_data(frame: &mut [u8], b0: u8, b1: u8, b2: u8, b3: u8) -> u8
     ensures { (result, frame.new) ≡ write_data_call frame.old (b0 ∷ b1 ∷ b2 ∷ b3 ∷ []) }
 {
     let written = write_data(frame, b0, b1, b2, b3);
@@ -166,13 +161,7 @@ fn round_number(done: RoundAnswer, senders: &mut u64) -> u8
     }
 }
 
-#[unsafe(no_mangle)]
-pub extern "C" fn ttpa_round(
-    file: &mut [u8],
-    frame: &[u8],
-    answer: &mut [u8],
-    senders: &mut u64,
-) -> u8
+pub fn ttpa_round(file: &mut [u8], frame: &[u8], answer: &mut [u8], senders: &mut u64) -> u8
     ensures { (result, senders.new, answer.new, file.new) ≡ round_call file.old frame.now answer.old senders.old }
 {
     let done = round(file, frame, answer);
@@ -193,8 +182,7 @@ fn report_words(report: Report) -> [u64; REPORT_WORDS]
     ]
 }
 
-#[unsafe(no_mangle)]
-pub extern "C" fn ttpa_trace(file: &mut [u8], trace: &[u8], report: &mut [u64; REPORT_WORDS]) -> u8
+pub fn ttpa_trace(file: &mut [u8], trace: &[u8], report: &mut [u64; REPORT_WORDS]) -> u8
     ensures { (result, report.new, file.new) ≡ trace_call file.old trace.now report.old }
 {
     let done = run_trace(file, trace);
@@ -207,8 +195,7 @@ pub extern "C" fn ttpa_trace(file: &mut [u8], trace: &[u8], report: &mut [u64; R
     }
 }
 
-#[unsafe(no_mangle)]
-pub extern "C" fn ttpa_owner(file: &[u8], master: u8, buffer: &mut [u8], length: &mut u64) -> u8
+pub fn ttpa_owner(file: &[u8], master: u8, buffer: &mut [u8], length: &mut u64) -> u8
     ensures { (result, length.new, buffer.new) ≡ owner_call file.now master buffer.old length.old }
 {
     let done = write_owner(file, LogicalName::new(master), buffer);
@@ -235,23 +222,20 @@ fn to_edition(file: &[u8], edition: Edition, out: &mut [u8], length: &mut u64) -
     }
 }
 
-#[unsafe(no_mangle)]
-pub extern "C" fn ttpa_to_edition_1(file: &[u8], out: &mut [u8], length: &mut u64) -> u8
+pub fn ttpa_to_edition_1(file: &[u8], out: &mut [u8], length: &mut u64) -> u8
     ensures { (result, length.new, out.new) ≡ convert_call 1 file.now out.old length.old }
 {
     to_edition(file, Edition::One, out, length)
 }
 
-#[unsafe(no_mangle)]
-pub extern "C" fn ttpa_to_edition_2(file: &[u8], out: &mut [u8], length: &mut u64) -> u8
+pub fn ttpa_to_edition_2(file: &[u8], out: &mut [u8], length: &mut u64) -> u8
     ensures { (result, length.new, out.new) ≡ convert_call 2 file.now out.old length.old }
 {
     to_edition(file, Edition::Two, out, length)
 }
 
 // Two files joined: the number, and the joined file's length in the lent word.
-#[unsafe(no_mangle)]
-pub extern "C" fn ttpa_join(first: &[u8], second: &[u8], out: &mut [u8], length: &mut u64) -> u8
+pub fn ttpa_join(first: &[u8], second: &[u8], out: &mut [u8], length: &mut u64) -> u8
     ensures { (result, length.new, out.new) ≡ join_call first.now second.now out.old length.old }
 {
     let done = join(first, second, out);
@@ -300,8 +284,7 @@ fn position_in(run: &[u64; WORDS]) -> RunPosition
     }
 }
 
-#[unsafe(no_mangle)]
-pub extern "C" fn ttpa_start(names: &[u8], run: &mut [u64; WORDS]) -> u8
+pub fn ttpa_start(names: &[u8], run: &mut [u64; WORDS]) -> u8
     ensures { (result, run.new) ≡ start_call names.now run.old }
 {
     let started = start(names);
@@ -332,8 +315,7 @@ fn step_number(stepped: Stepped, senders: &mut u64, run: &mut [u64; WORDS]) -> u
     }
 }
 
-#[unsafe(no_mangle)]
-pub extern "C" fn ttpa_step(
+pub fn ttpa_step(
     file: &mut [u8],
     run: &mut [u64; WORDS],
     names: &[u8],
@@ -347,8 +329,7 @@ pub extern "C" fn ttpa_step(
     step_number(stepped, senders, run)
 }
 
-#[unsafe(no_mangle)]
-pub extern "C" fn ttpa_fill(file: &[u8], held: &mut [u8], count: &mut u64) -> u8
+pub fn ttpa_fill(file: &[u8], held: &mut [u8], count: &mut u64) -> u8
     ensures { (result, count.new, held.new) ≡ fill_call file.now held.old count.old }
 {
     let done = fill(file, held);
@@ -361,8 +342,7 @@ pub extern "C" fn ttpa_fill(file: &[u8], held: &mut [u8], count: &mut u64) -> u8
     }
 }
 
-#[unsafe(no_mangle)]
-pub extern "C" fn ttpa_holder(held: &[u8], count: u64, name: u8, place: &mut u64) -> u8
+pub fn ttpa_holder(held: &[u8], count: u64, name: u8, place: &mut u64) -> u8
     ensures { (result, place.new) ≡ holder_call held.now count name place.old }
 {
     let found = find_holder(held, count as usize, LogicalName::new(name));
@@ -379,8 +359,7 @@ pub extern "C" fn ttpa_holder(held: &[u8], count: u64, name: u8, place: &mut u64
     }
 }
 
-#[unsafe(no_mangle)]
-pub extern "C" fn ttpa_round_keeping(
+pub fn ttpa_round_keeping(
     file: &mut [u8],
     frame: &[u8],
     answer: &mut [u8],
@@ -395,8 +374,7 @@ pub extern "C" fn ttpa_round_keeping(
     round_number(done, senders)
 }
 
-#[unsafe(no_mangle)]
-pub extern "C" fn ttpa_step_keeping(
+pub fn ttpa_step_keeping(
     file: &mut [u8],
     run: &mut [u64; WORDS],
     names: &[u8],
@@ -412,22 +390,14 @@ pub extern "C" fn ttpa_step_keeping(
     step_number(stepped, senders, run)
 }
 
-#[unsafe(no_mangle)]
-pub extern "C" fn ttpa_screens(state: &mut ScreenState) -> u8
+pub fn ttpa_screens(state: &mut ScreenState) -> u8
     ensures { (result, state.new) ≡ screens_call state.old }
 {
     *state = fresh_state();
     0
 }
 
-#[unsafe(no_mangle)]
-pub extern "C" fn ttpa_post(
-    state: &mut ScreenState,
-    screen: u8,
-    name: u8,
-    file: u8,
-    record: u8,
-) -> u8
+pub fn ttpa_post(state: &mut ScreenState, screen: u8, name: u8, file: u8, record: u8) -> u8
     ensures { (result, state.new) ≡ post_call state.old screen name file «record» }
 {
     let read = RecordAddress {
@@ -442,8 +412,7 @@ pub extern "C" fn ttpa_post(
     }
 }
 
-#[unsafe(no_mangle)]
-pub extern "C" fn ttpa_turn(
+pub fn ttpa_turn(
     file: &mut [u8],
     state: &mut ScreenState,
     answer: &mut [u8],
@@ -488,8 +457,7 @@ fn class_number(class: PatternClass) -> u8
     }
 }
 
-#[unsafe(no_mangle)]
-pub extern "C" fn ttpa_pattern(pattern: u16, kind: &mut u8) -> u8
+pub fn ttpa_pattern(pattern: u16, kind: &mut u8) -> u8
     ensures { (result, kind.new) ≡ pattern_call pattern kind.old }
 {
     let read = read_pattern(pattern);
@@ -502,14 +470,7 @@ pub extern "C" fn ttpa_pattern(pattern: u16, kind: &mut u8) -> u8
     }
 }
 
-#[unsafe(no_mangle)]
-pub extern "C" fn ttpa_contents(
-    file: &[u8],
-    slave: u64,
-    number: u8,
-    buffer: &mut [u8],
-    length: &mut u64,
-) -> u8
+pub fn ttpa_contents(file: &[u8], slave: u64, number: u8, buffer: &mut [u8], length: &mut u64) -> u8
     ensures { (result, length.new, buffer.new) ≡ contents_call file.now slave number buffer.old length.old }
 {
     let read = read_contents(file, slave as usize, FileNumber(number), buffer);

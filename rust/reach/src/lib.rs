@@ -179,13 +179,13 @@ mod tests {
         Specs::new(texts.iter().map(|&(path, text)| (path.to_string(), module(text))).collect())
     }
 
-    const CALLS: &str = "ghost use Rattle·ttpa·specs.specs.Rules.Calls.{call as theCall};\n\
-        pub extern \"C\" fn ttpa_one(file: &[u8]) -> u8\n    ensures { λ r. ⌜ r ≡ theCall (now file) ⌝ }\n{\n    other\n}\n";
+    const CALLS: &str = "ghost use Rattle.ttpa.specs.Rules.Calls.{call as the_call};\n\
+        pub extern \"C\" fn ttpa_one(file: &[u8]) -> u8\n    ensures { result ≡ the_call file.now }\n{\n    other\n}\n";
 
     #[test]
     fn a_constructor_leads_to_its_type_and_an_import_to_its_module() {
         let specs = specs(&[
-            ("ttpa/Rules/Calls", "use Rattle·file.specs.Rules.Sort.{good}\nunfoldable pub call : ℕ\ncall = good\n"),
+            ("ttpa/Rules/Calls", "use Rattle.file.specs.Rules.Sort.{good}\nunfoldable pub call : ℕ\ncall = good\n"),
             ("file/Rules/Sort", "-- a comment with alone in it\npub data Sort : Type 0 where\n  good : Sort\n\nabbrev pub alone : ℕ\nalone = 0\n"),
         ]);
         let reached = specs.from_contracts(&contracts(CALLS, |_| true));
@@ -201,7 +201,7 @@ mod tests {
         let specs = specs(&[
             (
                 "ttpa/Rules/Calls",
-                "use Rattle·file.specs.Rules.Sort.{bad}\nunfoldable pub call : ℕ\ncall = bad\n",
+                "use Rattle.file.specs.Rules.Sort.{bad}\nunfoldable pub call : ℕ\ncall = bad\n",
             ),
             ("file/Rules/Sort", "pub data Sort : Type 0 where\n  good bad : Sort\n"),
         ]);
@@ -214,9 +214,9 @@ mod tests {
         let specs = specs(&[
             (
                 "ttpa/Rules/Calls",
-                "use Rattle·frame.specs.Rules.Grounds.{ground}\nunfoldable pub call : ℕ\ncall = ground\n",
+                "use Rattle.frame.specs.Rules.Grounds.{ground}\nunfoldable pub call : ℕ\ncall = ground\n",
             ),
-            ("frame/Rules/Grounds", "unfoldable pub use Rattle·file.specs.Rules.Cluster.{ground}\n"),
+            ("frame/Rules/Grounds", "unfoldable pub use Rattle.file.specs.Rules.Cluster.{ground}\n"),
             ("file/Rules/Cluster", "unfoldable pub ground : ℕ\nground = 0\n"),
         ]);
         let reached = specs.from_contracts(&contracts(CALLS, |_| true));
@@ -228,7 +228,7 @@ mod tests {
         let specs = specs(&[
             (
                 "ttpa/Rules/Calls",
-                "use Rattle·file.specs.Rules.Cluster.{ground, gone}\nunfoldable pub call : ℕ\ncall = ground\n",
+                "use Rattle.file.specs.Rules.Cluster.{ground, gone}\nunfoldable pub call : ℕ\ncall = ground\n",
             ),
             ("file/Rules/Cluster", "unfoldable pub ground : ℕ\nground = 0\n"),
         ]);
@@ -243,7 +243,7 @@ mod tests {
         let specs = specs(&[
             (
                 "ttpa/Rules/Calls",
-                "use Rattle·file.specs.Inner.Places.{place}\nunfoldable pub call : ℕ\ncall = place\n",
+                "use Rattle.file.specs.Inner.Places.{place}\nunfoldable pub call : ℕ\ncall = place\n",
             ),
             ("file/Inner/Places", "unfoldable pub place : ℕ\nplace = 0\n"),
         ]);
@@ -258,7 +258,7 @@ mod tests {
             "abbrev pub Proved : Type 0\nProved = Unit\n\nabbrev pub Bare : Type 0\nBare = Unit\n",
         )]);
         let proofs =
-            "use Rattle·file·specs.specs.Claims.Exact.{Proved, Bare}\npub proved : Proved\nproved = Bare\n";
+            "use Rattle.file.specs.Claims.Exact.{Proved, Bare}\npub proved : Proved\nproved = Bare\n";
         let reached = specs.from_claims(&theorems(proofs));
         assert_eq!(
             specs.unreached(Folder::Claims, &reached),

@@ -35,7 +35,7 @@ fn main() -> ExitCode {
 fn wrong(crates: &Path, claims: &Path) -> io::Result<Vec<String>> {
     let specs = Specs::new(modules(crates)?);
     let calls = specs
-        .from_contracts(&contracts(&fs::read_to_string(crates.join("ttpa/src/lib.rt"))?, |heading| {
+        .from_contracts(&contracts(&fs::read_to_string(crates.join("ttpa_c/src/lib.rt"))?, |heading| {
             heading.contains("extern \"C\"")
         }));
     let listing = fs::read_to_string(crates.join("listing_text/src/run.rt"))?;

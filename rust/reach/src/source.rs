@@ -1,6 +1,6 @@
 //! Reading modules of definitions, contracts of functions and statements of theorems.
 
-use crate::{Place, LINE_CHARACTERS};
+use crate::{Folder, Place, LINE_CHARACTERS};
 use std::collections::{BTreeMap, BTreeSet};
 
 /// A definition: a function with its type and clauses, a type with its constructors, or a record.
@@ -58,13 +58,14 @@ pub struct Held {
     pub theorem: Place,
 }
 
-/// How a module hands on a definition of another.
-const HANDED_ON: &str = "unfoldable pub use ";
+/// How a module hands on a definition of another, to be unfolded or not.
+const HANDED_ON: [&str; 2] = ["unfoldable pub use ", "pub use "];
 
 pub fn module(text: &str) -> Module {
     let heading: Vec<String> =
         text.lines().take_while(|line| line.starts_with("--")).map(str::to_string).collect();
-    let handed_on = imports(text, HANDED_ON);
+    let handed_on: BTreeMap<String, Place> =
+        HANDED_ON.into_iter().flat_map(|start| imports(text, start)).collect();
     Module {
         library: library(text),
         imports: imports(text, "use ").into_iter().chain(handed_on.clone()).collect(),
@@ -78,7 +79,8 @@ pub fn module(text: &str) -> Module {
 fn definitions<'a>(lines: impl Iterator<Item = &'a str>) -> Vec<Definition> {
     let mut definitions: Vec<Definition> = Vec::new();
     let mut above = Vec::new();
-    for line in lines.filter(|line| !line.starts_with("use ") && !line.starts_with(HANDED_ON)) {
+    let is_use = |line: &&str| line.starts_with("use ") || HANDED_ON.iter().any(|start| line.starts_with(start));
+    for line in lines.filter(|line| !is_use(line)) {
         let bare = without_comment(line);
         if bare.trim().is_empty() {
             above.push(line);
@@ -108,8 +110,8 @@ pub fn contracts(text: &str, wanted: impl Fn(&str) -> bool) -> Vec<Contract> {
         if let Some(name) = function(line) {
             heading = wanted(line).then_some(name);
         }
-        let promised = line.trim_start().starts_with("ensures ");
-        if let Some(name) = heading.filter(|_| promised || line.trim_start().starts_with("requires ")) {
+        let promised = is_clause(line, "ensures");
+        if let Some(name) = heading.filter(|_| promised || is_clause(line, "requires")) {
             let (name, text) = (name.to_string(), clause(line, &mut lines));
             found.push(Contract { name, promised, words: words(&text), text, imports: imports.clone() });
         }
@@ -117,10 +119,16 @@ pub fn contracts(text: &str, wanted: impl Fn(&str) -> bool) -> Vec<Contract> {
     found
 }
 
-/// A clause of a contract, with the lines that it goes on in.
+/// `ensures { .. }`, `ensures name { .. }` or `ensures* { .. }`.
+fn is_clause(line: &str, kind: &str) -> bool {
+    line.trim_start().strip_prefix(kind).is_some_and(|rest| rest.starts_with([' ', '*']))
+}
+
+/// A clause of a contract, with the lines that it goes on in, up to the bracket that closes it.
 fn clause<'a>(first: &str, lines: &mut impl Iterator<Item = &'a str>) -> String {
     let mut clause = first.trim().to_string();
-    while !clause.contains('⌝') {
+    let count = |text: &str, bracket: char| text.matches(bracket).count();
+    while count(&clause, '}') == 0 || count(&clause, '{') > count(&clause, '}') {
         let Some(line) = lines.next() else {
             break;
         };
@@ -169,10 +177,12 @@ pub fn held(text: &str) -> Vec<Held> {
     found
 }
 
-/// `use lib.Dec.{eqb, leb}` takes both from a library, `use Prim.Native.String as text` all of it, as `text`.
+/// `use Rattle.std.specs.Prelude.{eqb, leb}` takes both from a library, `use Prim.Native.String as text` all of it, as `text`. What comes from
+/// the modules of a crate here does not.
 fn library(text: &str) -> BTreeSet<String> {
     let uses = text.lines().filter_map(|line| line.strip_prefix("use "));
-    let uses = uses.filter(|rest| !rest.starts_with("Rattle·"));
+    let is_of_crate = |rest: &str| rest.split_once(".{").and_then(|(path, _)| module_path(path)).is_some();
+    let uses = uses.filter(|rest| !is_of_crate(rest));
     let names = uses.flat_map(|rest| match rest.split_once(".{") {
         Some((_, names)) => names.trim_end_matches(['}', ';']).split(',').collect(),
         None => vec![rest],
@@ -204,11 +214,11 @@ fn without_comment(line: &str) -> &str {
 }
 
 fn words(line: &str) -> BTreeSet<String> {
-    let apart = |character: char| character.is_whitespace() || "(){}[],;.⌜⌝".contains(character);
+    let apart = |character: char| character.is_whitespace() || "(){}[],;.".contains(character);
     line.split(apart).filter(|word| !word.is_empty()).map(str::to_string).collect()
 }
 
-/// `use Rattle·file.specs.Rules.Bytes.{part, numberOf as number}`: what each name stands for.
+/// `use Rattle.file.specs.Rules.Bytes.{part, number_of as number}`: what each name stands for.
 fn imports(text: &str, start: &str) -> BTreeMap<String, Place> {
     let mut imports = BTreeMap::new();
     for line in text.lines() {
@@ -228,14 +238,13 @@ fn imports(text: &str, start: &str) -> BTreeMap<String, Place> {
     imports
 }
 
-/// `Rattle·file·specs.specs.Rules.Bytes` is `file/Rules/Bytes`, from another crate `Rattle·file.specs.Rules.Bytes`;
-/// `Rattle·file·proofs.proofs.Bytes` is `file/proofs/Bytes`.
+/// `Rattle.file.specs.Rules.Bytes` is `file/Rules/Bytes`, `Rattle.file.proofs.Bytes` is `file/proofs/Bytes`. A library's modules of definitions,
+/// as `Rattle.std.specs.Prelude`, stand in none of the folders.
 fn module_path(path: &str) -> Option<String> {
-    let path = path.strip_prefix("Rattle·")?;
-    let (crate_name, folder, inside) = match path.split_once(".specs.") {
-        Some((crate_name, inside)) => (crate_name, "", inside),
-        None => path.split_once(".proofs.").map(|(crate_name, inside)| (crate_name, "proofs/", inside))?,
-    };
-    let crate_name = crate_name.split('·').next()?;
-    Some(format!("{crate_name}/{folder}{}", inside.replace('.', "/")))
+    let (crate_name, rest) = path.strip_prefix("Rattle.")?.split_once('.')?;
+    let inside = |inside: &str| inside.replace('.', "/");
+    match rest.strip_prefix("specs.") {
+        Some(rest) => Some(format!("{crate_name}/{}", inside(rest))).filter(|path| Folder::of(path).is_some()),
+        None => Some(format!("{crate_name}/proofs/{}", inside(rest.strip_prefix("proofs.")?))),
+    }
 }

@@ -3,7 +3,7 @@
 //! A sentence stands between `**` and `**`; several may share a paragraph, and then what is cited for one is cited for all. Below it are
 //! lines `- defined: ..`, `- claimed: ..`, `- holds by: ..`, `- tested: ..`, in which names stand behind a path in backticks.
 
-/// A name behind a path, as `numberOf` behind `file/specs/Rules/Bytes`.
+/// A name behind a path, as `number_of` behind `file/specs/Rules/Bytes`.
 #[derive(Clone, Debug, PartialEq, Eq)]
 pub struct Citation {
     pub path: String,

@@ -139,7 +139,7 @@ impl Sources {
     }
 }
 
-/// Of `ensures { λ r. ⌜ r ≡ theCall (now file) ⌝ }` the definition that `theCall` stands for, if it is of what was lent.
+/// Of `ensures { result ≡ the_call file.now }` the definition that `the_call` stands for, if it is of what was lent.
 fn computed(specs: &Specs, contract: &Contract) -> Vec<Place> {
     // a constructor only puts together what was lent
     let rule = |word: &str| {
@@ -147,19 +147,19 @@ fn computed(specs: &Specs, contract: &Contract) -> Vec<Place> {
         specs.defined(there).filter(|(path, name)| Folder::of(path) == Some(Folder::Rules) && *name == there.1)
     };
     let promised = if contract.promised { &contract.text[..] } else { "" };
-    let sides =
-        promised.split("≡ ").skip(1).map(|right| right.split(['⌝', '×']).next().unwrap_or(right).trim());
+    let promised = promised.strip_suffix('}').unwrap_or(promised);
+    let sides = promised.split("≡ ").skip(1).map(|right| right.split('×').next().unwrap_or(right).trim());
     let heads = sides.filter_map(|side| head_of_lent(side, |word| rule(word).is_some()));
     heads.filter_map(rule).cloned().collect()
 }
 
-/// The first word of an equation's right side, if any other rule there is of lent memory itself, as in `decode (now file)`, and if the side is
-/// no part of what its first word gives, as with `.epoch` at its end.
+/// The first word of an equation's right side, if any other rule there is of lent memory itself, as in `decode file.now`, and if the side is
+/// no part of what its first word gives, as `(decode file.now).epoch` is.
 fn head_of_lent(side: &str, is_rule: impl Fn(&str) -> bool) -> Option<&str> {
     let words: Vec<&str> = side.split([' ', '(', ')']).filter(|word| !word.is_empty()).collect();
-    let last = side.rsplit(' ').next().unwrap_or(side);
-    let is_part = last.starts_with('.') && !last.ends_with(')');
+    let is_part = side.starts_with('(') && side.rsplit(')').next().is_some_and(|end| end.starts_with('.'));
     let others = words.iter().zip(words.iter().skip(1).chain([&""])).skip(1);
-    let is_of_lent = others.filter(|(word, _)| is_rule(word)).all(|(_, next)| *next == "now");
+    let is_lent = |word: &str| [".now", ".old", ".new"].iter().any(|end| word.ends_with(end));
+    let is_of_lent = others.filter(|(word, _)| is_rule(word)).all(|(_, next)| is_lent(next));
     words.first().filter(|_| is_of_lent && !is_part).copied()
 }

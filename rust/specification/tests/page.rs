@@ -15,26 +15,26 @@ const CLAIMS: &str =
     "# Claims\n\nNo section yet.\n\n## Bytes\n\nAll bytes.\n\n**A byte is below 256.** So it is.\n\
     - defined: `file/specs/Rules/Byte` limit\n- holds by: `file/src/sums` sum\n\n\
     **The sum is of two.**\n**It has a limit.**\n- defined: `file/specs/Rules/Sum` sum\n\
-    - holds by: `file/proofs/Sums` sum-limited; law: `file/proofs/Sums` step\n\n\
+    - holds by: `file/proofs/Sums` sum_limited; law: `file/proofs/Sums` step\n\n\
     ## Rounds\n**Ten are tested.**\n- tested: file_cases\n\n**A byte again.** See \"Bytes\".\n";
 
 const BYTE: &str =
-    "-- What a byte is.\nuse Prim.Native.Nat.{ℕ}\n\n-- ---- the limit, which\n-- no byte has\n\n\
+    "-- What a byte is.\nuse Rattle.std.specs.Prelude.{ℕ}\n\n-- ---- the limit, which\n-- no byte has\n\n\
     -- \"A byte is below 256.\"\nabbrev pub limit : ℕ\nlimit = 256\n";
 
-const SUM: &str = "use Prim.Native.Nat.{ℕ}\nuse Rattle·file·specs.specs.Rules.Byte.{limit as most}\n\n\
+const SUM: &str = "use Rattle.std.specs.Prelude.{ℕ}\nuse Rattle.file.specs.Rules.Byte.{limit as most}\n\n\
     pub record Pair : Type 0 where\n  pub first : ℕ\n  -- the other\n  pub second : ℕ\n\n\
-    unfoldable pub sum : Pair → ℕ\nsum p = p .first\n";
+    unfoldable pub sum : Pair → ℕ\nsum p = p.first\n";
 
 const EXACT: &str =
-    "use Rattle·file·specs.specs.Rules.Sum.{sum}\n\nabbrev pub SumLimited : Type 0\nSumLimited = sum\n";
+    "use Rattle.file.specs.Rules.Sum.{sum}\n\nabbrev pub SumLimited : Type 0\nSumLimited = sum\n";
 
-const CLAIMED: &str = "use Rattle·file·specs.specs.Claims.Exact.{SumLimited}\nuse Rattle·file·proofs.proofs.Sums.{sum-limited}\n\n\
-    pub held-sum-limited : SumLimited\nheld-sum-limited = sum-limited\n";
+const CLAIMED: &str = "use Rattle.file.specs.Claims.Exact.{SumLimited}\nuse Rattle.file.proofs.Sums.{sum_limited}\n\n\
+    pub held_sum_limited : SumLimited\nheld_sum_limited = sum_limited\n";
 
 const CODE: &str =
-    "ghost use Rattle·file·specs.specs.Rules.Sum.{sum as theSum};\n\npub fn sum(pair: &Pair) -> u8\n\
-    \x20   ensures { λ r. ⌜ r ≡\n        theSum (now pair) ⌝ }\n{\n    0\n}\n";
+    "ghost use Rattle.file.specs.Rules.Sum.{sum as the_sum};\n\npub fn sum(pair: &Pair) -> u8\n\
+    \x20   ensures { result ≡\n        the_sum pair.now }\n{\n    0\n}\n";
 
 fn sources(modules: &[(&str, &str)], claimed: &str) -> Sources {
     let modules = modules.iter().map(|&(path, text)| (path.to_string(), module(text))).collect();
@@ -87,7 +87,7 @@ fn sentences_come_before_definitions_and_these_before_their_use_and_before_claim
         "So it is.",
         "> It has a limit.",
         "limit = 256",
-        "sum p = p .first",
+        "sum p = p.first",
         "</a>2. Rounds",
         "SumLimited = sum",
         "</a>Index of names",
@@ -105,12 +105,12 @@ fn the_same_sources_give_the_same_bytes() {
 fn definitions_stand_as_they_are_without_the_checkers_words() {
     let page = made();
     assert!(page.contains(
-        "```\nrecord Pair : Type 0 where\n  first : ℕ\n  -- the other\n  second : ℕ\n\nsum : Pair → ℕ\nsum p = p .first\n```"
+        "```\nrecord Pair : Type 0 where\n  first : ℕ\n  -- the other\n  second : ℕ\n\nsum : Pair → ℕ\nsum p = p.first\n```"
     ));
     assert!(page.contains(
         "**the limit, which no byte has**\n\n```\n-- \"A byte is below 256.\"\nlimit : ℕ\nlimit = 256\n```"
     ));
-    assert!(!page.contains("Prim.Native"));
+    assert!(!page.contains("Prelude"));
 }
 
 #[test]
@@ -123,7 +123,7 @@ fn links_lead_to_code_and_proof() {
     let page = made();
     assert!(page.contains("- `sum` is computed by `sum` in [file/src/sums](../crates/file/src/sums.rt)"));
     assert!(page.contains(
-        "Theorem `sum-limited` in [file/proofs/Sums](../crates/file/proofs/Sums.antt). \
+        "Theorem `sum_limited` in [file/proofs/Sums](../crates/file/proofs/Sums.antt). \
          Code: `sum` in [file/src/sums](../crates/file/src/sums.rt)."
     ));
     assert!(page.contains("- Claimed: [`SumLimited`](#file-Claims-Exact-SumLimited)"));
@@ -157,7 +157,7 @@ fn sentences_without_a_place_are_refused() {
 #[test]
 fn a_claim_without_theorem_is_refused() {
     let record =
-        "use Rattle·file·specs.specs.Rules.Sum.{sum}\n\nabbrev pub SumLimited : Type 0\nSumLimited = Data\n\n\
+        "use Rattle.file.specs.Rules.Sum.{sum}\n\nabbrev pub SumLimited : Type 0\nSumLimited = Data\n\n\
         pub record Data : Type 0 where\n  pub one : sum\n\npub record Whole : Type 0 where\n  pub all : sum\n";
     let modules = [("file/Rules/Byte", BYTE), ("file/Rules/Sum", SUM), ("file/Claims/Exact", record)];
     let wrong = |claimed: &str| {
@@ -227,9 +227,9 @@ fn a_drawn_sentence_comes_with_its_texts() {
         "\"A byte is below 256.\" So it is.",
         "limit = 256",
         "promise of sum, crates/file/src/sums.rt:",
-        "ensures { λ r. ⌜ r ≡ theSum (now pair) ⌝ }",
+        "ensures { result ≡ the_sum pair.now }",
         "SumLimited = sum",
-        "theorem sum-limited : SumLimited, crates/file/proofs/Sums.antt",
+        "theorem sum_limited : SumLimited, crates/file/proofs/Sums.antt",
         "tested: file_cases",
     ] {
         assert!(every.contains(text), "{text}");

@@ -21,7 +21,7 @@ returns-then-not-walk_body c = search (rules, refused_by_layout, header_good, no
 
 pub slaves_ground-last-requires : goal.slaves_ground-last-requires
 slaves_ground-last-requires c =
-    (whole c.walk_body.ensures (not-false _ c.if-not-walk_body.false-raw), record { room = omega arith })
+    (whole c.walk_body.ensures c.if-not-walk_body.false, record { room = omega arith })
 
 pub returns-then-last-ne0 : goal.returns-then-last-ne0
 unfolding checked_of

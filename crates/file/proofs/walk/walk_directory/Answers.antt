@@ -26,7 +26,7 @@ overflow_add-place-2 c = search (rules, first_fits)
 
 pub loop-entry-init : goal.loop-entry-init
 loop-entry-init c =
-    first_next c.requires c.if-count-eq0.false c.is_next.ensures (not-false _ c.if-not-is_next.false-raw) c.byte_at-first.ensures c.byte_at-records.ensures
+    first_next c.requires c.if-count-eq0.false c.is_next.ensures c.if-not-is_next.false c.byte_at-first.ensures c.byte_at-records.ensures
 
 pub is_next-requires-in-loop-entry : goal.is_next-requires-in-loop-entry
 is_next-requires-in-loop-entry c = search (rules, walking_entry)
@@ -39,7 +39,7 @@ overflow_add-place-in-loop-entry-2 c = search (rules, walking_fits)
 
 pub loop-entry-preserved : goal.loop-entry-preserved
 loop-entry-preserved c =
-    walking_next c.requires c.loop-entry.invariant c.loop-entry-test.true c.is_next-in-loop-entry.ensures (not-false _ c.if-not-is_next-2.false-raw) c.byte_at-number.ensures c.byte_at-last.ensures
+    walking_next c.requires c.loop-entry.invariant c.loop-entry-test.true c.is_next-in-loop-entry.ensures c.if-not-is_next-2.false c.byte_at-number.ensures c.byte_at-last.ensures
 
 pub returns : goal.returns
 returns c = search (rules, walking_done)
