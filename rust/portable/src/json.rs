@@ -63,7 +63,9 @@ impl Reader<'_> {
             "null" => Json::Null,
             "true" => Json::Bool(true),
             "false" => Json::Bool(false),
-            _ if !word.is_empty() && word.bytes().all(|byte| byte.is_ascii_digit()) => Json::Number(word.to_string()),
+            _ if !word.is_empty() && word.bytes().all(|byte| byte.is_ascii_digit()) => {
+                Json::Number(word.to_string())
+            }
             _ => return Err(self.wrong("a value")),
         };
         self.rest = &self.rest[end..];

@@ -227,7 +227,8 @@ struct Body<'a> {
 
 impl<'a> Body<'a> {
     fn next(&mut self) -> Result<&'a Json, Refused> {
-        let (first, rest) = self.rest.split_first().ok_or_else(|| Refused::new("a body that ends too early"))?;
+        let (first, rest) =
+            self.rest.split_first().ok_or_else(|| Refused::new("a body that ends too early"))?;
         self.rest = rest;
         Ok(first)
     }
