@@ -1,6 +1,10 @@
 // The lines of the input, and the fields of a line.
 ghost use Rattle.std.specs.Prelude.{◌≤◌, ◌<◌, ◌≡◌, length};
-ghost use Rattle.io.specs.Counts.{IsPrefixLen};
+ghost use Rattle.std.specs.Counts.{IsPrefixLen};
+ghost use Rattle.std.specs.Io.{ReadsAtMost};
+
+use std::io;
+use std::io::Read;
 
 // The longest input.
 const INPUT: usize = 262144;
@@ -10,6 +14,21 @@ pub fn input_buffer() -> [u8; INPUT]
     ensures { 262144 ≡ length result }
 {
     [0; INPUT]
+}
+
+// Reads until the buffer is full or the input ends, and answers how many bytes it put at the start of the buffer.
+pub fn read_full<R: Read>(input: &mut R, buffer: &mut [u8]) -> io::Result<usize>
+    ensures { ReadsAtMost result buffer.new }
+{
+    let mut done = 0;
+    while done < buffer.len() {
+        let read = input.read(&mut buffer[done..])?;
+        if read == 0 {
+            break;
+        }
+        done += read;
+    }
+    Ok(done)
 }
 
 const FIELD: u8 = 1;

@@ -1,19 +1,19 @@
 // What is written of an answer: after a space a number, or bytes as the input has them.
 ghost use Rattle.std.specs.Prelude.{◌<◌};
 
-use libc::STDOUT_FILENO;
+use std::io;
 
-pub fn text(s: &[u8]) {
-    io::write_all(STDOUT_FILENO, s);
+pub fn text(out: &impl Print, s: &[u8]) -> io::Result<()> {
+    out.write_all(s)
 }
 
-pub fn decimal(n: u64) {
-    io::print_decimal(STDOUT_FILENO, n);
+pub fn decimal(out: &impl Print, n: u64) -> io::Result<()> {
+    out.print(n)
 }
 
-pub fn number(n: u64) {
-    text(b" ");
-    decimal(n);
+pub fn number(out: &impl Print, n: u64) -> io::Result<()> {
+    text(out, b" ")?;
+    decimal(out, n)
 }
 
 fn digit(n: u8) -> u8
@@ -25,24 +25,25 @@ fn digit(n: u8) -> u8
     b'A' + (n - 10)
 }
 
-fn byte(n: u8) {
-    text(&[digit(n / 16), digit(n % 16)]);
+fn byte(out: &impl Print, n: u8) -> io::Result<()> {
+    text(out, &[digit(n / 16), digit(n % 16)])
 }
 
-fn digits(s: &[u8]) {
+fn digits(out: &impl Print, s: &[u8]) -> io::Result<()> {
     let mut i = 0;
     while i < s.len() {
-        byte(s[i]);
+        byte(out, s[i])?;
         i += 1;
     }
+    Ok(())
 }
 
-pub fn bytes(s: &[u8]) {
-    text(b" ");
+pub fn bytes(out: &impl Print, s: &[u8]) -> io::Result<()> {
+    text(out, b" ")?;
     if s.len() == 0 {
-        text(b"-");
+        text(out, b"-")?;
     }
-    digits(s);
+    digits(out, s)
 }
 
 fn low(n: u64) -> u8 {
@@ -50,15 +51,18 @@ fn low(n: u64) -> u8 {
 }
 
 // A 64-bit number as its eight bytes, the most significant first.
-pub fn word(n: u64) {
-    bytes(&[
-        low(n / 0x100000000000000),
-        low(n / 0x1000000000000),
-        low(n / 0x10000000000),
-        low(n / 0x100000000),
-        low(n / 0x1000000),
-        low(n / 0x10000),
-        low(n / 0x100),
-        low(n),
-    ]);
+pub fn word(out: &impl Print, n: u64) -> io::Result<()> {
+    bytes(
+        out,
+        &[
+            low(n / 0x100000000000000),
+            low(n / 0x1000000000000),
+            low(n / 0x10000000000),
+            low(n / 0x100000000),
+            low(n / 0x1000000),
+            low(n / 0x10000),
+            low(n / 0x100),
+            low(n),
+        ],
+    )
 }

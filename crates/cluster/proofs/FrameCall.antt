@@ -108,7 +108,7 @@ module _ (frame : List ℕ) (w : Firework) (is : firework_round w ≡ round_by_l
 
 module _ (frame buffer : List ℕ) {file places : List ℕ} {a : FileAnswer} (s : Surveyed file (checked_of a) places) where
   pub call-refused : {why : Refusal} → a ≡ answers.Refused why → (refused why.0, buffer, file) ≡ round_on file frame buffer
-  call-refused e = let ground = survey-refused s e in file-refused file frame buffer ground.0 ground.1
+  call-refused e = let reason = survey-refused s e in file-refused file frame buffer reason.0 reason.1
 
   module _ (yes : a ≡ answers.Accepted) where
     pub call-short : length buffer < slots → (refused 9, buffer, file) ≡ round_on file frame buffer

@@ -231,8 +231,8 @@ pub data-refused :
     data_read x ≡ result_of (frame_ground c frame) (between frame) → x ≡ readings.Refused why → Exchanged c frame b b (refused why.0) f
 unfolding data_read
 data-refused c frame b {why = why} h e is =
-    let ground = that_ground (between frame) why.0 (frame_ground c frame) (rw is at e) in
-    exchange-refused c frame b h ground.0 ground.1
+    let reason = that_ground (between frame) why.0 (frame_ground c frame) (rw is at e) in
+    exchange-refused c frame b h reason.0 reason.1
 
 pub data-taken :
     (c : Cluster) (frame : List ℕ) {f : List ℕ} (old : List ℕ) {new : List ℕ} {mask : ℕ} {x : DataReading} {bytes : DataBytes} → round_by_lem frame ≡ msd →
@@ -255,7 +255,7 @@ address_ground c frame h =
 
 -- what was read of a frame
 pub record PartsAre (frame : List ℕ) (epoch name number operation «record» : ℕ) : Type 0 where
-  pub ground : read_ground frame ≡ 0
+  pub reason : read_ground frame ≡ 0
   pub pb0 : epoch ≡ get_or frame 1 0
   pub pb1 : name ≡ get_or frame 2 0
   pub pb2 : pb2_of number operation ≡ get_or frame 3 0
@@ -268,7 +268,7 @@ parts_facts frame {e} {n} {m} {o} {r} h =
     let file : m ≡ file_number_of (get_or frame 3 0) = ap (λ (p : Parts). p.file) same in
     let operation : o ≡ operation_of (get_or frame 3 0) = ap (λ (p : Parts). p.operation) same in
     record {
-      ground = no_ground (parts_of frame) (read_ground frame) h;
+      reason = no_ground (parts_of frame) (read_ground frame) h;
       pb0 = ap (λ (p : Parts). p.epoch) same;
       pb1 = ap (λ (p : Parts). p.name) same;
       pb2 = omega (arith, file, operation);
@@ -280,8 +280,8 @@ pub address-refused :
     reading_of x ≡ read_address frame → x ≡ addressReadings.Refused why → Taken c frame (refused why.0) f
 unfolding reading_of read_address
 address-refused c frame {x = x} {why} h isAddress e is =
-    let ground = that_ground (parts_of frame) why.0 (read_ground frame) (rw is at e) in
-    taken_refused c frame h (ground.0 ∙ sym (address_ground c frame isAddress)) ground.1
+    let reason = that_ground (parts_of frame) why.0 (read_ground frame) (rw is at e) in
+    taken_refused c frame h (reason.0 ∙ sym (address_ground c frame isAddress)) reason.1
 
 module _ (c : Cluster) (frame : List ℕ) {x : AddressReading} {epoch : ℕ} {name : LogicalName} {number : FileNumber} {operation : Operation}
     {record' : RecordNumber} (isAddress : round_by_lem frame ≡ msa) (e : reading_of x ≡ read_address frame) (is : x ≡ addressReadings.Address epoch name number operation record') where
@@ -290,7 +290,7 @@ module _ (c : Cluster) (frame : List ℕ) {x : AddressReading} {epoch : ℕ} {na
   taken = parts_facts frame (rw is at e)
 
   fits : frame_ground c frame ≡ 0
-  fits = address_ground c frame isAddress ∙ taken.ground
+  fits = address_ground c frame isAddress ∙ taken.reason
 
   pub address-legal : ((i : ℕ) → FitsIn w8 (get_or frame i 0)) → LegalPending (with_address c epoch (name_in_lem name) (pb2_of (file_in number) (operation_in operation)) (record_in record'))
   unfolding frame_ground no_operation_on broadcast_read_on with_address

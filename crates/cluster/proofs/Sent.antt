@@ -57,9 +57,9 @@ pub address-sent :
 unfolding read_ground frame_on effect_of
 address-sent file frame buffer epoch name number operation «record» accepted long reads =
     let facts : PartsAre frame epoch name number operation «record» = parts_facts frame reads in
-    let first : get_or frame 0 0 ≡ address_firework = Tests.address-first frame (first-none 9 _ _ facts.ground).0 in
+    let first : get_or frame 0 0 ≡ address_firework = Tests.address-first frame (first-none 9 _ _ facts.reason).0 in
     let isAddress : round_by_lem frame ≡ msa = address-round frame first in
-    let fits : frame_ground (decode file) frame ≡ 0 = address_ground (decode file) frame isAddress ∙ facts.ground in
+    let fits : frame_ground (decode file) frame ≡ 0 = address_ground (decode file) frame isAddress ∙ facts.reason in
     round-accepted file frame buffer (round-fits file frame buffer accepted long fits)
     ∙ rw (isAddress, first, ← mask-nobody, facts.pb0, facts.pb1, facts.pb2, facts.pb3)
 

@@ -264,6 +264,7 @@ map-alike f g e (s ∷ ss) = rw (e s, map-alike f g e ss)
 
 module _ (c : Cluster) (r : MasterSlaveRound) (may : MaySend (sent_for r)) where
   round-alike : data_effect (asked c (sent_for r)) (between (data_sent (sent_for r))) ≡ data_effect (asked c (sent_for r)) (round_data r)
+  unfolding slaves_after
   round-alike = by_case (eqb (sent_for r).operation write_operation) write other
     where
       write : eqb (sent_for r).operation write_operation ≡ true → data_effect (asked c (sent_for r)) (between (data_sent (sent_for r))) ≡ data_effect (asked c (sent_for r)) (round_data r)
@@ -277,7 +278,7 @@ module _ (c : Cluster) (r : MasterSlaveRound) (may : MaySend (sent_for r)) where
           let none : eqb (operation_of (pb2_of (sent_for r).file (sent_for r).operation)) write_operation ≡ false = rw (operation-back c (sent_for r) may) e in
           let alike = unwritten_alike (sent_for r).name (pb2_of (sent_for r).file (sent_for r).operation) (sent_for r).«record» (between (data_sent (sent_for r))) (round_data r) none in
           let same = map-alike _ _ alike (epoch_raised (asked c (sent_for r))).slaves in
-          unfold slaves_after in rw (asked_duty c (sent_for r) may, same)
+          rw (asked_duty c (sent_for r) may, same)
 
   module _ {e n : ℕ} (is : e ≡ c.epoch) (next : n ≡ next_epoch e) where
     asked_is : after_address c n r ≡ asked c (sent_for r)

@@ -122,6 +122,8 @@ below-epoch passed round c (suc n) =
 
 effect_epoch : (c : Cluster) (round : Round) (frame : List ℕ) → RaisesEpoch round → (effect_of c round frame).after.epoch ≡ (c.epoch + 1) % 256
 unfolding effect_of rested slaves_after with_slaves epoch_raised with_epoch next_epoch
+effect_epoch c msa frame never = elim never [ ]
+effect_epoch c no_round frame never = elim never [ ]
 effect_epoch c msd frame by_msd = refl
 effect_epoch c (multipartner r) frame by_multipartner = below-epoch (passed_over_lem c) r (epoch_raised c) slots
 

@@ -121,8 +121,8 @@ module _ (c : Cluster) (frame : List ℕ) {f : List ℕ} {x : DataReading} {slee
   pub unheard_refused : {why : Refusal} → Becomes f c → x ≡ readings.Refused why → MaySleep sleepers c → LeftUnheard c frame false sleepers f
   unfolding data_read
   unheard_refused {why} h is may =
-      let ground = that_ground (between frame) why.0 (frame_ground c frame) (rw is at e) in
-      left-refused c frame h ground.0 ground.1 may
+      let reason = that_ground (between frame) why.0 (frame_ground c frame) (rw is at e) in
+      left-refused c frame h reason.0 reason.1 may
 
   pub unheard_taken : {bytes : DataBytes} → round_by_lem frame ≡ msd → x ≡ readings.Data bytes → Left (data_effect c (data_in bytes)).after sleepers f → LeftUnheard c frame true sleepers f
   unfolding data_read frame_on effect_of

@@ -6,7 +6,7 @@ ghost use Rattle.cluster.specs.Inner.Unheard.{is_done};
 use file::types::Refusal;
 
 // A frame is refused, or carried out, with the mask of the slots in which someone sent.
-#[derive(Drop)]
+#[derive(Clone, Copy)]
 pub enum RoundAnswer {
     Refused(Refusal),
     Carried(u64),
@@ -23,7 +23,7 @@ pub fn is_carried(answer: RoundAnswer) -> bool
 }
 
 // What came of a frame that nobody hears: whether it was carried out, and whether someone may be asleep afterwards.
-#[derive(Drop)]
+#[derive(Clone, Copy)]
 pub struct Unheard {
     pub carried: bool,
     pub sleepers: bool,

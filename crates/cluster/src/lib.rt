@@ -1,4 +1,6 @@
 // The simulated cluster: one frame on a cluster file, and a complete master-slave round as a master sends it.
+#![tactic(auto)]
+
 pub mod answer;
 pub mod msa;
 pub mod msd;

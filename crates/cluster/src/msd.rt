@@ -38,7 +38,7 @@ fn is_write_pending(file: &[u8]) -> bool
 }
 
 // A data frame is refused, or has these bytes.
-#[derive(Drop)]
+#[derive(Clone, Copy)]
 pub enum DataReading {
     Refused(Refusal),
     Data(DataBytes),

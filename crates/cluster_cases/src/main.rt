@@ -1,11 +1,14 @@
 // Frames on cluster files against vectors of an independent model. A line of the input is `round FILE FRAME LENGTH`, LENGTH
 // that of the answer buffer, which holds EE throughout. After it stand the number of the answer, 0 where the frame is carried
 // out, the mask, the file and the buffer afterwards.
-use case_input::fields::{after, bytes_at, count_at, input_buffer, is, line};
+#![tactic(auto)]
+
+use case_input::fields::{after, bytes_at, count_at, input_buffer, is, line, read_full};
 use case_input::show;
 use case_input::show::text;
 use cluster::answer::RoundAnswer;
 use cluster::round::round;
+use std::io;
 
 // The most bytes that a file, a frame and an answer buffer have here.
 const FILE: usize = 2048;
@@ -14,50 +17,56 @@ const FRAME: usize = 64;
 
 const BUFFER: usize = 168;
 
-fn answered(number: u8, mask: u64) {
-    text(b" =");
-    show::number(number as u64);
-    show::word(mask);
+fn answered(out: &impl Print, number: u8, mask: u64) -> io::Result<()> {
+    text(out, b" =")?;
+    show::number(out, number as u64)?;
+    show::word(out, mask)
 }
 
-fn carry(file: &mut [u8], frame: &[u8], buffer: &mut [u8]) {
+fn carry(out: &impl Print, file: &mut [u8], frame: &[u8], buffer: &mut [u8]) -> io::Result<()> {
     let answer = round(file, frame, buffer);
     match answer {
-        RoundAnswer::Refused(why) => answered(why.0, 0),
-        RoundAnswer::Carried(mask) => answered(0, mask),
+        RoundAnswer::Refused(why) => answered(out, why.0, 0)?,
+        RoundAnswer::Carried(mask) => answered(out, 0, mask)?,
     }
-    show::bytes(file);
-    show::bytes(buffer);
+    show::bytes(out, file)?;
+    show::bytes(out, buffer)
 }
 
-fn round_case(case: &[u8]) {
+fn round_case(out: &impl Print, case: &[u8]) -> io::Result<()> {
     let mut file = [0u8; FILE];
     let mut frame = [0u8; FRAME];
     let mut buffer = [0xEEu8; BUFFER];
     let size = bytes_at(case, 1, &mut file);
     let sent = bytes_at(case, 2, &mut frame);
     let length = count_at(case, 3, &buffer);
-    carry(&mut file[..size], &frame[..sent], &mut buffer[..length]);
+    carry(
+        out,
+        &mut file[..size],
+        &frame[..sent],
+        &mut buffer[..length],
+    )
 }
 
-fn run(case: &[u8]) {
-    text(case);
+fn run(out: &impl Print, case: &[u8]) -> io::Result<()> {
+    text(out, case)?;
     if is(case, b"round") {
-        round_case(case);
+        round_case(out, case)?;
     }
-    text(b"\n");
+    text(out, b"\n")
 }
 
-fn cases(input: &[u8]) {
+fn cases(out: &impl Print, input: &[u8]) -> io::Result<()> {
     let mut at = 0;
     while at < input.len() {
-        run(line(input, at));
+        run(out, line(input, at))?;
         at = after(input, at);
     }
+    Ok(())
 }
 
-fn main() {
+fn main(rt: HostRuntime) -> io::Result<()> {
     let mut input = input_buffer();
-    let n = io::read_full(0, &mut input);
-    cases(&input[..n]);
+    let n = read_full(&mut rt.stdin(), &mut input)?;
+    cases(&rt, &input[..n])
 }

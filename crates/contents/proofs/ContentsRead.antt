@@ -68,7 +68,7 @@ answered_exactly =
       );
       turnedAway = λ f s n buffer k. (
         refused-some f s n buffer k,
-        λ (ground, some). refused-here f s n buffer (λ z. some (sym ground ∙ z)) ∙ ap (λ (m : ℕ). refused m) ground,
+        λ (reason, some). refused-here f s n buffer (λ z. some (sym reason ∙ z)) ∙ ap (λ (m : ℕ). refused m) reason,
       );
     }
 

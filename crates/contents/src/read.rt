@@ -6,14 +6,13 @@ ghost use Rattle.file.specs.Inner.Typed.{file_in};
 ghost use Rattle.contents.specs.Rules.Contents.{contents_on};
 ghost use Rattle.contents.specs.Inner.ContentsAnswers.{size_of};
 
-use bytes::copy;
 use file::readers::slave_count;
 use file::records::{FilePlace, find_file};
 use file::survey::{FileAnswer, survey};
 use file::types::{FileNumber, PLACES, Refusal};
 
 // A cluster file is refused, or the slave's file has so many bytes: none where there is no such slave or file.
-#[derive(Drop)]
+#[derive(Clone, Copy)]
 pub enum ContentsAnswer {
     Refused(Refusal),
     Size(usize),
@@ -33,8 +32,9 @@ fn put_front(file: &[u8], place: usize, size: usize, buffer: &mut [u8])
     requires { place + size ≤ length file.now }
     ensures { buffer.new ≡ written_in buffer.old (take (length buffer.old) (part file.now place size)) }
 {
-    let end = place + lesser(size, buffer.len());
-    copy(&file[place..end], buffer);
+    let count = lesser(size, buffer.len());
+    let end = place + count;
+    buffer[..count].copy_from_slice(&file[place..end]);
 }
 
 // A file of the slave at a place of the table: the cluster file is refused by its number, with the buffer as it was, or the buffer has in

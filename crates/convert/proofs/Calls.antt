@@ -107,9 +107,9 @@ in-edition f e = form-is (width_in e) e (decode f)
 module _ {f places : List ℕ} {a : FileAnswer} (s : Surveyed f (checked_of a) places) (e : Edition) (out : List ℕ) where
   pub call-refused : {why : Refusal} → a ≡ answers.Refused why → (refused why.0, out) ≡ convert_on f (edition_in e) out
   call-refused {why} is =
-      let ground = survey-refused s is in
-      let here : convert_ground f (edition_in e) out ≡ file_ground f = file_decides f (edition_in e) out (λ z. ground.1 (ground.0 ∙ z)) in
-      sym (convert-refused f (edition_in e) out (here ∙ sym ground.0) ground.1)
+      let reason = survey-refused s is in
+      let here : convert_ground f (edition_in e) out ≡ file_ground f = file_decides f (edition_in e) out (λ z. reason.1 (reason.0 ∙ z)) in
+      sym (convert-refused f (edition_in e) out (here ∙ sym reason.0) reason.1)
 
   module _ (accepted : a ≡ answers.Accepted) {v size : ℕ} (width : v ≡ width_in (edition_in e)) (long : size ≡ file_length v (decode f).slaves) where
     length-is : size ≡ file_length (width_in (edition_in e)) (decode f).slaves

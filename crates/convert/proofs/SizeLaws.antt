@@ -13,6 +13,8 @@ use Rattle.convert.specs.Inner.Slaves.{files_in}
 
 -- an entry is one of so many
 pub entries_below : (w i n : ℕ) → i < n → 2 * w * i + 2 * w ≤ 2 * w * n
+entries_below w zero zero l = elim l [ ]
+entries_below w (suc i) zero l = elim l [ ]
 entries_below w zero (suc n) l = omega arith
 entries_below w (suc i) (suc n) l = omega (arith, entries_below w i n (omega arith))
 

@@ -42,7 +42,7 @@ module _ {w : ℕ} (two : 2 ≤ w) {f : List ℕ} where
   slave-at {t} {place} (s ∷ ss) a (suc i) l =
       let entry : t + entry_size_lem w * suc i ≡ t + entry_size_lem w + entry_size_lem w * i = omega arith in
       let start : place + (slave_size w s + slaves_size w (take i ss)) ≡ place + slave_size w s + slaves_size w (take i ss) = omega arith in
-      rw (entry, start) (slave-at ss (other-slaves two a) i (omega arith))
+      rw (entry, start) (slave-at {t = t + entry_size_lem w} ss (other-slaves two a) i (omega arith))
 
   file-at : {d low place : ℕ} (xs : List File) → FilesStand w f d low place xs → (k : ℕ) → k < length xs
       → (p : ℕ) × EntryBytes w f (d + entry_size_lem w * k) p (get_or xs k no_file_lem)
@@ -52,7 +52,7 @@ module _ {w : ℕ} (two : 2 ≤ w) {f : List ℕ} where
       (place, rw here (entry-bytes two (first-file two a).entry))
   file-at {d} {place = place} (x ∷ xs) a (suc k) l =
       let entry : d + entry_size_lem w * suc k ≡ d + entry_size_lem w + entry_size_lem w * k = omega arith in
-      let rest = file-at xs (other-files two a) k (omega arith) in
+      let rest = file-at {d = d + entry_size_lem w} xs (other-files two a) k (omega arith) in
       (rest.0, rw entry rest.1)
 
 -- ---- an accepted file

@@ -23,7 +23,7 @@ use file::survey::{FileAnswer, survey};
 use file::types::{PLACES, Refusal};
 
 // A file is refused, or its form is written, with its length.
-#[derive(Drop)]
+#[derive(Clone, Copy)]
 pub enum Conversion {
     Refused(Refusal),
     Written(usize),

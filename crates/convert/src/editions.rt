@@ -5,7 +5,7 @@ ghost use Rattle.convert.specs.Inner.ConversionAnswers.{edition_in};
 
 use file::layout::{OFFSET_WIDTH, WIDE_OFFSET_WIDTH};
 
-#[derive(Drop)]
+#[derive(Clone, Copy)]
 pub enum Edition {
     One,
     Two,

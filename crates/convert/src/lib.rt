@@ -1,5 +1,7 @@
 // A cluster file in the other edition (document 02, job 10), and the parts by which a cluster file is written: bytes, sizes, the header,
 // the slave table, the slaves.
+#![tactic(auto)]
+
 pub mod convert;
 mod directory;
 pub mod editions;

@@ -5,7 +5,6 @@ ghost use Rattle.file.specs.Rules.Layout.{OffsetWidth};
 ghost use Rattle.file.specs.Inner.Layout.{short_width};
 ghost use Rattle.convert.specs.Inner.Putting.{Put, OffsetFits};
 
-use bytes::copy;
 use file::layout::OFFSET_WIDTH;
 
 // The values of a byte, and of two.
@@ -64,5 +63,5 @@ pub fn put_run(out: &mut [u8], at: usize, file: &[u8], start: usize, end: usize)
     ensures { Put out.old at (part file.now start (end - start)) out.new }
 {
     let behind = at + (end - start);
-    copy(&file[start..end], &mut out[at..behind]);
+    out[at..behind].copy_from_slice(&file[start..end]);
 }

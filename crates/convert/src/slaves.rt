@@ -15,7 +15,7 @@ use file::layout::{
 use file::readers::{slave_count, width_of};
 
 // Where a slave ends, in the file and in the buffer.
-#[derive(Drop)]
+#[derive(Clone, Copy)]
 struct SlaveEnds {
     file: usize,
     out: usize,

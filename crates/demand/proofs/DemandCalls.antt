@@ -57,9 +57,9 @@ use Rattle.demand.proofs.TurnFrames.{turn-left, none-sent, turn-frames-bytes}
 
 -- ---- numbers and words
 
-number_result : {A : Type 0} (ground : ℕ) (value : A) → number_in (result_of ground value) ≡ ground
+number_result : {A : Type 0} (reason : ℕ) (value : A) → number_in (result_of reason value) ≡ reason
 unfolding number_in result_of
-number_result ground value = by_case (eqb ground 0) (λ z. rw z (sym (eqb-true ground 0 z))) (λ z. rw z)
+number_result reason value = by_case (eqb reason 0) (λ z. rw z (sym (eqb-true reason 0 z))) (λ z. rw z)
 
 pub position-back : (p : Position) → position_in (words_of p) ≡ p
 unfolding position_in words_of
@@ -377,15 +377,15 @@ calls-fed :
     account_after a (traces_aside (arguments_of_all names m cs)) ≡ account_after a (calls_fed cs)
 unfolding traces_aside calls_fed arguments_of_all arguments_of account_after
 calls-fed names m a [] = refl
-calls-fed names m a (ttpa_step buffer senders ∷ cs) = calls-fed names _ (account_call a (plain_step buffer)) cs
+calls-fed names m a (ttpa_step buffer senders ∷ cs) = calls-fed names (memory_after names m (ttpa_step buffer senders)) (account_call a (plain_step buffer)) cs
 calls-fed names m a (ttpa_step_keeping buffer senders held count ∷ cs) =
-    calls-fed names _ (account_call a (step (record { summary = kept count held; buffer = buffer }))) cs
-calls-fed names m a (ttpa_round bytes buffer senders ∷ cs) = calls-fed names _ (account_call a (plain_frame bytes buffer)) cs
+    calls-fed names (memory_after names m (ttpa_step_keeping buffer senders held count)) (account_call a (step (record { summary = kept count held; buffer = buffer }))) cs
+calls-fed names m a (ttpa_round bytes buffer senders ∷ cs) = calls-fed names (memory_after names m (ttpa_round bytes buffer senders)) (account_call a (plain_frame bytes buffer)) cs
 calls-fed names m a (ttpa_round_keeping bytes buffer senders held count ∷ cs) =
-    calls-fed names _ (account_call a (frame (record { summary = kept count held; bytes = bytes; buffer = buffer }))) cs
-calls-fed names m a (ttpa_trace_lem t report ∷ cs) = calls-fed names _ a cs
+    calls-fed names (memory_after names m (ttpa_round_keeping bytes buffer senders held count)) (account_call a (frame (record { summary = kept count held; bytes = bytes; buffer = buffer }))) cs
+calls-fed names m a (ttpa_trace_lem t report ∷ cs) = calls-fed names (memory_after names m (ttpa_trace_lem t report)) a cs
 calls-fed names m a (ttpa_turn state buffer senders screen ∷ cs) =
-    turn-unaccounted a (turn_frames m.file state buffer) _ ∙ calls-fed names _ a cs
+    turn-unaccounted a (turn_frames m.file state buffer) _ ∙ calls-fed names (memory_after names m (ttpa_turn state buffer senders screen)) a cs
 
 pub check-number : (file : List ℕ) → check_call file ≡ load_ground file
 unfolding check_call load_verdict

@@ -21,7 +21,7 @@ use Rattle.naming.specs.Claims.PermittedRounds.{Rounds, no_rounds, multipartner_
 use Rattle.naming.proofs.PermittedExactly.{permitted_exactly}
 use Rattle.naming.proofs.PermittedRounds.{address_of_bytes, data-frame-bytes, rounds-fit}
 use Rattle.demand.specs.Claims.Traces.{CallOrTrace, frame_call, frames_singly, singly}
-use Rattle.demand.specs.Claims.DemandCalls.{CCall, Memory, after_calls, started, IsStep, is-step, is-step_keeping, arguments_of}
+use Rattle.demand.specs.Claims.DemandCalls.{CCall, Memory, memory_after, after_calls, started, IsStep, is-step, is-step_keeping, arguments_of}
 use Rattle.demand.specs.Claims.DemandCalls.{arguments_of_all}
 use Rattle.demand.specs.Claims.Permitted.{CallsPermittedExactly, TraceFits, RoundsFitCalls, TraceSends}
 use Rattle.demand.proofs.Traces.{zeros-long, singly-append, singly_of_bytes}
@@ -89,8 +89,8 @@ trace-fits file names calls from frames rounds whole ds steps =
 steps-singly : (names : List ℕ) (m : Memory) {ds : List CCall} → All IsStep ds → All IsStepByRules (singly (arguments_of_all names m ds))
 unfolding singly arguments_of_all arguments_of
 steps-singly names m all_empty = all_empty
-steps-singly names m (also is-step steps) = also is-step-by-rules (steps-singly names _ steps)
-steps-singly names m (also is-step_keeping steps) = also is-step-by-rules (steps-singly names _ steps)
+steps-singly names m (also {a = c} is-step steps) = also is-step-by-rules (steps-singly names (memory_after names m c) steps)
+steps-singly names m (also {a = c} is-step_keeping steps) = also is-step-by-rules (steps-singly names (memory_after names m c) steps)
 
 pub calls-apart :
     (names : List ℕ) (m : Memory) (cs ds : List CCall) →

@@ -58,15 +58,15 @@ use Rattle.demand.proofs.DemandCalls.{keeping-step-number, keeping-round-number,
 
 -- ---- the ground of a call given a summary, and its own without
 
-record Behind (file : List ℕ) (summary : Summary) (ground own : ℕ) : Type 0 where
-  pub of_file : file_ground file ≢ 0 → ground ≡ file_ground file
+record Behind (file : List ℕ) (summary : Summary) (reason own : ℕ) : Type 0 where
+  pub of_file : file_ground file ≢ 0 → reason ≡ file_ground file
   pub own_of_file : file_ground file ≢ 0 → own ≡ file_ground file
-  pub of_summary : file_ground file ≡ 0 → (ground ≡ 24) ↔ (Matches file summary → ⊥)
-  pub of_call_lem : Matches file summary → ground ≡ own
+  pub of_summary : file_ground file ≡ 0 → (reason ≡ 24) ↔ (Matches file summary → ⊥)
+  pub of_call_lem : Matches file summary → reason ≡ own
 
 -- it is its own, or 24
-other_ground : (file : List ℕ) (summary : Summary) (ground own : ℕ) → Behind file summary ground own → ground ≢ 24 → ground ≡ own
-other_ground file summary ground own b other =
+other_ground : (file : List ℕ) (summary : Summary) (reason own : ℕ) → Behind file summary reason own → reason ≢ 24 → reason ≡ own
+other_ground file summary reason own b other =
     by_case (eqb (file_ground file) 0)
     (λ z.
     by_case (wrong_summary summary (names_of file))
@@ -75,9 +75,9 @@ other_ground file summary ground own b other =
     (λ z. let some : file_ground file ≢ 0 = eqb-false _ _ z in b.of_file some ∙ sym (b.own_of_file some))
 
 only-24 :
-    (file : List ℕ) (summary : Summary) (ground own : ℕ) → Behind file summary ground own →
-    (ground ≡ 24) ↔ (TakenByRounds file × (Matches file summary → ⊥))
-only-24 file summary ground own b = (
+    (file : List ℕ) (summary : Summary) (reason own : ℕ) → Behind file summary reason own →
+    (reason ≡ 24) ↔ (TakenByRounds file × (Matches file summary → ⊥))
+only-24 file summary reason own b = (
   λ e.
       let none : file_ground file ≡ 0 =
       by_case (eqb (file_ground file) 0)

@@ -235,8 +235,8 @@ zeros_in (n ∷ ns) = cond (eqb n 0) 1 0 + zeros_in ns
 steps-zeros : (names : List ℕ) (m : Memory) {calls : List CCall} → All IsStep calls → steps_taken names m calls ≡ zeros_in (numbers names m calls)
 unfolding steps_taken step_taken zeros_in numbers
 steps-zeros names m all_empty = refl
-steps-zeros names m (also {a = c} is-step rest) = ap (λ (k : ℕ). cond (eqb (returned names m c) 0) 1 0 + k) (steps-zeros names _ rest)
-steps-zeros names m (also {a = c} is-step_keeping rest) = ap (λ (k : ℕ). cond (eqb (returned names m c) 0) 1 0 + k) (steps-zeros names _ rest)
+steps-zeros names m (also {a = c} is-step rest) = ap (λ (k : ℕ). cond (eqb (returned names m c) 0) 1 0 + k) (steps-zeros names (memory_after names m c) rest)
+steps-zeros names m (also {a = c} is-step_keeping rest) = ap (λ (k : ℕ). cond (eqb (returned names m c) 0) 1 0 + k) (steps-zeros names (memory_after names m c) rest)
 
 long-step : {c : CCall} → LongStep c → IsStep c
 long-step (long fits) = is-step
@@ -279,7 +279,7 @@ module _ (senders : ℕ) where
   pub steps_by_rules : (names : List ℕ) (m : Memory) (n : ℕ) → by_rules names m (replicate n long_call) ≡ replicate n long_step
   unfolding singly arguments_of_all arguments_of
   steps_by_rules names m zero = refl
-  steps_by_rules names m (suc n) = ap (λ (l : List Call). long_step ∷ l) (steps_by_rules names _ n)
+  steps_by_rules names m (suc n) = ap (λ (l : List Call). long_step ∷ l) (steps_by_rules names (memory_after names m long_call) n)
 
   pub steps-given : (n : ℕ) → All GivenBytes (replicate n long_call)
   steps-given zero = all_empty

@@ -311,7 +311,7 @@ steps-long (suc n) = also (long zeros-long) (steps-long n)
 
 steps_right : (names : List ℕ) (m : Memory) (n : ℕ) → AllGivenRight names m (steps n)
 steps_right names m zero = no_calls
-steps_right names m (suc n) = nextGiven step_without (steps_right names _ n)
+steps_right names m (suc n) = nextGiven step_without (steps_right names (memory_after names m (long_call 0)) n)
 
 steps-end :
     (file : List ℕ) → Bytes file → TakenByRounds file → {names : List ℕ} → Listed names → (run : List ℕ) →

@@ -78,6 +78,7 @@ pub record PassedFile (w : ℕ) (f : List ℕ) (d : ℕ) : Type 0 where
 
 module _ (w : ℕ) (f : List ℕ) where
   pub slave-passed : (t place n e : ℕ) → walk_slaves w f t place n ≡ Walk.to e → (i : ℕ) → i < n → PassedSlave w f (t + entry_size_lem w * i)
+  slave-passed t place zero e h i l = elim l [ ]
   slave-passed t place (suc n) e h zero l =
       let step = slaves_took w f t place n e h in
       let here : t + entry_size_lem w * 0 ≡ t = omega arith in
@@ -93,6 +94,7 @@ module _ (w : ℕ) (f : List ℕ) where
       → (j : ℕ)
       → j < k
       → PassedFile w f (d + entry_size_lem w * j)
+  file-passed d low place zero e h j l = elim l [ ]
   file-passed d low place (suc k) e h zero l =
       let here : d + entry_size_lem w * 0 ≡ d = omega arith in
       rw here (record { low = low; place = place; facts = (walk_took w f d low place k e h).facts })

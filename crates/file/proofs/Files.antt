@@ -246,9 +246,10 @@ module _ {w : ℕ} (two : 2 ≤ w) {f : List ℕ} (short : length f < 256 ^ w) w
       let here : FileStands w f d low place x = first-file two s in
       let e : EntryBytes w f d place x = entry-bytes two here.entry in
       let size : file_size (get_or f (d + 1) 0) ≡ length x.bytes = ap file_size e.last ∙ legal-size here.legal in
-      rw (entry_yes w f d low place (file_good here), size, e.number) (files-walk xs (other-files two s) ∙ ap Walk.to (omega (arith, length-append x.bytes (contents xs))))
+      rw (entry_yes w f d low place (file_good here), size, e.number) (files-walk {d = d + entry_size_lem w} xs (other-files two s) ∙ ap Walk.to (omega (arith, length-append x.bytes (contents xs))))
 
   pub files-read : {d low place : ℕ} (xs : List File) → FilesStand w f d low place xs → files_at w f d (length xs) ≡ xs
   unfolding files_at
   files-read [] s = refl
-  files-read (x ∷ xs) s = ap₂ (λ (y : File) (ys : List File). y ∷ ys) (file-read (first-file two s)) (files-read xs (other-files two s))
+  files-read {d = d} (x ∷ xs) s =
+      ap₂ (λ (y : File) (ys : List File). y ∷ ys) (file-read (first-file two s)) (files-read {d = d + entry_size_lem w} xs (other-files two s))

@@ -232,6 +232,7 @@ pub record SlaveThere (w : ℕ) (f : List ℕ) (t place k s : ℕ) : Type 0 wher
 
 pub slave-there : (w : ℕ) (f : List ℕ) (t place k e s : ℕ) → walk_slaves w f t place k ≡ to e → s < k → SlaveThere w f t place k s
 unfolding slaves_at file_place_from
+slave-there w f t place zero e s h l = elim l [ ]
 slave-there w f t place (suc k) e zero h l =
     let step = slaves_took w f t place k e h in
     let same : t + entry_size_lem w * 0 ≡ t = omega arith in
@@ -263,6 +264,8 @@ header-within h = omega (arith, header-room-at (at-edition h))
 
 -- an entry is one of so many
 entry-below : (w s k : ℕ) → s < k → 2 * w * s + 2 * w ≤ 2 * w * k
+entry-below w zero zero l = elim l [ ]
+entry-below w (suc s) zero l = elim l [ ]
 entry-below w zero (suc k) l = omega arith
 entry-below w (suc s) (suc k) l = omega (arith, entry-below w s k (omega arith))
 

@@ -229,9 +229,9 @@ module _ {w : ℕ} (two : 2 ≤ w) {f : List ℕ} (short : length f < 256 ^ w) w
   unfolding walk_slaves and_then slaves_size
   slaves-walk {t} {place} [] a = ap Walk.to (sym (add-zero place))
   slaves-walk {t} {place} (s ∷ ss) a =
-      rw (slave-walk (first-slave two a)) (slaves-walk ss (other-slaves two a) ∙ ap Walk.to (omega arith))
+      rw (slave-walk (first-slave two a)) (slaves-walk {t = t + entry_size_lem w} ss (other-slaves two a) ∙ ap Walk.to (omega arith))
 
   pub slaves-read : {t place : ℕ} (ss : List Slave) → SlavesStand w f t place ss → slaves_at w f t (length ss) ≡ ss
   unfolding slaves_at
   slaves-read [] a = refl
-  slaves-read (s ∷ ss) a = ap₂ (λ (y : Slave) (ys : List Slave). y ∷ ys) (slave-read (first-slave two a)) (slaves-read ss (other-slaves two a))
+  slaves-read {t = t} (s ∷ ss) a = ap₂ (λ (y : Slave) (ys : List Slave). y ∷ ys) (slave-read (first-slave two a)) (slaves-read {t = t + entry_size_lem w} ss (other-slaves two a))

@@ -21,6 +21,7 @@ use Rattle.file.proofs.Arrivals.{table-passed, length-slaves_at}
 module _ (w : ℕ) (f : List ℕ) where
   sleep_read : (t n i : ℕ) → i < n → (get_or (slaves_at w f t n) i no_slave_lem).asleep ≡ get_or f (t + entry_size_lem w * i + w + 1) 0
   unfolding slaves_at slave_at
+  sleep_read t zero i l = elim l [ ]
   sleep_read t (suc n) zero l = let here : t + w + 1 ≡ t + entry_size_lem w * 0 + w + 1 = omega arith in ap (λ (k : ℕ). get_or f k 0) here
   sleep_read t (suc n) (suc i) l =
       let there : t + entry_size_lem w + entry_size_lem w * i + w + 1 ≡ t + entry_size_lem w * suc i + w + 1 = omega arith in

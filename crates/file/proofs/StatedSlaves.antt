@@ -128,6 +128,7 @@ module _ (w : ℕ) (f : List ℕ) where
   pub stated-config : (t place k e s : ℕ) → walk_slaves w f t place k ≡ to e → is_among 0 (stated_places w f t k) ≡ false → s < k →
       get_or (stated_places w f t k) (configuration_index s) 0 ≡ file_place_from w place (slaves_at w f t k) s configuration
   unfolding slaves_at stated_places file_place_from
+  stated-config t place zero e s g m l = elim l [ ]
   stated-config t place (suc k) e zero g m l =
       let s = slaves_took w f t place k e g in
       is-there (stated-slave w f configuration needed_configuration t place s.middle (omega arith) s.first) (config-some t k m)
@@ -142,6 +143,7 @@ module _ (w : ℕ) (f : List ℕ) where
   pub stated-document : (t place k e s : ℕ) → walk_slaves w f t place k ≡ to e → is_among 0 (stated_places w f t k) ≡ false → s < k →
       get_or (stated_places w f t k) (documentation_index s) 0 ≡ file_place_from w place (slaves_at w f t k) s documentation
   unfolding slaves_at stated_places file_place_from
+  stated-document t place zero e s g m l = elim l [ ]
   stated-document t place (suc k) e zero g m l =
       let s = slaves_took w f t place k e g in
       is-there (stated-slave w f documentation needed_documentation t place s.middle (omega arith) s.first) (document-some t k m)

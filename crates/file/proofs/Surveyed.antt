@@ -45,8 +45,8 @@ module _ {f places : List ℕ} {a : FileAnswer} (s : Surveyed f (checked_of a) p
   unfolding load_verdict
   check_surveyed {why} e =
       let (is, some) = survey-refused e in
-      let ground : load_ground f ≡ why.0 = load_first f (λ z. some (is ∙ z)) ∙ sym is in
-      rw ground (result_refused tt some)
+      let reason : load_ground f ≡ why.0 = load_first f (λ z. some (is ∙ z)) ∙ sym is in
+      rw reason (result_refused tt some)
 
   module _ (e : a ≡ answers.Accepted) {t : Bool} (test : t ≡ has_repeat (held_names (logical_names (decode f)))) where
     last_ground : load_ground f ≡ cond t 22 0

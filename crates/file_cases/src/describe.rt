@@ -7,88 +7,96 @@ use file::readers::{comparison_value, logical_name, physical_name, slave_count};
 use file::records::{FilePlace, RecordPlace, find_file, find_record};
 use file::survey::{FileAnswer, survey};
 use file::types::{FileNumber, PLACES, RecordNumber, SlavePlaces};
+use std::io;
 
-fn file_place(file: &[u8], slave: usize, file_number: u8)
+fn file_place(out: &impl Print, file: &[u8], slave: usize, file_number: u8) -> io::Result<()>
     requires { AcceptedFile file.now × (slave < slave_count file.now) }
 {
-    text(b"\n file");
-    bytes(&[file_number]);
+    text(out, b"\n file")?;
+    bytes(out, &[file_number])?;
     let answer = find_file(file, slave, FileNumber(file_number));
     match answer {
         FilePlace::Bytes(found) => {
-            text(b" at");
-            number(found.place as u64);
-            text(b" size");
-            number(found.size as u64);
+            text(out, b" at")?;
+            number(out, found.place as u64)?;
+            text(out, b" size")?;
+            number(out, found.size as u64)
         }
-        FilePlace::NoFile => text(b" none"),
+        FilePlace::NoFile => text(out, b" none"),
     }
 }
 
-fn record_place(file: &[u8], slave: usize, file_number: u8, record: u8)
+fn record_place(
+    out: &impl Print,
+    file: &[u8],
+    slave: usize,
+    file_number: u8,
+    record: u8,
+) -> io::Result<()>
     requires { AcceptedFile file.now × (slave < slave_count file.now) }
 {
-    text(b"\n file");
-    bytes(&[file_number]);
-    text(b" record");
-    number(record as u64);
+    text(out, b"\n file")?;
+    bytes(out, &[file_number])?;
+    text(out, b" record")?;
+    number(out, record as u64)?;
     let answer = find_record(file, slave, FileNumber(file_number), RecordNumber(record));
     match answer {
         RecordPlace::At(place) => {
-            text(b" at");
-            number(place as u64);
+            text(out, b" at")?;
+            number(out, place as u64)
         }
-        RecordPlace::NoRecord => text(b" none"),
+        RecordPlace::NoRecord => text(out, b" none"),
     }
 }
 
-fn found_places(file: &[u8], slave: usize)
+fn found_places(out: &impl Print, file: &[u8], slave: usize) -> io::Result<()>
     requires { AcceptedFile file.now × (slave < slave_count file.now) }
 {
-    file_place(file, slave, 0x08);
-    file_place(file, slave, 0x09);
-    file_place(file, slave, 0x3D);
-    file_place(file, slave, 0x3F);
-    record_place(file, slave, 0x08, 0);
-    record_place(file, slave, 0x08, 3);
-    record_place(file, slave, 0x08, 4);
-    record_place(file, slave, 0x3D, 2);
-    record_place(file, slave, 0x3D, 3);
-    record_place(file, slave, 0x3F, 255);
+    file_place(out, file, slave, 0x08)?;
+    file_place(out, file, slave, 0x09)?;
+    file_place(out, file, slave, 0x3D)?;
+    file_place(out, file, slave, 0x3F)?;
+    record_place(out, file, slave, 0x08, 0)?;
+    record_place(out, file, slave, 0x08, 3)?;
+    record_place(out, file, slave, 0x08, 4)?;
+    record_place(out, file, slave, 0x3D, 2)?;
+    record_place(out, file, slave, 0x3D, 3)?;
+    record_place(out, file, slave, 0x3F, 255)
 }
 
-fn slave_line(file: &[u8], places: &SlavePlaces, slave: usize)
+fn slave_line(out: &impl Print, file: &[u8], places: &SlavePlaces, slave: usize) -> io::Result<()>
     requires { Placed file.now places.now × (slave < slave_count file.now) }
 {
-    text(b"\nslave");
-    number(slave as u64);
-    text(b" name");
+    text(out, b"\nslave")?;
+    number(out, slave as u64)?;
+    text(out, b" name")?;
     let name = logical_name(file, places, slave);
-    bytes(&[name.0]);
-    text(b" physical");
-    word(physical_name(file, places, slave));
-    text(b" compare");
-    word(comparison_value(file, places, slave));
-    found_places(file, slave);
+    bytes(out, &[name.0])?;
+    text(out, b" physical")?;
+    word(out, physical_name(file, places, slave))?;
+    text(out, b" compare")?;
+    word(out, comparison_value(file, places, slave))?;
+    found_places(out, file, slave)
 }
 
-fn slaves(file: &[u8], places: &SlavePlaces)
+fn slaves(out: &impl Print, file: &[u8], places: &SlavePlaces) -> io::Result<()>
     requires { Placed file.now places.now }
 {
     let count = slave_count(file);
-    number(count as u64);
+    number(out, count as u64)?;
     let mut slave = 0;
     while slave < count {
-        slave_line(file, places, slave);
+        slave_line(out, file, places, slave)?;
         slave += 1;
     }
+    Ok(())
 }
 
-pub fn describe(file: &[u8]) {
+pub fn describe(out: &impl Print, file: &[u8]) -> io::Result<()> {
     let mut places = [0u16; PLACES];
     let answer = survey(file, &mut places);
     let FileAnswer::Accepted = answer else {
-        return text(b" refused");
+        return text(out, b" refused");
     };
-    slaves(file, &places);
+    slaves(out, file, &places)
 }

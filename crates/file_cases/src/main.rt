@@ -2,54 +2,59 @@
 // independent model. A line of the input is `check FILE` or `readers FILE`, each with a LENGTH where zeros follow up to it.
 // After the first stands the number of the answer, 0 where the file is accepted; after the second how many slaves there are and
 // what the readers say, slave by slave.
+#![tactic(auto)]
+
 mod describe;
 
-use case_input::fields::{after, filled, input_buffer, is, line};
+use case_input::fields::{after, filled, input_buffer, is, line, read_full};
 use case_input::show::{number, text};
 use describe::describe;
 use file::survey::{FileAnswer, check};
+use std::io;
 
 // One byte more than the longest file of either edition.
 const FILE: usize = 65537;
 
-fn checked(file: &[u8]) {
+fn checked(out: &impl Print, file: &[u8]) -> io::Result<()> {
     let answer = check(file);
     match answer {
-        FileAnswer::Accepted => number(0),
-        FileAnswer::Refused(why) => number(why.0 as u64),
+        FileAnswer::Accepted => number(out, 0),
+        FileAnswer::Refused(why) => number(out, why.0 as u64),
     }
 }
 
-fn answer(case: &[u8], file: &[u8]) {
-    text(b" =");
+fn answer(out: &impl Print, case: &[u8], file: &[u8]) -> io::Result<()> {
+    text(out, b" =")?;
     if is(case, b"check") {
-        checked(file);
+        checked(out, file)?;
     }
     if is(case, b"readers") {
-        describe(file);
+        describe(out, file)?;
     }
+    Ok(())
 }
 
-fn run(case: &[u8]) {
+fn run(out: &impl Print, case: &[u8]) -> io::Result<()> {
     let mut file = [0u8; FILE];
     let size = filled(case, &mut file);
-    text(case);
+    text(out, case)?;
     if !is(case, b"#") {
-        answer(case, &file[..size]);
+        answer(out, case, &file[..size])?;
     }
-    text(b"\n");
+    text(out, b"\n")
 }
 
-fn cases(input: &[u8]) {
+fn cases(out: &impl Print, input: &[u8]) -> io::Result<()> {
     let mut at = 0;
     while at < input.len() {
-        run(line(input, at));
+        run(out, line(input, at))?;
         at = after(input, at);
     }
+    Ok(())
 }
 
-fn main() {
+fn main(rt: HostRuntime) -> io::Result<()> {
     let mut input = input_buffer();
-    let n = io::read_full(0, &mut input);
-    cases(&input[..n]);
+    let n = read_full(&mut rt.stdin(), &mut input)?;
+    cases(&rt, &input[..n])
 }

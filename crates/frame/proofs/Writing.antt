@@ -32,13 +32,13 @@ unfolding pb2_of
 joined-byte file operation fits known Known-so = omega (arith, operation-low operation known Known-so)
 
 module _ (frame buffer : List ℕ) where
-  refuse : {g : ℕ} → eqb g 0 ≡ false → (ground : ℕ) → ground ≡ g → (refused g, buffer) ≡ write_frame ground frame buffer
+  refuse : {g : ℕ} → eqb g 0 ≡ false → (reason : ℕ) → reason ≡ g → (refused g, buffer) ≡ write_frame reason frame buffer
   unfolding write_frame result_of
-  refuse {g} n ground e = rw (e, n)
+  refuse {g} n reason e = rw (e, n)
 
-  accept : (ground : ℕ) → ground ≡ 0 → (done tt, frame ++ drop frame_size buffer) ≡ write_frame ground frame buffer
+  accept : (reason : ℕ) → reason ≡ 0 → (done tt, frame ++ drop frame_size buffer) ≡ write_frame reason frame buffer
   unfolding write_frame result_of
-  accept ground e = rw e
+  accept reason e = rw e
 
 -- The writer of address frames, ground by ground. The code's tests, check byte and buffer are values of its own, with their equations.
 module _ (buffer : List ℕ) (epoch name file operation «record» : ℕ) where

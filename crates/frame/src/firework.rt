@@ -8,7 +8,7 @@ pub const MSA: u8 = 0x55;
 
 pub const MSD: u8 = 0x49;
 
-#[derive(Drop)]
+#[derive(Clone, Copy)]
 pub enum Firework {
     // A multipartner round, by its number.
     Multipartner(u8),

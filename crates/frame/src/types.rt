@@ -1,7 +1,7 @@
 // What the reader and the writers of frames answer.
 use file::types::{FileNumber, LogicalName, Operation, RecordNumber, Refusal};
 
-#[derive(Drop)]
+#[derive(Clone, Copy)]
 pub enum AddressReading {
     Refused(Refusal),
     Address {
@@ -13,7 +13,7 @@ pub enum AddressReading {
     },
 }
 
-#[derive(Drop)]
+#[derive(Clone, Copy)]
 pub enum FrameWriting {
     Refused(Refusal),
     Written,

@@ -6,7 +6,9 @@
 //   firework BYTE
 // After it stand the number of the answer, 0 where nothing is refused, and the parts of the address or the buffer afterwards;
 // of a firework its round: a number, MSD, MSA, or - for none.
-use case_input::fields::{after, byte_at, bytes_at, input_buffer, is, line};
+#![tactic(auto)]
+
+use case_input::fields::{after, byte_at, bytes_at, input_buffer, is, line, read_full};
 use case_input::show;
 use case_input::show::text;
 use file::types::{FileNumber, LogicalName, Operation, RecordNumber};
@@ -14,18 +16,19 @@ use frame::firework::{Firework, firework_of};
 use frame::reader::read_address;
 use frame::types::{AddressReading, FrameWriting};
 use frame::writer::{write_address, write_data};
+use std::io;
 
 // The most bytes that a frame or a buffer has here.
 const BYTES: usize = 64;
 
-fn number(n: u8) {
-    show::number(n as u64);
+fn number(out: &impl Print, n: u8) -> io::Result<()> {
+    show::number(out, n as u64)
 }
 
-fn read(frame: &[u8]) {
+fn read(out: &impl Print, frame: &[u8]) -> io::Result<()> {
     let answer = read_address(frame);
     match answer {
-        AddressReading::Refused(why) => number(why.0),
+        AddressReading::Refused(why) => number(out, why.0),
         AddressReading::Address {
             epoch,
             name,
@@ -33,24 +36,24 @@ fn read(frame: &[u8]) {
             operation,
             record,
         } => {
-            number(0);
-            number(epoch);
-            number(name.0);
-            number(file.0);
-            number(operation.0);
-            number(record.0);
+            number(out, 0)?;
+            number(out, epoch)?;
+            number(out, name.0)?;
+            number(out, file.0)?;
+            number(out, operation.0)?;
+            number(out, record.0)
         }
     }
 }
 
-fn written(answer: FrameWriting) {
+fn written(out: &impl Print, answer: FrameWriting) -> io::Result<()> {
     match answer {
-        FrameWriting::Refused(why) => number(why.0),
-        FrameWriting::Written => number(0),
+        FrameWriting::Refused(why) => number(out, why.0),
+        FrameWriting::Written => number(out, 0),
     }
 }
 
-fn write(case: &[u8], buffer: &mut [u8]) {
+fn write(out: &impl Print, case: &[u8], buffer: &mut [u8]) -> io::Result<()> {
     let answer = write_address(
         buffer,
         byte_at(case, 2),
@@ -59,11 +62,11 @@ fn write(case: &[u8], buffer: &mut [u8]) {
         Operation(byte_at(case, 5)),
         RecordNumber(byte_at(case, 6)),
     );
-    written(answer);
-    show::bytes(buffer);
+    written(out, answer)?;
+    show::bytes(out, buffer)
 }
 
-fn data(case: &[u8], buffer: &mut [u8]) {
+fn data(out: &impl Print, case: &[u8], buffer: &mut [u8]) -> io::Result<()> {
     let answer = write_data(
         buffer,
         byte_at(case, 2),
@@ -71,60 +74,62 @@ fn data(case: &[u8], buffer: &mut [u8]) {
         byte_at(case, 4),
         byte_at(case, 5),
     );
-    written(answer);
-    show::bytes(buffer);
+    written(out, answer)?;
+    show::bytes(out, buffer)
 }
 
-fn firework(byte: &[u8]) {
+fn firework(out: &impl Print, byte: &[u8]) -> io::Result<()> {
     if byte.len() == 0 {
-        return;
+        return Ok(());
     }
     let round = firework_of(byte[0]);
     match round {
-        Firework::Multipartner(r) => show::number(r as u64),
-        Firework::Data => text(b" MSD"),
-        Firework::Address => text(b" MSA"),
-        Firework::None => text(b" -"),
+        Firework::Multipartner(r) => show::number(out, r as u64),
+        Firework::Data => text(out, b" MSD"),
+        Firework::Address => text(out, b" MSA"),
+        Firework::None => text(out, b" -"),
     }
 }
 
 // The first field of each kind is bytes.
-fn answer(case: &[u8], bytes: &mut [u8]) {
+fn answer(out: &impl Print, case: &[u8], bytes: &mut [u8]) -> io::Result<()> {
     if is(case, b"read") {
-        return read(bytes);
+        return read(out, bytes);
     }
     if is(case, b"write") {
-        return write(case, bytes);
+        return write(out, case, bytes);
     }
     if is(case, b"data") {
-        return data(case, bytes);
+        return data(out, case, bytes);
     }
     if is(case, b"firework") {
-        firework(bytes);
+        firework(out, bytes)?;
     }
+    Ok(())
 }
 
-fn run(case: &[u8]) {
+fn run(out: &impl Print, case: &[u8]) -> io::Result<()> {
     let mut bytes = [0u8; BYTES];
     let size = bytes_at(case, 1, &mut bytes);
-    text(case);
+    text(out, case)?;
     if !is(case, b"#") {
-        text(b" =");
-        answer(case, &mut bytes[..size]);
+        text(out, b" =")?;
+        answer(out, case, &mut bytes[..size])?;
     }
-    text(b"\n");
+    text(out, b"\n")
 }
 
-fn cases(input: &[u8]) {
+fn cases(out: &impl Print, input: &[u8]) -> io::Result<()> {
     let mut at = 0;
     while at < input.len() {
-        run(line(input, at));
+        run(out, line(input, at))?;
         at = after(input, at);
     }
+    Ok(())
 }
 
-fn main() {
+fn main(rt: HostRuntime) -> io::Result<()> {
     let mut input = input_buffer();
-    let n = io::read_full(0, &mut input);
-    cases(&input[..n]);
+    let n = read_full(&mut rt.stdin(), &mut input)?;
+    cases(&rt, &input[..n])
 }

@@ -56,7 +56,7 @@ last-second-edition out c d e = refl
 
 -- the answer by the ground and the joined file
 answered : ℕ → List ℕ → List ℕ → Result ℕ × List ℕ
-answered ground bytes out = cond (eqb ground 0) (done (length bytes), written_in out bytes) (refused ground, out)
+answered reason bytes out = cond (eqb reason 0) (done (length bytes), written_in out bytes) (refused reason, out)
 
 answers : (f g out : List ℕ) → join_on f g out ≡ answered (join_ground f g out) (joined_file f g) out
 unfolding join_on answered
@@ -88,7 +88,7 @@ module _ (f g : List ℕ) (d : ℕ) (h : HasForm g d) where
 pub second_in_either : SecondInEither
 second_in_either f g d out h =
     answers f (in_edition g d) out
-    ∙ ap₂ (λ (ground : ℕ) (bytes : List ℕ). answered ground bytes out) (ground_second f g d h out) (file-second f g d h)
+    ∙ ap₂ (λ (reason : ℕ) (bytes : List ℕ). answered reason bytes out) (ground_second f g d h out) (file-second f g d h)
     ∙ sym (answers f g out)
 
 -- ---- the first file

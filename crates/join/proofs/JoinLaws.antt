@@ -177,14 +177,14 @@ module _ (f g out : List ℕ) where
 pub call-first : {f places : List ℕ} {a : FileAnswer} (g out : List ℕ) → Surveyed f (checked_of a) places → {why : Refusal} → a ≡ answers.Refused why
     → (refused why.0, out) ≡ join_on f g out
 call-first {f} g out s is =
-    let ground = survey-refused s is in
-    sym (join-refused f g out (first_decides f g out (λ z. ground.1 (ground.0 ∙ z)) ∙ sym ground.0) ground.1)
+    let reason = survey-refused s is in
+    sym (join-refused f g out (first_decides f g out (λ z. reason.1 (reason.0 ∙ z)) ∙ sym reason.0) reason.1)
 
 pub call-second : {f g places others : List ℕ} {a : FileAnswer} (out : List ℕ) → Placed f places → Surveyed g (checked_of a) others → {why : Refusal}
     → a ≡ answers.Refused why → (refused why.0, out) ≡ join_on f g out
 call-second {f} {g} out p s is =
-    let ground = survey-refused s is in
-    sym (join-refused f g out (second_decides f g out p.file.accepted (λ z. ground.1 (ground.0 ∙ z)) ∙ sym ground.0) ground.1)
+    let reason = survey-refused s is in
+    sym (join-refused f g out (second_decides f g out p.file.accepted (λ z. reason.1 (reason.0 ∙ z)) ∙ sym reason.0) reason.1)
 
 -- the test of the names
 pub names_apart : (c d : Cluster) {t : Bool} → t ≡ shares_name c d → t ≡ false → shares_name c d ≡ false

@@ -16,7 +16,7 @@ use file::survey::{FileAnswer, survey};
 use file::types::{PLACES, Refusal, SlavePlaces};
 
 // Two files are refused, or their join is written, with its length.
-#[derive(Drop)]
+#[derive(Clone, Copy)]
 pub enum Joining {
     Refused(Refusal),
     Written(usize),

@@ -237,26 +237,26 @@ one_of_three =
       firework_or_broken = λ p f b. let z : ◌≡◌ {A = ℕ} 1 2 = ap number (sym f ∙ b) in omega (arith, z);
     }
 
-ground : Result PatternClass → ℕ
-ground (refused n) = n
-ground (done c) = 0
+reason : Result PatternClass → ℕ
+reason (refused n) = n
+reason (done c) = 0
 
 refused_by : (p n : ℕ) → pattern_on p ≡ refused n → n ≡ 31
-unfolding ground is_done
+unfolding reason is_done
 refused_by p n h =
     by_case (ltb 511 p)
-    (λ t. sym (ap ground (above p (ltb-true 511 p t) ∙ h)))
+    (λ t. sym (ap reason (above p (ltb-true 511 p t) ∙ h)))
     (λ t. clash refl (ap is_done (below p (omega (arith, ltb-false 511 p t)) ∙ h)))
 
 pub above-is-refused : AboveIsRefused
-unfolding ground
+unfolding reason
 above-is-refused =
     record {
       above =
           λ p. (
             λ h.
                 by_case (ltb 511 p) (λ t. ltb-true 511 p t)
-                (λ t. let z : ◌≡◌ {A = ℕ} 0 31 = ap ground (below p (omega (arith, ltb-false 511 p t)) ∙ h) in absurd (omega (arith, z))),
+                (λ t. let z : ◌≡◌ {A = ℕ} 0 31 = ap reason (below p (omega (arith, ltb-false 511 p t)) ∙ h) in absurd (omega (arith, z))),
             λ h. sym (above p h),
           );
       only = λ p n h. refused_by p n h;

@@ -18,14 +18,14 @@ const ENTRY_BITS: u16 = 2;
 
 const ENTRY_VALUES: u64 = 4;
 
-#[derive(Drop)]
+#[derive(Clone, Copy)]
 pub enum PatternClass {
     DataByte,
     Firework,
     Broken,
 }
 
-#[derive(Drop)]
+#[derive(Clone, Copy)]
 pub enum PatternAnswer {
     Refused(Refusal),
     Read(PatternClass),

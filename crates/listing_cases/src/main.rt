@@ -1,36 +1,41 @@
 // Listings of cluster files. A line of the input is `list FILE`, or `list FILE LENGTH` where zeros follow up to a length; the
 // listing is written after it.
-use case_input::fields::{after, counted, filled, input_buffer, is, line};
+#![tactic(auto)]
+
+use case_input::fields::{after, counted, filled, input_buffer, is, line, read_full};
 use case_input::show::text;
 use listing_text::run::list;
+use std::io;
 
-fn listing(case: &[u8]) {
+fn listing(out: &impl Print, case: &[u8]) -> io::Result<()> {
     let mut file = [0u8; 65537];
     let mut listed = [0u8; 10499];
     let size = filled(case, &mut file);
     let written = list(&mut file[..size], &mut listed);
     let count = counted(written, &listed);
-    text(&listed[..count]);
+    text(out, &listed[..count])
 }
 
-fn run(case: &[u8]) {
-    text(case);
-    text(b"\n");
+fn run(out: &impl Print, case: &[u8]) -> io::Result<()> {
+    text(out, case)?;
+    text(out, b"\n")?;
     if is(case, b"list") {
-        listing(case);
+        listing(out, case)?;
     }
+    Ok(())
 }
 
-fn cases(input: &[u8]) {
+fn cases(out: &impl Print, input: &[u8]) -> io::Result<()> {
     let mut at = 0;
     while at < input.len() {
-        run(line(input, at));
+        run(out, line(input, at))?;
         at = after(input, at);
     }
+    Ok(())
 }
 
-fn main() {
+fn main(rt: HostRuntime) -> io::Result<()> {
     let mut input = input_buffer();
-    let n = io::read_full(0, &mut input);
-    cases(&input[..n]);
+    let n = read_full(&mut rt.stdin(), &mut input)?;
+    cases(&rt, &input[..n])
 }

@@ -160,9 +160,9 @@ module _ (slaves : List Named) (few : most_rounds * length slaves + ending_round
     unfolding arguments_ground wrong_summary first_of
     none ss = rw long
 
-    ground : step_ground file p all_names buffer ≡ 0
+    reason : step_ground file p all_names buffer ≡ 0
     unfolding start_on
-    ground =
+    reason =
         sym (step_unasked file p all_names buffer)
         ∙ arguments-ground all_names names-accepted (start_on file) p arguments h.good
         (stays_fit State all_names view_in Good AwakeIn (Allowed all_names) (call_on all_names) (byte_laws all_names names-accepted) _ _ _
@@ -171,7 +171,7 @@ module _ (slaves : List Named) (few : most_rounds * length slaves + ending_round
 
     allowed : Allowed all_names (start_on file) p (step arguments)
     unfolding start_on
-    allowed = record { bytes = of_step; may = step_plain_may all_names (start_on file) p buffer ∙ rw ground }
+    allowed = record { bytes = of_step; may = step_plain_may all_names (start_on file) p buffer ∙ rw reason }
 
     tied_on : Tied slaves (step_on file p all_names buffer).3 (step_on file p all_names buffer).1 (one_round a)
     unfolding run_calls account_after account_call start_on
@@ -193,7 +193,7 @@ module _ (slaves : List Named) (few : most_rounds * length slaves + ending_round
 
     steps : Steps slaves (step_on file p all_names buffer) (one_round a)
     steps =
-        let e = step-made file p all_names buffer ground m in
+        let e = step-made file p all_names buffer reason m in
         record { is_made = rw e made-on; tied = tied_on; long = rw e long_on }
 
   module _

@@ -145,10 +145,10 @@ made-moved f buffer names p {mask} {q} {new} {file} e =
     (λ t.
     by_case (eqb p.end running)
     (λ m.
-    let ground : step_ground f p names buffer ≡ 0 = eqb-true _ _ t in
+    let reason : step_ground f p names buffer ≡ 0 = eqb-true _ _ t in
     let is : (done (made mask), q, new, file) ≡ step_made f p names buffer = rw (t, m) at e in
     record {
-      runs_on = runs (none-holds f buffer (run_grounds names p) ground).rest (eqb-true _ _ m);
+      runs_on = runs (none-holds f buffer (run_grounds names p) reason).rest (eqb-true _ _ m);
       heard = _;
       moved = ap (λ (x : Result StepDone × Position × List ℕ × List ℕ). x.1) is;
     })

@@ -200,7 +200,7 @@ unfolding totals_line letters
 puts-totals given comparisons rounds a b c d = puts_then a.puts (puts_then b.puts (puts_then c.puts d))
 
 pub puts-refused :
-    (ground : ℕ) {at p next : ℕ} {old t new : List ℕ} → PutsAtMost (8 + most_digits) (field refused_word ground) old at t p →
-    Puts (newline ∷ []) t p new next → Puts (refused_line ground) old at new next
+    (reason : ℕ) {at p next : ℕ} {old t new : List ℕ} → PutsAtMost (8 + most_digits) (field refused_word reason) old at t p →
+    Puts (newline ∷ []) t p new next → Puts (refused_line reason) old at new next
 unfolding refused_line letters
-puts-refused ground a b = puts_then a.puts b
+puts-refused reason a b = puts_then a.puts b

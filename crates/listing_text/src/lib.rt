@@ -1,3 +1,5 @@
 // The text of the listing program.
+#![tactic(auto)]
+
 mod put;
 pub mod run;

@@ -118,10 +118,10 @@ pub fn put_totals(text: &mut [u8], at: usize, given: u64, comparisons: u64, roun
 }
 
 // The line of a refused file.
-pub fn put_refused(text: &mut [u8], at: usize, ground: u8) -> usize
+pub fn put_refused(text: &mut [u8], at: usize, reason: u8) -> usize
     requires { at + refused_size ≤ length text.old }
-    ensures { Puts (refused_line ground) text.old at text.new result }
+    ensures { Puts (refused_line reason) text.old at text.new result }
 {
-    let ground_end = put_field(text, at, b"refused ", ground as u64);
+    let ground_end = put_field(text, at, b"refused ", reason as u64);
     put_byte(text, ground_end, b'\n')
 }

@@ -30,7 +30,7 @@ const MOST_STEPS: u64 = (NAME_COUNT as u64) * (LAST_STEP + 1);
 pub const TEXT_SIZE: usize = NAME_COUNT * LINE_SIZE + TOTALS_SIZE;
 
 // The run, the comparisons made when its pass began, how many names were given, and where their lines end.
-#[derive(Drop)]
+#[derive(Clone, Copy)]
 pub struct ListProgress {
     pub run: RunPosition,
     pub begun: u64,

@@ -65,6 +65,7 @@ power_split a k s = rw (pow-add 2 (suc k) s, pow-suc) (simp mul_assoc)
 -- "bit s is set exactly when someone sent in slot s"
 pub mask-bit : (r : Senders) (n s : ℕ) → s < n → mask_below_lem r n / 2 ^ s % 2 ≡ anyone (r s)
 unfolding mask_below_lem
+mask-bit r zero s h = elim h [ ]
 mask-bit r (suc n) s h =
     by_case (ltb s n)
     (λ e.

@@ -22,7 +22,7 @@ hearing_settled : {o : Duty} {c : Cluster} {firework : ℕ} {old new : List ℕ}
     ((s : ℕ) → Replied (reply_to o (slave_of c s)) new new last last) → (entry : List ℕ) → old ≡ answer_in entry (answer_bytes firework nobody) → Heard (sent_to o c.slaves) firework entry new last
 hearing_settled zero left h same entry e = hearing_done h entry e refl (omega arith)
 hearing_settled {i = i} (suc k) left h same entry e =
-    hearing_settled k (omega arith) (hearing-next h refl (omega arith) (same i)) same entry e
+    hearing_settled {i = i + 1} k (omega arith) (hearing-next h refl (omega arith) (same i)) same entry e
 
 compare-replies : (name : ℕ) (s : Slave) → (reply_to (comparing name) s ≡ []) ⊎ (reply_to (comparing name) s ≡ 0 ∷ [])
 unfolding reply_to

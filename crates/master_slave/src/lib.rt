@@ -1,4 +1,6 @@
 // What slaves do in master-slave rounds, on a file that is known to be accepted.
+#![tactic(auto)]
+
 pub mod duty;
 pub mod epoch;
 pub mod master_slave;

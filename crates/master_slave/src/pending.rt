@@ -30,7 +30,7 @@ pub fn become_pending(
     set_pending(file, name, number, operation, record);
 }
 
-#[derive(Drop)]
+#[derive(Clone, Copy)]
 pub enum Duty {
     Nothing,
     Read,
@@ -41,7 +41,7 @@ pub enum Duty {
 }
 
 // A duty, and the slaves and the record that it is about.
-#[derive(Drop)]
+#[derive(Clone, Copy)]
 pub struct PendingDuty {
     pub duty: Duty,
     pub address: RecordAddress,

@@ -2,7 +2,7 @@
 use file::types::{FileNumber, LogicalName, Operation, RecordNumber};
 
 // The slaves of a logical name, and a record of theirs.
-#[derive(Drop)]
+#[derive(Clone, Copy)]
 pub struct RecordAddress {
     pub name: LogicalName,
     pub number: FileNumber,
@@ -10,7 +10,7 @@ pub struct RecordAddress {
 }
 
 // The four bytes of a data frame; of one that has none, 0.
-#[derive(Drop)]
+#[derive(Clone, Copy)]
 pub struct DataBytes {
     pub b0: u8,
     pub b1: u8,
@@ -28,7 +28,7 @@ impl DataBytes {
 }
 
 // A complete master-slave round: what its address frame asks for, and the data of a write.
-#[derive(Drop)]
+#[derive(Clone, Copy)]
 pub struct MasterSlaveRound {
     pub name: LogicalName,
     pub number: FileNumber,

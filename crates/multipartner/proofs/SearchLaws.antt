@@ -144,5 +144,5 @@ module _ {passed : Entry → Bool} {f : List ℕ} {round slot s at next end : �
             next_search rests (open_past slot q.becomes q.later more (sym stops ∙ goes) (λ later l. never_again passed (entry_there f at) slot begun rests later (omega arith)))
 
 -- an entry that does not wait has begun
-pub begun : {slot start : ℕ} {v : Bool} → v ≡ ltb slot start → not v ≡ true → start ≤ slot
-begun {slot} {start} {v} waits no' = ltb-false slot start (sym waits ∙ not-true v no')
+pub begun : {slot start : ℕ} {v : Bool} → v ≡ ltb slot start → v ≡ false → start ≤ slot
+begun {slot} {start} waits no' = ltb-false slot start (sym waits ∙ no')

@@ -228,10 +228,10 @@ module _ {passed : Entry → Bool} {f : List ℕ} {round count slot n bus : ℕ}
 
     module _ (goes : t ≡ false) where
       -- past an entry that waits
-      pub looking_wait : {v : Bool} → v ≡ ltb slot (entry_there f at).start → not v ≡ false → {next' : ℕ} → next' ≡ next
+      pub looking_wait : {v : Bool} → v ≡ ltb slot (entry_there f at).start → v ≡ true → {next' : ℕ} → next' ≡ next
           → Looking passed f round count slot n bus heard starts ends stores stored numbers places sizes (at + 4) next' end
-      looking_wait {v} waits yes' is =
-          record { search = rw is (searching_wait l.search inside stops goes waits (not-false v yes')); before = l.before; more = l.more; last = l.last }
+      looking_wait waits yes' is =
+          record { search = rw is (searching_wait l.search inside stops goes waits yes'); before = l.before; more = l.more; last = l.last }
 
       module _ (start : (entry_there f at).start ≤ slot) {u : Bool} (able : u ≡ eligible passed (entry_there f at) slot) where
         -- past one that is over

@@ -8,7 +8,7 @@ use file::layout::RECORD_SIZE;
 use file::types::{FileNumber, RecordNumber};
 
 // What an entry does, one case for each operation code of 002, table 4. Only the multiplexed ones evaluate their multiplex field.
-#[derive(Drop)]
+#[derive(Clone, Copy)]
 pub enum EntryOperation {
     Receive,
     Send,
@@ -29,14 +29,14 @@ pub enum EntryOperation {
 }
 
 // Where an entry's first byte lies: in a record, align bytes after its start.
-#[derive(Drop)]
+#[derive(Clone, Copy)]
 pub struct EntryAddress {
     pub file: FileNumber,
     pub record: RecordNumber,
     pub align: usize,
 }
 
-#[derive(Drop)]
+#[derive(Clone, Copy)]
 pub struct Entry {
     pub address: EntryAddress,
     pub operation: EntryOperation,
@@ -152,7 +152,7 @@ pub fn entry_at(file: &[u8], at: usize) -> Entry
 }
 
 // What a slave does for an entry in a slot that it covers.
-#[derive(Drop)]
+#[derive(Clone, Copy)]
 pub enum EntryAction {
     Receives,
     Sends,

@@ -1,4 +1,6 @@
 // Multipartner rounds, on a file that is known to be accepted.
+#![tactic(auto)]
+
 pub mod entry;
 pub mod kept_files;
 pub mod multipartner;

@@ -12,7 +12,7 @@ use file::records::{FilePlace, find_file};
 use file::types::{FileNumber, LogicalName, SLAVES_ROOM, SlavePlaces};
 
 // Where a slave's entries of a round begin, and where they end.
-#[derive(Drop)]
+#[derive(Clone, Copy)]
 pub struct RoundFile {
     pub start: usize,
     pub end: usize,

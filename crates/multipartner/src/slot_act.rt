@@ -33,7 +33,7 @@ fn may_store(entry: Entry, slot: usize) -> bool
 }
 
 // What a slave does in a slot: it sends a byte, stores the slot's byte at a place of the file, or neither.
-#[derive(Drop)]
+#[derive(Clone, Copy)]
 pub enum SlotAct {
     Sends(u8),
     Stores(usize),

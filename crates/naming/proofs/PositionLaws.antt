@@ -221,12 +221,17 @@ needless_early p h names = by (early_place p.place.step h)
     by (inl e) = rw e (unfold round_at is_repeated is_first in refl)
     by (inr e) = rw e
 
+-- a place of the giving is none of the first comparison
+given_late : (j : ℕ) → is_first (give_of j) ≡ false
+unfolding is_first
+given_late j = each-given (λ (l : PassPlace). is_first l ≡ false) refl refl refl refl j
+
 -- after it no place is one of the first comparison
 late_place : (k : ℕ) → comparison_rounds < k → is_first (place_of k) ≡ false
 late_place k h =
     by_case (ltb k give_step)
     (λ t. rw (place-ask k (λ z. omega arith) (ltb-true k give_step t)) (asked ((k - 1) / comparison_rounds) (later k h)))
-    (λ f. rw (place-give k (ltb-false k give_step f)) (given (k - give_step)))
+    (λ f. rw (place-give k (ltb-false k give_step f)) (given_late (k - give_step)))
   where
     later : (k : ℕ) → comparison_rounds < k → 1 ≤ (k - 1) / comparison_rounds
     later k h = omega arith
@@ -234,9 +239,6 @@ late_place k h =
     asked : (q : ℕ) → 1 ≤ q → is_first (ask (question_of q) (part_of ((k - 1) % comparison_rounds))) ≡ false
     asked zero h = absurd (omega arith)
     asked (suc q) h = unfold question_of is_first in refl
-
-    given : (j : ℕ) → is_first (give_of j) ≡ false
-    given j = unfold is_first in each-given (λ (l : PassPlace). is_first l ≡ false) refl refl refl refl j
 
 needless_late : (p : Position) → comparison_rounds < p.place.step → (names : List ℕ) →
     is_needless names p ≡ is_repeated (round_at (place_of p.place.step) (get_or names p.place.index 0) p.place.value) p

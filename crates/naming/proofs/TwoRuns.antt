@@ -142,7 +142,7 @@ module _ (more : Bool) where
   mark-after : {a : Account} → Marked more a → (calls : List Call) → Marked more (account_after a calls)
   unfolding account_after
   mark-after m [] = m
-  mark-after m (c ∷ cs) = mark-after (mark-call m c) cs
+  mark-after {a = a} m (c ∷ cs) = mark-after {a = account_call a c} (mark-call m c) cs
 
 mark-end : {more : Bool} {a : Account} → Marked more a → (a.end ≡ 0 → ⊥) → a.end ≡ cond more all_named_lem names_used_up
 mark-end (going e) some = absurd (some refl)

@@ -10,7 +10,7 @@ use crate::position::{RunHalves, RunPosition, all_named, go_on, next_name};
 use crate::standing::{Standing, needless_writes, passed_over, standing_at};
 
 // Whether someone sent in slot 1 of a round.
-#[derive(Drop)]
+#[derive(Clone, Copy)]
 pub enum Reply {
     Heard,
     Silence,

@@ -1,4 +1,6 @@
 // The naming run: its position, its rounds, and steps of it on a cluster file.
+#![tactic(auto)]
+
 pub mod advance;
 mod names;
 pub mod pass;

@@ -50,7 +50,7 @@ fn tried_value(question: u64, value: u64) -> u64
 
 // What the round at a step writes: which half, REPLY where none, and the value that it is a half of; at the execute of a comparison the value
 // that is compared with.
-#[derive(Drop)]
+#[derive(Clone, Copy)]
 pub struct Writing {
     pub part: u64,
     pub value: u64,

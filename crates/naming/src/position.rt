@@ -8,7 +8,7 @@ ghost use Rattle.naming.specs.Inner.StepAnswers.{position_of, FitCounts, GoesOn}
 use crate::pass::{LAST_STEP, POLL};
 
 // The name by its index, the step of its pass, and the value so far.
-#[derive(Drop)]
+#[derive(Clone, Copy)]
 pub struct RunPlace {
     pub index: u64,
     pub step: u64,
@@ -16,21 +16,21 @@ pub struct RunPlace {
 }
 
 // The rounds and comparisons made.
-#[derive(Drop)]
+#[derive(Clone, Copy)]
 pub struct RunCounts {
     pub rounds: u64,
     pub comparisons: u64,
 }
 
 // The halves last written.
-#[derive(Drop)]
+#[derive(Clone, Copy)]
 pub struct RunHalves {
     pub high: u64,
     pub low: u64,
 }
 
 // The caller keeps it between steps, and may hand in any content.
-#[derive(Drop)]
+#[derive(Clone, Copy)]
 pub struct RunPosition {
     pub end: u64,
     pub place: RunPlace,

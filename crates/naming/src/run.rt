@@ -17,7 +17,7 @@ use file::survey::{FileAnswer, survey};
 use file::types::{LogicalName, PLACES, Refusal, SlavePlaces};
 use master_slave::slots::SLOTS;
 
-#[derive(Drop)]
+#[derive(Clone, Copy)]
 pub enum Started {
     Refused(Refusal),
     Fresh(RunPosition),
@@ -35,7 +35,7 @@ pub fn start(names: &[u8]) -> Started
 }
 
 // A step that is refused, that of an ended run, or one that made its round: the mask of its data frame, and the run.
-#[derive(Drop)]
+#[derive(Clone, Copy)]
 pub enum Stepped {
     Refused(Refusal),
     Ended,
@@ -57,7 +57,7 @@ pub fn run_ground(names: &[u8], run: RunPosition) -> u8
 }
 
 // A step that made its round: the mask of its data frame, and the run.
-#[derive(Drop)]
+#[derive(Clone, Copy)]
 pub struct MadeStep {
     pub senders: u64,
     pub run: RunPosition,

@@ -54,7 +54,7 @@ pub fn passed_over(run: RunPosition, steps: u64) -> RunPosition
 }
 
 // A position at the next round really made, and what that round writes.
-#[derive(Drop)]
+#[derive(Clone, Copy)]
 pub struct Standing {
     pub run: RunPosition,
     pub writing: Writing,

@@ -15,7 +15,7 @@ use file::types::{PLACES, Refusal, SlavePlaces};
 use master_slave::slots::{NOBODY, SLOTS};
 
 // Steps that made their rounds: how many, the mask of the last one's data frame, 0 where none did, and the run.
-#[derive(Drop)]
+#[derive(Clone, Copy)]
 pub struct MadeSteps {
     pub steps: u64,
     pub senders: u64,
@@ -73,7 +73,7 @@ pub fn make_steps(
 }
 
 // Steps that are refused as one is, or that were made.
-#[derive(Drop)]
+#[derive(Clone, Copy)]
 pub enum StepsAnswer {
     Refused(Refusal),
     Made(MadeSteps),

@@ -9,13 +9,16 @@
 // steps from the fourth on. After the line stand the number of the answer and the position; of a step the number, the mask, the file,
 // the position and the buffer afterwards; of several steps the number, how many made their round, and the same; of a run the position
 // and the file at its end.
-use case_input::fields::{after, bytes_at, count_at, input_buffer, is, line, number_at};
+#![tactic(auto)]
+
+use case_input::fields::{after, bytes_at, count_at, input_buffer, is, line, number_at, read_full};
 use case_input::show;
 use case_input::show::text;
 use cluster::round::round;
 use naming::position::{RunCounts, RunHalves, RunPlace, RunPosition};
 use naming::run::{Started, Stepped, start, step};
 use naming::steps::{StepsAnswer, steps};
+use std::io;
 
 // The most bytes that a file, a list of names, a frame and an answer buffer have here.
 const FILE: usize = 2048;
@@ -42,7 +45,7 @@ const FIRST_FRAME: usize = 4;
 const PAST_FRAMES: usize = 20;
 
 // What a start or a step answers: the number of the refusal, 0 where there is none, the mask, and the position afterwards.
-#[derive(Drop)]
+#[derive(Clone, Copy)]
 struct Answer {
     number: u8,
     mask: u64,
@@ -91,7 +94,7 @@ fn stepped(file: &mut [u8], run: RunPosition, names: &[u8], buffer: &mut [u8]) -
 
 // What several steps answer: the number, 0 where they are not refused at once, how many made their round, the mask of the last one,
 // and the position afterwards.
-#[derive(Drop)]
+#[derive(Clone, Copy)]
 struct SeveralSteps {
     number: u8,
     made: u64,
@@ -187,42 +190,49 @@ fn position_at(case: &[u8]) -> RunPosition {
     }
 }
 
-fn position(run: RunPosition, between: &[u8]) {
-    text(b" ");
-    show::decimal(run.end);
-    text(between);
-    show::decimal(run.place.index);
-    text(between);
-    show::decimal(run.place.step);
-    text(between);
-    show::decimal(run.place.value);
-    text(between);
-    show::decimal(run.counts.rounds);
-    text(between);
-    show::decimal(run.counts.comparisons);
-    text(between);
-    show::decimal(run.halves.high);
-    text(between);
-    show::decimal(run.halves.low);
+fn position(out: &impl Print, run: RunPosition, between: &[u8]) -> io::Result<()> {
+    text(out, b" ")?;
+    show::decimal(out, run.end)?;
+    text(out, between)?;
+    show::decimal(out, run.place.index)?;
+    text(out, between)?;
+    show::decimal(out, run.place.step)?;
+    text(out, between)?;
+    show::decimal(out, run.place.value)?;
+    text(out, between)?;
+    show::decimal(out, run.counts.rounds)?;
+    text(out, between)?;
+    show::decimal(out, run.counts.comparisons)?;
+    text(out, between)?;
+    show::decimal(out, run.halves.high)?;
+    text(out, between)?;
+    show::decimal(out, run.halves.low)
 }
 
-fn start_case(names: &[u8]) {
+fn start_case(out: &impl Print, names: &[u8]) -> io::Result<()> {
     let answer = started(names);
-    show::number(answer.number as u64);
+    show::number(out, answer.number as u64)?;
     if answer.number == 0 {
         let run = answer.run;
-        position(run, b" ");
+        position(out, run, b" ")?;
     }
+    Ok(())
 }
 
-fn step_case(file: &mut [u8], run: RunPosition, names: &[u8], buffer: &mut [u8]) {
+fn step_case(
+    out: &impl Print,
+    file: &mut [u8],
+    run: RunPosition,
+    names: &[u8],
+    buffer: &mut [u8],
+) -> io::Result<()> {
     let answer = stepped(file, run, names, buffer);
-    show::number(answer.number as u64);
-    show::word(answer.mask);
-    show::bytes(file);
+    show::number(out, answer.number as u64)?;
+    show::word(out, answer.mask)?;
+    show::bytes(out, file)?;
     let moved = answer.run;
-    position(moved, b",");
-    show::bytes(buffer);
+    position(out, moved, b",")?;
+    show::bytes(out, buffer)
 }
 
 fn several(
@@ -239,22 +249,34 @@ fn several(
     at_once(file, run, names, buffer, most)
 }
 
-fn several_case(case: &[u8], file: &mut [u8], names: &[u8], buffer: &mut [u8]) {
+fn several_case(
+    out: &impl Print,
+    case: &[u8],
+    file: &mut [u8],
+    names: &[u8],
+    buffer: &mut [u8],
+) -> io::Result<()> {
     let answer = several(case, file, position_at(case), names, buffer);
-    show::number(answer.number as u64);
-    show::number(answer.made);
-    show::word(answer.mask);
-    show::bytes(file);
+    show::number(out, answer.number as u64)?;
+    show::number(out, answer.made)?;
+    show::word(out, answer.mask)?;
+    show::bytes(out, file)?;
     let moved = answer.run;
-    position(moved, b",");
-    show::bytes(buffer);
+    position(out, moved, b",")?;
+    show::bytes(out, buffer)
 }
 
-fn with_buffer(case: &[u8], file: &mut [u8], names: &[u8], buffer: &mut [u8]) {
+fn with_buffer(
+    out: &impl Print,
+    case: &[u8],
+    file: &mut [u8],
+    names: &[u8],
+    buffer: &mut [u8],
+) -> io::Result<()> {
     if is(case, b"step") {
-        return step_case(file, position_at(case), names, buffer);
+        return step_case(out, file, position_at(case), names, buffer);
     }
-    several_case(case, file, names, buffer);
+    several_case(out, case, file, names, buffer)
 }
 
 // A frame of others, from a field, and a step that its buffer refuses.
@@ -300,54 +322,55 @@ fn ran(case: &[u8], file: &mut [u8], fresh: RunPosition, names: &[u8], steps: u6
     run
 }
 
-fn run_case(case: &[u8], file: &mut [u8], names: &[u8]) {
+fn run_case(out: &impl Print, case: &[u8], file: &mut [u8], names: &[u8]) -> io::Result<()> {
     let answer = started(names);
     let fresh = answer.run;
     let run = ran(case, file, fresh, names, number_at(case, 3));
-    position(run, b",");
-    show::bytes(file);
+    position(out, run, b",")?;
+    show::bytes(out, file)
 }
 
-fn on_file(case: &[u8], file: &mut [u8], names: &[u8]) {
+fn on_file(out: &impl Print, case: &[u8], file: &mut [u8], names: &[u8]) -> io::Result<()> {
     if is(case, b"run") {
-        return run_case(case, file, names);
+        return run_case(out, case, file, names);
     }
     let mut buffer = [0xEEu8; BUFFER];
     let length = count_at(case, 11, &buffer);
-    with_buffer(case, file, names, &mut buffer[..length]);
+    with_buffer(out, case, file, names, &mut buffer[..length])
 }
 
-fn call(case: &[u8]) {
+fn call(out: &impl Print, case: &[u8]) -> io::Result<()> {
     let mut file = [0u8; FILE];
     let mut names = [0u8; NAMES];
     if is(case, b"start") {
         let count = bytes_at(case, 1, &mut names);
-        return start_case(&names[..count]);
+        return start_case(out, &names[..count]);
     }
     let size = bytes_at(case, 1, &mut file);
     let count = bytes_at(case, 2, &mut names);
-    on_file(case, &mut file[..size], &names[..count]);
+    on_file(out, case, &mut file[..size], &names[..count])
 }
 
-fn run(case: &[u8]) {
-    text(case);
+fn run(out: &impl Print, case: &[u8]) -> io::Result<()> {
+    text(out, case)?;
     if !is(case, b"#") {
-        text(b" =");
-        call(case);
+        text(out, b" =")?;
+        call(out, case)?;
     }
-    text(b"\n");
+    text(out, b"\n")
 }
 
-fn cases(input: &[u8]) {
+fn cases(out: &impl Print, input: &[u8]) -> io::Result<()> {
     let mut at = 0;
     while at < input.len() {
-        run(line(input, at));
+        run(out, line(input, at))?;
         at = after(input, at);
     }
+    Ok(())
 }
 
-fn main() {
+fn main(rt: HostRuntime) -> io::Result<()> {
     let mut input = input_buffer();
-    let n = io::read_full(0, &mut input);
-    cases(&input[..n]);
+    let n = read_full(&mut rt.stdin(), &mut input)?;
+    cases(&rt, &input[..n])
 }

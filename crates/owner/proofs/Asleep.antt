@@ -167,7 +167,7 @@ same_plan master c d same =
 
 -- ---- the call
 
-module _ (f g : List ℕ) (master : ℕ) (buffer : List ℕ) (ground : file_ground g ≡ file_ground f) (plan : SamePlan master (decode f).slaves (decode g).slaves) where
+module _ (f g : List ℕ) (master : ℕ) (buffer : List ℕ) (reason : file_ground g ≡ file_ground f) (plan : SamePlan master (decode f).slaves (decode g).slaves) where
   same-short : too_short buffer master (decode g).slaves ≡ too_short buffer master (decode f).slaves
   unfolding too_short
   same-short = ap (λ (l : List ℕ). ltb (length buffer) (length l)) plan.bytes
@@ -177,14 +177,14 @@ module _ (f g : List ℕ) (master : ℕ) (buffer : List ℕ) (ground : file_grou
       by_case (eqb (file_ground f) 0)
       (λ e.
       let accepted : file_ground f ≡ 0 = eqb-true _ _ e in
-      after-file g master buffer (ground ∙ accepted) ∙ rw (plan.multiplexed, plan.two, same-short) (sym (after-file f master buffer accepted)))
+      after-file g master buffer (reason ∙ accepted) ∙ rw (plan.multiplexed, plan.two, same-short) (sym (after-file f master buffer accepted)))
       (λ e.
       let other : file_ground f ≢ 0 = eqb-false _ _ e in
-      file_decides g master buffer (λ z. other (sym ground ∙ z)) ∙ ground ∙ sym (file_decides f master buffer other))
+      file_decides g master buffer (λ z. other (sym reason ∙ z)) ∙ reason ∙ sym (file_decides f master buffer other))
 
   same-call : owner_on g master buffer ≡ owner_on f master buffer
   unfolding owner_on
   same-call = rw (same_ground, plan.bytes)
 
 pub planned-awake : PlannedAwake
-planned-awake f g ground same master buffer = same-call f g master buffer ground (same_plan master (decode f) (decode g) same)
+planned-awake f g reason same master buffer = same-call f g master buffer reason (same_plan master (decode f) (decode g) same)

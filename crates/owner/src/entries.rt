@@ -23,7 +23,7 @@ use multipartner::entry::{
 
 // The slots that a slave's entries hide from later ones, those in which it sends, whether it has a multiplexed send, and the file that
 // was looked for last, with its size.
-#[derive(Drop)]
+#[derive(Clone, Copy)]
 pub struct SlavePlan {
     pub hidden: u64,
     pub sends: u64,

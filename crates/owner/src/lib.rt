@@ -1,4 +1,6 @@
 // Writing the owner file 0x0B: who sends in which slot of which round.
+#![tactic(auto)]
+
 mod entries;
 mod held;
 mod masks;

@@ -64,7 +64,7 @@ fn put_name(row: &mut [u8], mask: u64, name: LogicalName)
 }
 
 // The slots of a round in which someone sends, those in which two slaves do, and whether a slave has a multiplexed send.
-#[derive(Drop)]
+#[derive(Clone, Copy)]
 pub struct RoundPlan {
     pub senders: u64,
     pub clashes: u64,

@@ -44,7 +44,7 @@ fn is_owned(round: usize) -> bool
 }
 
 // What is written so far: how many bytes of rows, whether two slaves send in one slot, and whether a slave has a multiplexed send.
-#[derive(Drop)]
+#[derive(Clone, Copy)]
 pub struct Rows {
     pub length: usize,
     pub clash: bool,

@@ -100,9 +100,9 @@ states_laid_out state i =
 
 pub post-bytes : PostBytes
 post-bytes state i r long e =
-    let ground = post-ground state i r e in
-    let few = (post_free state i r ground).few in
-    rw (post-accepted state i r ground)
+    let reason = post-ground state i r e in
+    let few = (post_free state i r reason).few in
+    rw (post-accepted state i r reason)
     (unfold place_of in record {
       waiting = posted-first state i r long few;
       before = λ k l. posted-byte state i r k (λ q. omega (arith, q, l)) (λ q. omega (arith, q, l)) (λ q. omega (arith, q, l)) (λ q. omega (arith, q, l));
@@ -111,10 +111,10 @@ post-bytes state i r long e =
 
 pub post-waits : PostWaits
 post-waits state i r long e =
-    let ground = post-ground state i r e in
-    let free = post_free state i r ground in
+    let reason = post-ground state i r e in
+    let free = post_free state i r reason in
     let own = posted_own state i r long free.few in
-    rw (post-accepted state i r ground)
+    rw (post-accepted state i r reason)
     (record {
       waits = own.0;
       read = own.1;

@@ -64,7 +64,7 @@ module _ (state : List ℕ) {d : DueScreen} (is : due_of d ≡ due state) where
     pub ground-read :
         {i : ℕ} {a : RecordAddress} {g : ℕ} → d ≡ dues.Screen i → PostedRead state i a → g ≡ first_of (read_grounds (read_in a)) →
         g ≡ first_of (state_grounds state)
-    ground-read {i} e posts ground = ground ∙ rw posts.is (sym (by_read state i (omega arith) (due-one e)))
+    ground-read {i} e posts reason = reason ∙ rw posts.is (sym (by_read state i (omega arith) (due-one e)))
 
   -- ---- a turn that no ground refuses
 
@@ -93,31 +93,31 @@ unfolding last_served
 last-few state h = omega arith
 
 pub state_free : (state : List ℕ) {g : ℕ} → g ≡ first_of (state_grounds state) → g ≡ 0 → first_of (state_grounds state) ≡ 0
-state_free state ground fits = sym ground ∙ fits
+state_free state reason fits = sym reason ∙ fits
 
 module _ (state f buffer : List ℕ) where
   refused_by : {w : ℕ} → turn_ground state f buffer ≡ w → (w ≡ 0 → ⊥) → (refused w, state, buffer, f) ≡ turn_on state f buffer
   refused_by by some = rw (turn-refused state f buffer (λ z. some (sym by ∙ z)), by)
 
   pub turn_unfit : {g : ℕ} → g ≡ first_of (state_grounds state) → (g ≡ 0 → ⊥) → (refused g, state, buffer, f) ≡ turn_on state f buffer
-  turn_unfit ground some = refused_by (state_decides state f buffer (λ z. some (ground ∙ z)) ∙ sym ground) some
+  turn_unfit reason some = refused_by (state_decides state f buffer (λ z. some (reason ∙ z)) ∙ sym reason) some
 
   pub turn-screen : 7 < get_or state 0 0 → (refused 27, state, buffer, f) ≡ turn_on state f buffer
   unfolding last_served
   turn-screen h = turn_unfit (sym (last-refused state h)) (λ z. omega arith)
 
-  module _ {g : ℕ} (ground : g ≡ first_of (state_grounds state)) (fits : g ≡ 0) {a : FileAnswer} {places : List ℕ}
+  module _ {g : ℕ} (reason : g ≡ first_of (state_grounds state)) (fits : g ≡ 0) {a : FileAnswer} {places : List ℕ}
       (s : Surveyed f (checked_of a) places) where
     pub turn_unaccepted : {w : Refusal} → a ≡ answers.Refused w → (refused w.0, state, buffer, f) ≡ turn_on state f buffer
     turn_unaccepted e =
         let by = survey-refused s e in
-        refused_by (turn-file state f buffer (state_free state ground fits) (λ z. by.1 (by.0 ∙ z)) ∙ sym by.0) by.1
+        refused_by (turn-file state f buffer (state_free state reason fits) (λ z. by.1 (by.0 ∙ z)) ∙ sym by.0) by.1
 
     module _ (accepted : a ≡ answers.Accepted) where
       pub turn-short : length buffer < slots → (refused 9, state, buffer, f) ≡ turn_on state f buffer
-      turn-short h = refused_by (turn-buffer state f buffer (state_free state ground fits) (survey-accepted s accepted) h) (λ z. omega arith)
+      turn-short h = refused_by (turn-buffer state f buffer (state_free state reason fits) (survey-accepted s accepted) h) (λ z. omega arith)
 
       pub turn-carried :
           {r : Result Turn × List ℕ × List ℕ × List ℕ} → slots ≤ length buffer → r ≡ turn_made (due state) state f buffer →
           r ≡ turn_on state f buffer
-      turn-carried h made = made ∙ sym (turn-made state f buffer (turn-none state f buffer (state_free state ground fits) (survey-accepted s accepted) h))
+      turn-carried h made = made ∙ sym (turn-made state f buffer (turn-none state f buffer (state_free state reason fits) (survey-accepted s accepted) h))

@@ -9,7 +9,7 @@ use crate::state::{LAST_SCREEN, LAST_SERVED, ScreenState, WAITING, is_waiting, p
 use file::types::{FileNumber, LogicalName, Refusal};
 use master_slave::types::RecordAddress;
 
-#[derive(Drop)]
+#[derive(Clone, Copy)]
 pub enum Posted {
     Refused(Refusal),
     Posted,

@@ -27,7 +27,7 @@ const IDLE: u8 = 0;
 
 pub type ScreenState = [u8; STATE_SIZE];
 
-#[derive(Drop)]
+#[derive(Clone, Copy)]
 pub enum DueScreen {
     Nobody,
     Screen(u8),

@@ -20,7 +20,7 @@ use master_slave::slots::SLOTS;
 use master_slave::types::{MasterSlaveRound, RecordAddress};
 
 // A turn is refused, has nobody to serve, or served a screen, with the mask of the read's data frame.
-#[derive(Drop)]
+#[derive(Clone, Copy)]
 pub enum Turned {
     Refused(Refusal),
     Idle,

@@ -8,7 +8,7 @@ use file::survey::{FileAnswer, survey};
 use file::types::{PLACES, Refusal};
 
 // A file is refused, or its slaves' names are filled in, with how many there are.
-#[derive(Drop)]
+#[derive(Clone, Copy)]
 pub enum Filling {
     Refused(Refusal),
     Filled(usize),

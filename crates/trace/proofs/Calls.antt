@@ -76,9 +76,9 @@ module _ (file t : List ℕ) where
 module _ (t : List ℕ) {file places : List ℕ} {a : FileAnswer} (s : Surveyed file (checked_of a) places) where
   pub call-refused : {why : Refusal} → a ≡ answers.Refused why → (refused why.0, file) ≡ trace_on file t
   call-refused {why} e =
-      let ground = survey-refused s e in
-      let here : trace_ground file t ≡ file_ground file = file_decides file t (λ z. ground.1 (ground.0 ∙ z)) in
-      sym (trace-refused file t (λ z. ground.1 (ground.0 ∙ sym here ∙ z)) ∙ rw (here, ground.0))
+      let reason = survey-refused s e in
+      let here : trace_ground file t ≡ file_ground file = file_decides file t (λ z. reason.1 (reason.0 ∙ z)) in
+      sym (trace-refused file t (λ z. reason.1 (reason.0 ∙ sym here ∙ z)) ∙ rw (here, reason.0))
 
   module _ (accepted : a ≡ answers.Accepted) {broken : Bool} (is : broken ≡ broken_trace t) where
     pub call-broken : broken ≡ true → (refused 19, file) ≡ trace_on file t

@@ -155,14 +155,14 @@ module _ {t : List ℕ} where
     unfolding data_of
     frames-fill {row} {place} [] s = rows_end t row place ∙ eq-eqb place (data_length t) (omega (arith, s.filled))
     frames-fill {row} {place} (x ∷ xs) s =
-        row_next t row place (length xs) (frame-offset s) ∙ rw (frame-length s) (frames-fill xs (others-stand s))
+        row_next t row place (length xs) (frame-offset s) ∙ rw (frame-length s) (frames-fill {row = row + row_size} xs (others-stand s))
 
     frames-read : {row place : ℕ} (xs : List (List ℕ)) → FramesStand t row place xs → frames_from t row (length xs) ≡ xs
     unfolding frames_from
     frames-read [] s = refl
     frames-read {row} {place} (x ∷ xs) s =
         let first : part t (data_place_lem t + offset_in t row) (length_in t row) ≡ x = rw (frame-offset s, frame-length s) (stands-part (first-bytes s)) in
-        ap₂ (λ (y : List ℕ) (ys : List (List ℕ)). y ∷ ys) first (frames-read xs (others-stand s))
+        ap₂ (λ (y : List ℕ) (ys : List (List ℕ)). y ∷ ys) first (frames-read {row = row + row_size} xs (others-stand s))
 
 -- ---- the whole trace
 

@@ -8,7 +8,7 @@ use mathlib.Core.List.{List}
 use lib.ListN.{replicate}
 use lib.Dec.{eqb}
 use borrow.Author.Tests.{eqb-true, eqb-false}
-use Rattle.file.specs.Rules.Bytes.{All, all_next, Bytes}
+use Rattle.file.specs.Rules.Bytes.{All, all_empty, all_next, Bytes}
 use Rattle.file.specs.Rules.Cluster.{Slave}
 use Rattle.file.specs.Rules.Decode.{decode}
 use Rattle.file.proofs.Order.{by_case}
@@ -85,9 +85,10 @@ frames_stay {file} b (all_next {a = x} f fs) (one_sent none rest) up =
 
 frames_wake : {file : List ℕ} {xs : List (List ℕ)} → Bytes file → All Bytes xs → Woken file xs → AllAwake (after_frames file xs)
 unfolding after_frames sent
+frames_wake b all_empty never = elim never [ ]
 frames_wake {file} b (all_next {a = x} f fs) (woken accepted other (one_sent none rest)) =
     frames_stay (sent-bytes file x b f) fs rest (frame-wakes file x (replicate slots 0) b f accepted other none)
-frames_wake {file} b (all_next {a = x} f fs) (later rest) = frames_wake (sent-bytes file x b f) fs rest
+frames_wake {file} b (all_next {a = x} f fs) (later rest) = frames_wake {file = (sent file x).2} (sent-bytes file x b f) fs rest
 
 frames-same : {file : List ℕ} {xs : List (List ℕ)} → Bytes file → All Bytes xs → EachSent OnlyAddress file xs →
     (decode (after_frames file xs)).slaves ≡ (decode file).slaves

@@ -1,4 +1,6 @@
 // Running a captured trace on a cluster file.
+#![tactic(auto)]
+
 mod layout;
 pub mod report;
 pub mod run;

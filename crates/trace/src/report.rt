@@ -7,7 +7,7 @@ ghost use Rattle.trace.specs.Inner.Sent.{FewFrames};
 
 use frame::firework::Firework;
 
-#[derive(Drop)]
+#[derive(Clone, Copy)]
 pub struct Report {
     pub msa: u64,
     pub msd: u64,

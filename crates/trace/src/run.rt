@@ -16,14 +16,14 @@ use file::survey::{FileAnswer, survey};
 use file::types::{PLACES, Refusal, SlavePlaces};
 use master_slave::slots::SLOTS;
 
-#[derive(Drop)]
+#[derive(Clone, Copy)]
 pub enum TraceAnswer {
     Refused(Refusal),
     Ran(Report),
 }
 
 // The frames counted so far, and whether someone may be asleep after them.
-#[derive(Drop)]
+#[derive(Clone, Copy)]
 pub struct Progress {
     pub report: Report,
     pub sleepers: bool,

@@ -79,9 +79,9 @@ but_first other (later x) = x
 
 -- ---- a call returns its ground
 
-result_number : {A : Type 0} (ground : ℕ) (value : A) → number_in (result_of ground value) ≡ ground
+result_number : {A : Type 0} (reason : ℕ) (value : A) → number_in (result_of reason value) ≡ reason
 unfolding result_of number_in
-result_number ground value = by_case (eqb ground 0) (λ e. rw e (sym (eqb-true ground 0 e))) (λ e. rw e)
+result_number reason value = by_case (eqb reason 0) (λ e. rw e (sym (eqb-true reason 0 e))) (λ e. rw e)
 
 refused-number : (A : Type 0) (n : ℕ) → number_in {A = A} (refused n) ≡ n
 unfolding number_in
@@ -148,6 +148,9 @@ turn-number file state answer senders told =
 -- those of a frame, whatever round it opens
 frame-numbers : (c : Cluster) (round : Round) (frame : List ℕ) {n : ℕ} → OneOf n (numbers_of (grounds_on c round frame)) → OneOf n (10 ∷ 11 ∷ 12 ∷ 13 ∷ 14 ∷ [])
 unfolding grounds_on numbers_of
+frame-numbers c (multipartner r) frame (later never) = elim never [ ]
+frame-numbers c msd frame (later (later never)) = elim never [ ]
+frame-numbers c no_round frame (later never) = elim never [ ]
 frame-numbers c no_round frame here = here
 frame-numbers c (multipartner r) frame here = later here
 frame-numbers c msd frame here = later here

@@ -47,30 +47,30 @@ lent-kept (refused m) old new n some e = rw e
 lent-kept (done a) old new n some e = absurd (some (sym e))
 
 write_kept :
-    (ground : ℕ) (frame buffer : List ℕ) (n : ℕ) → n ≢ 0 → number_in (write_frame ground frame buffer).0 ≡ n →
-    ◌≡◌ {A = ℕ × List ℕ} (number_in (write_frame ground frame buffer).0, (write_frame ground frame buffer).1) (n, buffer)
+    (reason : ℕ) (frame buffer : List ℕ) (n : ℕ) → n ≢ 0 → number_in (write_frame reason frame buffer).0 ≡ n →
+    ◌≡◌ {A = ℕ × List ℕ} (number_in (write_frame reason frame buffer).0, (write_frame reason frame buffer).1) (n, buffer)
 unfolding write_frame result_of number_in
-write_kept ground frame buffer n some e =
-    by_case (eqb ground 0)
+write_kept reason frame buffer n some e =
+    by_case (eqb reason 0)
     (λ t. absurd (some (sym (rw t at e))))
-    (λ t. let same : ground ≡ n = rw t at e in rw (t, same))
+    (λ t. let same : reason ≡ n = rw t at e in rw (t, same))
 
 -- ---- a frame or a trace on a file, and its owner file
 
 -- the answer of a layer below, by its ground, and what it leaves
 abbrev answered : {A C : Type 0} → ℕ → A → C → C → Result A × C
-answered ground value new was = cond (eqb ground 0) (done value, new) (refused ground, was)
+answered reason value new was = cond (eqb reason 0) (done value, new) (refused reason, was)
 
 answer-kept :
-    {A B C : Type 0} (ground : ℕ) (value : A) (new was : C) (old : B) (to : A → B) (n : ℕ) → n ≢ 0 → number_in (answered ground value new was).0 ≡ n →
+    {A B C : Type 0} (reason : ℕ) (value : A) (new was : C) (old : B) (to : A → B) (n : ℕ) → n ≢ 0 → number_in (answered reason value new was).0 ≡ n →
     ◌≡◌ {A = ℕ × B × C}
-    (number_in (answered ground value new was).0, lent_after (answered ground value new was).0 old to, (answered ground value new was).1)
+    (number_in (answered reason value new was).0, lent_after (answered reason value new was).0 old to, (answered reason value new was).1)
     (n, old, was)
 unfolding number_in lent_after
-answer-kept ground value new was old to n some e =
-    by_case (eqb ground 0)
+answer-kept reason value new was old to n some e =
+    by_case (eqb reason 0)
     (λ t. absurd (some (sym (rw t at e))))
-    (λ t. let same : ground ≡ n = rw t at e in rw (t, same))
+    (λ t. let same : reason ≡ n = rw t at e in rw (t, same))
 
 round-kept :
     (file frame answer : List ℕ) (senders n : ℕ) → n ≢ 0 → (round_call file frame answer senders).0 ≡ n →

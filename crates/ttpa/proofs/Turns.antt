@@ -237,11 +237,12 @@ module _ (i : ℕ) (r : Read) (name : Byte r.name) (record' : Byte r.«record»)
       {n : ℕ} {state : List ℕ} (cs : List ScreenCall) → All FileOfBytes cs → Fairness.ServedWithin i r n state (map call_of cs) →
       ServedWithin i r n state cs
   unfolding call_of
+  over-calls [] _ never = elim never [ ]
   over-calls {n = n} {state = state} (ttpa_post screen name file «record» ∷ cs) (all_next b bs) (Fairness.later {m = m} l w q s) =
       let c : ScreenCall = ttpa_post screen name file «record» in
       let bound : accepted_by state c + m ≤ n = rw (same_count state c) at l in
       later bound (still-waits state c w) (still_read state c q)
-      (over-calls cs bs (subst (λ (x : List ℕ). Fairness.ServedWithin i r m x (map call_of cs)) (same_state state c) s))
+      (over-calls {n = m} cs bs (subst (λ (x : List ℕ). Fairness.ServedWithin i r m x (map call_of cs)) (same_state state c) s))
   over-calls {state = state} (ttpa_turn file answer senders screen ∷ cs) (all_next (in_turn fb) bs) (Fairness.now s) =
       now s.stands (serves-read file state answer senders screen i r name record' fb s)
   over-calls {n = n} {state = state} (ttpa_turn file answer senders screen ∷ cs) (all_next b bs) (Fairness.later {m = m} l w q s) =

@@ -1,5 +1,7 @@
 // The engine's C calls, on numbers and slices: `ttpa_c` exports each of them, as firmware and test software link it. They keep no state,
 // never allocate and always return. Each is the call of the layer below, with the answer as a number.
+#![tactic(auto)]
+
 ghost use Rattle.std.specs.Prelude.{◌≡◌, [], ◌∷◌};
 ghost use Rattle.ttpa.specs.Rules.Calls.{version_call, check_call, read_address_call, write_address_call, write_data_call, round_call, trace_call, owner_call, convert_call, words_of, position_in, start_call};
 ghost use Rattle.ttpa.specs.Rules.Calls.{step_call, fill_call, holder_call, round_keeping_call, step_keeping_call, screens_call, post_call, turn_call, join_call, class_number, pattern_call, contents_call};

@@ -1,6 +1,8 @@
 // The C calls, each called with its arguments in the order of include/ttpa.h. A contract speaks of parameters by their names, and C
 // passes them by their order: a call of `ttpa` whose parameters stood in another order would not meet the contract here. `ttpa_version`,
 // which has none, is not here.
+#![tactic(auto)]
+
 ghost use Rattle.std.specs.Prelude.{◌≡◌, [], ◌∷◌};
 ghost use Rattle.ttpa.specs.Rules.Calls.{check_call, read_address_call, write_address_call, write_data_call, round_call, trace_call, owner_call, convert_call, start_call, step_call, fill_call, holder_call};
 ghost use Rattle.ttpa.specs.Rules.Calls.{round_keeping_call, step_keeping_call, screens_call, post_call, turn_call, join_call, pattern_call, contents_call};

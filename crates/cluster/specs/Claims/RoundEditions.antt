@@ -23,10 +23,10 @@ use Rattle.cluster.specs.Claims.Summary.{Matches}
 -- a frame on a cluster: answer, buffer, and what the cluster becomes; of the file that holds it there is nothing in this
 unfoldable pub exchange : Cluster → List ℕ → List ℕ → Answer × List ℕ × Cluster
 exchange c frame buffer =
-    let ground = first_of ((9, short_answer buffer) ∷ grounds_on c (round_by_lem frame) frame) in let effect = frame_on c frame in
-    cond (eqb ground 0)
+    let reason = first_of ((9, short_answer buffer) ∷ grounds_on c (round_by_lem frame) frame) in let effect = frame_on c frame in
+    cond (eqb reason 0)
     (done (sender_mask effect.senders), answer_in buffer (answer_bytes (get_or frame 0 0) effect.senders), effect.after)
-    (refused ground, buffer, c)
+    (refused reason, buffer, c)
 
 -- at every offset width w, on the encoding of a cluster that is legal in the edition of that width, a round is that exchange and leaves the
 -- encoding of what the cluster becomes: w is the width of the encodings alone, and whichever edition is written in c, it is not looked at

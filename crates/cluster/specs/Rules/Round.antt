@@ -46,7 +46,7 @@ round_ground file frame buffer =
 -- "A cluster that never replies, or stores nothing, contradicts it (demand 2)."
 unfoldable pub round_on : List ℕ → List ℕ → List ℕ → Answer × List ℕ × List ℕ
 round_on file frame buffer =
-    let ground = round_ground file frame buffer in let effect = frame_on (decode file) frame in
-    cond (eqb ground 0)
+    let reason = round_ground file frame buffer in let effect = frame_on (decode file) frame in
+    cond (eqb reason 0)
     (done (sender_mask effect.senders), answer_in buffer (answer_bytes (get_or frame 0 0) effect.senders), encode effect.after)
-    (refused ground, buffer, file)
+    (refused reason, buffer, file)

@@ -45,8 +45,8 @@ round_keeping_ground file summary frame buffer =
 -- answer, buffer, file and summary: "A refusal returns its number and alters nothing lent" (document 01)
 unfoldable pub round_keeping : List ℕ → Summary → List ℕ → List ℕ → Answer × List ℕ × List ℕ × Summary
 round_keeping file summary frame buffer =
-    let ground = round_keeping_ground file summary frame buffer in let r = round_on file frame buffer in
-    cond (eqb ground 0) (r.0, r.1, r.2, kept_for summary (logical_names (decode r.2))) (refused ground, buffer, file, summary)
+    let reason = round_keeping_ground file summary frame buffer in let r = round_on file frame buffer in
+    cond (eqb reason 0) (r.0, r.1, r.2, kept_for summary (logical_names (decode r.2))) (refused reason, buffer, file, summary)
 
 -- ---- the filling: "a lent slice that a call fills from the file"
 
@@ -57,8 +57,8 @@ fill_ground file slice = first_of (file_grounds file ++ (24, ltb (length slice) 
 -- the count, and the slice
 unfoldable pub fill_on : List ℕ → List ℕ → Result ℕ × List ℕ
 fill_on file slice =
-    let ground = fill_ground file slice in let count = length (decode file).slaves in
-    cond (eqb ground 0) (done count, logical_names (decode file) ++ drop count slice) (refused ground, slice)
+    let reason = fill_ground file slice in let count = length (decode file).slaves in
+    cond (eqb reason 0) (done count, logical_names (decode file) ++ drop count slice) (refused reason, slice)
 
 -- ---- the question: "a slave's place in the slave table (0 the first) for a logical name"
 

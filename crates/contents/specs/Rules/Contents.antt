@@ -14,6 +14,6 @@ contents_in f slave number = bytes_in (get_or (decode f).slaves slave no_slave_l
 -- its content." It is refused by the cluster file's grounds alone
 unfoldable pub contents_on : List ℕ → ℕ → ℕ → List ℕ → Result ℕ × List ℕ
 contents_on f slave number buffer =
-    let ground = file_ground f in
+    let reason = file_ground f in
     let bytes = contents_in f slave number in
-    cond (eqb ground 0) (done (length bytes), written_in buffer (take (length buffer) bytes)) (refused ground, buffer)
+    cond (eqb reason 0) (done (length bytes), written_in buffer (take (length buffer) bytes)) (refused reason, buffer)

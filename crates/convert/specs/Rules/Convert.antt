@@ -23,6 +23,6 @@ convert_ground f edition out = first_of (convert_grounds f edition out)
 -- the answer, with the length of what was written, and the buffer: "Past the bytes a call writes, a buffer keeps its content."
 unfoldable pub convert_on : List ℕ → ℕ → List ℕ → Result ℕ × List ℕ
 convert_on f edition out =
-    let ground = convert_ground f edition out in
+    let reason = convert_ground f edition out in
     let bytes = in_edition f edition in
-    cond (eqb ground 0) (done (length bytes), written_in out bytes) (refused ground, out)
+    cond (eqb reason 0) (done (length bytes), written_in out bytes) (refused reason, out)

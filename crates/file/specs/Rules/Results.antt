@@ -9,7 +9,7 @@ pub data Result (A : Type 0) : Type 0 where
 
 -- by the first ground that holds, 0 where none does
 unfoldable pub result_of : {A : Type 0} → ℕ → A → Result A
-result_of ground value = cond (eqb ground 0) (done value) (refused ground)
+result_of reason value = cond (eqb reason 0) (done value) (refused reason)
 
 -- the number that a C call returns: 0 where it is done
 unfoldable pub number_in : {A : Type 0} → Result A → ℕ

@@ -7,7 +7,7 @@ use Rattle.frame.specs.Rules.FrameGrounds.{short_frame_buffer, no_operation, bro
 
 -- "A refusal returns its number and alters nothing lent"; "Past the bytes a call writes, a buffer keeps its content."
 unfoldable pub write_frame : ℕ → List ℕ → List ℕ → Result (Unit {0}) × List ℕ
-write_frame ground frame buffer = (result_of ground tt, cond (eqb ground 0) (frame ++ drop frame_size buffer) buffer)
+write_frame reason frame buffer = (result_of reason tt, cond (eqb reason 0) (frame ++ drop frame_size buffer) buffer)
 
 -- "Checked in this order"
 unfoldable pub write_ground : List ℕ → ℕ → ℕ → ℕ → ℕ

@@ -26,6 +26,6 @@ join_ground f g out = first_of (join_grounds f g out)
 -- the answer, with the length of what was written, and the buffer: "Past the bytes a call writes, a buffer keeps its content."
 unfoldable pub join_on : List ℕ → List ℕ → List ℕ → Result ℕ × List ℕ
 join_on f g out =
-    let ground = join_ground f g out in
+    let reason = join_ground f g out in
     let bytes = joined_file f g in
-    cond (eqb ground 0) (done (length bytes), written_in out bytes) (refused ground, out)
+    cond (eqb reason 0) (done (length bytes), written_in out bytes) (refused reason, out)

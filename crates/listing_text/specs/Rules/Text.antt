@@ -51,7 +51,7 @@ totals_line given comparisons rounds =
 
 -- "A refused file gives only the line `refused`, a space and its number."
 unfoldable pub refused_line : ℕ → List ℕ
-refused_line ground = field (letters "refused ") ground ++ (newline ∷ [])
+refused_line reason = field (letters "refused ") reason ++ (newline ∷ [])
 
 -- ---- how long a line is at most
 

@@ -44,9 +44,9 @@ step_made file p names buffer =
 -- one step: "A refusal returns its number and alters nothing lent"; "a step of an ended run alters nothing"
 unfoldable pub step_on : List ℕ → Position → List ℕ → List ℕ → Result StepDone × Position × List ℕ × List ℕ
 step_on file p names buffer =
-    let ground = step_ground file p names buffer in
+    let reason = step_ground file p names buffer in
     let step = step_made file p names buffer in
-    cond (eqb ground 0) (cond (eqb p.end running) step (done ended, p, buffer, file)) (refused ground, p, buffer, file)
+    cond (eqb reason 0) (cond (eqb p.end running) step (done ended, p, buffer, file)) (refused reason, p, buffer, file)
 
 -- a step given the summary (document 02, job 8: "Every round and naming step may be given the summary and keeps it true."): the file's
 -- grounds, 24 "after 8", then those of the step
@@ -57,5 +57,5 @@ step_keeping_ground file p names summary buffer =
 -- answer, position, buffer, file and summary: "A refusal returns its number and alters nothing lent"
 unfoldable pub step_keeping : List ℕ → Position → List ℕ → Summary → List ℕ → Result StepDone × Position × List ℕ × List ℕ × Summary
 step_keeping file p names summary buffer =
-    let ground = step_keeping_ground file p names summary buffer in let r = step_on file p names buffer in
-    cond (eqb ground 0) (r.0, r.1, r.2, r.3, kept_for summary (logical_names (decode r.3))) (refused ground, p, buffer, file, summary)
+    let reason = step_keeping_ground file p names summary buffer in let r = step_on file p names buffer in
+    cond (eqb reason 0) (r.0, r.1, r.2, r.3, kept_for summary (logical_names (decode r.3))) (refused reason, p, buffer, file, summary)

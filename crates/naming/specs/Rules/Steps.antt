@@ -53,6 +53,6 @@ pub data StepsDone : Type 0 where
 -- the whole: the grounds of a step, asked once; answer, position, buffer and file
 unfoldable pub steps_on : ℕ → List ℕ → Position → List ℕ → List ℕ → Result StepsDone × Position × List ℕ × List ℕ
 steps_on k file p names buffer =
-    let ground = step_ground file p names buffer in
+    let reason = step_ground file p names buffer in
     let t = steps_from nowhere names k (begun file p buffer) in
-    cond (eqb ground 0) (done (steps t.made t.senders), t.run, t.buffer, t.file) (refused ground, p, buffer, file)
+    cond (eqb reason 0) (done (steps t.made t.senders), t.run, t.buffer, t.file) (refused reason, p, buffer, file)

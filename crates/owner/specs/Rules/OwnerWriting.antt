@@ -25,6 +25,6 @@ owner_ground file master buffer = first_of (owner_grounds file master buffer)
 -- the answer, with the length of what was written, and the buffer
 unfoldable pub owner_on : List ℕ → ℕ → List ℕ → Result ℕ × List ℕ
 owner_on file master buffer =
-    let ground = owner_ground file master buffer in
+    let reason = owner_ground file master buffer in
     let bytes = owner_file master (decode file).slaves in
-    cond (eqb ground 0) (done (length bytes), written_in buffer bytes) (refused ground, buffer)
+    cond (eqb reason 0) (done (length bytes), written_in buffer bytes) (refused reason, buffer)

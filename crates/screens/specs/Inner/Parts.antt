@@ -21,6 +21,6 @@ pub record PostedRead (state : List ℕ) (i : ℕ) (a : RecordAddress) : Type 0 
   pub «record» : Byte (record_in a.«record»)
 
 -- the ground of a post, 0 only of one of the eight screens
-pub record PostGround (state : List ℕ) (i : ℕ) (r : Read) (ground : ℕ) : Type 0 where
-  pub is : ground ≡ post_ground state i r
-  pub few : ground ≡ 0 → i < screens
+pub record PostGround (state : List ℕ) (i : ℕ) (r : Read) (reason : ℕ) : Type 0 where
+  pub is : reason ≡ post_ground state i r
+  pub few : reason ≡ 0 → i < screens

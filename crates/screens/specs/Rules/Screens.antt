@@ -76,4 +76,4 @@ posted state i r =
 
 -- answer and state: "A refusal returns its number and alters nothing lent"
 unfoldable pub post_on : List ℕ → ℕ → Read → Result (Unit {0}) × List ℕ
-post_on state i r = let ground = post_ground state i r in (result_of ground tt, cond (eqb ground 0) (posted state i r) state)
+post_on state i r = let reason = post_ground state i r in (result_of reason tt, cond (eqb reason 0) (posted state i r) state)

@@ -52,5 +52,5 @@ turn_made (screen i) state file buffer =
 -- "A turn serves the next waiting screen after the one last served"; "A refusal returns its number and alters nothing lent"
 unfoldable pub turn_on : List ℕ → List ℕ → List ℕ → Result Turn × List ℕ × List ℕ × List ℕ
 turn_on state file buffer =
-    let ground = turn_ground state file buffer in let made = turn_made (due state) state file buffer in
-    cond (eqb ground 0) made (refused ground, state, buffer, file)
+    let reason = turn_ground state file buffer in let made = turn_made (due state) state file buffer in
+    cond (eqb reason 0) made (refused reason, state, buffer, file)

@@ -72,5 +72,5 @@ trace_ground file t = first_of (trace_grounds file t)
 -- a trace run on a file: the answer, with the report, and the file. "A refusal returns its number and alters nothing lent"
 unfoldable pub trace_on : List ℕ → List ℕ → Result Report × List ℕ
 trace_on file t =
-    let ground = trace_ground file t in
-    cond (eqb ground 0) (done (report_from no_frames file (frames_of t)), after_frames file (frames_of t)) (refused ground, file)
+    let reason = trace_ground file t in
+    cond (eqb reason 0) (done (report_from no_frames file (frames_of t)), after_frames file (frames_of t)) (refused reason, file)

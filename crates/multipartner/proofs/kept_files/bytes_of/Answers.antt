@@ -1,0 +1,11 @@
+-- `multipartner::kept_files::bytes_of` meets its contract: a law for each way.
+-- Assumes nothing.
+use Rattle.multipartner.proofs.SlotActLaws.{file-none, file-there}
+use Rattle.std.proofs.Common.{rules}
+use Rattle.multipartner.proofs.kept_files.bytes_of.Goals as goal
+
+pub returns-in_default : goal.returns-in_default
+returns-in_default c = search (rules, file-none)
+
+pub returns : goal.returns
+returns c = search (rules, file-there)

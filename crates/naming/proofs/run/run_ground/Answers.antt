@@ -1,0 +1,13 @@
+-- `naming::run::run_ground` meets its contract: the first of grounds 15 to 17 that holds.
+-- Assumes nothing.
+use Rattle.naming.proofs.RunLaws.{run-names, run_unfit, run_fits}
+use Rattle.naming.proofs.run.run_ground.Goals as goal
+
+pub returns-then-ground-ne0 : goal.returns-then-ground-ne0
+returns-then-ground-ne0 c = search run-names
+
+pub returns-then-is_unfit : goal.returns-then-is_unfit
+returns-then-is_unfit c = search run_unfit
+
+pub returns : goal.returns
+returns c = search run_fits

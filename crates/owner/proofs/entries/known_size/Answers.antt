@@ -1,0 +1,8 @@
+-- `owner::entries::known_size` meets its contract.
+-- Assumes nothing.
+use Rattle.std.proofs.Common.{rules}
+use Rattle.owner.proofs.EntryMasks.{kept-size}
+use Rattle.owner.proofs.entries.known_size.Goals as goal
+
+pub returns-then-plan-number : goal.returns-then-plan-number
+returns-then-plan-number c = search (rules, kept-size)

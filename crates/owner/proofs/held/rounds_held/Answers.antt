@@ -1,0 +1,27 @@
+-- `owner::held::rounds_held` meets its contract.
+-- Assumes nothing.
+use Rattle.std.proofs.Common.{rules}
+use Rattle.file.proofs.ReaderLaws.{entry-size-fits, entry-place-fits, entry-count-fits, entry-offset, entry-count, directory-fits}
+use Rattle.owner.proofs.HeldLaws.{slave-holds}
+use Rattle.owner.proofs.held.rounds_held.Goals as goal
+
+pub overflow_mul-entry : goal.overflow_mul-entry
+overflow_mul-entry c = search (rules, entry-size-fits)
+
+pub overflow_add-entry : goal.overflow_add-entry
+overflow_add-entry c = search (rules, entry-place-fits)
+
+pub offset_at-directory-requires : goal.offset_at-directory-requires
+offset_at-directory-requires c = search (rules, entry-offset)
+
+pub overflow_add-entry-2 : goal.overflow_add-entry-2
+overflow_add-entry-2 c = search (rules, entry-count-fits)
+
+pub byte_at-count-requires : goal.byte_at-count-requires
+byte_at-count-requires c = search (rules, entry-count)
+
+pub mark_rounds-requires : goal.mark_rounds-requires
+mark_rounds-requires c = search (rules, directory-fits)
+
+pub returns : goal.returns
+returns c = search (rules, slave-holds)

@@ -1,0 +1,14 @@
+-- `screens::post::read_ground` meets its contract: a law for each way.
+-- Assumes nothing.
+use Rattle.std.proofs.Common.{rules}
+use Rattle.screens.proofs.PostLaws.{read-file, read-broadcast, read_fits}
+use Rattle.screens.proofs.post.read_ground.Goals as goal
+
+pub returns-then-read : goal.returns-then-read
+returns-then-read c = search (rules, read-file)
+
+pub returns-then-read-2 : goal.returns-then-read-2
+returns-then-read-2 c = search (rules, read-broadcast)
+
+pub returns : goal.returns
+returns c = search (rules, read_fits)

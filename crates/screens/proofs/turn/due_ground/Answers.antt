@@ -1,0 +1,13 @@
+-- `screens::turn::due_ground` meets its contract.
+-- Assumes nothing.
+use Rattle.screens.proofs.TurnLaws.{due-few, ground_nobody, ground-read}
+use Rattle.screens.proofs.turn.due_ground.Goals as goal
+
+pub posted_read-read-requires : goal.posted_read-read-requires
+posted_read-read-requires c = search due-few
+
+pub returns-in-Nobody : goal.returns-in-Nobody
+returns-in-Nobody c = search ground_nobody
+
+pub returns-in-Screen : goal.returns-in-Screen
+returns-in-Screen c = search ground-read

@@ -1,0 +1,29 @@
+-- `summary::step::step_keeping` meets its contract: a law for each return.
+-- Assumes nothing.
+use Rattle.file.proofs.Surveyed.{survey-placed}
+use Rattle.naming.specs.Inner.StepAnswers.{stepped_of, run_after}
+use Rattle.summary.proofs.RoundLaws.{names-fit}
+use Rattle.summary.proofs.StepLaws.{stepping_refused, stepping_wrong, stepping-kept}
+use Rattle.std.proofs.Common.{rules}
+use Rattle.summary.proofs.step.step_keeping.Goals as goal
+
+pub returns-in-Refused : goal.returns-in-Refused
+unfolding stepped_of run_after
+returns-in-Refused c = search (rules, stepping_refused)
+
+pub is_wrong-requires : goal.is_wrong-requires
+is_wrong-requires c =
+    survey-placed c.survey-verdict.ensures c.in_default.is
+
+pub returns-then-is_wrong : goal.returns-then-is_wrong
+unfolding stepped_of run_after
+returns-then-is_wrong c =
+    stepping_wrong _ _ _ _ _ _ c.survey-verdict.ensures c.in_default.is c.is_wrong.ensures c.if-is_wrong.true
+
+pub keep_step-requires : goal.keep_step-requires
+keep_step-requires c =
+    (survey-placed c.survey-verdict.ensures c.in_default.is, names-fit _ _ _ c.is_wrong.ensures c.if-is_wrong.false)
+
+pub returns : goal.returns
+returns c =
+    stepping-kept _ _ _ _ _ _ c.survey-verdict.ensures c.in_default.is c.is_wrong.ensures c.if-is_wrong.false c.keep_step.ensures

@@ -1,0 +1,8 @@
+-- `ttpa::ttpa_to_edition_2` meets its contract: the edition's number.
+-- Assumes nothing.
+use Rattle.std.proofs.Common.{rules}
+use Rattle.ttpa.proofs.CallLaws.{edition-two}
+use Rattle.ttpa.proofs.ttpa_to_edition_2.Goals as goal
+
+pub returns : goal.returns
+returns c = search (rules, edition-two)
