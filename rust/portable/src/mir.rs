@@ -3,6 +3,9 @@
 //!
 //! A body is a list in which each statement stands before those that it is made of: `Seq` before two, `Block` and `Loop` before one, `If` before
 //! two, and `Switch` before one for each of its lists of keys and, where it has one, its default.
+//!
+//! `LendStatic` lends an array of numbers that is never written. In the term it is an array of the function's own with these numbers, of which the
+//! address is taken; so the function may not return a pointer, and nothing else may be done with what was lent.
 
 use crate::json::{self, Json};
 use crate::sources::Sources;
@@ -134,12 +137,15 @@ fn definition(name: &str, item: &Json) -> Result<Node, Refused> {
     if !part("generics")?.of("types").is_some_and(Json::is_empty_list) {
         return Err(Refused::new("a function for several types"));
     }
-    let locals = each(part("locals")?, "locals", local)?;
-    let mut body = Body { rest: part("body")?.list().ok_or_else(|| Refused::new("a body that is no list"))? };
+    let mut locals = each(part("locals")?, "locals", local)?;
+    let rest = part("body")?.list().ok_or_else(|| Refused::new("a body that is no list"))?;
+    let mut body = Body { rest, first_array: locals.len(), lent: Vec::new() };
     let statement = body.statement()?;
     if let Some(more) = body.rest.first() {
         return Err(Refused::new(format!("a statement behind the end: {}", more.short())));
     }
+    check_lent(&body.lent, part("locals")?, part("body")?)?;
+    locals.extend(body.lent.iter().map(|lent| list("local", [lent.of.clone(), word("memorySlot")])));
     let fn_item = list(
         "fnItem",
         [word("0"), word("lnil"), number(part("params")?)?, cons(locals, "lcons", "lnil"), statement],
@@ -220,9 +226,46 @@ fn local(of: &Json) -> Result<Node, Refused> {
     Ok(list("local", [ty(of.of("ty").ok_or_else(|| unknown("local", of))?)?, word(home)]))
 }
 
-/// What is left of a body.
+/// An array of numbers that was lent: the digits of the local that points to it, and its type.
+struct Lent {
+    pointer: String,
+    of: Node,
+}
+
+/// What is left of a body, and what it lent so far, each with a local of its own behind the function's.
 struct Body<'a> {
     rest: &'a [Json],
+    first_array: usize,
+    lent: Vec<Lent>,
+}
+
+/// The result is no pointer, and each local that points to something lent is mentioned twice, where it is lent and where its address is taken: what
+/// is pointed to holds no pointers (`check`), so none is left behind.
+fn check_lent(lent: &[Lent], locals: &Json, body: &Json) -> Result<(), Refused> {
+    let result = locals.list().and_then(|locals| locals.first()).and_then(|local| local.of("ty"));
+    let is_plain =
+        result.and_then(Json::variant).is_some_and(|(kind, _)| ["Int", "Bool", "Unit"].contains(&kind));
+    match lent.iter().find(|lent| !is_plain || mentions(body, &lent.pointer) != 2) {
+        Some(lent) => {
+            Err(Refused::new(format!("an array that is lent, and not only read here: local {}", lent.pointer)))
+        }
+        None => Ok(()),
+    }
+}
+
+/// How often a body names a local.
+fn mentions(of: &Json, local: &str) -> usize {
+    match of {
+        Json::List(items) => items.iter().map(|item| mentions(item, local)).sum(),
+        Json::Map(entries) => entries
+            .iter()
+            .map(|(key, inner)| match (&key[..], inner.number()) {
+                ("local", Some(number)) => usize::from(number == local),
+                _ => mentions(inner, local),
+            })
+            .sum(),
+        _ => 0,
+    }
 }
 
 impl<'a> Body<'a> {
@@ -256,12 +299,65 @@ impl<'a> Body<'a> {
             ("Block", _) => Ok(list("block", [self.statement()?])),
             ("Loop", _) => Ok(list("loop", [self.statement()?])),
             ("Exit", _) => Ok(list("exit", [number(inner)?])),
-            ("Assign", Some([target, value])) => Ok(list("assign", [place(target)?, rvalue(value)?])),
+            ("Assign", Some([target, value])) => {
+                let value = self.address_of_lent(value)?.map_or_else(|| rvalue(value), Ok)?;
+                Ok(list("assign", [place(target)?, value]))
+            }
+            ("LendStatic", Some([pointer, of, numbers])) => self.lend(pointer, of, numbers),
             ("Call", Some([function, arguments, target])) => call(function, arguments, target),
             ("If", _) => Ok(list("if", [operand(inner)?, self.statement()?, self.statement()?])),
             ("Switch", Some([on, keys, Json::Bool(has_default)])) => self.switch(on, keys, *has_default),
             _ => Err(unknown("statement", of)),
         }
+    }
+
+    /// The array that is lent, made of its numbers.
+    fn lend(&mut self, pointer: &Json, of: &Json, numbers: &Json) -> Result<Node, Refused> {
+        let wrong = || unknown("constant", numbers);
+        let (Some(("Array", array)), Some(("Ints", ints))) = (of.variant(), numbers.variant()) else {
+            return Err(wrong());
+        };
+        let (Some([element, count]), Some(width), Some(values)) =
+            (array.list(), ints.of("width"), ints.of("values"))
+        else {
+            return Err(wrong());
+        };
+        let is_of_width = element.variant() == Some(("Int", width));
+        let number_of = values.list().map(|values| values.len().to_string());
+        let is_whole = count.variant().and_then(|(_, count)| count.number()) == number_of.as_deref();
+        let (Some(local), Some(true)) =
+            (pointer.of("local").and_then(Json::number), pointer.of("steps").map(Json::is_empty_list))
+        else {
+            return Err(unknown("place", pointer));
+        };
+        if !is_of_width || !is_whole {
+            return Err(wrong());
+        }
+        let parts = each(values, "numbers", |value| Ok(list("int", [number(width)?, number(value)?])))?;
+        let array = word(&(self.first_array + self.lent.len()).to_string());
+        self.lent.push(Lent { pointer: local.to_string(), of: ty(of)? });
+        let whole = list("place", [array, word("lnil")]);
+        Ok(list("assign", [whole, list("aggregate", [cons(parts, "lcons", "lnil")])]))
+    }
+
+    /// The address of an array that was lent, where that is what is taken.
+    fn address_of_lent(&self, value: &Json) -> Result<Option<Node>, Refused> {
+        let Some(("AddrOf", of)) = value.variant() else { return Ok(None) };
+        let pointer = of.of("local").and_then(Json::number);
+        let Some(at) = self.lent.iter().position(|lent| Some(lent.pointer.as_str()) == pointer) else {
+            return Ok(None);
+        };
+        let to = match of.of("steps").and_then(Json::list) {
+            Some([step]) => {
+                step.variant().filter(|(kind, _)| *kind == "Deref").map(|(_, to)| ty(to)).transpose()?
+            }
+            _ => None,
+        };
+        if to.as_ref() != Some(&self.lent[at].of) {
+            return Err(unknown("use of what is lent", of));
+        }
+        let array = list("place", [word(&(self.first_array + at).to_string()), word("lnil")]);
+        Ok(Some(list("addrOf", [array])))
     }
 
     fn switch(&mut self, on: &Json, keys: &Json, has_default: bool) -> Result<Node, Refused> {

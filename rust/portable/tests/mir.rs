@@ -310,6 +310,59 @@ fn bytes_are_copied() {
     assert!(why.contains("m::f: a call of a function for several types"), "{why}");
 }
 
+/// A function `m::f` that reads the second of two words that are lent; `more` stands behind that, and its result has this type.
+fn lent(constant: &str, ty: &str, more: &str) -> String {
+    let array = r#"{"Array": [{"Int": 64}, {"Lit": 2}]}"#;
+    let lend = format!(r#"{{"LendStatic": [{}, {array}, {constant}]}}"#, json_at(1));
+    let address = format!(r#"{{"AddrOf": {{"local": 1, "steps": [{{"Deref": {array}}}]}}}}"#);
+    let element = format!(r#"{{"Op2": ["Offset", {}, {}]}}"#, json_copy(2), json_int(64, 8));
+    let read = r#"{"Opd": {"Copy": {"local": 3, "steps": [{"Deref": {"Int": 64}}]}}}"#;
+    let locals = [
+        json_value(ty),
+        json_value(&format!(r#"{{"Ref": ["Erased", "Imm", {array}]}}"#)),
+        json_value(r#""Ptr""#),
+        json_value(r#""Ptr""#),
+    ];
+    let body = [&lend, &json_assign(2, &address), &json_assign(3, &element), &json_assign(0, read)];
+    let body: Vec<&str> =
+        body.into_iter().flat_map(|one| [r#""Seq""#, one.as_str()]).chain([more, r#""Return""#]).collect();
+    let body: Vec<&str> = body.into_iter().filter(|one| !one.is_empty()).collect();
+    json_function("m::f", 0, &locals, "", &body)
+}
+
+const TWO_WORDS: &str = r#"{"Ints": {"width": 64, "values": [5, 6]}}"#;
+const WORD: &str = r#"{"Int": 64}"#;
+
+#[test]
+fn numbers_that_are_lent_are_a_table() {
+    let table = assign(&at(4), "aggregate (lcons (int 64 5) (lcons (int 64 6) lnil))");
+    let begin = assign(&at(2), &format!("addrOf {}", at(4)));
+    let element = assign(&at(3), &format!("op2 offset {} (int 64 8)", copy(2)));
+    let read = assign(&at(0), &format!("rvOpd (copy {})", behind(3, U64)));
+    let locals =
+        [value(U64), value(&reference("imm", &array(U64, 2))), value(PTR), value(PTR), memory(&array(U64, 2))];
+    let term = program(&[function("f", 0, &locals, &[&table, &begin, &element, &read, "return"], "")]);
+    same("", &term, &[lent(TWO_WORDS, WORD, "")]);
+    let c = c_of(&[&[lent(TWO_WORDS, WORD, "")]], &sources("pub extern \"C\" fn f() { }"), Form::Reading);
+    assert!(c.expect("a C file").contains("return 6;"));
+}
+
+#[test]
+fn what_is_lent_is_only_read() {
+    let why = |constant: &str, ty: &str, more: &str| refused_functions(&[lent(constant, ty, more)]);
+    let again = format!(r#""Seq", {}"#, json_assign(2, &format!(r#"{{"Opd": {}}}"#, json_copy(1))));
+    assert!(why(TWO_WORDS, WORD, &again).contains("an array that is lent, and not only read here: local 1"));
+    let pointer = r#"{"Ref": ["Erased", "Imm", {"Int": 64}]}"#;
+    assert!(why(TWO_WORDS, pointer, "").contains("an array that is lent, and not only read here: local 1"));
+    for constant in [
+        r#"{"Ints": {"width": 64, "values": [5]}}"#,
+        r#"{"Ints": {"width": 32, "values": [5, 6]}}"#,
+        r#"{"Repeat": [{"Int": 5}, 2]}"#,
+    ] {
+        assert!(why(constant, WORD, "").contains("unknown constant"), "{constant}");
+    }
+}
+
 #[test]
 fn bodies_that_are_not_known() {
     let unit = [json_value(r#""Unit""#)];
