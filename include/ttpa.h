@@ -57,7 +57,7 @@ extern "C" {
 
 /* What libttpa.a takes: code and constants of all calls, and the most stack that a call uses, with its
  * return address and arguments. No other memory. Both are measured, and rounded up. */
-#define TTPA_CODE_BYTES 20480
+#define TTPA_CODE_BYTES 21504
 #define TTPA_STACK_BYTES 2048
 
 /* What the calls return: 0, or the documents' number for the ground on which something was refused. */

@@ -4,7 +4,7 @@
 # on other processors, where a cross compiler and an emulator are installed. What is not installed is named and left out. What was counted is
 # added to target/counts for .ci/least.
 #
-#   portable/test.sh             TTPA_TERM: a file with the term, default what `rt mir ttpa` prints
+#   portable/test.sh             TTPA_MIR: a folder of crates that are built, default crates, where `rt lib` builds what is not
 #   portable/test.sh --write     writes portable/ttpa.c anew and tests nothing
 #   portable/test.sh --short     without the comparison
 #   portable/test.sh --long      the comparison of the plain form too, which is not the one that is given out, and of both under the address
@@ -16,7 +16,6 @@ cd "$(dirname "$0")/.." || exit 1
 work=$PWD/target/portable
 counts=$PWD/target/counts
 mkdir -p "$work" || exit 1
-term=${TTPA_TERM:-$work/term}
 vectors=(rust/model/tests/data/*.txt)
 strict=(-std=c99 -Wall -Wextra -pedantic -Wconversion -Werror -Iinclude)
 export CARGO_TARGET_DIR=$work/cargo
@@ -79,10 +78,13 @@ has_library() {
 
 in_rust() { (cd rust && cargo "$@" --quiet --offline --release -j1); }
 
-# Both forms, twice each.
+# Both forms, twice each. The toolchain keeps the program with each library that it has proved.
 make_forms() {
     local form
-    if [ -z "${TTPA_TERM:-}" ] && ! rt mir ttpa >"$term"; then return 1; fi
+    if [ -z "${TTPA_MIR:-}" ] && ! (cd crates/ttpa && rt lib >"$work/built"); then
+        cat "$work/built"
+        return 1
+    fi
     in_rust build -p portable || return 1
     for form in plain reading; do
         mkdir -p "$work/$form"
@@ -93,7 +95,7 @@ make_forms() {
 made() {
     local form=()
     if [ "$1" = plain ]; then form=(--plain); fi
-    "$CARGO_TARGET_DIR/release/portable" crates "${form[@]}" <"$term"
+    "$CARGO_TARGET_DIR/release/portable" crates "${TTPA_MIR:-crates}"/*/out/rlib/*.rlib/toolchain/mir.json "${form[@]}"
 }
 
 # Every compiler that there is, without optimization and with it, and no warning.

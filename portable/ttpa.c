@@ -1366,23 +1366,24 @@ static inline uint64_t contents_read_lesser(uint64_t a, uint64_t b)
     return b;
 }
 
-/* bytes::copy. */
-static inline uint64_t bytes_copy(slice_u8 t1, slice_mut_u8 t2)
+/* core::slice::copy_from_slice. */
+static inline void core_slice_copy_from_slice(slice_mut_u8 t1, slice_u8 t2)
 {
     uint64_t t3 = 0;
-    while (t3 < t1.len) {
-        t2.at[t3] = t1.at[t3];
+    while (t3 < t2.len) {
+        t1.at[t3] = t2.at[t3];
         t3 = t3 + 1;
     }
-    return t1.len;
 }
 
 /* contents::read::put_front. The first bytes of a part of the file, as many as the buffer has room for, put
  * in front of whatever else it holds. */
 static inline void contents_read_put_front(slice_u8 file, uint64_t place, uint64_t size, slice_mut_u8 buffer)
 {
-    uint64_t end = place + contents_read_lesser(size, buffer.len);
-    (void)bytes_copy((slice_u8){cut_u8(file.at, place), end - place}, buffer);
+    uint64_t count = contents_read_lesser(size, buffer.len);
+    uint64_t end = place + count;
+    core_slice_copy_from_slice((slice_mut_u8){buffer.at, count}, (slice_u8){cut_u8(file.at, place),
+            end - place});
 }
 
 /* contents::read::read_contents. A file of the slave at a place of the table: the cluster file is refused by
@@ -1700,8 +1701,8 @@ static inline void convert_put_put_run(slice_mut_u8 out, uint64_t at, slice_u8 f
         uint64_t end)
 {
     uint64_t behind = at + (end - start);
-    (void)bytes_copy((slice_u8){cut_u8(file.at, start), end - start}, (slice_mut_u8){cut_mut_u8(out.at, at),
-            behind - at});
+    core_slice_copy_from_slice((slice_mut_u8){cut_mut_u8(out.at, at), behind - at}, (slice_u8){cut_u8(file.at,
+            start), end - start});
 }
 
 /* convert::sizes::file_count. How many files a slave of a file has, whose offsets have that width. */
@@ -2375,8 +2376,10 @@ static inline owner_rounds_Rows owner_rounds_write_rounds(slice_u8 file, const u
 /* owner::write::put_file. The head and the rows, one after the other. */
 static inline void owner_write_put_file(slice_mut_u8 buffer, slice_u8 head, slice_u8 rows)
 {
-    uint64_t start = bytes_copy(head, buffer);
-    (void)bytes_copy(rows, (slice_mut_u8){cut_mut_u8(buffer.at, start), buffer.len - start});
+    uint64_t start = head.len;
+    uint64_t end = start + rows.len;
+    core_slice_copy_from_slice((slice_mut_u8){buffer.at, start}, head);
+    core_slice_copy_from_slice((slice_mut_u8){cut_mut_u8(buffer.at, start), end - start}, rows);
 }
 
 /* owner::write::write_owner. The owner file 0x0B of a cluster file, written into the buffer: refused by its

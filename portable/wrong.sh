@@ -2,7 +2,7 @@
 # Tries the wrong translators kept in rust/portable/wrong/*.edit: the test that an edit names has to find it. On demand, and all of
 # them before a release.
 #
-#   portable/wrong.sh [NAME..]     the named edits, or all       TTPA_TERM: a file with the term, default what `rt mir ttpa` prints
+#   portable/wrong.sh [NAME..]     the named edits, or all       TTPA_MIR: a folder of crates that are built, default crates
 #   portable/wrong.sh --applies    that each still applies and names its test, and nothing built: a part of portable/test.sh
 #
 # An edit begins with three comments, '# PLACE: what is wrong', '# INPUT: demanded / given' and '# found by TEST'; then a line 'file:' and pairs of
@@ -86,7 +86,7 @@ found_by_test() {
 
 found_by_vectors() {
     (cd "$copy" && cargo build --offline --quiet --release -j1 -p portable) >"$copy/log" 2>&1 || return 1
-    "$CARGO_TARGET_DIR/release/portable" crates <"$term" >"$copy/ttpa.c" 2>>"$copy/log" || return 1
+    "$CARGO_TARGET_DIR/release/portable" crates "${mir[@]}" >"$copy/ttpa.c" 2>>"$copy/log" || return 1
     "$cc" -std=c99 -O1 -DTTPA_WITHOUT_BUILTINS -Iinclude c/replay.c "$copy/ttpa.c" -o "$copy/replay" >>"$copy/log" 2>&1 || return 1
     timeout 120 "$copy/replay" rust/model/tests/data/*.txt >>"$copy/log" 2>&1
     [ $? -ne 0 ] && grep -q '^does not hold: ' "$copy/log"
@@ -118,10 +118,10 @@ if [ "${1:-}" = --applies ]; then
     shift
 fi
 copy_workspace
-term=${TTPA_TERM:-$copy/term}
-if [ -z "$applies" ] && [ ! -f "$term" ] && ! rt mir ttpa >"$term"; then
-    fail "no term: rt mir ttpa"
+if [ -z "$applies" ] && [ -z "${TTPA_MIR:-}" ] && ! (cd crates/ttpa && rt lib >"$copy/built"); then
+    fail "crates/ttpa is not built: rt lib"
 else
+    mir=("${TTPA_MIR:-crates}"/*/out/rlib/*.rlib/toolchain/mir.json)
     if [ $# -eq 0 ]; then set -- rust/portable/wrong/*.edit; else set -- "${@/#/rust/portable/wrong/}" && set -- "${@/%/.edit}"; fi
     for edit; do try "$edit"; done
 fi

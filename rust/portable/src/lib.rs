@@ -1,7 +1,9 @@
-//! The proved program as one portable C file. The toolchain prints the program that it proves and compiles as a term (`rt mir`); this
-//! makes C99 of it, in two forms: the plain one has a statement for each of the term, the reading one is folded into expressions.
+//! The proved program as one portable C file. The toolchain keeps the program that it proves and compiles with each library (`toolchain/mir.json`
+//! in the library's folder below `out/rlib`); this makes C99 of it, in two forms: the plain one has a statement for each of the program, the reading
+//! one is folded into expressions.
 //!
-//! `term` reads the text, `program` what it says; `types` and `check` refuse what would not be the same program in C, or not defined there;
+//! `json` reads the files, `mir` makes a term of the functions that the calls for C reach; `term` reads a term that is written as text, `program`
+//! what a term says; `types` and `check` refuse what would not be the same program in C, or not defined there;
 //! `fold` makes the reading form, with `live`; `sources` and `names` have the names; `declare`, `write`, `text`, `helpers` and `layout` make
 //! the C text. The same input gives the same bytes.
 
@@ -9,8 +11,10 @@ mod check;
 mod declare;
 mod fold;
 mod helpers;
+mod json;
 mod layout;
 mod live;
+mod mir;
 mod names;
 mod program;
 pub mod sources;
@@ -59,7 +63,16 @@ impl fmt::Display for Refused {
 
 /// The C file of a term, in one of the two forms.
 pub fn translate(term: &str, sources: &Sources, form: Form) -> Result<String, Refused> {
-    let mut program = program::program(&term::read(term)?)?;
+    translate_term(&term::read(term)?, sources, form)
+}
+
+/// The C file of the program that the texts of several libraries' `mir.json` have.
+pub fn translate_mir(texts: &[String], sources: &Sources, form: Form) -> Result<String, Refused> {
+    translate_term(&mir::term(texts, sources)?, sources, form)
+}
+
+fn translate_term(term: &term::Node, sources: &Sources, form: Form) -> Result<String, Refused> {
+    let mut program = program::program(term)?;
     check::check(&mut program)?;
     write::file(&program, sources, form)
 }

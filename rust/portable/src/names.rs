@@ -34,7 +34,10 @@ impl<'a> Names<'a> {
             names.take(names.function(&function.name), &function.name)?;
             names.check_params(function)?;
         }
-        Ok(names)
+        match sources.exported().find(|path| program.function(path).is_none()) {
+            Some(path) => Err(Refused::new("a call for C that the program does not have").of(path)),
+            None => Ok(names),
+        }
     }
 
     fn take(&mut self, c_name: String, path: &str) -> Result<(), Refused> {
@@ -66,7 +69,7 @@ impl<'a> Names<'a> {
     }
 
     pub fn is_exported(&self, path: &str) -> bool {
-        self.sources.functions.get(path).is_some_and(|names| names.is_exported)
+        self.sources.is_exported(path)
     }
 
     pub fn comment(&self, path: &str) -> &'a [String] {

@@ -1,5 +1,6 @@
 //! The sources, for names alone: what parameters, locals, fields and variants are called, the comments above functions and types, and which
-//! functions are calls for C. Nothing of what the C file does is taken from here, except which functions are seen from outside.
+//! functions are calls for C. Nothing of what the C file does is taken from here, except which functions are seen from outside: those that are
+//! exported, and those of another crate that an exported one only hands its parameters on to, as they stand. It then is not in the C file.
 
 use std::collections::BTreeMap;
 use std::fs;
@@ -26,6 +27,8 @@ pub enum TypeNames {
 pub struct Sources {
     pub functions: BTreeMap<String, FunctionNames>,
     pub types: BTreeMap<String, (Vec<String>, TypeNames)>,
+    /// By the path of an exported function that of the one that it hands its parameters on to.
+    pub handed_on: BTreeMap<String, String>,
 }
 
 #[derive(Clone, Debug, PartialEq, Eq)]
@@ -69,6 +72,18 @@ impl Sources {
             }
         }
         Ok(())
+    }
+
+    /// Whether a function is a call for C.
+    pub fn is_exported(&self, path: &str) -> bool {
+        let exported = self.functions.get(path).is_some_and(|names| names.is_exported);
+        (exported && !self.handed_on.contains_key(path)) || self.handed_on.values().any(|to| to == path)
+    }
+
+    /// The calls for C, by the paths that the program has.
+    pub fn exported(&self) -> impl Iterator<Item = &str> {
+        let exported = self.functions.iter().filter(|(_, names)| names.is_exported);
+        exported.map(|(path, _)| self.handed_on.get(path).unwrap_or(path).as_str())
     }
 
     /// What a text of a module declares.
@@ -153,6 +168,10 @@ impl Sources {
             }
         }
         let end = after_group(tokens, at);
+        let params: Vec<String> = params;
+        if let Some(to) = handed_on(inside(tokens, at, end), &path, &params).filter(|_| is_exported) {
+            self.handed_on.insert(path.clone(), to);
+        }
         let names = FunctionNames {
             comment: comment.to_vec(),
             params,
@@ -187,6 +206,21 @@ impl Sources {
         self.types.insert(path, (comment.to_vec(), names));
         end
     }
+}
+
+/// The function of another crate that a body is nothing but a call of, which has the same name and is given the parameters in their order.
+fn handed_on(body: &[Token], path: &str, params: &[String]) -> Option<String> {
+    let name = path.rsplit("::").next()?;
+    let other = word(body, 0)?;
+    let text: Vec<String> = body
+        .iter()
+        .map(|token| match token {
+            Token::Word(word) => word.clone(),
+            Token::Mark(mark) => mark.to_string(),
+            Token::Comment(_) => String::new(),
+        })
+        .collect();
+    (text.concat() == format!("{other}::{name}({})", params.join(","))).then(|| format!("{other}::{name}"))
 }
 
 /// The fields within parentheses, which have numbers, or within braces, which have names.

@@ -34,17 +34,17 @@ impl Refusal {
     pub const SIZE: Refusal = Refusal(1);
 
     pub fn new(number: u8) -> Refusal
-        ensures { λ r. ⌜ numberIn r ≡ number ⌝ }
+        ensures { number_in result ≡ number }
     {
         Refusal(number)
     }
 }
 
 // A step.
-#[no_mangle]
+#[unsafe(no_mangle)]
 pub extern "C" fn step(file: &mut [u8], run: &[u64; 8]) -> u8
-    requires { ⌜ length (now file) ≡ 4 ⌝ }
-    ensures { λ r. ⌜ r ≡ 0 ⌝ }
+    requires { length file.old ≡ 4 }
+    ensures zero { result ≡ 0 }
 {
     let mut at = 0; // let nothing = this
     while at < 4 {

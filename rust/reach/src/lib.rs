@@ -257,8 +257,7 @@ mod tests {
             "file/Claims/Exact",
             "abbrev pub Proved : Type 0\nProved = Unit\n\nabbrev pub Bare : Type 0\nBare = Unit\n",
         )]);
-        let proofs =
-            "use Rattle.file.specs.Claims.Exact.{Proved, Bare}\npub proved : Proved\nproved = Bare\n";
+        let proofs = "use Rattle.file.specs.Claims.Exact.{Proved, Bare}\npub proved : Proved\nproved = Bare\n";
         let reached = specs.from_claims(&theorems(proofs));
         assert_eq!(
             specs.unreached(Folder::Claims, &reached),

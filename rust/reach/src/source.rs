@@ -79,7 +79,8 @@ pub fn module(text: &str) -> Module {
 fn definitions<'a>(lines: impl Iterator<Item = &'a str>) -> Vec<Definition> {
     let mut definitions: Vec<Definition> = Vec::new();
     let mut above = Vec::new();
-    let is_use = |line: &&str| line.starts_with("use ") || HANDED_ON.iter().any(|start| line.starts_with(start));
+    let is_use =
+        |line: &&str| line.starts_with("use ") || HANDED_ON.iter().any(|start| line.starts_with(start));
     for line in lines.filter(|line| !is_use(line)) {
         let bare = without_comment(line);
         if bare.trim().is_empty() {

@@ -29,11 +29,11 @@ const SUM: &str = "use Rattle.std.specs.Prelude.{ℕ}\nuse Rattle.file.specs.Rul
 const EXACT: &str =
     "use Rattle.file.specs.Rules.Sum.{sum}\n\nabbrev pub SumLimited : Type 0\nSumLimited = sum\n";
 
-const CLAIMED: &str = "use Rattle.file.specs.Claims.Exact.{SumLimited}\nuse Rattle.file.proofs.Sums.{sum_limited}\n\n\
+const CLAIMED: &str =
+    "use Rattle.file.specs.Claims.Exact.{SumLimited}\nuse Rattle.file.proofs.Sums.{sum_limited}\n\n\
     pub held_sum_limited : SumLimited\nheld_sum_limited = sum_limited\n";
 
-const CODE: &str =
-    "ghost use Rattle.file.specs.Rules.Sum.{sum as the_sum};\n\npub fn sum(pair: &Pair) -> u8\n\
+const CODE: &str = "ghost use Rattle.file.specs.Rules.Sum.{sum as the_sum};\n\npub fn sum(pair: &Pair) -> u8\n\
     \x20   ensures { result ≡\n        the_sum pair.now }\n{\n    0\n}\n";
 
 fn sources(modules: &[(&str, &str)], claimed: &str) -> Sources {
