@@ -7,8 +7,7 @@
 #   portable/test.sh             TTPA_MIR: a folder of crates that are built, default crates, where `rt lib` builds what is not
 #   portable/test.sh --write     writes portable/ttpa.c anew and tests nothing
 #   portable/test.sh --short     without the comparison
-#   portable/test.sh --long      the comparison of the plain form too, which is not the one that is given out, and of both under the address
-#                                sanitizer, which takes some minutes for each
+#   portable/test.sh --long      the comparison under the address sanitizer too, which takes some minutes for each form
 #
 # The last line is 'N passed, M failed'; the status is 1 if something failed.
 set -uo pipefail
@@ -341,14 +340,8 @@ for form in plain reading; do
     check "$form: header" header_program -O2 "$work/$form/libttpa.a"
     program "$form, without builtins" "$work/$form/ttpa.c" '' "$cc" "${strict[@]}" -O2 -DTTPA_WITHOUT_BUILTINS
     sanitizers "$form"
-    case ${1:-} in
-    --short) ;;
-    --long)
-        build_comparisons "$form"
-        address_comparison "$form"
-        ;;
-    *) if [ "$form" = reading ]; then build_comparisons "$form"; fi ;;
-    esac
+    if [ "${1:-}" != --short ]; then build_comparisons "$form"; fi
+    if [ "${1:-}" = --long ]; then address_comparison "$form"; fi
 done
 comparisons "${built[@]}"
 check "c/replay.c: a spoiled vector holds" replay_finds_what_is_wrong

@@ -458,9 +458,7 @@ header_version
 archive_needs
 sizes
 rust_example
-# the first lines: all of them would be most of the page
-head -n 5 c/expected.txt >"$work/first_lines"
-document_shows README.md "$work/first_lines"
+document_shows README.md c/expected.txt
 document_shows README.md crates/listing/stdout
 cargo_tests
 comparison "$@"
