@@ -3,6 +3,9 @@
 
 usage: respell.py names ROOT     lists the names that change, old, a tab, new
        respell.py turn ROOT      rewrites crates/ of ROOT by that list: every .antt file, and of .rt files and edits whole words alone
+       respell.py rest ROOT      then the words that are left with a capital inside: fields whose type begins on the next line, names that an
+                                 import gives, bound variables; it prints them as `names` does
+       respell.py both ROOT      turn, then rest
 
 It runs once, on what the toolchain's own script left. A name is one that a file of specs/ or proofs/ declares: a definition, a lemma, a constructor, a field.
 The files Proof.antt of single functions declare goals, whose names the prover makes: what they declare is left, what they cite turns.
@@ -127,13 +130,49 @@ def turn(root):
                 f.write(new)
 
 
+def rest_table(root):
+    """The words of .antt files with a capital inside a part that begins small. None of what they become is a word of the repository's."""
+    words, rows = set(), {}
+    for path in files(root, (".antt", ".rt")):
+        words.update(WORD.findall(text_of(path)))
+    for path in files(root, (".antt",)):
+        text = re.sub(r'"[^"\n]*"', "", bare(text_of(path)))
+        for old in WORD.findall(text):
+            if not PLAIN.fullmatch(old) or old in rows:
+                continue
+            # the bytes PB2 and PB3 of a frame are one part of a name
+            new = "-".join(snake(re.sub(r"(?<=_)pB(?=[23])", "pb", part)) for part in old.split("-"))
+            if new == old:
+                continue
+            if new in words:
+                new += "_lem"
+            assert new not in words, (old, new)
+            rows[old] = new
+    return rows
+
+
+def rest(root):
+    rows = rest_table(root)
+    for path in files(root, (".antt", ".rt", ".edit")):
+        text = text_of(path)
+        new = turned_line(text, rows)
+        if new != text:
+            with open(path, "w", encoding="utf-8") as f:
+                f.write(new)
+    for old, new in rows.items():
+        print(old + "\t" + new)
+
+
 def main(argv):
     if len(argv) == 2 and argv[0] == "names":
         for old, new in table(argv[1]).items():
             print(old + "\t" + new)
         return 0
-    if len(argv) == 2 and argv[0] == "turn":
-        turn(argv[1])
+    if len(argv) == 2 and argv[0] in ("turn", "rest", "both"):
+        if argv[0] != "rest":
+            turn(argv[1])
+        if argv[0] != "turn":
+            rest(argv[1])
         return 0
     print(__doc__, file=sys.stderr)
     return 2

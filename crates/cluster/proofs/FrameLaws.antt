@@ -32,7 +32,7 @@ use Rattle.frame.specs.Rules.FrameGrounds.{wrong_frame_length, wrong_check, no_a
 use Rattle.frame.specs.Rules.Reading.{Parts, parts, read_ground, parts_of, read_address}
 use Rattle.frame.specs.Inner.FrameAnswers.{reading_of}
 use Rattle.frame.specs.declared.types.AddressReading.{AddressReading}
-use Rattle.frame.specs.declared.types.AddressReading.TheVariants as addressReadings
+use Rattle.frame.specs.declared.types.AddressReading.TheVariants as address_readings
 use Rattle.frame.proofs.Tests as Tests
 use Rattle.master_slave.specs.declared.types.DataBytes.{DataBytes}
 use Rattle.master_slave.specs.Rules.Bus.{sender_mask, answer_bytes, answer_in, nobody}
@@ -157,12 +157,12 @@ address-first frame h =
 
 pub pending-idle : (c : Cluster) {flag name n operation r : ℕ} → PendingIs c flag name n operation r → (flag ≡ pending_flag → ⊥) → false ≡ write_pending c
 unfolding write_pending
-pending-idle c {flag} p h = sym (both_false_left (eqb (operation_of c.pending_pB2) write_operation) (ne_eqb c.flag pending_flag (λ e. h (p.flag_is ∙ e))))
+pending-idle c {flag} p h = sym (both_false_left (eqb (operation_of c.pending_pb2) write_operation) (ne_eqb c.flag pending_flag (λ e. h (p.flag_is ∙ e))))
 
 pub pending-write : (c : Cluster) {flag name n operation r : ℕ} → PendingIs c flag name n operation r → flag ≡ pending_flag → eqb operation write_operation ≡ write_pending c
 unfolding write_pending
 pending-write c {operation = operation} p h =
-    ap (λ (o : ℕ). eqb o write_operation) p.operation_is ∙ sym (both-next (eqb (operation_of c.pending_pB2) write_operation) (eq-eqb c.flag pending_flag (sym p.flag_is ∙ h)))
+    ap (λ (o : ℕ). eqb o write_operation) p.operation_is ∙ sym (both-next (eqb (operation_of c.pending_pb2) write_operation) (eq-eqb c.flag pending_flag (sym p.flag_is ∙ h)))
 
 nothing-between : (frame : List ℕ) → length frame ≡ firework_size → 0 ∷ 0 ∷ 0 ∷ 0 ∷ [] ≡ between frame
 nothing-between [] e = absurd (omega arith)
@@ -181,18 +181,18 @@ read-refused c frame some is = rw is (result_refused (between frame) some)
 read_done : (c : Cluster) (frame bytes : List ℕ) → frame_ground c frame ≡ 0 → bytes ≡ between frame → done bytes ≡ result_of (frame_ground c frame) (between frame)
 read_done c frame bytes none is = rw (← is) (sym (result_done none))
 
-module _ (c : Cluster) (frame : List ℕ) (isData : round_by_lem frame ≡ msd) {t : Bool} (test : t ≡ write_pending c) where
+module _ (c : Cluster) (frame : List ℕ) (is_data : round_by_lem frame ≡ msd) {t : Bool} (test : t ≡ write_pending c) where
   module _ (idle : not t ≡ true) where
     unpending : write_pending c ≡ false
     unpending = sym test ∙ not-true t idle
 
     pub data-not-one : (length frame ≡ firework_size → ⊥) → refused 11 ≡ result_of (frame_ground c frame) (between frame)
     unfolding wrong_frame_length
-    data-not-one h = read-refused c frame (λ z. omega (arith, z)) (data-ground c frame isData ∙ rw (unpending, ne_eqb (length frame) firework_size h))
+    data-not-one h = read-refused c frame (λ z. omega (arith, z)) (data-ground c frame is_data ∙ rw (unpending, ne_eqb (length frame) firework_size h))
 
     pub data-one : length frame ≡ firework_size → done (0 ∷ 0 ∷ 0 ∷ 0 ∷ []) ≡ result_of (frame_ground c frame) (between frame)
     unfolding wrong_frame_length Order.both
-    data-one h = read_done c frame _ (data-ground c frame isData ∙ rw (unpending, eq-eqb (length frame) firework_size h)) (nothing-between frame h)
+    data-one h = read_done c frame _ (data-ground c frame is_data ∙ rw (unpending, eq-eqb (length frame) firework_size h)) (nothing-between frame h)
 
   module _ (waits : not t ≡ false) where
     pending : write_pending c ≡ true
@@ -200,17 +200,17 @@ module _ (c : Cluster) (frame : List ℕ) (isData : round_by_lem frame ≡ msd) 
 
     pub data-not_six : (length frame ≡ frame_size → ⊥) → refused 11 ≡ result_of (frame_ground c frame) (between frame)
     unfolding wrong_frame_length
-    data-not_six h = read-refused c frame (λ z. omega (arith, z)) (data-ground c frame isData ∙ rw (pending, ne_eqb (length frame) frame_size h))
+    data-not_six h = read-refused c frame (λ z. omega (arith, z)) (data-ground c frame is_data ∙ rw (pending, ne_eqb (length frame) frame_size h))
 
     pub data_wrong : {check : ℕ} → length frame ≡ frame_size → check ≡ data_check (between frame) → (get_or frame 5 0 ≡ check → ⊥) → refused 12 ≡ result_of (frame_ground c frame) (between frame)
     unfolding wrong_frame_length wrong_check Order.both
     data_wrong h e n =
         read-refused c frame (λ z. omega (arith, z))
-        (data-ground c frame isData ∙ rw (pending, eq-eqb (length frame) frame_size h, ne_eqb (get_or frame 5 0) (data_check (between frame)) (λ q. n (q ∙ sym e))))
+        (data-ground c frame is_data ∙ rw (pending, eq-eqb (length frame) frame_size h, ne_eqb (get_or frame 5 0) (data_check (between frame)) (λ q. n (q ∙ sym e))))
 
     pub data-fits : {check : ℕ} → length frame ≡ frame_size → check ≡ data_check (between frame) → get_or frame 5 0 ≡ check → frame_ground c frame ≡ 0
     unfolding wrong_frame_length wrong_check Order.both
-    data-fits h e n = data-ground c frame isData ∙ rw (pending, eq-eqb (length frame) frame_size h, eq-eqb (get_or frame 5 0) (data_check (between frame)) (n ∙ e))
+    data-fits h e n = data-ground c frame is_data ∙ rw (pending, eq-eqb (length frame) frame_size h, eq-eqb (get_or frame 5 0) (data_check (between frame)) (n ∙ e))
 
     pub data_right : {check : ℕ} → length frame ≡ frame_size → check ≡ data_check (between frame) → get_or frame 5 0 ≡ check → done (between frame) ≡ result_of (frame_ground c frame) (between frame)
     data_right h e n = read_done c frame (between frame) (data-fits h e n) refl
@@ -221,10 +221,10 @@ pub exchange-data :
     (c : Cluster) (frame : List ℕ) {f : List ℕ} (old : List ℕ) {new : List ℕ} {mask : ℕ} → round_by_lem frame ≡ msd → frame_ground c frame ≡ 0 →
     Carried (data_effect c (between frame)) data_firework old new mask f → Exchanged c frame old new (done mask) f
 unfolding frame_on effect_of
-exchange-data c frame {f} old {new} {mask} isData z k =
-    let effect : frame_on c frame ≡ data_effect c (between frame) = rw isData in
+exchange-data c frame {f} old {new} {mask} is_data z k =
+    let effect : frame_on c frame ≡ data_effect c (between frame) = rw is_data in
     let there : Carried (frame_on c frame) data_firework old new mask f = subst (λ (e : Effect). Carried e data_firework old new mask f) (sym effect) k in
-    exchange-carried c frame old z (subst (λ (b : ℕ). Carried (frame_on c frame) b old new mask f) (sym (data-first frame isData)) there)
+    exchange-carried c frame old z (subst (λ (b : ℕ). Carried (frame_on c frame) b old new mask f) (sym (data-first frame is_data)) there)
 
 pub data-refused :
     (c : Cluster) (frame : List ℕ) {f : List ℕ} (b : List ℕ) {x : DataReading} {why : Refusal} → Becomes f c →
@@ -239,10 +239,10 @@ pub data-taken :
     data_read x ≡ result_of (frame_ground c frame) (between frame) → x ≡ readings.Data bytes →
     Carried (data_effect c (data_in bytes)) data_firework old new mask f → Exchanged c frame old new (done mask) f
 unfolding data_read
-data-taken c frame {f} old {new} {mask} {bytes = bytes} isData e is k =
+data-taken c frame {f} old {new} {mask} {bytes = bytes} is_data e is k =
     let there : done (data_in bytes) ≡ result_of (frame_ground c frame) (between frame) = rw is at e in
     let same : data_in bytes ≡ between frame = same-value (between frame) (frame_ground c frame) there in
-    exchange-data c frame old isData (no_ground (between frame) (frame_ground c frame) there) (subst (λ (l : List ℕ). Carried (data_effect c l) data_firework old new mask f) same k)
+    exchange-data c frame old is_data (no_ground (between frame) (frame_ground c frame) there) (subst (λ (l : List ℕ). Carried (data_effect c l) data_firework old new mask f) same k)
 
 -- ---- an address frame
 
@@ -277,34 +277,34 @@ parts_facts frame {e} {n} {m} {o} {r} h =
 
 pub address-refused :
     (c : Cluster) (frame : List ℕ) {f : List ℕ} {x : AddressReading} {why : Refusal} → Becomes f c → round_by_lem frame ≡ msa →
-    reading_of x ≡ read_address frame → x ≡ addressReadings.Refused why → Taken c frame (refused why.0) f
+    reading_of x ≡ read_address frame → x ≡ address_readings.Refused why → Taken c frame (refused why.0) f
 unfolding reading_of read_address
-address-refused c frame {x = x} {why} h isAddress e is =
+address-refused c frame {x = x} {why} h is_address e is =
     let reason = that_ground (parts_of frame) why.0 (read_ground frame) (rw is at e) in
-    taken_refused c frame h (reason.0 ∙ sym (address_ground c frame isAddress)) reason.1
+    taken_refused c frame h (reason.0 ∙ sym (address_ground c frame is_address)) reason.1
 
 module _ (c : Cluster) (frame : List ℕ) {x : AddressReading} {epoch : ℕ} {name : LogicalName} {number : FileNumber} {operation : Operation}
-    {record' : RecordNumber} (isAddress : round_by_lem frame ≡ msa) (e : reading_of x ≡ read_address frame) (is : x ≡ addressReadings.Address epoch name number operation record') where
+    {record' : RecordNumber} (is_address : round_by_lem frame ≡ msa) (e : reading_of x ≡ read_address frame) (is : x ≡ address_readings.Address epoch name number operation record') where
   taken : PartsAre frame epoch (name_in_lem name) (file_in number) (operation_in operation) (record_in record')
   unfolding reading_of
   taken = parts_facts frame (rw is at e)
 
   fits : frame_ground c frame ≡ 0
-  fits = address_ground c frame isAddress ∙ taken.reason
+  fits = address_ground c frame is_address ∙ taken.reason
 
   pub address-legal : ((i : ℕ) → FitsIn w8 (get_or frame i 0)) → LegalPending (with_address c epoch (name_in_lem name) (pb2_of (file_in number) (operation_in operation)) (record_in record'))
   unfolding frame_ground no_operation_on broadcast_read_on with_address
   address-legal fit =
       let byte : (i : ℕ) → Byte (get_or frame i 0) = λ i. omega (arith, fit i) in
       let facts : Fits c (round_by_lem frame) frame = fits_facts c (round_by_lem frame) frame fits in
-      let facts' : Fits c msa frame = subst (λ (x : Round). Fits c x frame) isAddress facts in
+      let facts' : Fits c msa frame = subst (λ (x : Round). Fits c x frame) is_address facts in
       rw (taken.pb0, taken.pb1, taken.pb2, taken.pb3)
       (address-pending c (get_or frame 1 0) (get_or frame 2 0) (get_or frame 3 0) (get_or frame 4 0) (byte 1) (byte 2) (byte 3) (byte 4) facts'.operation facts'.broadcast_read)
 
   pub address-taken : {f : List ℕ} → Becomes f (with_address c epoch (name_in_lem name) (pb2_of (file_in number) (operation_in operation)) (record_in record')) → Taken c frame (done 0) f
   unfolding frame_on effect_of
   address-taken {f} h =
-      let effect : frame_on c frame ≡ address_effect c frame = rw isAddress in
+      let effect : frame_on c frame ≡ address_effect c frame = rw is_address in
       let after : Becomes f (address_effect c frame).after = rw (← taken.pb0, ← taken.pb1, ← taken.pb2, ← taken.pb3) h in
       taken_carried c frame fits (rw effect mask-nobody) (rw effect after)
 
@@ -316,7 +316,7 @@ module _ (c : Cluster) (frame : List ℕ) {f : List ℕ} {x : RoundAnswer} (t : 
 
   pub address-heard : {old new : List ℕ} {m : ℕ} → round_by_lem frame ≡ msa → x ≡ answers.Carried m → new ≡ answer_in old (answer_bytes address_firework nobody) → Exchanged c frame old new (done m) f
   unfolding answer_of frame_on effect_of
-  address-heard {old} {new} isAddress is b =
-      let effect : frame_on c frame ≡ address_effect c frame = rw isAddress in
-      let there : new ≡ answer_in old (answer_bytes (get_or frame 0 0) (frame_on c frame).senders) = rw (address-first frame isAddress, effect) b in
+  address-heard {old} {new} is_address is b =
+      let effect : frame_on c frame ≡ address_effect c frame = rw is_address in
+      let there : new ≡ answer_in old (answer_bytes (get_or frame 0 0) (frame_on c frame).senders) = rw (address-first frame is_address, effect) b in
       taken-heard c frame (rw is at t) there

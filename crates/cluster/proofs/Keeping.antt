@@ -32,7 +32,7 @@ use Rattle.cluster.specs.Claims.Summary.{StillMatchesExactly, StillMatches, Stil
 use Rattle.cluster.specs.Claims.Summary.{other_operation, other_record, NoBaptizingExactly}
 use Rattle.cluster.proofs.Rounds.{round-refused, round-becomes, round-kept}
 use Rattle.cluster.proofs.Renaming.{baptizing_renames, only-baptizing_renames}
-use Rattle.cluster.proofs.SummaryLaws.{matches_right, mismatch_wrong, keptFor-true, rest-same, given-file, given_wrong, given_right, given-none, numbered_most}
+use Rattle.cluster.proofs.SummaryLaws.{matches_right, mismatch_wrong, kept_for-true, rest-same, given-file, given_wrong, given_right, given-none, numbered_most}
 
 -- ---- its grounds
 
@@ -142,7 +142,7 @@ round_keeps_summary file summary frame buffer fb rb m =
     (λ t.
     let none = eqb-true (round_keeping_ground file summary frame buffer) 0 t in
     rw (keeping-accepted file summary frame buffer none)
-    (keptFor-true file (round_on file frame buffer).2 m (round-count file frame buffer fb rb (keeping-round file summary frame buffer none))))
+    (kept_for-true file (round_on file frame buffer).2 m (round-count file frame buffer fb rb (keeping-round file summary frame buffer none))))
     (λ f. rw (keeping_refused file summary frame buffer (eqb-false _ _ f)) (m, rest-same summary))
 
 -- ---- a round not given it
@@ -179,15 +179,15 @@ module _ (file frame buffer : List ℕ) where
   none_baptized (refused_round some) name b = some b.accepted
   none_baptized (no_msd other) name b = other b.is_msd
   none_baptized (nothing_pending other) name b = other b.pending.is_flag
-  none_baptized (other_operation other) name b = other b.pending.is_pB2
-  none_baptized (other_record other) name b = other b.pending.is_pB3
+  none_baptized (other_operation other) name b = other b.pending.is_pb2
+  none_baptized (other_record other) name b = other b.pending.is_pb3
 
   -- otherwise it is one, at the pending name
   else-baptizes :
       round_ground file frame buffer ≡ 0 → round_by_lem frame ≡ msd → (decode file).flag ≡ pending_flag →
-      (decode file).pending_pB2 ≡ pb2_of configuration execute_operation → (decode file).pending_pB3 ≡ 1 → Baptizes file frame buffer (decode file).pending_name
+      (decode file).pending_pb2 ≡ pb2_of configuration execute_operation → (decode file).pending_pb3 ≡ 1 → Baptizes file frame buffer (decode file).pending_name
   else-baptizes none is flag pb2 pb3 =
-      record { is_msd = is; accepted = none; pending = record { is_flag = flag; is_name = refl; is_pB2 = pb2; is_pB3 = pb3 } }
+      record { is_msd = is; accepted = none; pending = record { is_flag = flag; is_name = refl; is_pb2 = pb2; is_pb3 = pb3 } }
 
   which-none : ((name : ℕ) → Baptizes file frame buffer name → ⊥) → NoBaptizing file frame buffer
   which-none never =
@@ -197,9 +197,9 @@ module _ (file frame buffer : List ℕ) where
       (λ is.
       by_case (eqb (decode file).flag pending_flag)
       (λ b.
-      by_case (eqb (decode file).pending_pB2 (pb2_of configuration execute_operation))
+      by_case (eqb (decode file).pending_pb2 (pb2_of configuration execute_operation))
       (λ d.
-      by_case (eqb (decode file).pending_pB3 1)
+      by_case (eqb (decode file).pending_pb3 1)
       (λ e. absurd (never _ (else-baptizes (eqb-true _ _ a) is (eqb-true _ _ b) (eqb-true _ _ d) (eqb-true _ _ e))))
       (λ e. other_record (eqb-false _ _ e)))
       (λ d. other_operation (eqb-false _ _ d)))

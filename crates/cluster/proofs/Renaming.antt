@@ -110,7 +110,7 @@ frame-baptizes c frame is l duty = rw is (effect-baptizes c frame l duty)
 
 baptizing-pending : (c : Cluster) {name : ℕ} → Pending c pending_flag name (pb2_of configuration execute_operation) 1 → pending_duty c ≡ baptizing name
 unfolding pending_duty duty_by execution_of pb2_of
-baptizing-pending c p = rw (p.is_flag, p.is_name, p.is_pB2, p.is_pB3)
+baptizing-pending c p = rw (p.is_flag, p.is_name, p.is_pb2, p.is_pb3)
 
 executed : (name n r : ℕ) {own : ℕ} → execution_of own n r ≡ baptizing name → (n ≡ configuration) × (r ≡ 1) × (own ≡ name)
 unfolding execution_of
@@ -149,8 +149,8 @@ unfolding pending_duty
 pending-baptizing c {name} is =
     by_case (eqb c.flag pending_flag)
     (λ a.
-    let (pb2, pb3, same) = duty_executed name c.pending_name c.pending_pB2 c.pending_pB3 (rw a at is) in
-    record { is_flag = eqb-true c.flag pending_flag a; is_name = same; is_pB2 = pb2; is_pB3 = pb3 })
+    let (pb2, pb3, same) = duty_executed name c.pending_name c.pending_pb2 c.pending_pb3 (rw a at is) in
+    record { is_flag = eqb-true c.flag pending_flag a; is_name = same; is_pb2 = pb2; is_pb3 = pb3 })
     (λ a. let e = rw a at is in let z : ◌≡◌ {A = ℕ} 0 1 = cc in absurd (omega arith))
 
 -- ---- the claims

@@ -88,7 +88,7 @@ address-pending c pb0 pb1 pb2 pb3 b0 b1 b2 b3 op read =
       pb2 = b2;
       pb3 = b3;
       operation = λ _ three. omega (arith, ltb-false execute_operation (operation_of pb2) op, three);
-      broadcast_read = λ _ isRead is_all. clash (both_true (eq-eqb _ _ isRead) (eq-eqb _ _ is_all)) read;
+      broadcast_read = λ _ is_read_lem is_all. clash (both_true (eq-eqb _ _ is_read_lem) (eq-eqb _ _ is_all)) read;
     }
 
 pub address_kept : (c : Cluster) (pb0 pb1 pb2 pb3 : ℕ) → Byte pb0 → Byte pb1 → Byte pb2 → Byte pb3 → no_operation (operation_of pb2) ≡ false → broadcast_read (operation_of pb2) pb1 ≡ false →

@@ -58,10 +58,10 @@ unfolding read_ground frame_on effect_of
 address-sent file frame buffer epoch name number operation «record» accepted long reads =
     let facts : PartsAre frame epoch name number operation «record» = parts_facts frame reads in
     let first : get_or frame 0 0 ≡ address_firework = Tests.address-first frame (first-none 9 _ _ facts.reason).0 in
-    let isAddress : round_by_lem frame ≡ msa = address-round frame first in
-    let fits : frame_ground (decode file) frame ≡ 0 = address_ground (decode file) frame isAddress ∙ facts.reason in
+    let is_address : round_by_lem frame ≡ msa = address-round frame first in
+    let fits : frame_ground (decode file) frame ≡ 0 = address_ground (decode file) frame is_address ∙ facts.reason in
     round-accepted file frame buffer (round-fits file frame buffer accepted long fits)
-    ∙ rw (isAddress, first, ← mask-nobody, facts.pb0, facts.pb1, facts.pb2, facts.pb3)
+    ∙ rw (is_address, first, ← mask-nobody, facts.pb0, facts.pb1, facts.pb2, facts.pb3)
 
 -- the six bytes that the address writer wrote, sent
 pub written-address-sent :

@@ -43,7 +43,7 @@ use Rattle.master_slave.proofs.Hearing.{in_slot_nil}
 
 pub sleeping-pending : (c : Cluster) {name : ℕ} → Pending c pending_flag name (pb2_of configuration execute_operation) sleep_record → pending_duty c ≡ sleeping name
 unfolding pending_duty duty_by execution_of pb2_of
-sleeping-pending c p = rw (p.is_flag, p.is_name, p.is_pB2, p.is_pB3)
+sleeping-pending c p = rw (p.is_flag, p.is_name, p.is_pb2, p.is_pb3)
 
 executed : (name n r : ℕ) {own : ℕ} → execution_of own n r ≡ sleeping name → (n ≡ configuration) × (r ≡ sleep_record) × (own ≡ name)
 unfolding execution_of
@@ -82,8 +82,8 @@ unfolding pending_duty
 pending-sleeping c {name} is =
     by_case (eqb c.flag pending_flag)
     (λ a.
-    let (pb2, pb3, same) = duty_executed name c.pending_name c.pending_pB2 c.pending_pB3 (rw a at is) in
-    record { is_flag = eqb-true c.flag pending_flag a; is_name = same; is_pB2 = pb2; is_pB3 = pb3 })
+    let (pb2, pb3, same) = duty_executed name c.pending_name c.pending_pb2 c.pending_pb3 (rw a at is) in
+    record { is_flag = eqb-true c.flag pending_flag a; is_name = same; is_pb2 = pb2; is_pb3 = pb3 })
     (λ a. let e = rw a at is in let z : ◌≡◌ {A = ℕ} 0 1 = cc in absurd (omega arith))
 
 -- ---- all awake

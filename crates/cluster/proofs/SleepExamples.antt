@@ -33,8 +33,8 @@ cluster name «record» =
       epoch = 0;
       flag = 1;
       pending_name = name;
-      pending_pB2 = pb2_of 0x08 2;
-      pending_pB3 = «record»;
+      pending_pb2 = pb2_of 0x08 2;
+      pending_pb3 = «record»;
       slaves = slave 0 0xFF 12 ∷ slave 0 0xFF 8 ∷ slave 0 5 12 ∷ slave 1 6 12 ∷ [];
     }
 
@@ -80,7 +80,7 @@ after-address = refl
 -- ---- a slave named 6, awake and asleep: who takes part in a read, a compare, a write and a baptism at its name
 
 awake_and_asleep : (Slave → Bool) → List Bool
-awake_and_asleep takesPart = takesPart (slave 0 6 12) ∷ takesPart (slave 1 6 12) ∷ []
+awake_and_asleep takes_part = takes_part (slave 0 6 12) ∷ takes_part (slave 1 6 12) ∷ []
 
 in_read : awake_and_asleep (answers_read 6 0x08 1) ≡ true ∷ false ∷ []
 unfolding at-unnamed awake_and_asleep answers_read is_unnamed
@@ -119,8 +119,8 @@ partners =
       epoch = 0;
       flag = 0;
       pending_name = 0;
-      pending_pB2 = 0;
-      pending_pB3 = 0;
+      pending_pb2 = 0;
+      pending_pb3 = 0;
       slaves = partner 0 0x10 0x0F ∷ partner 1 0x10 0xF0 ∷ partner 0 0x00 0x33 ∷ partner 1 0x00 0x33 ∷ [];
     })
     (multipartner 2) (0xBA ∷ [])

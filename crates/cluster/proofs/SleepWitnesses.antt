@@ -62,7 +62,7 @@ unfolding width_of before buffer two_slaves file_grounds_at first_of both either
     wrong_pending no_operation broadcast_read all_zero part number_of offset_at broken_layout walk_file table_end walk_slaves and_then walk_slave
     good_table_entry walk_directory good_entry file_size ends_at lacks_needed all_have_needed has_needed last_record decode decode_at slaves_at slave_at
     files_at file_at equal_physical_names has_repeat is_among physical_name bytes_in bytes_among round_ground file_grounds short_answer grounds_on round_by_lem round_of round_in wrong_frame_length write_pending pb2_of
-sleeps = record { is_msd = refl; accepted = refl; pending = record { is_flag = refl; is_name = refl; is_pB2 = refl; is_pB3 = refl } }
+sleeps = record { is_msd = refl; accepted = refl; pending = record { is_flag = refl; is_name = refl; is_pb2 = refl; is_pb3 = refl } }
 
 -- the first falls asleep
 first-falls : (slave_in (round_on before data_round buffer).2 0).asleep ≡ 1
@@ -148,7 +148,7 @@ asked-wakes : AllAwake (round_on asked data_round buffer).2
 unfolding sleeps asked
 asked-wakes =
     data-wakes asked data_round buffer asked-bytes data-bytes asked-fits refl
-    (λ (name : ℕ) (p : PutsToSleep asked data_round buffer name). let z : ◌≡◌ {A = ℕ} 0xF4 0x22 = p.pending.is_pB2 in omega arith)
+    (λ (name : ℕ) (p : PutsToSleep asked data_round buffer name). let z : ◌≡◌ {A = ℕ} 0xF4 0x22 = p.pending.is_pb2 in omega arith)
 
 asked_alone : AnswersFor asked data_round buffer (awake_alone asked data_round).senders
 asked_alone = sleepers_silent asked data_round buffer asked-fits

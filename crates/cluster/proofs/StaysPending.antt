@@ -25,18 +25,18 @@ use Rattle.cluster.proofs.Rounds.{round-refused, round-becomes, round-bytes}
 
 -- the same is pending in both
 abbrev Alike : Cluster → Cluster → Type 0
-Alike c d = Pending d c.flag c.pending_name c.pending_pB2 c.pending_pB3
+Alike c d = Pending d c.flag c.pending_name c.pending_pb2 c.pending_pb3
 
 alike_refl : (c : Cluster) → Alike c c
-alike_refl c = record { is_flag = refl; is_name = refl; is_pB2 = refl; is_pB3 = refl }
+alike_refl c = record { is_flag = refl; is_name = refl; is_pb2 = refl; is_pb3 = refl }
 
 alike_trans : (c d e : Cluster) → Alike c d → Alike d e → Alike c e
 alike_trans c d e p q =
     record {
       is_flag = q.is_flag ∙ p.is_flag;
       is_name = q.is_name ∙ p.is_name;
-      is_pB2 = q.is_pB2 ∙ p.is_pB2;
-      is_pB3 = q.is_pB3 ∙ p.is_pB3;
+      is_pb2 = q.is_pb2 ∙ p.is_pb2;
+      is_pb3 = q.is_pb3 ∙ p.is_pb3;
     }
 
 -- ---- a frame that is no MSA
@@ -44,7 +44,7 @@ alike_trans c d e p q =
 received_alike : (passed : Entry → Bool) (round slot : ℕ) (c : Cluster) (sent : List ℕ) → Alike c (received_in passed round slot c sent)
 unfolding received_in with_slaves
 received_alike passed round slot c [] = alike_refl c
-received_alike passed round slot c (b ∷ bs) = record { is_flag = refl; is_name = refl; is_pB2 = refl; is_pB3 = refl }
+received_alike passed round slot c (b ∷ bs) = record { is_flag = refl; is_name = refl; is_pb2 = refl; is_pb3 = refl }
 
 below_alike : (passed : Entry → Bool) (round : ℕ) (c : Cluster) (n : ℕ) → Alike c (cluster_below passed round c n)
 unfolding cluster_below
@@ -55,11 +55,11 @@ below_alike passed round c (suc n) =
 
 raised_alike : (c : Cluster) → Alike c (epoch_raised c)
 unfolding epoch_raised with_epoch
-raised_alike c = record { is_flag = refl; is_name = refl; is_pB2 = refl; is_pB3 = refl }
+raised_alike c = record { is_flag = refl; is_name = refl; is_pb2 = refl; is_pb3 = refl }
 
 rested-alike : (o : Duty) (c : Cluster) → Alike c (rested o c)
 unfolding rested with_slaves
-rested-alike o c = record { is_flag = refl; is_name = refl; is_pB2 = refl; is_pB3 = refl }
+rested-alike o c = record { is_flag = refl; is_name = refl; is_pb2 = refl; is_pb3 = refl }
 
 effect_alike : (c : Cluster) (round : Round) (frame : List ℕ) → round ≢ msa → Alike c (effect_of c round frame).after
 unfolding effect_of rested slaves_after with_slaves epoch_raised with_epoch
@@ -67,7 +67,7 @@ effect_alike c (multipartner r) frame other =
     let below : Cluster = cluster_below (passed_over_lem c) r (epoch_raised c) slots in
     alike_trans c (epoch_raised c) (rested nothing below) (raised_alike c)
     (alike_trans (epoch_raised c) below (rested nothing below) (below_alike (passed_over_lem c) r (epoch_raised c) slots) (rested-alike nothing below))
-effect_alike c msd frame other = record { is_flag = refl; is_name = refl; is_pB2 = refl; is_pB3 = refl }
+effect_alike c msd frame other = record { is_flag = refl; is_name = refl; is_pb2 = refl; is_pb3 = refl }
 effect_alike c msa frame other = absurd (other refl)
 effect_alike c no_round frame other = alike_refl c
 
@@ -91,7 +91,7 @@ call-alike file frame buffer fb rb none =
 
 msa-after : (c : Cluster) (frame : List ℕ) → round_by_lem frame ≡ msa → Addressed (frame_on c frame).after frame
 unfolding frame_on effect_of with_address with_pending with_epoch
-msa-after c frame is = rw is (record { epoch = refl; pending = record { is_flag = refl; is_name = refl; is_pB2 = refl; is_pB3 = refl } })
+msa-after c frame is = rw is (record { epoch = refl; pending = record { is_flag = refl; is_name = refl; is_pb2 = refl; is_pb3 = refl } })
 
 pub msa-becomes-pending : MsaBecomesPending
 msa-becomes-pending file frame buffer fb rb m =

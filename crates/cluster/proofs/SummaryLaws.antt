@@ -17,7 +17,7 @@ use Rattle.file.proofs.Order.{by_case, clash, both_left, both_right, both_true, 
 use Rattle.file.proofs.Results.{file-first, file_numbered}
 use Rattle.cluster.specs.Rules.Summary.{Summary, without, kept, alike, wrong_summary, kept_for}
 use Rattle.cluster.specs.Claims.Renaming.{names_of}
-use Rattle.cluster.specs.Claims.Summary.{Matches, given_none, given_names, MatchesExactly, LeavesRest, of_none, ofNames}
+use Rattle.cluster.specs.Claims.Summary.{Matches, given_none, given_names, MatchesExactly, LeavesRest, of_none, of_names}
 
 -- ---- which match
 
@@ -57,27 +57,27 @@ mismatch_wrong file summary never =
 
 -- ---- the names that a call writes back
 
-pub keptFor-true :
+pub kept_for-true :
     (file after : List ℕ) {summary : Summary} → Matches file summary → length (names_of after) ≡ length (names_of file) →
     Matches after (kept_for summary (names_of after)) × LeavesRest summary (kept_for summary (names_of after))
 unfolding kept_for
-keptFor-true file after given_none e = (given_none, of_none)
-keptFor-true file after (given_names {count} {slice} few same) e =
+kept_for-true file after given_none e = (given_none, of_none)
+kept_for-true file after (given_names {count} {slice} few same) e =
     let whole : length (names_of after) ≡ count = e ∙ sym (ap (λ (l : List ℕ). length l) same) ∙ length-take-le count slice few in
     let long : length (names_of after ++ drop (length (names_of after)) slice) ≡ length slice =
     length-append (names_of after) _ ∙ ap (λ (k : ℕ). length (names_of after) + k) (length-drop (length (names_of after)) slice) ∙ omega arith in (
       given_names {count = count} {slice = names_of after ++ drop (length (names_of after)) slice} (omega (arith, long, few)) (take_at (names_of after) _ count whole),
-      ofNames long (drop_at (names_of after) _ count whole ∙ ap (λ (k : ℕ). drop k slice) whole),
+      of_names long (drop_at (names_of after) _ count whole ∙ ap (λ (k : ℕ). drop k slice) whole),
     )
 
 -- what is left of it by two calls
 pub rest-same : (summary : Summary) → LeavesRest summary summary
 rest-same without = of_none
-rest-same (kept count slice) = ofNames refl refl
+rest-same (kept count slice) = of_names refl refl
 
 pub rest_trans : {s t u : Summary} → LeavesRest s t → LeavesRest t u → LeavesRest s u
 rest_trans of_none of_none = of_none
-rest_trans (ofNames size same) (ofNames size' same') = ofNames (size' ∙ size) (same' ∙ same)
+rest_trans (of_names size same) (of_names size' same') = of_names (size' ∙ size) (same' ∙ same)
 
 -- ---- the grounds of a call given it: the file's, 24, and others
 

@@ -126,10 +126,10 @@ module _ (c : Cluster) (frame : List ℕ) {f : List ℕ} {x : DataReading} {slee
 
   pub unheard_taken : {bytes : DataBytes} → round_by_lem frame ≡ msd → x ≡ readings.Data bytes → Left (data_effect c (data_in bytes)).after sleepers f → LeftUnheard c frame true sleepers f
   unfolding data_read frame_on effect_of
-  unheard_taken {bytes} isData is h =
+  unheard_taken {bytes} is_data is h =
       let there : done (data_in bytes) ≡ result_of (frame_ground c frame) (between frame) = rw is at e in
       let same : data_in bytes ≡ between frame = same-value (between frame) (frame_ground c frame) there in
-      let effect : frame_on c frame ≡ data_effect c (between frame) = rw isData in
+      let effect : frame_on c frame ≡ data_effect c (between frame) = rw is_data in
       left-done c frame (no_ground (between frame) (frame_ground c frame) there)
       (subst (λ (y : Effect). Left y.after sleepers f) (sym effect) (subst (λ (l : List ℕ). Left (data_effect c l).after sleepers f) same h))
 

@@ -38,7 +38,7 @@ write-pending : (c : Cluster) (name n r : ℕ) → Pending c pending_flag name (
 unfolding pending_duty
 write-pending c name n r p =
     rw (eq-eqb c.flag pending_flag p.is_flag)
-    (write_by c.pending_name n c.pending_pB3 p.is_pB2 ∙ ap (λ (m : ℕ). writing m n c.pending_pB3) p.is_name ∙ ap (λ (m : ℕ). writing name n m) p.is_pB3)
+    (write_by c.pending_name n c.pending_pb3 p.is_pb2 ∙ ap (λ (m : ℕ). writing m n c.pending_pb3) p.is_name ∙ ap (λ (m : ℕ). writing name n m) p.is_pb3)
 
 -- ---- the slaves
 

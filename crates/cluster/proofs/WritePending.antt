@@ -40,5 +40,5 @@ pub pending-writes : (c : Cluster) {name n r : ℕ} → pending_duty c ≡ writi
 unfolding write_pending pending_duty is_writing
 pending-writes c p =
     by_case (eqb c.flag pending_flag)
-    (λ waits. both_true waits (duty_writes c.pending_name c.pending_pB2 c.pending_pB3 (ap is_writing (rw waits at p))))
+    (λ waits. both_true waits (duty_writes c.pending_name c.pending_pb2 c.pending_pb3 (ap is_writing (rw waits at p))))
     (λ idle. clash refl (sym (ap is_writing (rw idle at p))))

@@ -66,7 +66,7 @@ answered_exactly =
         λ is. let accepted = told-accepted f s n buffer k is in (accepted, done-is (sym is ∙ done-here f s n buffer accepted)),
         λ (accepted, long). done-here f s n buffer accepted ∙ ap (λ (m : ℕ). done m) (sym long),
       );
-      turnedAway = λ f s n buffer k. (
+      turned_away = λ f s n buffer k. (
         refused-some f s n buffer k,
         λ (reason, some). refused-here f s n buffer (λ z. some (sym reason ∙ z)) ∙ ap (λ (m : ℕ). refused m) reason,
       );

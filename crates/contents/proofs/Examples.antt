@@ -182,17 +182,17 @@ of_wide_unloaded = record { unloaded = refl; equal_names = refl }
 abbrev longest : List ℕ
 longest = replicate 1020 0x00 ++ (0xF4 ∷ 0xF5 ∷ 0xF6 ∷ 0xF7 ∷ [])
 
-pub longestOfNarrow :
+pub longest_of_narrow :
     contents_on (changed (changed (take 112 narrow) 6 (0x04 ∷ 0x70 ∷ [])) 81 (0xFF ∷ []) ++ longest) 1 0x3F (room 1025) ≡
     (done 1024, longest ++ room 1)
 unfolding of_narrow
-longestOfNarrow = refl
+longest_of_narrow = refl
 
-pub longestOfWide :
+pub longest_of_wide :
     contents_on (changed (changed (take 152 wide) 10 (0x04 ∷ 0x98 ∷ [])) 117 (0xFF ∷ []) ++ longest) 1 0x3F (room 1025) ≡
     (done 1024, longest ++ room 1)
 unfolding of_narrow
-longestOfWide = refl
+longest_of_wide = refl
 
 -- ---- the premises of the claims can be met
 

@@ -158,13 +158,13 @@ module _ {v at : ℕ} {f : List ℕ} {s : ℕ} {old new : List ℕ} {entry to pl
           let long : length (directory v first (take k xs)) ≡ 2 * v * k =
           directory-length fits.width.least first (take k xs) ∙ ap (λ (i : ℕ). 2 * v * i) (length-take-le k xs t.few)
           in
-          let entryBytes : directory_entry_of v place (get_or f entry 0) (get_or f (entry + 1) 0) ≡ directory_entry v (first + length (contents (take k xs))) x = rw (named, ends, t.begins) in
+          let entry_bytes : directory_entry_of v place (get_or f entry 0) (get_or f (entry + 1) 0) ≡ directory_entry v (first + length (contents (take k xs))) x = rw (named, ends, t.begins) in
           record {
             few = omega (arith, below);
             read = rw one (omega (arith, t.read, o.is));
             there = rw one (omega (arith, t.there));
             begins = rw one (omega (arith, t.begins, size, contents-next xs k below));
-            put = put_same (sym (ap (λ (i : ℕ). directory v first (take i xs)) one ∙ directory-next xs k below v first)) (put_then t.put (omega (arith, t.there, long)) (put_same entryBytes p));
+            put = put_same (sym (ap (λ (i : ℕ). directory v first (take i xs)) one ∙ directory-next xs k below v first)) (put_then t.put (omega (arith, t.there, long)) (put_same entry_bytes p));
           }
 
       pub place-next-fits : SlaveFits v old at (slave_of (decode f) s) → Fits w64 (place + 4 * (get_or f (entry + 1) 0 + 1))

@@ -7,7 +7,7 @@ use mathlib.Core.List.{List, [], ◌∷◌, ◌++◌, append_assoc}
 use lib.ListN.{length, get_or, take, drop, set, replicate, length-append, length-set}
 use lib.Seq.{drop-cons}
 use Rattle.file.specs.Rules.Bytes.{bytes_of, part}
-use Rattle.file.specs.Rules.Layout.{edition_of, flag_place, pending_name_place, pending_pB2_place, pending_pB3_place, header_size, zeros_length}
+use Rattle.file.specs.Rules.Layout.{edition_of, flag_place, pending_name_place, pending_pb2_place, pending_pb3_place, header_size, zeros_length}
 use Rattle.file.specs.Rules.Cluster.{Cluster}
 use Rattle.file.specs.Rules.Encode.{slaves_place, file_length, header}
 use Rattle.file.specs.Rules.Decode.{decode_at, decode}
@@ -95,23 +95,23 @@ five l at fits =
 
 -- those of an accepted file
 module _ {f : List ℕ} {at : ℕ} (h : AcceptedFile f) (e : EpochAt f at) where
-  fields_there : part f at 5 ≡ (decode f).epoch ∷ (decode f).flag ∷ (decode f).pending_name ∷ (decode f).pending_pB2 ∷ (decode f).pending_pB3 ∷ []
+  fields_there : part f at 5 ≡ (decode f).epoch ∷ (decode f).flag ∷ (decode f).pending_name ∷ (decode f).pending_pb2 ∷ (decode f).pending_pb3 ∷ []
   unfolding decode_at
   fields_there =
       let b = at-edition h in
       let w = Rattle.file.specs.Rules.Layout.width_in (decode f).edition in
       let a₁ : at + 1 ≡ flag_place w = omega (arith, e.is) in
       let a₂ : at + 2 ≡ pending_name_place w = omega (arith, e.is) in
-      let a₃ : at + 3 ≡ pending_pB2_place w = omega (arith, e.is) in
-      let a₄ : at + 4 ≡ pending_pB3_place w = omega (arith, e.is) in
+      let a₃ : at + 3 ≡ pending_pb2_place w = omega (arith, e.is) in
+      let a₄ : at + 4 ≡ pending_pb3_place w = omega (arith, e.is) in
       let d = b.decoded in
       five f at (omega (arith, e.room))
       ∙ rw (
         ap (λ (k : ℕ). get_or f k 0) e.is ∙ ap (λ (c : Cluster). c.epoch) d,
         ap (λ (k : ℕ). get_or f k 0) a₁ ∙ ap (λ (c : Cluster). c.flag) d,
         ap (λ (k : ℕ). get_or f k 0) a₂ ∙ ap (λ (c : Cluster). c.pending_name) d,
-        ap (λ (k : ℕ). get_or f k 0) a₃ ∙ ap (λ (c : Cluster). c.pending_pB2) d,
-        ap (λ (k : ℕ). get_or f k 0) a₄ ∙ ap (λ (c : Cluster). c.pending_pB3) d,
+        ap (λ (k : ℕ). get_or f k 0) a₃ ∙ ap (λ (c : Cluster). c.pending_pb2) d,
+        ap (λ (k : ℕ). get_or f k 0) a₄ ∙ ap (λ (c : Cluster). c.pending_pb3) d,
       )
 
   pub header-put : {l m k o : List ℕ} {v n size : ℕ} → FormFits v l size (decode f).slaves → n ≡ slave_count f
@@ -122,7 +122,7 @@ module _ {f : List ℕ} {at : ℕ} (h : AcceptedFile f) (e : EpochAt f at) where
   unfolding header header_front
   header-put {l} {k = k} {v = v} {n = n} {size = size} fits count front fields zeros =
       let c = decode f in
-      let own = c.epoch ∷ c.flag ∷ c.pending_name ∷ c.pending_pB2 ∷ c.pending_pB3 ∷ [] in
+      let own = c.epoch ∷ c.flag ∷ c.pending_name ∷ c.pending_pb2 ∷ c.pending_pb3 ∷ [] in
       let some : at + 5 - at ≡ 5 = omega arith in
       let same : part f at (at + 5 - at) ≡ own = ap (part f at) some ∙ fields_there in
       let there : 4 + 2 * v ≡ 0 + length (header_front v n size) = omega (arith, front_length v n size) in

@@ -129,7 +129,7 @@ module _ (r a : ℕ) where
 
 abbrev pub cluster_of : ℕ → ℕ → ℕ → ℕ → Cluster
 cluster_of e r a n =
-    record { edition = e; epoch = 0; flag = 0; pending_name = 0; pending_pB2 = 0; pending_pB3 = 0; slaves = slaves_below r a n }
+    record { edition = e; epoch = 0; flag = 0; pending_name = 0; pending_pb2 = 0; pending_pb3 = 0; slaves = slaves_below r a n }
 
 pub file_of : ℕ → ℕ → ℕ → ℕ → List ℕ
 file_of e r a n = encode (cluster_of e r a n)

@@ -29,18 +29,18 @@ use Rattle.demand.proofs.DemandCalls.{calls-memory, all-given}
 
 -- the same is pending in both files
 abbrev Same : List ℕ → List ℕ → Type 0
-Same f g = Pending (decode g) (decode f).flag (decode f).pending_name (decode f).pending_pB2 (decode f).pending_pB3
+Same f g = Pending (decode g) (decode f).flag (decode f).pending_name (decode f).pending_pb2 (decode f).pending_pb3
 
 same_refl : (f : List ℕ) → Same f f
-same_refl f = record { is_flag = refl; is_name = refl; is_pB2 = refl; is_pB3 = refl }
+same_refl f = record { is_flag = refl; is_name = refl; is_pb2 = refl; is_pb3 = refl }
 
 same_trans : (f g h : List ℕ) → Same f g → Same g h → Same f h
 same_trans f g h p q =
     record {
       is_flag = q.is_flag ∙ p.is_flag;
       is_name = q.is_name ∙ p.is_name;
-      is_pB2 = q.is_pB2 ∙ p.is_pB2;
-      is_pB3 = q.is_pB3 ∙ p.is_pB3;
+      is_pb2 = q.is_pb2 ∙ p.is_pb2;
+      is_pb3 = q.is_pb3 ∙ p.is_pb3;
     }
 
 -- a step that makes no round leaves the file

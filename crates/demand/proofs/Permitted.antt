@@ -17,7 +17,7 @@ use Rattle.naming.specs.Rules.Position.{fresh}
 use Rattle.naming.specs.Rules.RunGrounds.{start_ground}
 use Rattle.naming.specs.Rules.Account.{Call}
 use Rattle.naming.specs.Claims.PermittedRounds.{IsStep as IsStepByRules, is-step as is-step-by-rules, PermittedFrom, address_of, DataFor, of_write_lem, of_other_lem}
-use Rattle.naming.specs.Claims.PermittedRounds.{Rounds, no_rounds, multipartner_next, masterSlaveNext, SentBy, no_frames, one_more_lem}
+use Rattle.naming.specs.Claims.PermittedRounds.{Rounds, no_rounds, multipartner_next, master_slave_next, SentBy, no_frames, one_more_lem}
 use Rattle.naming.proofs.PermittedExactly.{permitted_exactly}
 use Rattle.naming.proofs.PermittedRounds.{address_of_bytes, data-frame-bytes, rounds-fit}
 use Rattle.demand.specs.Claims.Traces.{CallOrTrace, frame_call, frames_singly, singly}
@@ -51,7 +51,7 @@ address-short a = omega arith
 rounds-each : {frames : List (List ℕ)} → Rounds frames → All Frame frames
 rounds-each no_rounds = all_empty
 rounds-each (multipartner_next byte is rounds) = also (record { bytes = also byte all_empty; short = omega arith }) (rounds-each rounds)
-rounds-each (masterSlaveNext {a = a} may ask d rounds) =
+rounds-each (master_slave_next {a = a} may ask d rounds) =
     also (record { bytes = address_of_bytes may; short = address-short a })
     (also (record { bytes = data-frame-bytes d; short = data-short d }) (rounds-each rounds))
 

@@ -161,15 +161,15 @@ module _ {file state answer : List ℕ} {i : ℕ} (sb : Bytes state) (serving : 
     -- a read is pending after the MSA, and no execute
     asks-no-execute :
         (buffer : List ℕ) → round_ground file address buffer ≡ 0 →
-        (decode (round_on file address buffer).2).pending_pB2 ≡ pb2_of configuration execute_operation → ⊥
+        (decode (round_on file address buffer).2).pending_pb2 ≡ pb2_of configuration execute_operation → ⊥
     unfolding address_sent address_frame address_bytes frame_of read_sent pb2_of
     asks-no-execute buffer taken execute =
         let accepted : AcceptedMsa file address buffer = record { is_msa = address_is; accepted = taken } in
         let asked = msa-becomes-pending file address buffer fb (address-sent-bytes (decode file) _ (read-may serving sb)) accepted in
-        omega (arith, execute, asked.pending.is_pB2)
+        omega (arith, execute, asked.pending.is_pb2)
 
     sleeps-nobody : (name : ℕ) → PutsToSleep first.2 content first.1 name → ⊥
-    sleeps-nobody name asleep = asks-no-execute answer (made fb sb serving).round.address asleep.pending.is_pB2
+    sleeps-nobody name asleep = asks-no-execute answer (made fb sb serving).round.address asleep.pending.is_pb2
 
     pub awake-after : AllAwake (turn_on state file answer).3
     unfolding round_sent
@@ -195,10 +195,10 @@ module _
   unfolding frame_call
   msa_leaves = ap (λ (w : State × Position). w.0.file) (frame-plain names s p msa_sent (replicate slots 0))
 
-  no_execute : (decode (call_on names s p (frame_call msa_sent)).0.file).pending_pB2 ≡ pb2_of configuration execute_operation → ⊥
+  no_execute : (decode (call_on names s p (frame_call msa_sent)).0.file).pending_pb2 ≡ pb2_of configuration execute_operation → ⊥
   no_execute execute =
       asks-no-execute sb serving fb (replicate slots 0) (address-sent sb serving)
-      (subst (λ (f : List ℕ). (decode f).pending_pB2 ≡ pb2_of configuration execute_operation) msa_leaves execute)
+      (subst (λ (f : List ℕ). (decode f).pending_pb2 ≡ pb2_of configuration execute_operation) msa_leaves execute)
 
   no_data : round_by_lem msa_sent ≡ msd → ⊥
   no_data is = no_msa (sym is ∙ address_is sb serving)
@@ -208,11 +208,11 @@ module _
   baptizes_nobody =
       rw (frames-are serving)
       (baptism.one_more_lem (baptism.in_frame (λ g name b. no_data b.is_msd))
-      (baptism.one_more_lem (baptism.in_frame (λ g name b. no_execute b.pending.is_pB2)) baptism.no_calls))
+      (baptism.one_more_lem (baptism.in_frame (λ g name b. no_execute b.pending.is_pb2)) baptism.no_calls))
 
   pub puts-nobody-to_sleep : NoneSleeps names s p (map frame_call (turn_frames s.file state answer))
   unfolding frame_call
   puts-nobody-to_sleep =
       rw (frames-are serving)
       (sleep.one_more_lem (sleep.in_frame (λ g name b. no_data b.is_msd))
-      (sleep.one_more_lem (sleep.in_frame (λ g name b. no_execute b.pending.is_pB2)) sleep.no_calls))
+      (sleep.one_more_lem (sleep.in_frame (λ g name b. no_execute b.pending.is_pb2)) sleep.no_calls))

@@ -26,8 +26,8 @@ use Rattle.naming.specs.Rules.Pass.{bits}
 use Rattle.naming.specs.Rules.RunGrounds.{start_ground}
 use Rattle.naming.specs.Rules.Step.{step_keeping_ground}
 use Rattle.naming.specs.Rules.Account.{Call, step, frame}
-use Rattle.naming.specs.Claims.Demand.{State, start_on, call_on, after_calls as afterRules, permitted as permittedByRules, OfBytes, of_step, of_frame}
-use Rattle.naming.specs.Claims.Sleep.{Wakes, wakesByStep, wakesByFrame, Woken, Woken.from_start as at_start, Woken.by_first_lem as atFirst, Woken.later as after_first_lem}
+use Rattle.naming.specs.Claims.Demand.{State, start_on, call_on, after_calls as after_rules, permitted as permitted_by_rules, OfBytes, of_step, of_frame}
+use Rattle.naming.specs.Claims.Sleep.{Wakes, wakes_by_step, wakes_by_frame, Woken, Woken.from_start as at_start, Woken.by_first_lem as at_first, Woken.later as after_first_lem}
 use Rattle.naming.proofs.Sleep.{step-wakes, no_round-wakes-nobody, stays_awake, counted-awake}
 use Rattle.naming.proofs.Summaries.{keeping-step-bytes, keeping-step-value, keeping_round-bytes}
 use Rattle.naming.proofs.Unasked.{step_unasked, frame_unasked, frame-plain}
@@ -36,7 +36,7 @@ use Rattle.demand.specs.Claims.DemandCalls.{CCall, ttpa_step, ttpa_step_keeping,
 use Rattle.demand.specs.Claims.DemandCalls.{returned, memory_after, after_calls, permitted, started, is-step, is-step_keeping, memory_of}
 use Rattle.demand.specs.Claims.DemandCalls.{arguments_of, arguments_of_all}
 use Rattle.demand.specs.Claims.Traces.{CallOrTrace, after_all, frame_call, frames_singly, singly}
-use Rattle.demand.specs.Claims.Sleep.{SomeWakes, this_one, later_one, MayWake, by_step, by_round, byRoundKeeping, by_trace, byTurn}
+use Rattle.demand.specs.Claims.Sleep.{SomeWakes, this_one, later_one, MayWake, by_step, by_round, by_round_keeping, by_trace, by_turn}
 use Rattle.demand.specs.Claims.Sleep.{WokenByCalls, from_start, by_first_lem, later, CallsStayAwake, CallsCountedAwake}
 use Rattle.demand.specs.Claims.Sleep.{NoSleepBy, in_step, in_frame, NoneSleeps, no_calls, one_more_lem, AwakeToEnd, awake_before, woken_by, woken_after, CCallsWake}
 use Rattle.demand.proofs.Traces.{singly-append, singly_of_bytes, all-sent-singly}
@@ -48,8 +48,8 @@ use Rattle.demand.proofs.Permitted.{calls-apart}
 
 -- calls in front of those that wake
 woken_behind : (names : List ℕ) (s : State) (p : Position) (cs : List Call) {ds : List Call} →
-    Woken names (afterRules names s p cs).0 (afterRules names s p cs).1 ds → Woken names s p (cs ++ ds)
-unfolding afterRules
+    Woken names (after_rules names s p cs).0 (after_rules names s p cs).1 ds → Woken names s p (cs ++ ds)
+unfolding after_rules
 woken_behind names s p [] w = w
 woken_behind names s p (c ∷ cs) w = after_first_lem (woken_behind names (call_on names s p c).0 (call_on names s p c).1 cs w)
 
@@ -58,7 +58,7 @@ frames_wake : (names : List ℕ) (s : State) (p : Position) {file : List ℕ} {x
     SomeWakes file xs → Woken names s p (map frame_call xs ++ ds)
 unfolding frame_call sent
 frames_wake names s p ds here (this_one {x = x} accepted other) =
-    atFirst (wakesByFrame (frame_unasked s.file x (replicate slots 0) ∙ ap (λ (f : List ℕ). sent_ground f x) here ∙ accepted) other)
+    at_first (wakes_by_frame (frame_unasked s.file x (replicate slots 0) ∙ ap (λ (f : List ℕ). sent_ground f x) here ∙ accepted) other)
 frames_wake names s p ds here (later_one {x = x} rest) =
     let next = call_on names s p (frame_call x) in
     let same : next.0.file ≡ (round_on s.file x (replicate slots 0)).2 = ap (λ (w : State × Position). w.0.file) (frame-plain names s p x (replicate slots 0)) in
@@ -75,18 +75,18 @@ module _ (names : List ℕ) (s : State) (p : Position) where
       Woken names s p (singly (arguments_of s.file c) ++ ds)
   unfolding singly arguments_of ground_of
   one-wakes ds e (by_step (is-step {buffer} {senders}) going) =
-      atFirst (wakesByStep (step_unasked s.file p names buffer ∙ none_of (ttpa_step buffer senders) e) (running-there going))
+      at_first (wakes_by_step (step_unasked s.file p names buffer ∙ none_of (ttpa_step buffer senders) e) (running-there going))
   one-wakes ds e (by_step (is-step_keeping {buffer} {senders} {held} {count}) going) =
-      atFirst (wakesByStep (none_of (ttpa_step_keeping buffer senders held count) e) (running-there going))
+      at_first (wakes_by_step (none_of (ttpa_step_keeping buffer senders held count) e) (running-there going))
   one-wakes ds e (by_round {bytes} {buffer} {senders} other) =
-      atFirst (wakesByFrame (frame_unasked s.file bytes buffer ∙ none_of (ttpa_round bytes buffer senders) e) other)
-  one-wakes ds e (byRoundKeeping {bytes} {buffer} {senders} {held} {count} other) =
-      atFirst (wakesByFrame (none_of (ttpa_round_keeping bytes buffer senders held count) e) other)
+      at_first (wakes_by_frame (frame_unasked s.file bytes buffer ∙ none_of (ttpa_round bytes buffer senders) e) other)
+  one-wakes ds e (by_round_keeping {bytes} {buffer} {senders} {held} {count} other) =
+      at_first (wakes_by_frame (none_of (ttpa_round_keeping bytes buffer senders held count) e) other)
   one-wakes ds e (by_trace {t} {report} some) =
       unfold frames_singly in
       rw (run-whole s.file t (none_of (ttpa_trace_lem t report) e), append-nil (map frame_call (frames_of t)))
       (frames_wake names s p ds refl some)
-  one-wakes ds e (byTurn {state} {buffer} some) = rw (frames_alone (turn_frames s.file state buffer)) (frames_wake names s p ds refl some)
+  one-wakes ds e (by_turn {state} {buffer} some) = rw (frames_alone (turn_frames s.file state buffer)) (frames_wake names s p ds refl some)
 
   -- what wakes behind calls and traces
   wakes-behind : (cs : List CallOrTrace) {ds : List Call} → Woken names (after_all names s p cs).0 (after_all names s p cs).1 ds →
@@ -118,10 +118,10 @@ module _ (file names run : List ℕ) (none : start_ground names ≡ 0) where
   begun = started file names run
 
   front-may : (calls more : List CCall) → permitted false names begun (calls ++ more) ≡ true →
-      permittedByRules names (start_on file) (fresh names)
+      permitted_by_rules names (start_on file) (fresh names)
       (by_rules names begun calls ++ by_rules names (after_calls names begun calls) more) ≡ true
   front-may calls more may =
-      ap (permittedByRules names (start_on file) (fresh names)) (sym (calls-apart names begun calls more))
+      ap (permitted_by_rules names (start_on file) (fresh names)) (sym (calls-apart names begun calls more))
       ∙ sym (start-same file names run none (calls ++ more))
       ∙ may
 
@@ -165,9 +165,9 @@ module _ (names : List ℕ) (nb : Bytes names) (s : State) (p : Position) where
   call-wakes : {c : Call} → OfBytes c → Bytes s.file → p.place.value < 2 ^ bits → Wakes names s p c → NoSleepBy s c →
       AllAwake (call_on names s p c).0.file
   unfolding call_on
-  call-wakes of_step fb small (wakesByStep {arguments} k going) none =
+  call-wakes of_step fb small (wakes_by_step {arguments} k going) none =
       step-wakes s.file p names arguments.summary arguments.buffer fb nb small k going
-  call-wakes (of_frame rb) fb small (wakesByFrame {arguments} k other) (in_frame none) =
+  call-wakes (of_frame rb) fb small (wakes_by_frame {arguments} k other) (in_frame none) =
       rw (keeping-accepted s.file arguments.summary arguments.bytes arguments.buffer k)
       (frame-wakes s.file arguments.bytes arguments.buffer fb rb
       (keeping-round s.file arguments.summary arguments.bytes arguments.buffer k) other (none k))
@@ -194,8 +194,8 @@ module _ (names : List ℕ) (nb : Bytes names) (s : State) (p : Position) where
 module _ (names : List ℕ) (nb : Bytes names) where
   all_stay :
       (s : State) (p : Position) {cs : List Call} → Bytes s.file → p.place.value < 2 ^ bits → All OfBytes cs → NoneSleeps names s p cs →
-      AllAwake s.file → AllAwake (afterRules names s p cs).0.file
-  unfolding afterRules
+      AllAwake s.file → AllAwake (after_rules names s p cs).0.file
+  unfolding after_rules
   all_stay s p fb small os no_calls up = up
   all_stay s p fb small (all_next {a = c} o os) (one_more_lem none rest) up =
       all_stay (call_on names s p c).0 (call_on names s p c).1 (next-bytes names nb s p c o fb small) (next-value names nb s p c small) os
@@ -204,8 +204,8 @@ module _ (names : List ℕ) (nb : Bytes names) where
 
   all-wake :
       (s : State) (p : Position) {cs : List Call} → Bytes s.file → p.place.value < 2 ^ bits → All OfBytes cs → AwakeToEnd names s p cs →
-      AllAwake (afterRules names s p cs).0.file
-  unfolding afterRules
+      AllAwake (after_rules names s p cs).0.file
+  unfolding after_rules
   all-wake s p fb small os (awake_before up none) = all_stay s p fb small os none up
   all-wake s p fb small (all_next {a = c} o os) (woken_by wakes (one_more_lem none rest)) =
       all_stay (call_on names s p c).0 (call_on names s p c).1 (next-bytes names nb s p c o fb small) (next-value names nb s p c small) os

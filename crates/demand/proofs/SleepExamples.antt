@@ -30,18 +30,18 @@ use Rattle.naming.specs.Rules.Step.{step_keeping}
 use Rattle.naming.specs.Rules.Account.{names_of, names_in_lem, names_held, unnamed_among, insert, falling, end_with, account_of, extra, one_round, arguments_ground, account_call, account_after}
 use Rattle.naming.specs.Claims.Demand.{start_on}
 use Rattle.naming.specs.Claims.PermittedRounds.{no_rounds, multipartner_next, SentBy, no_frames, one_more_lem}
-use Rattle.naming.specs.Claims.Sleep.{wakesByFrame}
+use Rattle.naming.specs.Claims.Sleep.{wakes_by_frame}
 use Rattle.naming.specs.Claims.Cases.{answer_buffer}
 use Rattle.file.proofs.BytesBelow.{all_below, bytes_below}
 use Rattle.naming.proofs.Sleep.{no_round-wakes-nobody}
 use Rattle.naming.proofs.Unasked.{step_unasked, frame_unasked}
 use Rattle.naming.proofs.Witnesses.{sleeper, sleeper_bytes, sleeper_accepted, sleeper_sleeps, one_name, one-name-accepted, first-accepted}
-use Rattle.convert.proofs.Examples.{examples as convertExamples}
+use Rattle.convert.proofs.Examples.{examples as convert_examples}
 use Rattle.ttpa.specs.Rules.Calls.{start_call, words_of, position_in}
 use Rattle.demand.specs.Claims.Traces.{frame_call, frames_singly, singly}
 use Rattle.demand.specs.Claims.DemandCalls.{CCall, ttpa_step, ttpa_round, ttpa_trace_lem, GivenBytes, given-step, given-frame, given-trace, Memory, returned, after_calls}
 use Rattle.demand.specs.Claims.DemandCalls.{permitted, calls_fed, started, is-step, memory_of, arguments_of, arguments_of_all}
-use Rattle.demand.specs.Claims.Sleep.{this_one, MayWake, by_step, by_round, by_trace, by_first_lem, in_frame, NoneSleeps.one_more_lem as oneAwake, no_calls, woken_by}
+use Rattle.demand.specs.Claims.Sleep.{this_one, MayWake, by_step, by_round, by_trace, by_first_lem, in_frame, NoneSleeps.one_more_lem as one_awake, no_calls, woken_by}
 use Rattle.demand.proofs.Traces.{zeros-long}
 use Rattle.demand.proofs.DemandCalls.{ground_of, call-number, accepted-runs, start-number, start-memory, steps-permitted, demand_over_calls}
 use Rattle.demand.proofs.Permitted.{rounds-fit_calls}
@@ -58,7 +58,7 @@ unfolding one_data broken_trace whole_rows data_place_lem frame_count data_lengt
 trace-runs = none-holds sleeper one_data sleeper_accepted refl
 
 data-taken : sent_ground sleeper (0x49 ∷ []) ≡ 0
-unfolding convertExamples sleeper no_operation broadcast_read round_ground short_answer frame_ground grounds_on round_by_lem round_of round_in no_firework
+unfolding convert_examples sleeper no_operation broadcast_read round_ground short_answer frame_ground grounds_on round_by_lem round_of round_in no_firework
     wrong_length_on length_for write_pending frames.wrong_frame_length wrong_check_on no_operation_on broadcast_read_on pending_duty duty_by execution_of
 data-taken = refl
 
@@ -198,5 +198,5 @@ sleeper_sent =
     c_calls_wake sleeper (5 ∷ []) (fresh (5 ∷ [])) one_msd sleeper_bytes one_name (unfold fresh in omega arith)
     (all_next (given-frame (bytes_below (0x49 ∷ []) (unfold all_below both in refl))) all_empty)
     (woken_by
-    (wakesByFrame (frame_unasked sleeper (0x49 ∷ []) answer_buffer ∙ data-taken) (λ e. let z : ◌≡◌ {A = ℕ} 0 1 = cc in omega arith))
-    (oneAwake (in_frame (λ accepted. nothing-pending)) no_calls))
+    (wakes_by_frame (frame_unasked sleeper (0x49 ∷ []) answer_buffer ∙ data-taken) (λ e. let z : ◌≡◌ {A = ℕ} 0 1 = cc in omega arith))
+    (one_awake (in_frame (λ accepted. nothing-pending)) no_calls))

@@ -24,7 +24,7 @@ use Rattle.master_slave.specs.Rules.Bus.{slots}
 use Rattle.cluster.specs.Rules.Round.{round_ground, round_on}
 use Rattle.cluster.specs.Rules.Summary.{Summary, without, kept, wrong_summary, round_keeping_ground, round_keeping, Held, nobody, at, first_holder}
 use Rattle.cluster.specs.Claims.Renaming.{names_of}
-use Rattle.cluster.specs.Claims.Summary.{Matches, given_names, LeavesRest, ofNames}
+use Rattle.cluster.specs.Claims.Summary.{Matches, given_names, LeavesRest, of_names}
 use Rattle.cluster.proofs.Rounds.{round-refused, round-bytes}
 use Rattle.cluster.proofs.SummaryLaws.{matches_exactly, matches_right, rest-same, rest_trans}
 use Rattle.cluster.proofs.Keeping.{rounds_in_order, round-refused_by_24, keeping_refused, keeping-accepted, round_keeps_summary, same_names}
@@ -46,10 +46,10 @@ use Rattle.ttpa.specs.Rules.Calls.{nobody_place, place_of, holder_call, slice_of
 use Rattle.demand.specs.Claims.DemandCalls.{CCall, GivenBytes, given-step, given-step_keeping, given-frame, given-frame-keeping}
 use Rattle.demand.specs.Claims.DemandCalls.{given-trace, given-turn, Memory, returned, memory_after, after_calls, permitted_call, halfway_on}
 use Rattle.demand.specs.Claims.DemandCalls.{permitted, TakenByRounds}
-use Rattle.demand.specs.Claims.Summary.{Made, other_file, made_on, all_made_lem, Keeps, in_round, in_step_lem, inOther, in_turn, none_made_lem, nextMade}
+use Rattle.demand.specs.Claims.Summary.{Made, other_file, made_on, all_made_lem, Keeps, in_round, in_step_lem, in_other, in_turn, none_made_lem, next_made}
 use Rattle.demand.specs.Claims.Summary.{KeptByCalls, AnswersAsRead, FilledAndAsked, slice_aside, step_slice_aside, RoundsWithSummary}
 use Rattle.demand.specs.Claims.Summary.{StepsWithSummary}
-use Rattle.demand.specs.Claims.Summary.{GivenRight, step_without, round_without, trace_without, turn_without, stepMatching, roundMatching}
+use Rattle.demand.specs.Claims.Summary.{GivenRight, step_without, round_without, trace_without, turn_without, step_matching, round_matching}
 use Rattle.demand.specs.Claims.Summary.{no_calls, one_more_lem, without_summary, numbers, NoDifference, GivenMakesNoDifferenceInCalls}
 use Rattle.screens.specs.Rules.Turn.{turn_on}
 use Rattle.screens.proofs.Names.{turn_keeps_summary}
@@ -202,7 +202,7 @@ steps_with_summary file run names buffer senders held count =
 -- a summary that has its count is its slice with it
 slice_back : {count : ℕ} {held : List ℕ} {summary : Summary} → LeavesRest (kept count held) summary → summary ≡ kept count (slice_of summary)
 unfolding slice_of
-slice_back (ofNames size same) = refl
+slice_back (of_names size same) = refl
 
 in-slice :
     (file : List ℕ) {count : ℕ} {held : List ℕ} {summary : Summary} → Matches file summary × LeavesRest (kept count held) summary →
@@ -250,7 +250,7 @@ one_kept file held count fb (in_round {bytes} {buffer} rb) m =
 one_kept file held count fb (in_step_lem {run} {names} {buffer} nb small) m =
     in-slice (step_keeping file (position_in run) names (kept count held) buffer).3
     (step_keeps_summary file (position_in run) names (kept count held) buffer fb nb small m)
-one_kept file held count fb (inOther {run} {names} {c} nb small given stay) m =
+one_kept file held count fb (in_other {run} {names} {c} nb small given stay) m =
     (same_names file (other_file file run names c) stay m, rest-same (kept count held))
 one_kept file held count fb (in_turn {state = state} {buffer = buffer} sb) m =
     (unfold memory_after turn_call in turn_keeps_summary state file buffer (kept count held) sb fb m, rest-same (kept count held))
@@ -260,14 +260,14 @@ unfolding made_on round_keeping_call step_keeping_call
 one-bytes file held count fb (in_round {bytes} {buffer} rb) = keeping_round-bytes file (kept count held) bytes buffer fb rb
 one-bytes file held count fb (in_step_lem {run} {names} {buffer} nb small) =
     keeping-step-bytes file (position_in run) names (kept count held) buffer fb nb small
-one-bytes file held count fb (inOther {run} {names} nb small given stay) = other-bytes file run names fb nb small given
+one-bytes file held count fb (in_other {run} {names} nb small given stay) = other-bytes file run names fb nb small given
 one-bytes file held count fb (in_turn {state = state} {buffer = buffer} sb) =
     unfold memory_after turn_call in turn-bytes file state buffer fb sb
 
 pub kept_by_calls : KeptByCalls
 unfolding all_made_lem
 kept_by_calls file held count [] fb none_made_lem m = (m, rest-same (kept count held))
-kept_by_calls file held count (c ∷ cs) fb (nextMade k ks) m =
+kept_by_calls file held count (c ∷ cs) fb (next_made k ks) m =
     let (matches, rest) = one_kept file held count fb k m in
     let (after, later) = kept_by_calls (made_on count file held c).0 (made_on count file held c).1 count cs (one-bytes file held count fb k) ks matches in
     (after, rest_trans rest later)
@@ -361,7 +361,7 @@ given-same names m step_without = record { number = refl; memory = refl; may = �
 given-same names m round_without = record { number = refl; memory = refl; may = λ h. refl; halfway = λ h. refl }
 given-same names m trace_without = record { number = refl; memory = refl; may = λ h. refl; halfway = λ h. refl }
 given-same names m turn_without = record { number = refl; memory = refl; may = λ h. refl; halfway = λ h. refl }
-given-same names m (stepMatching {buffer} {senders} {held} {count} right) =
+given-same names m (step_matching {buffer} {senders} {held} {count} right) =
     let given = steps_with_summary m.file m.run names buffer senders held count in
     let same = given.same (λ e. (given.by24.0 e).1 right) in
     record {
@@ -370,7 +370,7 @@ given-same names m (stepMatching {buffer} {senders} {held} {count} right) =
       may = λ h. unfold permitted_call in refl;
       halfway = λ h. unfold halfway_on in refl;
     }
-given-same names m (roundMatching {bytes} {buffer} {senders} {held} {count} right) =
+given-same names m (round_matching {bytes} {buffer} {senders} {held} {count} right) =
     let given = rounds_with_summary m.file bytes buffer senders held count in
     let same = given.same (λ e. (given.by24.0 e).1 right) in
     record {

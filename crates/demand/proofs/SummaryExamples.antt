@@ -29,8 +29,8 @@ use Rattle.naming.proofs.Examples.{m10_accepted}
 use Rattle.ttpa.specs.Rules.Calls.{fill_call, start_call, words_of, position_in, round_call, round_keeping_call}
 use Rattle.demand.specs.Claims.DemandCalls.{CCall, ttpa_step_keeping, ttpa_round, ttpa_step, given-step, given-step_keeping, given-frame, memory_after, after_calls}
 use Rattle.demand.specs.Claims.DemandCalls.{started, CallsDemand, is-step, is-step_keeping}
-use Rattle.demand.specs.Claims.Summary.{Made, keeping_round, keeping_step_lem, other, other_file, in_round, in_step_lem, inOther, AllKeep, none_made_lem, nextMade, AnswersAsRead, filled_and_made}
-use Rattle.demand.specs.Claims.Summary.{AllGivenRight, one_more_lem, no_calls, stepMatching, step_without, round_without}
+use Rattle.demand.specs.Claims.Summary.{Made, keeping_round, keeping_step_lem, other, other_file, in_round, in_step_lem, in_other, AllKeep, none_made_lem, next_made, AnswersAsRead, filled_and_made}
+use Rattle.demand.specs.Claims.Summary.{AllGivenRight, one_more_lem, no_calls, step_matching, step_without, round_without}
 use Rattle.demand.proofs.DemandCalls.{accepted-runs, start-number, steps-permitted, demand_over_calls}
 use Rattle.demand.proofs.Summary.{filled_and_asked, rounds_with_summary}
 
@@ -82,9 +82,9 @@ names_stay = only-baptizing_renames m10_file (0x78 ∷ []) answer_buffer m10_byt
 m10_keep : (count : ℕ) (held : List ℕ) → AllKeep count m10_file held m10_calls
 unfolding m10_calls
 m10_keep count held =
-    nextMade (inOther {run = []} all_empty (unfold position_in in omega arith) (given-frame multipartner-bytes) names_stay)
-    (nextMade (in_step_lem {run = words_of (fresh (1 ∷ 2 ∷ []))} one-two (unfold words_of position_in fresh in omega arith))
-    (nextMade (in_round multipartner-bytes) (nextMade (in_round all_empty) none_made_lem)))
+    next_made (in_other {run = []} all_empty (unfold position_in in omega arith) (given-frame multipartner-bytes) names_stay)
+    (next_made (in_step_lem {run = words_of (fresh (1 ∷ 2 ∷ []))} one-two (unfold words_of position_in fresh in omega arith))
+    (next_made (in_round multipartner-bytes) (next_made (in_round all_empty) none_made_lem)))
 
 m10-asked :
     AnswersAsRead (filled_and_made m10_file (0 ∷ 0 ∷ 9 ∷ []) 0 m10_calls).0 (filled_and_made m10_file (0 ∷ 0 ∷ 9 ∷ []) 0 m10_calls).1
@@ -107,7 +107,7 @@ mixed_calls = ttpa_step_keeping answer_buffer 0 (0xFF ∷ 0xFF ∷ 9 ∷ []) 2 �
 
 mixed_given : (run : List ℕ) → AllGivenRight (1 ∷ 2 ∷ []) (started m10_file (1 ∷ 2 ∷ []) run) mixed_calls
 unfolding mixed_calls
-mixed_given run = one_more_lem (stepMatching m10_matches) (one_more_lem step_without (one_more_lem round_without no_calls))
+mixed_given run = one_more_lem (step_matching m10_matches) (one_more_lem step_without (one_more_lem round_without no_calls))
 
 -- and demand 3 of a list that has a step with a summary that does not match, which is refused by 24
 refused_calls : List CCall

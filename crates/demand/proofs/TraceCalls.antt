@@ -20,7 +20,7 @@ use Rattle.trace.proofs.Runs.{sent_any}
 use Rattle.trace.proofs.Calls.{trace-run}
 use Rattle.ttpa.specs.Rules.Calls.{lent_after, round_call, trace_call}
 use Rattle.demand.specs.Claims.DemandCalls.{CCall, ttpa_round, ttpa_round_keeping, Memory, returned, memory_after, after_calls}
-use Rattle.demand.specs.Claims.Summary.{roundMatching, without_summary}
+use Rattle.demand.specs.Claims.Summary.{round_matching, without_summary}
 use Rattle.demand.specs.Claims.TraceCalls.{RoundsFor, no_rounds, next_round, next_keeping, TracesAreRounds}
 use Rattle.demand.proofs.DemandCalls.{round_number, trace-number}
 use Rattle.demand.proofs.Summary.{given-same}
@@ -42,13 +42,13 @@ module _ (names : List ℕ) (m : Memory) (x buffer : List ℕ) (senders : ℕ) (
   -- so of a call of ttpa_round_keeping
   module _ (held : List ℕ) (count : ℕ) (right : Matches m.file (kept count held)) where
     keeping_memory : memory_after names m (ttpa_round_keeping x buffer senders held count) ≡ record { file = (sent m.file x).2; run = m.run }
-    keeping_memory = (given-same names m (roundMatching right)).memory ∙ unfold without_summary in round-memory
+    keeping_memory = (given-same names m (round_matching right)).memory ∙ unfold without_summary in round-memory
 
     keeping-counted :
         (r : Report) → cond (eqb (returned names m (ttpa_round_keeping x buffer senders held count)) 0) (one_carried (round_by_lem x) r) (one_refused r) ≡
         counted (sent m.file x).0 (round_by_lem x) r
     keeping-counted r =
-        ap (λ (n : ℕ). cond (eqb n 0) (one_carried (round_by_lem x) r) (one_refused r)) (given-same names m (roundMatching right)).number
+        ap (λ (n : ℕ). cond (eqb n 0) (one_carried (round_by_lem x) r) (one_refused r)) (given-same names m (round_matching right)).number
         ∙ unfold without_summary in round-counted r
 
 rounds-memory : (names : List ℕ) {m : Memory} {xs : List (List ℕ)} {cs : List CCall} {r q : Report} → RoundsFor names m xs cs r q →

@@ -26,7 +26,7 @@ use Rattle.cluster.specs.Rules.Summary.{kept, wrong_summary}
 use Rattle.cluster.specs.Claims.Summary.{Matches, given_names, LeavesRest}
 use Rattle.naming.specs.Rules.Account.{names_of, names_in_lem, names_held, unnamed_among, insert, falling, end_with, account_of, go_on_lem, free_pass, pass}
 use Rattle.naming.specs.Rules.Account.{pass_on, bit_clear, naming_rounds, extra, one_round, arguments_ground, account_call, account_after}
-use Rattle.naming.specs.Rules.Position.{fresh as firstPosition}
+use Rattle.naming.specs.Rules.Position.{fresh as first_position_lem}
 use Rattle.naming.specs.Claims.Demand.{start_on}
 use Rattle.naming.specs.Claims.Cases.{answer_buffer}
 use Rattle.naming.proofs.Witnesses.{sleeper, sleeper_bytes, sleeper_accepted, one_name, one-name-accepted}
@@ -41,7 +41,7 @@ use Rattle.demand.specs.Claims.DemandCalls.{memory_of, arguments_of, arguments_o
 use Rattle.demand.specs.Claims.Traces.{singly}
 use Rattle.demand.specs.Claims.Pending.{in_frame, no_calls, one_more_lem}
 use Rattle.demand.specs.Claims.Turns.{Serves, a_step, a_turn}
-use Rattle.demand.specs.Claims.Summary.{Made, other, all_made_lem, in_turn, none_made_lem, nextMade}
+use Rattle.demand.specs.Claims.Summary.{Made, other, all_made_lem, in_turn, none_made_lem, next_made}
 use Rattle.screens.proofs.ScreenGrounds.{turn-none, turn-edition}
 use Rattle.screens.proofs.ScreenEditions.{turns-converted}
 use Rattle.ttpa.proofs.Turns.{turn_keeps_summary-call, PostedThenEight, posted_then_eight_over_calls}
@@ -147,7 +147,7 @@ summary-kept-by-calls :
     Matches (all_made_lem 1 sleeper (0xFF ∷ 9 ∷ []) turn_made).0 (kept 1 (all_made_lem 1 sleeper (0xFF ∷ 9 ∷ []) turn_made).1) ×
     LeavesRest (kept 1 (0xFF ∷ 9 ∷ [])) (kept 1 (all_made_lem 1 sleeper (0xFF ∷ 9 ∷ []) turn_made).1)
 summary-kept-by-calls =
-    kept_by_calls sleeper (0xFF ∷ 9 ∷ []) 1 turn_made sleeper_bytes (nextMade (in_turn waiting-bytes) none_made_lem) unnamed-matches
+    kept_by_calls sleeper (0xFF ∷ 9 ∷ []) 1 turn_made sleeper_bytes (next_made (in_turn waiting-bytes) none_made_lem) unnamed-matches
 
 -- on the widened file it answers the same, and leaves the widened form of the file that it leaves
 sleeper-widened :
@@ -166,7 +166,7 @@ no_edition_lem rest = 0x54 ∷ 0x41 ∷ 3 ∷ replicate 13 rest
 
 unknown_edition-turned : (turn_on waiting (no_edition_lem 0) answer_buffer).0 ≡ (turn_on waiting (no_edition_lem 0xFF) []).0
 unknown_edition-turned =
-    turn-edition.ofState waiting (no_edition_lem 0) (no_edition_lem 0xFF) answer_buffer [] refl refl
+    turn-edition.of_state waiting (no_edition_lem 0) (no_edition_lem 0xFF) answer_buffer [] refl refl
     (record { one = λ e. omega (arith, e); two = λ e. omega (arith, e) })
 
 -- with another state, which has no ground either
@@ -188,12 +188,12 @@ abbrev without_msa : List CCall
 without_msa = ttpa_round (0x78 ∷ []) answer_buffer 0 ∷ ttpa_turn (8 ∷ replicate 32 0) answer_buffer 0 0 ∷ []
 
 sleeper-pending :
-    Pending (decode (after_calls (5 ∷ []) (memory_of (start_on sleeper) (firstPosition (5 ∷ []))) without_msa).file)
-    (decode sleeper).flag (decode sleeper).pending_name (decode sleeper).pending_pB2 (decode sleeper).pending_pB3
+    Pending (decode (after_calls (5 ∷ []) (memory_of (start_on sleeper) (first_position_lem (5 ∷ []))) without_msa).file)
+    (decode sleeper).flag (decode sleeper).pending_name (decode sleeper).pending_pb2 (decode sleeper).pending_pb3
 unfolding singly arguments_of_all arguments_of turn_frames frames_served turn_on turn_ground state_grounds first_of no_screen last_served result_of
     round_by_lem round_of round_in
 sleeper-pending =
-    c_calls_stay_pending sleeper (5 ∷ []) (firstPosition (5 ∷ [])) without_msa sleeper_bytes
+    c_calls_stay_pending sleeper (5 ∷ []) (first_position_lem (5 ∷ [])) without_msa sleeper_bytes
     (all_next (given-frame (bytes_below (0x78 ∷ []) (unfold all_below both in refl)))
     (all_next (given-turn (bytes_below (8 ∷ replicate 32 0) (unfold all_below both in refl))) all_empty))
     (one_more_lem (in_frame (λ g taken. let same = taken.is_msa in let z : ◌≡◌ {A = ℕ} 0 1 = cc in omega arith)) no_calls)

@@ -19,7 +19,7 @@ use Rattle.master_slave.specs.Rules.Slaves.{next_epoch}
 use Rattle.cluster.specs.Rules.MasterSlave.{address_sent, data_sent, round_sent}
 use Rattle.master_slave.proofs.Kept.{next_epoch-byte}
 use Rattle.naming.specs.Claims.Permitted.{MayAsk}
-use Rattle.naming.specs.Claims.PermittedRounds.{Rounds, no_rounds, masterSlaveNext, address_of, of_other_lem, no_frames}
+use Rattle.naming.specs.Claims.PermittedRounds.{Rounds, no_rounds, master_slave_next, address_of, of_other_lem, no_frames}
 use Rattle.screens.specs.Rules.Screens.{read_of}
 use Rattle.screens.specs.Rules.Turn.{idle, served_by, read_sent, turn_on}
 use Rattle.ttpa.specs.Rules.Calls.{start_call, none_waited, turn_screen, turn_call}
@@ -135,7 +135,7 @@ turns-send-rounds file state answer sb = by (turn_case file state answer)
         let r = read_of state i in
         rw (frames-are serving)
         (unfold address_sent data_sent read_sent address_of in
-        masterSlaveNext {a = parts (next_epoch (decode file).epoch) r.name r.file read_operation r.«record»}
+        master_slave_next {a = parts (next_epoch (decode file).epoch) r.name r.file read_operation r.«record»}
         (record {
           epoch = next_epoch-byte (decode file).epoch;
           name = may.name;

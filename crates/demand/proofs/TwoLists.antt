@@ -40,7 +40,7 @@ use Rattle.demand.specs.Claims.DemandCalls.{given-step, given-step_keeping, IsSt
 use Rattle.demand.specs.Claims.DemandCalls.{slaves_in, TakenByRounds, started, memory_of, arguments_of, arguments_of_all}
 use Rattle.demand.specs.Claims.Traces.{frame_call, frames_singly, singly, after_trace, call_or_trace_on, after_all}
 use Rattle.demand.specs.Claims.TwoLists.{ToItsEnd, file_after, run_after, TwoListsOverCalls, JoinedStarts, CommonReturns}
-use Rattle.demand.specs.Claims.TwoLists.{step_taken, steps_taken, RunsEndOverCalls, LongStep, long, longKeeping, EveryRunEndsOverCalls, EndMarkOverCalls}
+use Rattle.demand.specs.Claims.TwoLists.{step_taken, steps_taken, RunsEndOverCalls, LongStep, long, long_keeping, EveryRunEndsOverCalls, EndMarkOverCalls}
 use Rattle.demand.specs.Claims.Summary.{without_summary, numbers}
 use Rattle.demand.specs.Claims.TwoLists.{SecondFindsOverCalls, TwoRunsOverCalls}
 use Rattle.demand.proofs.Traces.{after_singly, frames-singly, singly-append, singly_of_bytes, trace-sent-singly}
@@ -240,11 +240,11 @@ steps-zeros names m (also {a = c} is-step_keeping rest) = ap (λ (k : ℕ). cond
 
 long-step : {c : CCall} → LongStep c → IsStep c
 long-step (long fits) = is-step
-long-step (longKeeping fits) = is-step_keeping
+long-step (long_keeping fits) = is-step_keeping
 
 long-given : {c : CCall} → LongStep c → GivenBytes c
 long-given (long fits) = given-step
-long-given (longKeeping fits) = given-step_keeping
+long-given (long_keeping fits) = given-step_keeping
 
 plain_long : {c : CCall} → PlainStep c → LongStep c
 plain_long (plain fits) = long fits
@@ -253,7 +253,7 @@ without_plain : {calls : List CCall} → All LongStep calls → All PlainStep (m
 unfolding without_summary
 without_plain all_empty = all_empty
 without_plain (also (long fits) ls) = also (plain fits) (without_plain ls)
-without_plain (also (longKeeping fits) ls) = also (plain fits) (without_plain ls)
+without_plain (also (long_keeping fits) ls) = also (plain fits) (without_plain ls)
 
 pub every_run-ends_over_calls : EveryRunEndsOverCalls
 every_run-ends_over_calls file b taken names n run starts calls ls right enough =

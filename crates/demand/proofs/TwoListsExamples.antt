@@ -9,7 +9,7 @@ use mathlib.Core.Path.{◌≡◌, refl, sym, ap, ◌∙◌}
 use mathlib.Core.List.{List, [], ◌∷◌, ◌++◌, map}
 use mathlib.Core.Bool.{true, false}
 use lib.ListN.{length, replicate, get_or, drop, length-replicate}
-use Rattle.demand.specs.Claims.Summary.{AllGivenRight, AllGivenRight.one_more_lem as nextGiven, no_calls, step_without, stepMatching}
+use Rattle.demand.specs.Claims.Summary.{AllGivenRight, AllGivenRight.one_more_lem as next_given, no_calls, step_without, step_matching}
 use Rattle.demand.proofs.SummaryExamples.{m10_matches}
 use Rattle.file.specs.Rules.Layout.{width_of}
 use Rattle.file.specs.Rules.Bytes.{Bytes, All, All.all_empty, All.all_next as also, number_of, part, all_zero}
@@ -47,7 +47,7 @@ use Rattle.demand.specs.Claims.DemandCalls.{is-step, Memory, after_calls, permit
 use Rattle.demand.specs.Claims.DemandCalls.{arguments_of_all, memory_after, turn_frames}
 use Rattle.demand.specs.Claims.Turns.{Serves, a_step, a_turn}
 use Rattle.demand.specs.Claims.Traces.{frame_call, frames_singly, singly}
-use Rattle.demand.specs.Claims.TwoLists.{ToItsEnd, file_after, run_after, steps_taken, LongStep, long, longKeeping}
+use Rattle.demand.specs.Claims.TwoLists.{ToItsEnd, file_after, run_after, steps_taken, LongStep, long, long_keeping}
 use Rattle.demand.proofs.Traces.{zeros-long, singly-append}
 use Rattle.demand.proofs.DemandCalls.{accepted-runs, runs-accepted, start-number, steps-permitted, throughout_calls, demand_over_calls, by_rules}
 use Rattle.demand.proofs.DemandCalls.{frames_alone}
@@ -311,7 +311,7 @@ steps-long (suc n) = also (long zeros-long) (steps-long n)
 
 steps_right : (names : List ℕ) (m : Memory) (n : ℕ) → AllGivenRight names m (steps n)
 steps_right names m zero = no_calls
-steps_right names m (suc n) = nextGiven step_without (steps_right names (memory_after names m (long_call 0)) n)
+steps_right names m (suc n) = next_given step_without (steps_right names (memory_after names m (long_call 0)) n)
 
 steps-end :
     (file : List ℕ) → Bytes file → TakenByRounds file → {names : List ℕ} → Listed names → (run : List ℕ) →
@@ -326,7 +326,7 @@ unfolding three_runs
 summary-first =
     let due = ap (λ (ss : List Named). rounds_for ss (1 ∷ [])) m10_slaves ∙ ap (λ (l : List ℕ). get_or l 1 0) names-fewer in
     every_run-ends_over_calls m10_file m10_bytes m10_taken (1 ∷ []) name_1.bytes words (starts name_1 words) _
-    (also (longKeeping zeros-long) (steps-long 135)) (nextGiven (stepMatching m10_matches) (steps_right (1 ∷ []) _ 135))
+    (also (long_keeping zeros-long) (steps-long 135)) (next_given (step_matching m10_matches) (steps_right (1 ∷ []) _ 135))
     (omega (arith, due, length-replicate 135 (long_call 0)))
 
 -- ---- with summaries, refused steps, a multipartner round and a trace of one among the steps

@@ -12,7 +12,7 @@ use lib.Dec.{leb}
 use borrow.Author.Tests.{leb-true, le-leb}
 use Rattle.file.specs.Rules.Bytes.{All, Bytes}
 use Rattle.file.specs.Rules.Layout.{OffsetWidth, edition_of, zeros_length, header_size, entry_size_lem, max_slaves, max_length}
-use Rattle.file.specs.Rules.Layout.{epoch_place, flag_place, pending_name_place, pending_pB2_place, pending_pB3_place}
+use Rattle.file.specs.Rules.Layout.{epoch_place, flag_place, pending_name_place, pending_pb2_place, pending_pb3_place}
 use Rattle.file.specs.Rules.Cluster.{Slave, Cluster}
 use Rattle.file.specs.Rules.Encode.{slaves_bytes, table, slaves_place, file_length, header, encode_at}
 use Rattle.file.specs.Rules.Decode.{offset_at, slaves_at, decode_at}
@@ -123,7 +123,7 @@ module _ {w : ℕ} (wide : Width w) where
     unfolding decode_at
     accepted-legal width b a =
         let e : Encoded w f (decode_at w f) = accepted-encoded b a in
-        let pending : PendingFits (get_or f (flag_place w) 0) (get_or f (pending_name_place w) 0) (get_or f (pending_pB2_place w) 0) =
+        let pending : PendingFits (get_or f (flag_place w) 0) (get_or f (pending_name_place w) 0) (get_or f (pending_pb2_place w) 0) =
         (pending-fits _ _ _).0 a.header.pending
         in
         record {
@@ -135,8 +135,8 @@ module _ {w : ℕ} (wide : Width w) where
                 epoch = byte_at b (epoch_place w);
                 flag = pending.most;
                 name = byte_at b (pending_name_place w);
-                pb2 = byte_at b (pending_pB2_place w);
-                pb3 = byte_at b (pending_pB3_place w);
+                pb2 = byte_at b (pending_pb2_place w);
+                pb3 = byte_at b (pending_pb3_place w);
                 operation = pending.operation;
                 broadcast_read = pending.broadcast_read;
               };
@@ -176,7 +176,7 @@ module _ {w : ℕ} (wide : Width w) where
                 zeros = zeros_stand (zeros_length w) h.zeros;
                 pending =
                     rw (h.flag, h.name, h.pb2)
-                    ((pending-fits c.flag c.pending_name c.pending_pB2).1
+                    ((pending-fits c.flag c.pending_name c.pending_pb2).1
                     (record { most = l.pending.flag; operation = l.pending.operation; broadcast_read = l.pending.broadcast_read }));
               };
           layout =

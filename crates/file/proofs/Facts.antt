@@ -11,7 +11,7 @@ use lib.Seq.{drop-cons}
 use lib.Dec.{eqb}
 use Rattle.file.specs.Rules.Order.{both}
 use Rattle.file.specs.Rules.Bytes.{part, all_zero}
-use Rattle.file.specs.Rules.Layout.{edition_of, length_place, flag_place, pending_name_place, pending_pB2_place, zeros_place}
+use Rattle.file.specs.Rules.Layout.{edition_of, length_place, flag_place, pending_name_place, pending_pb2_place, zeros_place}
 use Rattle.file.specs.Rules.Layout.{zeros_length, header_size, entry_size_lem, fill_length, max_slaves, max_length}
 use Rattle.file.specs.Rules.Cluster.{no_operation}
 use Rattle.file.specs.Rules.Decode.{offset_at, file_size}
@@ -84,7 +84,7 @@ pub record HeaderFacts (w : ℕ) (f : List ℕ) : Type 0 where
   pub count : get_or f 3 0 ≤ max_slaves w
   pub table : offset_at w f 4 ≡ header_size w
   pub zeros : all_zero (part f (zeros_place w) (zeros_length w)) ≡ true
-  pub pending : wrong_pending (get_or f (flag_place w) 0) (get_or f (pending_name_place w) 0) (get_or f (pending_pB2_place w) 0) ≡ false
+  pub pending : wrong_pending (get_or f (flag_place w) 0) (get_or f (pending_name_place w) 0) (get_or f (pending_pb2_place w) 0) ≡ false
 
 pub header_facts : (w : ℕ) (f : List ℕ) → wrong_header w f ≡ false → HeaderFacts w f
 unfolding wrong_header

@@ -143,14 +143,14 @@ module _ {w : ℕ} (two : 2 ≤ w) {f : List ℕ} where
 pub file_of : List ℕ → ℕ → ℕ → ℕ → File
 file_of f n r place = record { number = n; bytes = part f place (file_size r) }
 
-pub fileAt-entry :
+pub file_at-entry :
     (w : ℕ) (f : List ℕ) (d : ℕ) {n r place : ℕ}
     → get_or f d 0 ≡ n
     → get_or f (d + 1) 0 ≡ r
     → offset_at w f (d + w) ≡ place
     → file_at w f d ≡ file_of f n r place
 unfolding file_at file_of
-fileAt-entry w f d n r p = rw (n, r, p)
+file_at-entry w f d n r p = rw (n, r, p)
 
 module _ {w : ℕ} (two : 2 ≤ w) {f : List ℕ} (short : length f < 256 ^ w) where
   -- a good entry's file stands
@@ -186,7 +186,7 @@ module _ {w : ℕ} (two : 2 ≤ w) {f : List ℕ} (short : length f < 256 ^ w) w
         bytes = part-stands (file_size r) g.within;
       }
       in
-      subst (λ (y : File). FileStands w f d low place y) (sym (fileAt-entry w f d refl refl g.offset)) stands
+      subst (λ (y : File). FileStands w f d low place y) (sym (file_at-entry w f d refl refl g.offset)) stands
 
   -- files that a walk passes stand, and the walk arrives where their bytes end
   pub files-found :
@@ -233,7 +233,7 @@ module _ {w : ℕ} (two : 2 ≤ w) {f : List ℕ} (short : length f < 256 ^ w) w
       let bytes : part f place (file_size (last_record x.bytes)) ≡ x.bytes =
       ap (λ (n : ℕ). part f place n) (legal-size s.legal) ∙ stands-part s.bytes
       in
-      fileAt-entry w f d e.number e.last (file_good s).offset
+      file_at-entry w f d e.number e.last (file_good s).offset
       ∙ ap (λ (bs : List ℕ). record { number = x.number; bytes = bs }) bytes
 
   pub files-walk :

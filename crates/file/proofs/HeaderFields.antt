@@ -7,7 +7,7 @@ use mathlib.Core.List.{List, [], ◌∷◌, ◌++◌}
 use lib.ListN.{length, get_or, replicate}
 use Rattle.file.specs.Rules.Bytes.{bytes_of}
 use Rattle.file.specs.Rules.Layout.{edition_of, zeros_length, header_size}
-use Rattle.file.specs.Rules.Layout.{length_place, epoch_place, flag_place, pending_name_place, pending_pB2_place, pending_pB3_place, zeros_place}
+use Rattle.file.specs.Rules.Layout.{length_place, epoch_place, flag_place, pending_name_place, pending_pb2_place, pending_pb3_place, zeros_place}
 use Rattle.file.specs.Rules.Cluster.{Cluster}
 use Rattle.file.specs.Rules.Encode.{file_length, header}
 use Rattle.file.proofs.Sizes.{bytes_of-length}
@@ -23,8 +23,8 @@ pub record HeaderBytes (w : ℕ) (f : List ℕ) (c : Cluster) : Type 0 where
   pub epoch : get_or f (epoch_place w) 0 ≡ c.epoch
   pub flag : get_or f (flag_place w) 0 ≡ c.flag
   pub name : get_or f (pending_name_place w) 0 ≡ c.pending_name
-  pub pb2 : get_or f (pending_pB2_place w) 0 ≡ c.pending_pB2
-  pub pb3 : get_or f (pending_pB3_place w) 0 ≡ c.pending_pB3
+  pub pb2 : get_or f (pending_pb2_place w) 0 ≡ c.pending_pb2
+  pub pb3 : get_or f (pending_pb3_place w) 0 ≡ c.pending_pb3
   pub zeros : Stands f (zeros_place w) (replicate (zeros_length w) 0)
 
 module _ {w : ℕ} {f : List ℕ} {c : Cluster} where
@@ -32,7 +32,7 @@ module _ {w : ℕ} {f : List ℕ} {c : Cluster} where
   unfolding header
   header-bytes s =
       let zeros : List ℕ = replicate (zeros_length w) 0 in
-      let pending : List ℕ = c.epoch ∷ c.flag ∷ c.pending_name ∷ c.pending_pB2 ∷ c.pending_pB3 ∷ [] in
+      let pending : List ℕ = c.epoch ∷ c.flag ∷ c.pending_name ∷ c.pending_pb2 ∷ c.pending_pb3 ∷ [] in
       let stated : List ℕ = bytes_of w (file_length w c.slaves) in
       let front : List ℕ = 0x54 ∷ 0x41 ∷ edition_of w ∷ length c.slaves ∷ [] in
       let s₀ = stands-left front (bytes_of w (header_size w) ++ (stated ++ (pending ++ zeros))) s in

@@ -9,7 +9,7 @@ use borrow.Author.Tests.{lt-ltb, le-ltb, eq-eqb, ne_eqb, eqb-true, eqb-false}
 use lib.ListN.{length, get_or}
 use lib.Dec.{eqb}
 use Rattle.file.specs.Rules.Order.{first_of, either}
-use Rattle.file.specs.Rules.Layout.{OffsetWidth, pending_flag, length_place, epoch_place, flag_place, pending_name_place, pending_pB2_place, zeros_place}
+use Rattle.file.specs.Rules.Layout.{OffsetWidth, pending_flag, length_place, epoch_place, flag_place, pending_name_place, pending_pb2_place, zeros_place}
 use Rattle.file.specs.Rules.Cluster.{operation_of, no_operation, broadcast_read}
 use Rattle.file.specs.Rules.Bytes.{part, all_zero}
 use Rattle.file.specs.Inner.Numbers.{ByteAt, NumberAt}
@@ -148,7 +148,7 @@ header-last {w} {f} fits is₁ low is₂ size is₃ e₃ is₄ e₄ is₅ e₅ i
     rw more at (zeros_more f (zeros_place w) (suc (suc (2 * w - 4))) (omega arith) y₀ x₁) in
     let f₁ : flag_place w ≡ epoch_place w + 1 = omega arith in
     let f₂ : pending_name_place w ≡ epoch_place w + 2 = omega arith in
-    let f₃ : pending_pB2_place w ≡ epoch_place w + 3 = omega arith in
+    let f₃ : pending_pb2_place w ≡ epoch_place w + 3 = omega arith in
     rw (either-next _ c, t, either-next _ refl, z, either-next _ refl, f₁, f₂, f₃, ← named) r
 
 -- the four zeros more

@@ -9,7 +9,7 @@ use lib.ListN.{length, get_or, set, replicate, length-append}
 use lib.Seq.{get_or-append-add}
 use Rattle.file.specs.Rules.Bytes.{bytes_of}
 use Rattle.file.specs.Rules.Layout.{edition_of, header_size, zeros_length}
-use Rattle.file.specs.Rules.Layout.{epoch_place, flag_place, pending_name_place, pending_pB2_place, pending_pB3_place}
+use Rattle.file.specs.Rules.Layout.{epoch_place, flag_place, pending_name_place, pending_pb2_place, pending_pb3_place}
 use Rattle.file.specs.Rules.Cluster.{Slave, Cluster}
 use Rattle.file.specs.Rules.Encode.{slaves_bytes, table, slaves_place, file_length, header, encode_at}
 use Rattle.file.specs.Rules.Changes.{with_epoch, with_pending}
@@ -24,7 +24,7 @@ behind : ℕ → List Slave → List ℕ
 behind w ss = replicate (zeros_length w) 0 ++ (table w (slaves_place w ss) ss ++ slaves_bytes w (slaves_place w ss) ss)
 
 abbrev fields : Cluster → List ℕ → List ℕ
-fields c rest = c.epoch ∷ c.flag ∷ c.pending_name ∷ c.pending_pB2 ∷ c.pending_pB3 ∷ rest
+fields c rest = c.epoch ∷ c.flag ∷ c.pending_name ∷ c.pending_pb2 ∷ c.pending_pb3 ∷ rest
 
 by_fields : (w : ℕ) (c : Cluster) → encode_at w c ≡ front w c.slaves ++ fields c (behind w c.slaves)
 unfolding encode_at header front behind
@@ -58,38 +58,38 @@ module _ (w : ℕ) (c : Cluster) where
   pub read-pending_name : get_or (encode_at w c) (pending_name_place w) 0 ≡ c.pending_name
   read-pending_name = field-read w c (pending_name_place w) 2 (omega arith)
 
-  pub read-pending_pB2 : get_or (encode_at w c) (pending_pB2_place w) 0 ≡ c.pending_pB2
-  read-pending_pB2 = field-read w c (pending_pB2_place w) 3 (omega arith)
+  pub read-pending_pb2 : get_or (encode_at w c) (pending_pb2_place w) 0 ≡ c.pending_pb2
+  read-pending_pb2 = field-read w c (pending_pb2_place w) 3 (omega arith)
 
-  pub read-pending_pB3 : get_or (encode_at w c) (pending_pB3_place w) 0 ≡ c.pending_pB3
-  read-pending_pB3 = field-read w c (pending_pB3_place w) 4 (omega arith)
+  pub read-pending_pb3 : get_or (encode_at w c) (pending_pb3_place w) 0 ≡ c.pending_pb3
+  read-pending_pb3 = field-read w c (pending_pb3_place w) 4 (omega arith)
 
   pub store-epoch : (b : ℕ) → set (encode_at w c) (epoch_place w) b ≡ encode_at w (with_epoch c b)
   unfolding with_epoch
   store-epoch b = field-store w c (with_epoch c b) (epoch_place w) 0 b (omega arith) refl refl
 
-  pub store-flag : (b : ℕ) → set (encode_at w c) (flag_place w) b ≡ encode_at w (with_pending c b c.pending_name c.pending_pB2 c.pending_pB3)
+  pub store-flag : (b : ℕ) → set (encode_at w c) (flag_place w) b ≡ encode_at w (with_pending c b c.pending_name c.pending_pb2 c.pending_pb3)
   unfolding with_pending
   store-flag b =
-      field-store w c (with_pending c b c.pending_name c.pending_pB2 c.pending_pB3) (flag_place w) 1 b (omega arith) refl refl
+      field-store w c (with_pending c b c.pending_name c.pending_pb2 c.pending_pb3) (flag_place w) 1 b (omega arith) refl refl
 
-  pub store-pending_name : (b : ℕ) → set (encode_at w c) (pending_name_place w) b ≡ encode_at w (with_pending c c.flag b c.pending_pB2 c.pending_pB3)
+  pub store-pending_name : (b : ℕ) → set (encode_at w c) (pending_name_place w) b ≡ encode_at w (with_pending c c.flag b c.pending_pb2 c.pending_pb3)
   unfolding with_pending
   store-pending_name b =
-      field-store w c (with_pending c c.flag b c.pending_pB2 c.pending_pB3) (pending_name_place w) 2 b (omega arith) refl refl
+      field-store w c (with_pending c c.flag b c.pending_pb2 c.pending_pb3) (pending_name_place w) 2 b (omega arith) refl refl
 
-  pub store-pending_pB2 : (b : ℕ) → set (encode_at w c) (pending_pB2_place w) b ≡ encode_at w (with_pending c c.flag c.pending_name b c.pending_pB3)
+  pub store-pending_pb2 : (b : ℕ) → set (encode_at w c) (pending_pb2_place w) b ≡ encode_at w (with_pending c c.flag c.pending_name b c.pending_pb3)
   unfolding with_pending
-  store-pending_pB2 b =
-      field-store w c (with_pending c c.flag c.pending_name b c.pending_pB3) (pending_pB2_place w) 3 b (omega arith) refl refl
+  store-pending_pb2 b =
+      field-store w c (with_pending c c.flag c.pending_name b c.pending_pb3) (pending_pb2_place w) 3 b (omega arith) refl refl
 
-  pub store-pending_pB3 : (b : ℕ) → set (encode_at w c) (pending_pB3_place w) b ≡ encode_at w (with_pending c c.flag c.pending_name c.pending_pB2 b)
+  pub store-pending_pb3 : (b : ℕ) → set (encode_at w c) (pending_pb3_place w) b ≡ encode_at w (with_pending c c.flag c.pending_name c.pending_pb2 b)
   unfolding with_pending
-  store-pending_pB3 b =
-      field-store w c (with_pending c c.flag c.pending_name c.pending_pB2 b) (pending_pB3_place w) 4 b (omega arith) refl refl
+  store-pending_pb3 b =
+      field-store w c (with_pending c c.flag c.pending_name c.pending_pb2 b) (pending_pb3_place w) 4 b (omega arith) refl refl
 
 -- all four of a pending operation, one after the other
 pub store-pending : (w : ℕ) (c : Cluster) (flag name pb2 pb3 : ℕ)
-    → set (set (set (set (encode_at w c) (flag_place w) flag) (pending_name_place w) name) (pending_pB2_place w) pb2) (pending_pB3_place w) pb3 ≡ encode_at w (with_pending c flag name pb2 pb3)
+    → set (set (set (set (encode_at w c) (flag_place w) flag) (pending_name_place w) name) (pending_pb2_place w) pb2) (pending_pb3_place w) pb3 ≡ encode_at w (with_pending c flag name pb2 pb3)
 unfolding with_pending
-store-pending w c flag name pb2 pb3 = rw (store-flag, store-pending_name, store-pending_pB2, store-pending_pB3)
+store-pending w c flag name pb2 pb3 = rw (store-flag, store-pending_name, store-pending_pb2, store-pending_pb3)

@@ -142,11 +142,11 @@ module _ {w : ℕ} (two : 2 ≤ w) {f : List ℕ} where
 pub slave_from : ℕ → List ℕ → ℕ → ℕ → ℕ → Slave
 slave_from w f place k asleep = record { asleep = asleep; files = files_at w f place k }
 
-pub slaveAt-entry :
+pub slave_at-entry :
     (w : ℕ) (f : List ℕ) (t : ℕ) {place k asleep : ℕ} → offset_at w f t ≡ place → get_or f (t + w) 0 ≡ k → get_or f (t + w + 1) 0 ≡ asleep
     → slave_at w f t ≡ slave_from w f place k asleep
 unfolding slave_at slave_from
-slaveAt-entry w f t p k z = rw (p, k, z)
+slave_at-entry w f t p k z = rw (p, k, z)
 
 module _ {w : ℕ} (two : 2 ≤ w) {f : List ℕ} (short : length f < 256 ^ w) where
   -- a slave that a walk passes stands, and the walk arrives where its bytes end
@@ -180,7 +180,7 @@ module _ {w : ℕ} (two : 2 ≤ w) {f : List ℕ} (short : length f < 256 ^ w) w
         rw count (omega (arith, found.1)),
       )
       in
-      subst (λ (y : Slave). SlaveStands w f t place y × (e ≡ place + slave_size w y)) (sym (slaveAt-entry w f t g.offset refl refl)) stands
+      subst (λ (y : Slave). SlaveStands w f t place y × (e ≡ place + slave_size w y)) (sym (slave_at-entry w f t g.offset refl refl)) stands
 
   pub slaves-found :
       (t place n : ℕ) {e : ℕ}
@@ -221,7 +221,7 @@ module _ {w : ℕ} (two : 2 ≤ w) {f : List ℕ} (short : length f < 256 ^ w) w
   pub slave-read : {t place : ℕ} {s : Slave} → SlaveStands w f t place s → slave_at w f t ≡ s
   unfolding slave_from
   slave-read {t} {place} {s} a =
-      slaveAt-entry w f t (slave_good a).offset (table-bytes a.entry).count (table-bytes a.entry).sleep
+      slave_at-entry w f t (slave_good a).offset (table-bytes a.entry).count (table-bytes a.entry).sleep
       ∙ ap (λ (xs : List File). record { asleep = s.asleep; files = xs }) (files-read two short s.files a.files)
 
   pub slaves-walk :

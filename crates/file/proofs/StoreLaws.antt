@@ -12,7 +12,7 @@ use Rattle.file.specs.Rules.Bytes.{Byte, Bytes}
 use mir.Syntax.{w64}
 use mir.Val.{Fits}
 use Rattle.file.specs.Rules.Layout.{width_in, record_size}
-use Rattle.file.specs.Rules.Layout.{epoch_place, flag_place, pending_name_place, pending_pB2_place, pending_pB3_place}
+use Rattle.file.specs.Rules.Layout.{epoch_place, flag_place, pending_name_place, pending_pb2_place, pending_pb3_place}
 use Rattle.file.specs.Inner.Layout.{logical_name_place}
 use Rattle.file.specs.Rules.Cluster.{Cluster, file_number_of, operation_of, bytes_in, configuration, documentation, new_logical_name, has_record}
 use Rattle.file.specs.Rules.Decode.{decode, decode_at}
@@ -67,10 +67,10 @@ module _ {f : List ℕ} {at : ℕ} (h : AcceptedFile f) (e : EpochAt f at) where
   name-at : at + 2 ≡ pending_name_place w
   name-at = omega (arith, e.is)
 
-  pb2-at : at + 3 ≡ pending_pB2_place w
+  pb2-at : at + 3 ≡ pending_pb2_place w
   pb2-at = omega (arith, e.is)
 
-  pb3-at : at + 4 ≡ pending_pB3_place w
+  pb3-at : at + 4 ≡ pending_pb3_place w
   pb3-at = omega (arith, e.is)
 
   pub pending-read : {name file operation : ℕ} → name ≡ get_or f (at + 2) 0 → file ≡ file_number_of (get_or f (at + 3) 0) →
@@ -80,9 +80,9 @@ module _ {f : List ℕ} {at : ℕ} (h : AcceptedFile f) (e : EpochAt f at) where
       record {
         flag_is = rw flag_at (ap (λ (c : Cluster). c.flag) here.decoded);
         name_is = (rw name-at at named) ∙ ap (λ (c : Cluster). c.pending_name) here.decoded;
-        file_is = (rw pb2-at at number) ∙ ap (λ (c : Cluster). file_number_of c.pending_pB2) here.decoded;
-        operation_is = (rw pb2-at at does) ∙ ap (λ (c : Cluster). operation_of c.pending_pB2) here.decoded;
-        record_is = rw pb3-at (ap (λ (c : Cluster). c.pending_pB3) here.decoded);
+        file_is = (rw pb2-at at number) ∙ ap (λ (c : Cluster). file_number_of c.pending_pb2) here.decoded;
+        operation_is = (rw pb2-at at does) ∙ ap (λ (c : Cluster). operation_of c.pending_pb2) here.decoded;
+        record_is = rw pb3-at (ap (λ (c : Cluster). c.pending_pb3) here.decoded);
       }
 
   pub becomes-epoch : {b : ℕ} → Byte b → Becomes (set f at b) (with_epoch (decode f) b)
@@ -97,7 +97,7 @@ module _ {f : List ℕ} {at : ℕ} (h : AcceptedFile f) (e : EpochAt f at) where
   becomes-pending flag name pb2 pb3 same p =
       rw (flag_at, name-at, pb2-at, pb3-at, same)
       (becomes_as
-      (ap (λ (l : List ℕ). set (set (set (set l (flag_place w) flag) (pending_name_place w) name) (pending_pB2_place w) pb2) (pending_pB3_place w) pb3) here.encoded
+      (ap (λ (l : List ℕ). set (set (set (set l (flag_place w) flag) (pending_name_place w) name) (pending_pb2_place w) pb2) (pending_pb3_place w) pb3) here.encoded
       ∙ store-pending w (decode f) flag name pb2 pb3)
       (legal-with_pending (decode f) flag name pb2 pb3 p h.legal))
 

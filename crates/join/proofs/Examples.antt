@@ -10,7 +10,7 @@ use Rattle.file.specs.Rules.Cluster.{logical_name, logical_names, no_operation, 
 use Rattle.file.specs.Rules.Decode.{decode}
 use Rattle.file.specs.Rules.Changes.{put_among, put_in_slave, with_sleep}
 use Rattle.file.specs.Rules.FileGrounds.{held_names, equal_logical_names, load_ground}
-use Rattle.convert.proofs.Examples.{examples as convertExamples}
+use Rattle.convert.proofs.Examples.{examples as convert_examples}
 use Rattle.join.specs.Rules.Joined.{turned, slaves_joined, awake, joined, joined_file, any_among, shares_name}
 use Rattle.join.specs.Rules.Join.{join_grounds, join_ground, join_on}
 
@@ -138,7 +138,7 @@ pub record Loading : Type 0 where
 
 -- `unfolding joins` below unfolds what stands here
 unfoldable pub joins : Joins
-unfolding convertExamples join_on join_ground join_grounds joined_file joined slaves_joined turned awake any_among shares_name put_in_slave put_among with_sleep
+unfolding convert_examples join_on join_ground join_grounds joined_file joined slaves_joined turned awake any_among shares_name put_in_slave put_among with_sleep
     logical_names logical_name no_operation broadcast_read
 joins =
     record {

@@ -42,7 +42,7 @@ use Rattle.join.specs.Inner.Names.{MarksOf}
 use Rattle.join.specs.Inner.Turned.{turned_by, turned_in}
 use Rattle.join.specs.Inner.Form.{joined_header, joined_table, joined_slaves, joined_body, HeaderFits, JoinFits, JoinedFits}
 use Rattle.join.proofs.Joining.{joined_shape, joined-count}
-use Rattle.join.proofs.Order.{over as tooLarge, first_decides, second_decides, names_decide, size_decides, none-holds, join-refused, join_written}
+use Rattle.join.proofs.Order.{over as too_large_lem, first_decides, second_decides, names_decide, size_decides, none-holds, join-refused, join_written}
 use Rattle.join.proofs.TurnLaws.{turned-slaves}
 use Rattle.join.proofs.BodyLaws.{fits_kept}
 
@@ -225,7 +225,7 @@ module _ {f g places others : List ℕ} (p : Placed f places) (q : Placed g othe
         length-is : alone + more - (8 + 4 * v) ≡ file_length (width f g out) (slaves f g out)
         length-is = size_is ∙ ap (λ (k : ℕ). file_length k (slaves f g out)) w.is
 
-        large : tooLarge f g out ≡ true → (refused 30, out) ≡ join_on f g out
+        large : too_large_lem f g out ≡ true → (refused 30, out) ≡ join_on f g out
         large holds = sym (join-refused f g out (size_decides f g out p.file.accepted q.file.accepted apart holds) (λ z. omega arith))
 
         pub call_over : over ≡ true → (refused 30, out) ≡ join_on f g out

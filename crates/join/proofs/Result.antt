@@ -242,8 +242,8 @@ module _ (f g : List ℕ) where
           epoch = ap (λ (x : Cluster). x.epoch) joined-decoded ∙ header_zero.0;
           flag = ap (λ (x : Cluster). x.flag) joined-decoded ∙ header_zero.1;
           pending_name = ap (λ (x : Cluster). x.pending_name) joined-decoded ∙ header_zero.2;
-          pending_pB2 = ap (λ (x : Cluster). x.pending_pB2) joined-decoded ∙ header_zero.3;
-          pending_pB3 = ap (λ (x : Cluster). x.pending_pB3) joined-decoded ∙ header_zero.4;
+          pending_pb2 = ap (λ (x : Cluster). x.pending_pb2) joined-decoded ∙ header_zero.3;
+          pending_pb3 = ap (λ (x : Cluster). x.pending_pb3) joined-decoded ∙ header_zero.4;
           count = count-is;
           awake = awake-is;
           first = λ i h. ap (λ (s : Slave). s.files) (slave-is i ∙ joined-first (decode f) (decode g) i h) ∙ awake-files (slave_in f i);
@@ -251,7 +251,7 @@ module _ (f g : List ℕ) where
           kept = second-kept;
         }
       where
-        header_zero : (c.epoch ≡ 0) × (c.flag ≡ 0) × (c.pending_name ≡ 0) × (c.pending_pB2 ≡ 0) × (c.pending_pB3 ≡ 0)
+        header_zero : (c.epoch ≡ 0) × (c.flag ≡ 0) × (c.pending_name ≡ 0) × (c.pending_pb2 ≡ 0) × (c.pending_pb3 ≡ 0)
         header_zero = unfold joined in (refl, refl, refl, refl, refl)
 
 pub call-joins : CallJoins

@@ -24,7 +24,7 @@ use Rattle.naming.specs.Rules.Position.{Position}
 use Rattle.naming.specs.Rules.Pass.{bits, last_step}
 use Rattle.naming.specs.Rules.RunGrounds.{unfit_name, names_grounds, start_ground}
 use Rattle.naming.specs.Rules.Step.{StepDone, ended, made, step_on}
-use Rattle.naming.specs.Rules.Steps.{is_made_lem as isStepMade, mask_in, Progress, begun, next_step, with_step, steps_from}
+use Rattle.naming.specs.Rules.Steps.{is_made_lem as is_step_made, mask_in, Progress, begun, next_step, with_step, steps_from}
 use Rattle.naming.specs.Inner.StepAnswers.{position_of}
 use Rattle.naming.specs.Inner.Steps.{progress_of, stands_at_lem, StepsMade}
 use Rattle.naming.specs.declared.steps.MadeSteps.{MadeSteps}
@@ -34,8 +34,8 @@ use Rattle.listing_text.specs.Inner.ListRuns.{state_of, StateIs, Moves, moved_to
 use Rattle.listing_text.specs.declared.run.ListProgress.{ListProgress}
 use Rattle.listing_text.proofs.ListLaws.{moves, list-next, Going, going_done, going_stuck}
 
-made-mask : (r : Result StepDone) → isStepMade r ≡ true → r ≡ done (made (mask_in r))
-unfolding isStepMade mask_in
+made-mask : (r : Result StepDone) → is_step_made r ≡ true → r ≡ done (made (mask_in r))
+unfolding is_step_made mask_in
 made-mask (refused n) e = cc
 made-mask (done ended) e = cc
 made-mask (done (made mask)) e = refl
@@ -60,7 +60,7 @@ onward-same : (p : Position) → Onward p p
 onward-same p = record { compared = omega arith; further = omega arith; begins = λ b z. b z }
 
 -- a step that made its round
-one-onward : (g : Progress) → (g.run.counts.rounds ≡ 0 → g.run.place.step ≡ 0) → isStepMade (next_step all_names g).0 ≡ true → Moves g.run (with_step g (next_step all_names g)).run
+one-onward : (g : Progress) → (g.run.counts.rounds ≡ 0 → g.run.place.step ≡ 0) → is_step_made (next_step all_names g).0 ≡ true → Moves g.run (with_step g (next_step all_names g)).run
 unfolding next_step with_step
 one-onward g begins m =
     let s = step_on g.file g.run all_names g.buffer in
@@ -72,15 +72,15 @@ pub record Batch (k : ℕ) (t : ListState) (g end : Progress) : Type 0 where
   pub most : n ≤ k
   pub same : list_steps k (under t g) ≡ list_steps (k - n) (under t end)
   pub onward : Onward g.run end.run
-  pub stops : n < k → end.run.place.step ≢ last_step → isStepMade (next_step all_names end).0 ≡ false
+  pub stops : n < k → end.run.place.step ≢ last_step → is_step_made (next_step all_names end).0 ≡ false
 
-none_made : (k : ℕ) (t : ListState) (g : Progress) → (0 < k → g.run.place.step ≢ last_step → isStepMade (next_step all_names g).0 ≡ false) → Batch k t g g
+none_made : (k : ℕ) (t : ListState) (g : Progress) → (0 < k → g.run.place.step ≢ last_step → is_step_made (next_step all_names g).0 ≡ false) → Batch k t g g
 none_made k t g stops =
     let all : k - 0 ≡ k = omega arith in
     record { n = 0; count = omega arith; most = omega arith; same = rw all; onward = onward-same g.run; stops = stops }
 
 one_more :
-    (k : ℕ) (t : ListState) (g end : Progress) → (g.run.counts.rounds ≡ 0 → g.run.place.step ≡ 0) → (g.run.place.step ≡ last_step → ⊥) → isStepMade (next_step all_names g).0 ≡ true →
+    (k : ℕ) (t : ListState) (g end : Progress) → (g.run.counts.rounds ≡ 0 → g.run.place.step ≡ 0) → (g.run.place.step ≡ last_step → ⊥) → is_step_made (next_step all_names g).0 ≡ true →
     Batch k t (with_step g (next_step all_names g)) end → Batch (suc k) t g end
 one_more k t g end begins other m b =
     let first = one-onward g begins m in
@@ -102,12 +102,12 @@ one_more k t g end begins other m b =
 
 module _ (k : ℕ) (g : Progress) where
   until-on :
-      both (not (eqb g.run.place.step last_step)) (isStepMade (next_step all_names g).0) ≡ true →
+      both (not (eqb g.run.place.step last_step)) (is_step_made (next_step all_names g).0) ≡ true →
       steps_from (stands_at_lem last_step) all_names (suc k) g ≡ steps_from (stands_at_lem last_step) all_names k (with_step g (next_step all_names g))
   unfolding steps_from
   until-on y = rw y
 
-  until_over : both (not (eqb g.run.place.step last_step)) (isStepMade (next_step all_names g).0) ≡ false → steps_from (stands_at_lem last_step) all_names (suc k) g ≡ g
+  until_over : both (not (eqb g.run.place.step last_step)) (is_step_made (next_step all_names g).0) ≡ false → steps_from (stands_at_lem last_step) all_names (suc k) g ≡ g
   unfolding steps_from
   until_over y = rw y
 
@@ -120,7 +120,7 @@ batch (suc k) t g begins = on (λ c. batch k t (with_step g (next_step all_names
         Batch k t (with_step g (next_step all_names g)) (steps_from (stands_at_lem last_step) all_names k (with_step g (next_step all_names g)))) →
         Batch (suc k) t g (steps_from (stands_at_lem last_step) all_names (suc k) g)
     on rest =
-        by_case (both (not (eqb g.run.place.step last_step)) (isStepMade (next_step all_names g).0))
+        by_case (both (not (eqb g.run.place.step last_step)) (is_step_made (next_step all_names g).0))
         (λ y.
         let m = both_right (not (eqb g.run.place.step last_step)) _ y in
         let other : g.run.place.step ≡ last_step → ⊥ = λ z. clash (both_left _ _ y) (ap not (eq-eqb g.run.place.step last_step z)) in
@@ -175,7 +175,7 @@ module _
         };
       })
 
-  pub batch_stops : m.steps < left → m.run.place.step ≢ last_step → isStepMade (step_on file' (position_of m.run) all_names answer').0 ≡ false
+  pub batch_stops : m.steps < left → m.run.place.step ≢ last_step → is_step_made (step_on file' (position_of m.run) all_names answer').0 ≡ false
   unfolding next_step
   batch_stops fewer n = came.stops (omega (arith, fewer, counted)) n
 

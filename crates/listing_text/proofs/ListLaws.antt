@@ -23,9 +23,9 @@ use Rattle.naming.specs.Rules.Pass.{least, bit, high, low, reply, place_of}
 use Rattle.naming.specs.Rules.Run.{round_here, onto, wrote, move_on, onward, next_name, end_all_named, pass_advance, is_extra}
 use Rattle.naming.specs.Rules.Pass.{last_step}
 use Rattle.naming.specs.Rules.Run.{count_raised, advance}
-use Rattle.naming.specs.Rules.RunRounds.{RunRound, RunRound.poll as pollOf, write_name, write_high, write_low, compare, RunRound.baptize as baptizeAll}
+use Rattle.naming.specs.Rules.RunRounds.{RunRound, RunRound.poll as poll_of, write_name, write_high, write_low, compare, RunRound.baptize as baptize_all}
 use Rattle.naming.specs.Rules.Step.{StepDone, ended, made, step_ground, step_made, step_on}
-use Rattle.naming.specs.Rules.Steps.{is_made_lem as isStepMade, begun, next_step}
+use Rattle.naming.specs.Rules.Steps.{is_made_lem as is_step_made, begun, next_step}
 use Rattle.naming.specs.Inner.StepAnswers.{position_of, stepped_of, run_after}
 use Rattle.file.specs.declared.types.Refusal.{Refusal}
 use Rattle.file.specs.Rules.FileGrounds.{load_ground, load_verdict}
@@ -75,12 +75,12 @@ rises baptize count p b = record { compared = omega arith; slowly = omega arith;
 -- what a round writes leaves index and comparisons
 wrote-same : (o : RunRound) (p : Position) → ((wrote o p).counts.comparisons ≡ p.counts.comparisons) × ((wrote o p).place.index ≡ p.place.index)
 unfolding wrote
-wrote-same (pollOf n) p = (refl, refl)
+wrote-same (poll_of n) p = (refl, refl)
 wrote-same (write_name n) p = (refl, refl)
 wrote-same (write_high h) p = (refl, refl)
 wrote-same (write_low l) p = (refl, refl)
 wrote-same compare p = (refl, refl)
-wrote-same baptizeAll p = (refl, refl)
+wrote-same baptize_all p = (refl, refl)
 
 pass_rises : (names : List ℕ) (p : Position) (b : Bool) → Rises p (pass_advance names p b)
 unfolding pass_advance
@@ -343,15 +343,15 @@ module _ {names : List ℕ} {name i : ℕ} (h : Naming names name i) where
       sym (take_all i names (rw h.room past)) ∙ h.first ∙ rw e
 
 -- both texts of the rules mean the same by a step that made its round
-made-same : (r : Result StepDone) → is_made_lem r ≡ isStepMade r
-unfolding is_made_lem isStepMade
+made-same : (r : Result StepDone) → is_made_lem r ≡ is_step_made r
+unfolding is_made_lem is_step_made
 made-same (refused n) = refl
 made-same (done ended) = refl
 made-same (done (made mask)) = refl
 
 -- ---- a step that makes no round leaves the listing as it is
 
-module _ (t : ListState) (e : isStepMade (step_on t.file t.run all_names t.buffer).0 ≡ false) where
+module _ (t : ListState) (e : is_step_made (step_on t.file t.run all_names t.buffer).0 ≡ false) where
   list-idle : list_step t ≡ t
   unfolding list_step gives_name both without_name
   list-idle =
@@ -359,7 +359,7 @@ module _ (t : ListState) (e : isStepMade (step_on t.file t.run all_names t.buffe
       rw (made-same (step_on t.file t.run all_names t.buffer).0 ∙ e)
       (ap (λ (s : Position × List ℕ × List ℕ). record { file = s.2; run = s.0; buffer = s.1; begun = t.begun; given = t.given; lines = t.lines }) same)
 
-pub list_stuck : (n : ℕ) (t : ListState) → isStepMade (step_on t.file t.run all_names t.buffer).0 ≡ false → list_steps n t ≡ t
+pub list_stuck : (n : ℕ) (t : ListState) → is_step_made (step_on t.file t.run all_names t.buffer).0 ≡ false → list_steps n t ≡ t
 unfolding list_steps
 list_stuck zero t e = refl
 list_stuck (suc n) t e =
@@ -377,8 +377,8 @@ list-next n t =
   where
     over : t.run.end ≢ running → t ≡ list_steps n (list_step t)
     over n' =
-        let idle : isStepMade (step_on t.file t.run all_names t.buffer).0 ≡ false =
-        by_case (isStepMade (step_on t.file t.run all_names t.buffer).0) (λ m. absurd (n' (made_makes all_names (begun t.file t.run t.buffer) (unfold next_step in m)).runs)) (λ m. m) in
+        let idle : is_step_made (step_on t.file t.run all_names t.buffer).0 ≡ false =
+        by_case (is_step_made (step_on t.file t.run all_names t.buffer).0) (λ m. absurd (n' (made_makes all_names (begun t.file t.run t.buffer) (unfold next_step in m)).runs)) (λ m. m) in
         sym (rw (list-idle t idle) (list_stuck n t idle))
 
 -- ---- all steps
@@ -399,7 +399,7 @@ module _ {wanted : ListState} {old : List ℕ} {at : ℕ} {state : ListProgress}
   reached : state_of state file answer text ≡ wanted → StateIs wanted old at state file answer text
   reached e = record { is = e; rest = h.rest; onward = h.onward; same = h.same; room = h.room }
 
-  pub going_stuck : isStepMade (step_on file (position_of state.run) all_names answer).0 ≡ false → StateIs wanted old at state file answer text
+  pub going_stuck : is_step_made (step_on file (position_of state.run) all_names answer).0 ≡ false → StateIs wanted old at state file answer text
   going_stuck e = reached (sym (list_stuck left (state_of state file answer text) e) ∙ h.is)
 
   pub going_done : left ≤ 0 → StateIs wanted old at state file answer text

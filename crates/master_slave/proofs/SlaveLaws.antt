@@ -154,19 +154,19 @@ reply-asleep c s o {up} b last is no' = reply_quiet b last (asleep_quiet (slave_
 
 -- ---- the ways of a read, of a slave that is awake
 
-module _ {f : List ℕ} {c : Cluster} (h : Becomes f c) (s name n r : ℕ) {own : ℕ} {t up : Bool} (wakes : up ≡ is_awake (slave_of c s)) (isUp : not up ≡ false)
+module _ {f : List ℕ} {c : Cluster} (h : Becomes f c) (s name n r : ℕ) {own : ℕ} {t up : Bool} (wakes : up ≡ is_awake (slave_of c s)) (is_up : not up ≡ false)
     (named' : own ≡ logical_name (slave_of c s)) (test : t ≡ both (addresses name own) (not (eqb own unnamed))) (b : List ℕ) (last : ℕ) where
   pub read_unaddressed : not t ≡ true → Replied (reply_to (reading name n r) (slave_of c s)) b b last last
   read_unaddressed no' =
       reply_quiet b last
       (reply_unread name n r (slave_of c s)
-      (answers_read_as name n r (slave_of c s) (sym wakes ∙ not-false up isUp) named' ∙ both_false_left (has_record (slave_of c s) n r) (sym test ∙ not-true t no')))
+      (answers_read_as name n r (slave_of c s) (sym wakes ∙ not-false up is_up) named' ∙ both_false_left (has_record (slave_of c s) n r) (sym test ∙ not-true t no')))
 
   pub read_missing : {x : RecordPlace} → found_record x ≡ find_record c s n r → x ≡ NoRecord → Replied (reply_to (reading name n r) (slave_of c s)) b b last last
   read_missing e is =
       reply_quiet b last
       (reply_unread name n r (slave_of c s)
-      (answers_read_as name n r (slave_of c s) (sym wakes ∙ not-false up isUp) named' ∙ both_false_right (both (addresses name own) (not (eqb own unnamed))) (missing_facts c s n r e is)))
+      (answers_read_as name n r (slave_of c s) (sym wakes ∙ not-false up is_up) named' ∙ both_false_right (both (addresses name own) (not (eqb own unnamed))) (missing_facts c s n r e is)))
 
   pub read_found :
       not t ≡ false → {x : RecordPlace} {place : ℕ} {new : List ℕ} → found_record x ≡ find_record c s n r → x ≡ At place →
@@ -175,7 +175,7 @@ module _ {f : List ℕ} {c : Cluster} (h : Becomes f c) (s name n r : ℕ) {own 
   read_found yes' {x} {place} e is stored =
       let found : Found c s n r place = found_facts c s n r e is in
       let answers : answers_read name n r (slave_of c s) ≡ true =
-      answers_read_as name n r (slave_of c s) (sym wakes ∙ not-false up isUp) named' ∙ both_true (sym test ∙ not-false t yes') found.has
+      answers_read_as name n r (slave_of c s) (sym wakes ∙ not-false up is_up) named' ∙ both_true (sym test ∙ not-false t yes') found.has
       in
       let bytes : part f place 4 ≡ record_of (slave_of c s) n r =
       ap (λ (p : ℕ). part f p 4) found.at ∙ part-there h s n (record_size * r) record_size (has_record-fits (slave_of c s) n r found.has)
@@ -194,21 +194,21 @@ reply_uncompared : (name : ℕ) (s : Slave) → answers_compare name s ≡ false
 unfolding reply_to
 reply_uncompared name s e = rw e
 
-answersCompare-as :
+answers_compare-as :
     (name : ℕ) (s : Slave) {own : ℕ} → is_awake s ≡ true → own ≡ logical_name s →
     answers_compare name s ≡ both (both (not (eqb name broadcast)) (addresses name own)) (leb (comparison_value s) (physical_name s))
 unfolding answers_compare addressed
-answersCompare-as name s {own} awake e =
+answers_compare-as name s {own} awake e =
     rw (both-next (addresses name (logical_name s)) awake, e)
     (both_assoc (not (eqb name broadcast)) (addresses name (logical_name s)) (leb (comparison_value s) (physical_name s)))
 
-module _ (c : Cluster) (s name : ℕ) {own : ℕ} {t up : Bool} (wakes : up ≡ is_awake (slave_of c s)) (isUp : not up ≡ false)
+module _ (c : Cluster) (s name : ℕ) {own : ℕ} {t up : Bool} (wakes : up ≡ is_awake (slave_of c s)) (is_up : not up ≡ false)
     (named' : own ≡ logical_name (slave_of c s)) (test : t ≡ both (not (eqb name broadcast)) (addresses name own)) (b : List ℕ) (last : ℕ) where
   pub compare_unaddressed : not t ≡ true → Replied (reply_to (comparing name) (slave_of c s)) b b last last
   compare_unaddressed no' =
       reply_quiet b last
       (reply_uncompared name (slave_of c s)
-      (answersCompare-as name (slave_of c s) (sym wakes ∙ not-false up isUp) named' ∙ both_false_left (leb (comparison_value (slave_of c s)) (physical_name (slave_of c s))) (sym test ∙ not-true t no')))
+      (answers_compare-as name (slave_of c s) (sym wakes ∙ not-false up is_up) named' ∙ both_false_left (leb (comparison_value (slave_of c s)) (physical_name (slave_of c s))) (sym test ∙ not-true t no')))
 
   pub compare-below :
       {value physical : ℕ} → value ≡ comparison_value (slave_of c s) → physical ≡ physical_name (slave_of c s) → physical < value →
@@ -216,7 +216,7 @@ module _ (c : Cluster) (s name : ℕ) {own : ℕ} {t up : Bool} (wakes : up ≡ 
   compare-below v p less =
       reply_quiet b last
       (reply_uncompared name (slave_of c s)
-      (answersCompare-as name (slave_of c s) (sym wakes ∙ not-false up isUp) named' ∙
+      (answers_compare-as name (slave_of c s) (sym wakes ∙ not-false up is_up) named' ∙
       both_false_right (both (not (eqb name broadcast)) (addresses name own)) (lt-leb (comparison_value (slave_of c s)) (physical_name (slave_of c s)) (omega arith))))
 
   pub compare-answers :
@@ -225,7 +225,7 @@ module _ (c : Cluster) (s name : ℕ) {own : ℕ} {t up : Bool} (wakes : up ≡ 
   compare-answers yes' v p least stored =
       let reply : reply_to (comparing name) (slave_of c s) ≡ 0 ∷ [] =
       reply-compare name (slave_of c s)
-      (answersCompare-as name (slave_of c s) (sym wakes ∙ not-false up isUp) named' ∙
+      (answers_compare-as name (slave_of c s) (sym wakes ∙ not-false up is_up) named' ∙
       both_true (sym test ∙ not-false t yes') (le-leb (comparison_value (slave_of c s)) (physical_name (slave_of c s)) (omega arith)))
       in
       reply-full last (stored ∙ ap (λ (l : List ℕ). said b 1 l) (sym reply)) (ap length reply)
@@ -319,19 +319,19 @@ pub may_write-file : (n r : ℕ) → may_write n r ≡ true → n ≢ documentat
 unfolding may_write
 may_write-file n r e same = clash (eq-eqb n documentation same) (not-true _ (both_left _ _ e))
 
-module _ {f : List ℕ} {c : Cluster} (h : Becomes f c) (s name n r : ℕ) {own : ℕ} {t up : Bool} (wakes : up ≡ is_awake (slave_of c s)) (isUp : not up ≡ false)
+module _ {f : List ℕ} {c : Cluster} (h : Becomes f c) (s name n r : ℕ) {own : ℕ} {t up : Bool} (wakes : up ≡ is_awake (slave_of c s)) (is_up : not up ≡ false)
     (named' : own ≡ logical_name (slave_of c s)) (test : t ≡ addresses name own) (bytes : List ℕ) where
   pub write_unaddressed : not t ≡ true → Becomes f (with_slave c s (slave_after (writing name n r) bytes (slave_of c s)))
   write_unaddressed no' =
       same-slave s h
       (after_unwritten name n r bytes (slave_of c s)
-      (takes_write_as name n r (slave_of c s) (sym wakes ∙ not-false up isUp) named' ∙ both_false_left (both (has_record (slave_of c s) n r) (may_write n r)) (sym test ∙ not-true t no')))
+      (takes_write_as name n r (slave_of c s) (sym wakes ∙ not-false up is_up) named' ∙ both_false_left (both (has_record (slave_of c s) n r) (may_write n r)) (sym test ∙ not-true t no')))
 
   pub write_missing : {x : RecordPlace} → found_record x ≡ find_record c s n r → x ≡ NoRecord → Becomes f (with_slave c s (slave_after (writing name n r) bytes (slave_of c s)))
   write_missing e is =
       same-slave s h
       (after_unwritten name n r bytes (slave_of c s)
-      (takes_write_as name n r (slave_of c s) (sym wakes ∙ not-false up isUp) named' ∙ both_false_right (addresses name own) (both_false_left (may_write n r) (missing_facts c s n r e is))))
+      (takes_write_as name n r (slave_of c s) (sym wakes ∙ not-false up is_up) named' ∙ both_false_right (addresses name own) (both_false_left (may_write n r) (missing_facts c s n r e is))))
 
   pub write-found :
       not t ≡ false → may_write n r ≡ true → length bytes ≡ 4 → s < length c.slaves → {x : RecordPlace} {place : ℕ} {new : List ℕ} →
@@ -340,7 +340,7 @@ module _ {f : List ℕ} {c : Cluster} (h : Becomes f c) (s name n r : ℕ) {own 
   write-found yes' may four inside {place = place} {new} e is put =
       let found : Found c s n r place = found_facts c s n r e is in
       let takes : takes_write name n r (slave_of c s) ≡ true =
-      takes_write_as name n r (slave_of c s) (sym wakes ∙ not-false up isUp) named' ∙ both_true (sym test ∙ not-false t yes') (both_true found.has may)
+      takes_write_as name n r (slave_of c s) (sym wakes ∙ not-false up is_up) named' ∙ both_true (sym test ∙ not-false t yes') (both_true found.has may)
       in
       let new-bytes : List ℕ = written n r bytes in
       let most : length new-bytes ≤ 4 = omega (arith, written-most n r bytes) in
@@ -365,13 +365,13 @@ takes_name_as : (name : ℕ) (s : Slave) {own : ℕ} → is_awake s ≡ true →
 unfolding takes_name addressed
 takes_name_as name s {own} awake e = rw (both-next (addresses name (logical_name s)) awake, e)
 
-module _ {f : List ℕ} {c : Cluster} (h : Becomes f c) (s name : ℕ) {own : ℕ} {t up : Bool} (wakes : up ≡ is_awake (slave_of c s)) (isUp : not up ≡ false)
+module _ {f : List ℕ} {c : Cluster} (h : Becomes f c) (s name : ℕ) {own : ℕ} {t up : Bool} (wakes : up ≡ is_awake (slave_of c s)) (is_up : not up ≡ false)
     (named' : own ≡ logical_name (slave_of c s)) (test : t ≡ addresses name own) (bytes : List ℕ) where
   pub baptize_unaddressed : not t ≡ true → Becomes f (with_slave c s (slave_after (baptizing name) bytes (slave_of c s)))
   baptize_unaddressed no' =
       same-slave s h
       (after-unnamed name bytes (slave_of c s)
-      (takes_name_as name (slave_of c s) (sym wakes ∙ not-false up isUp) named' ∙ both_false_left (eqb (physical_name (slave_of c s)) (comparison_value (slave_of c s))) (sym test ∙ not-true t no')))
+      (takes_name_as name (slave_of c s) (sym wakes ∙ not-false up is_up) named' ∙ both_false_left (eqb (physical_name (slave_of c s)) (comparison_value (slave_of c s))) (sym test ∙ not-true t no')))
 
   pub baptize-other :
       {value physical : ℕ} → value ≡ comparison_value (slave_of c s) → physical ≡ physical_name (slave_of c s) → (physical ≡ value → ⊥) →
@@ -379,7 +379,7 @@ module _ {f : List ℕ} {c : Cluster} (h : Becomes f c) (s name : ℕ) {own : �
   baptize-other v p differ =
       same-slave s h
       (after-unnamed name bytes (slave_of c s)
-      (takes_name_as name (slave_of c s) (sym wakes ∙ not-false up isUp) named' ∙
+      (takes_name_as name (slave_of c s) (sym wakes ∙ not-false up is_up) named' ∙
       both_false_right (addresses name own) (ne_eqb (physical_name (slave_of c s)) (comparison_value (slave_of c s)) (λ e. differ (p ∙ e ∙ sym v)))))
 
   pub baptize-takes :
@@ -389,7 +389,7 @@ module _ {f : List ℕ} {c : Cluster} (h : Becomes f c) (s name : ℕ) {own : �
   unfolding named
   baptize-takes yes' {new = new} v p same becomes =
       let takes : takes_name name (slave_of c s) ≡ true =
-      takes_name_as name (slave_of c s) (sym wakes ∙ not-false up isUp) named' ∙
+      takes_name_as name (slave_of c s) (sym wakes ∙ not-false up is_up) named' ∙
       both_true (sym test ∙ not-false t yes') (eq-eqb (physical_name (slave_of c s)) (comparison_value (slave_of c s)) (sym p ∙ same ∙ v))
       in
       let after : put_byte c s configuration (logical_name_place) (new_logical_name (slave_of c s)) ≡ with_slave c s (slave_after (baptizing name) bytes (slave_of c s)) =
@@ -406,10 +406,10 @@ asleep_if name s {own} awake e = rw (both-next (addresses name (logical_name s))
 pub sleep_asleep : (c : Cluster) (s name : ℕ) {up : Bool} → up ≡ is_awake (slave_of c s) → not up ≡ true → false ≡ falls_asleep (sleeping name) (slave_of c s)
 sleep_asleep c s name {up} is no' = sym (asleep-wakes (slave_of c s) (sym is ∙ not-true up no') (sleeping name))
 
-module _ (c : Cluster) (s name : ℕ) {own : ℕ} {t up : Bool} (wakes : up ≡ is_awake (slave_of c s)) (isUp : not up ≡ false)
+module _ (c : Cluster) (s name : ℕ) {own : ℕ} {t up : Bool} (wakes : up ≡ is_awake (slave_of c s)) (is_up : not up ≡ false)
     (named' : own ≡ logical_name (slave_of c s)) (test : t ≡ addresses name own) where
   falls : falls_asleep (sleeping name) (slave_of c s) ≡ both (addresses name own) (has_record (slave_of c s) configuration sleep_record)
-  falls = asleep_if name (slave_of c s) (sym wakes ∙ not-false up isUp) named'
+  falls = asleep_if name (slave_of c s) (sym wakes ∙ not-false up is_up) named'
 
   pub sleep_unaddressed : not t ≡ true → false ≡ falls_asleep (sleeping name) (slave_of c s)
   sleep_unaddressed no' = sym (falls ∙ both_false_left (has_record (slave_of c s) configuration sleep_record) (sym test ∙ not-true t no'))

@@ -57,7 +57,7 @@ like_11 = (refl, refl)
 
 -- by "the epoch already raised for this round", 255 going to 0: in epoch 255 field 0 of operation 9 is in turn and field 3 is not
 last_epoch : Cluster
-last_epoch = record { edition = 1; epoch = 255; flag = 0; pending_name = 0; pending_pB2 = 0; pending_pB3 = 0; slaves = [] }
+last_epoch = record { edition = 1; epoch = 255; flag = 0; pending_name = 0; pending_pb2 = 0; pending_pb3 = 0; slaves = [] }
 
 by_raised : (passed_over_lem last_epoch (entry_of 0x40 0x01 0x90 0x01) ≡ false) × (passed_over_lem last_epoch (entry_of 0x40 0x01 0x90 0xC1) ≡ true)
 unfolding last_epoch passed_over_lem epoch_raised with_epoch next_epoch out_of_turn in_turn entry_of either

@@ -351,12 +351,12 @@ module _ {passed : Entry → Bool} {f₀ : List ℕ} {round firework count : ℕ
   next-cluster = below_next passed round (decode f₀) slot ∙ rw (← h.after.decoded, now_sent)
 
   module _ {n bus stored : ℕ} {heard : Bool} {stores after numbers places sizes : List ℕ} (more : slot < slots)
-      (heardAll : SlotHeard passed file round count slot n bus heard after ends stores stored numbers places sizes) (over : count ≤ n) where
+      (heard_all : SlotHeard passed file round count slot n bus heard after ends stores stored numbers places sizes) (over : count ≤ n) where
     q : SlotHearing passed file round slot n bus heard stores stored
-    q = heardAll.hearing
+    q = heard_all.hearing
 
     left : length (decode file).slaves ≤ n
-    left = omega (arith, heardAll.ready.all)
+    left = omega (arith, heard_all.ready.all)
 
     next-filled : Filled (sent_during passed round (decode f₀)) firework old (slot + 1) (set buffer slot bus)
     next-filled = filled_next h.filled more (heard-byte q left ∙ ap bus_byte (sym now_sent))
@@ -374,7 +374,7 @@ module _ {passed : Entry → Bool} {f₀ : List ℕ} {round firework count : ℕ
           filled = next-filled;
           counted = rw masked (mask_silent (sent_during passed round (decode f₀)) slot h.counted quiet);
           after = rw (stays, same) h.ready.becomes;
-          ready = rw stays (ready_same heardAll.ready over);
+          ready = rw stays (ready_same heard_all.ready over);
           size = rw stays h.size;
           room = q.aimed.room;
         }
@@ -397,7 +397,7 @@ module _ {passed : Entry → Bool} {f₀ : List ℕ} {round firework count : ℕ
           filled = next-filled;
           counted = rw masked (mask_next (sent_during passed round (decode f₀)) slot h.counted one);
           after = rw next-cluster holds;
-          ready = ready_next heardAll.ready over all holds;
+          ready = ready_next heard_all.ready over all holds;
           size = ap length stored' ∙ stored-length file stores bus stored ∙ h.size;
           room = q.aimed.room;
         }

@@ -16,7 +16,7 @@ use Rattle.file.specs.Rules.FileGrounds.{is_among}
 use Rattle.file.proofs.Bytes.{all_first}
 use Rattle.file.proofs.Order.{by_case, both_true, either_false, both_false_left, both_false_right}
 use Rattle.naming.specs.Inner.View.{SlaveView, view_unnamed, unnamed_change, change, change_all, answers}
-use Rattle.naming.specs.Rules.RunRounds.{RunRound, RunRound.poll as pollOf, write_name, write_high, write_low, compare, RunRound.baptize as baptizeAll, half}
+use Rattle.naming.specs.Rules.RunRounds.{RunRound, RunRound.poll as poll_of, write_name, write_high, write_low, compare, RunRound.baptize as baptize_all, half}
 use Rattle.naming.specs.Rules.Position.{Position, running, names_used_up}
 use Rattle.naming.specs.Rules.Pass.{PassPlace, high, low, reply, place_of}
 use Rattle.naming.specs.Rules.Run.{round_at, round_here, is_repeated, is_needless}
@@ -39,12 +39,12 @@ use Rattle.naming.proofs.Tally.{Tally, in-pass, ended, Done, due, length_of_pass
 
 -- what a round sends are bytes: a fit name, a half of 32 bits
 pub data Sendable : RunRound → Type 0 where
-  of_poll : {n : ℕ} → Fit n → Sendable (pollOf n)
+  of_poll : {n : ℕ} → Fit n → Sendable (poll_of n)
   of_name : {n : ℕ} → Fit n → Sendable (write_name n)
   of_high : {h : ℕ} → h < half → Sendable (write_high h)
   of_low : {l : ℕ} → l < half → Sendable (write_low l)
   of_compare : Sendable compare
-  of_baptize : Sendable baptizeAll
+  of_baptize : Sendable baptize_all
 
 -- a state after a step's round, and one after another call
 pub record Stepped
@@ -101,12 +101,12 @@ tie-pass {names} {vs} {p} (going {l = l} {a = a} i real) m =
 tie-pass (over o) m = absurd (omega (arith, o.some))
 
 -- the extra round: a poll changes no view, and the reply is ignored
-pub polled : (n : ℕ) (vs : List SlaveView) → change_all (pollOf n) vs ≡ vs
+pub polled : (n : ℕ) (vs : List SlaveView) → change_all (poll_of n) vs ≡ vs
 unfolding change_all
 polled n [] = refl
 polled n (v ∷ vs) = rw (one v, polled n vs)
   where
-    one : (v : SlaveView) → change (pollOf n) v ≡ v
+    one : (v : SlaveView) → change (poll_of n) v ≡ v
     one v = by_case (view_unnamed v) (λ e. unfold change unnamed_change in rw e) (λ e. unfold change in rw e)
 
 -- which writes are needless does not depend on the rounds made
@@ -115,12 +115,12 @@ unfolding is_needless round_here count_raised
 needless_raised names p = rw (repeats (round_at (place_of p.place.step) (get_or names p.place.index 0) p.place.value))
   where
     repeats : (r : RunRound) → is_repeated r p ≡ is_repeated r (count_raised p)
-    repeats (pollOf n) = unfold is_repeated in refl
+    repeats (poll_of n) = unfold is_repeated in refl
     repeats (write_name n) = unfold is_repeated in refl
     repeats (write_high h) = unfold is_repeated in refl
     repeats (write_low l) = unfold is_repeated in refl
     repeats compare = unfold is_repeated in refl
-    repeats baptizeAll = unfold is_repeated in refl
+    repeats baptize_all = unfold is_repeated in refl
 
 tie_extra : {names : List ℕ} {vs : List SlaveView} {p : Position} {a : Account} → Tie names vs p a → p.end ≡ running → Tie names vs (count_raised p) (extra a)
 unfolding count_raised extra

@@ -23,7 +23,7 @@ use Rattle.naming.specs.Rules.Run.{is_repeated, pass_over, onto, pass_round, nex
 use Rattle.naming.specs.Rules.RunGrounds.{unfit_position}
 use Rattle.cluster.specs.Rules.RoundGrounds.{short_answer}
 use Rattle.cluster.specs.Rules.Summary.{without, wrong_summary}
-use Rattle.naming.specs.Rules.Account.{names_of, names_in_lem, Account, Call, Call.step as stepBy, arguments_ground, account_call, account_after, account_of}
+use Rattle.naming.specs.Rules.Account.{names_of, names_in_lem, Account, Call, Call.step as step_by, arguments_ground, account_call, account_after, account_of}
 use Rattle.naming.specs.Rules.Account.{one_half_each, search_rounds, compares_in}
 use Rattle.naming.specs.Rules.Account.{comparisons_of, comparisons_after, high_again, bit_clear, naming_rounds, pass_on, extra, one_round, pass, free_pass}
 use Rattle.naming.specs.Rules.Account.{go_on_lem, pass_done, give, falling, insert, unnamed_among, names_held, end_with}
@@ -48,7 +48,7 @@ m10_accepted = refl
 
 -- steps with a buffer of 64 bytes or more make rounds
 abbrev pub step_with : List ℕ → Call
-step_with buffer = stepBy (record { summary = without; buffer = buffer })
+step_with buffer = step_by (record { summary = without; buffer = buffer })
 
 step-round : (buffer : List ℕ) → short_answer buffer ≡ false → (a : Account) → account_call a (step_with buffer) ≡ one_round a
 unfolding account_call arguments_ground wrong_summary first_of

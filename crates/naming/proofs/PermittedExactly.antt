@@ -27,8 +27,8 @@ use Rattle.naming.specs.Rules.Step.{step_keeping_ground, step_on}
 use Rattle.naming.specs.Rules.Account.{StepArguments, FrameArguments, Call, step, frame}
 use Rattle.naming.specs.Claims.Demand.{State, start_on, halfway_after, call_on, changes_configuration, writes_named, permitted_address, permitted_frame}
 use Rattle.naming.specs.Claims.Demand.{permitted_call, permitted, OfBytes, of_step, of_frame}
-use Rattle.naming.specs.Claims.Permitted.{MayAsk, read, other_file, writeAtName, write_at_all, Accepted, Refused, in_step, in_frame, PermittedList}
-use Rattle.naming.specs.Claims.Permitted.{no_calls, refusedCall, a_step, multipartnerRound, masterSlaveRound, PermittedExactly}
+use Rattle.naming.specs.Claims.Permitted.{MayAsk, read, other_file, write_at_name, write_at_all, Accepted, Refused, in_step, in_frame, PermittedList}
+use Rattle.naming.specs.Claims.Permitted.{no_calls, refused_call, a_step, multipartner_round, master_slave_round, PermittedExactly}
 use Rattle.naming.proofs.StepKeeping.{step-keeping-refused, step-keeping-accepted}
 use Rattle.naming.proofs.Lists.{accepted-halfway}
 
@@ -46,7 +46,7 @@ write_asks bytes b e =
     let other : get_or bytes 2 0 ≢ unnamed = eqb-false _ _ (not-true _ (both_right _ _ (both_right _ _ e))) in
     by_case (eqb (get_or bytes 2 0) broadcast)
     (λ all. write_at_all file operation pb3 (eqb-true _ _ all))
-    (λ one. let some = eqb-false (get_or bytes 2 0) broadcast one in writeAtName file operation pb3 (omega (arith, some)) (omega (arith, other)))
+    (λ one. let some = eqb-false (get_or bytes 2 0) broadcast one in write_at_name file operation pb3 (omega (arith, some)) (omega (arith, other)))
 
 pub may-ask : (bytes : List ℕ) → Bytes bytes → permitted_address bytes ≡ true → MayAsk (parts_of bytes)
 unfolding permitted_address changes_configuration parts_of
@@ -74,7 +74,7 @@ asked-permitted : (bytes : List ℕ) → MayAsk (parts_of bytes) → permitted_a
 unfolding parts_of changes_configuration
 asked-permitted bytes (read e) = not_changing bytes (both_false_right _ (rw (eq-eqb _ _ e)))
 asked-permitted bytes (other_file other) = not_changing bytes (both_false_left _ (ne_eqb _ _ other))
-asked-permitted bytes (writeAtName file operation pb3 least most) = write-permitted bytes file operation pb3 (λ e. omega (arith, e))
+asked-permitted bytes (write_at_name file operation pb3 least most) = write-permitted bytes file operation pb3 (λ e. omega (arith, e))
 asked-permitted bytes (write_at_all file operation pb3 all) = write-permitted bytes file operation pb3 (λ e. omega (arith, e))
 
 -- ---- a refused call, where a round of others is half done or none is
@@ -130,7 +130,7 @@ module _ (names file : List ℕ) (p : Position) where
 
 -- the rest of a round whose MSA is accepted: refused calls, the accepted MSD, and a permitted list
 data RestOfRound (names file : List ℕ) (p : Position) : List Call → Type 0 where
-  restOfRound :
+  rest_of_round :
       {content : FrameArguments} {cs ds : List Call} → All (Refused names file p) cs → Accepted file content msd →
       PermittedList names (round_on file content.bytes content.buffer).2 p ds → RestOfRound names file p (cs ++ frame content ∷ ds)
 
@@ -147,8 +147,8 @@ nothing_described names file false p e = no_calls
 module _ (names file : List ℕ) where
   refused-described :
       (h : Bool) (p : Position) (c : Call) (cs : List Call) → Refused names file p c → Described names cs file h p → Described names (c ∷ cs) file h p
-  refused-described true p c cs r (restOfRound rs a l) = restOfRound (all_next r rs) a l
-  refused-described false p c cs r l = refusedCall r l
+  refused-described true p c cs r (rest_of_round rs a l) = rest_of_round (all_next r rs) a l
+  refused-described false p c cs r l = refused_call r l
 
   step-described :
       (h : Bool) (p : Position) (arguments : StepArguments) (cs : List Call) → step_keeping_ground file p names arguments.summary arguments.buffer ≡ 0 → not h ≡ true →
@@ -164,12 +164,12 @@ module _ (names file : List ℕ) where
       Described names (frame arguments ∷ cs) file h p
   unfolding permitted_frame halfway_after
   frame-described true p (multipartner r) arguments cs b a e l = clash e refl
-  frame-described true p msd arguments cs b a e l = restOfRound all_empty a l
+  frame-described true p msd arguments cs b a e l = rest_of_round all_empty a l
   frame-described true p msa arguments cs b a e l = clash e refl
   frame-described true p no_round arguments cs b a e l = clash e refl
-  frame-described false p (multipartner r) arguments cs b a e l = multipartnerRound a l
+  frame-described false p (multipartner r) arguments cs b a e l = multipartner_round a l
   frame-described false p msd arguments cs b a e l = clash e refl
-  frame-described false p msa arguments cs b a e (restOfRound rs a' l) = masterSlaveRound a (may-ask arguments.bytes b e) rs a' l
+  frame-described false p msa arguments cs b a e (rest_of_round rs a' l) = master_slave_round a (may-ask arguments.bytes b e) rs a' l
   frame-described false p no_round arguments cs b a e l = clash e refl
 
 -- a call in front of permitted calls, the law being known of these
@@ -231,10 +231,10 @@ module _ (names file : List ℕ) (p : Position) where
 
 pub list-permitted : {names file : List ℕ} {p : Position} {calls : List Call} → PermittedList names file p calls → permitted names (on file false) p calls ≡ true
 list-permitted {names} {file} {p} no_calls = unfold permitted in refl
-list-permitted {names} {file} {p} (refusedCall {cs = cs} r l) = refused-front names file false p cs r ∙ list-permitted l
+list-permitted {names} {file} {p} (refused_call {cs = cs} r l) = refused-front names file false p cs r ∙ list-permitted l
 list-permitted {names} {file} {p} (a_step {arguments = arguments} {cs} g l) = step-front names file p false arguments cs g ∙ both-next _ refl ∙ list-permitted l
-list-permitted {names} {file} {p} (multipartnerRound {cs = cs} a l) = multipartner-front names file p cs a ∙ list-permitted l
-list-permitted {names} {file} {p} (masterSlaveRound {address = address} {content} {cs} {ds} a ask rs a' l) =
+list-permitted {names} {file} {p} (multipartner_round {cs = cs} a l) = multipartner-front names file p cs a ∙ list-permitted l
+list-permitted {names} {file} {p} (master_slave_round {address = address} {content} {cs} {ds} a ask rs a' l) =
     address-front names file p (cs ++ frame content ∷ ds) a ∙ both-next _ (asked-permitted address.bytes ask) ∙
     all-refused names (round_on file address.bytes address.buffer).2 true p (frame content ∷ ds) rs ∙
     data-front names (round_on file address.bytes address.buffer).2 p ds a' ∙ list-permitted l

@@ -37,10 +37,10 @@ use Rattle.cluster.proofs.Rounds.{fits-none, round-becomes, round-bytes}
 use Rattle.naming.specs.Rules.Position.{Position, fresh}
 use Rattle.naming.specs.Rules.Account.{Call, frame}
 use Rattle.naming.specs.Claims.Demand.{State, start_on, permitted_address, permitted_frame, permitted, after_calls}
-use Rattle.naming.specs.Claims.Permitted.{MayAsk, read, other_file, writeAtName, write_at_all, Accepted, PermittedList, no_calls, multipartnerRound, masterSlaveRound}
+use Rattle.naming.specs.Claims.Permitted.{MayAsk, read, other_file, write_at_name, write_at_all, Accepted, PermittedList, no_calls, multipartner_round, master_slave_round}
 use Rattle.naming.specs.Claims.PermittedRounds.{PermittedFrom, file_after, run_after, Sendable, address_of, DataFor, of_write_lem, of_other_lem}
-use Rattle.naming.specs.Claims.PermittedRounds.{Rounds, no_rounds, multipartner_next, masterSlaveNext, SentBy, no_frames, one_more_lem, RoundsFit, EachMultipartner}
-use Rattle.naming.specs.Claims.PermittedRounds.{MayNotAsk, other_record, at_unnamed, execute, MayNotAskExactly, BarredMsa, NoMsdNext, at_the_end, refused_next, step_next, frameNext, LoneMsa, LoneMsd}
+use Rattle.naming.specs.Claims.PermittedRounds.{Rounds, no_rounds, multipartner_next, master_slave_next, SentBy, no_frames, one_more_lem, RoundsFit, EachMultipartner}
+use Rattle.naming.specs.Claims.PermittedRounds.{MayNotAsk, other_record, at_unnamed, execute, MayNotAskExactly, BarredMsa, NoMsdNext, at_the_end, refused_next, step_next, frame_next, LoneMsa, LoneMsd}
 use Rattle.naming.proofs.OverBytes.{demand_3, bytes_after}
 use Rattle.naming.proofs.Lists.{permitted_closed, permitted-append, fits-between}
 use Rattle.naming.proofs.PermittedExactly.{may-ask, on, refused-front, frame-front, step-front, address-front, list-permitted}
@@ -157,17 +157,17 @@ rounds-listed names p no_rounds no_frames file b g = no_calls
 rounds-listed names p (multipartner_next {firework} byte is rounds) (one_more_lem {buffer = buffer} long sent) file b g =
     let a = multipartner-accepted file g without given_none buffer long firework is in
     let bytes : Bytes (firework ∷ []) = all_next byte all_empty in
-    multipartnerRound a
+    multipartner_round a
     (rounds-listed names p rounds sent (round_on file (firework ∷ []) buffer).2 (round-bytes file _ buffer b bytes)
     (round-becomes file _ buffer b bytes (keeping-round file without _ buffer a.none)).accepted)
-rounds-listed names p (masterSlaveNext {a = a} {content} may ask d rounds) (one_more_lem {buffer = buffer} long (one_more_lem {buffer = buffer'} long' sent)) file b g =
+rounds-listed names p (master_slave_next {a = a} {content} may ask d rounds) (one_more_lem {buffer = buffer} long (one_more_lem {buffer = buffer'} long' sent)) file b g =
     let first = address-accepted file g without given_none buffer long may in
     let middle : List ℕ = (round_on file (address_of a) buffer).2 in
     let becomes : Becomes middle (frame_on (decode file) (address_of a)).after = round-becomes file _ buffer b (address_of_bytes may) (keeping-round file without _ buffer first.none) in
     let b' : Bytes middle = round-bytes file _ buffer b (address_of_bytes may) in
     let second = data-accepted middle becomes.accepted without given_none buffer' long' d (rw becomes.decoded (address-pending may (decode file))) in
     let asks : MayAsk (parts_of (address_of a)) = rw (parts-back may) ask in
-    masterSlaveRound first asks all_empty second
+    master_slave_round first asks all_empty second
     (rounds-listed names p rounds sent (round_on middle content buffer').2 (round-bytes middle _ buffer' b' (data-frame-bytes d))
     (round-becomes middle _ buffer' b' (data-frame-bytes d) (keeping-round middle without _ buffer' second.none)).accepted)
 
@@ -221,15 +221,15 @@ each-multipartner =
 may-not : {a : Parts} → MayNotAsk a → MayAsk a → ⊥
 may-not (other_record f o r) (read e) = omega (arith, o, e)
 may-not (other_record f o r) (other_file other) = other f
-may-not (other_record f o r) (writeAtName _ _ one _ _) = r one
+may-not (other_record f o r) (write_at_name _ _ one _ _) = r one
 may-not (other_record f o r) (write_at_all _ _ one _) = r one
 may-not (at_unnamed f o n) (read e) = omega (arith, o, e)
 may-not (at_unnamed f o n) (other_file other) = other f
-may-not (at_unnamed f o n) (writeAtName _ _ _ _ most) = omega (arith, n, most)
+may-not (at_unnamed f o n) (write_at_name _ _ _ _ most) = omega (arith, n, most)
 may-not (at_unnamed f o n) (write_at_all _ _ _ all) = omega (arith, n, all)
 may-not (execute f o) (read e) = omega (arith, o, e)
 may-not (execute f o) (other_file other) = other f
-may-not (execute f o) (writeAtName _ w _ _ _) = omega (arith, o, w)
+may-not (execute f o) (write_at_name _ w _ _ _) = omega (arith, o, w)
 may-not (execute f o) (write_at_all _ w _ _) = omega (arith, o, w)
 
 -- a write of 0x08 that may not be asked for, and any operation on it
@@ -245,7 +245,7 @@ write_else {a} f o byte never =
     (λ all. absurd (never (write_at_all f o (eqb-true _ _ one) (eqb-true _ _ all))))
     (λ some.
     let least = eqb-false a.name broadcast some in
-    absurd (never (writeAtName f o (eqb-true _ _ one) (omega (arith, least)) (omega (arith, byte, other)))))))
+    absurd (never (write_at_name f o (eqb-true _ _ one) (omega (arith, least)) (omega (arith, byte, other)))))))
     (λ another. other_record f o (eqb-false _ _ another))
 
 operation_else : {a : Parts} → a.file ≡ configuration → Sendable a → (MayAsk a → ⊥) → MayNotAsk a
@@ -286,7 +286,7 @@ half-done : (names file : List ℕ) (p : Position) {ds : List Call} → NoMsdNex
 half-done names file p at_the_end = unfold permitted in refl
 half-done names file p (refused_next {cs = cs} r n) = refused-front names file true p cs r ∙ half-done names file p n
 half-done names file p (step_next {arguments} {cs} g) = step-front names file p true arguments cs g ∙ both_false_left _ refl
-half-done names file p (frameNext {arguments} {round = round} {cs} a other) =
+half-done names file p (frame_next {arguments} {round = round} {cs} a other) =
     frame-front names file p true cs a ∙ both_false_left _ (no_frame round arguments.bytes other)
 
 pub barred_msa : BarredMsa

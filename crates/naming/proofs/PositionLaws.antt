@@ -23,7 +23,7 @@ use Rattle.naming.specs.Rules.Position.{running, names_used_up}
 use Rattle.naming.specs.Rules.Pass.{last_step}
 use Rattle.naming.specs.Rules.Run.{pass_over, onto, wrote}
 use Rattle.naming.specs.Rules.RunGrounds.{unfit_position, count_limit}
-use Rattle.naming.specs.Rules.RunRounds.{comparison_rounds, half, RunRound, RunRound.poll as pollOf, write_name, write_high, write_low, compare, RunRound.baptize as baptizeAll}
+use Rattle.naming.specs.Rules.RunRounds.{comparison_rounds, half, RunRound, RunRound.poll as poll_of, write_name, write_high, write_low, compare, RunRound.baptize as baptize_all}
 
 -- ---- the value that a comparison sends
 
@@ -175,12 +175,12 @@ pub each-wrote :
     (P : Position → Type 0) (p : Position) → P p → ((h : ℕ) → P (wrote (write_high h) p)) → ((l : ℕ) → P (wrote (write_low l) p)) → (o : RunRound) →
     P (wrote o p)
 unfolding wrote
-each-wrote P p as_it_was of_high of_low (pollOf n) = as_it_was
+each-wrote P p as_it_was of_high of_low (poll_of n) = as_it_was
 each-wrote P p as_it_was of_high of_low (write_name n) = as_it_was
 each-wrote P p as_it_was of_high of_low (write_high h) = of_high h
 each-wrote P p as_it_was of_high of_low (write_low l) = of_low l
 each-wrote P p as_it_was of_high of_low compare = as_it_was
-each-wrote P p as_it_was of_high of_low baptizeAll = as_it_was
+each-wrote P p as_it_was of_high of_low baptize_all = as_it_was
 
 pub wrote-fits : (o : RunRound) {p : Position} → FitCounts p → FitCounts (wrote o p)
 unfolding wrote

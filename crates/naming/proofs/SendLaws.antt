@@ -10,7 +10,7 @@ use Rattle.file.specs.Rules.Bytes.{bytes_of}
 use Rattle.file.specs.Rules.Layout.{record_size}
 use Rattle.file.specs.Rules.Cluster.{unnamed, write_operation, execute_operation}
 use Rattle.naming.specs.Rules.RunRounds.{write_high, write_low, half, comparison_rounds, sent, at_unnamed}
-use Rattle.naming.specs.Rules.RunRounds.{RunRound.poll as pollOf}
+use Rattle.naming.specs.Rules.RunRounds.{RunRound.poll as poll_of}
 use Rattle.naming.specs.Rules.Pass.{Question, Part, high, low, reply, part_of, question_of, ask, give_step, last_step, place_of, ask_or_give, give_of}
 use Rattle.naming.specs.Rules.Run.{round_at}
 use Rattle.master_slave.specs.declared.types.MasterSlaveRound.{MasterSlaveRound}
@@ -46,7 +46,7 @@ module _ (r : MasterSlaveRound) (name v : ℕ) where
 
   -- ---- the round at a step
 
-  pub at-poll : {k : ℕ} → k ≡ 0 → Sends r (sent (pollOf name)) → Sends r (sent (round_at (place_of k) name v))
+  pub at-poll : {k : ℕ} → k ≡ 0 → Sends r (sent (poll_of name)) → Sends r (sent (round_at (place_of k) name v))
   unfolding round_at place_of
   at-poll e s = rw e s
 

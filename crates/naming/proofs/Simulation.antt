@@ -17,7 +17,7 @@ use Rattle.file.proofs.Bytes.{all_first, all_map}
 use Rattle.file.specs.Rules.Order.{both}
 use Rattle.file.proofs.Order.{by_case, clash}
 use Rattle.naming.specs.Inner.View.{SlaveView, unnamed_change, change_all, answers, comparison_of}
-use Rattle.naming.specs.Rules.RunRounds.{RunRound, RunRound.poll as pollOf, write_name, write_high, write_low, compare, half}
+use Rattle.naming.specs.Rules.RunRounds.{RunRound, RunRound.poll as poll_of, write_name, write_high, write_low, compare, half}
 use Rattle.naming.specs.Rules.Position.{Halves, Position, running, fresh, end_at}
 use Rattle.naming.specs.Rules.Pass.{PassPlace, PassPlace.poll, ask, give_name, give_high, give_low, PassPlace.baptize}
 use Rattle.naming.specs.Rules.Pass.{Question, least, bit, Part, high, low, reply, place_of}
@@ -448,14 +448,14 @@ module _ (names : List ℕ) (vs : List SlaveView) (p : Position) (a : Pass) wher
       (λ f.
       rw (replied ∙ f)
       (go_on p.place.value p.halves i at-poll f (λ e z. omega (arith, i.made)) refl polling i.small (f, tt) (tt, tt)
-      (nothing-told (λ v. Unit {0} × Unit {0}) (change_all (pollOf a.name) vs) (λ v. (tt, tt)))))
+      (nothing-told (λ v. Unit {0} × Unit {0}) (change_all (poll_of a.name) vs) (λ v. (tt, tt)))))
     where
-      replied : answers (pollOf a.name) vs ≡ is_among a.name a.held
+      replied : answers (poll_of a.name) vs ≡ is_among a.name a.held
       replied =
           poll-answers a.name vs (all_first i.facts.fit).named ∙ ap (λ (ss : List Named). is_among a.name (names_held ss)) i.views
           ∙ sym (all_first i.facts.taken)
 
-      taken : is_among a.name a.held ≡ true → Loose names (change_all (pollOf a.name) vs) (next_name (length names) p) (pass_on (during a))
+      taken : is_among a.name a.held ≡ true → Loose names (change_all (poll_of a.name) vs) (next_name (length names) p) (pass_on (during a))
       taken t =
           rw (taken-round a.name a.others a.waiting a.slaves a.held a.rounds a.done a.k t)
           (next-name p a a.others a.waiting a.slaves 0 (drop-taken i.facts) i.here (quiet_names polling vs ∙ i.views) i.small

@@ -23,7 +23,7 @@ use Rattle.naming.specs.Rules.Step.{step_ground, step_keeping_ground}
 use Rattle.naming.specs.Rules.Account.{Named, Account, StepArguments, Call, step, frame, account_of, account_call, naming_comparisons, ending_rounds, arguments_ground}
 use Rattle.naming.specs.Rules.Figures.{rounds_for, comparisons_for, names_after}
 use Rattle.naming.specs.Claims.Demand.{State, start_on, call_on, after_calls}
-use Rattle.naming.specs.Claims.Sleep.{StepWakes, NoRoundWakesNobody, Wakes, wakesByStep, wakesByFrame, Woken, from_start, by_first_lem, later, StaysAwake, CountedAwake}
+use Rattle.naming.specs.Claims.Sleep.{StepWakes, NoRoundWakesNobody, Wakes, wakes_by_step, wakes_by_frame, Woken, from_start, by_first_lem, later, StaysAwake, CountedAwake}
 use Rattle.naming.proofs.Answers.{named_of}
 use Rattle.naming.proofs.Facts.{Fit}
 use Rattle.naming.proofs.Start.{Names, Slaves, names-fit}
@@ -86,9 +86,9 @@ module _ (names : List ℕ) (n : Names names) (R C : ℕ) (F : List Named) (few 
 
   one-wakes : (s : State) (p : Position) (a : Account) {c : Call} → Holds s p a → Allowed names s p c → Wakes names s p c →
       AwakeIn (call_on names s p c).0
-  one-wakes s p a h allowed (wakesByStep {arguments} k going) =
+  one-wakes s p a h allowed (wakes_by_step {arguments} k going) =
       running-wakes s p a arguments h allowed (own-none names n s p arguments h.good k) going
-  one-wakes s p a h allowed (wakesByFrame {arguments} k other) = frame-wakes names s p arguments h.good allowed k other
+  one-wakes s p a h allowed (wakes_by_frame {arguments} k other) = frame-wakes names s p arguments h.good allowed k other
 
   -- nobody falls asleep
   one_stays : (s : State) (p : Position) (a : Account) (c : Call) → Holds s p a → Allowed names s p c → AwakeIn s →

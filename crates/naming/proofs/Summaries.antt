@@ -15,9 +15,9 @@ use Rattle.file.specs.Rules.FileGrounds.{file_ground, file_grounds}
 use Rattle.file.proofs.Order.{by_case, first-most, joined-next}
 use Rattle.file.proofs.Results.{file-first, file_numbered}
 use Rattle.cluster.specs.Rules.Summary.{Summary, without, kept, kept_for, round_keeping_ground, round_keeping}
-use Rattle.cluster.specs.Claims.Summary.{Matches, given_none, LeavesRest, ofNames}
+use Rattle.cluster.specs.Claims.Summary.{Matches, given_none, LeavesRest, of_names}
 use Rattle.cluster.proofs.Rounds.{round-bytes}
-use Rattle.cluster.proofs.SummaryLaws.{keptFor-true, rest-same, rest_trans, numbered_most}
+use Rattle.cluster.proofs.SummaryLaws.{kept_for-true, rest-same, rest_trans, numbered_most}
 use Rattle.cluster.proofs.Keeping.{keeping_refused, keeping-accepted, round_keeps_summary, same_names, still_matches, still_matches_exactly}
 use Rattle.cluster.proofs.Holders.{filling_matches, question_is-reading}
 use Rattle.naming.specs.Rules.Position.{Position}
@@ -26,7 +26,7 @@ use Rattle.naming.specs.Rules.RunGrounds.{run_grounds, names_grounds}
 use Rattle.naming.specs.Rules.Step.{step_ground, step_on, step_keeping_ground, step_keeping}
 use Rattle.naming.specs.Claims.Summary.{StepWithout, StepsInOrder, StepRefusedBy24, RefusedStepKeepsSummary, KeepingIsStep, StepKeepsSummary, StepStillMatches, StepStillMatchesBaptized}
 use Rattle.naming.specs.Claims.Summary.{AnyCall, WellTyped, typed_step, typed_frame, keeping_call, plain_call, given, not_given, listed_call, listed_calls}
-use Rattle.naming.specs.Claims.Summary.{BaptizesNobody, in_step_lem, in_frame_lem, no_calls, nextGiven, nextNotGiven, CallsKeepSummary, filled_from, AnswersAsFile}
+use Rattle.naming.specs.Claims.Summary.{BaptizesNobody, in_step_lem, in_frame_lem, no_calls, next_given, next_not_given, CallsKeepSummary, filled_from, AnswersAsFile}
 use Rattle.naming.specs.Claims.Summary.{FilledAndKept}
 use Rattle.naming.proofs.StepLaws.{step-refused}
 use Rattle.naming.proofs.StepKeeping.{others, matched_step, file-step, wrong_step, step-keeping-refused, step-keeping-accepted}
@@ -81,7 +81,7 @@ step_keeps_summary file p names summary buffer fb nb small m =
     by_case (eqb (step_keeping_ground file p names summary buffer) 0)
     (λ t.
     rw (step-keeping-accepted file p names summary buffer (eqb-true _ _ t))
-    (keptFor-true file (step_on file p names buffer).3 m (step_count file p names buffer fb nb small)))
+    (kept_for-true file (step_on file p names buffer).3 m (step_count file p names buffer fb nb small)))
     (λ f. rw (step-keeping-refused file p names summary buffer (eqb-false _ _ f)) (m, rest-same summary))
 
 -- ---- a step not given it
@@ -149,16 +149,16 @@ plain_leaves file summary fb (typed_frame {bytes} {buffer} rb) (in_frame_lem nev
 pub calls_keep_summary : CallsKeepSummary
 unfolding listed_calls listed_call
 calls_keep_summary file summary [] fb no_calls m = (m, rest-same summary)
-calls_keep_summary file summary (given c ∷ cs) fb (nextGiven t more) m =
+calls_keep_summary file summary (given c ∷ cs) fb (next_given t more) m =
     let (matches, rest) = call-keeps file summary fb t m in
     let (after, later) = calls_keep_summary (keeping_call file summary c).0 (keeping_call file summary c).1 cs (call-bytes file summary fb t) more matches in
     (after, rest_trans rest later)
-calls_keep_summary file summary (not_given c ∷ cs) fb (nextNotGiven t nobody more) m =
+calls_keep_summary file summary (not_given c ∷ cs) fb (next_not_given t nobody more) m =
     calls_keep_summary (plain_call file c) summary cs (plain_bytes file fb t) more (plain_leaves file summary fb t nobody m)
 
 -- a summary with its count is one afterwards, and answers as the file
 answers_as_file : (file : List ℕ) (count : ℕ) {slice : List ℕ} {summary : Summary} → Matches file summary → LeavesRest (kept count slice) summary → AnswersAsFile file summary count
-answers_as_file file count m (ofNames {slice' = slice'} size same) =
+answers_as_file file count m (of_names {slice' = slice'} size same) =
     record { slice = slice'; is = refl; answers = λ name. question_is-reading file name count slice' m }
 
 pub filled_and_kept : FilledAndKept

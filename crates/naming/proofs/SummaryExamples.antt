@@ -46,8 +46,8 @@ use Rattle.naming.specs.Claims.Renaming.{StepBaptizes}
 use Rattle.naming.specs.Claims.Files.{one_slave, m10_file}
 use Rattle.naming.specs.Claims.Cases.{answer_buffer}
 use Rattle.naming.specs.Claims.Summary.{AnyCall, a_step, a_frame, WellTyped, typed_step, typed_frame, ListedCall, given, not_given, listed_calls}
-use Rattle.naming.specs.Claims.Summary.{BaptizesNobody, in_step_lem, in_frame_lem, GivenToBaptize, no_calls, nextGiven, nextNotGiven, filled_from, AnswersAsFile}
-use Rattle.naming.specs.Claims.Summary.{GivenMatching, none_given, stepGiven, frameGiven, as_plain}
+use Rattle.naming.specs.Claims.Summary.{BaptizesNobody, in_step_lem, in_frame_lem, GivenToBaptize, no_calls, next_given, next_not_given, filled_from, AnswersAsFile}
+use Rattle.naming.specs.Claims.Summary.{GivenMatching, none_given, step_given_lem, frame_given, as_plain}
 use Rattle.naming.proofs.Examples.{m10_accepted}
 use Rattle.file.proofs.BytesBelow.{all_below, bytes_below}
 use Rattle.naming.proofs.Lists.{steps-permitted}
@@ -218,7 +218,7 @@ baptizes =
     record {
       is_msd = alone_round;
       accepted = round-fits baptized data_round answer_buffer baptized_accepted (omega arith) (alone_fits (decode baptized) refl);
-      pending = record { is_flag = refl; is_name = refl; is_pB2 = refl; is_pB3 = refl };
+      pending = record { is_flag = refl; is_name = refl; is_pb2 = refl; is_pb3 = refl };
     }
 
 taken : map (name_after 0xFF) (decode baptized).slaves ≡ 0x00 ∷ []
@@ -258,7 +258,7 @@ unfound_baptizes =
     record {
       is_msd = alone_round;
       accepted = round-fits unfound data_round answer_buffer unfound_accepted (omega arith) (alone_fits (decode unfound) refl);
-      pending = record { is_flag = refl; is_name = refl; is_pB2 = refl; is_pB3 = refl };
+      pending = record { is_flag = refl; is_name = refl; is_pb2 = refl; is_pb3 = refl };
     }
 
 unfound_names : names_of unfound ≡ 0xFF ∷ []
@@ -354,9 +354,9 @@ no_frame file = in_frame_lem (λ (name : ℕ) (b : Baptizes file [] answer_buffe
 m10_through : (file : List ℕ) (summary : Summary) → GivenToBaptize file summary m10_calls
 unfolding m10_calls
 m10_through file summary =
-    nextGiven typed-step
-    (nextNotGiven typed-step (no_baptism _)
-    (nextNotGiven typed_round (no-msd _) (nextNotGiven (typed_frame all_empty) (no_frame _) (nextGiven typed_round no_calls))))
+    next_given typed-step
+    (next_not_given typed-step (no_baptism _)
+    (next_not_given typed_round (no-msd _) (next_not_given (typed_frame all_empty) (no_frame _) (next_given typed_round no_calls))))
 
 m10-kept :
     AnswersAsFile (listed_calls m10_file (filled_from m10_file (0 ∷ 0 ∷ 9 ∷ [])) m10_calls).0
@@ -372,7 +372,7 @@ mixed_calls = step (record { summary = kept 2 (0xFF ∷ 0xFF ∷ 9 ∷ []); buff
 
 mixed : GivenMatching (1 ∷ 2 ∷ []) (start_on m10_file) (fresh (1 ∷ 2 ∷ [])) mixed_calls
 unfolding mixed_calls start_on
-mixed = stepGiven m10_matches (frameGiven given_none none_given)
+mixed = step_given_lem m10_matches (frame_given given_none none_given)
 
 step_from : PermittedFrom m10_file (1 ∷ 2 ∷ []) (plain_step answer_buffer ∷ [])
 unfolding start_ground names_grounds first_of unfit_name has_repeat is_among both either

@@ -20,7 +20,7 @@ use Rattle.naming.specs.Rules.Position.{Position}
 use Rattle.naming.specs.Rules.Step.{step_ground, step_on, step_keeping_ground}
 use Rattle.naming.specs.Rules.Account.{StepArguments, FrameArguments, Call, step, frame}
 use Rattle.naming.specs.Claims.Demand.{State, halfway_after, call_on, permitted_frame, permitted_call, permitted, after_calls}
-use Rattle.naming.specs.Claims.Summary.{none_given, stepGiven, frameGiven, as_plain, GivenMakesNoDifference}
+use Rattle.naming.specs.Claims.Summary.{none_given, step_given_lem, frame_given, as_plain, GivenMakesNoDifference}
 use Rattle.naming.proofs.StepLaws.{step-refused}
 use Rattle.naming.proofs.StepKeeping.{matched_step, step-keeping-refused, step-keeping-accepted}
 use Rattle.naming.proofs.Summaries.{step-without}
@@ -115,13 +115,13 @@ judged e f = rw (e, f)
 pub given_makes_no_difference : GivenMakesNoDifference
 unfolding after_calls permitted as_plain
 given_makes_no_difference names s p [] none_given = (refl, refl)
-given_makes_no_difference names s p (step arguments ∷ cs) (stepGiven m ms) =
+given_makes_no_difference names s p (step arguments ∷ cs) (step_given_lem m ms) =
     let (after, may) = given_makes_no_difference names (call_on names s p (step arguments)).0 (call_on names s p (step arguments)).1 cs ms in
     let same = step_given names s p arguments m in (
       after ∙ ap (λ (w : State × Position). after_calls names w.0 w.1 (map as_plain cs)) same,
       judged (step-given-may names s p arguments m) (may ∙ ap (λ (w : State × Position). permitted names w.0 w.1 (map as_plain cs)) same),
     )
-given_makes_no_difference names s p (frame arguments ∷ cs) (frameGiven m ms) =
+given_makes_no_difference names s p (frame arguments ∷ cs) (frame_given m ms) =
     let (after, may) = given_makes_no_difference names (call_on names s p (frame arguments)).0 (call_on names s p (frame arguments)).1 cs ms in
     let same = frame-given names s p arguments m in (
       after ∙ ap (λ (w : State × Position). after_calls names w.0 w.1 (map as_plain cs)) same,

@@ -36,7 +36,7 @@ use Rattle.naming.specs.Rules.Account.{Call, bit_clear, naming_rounds, names_of,
 use Rattle.naming.specs.Rules.Account.{go_on_lem, free_pass, pass, pass_on, extra, one_round, arguments_ground, account_call, account_after}
 use Rattle.naming.specs.Claims.Demand.{start_on, permitted, after_calls, OfBytes, of_step, Demand}
 use Rattle.naming.specs.Claims.PermittedRounds.{is-step}
-use Rattle.naming.specs.Claims.Sleep.{wakesByStep, by_first_lem}
+use Rattle.naming.specs.Claims.Sleep.{wakes_by_step, by_first_lem}
 use Rattle.naming.specs.Claims.Files.{one_slave, m6_file_lem, m7_file_lem, m8_file_lem, m9_file_lem}
 use Rattle.naming.specs.Claims.Cases.{answer_buffer}
 use Rattle.file.proofs.BytesBelow.{all_below, bytes_below}
@@ -134,7 +134,7 @@ sleeper_stays_awake : AllAwake (after_calls (5 ∷ []) (start_on sleeper) (fresh
 unfolding two_steps start_on
 sleeper_stays_awake =
     stays_awake sleeper sleeper_bytes sleeper_accepted (5 ∷ []) one_name one-name-accepted two_steps [] steps-bytes steps-may
-    (by_first_lem (wakesByStep first-accepted (unfold fresh end_at in refl)))
+    (by_first_lem (wakes_by_step first-accepted (unfold fresh end_at in refl)))
 
 -- the run then counts two rounds
 pub two-counted : (after_calls (5 ∷ []) (start_on sleeper) (fresh (5 ∷ [])) two_steps).1.counts.rounds ≡ 2

@@ -87,7 +87,7 @@ name_reached =
     record {
       is_msd = data-round 0x00 0x00 0x01 0xFF;
       accepted = round-fits name_write m3 answer_buffer name-accepted (omega arith) (frame-fits 0x00 0x00 0x01 0xFF (decode name_write) refl);
-      pending = record { is_flag = refl; is_name = refl; is_pB2 = refl; is_pB3 = refl };
+      pending = record { is_flag = refl; is_name = refl; is_pb2 = refl; is_pb3 = refl };
       in_table = omega arith;
       is_addressed = refl;
       has = refl;
@@ -108,7 +108,7 @@ half_reached =
       accepted =
           round-fits half_write (data_frame (0x01 ∷ 0x02 ∷ 0x03 ∷ 0x04 ∷ [])) answer_buffer half-accepted (omega arith)
           (frame-fits 0x01 0x02 0x03 0x04 (decode half_write) refl);
-      pending = record { is_flag = refl; is_name = refl; is_pB2 = refl; is_pB3 = refl };
+      pending = record { is_flag = refl; is_name = refl; is_pb2 = refl; is_pb3 = refl };
       in_table = omega arith;
       is_addressed = refl;
       has = refl;

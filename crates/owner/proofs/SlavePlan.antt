@@ -212,7 +212,7 @@ module _ {f : List ℕ} {round s covered planned : ℕ} {multiplexed : Bool} {at
     -- after an entry that is no end
     pub planning_next : {u : Bool} {hidden sent number size : ℕ} → ends (entry_at rodl h.k).operation ≡ false
         → EntryTaken own (entry_there f at) covered planned multiplexed hidden sent u number size → Planning f round s hidden sent u (at + 4) end
-    planning_next {u} {hidden} {sent} {number} {size} goesOn before =
+    planning_next {u} {hidden} {sent} {number} {size} goes_on_lem before =
         let fewer : h.left ≡ suc (h.left - 1) = omega (arith, some_left) in
         record {
           becomes = h.becomes;
@@ -221,14 +221,14 @@ module _ {f : List ℕ} {round s covered planned : ℕ} {multiplexed : Bool} {at
           rest = rest-next h.becomes h.rest fewer;
           same = λ slot l.
               h.same slot l
-              ∙ ap (λ (x : Bool). either (is_set planned slot) (both (not (is_set covered slot)) x)) (acts-next fewer goesOn slot)
+              ∙ ap (λ (x : Bool). either (is_set planned slot) (both (not (is_set covered slot)) x)) (acts-next fewer goes_on_lem slot)
               ∙ left_over (is_set planned slot) (is_set covered slot) (eligible is_multiplexed_receive (entry_at rodl h.k) slot)
               (both (sends (entry_at rodl h.k).operation) (within own (entry_at rodl h.k) slot))
               (is_there (send_place own slot (acting_from is_multiplexed_receive rodl slot (suc h.k) (h.left - 1))))
               ∙ sym (bits slot l);
           sought =
               h.sought
-              ∙ (ap (either multiplexed) (some_next is_multiplexed_send rodl h.k fewer goesOn)
+              ∙ (ap (either multiplexed) (some_next is_multiplexed_send rodl h.k fewer goes_on_lem)
               ∙ (either_more multiplexed (is_multiplexed_send (entry_at rodl h.k)) _
               ∙ ap (λ (b : Bool). either b (some_entry_from is_multiplexed_send rodl (suc h.k) (h.left - 1))) (sym taken.multiplexes)));
         }

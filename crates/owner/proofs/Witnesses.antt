@@ -58,7 +58,7 @@ buffer = replicate 50 0xEE
 
 eight_fits : too_short buffer 1 (decode eight).slaves ≡ false
 unfolding too_short buffer
-eight_fits = ap (λ (l : List ℕ). ltb (length buffer) (length l)) examples.eightOwners
+eight_fits = ap (λ (l : List ℕ). ltb (length buffer) (length l)) examples.eight_owners
 
 -- the answer, and the buffer with these bytes in front
 answer_with : List ℕ → Result ℕ × List ℕ
@@ -75,7 +75,7 @@ unfolding written_in buffer answer_with
 eight-written =
     let none : owner_ground eight 1 buffer ≡ 0 = none-holds eight 1 buffer eight-accepted examples.eight_none examples.eight_once eight_fits in
     owner-written eight 1 buffer none
-    ∙ ap answer_with examples.eightOwners
+    ∙ ap answer_with examples.eight_owners
 
 -- ---- written as if it were awake
 

@@ -55,13 +55,13 @@ module _ (file buffer : List ℕ) (r : Read) (fb : Bytes file) (may : MaySend (r
   address_renames_nobody : names_of (round_on file address buffer).2 ≡ names_of file
   address_renames_nobody = only-baptizing_renames file address buffer fb address-bytes (λ name b. no-msd b.is_msd)
 
-  asked-read : (frame_on (decode file) address).after.pending_pB2 ≡ 4 * r.file
+  asked-read : (frame_on (decode file) address).after.pending_pb2 ≡ 4 * r.file
   unfolding address address_sent address_frame address_bytes frame_of round_by_lem round_of round_in frame_on effect_of with_address with_pending read_sent pb2_of
   asked-read = omega arith
 
-  pending-read : (decode (round_on file address buffer).2).pending_pB2 ≡ 4 * r.file
+  pending-read : (decode (round_on file address buffer).2).pending_pb2 ≡ 4 * r.file
   pending-read =
-      ap (λ (c : Cluster). c.pending_pB2) (round-becomes file address buffer fb address-bytes (unfold address in taken)).decoded
+      ap (λ (c : Cluster). c.pending_pb2) (round-becomes file address buffer fb address-bytes (unfold address in taken)).decoded
       ∙ asked-read
 
   read_renames_nobody : names_of (round_sent file (read_sent r) buffer).2 ≡ names_of file
@@ -69,7 +69,7 @@ module _ (file buffer : List ℕ) (r : Read) (fb : Bytes file) (may : MaySend (r
   read_renames_nobody =
       only-baptizing_renames (round_on file address buffer).2 (data_sent (read_sent r)) (round_on file address buffer).1
       (round-bytes file address buffer fb address-bytes) (rounds.data-sent-bytes (decode file) (read_sent r) may)
-      (λ name b. unfold pb2_of in omega (arith, pending-read, b.pending.is_pB2))
+      (λ name b. unfold pb2_of in omega (arith, pending-read, b.pending.is_pb2))
       ∙ address_renames_nobody
 
 -- ---- a turn

@@ -170,7 +170,7 @@ module _ (f g : List ℕ) (long : length f ≡ length g) (front : take 3 f ≡ t
 pub turn-edition : UnknownEdition
 turn-edition =
     record {
-      ofState =
+      of_state =
           λ s f g a b long front other.
           by_case (eqb (first_of (state_grounds s)) 0)
           (λ t. edition_refuses f g long front other s s a b (eqb-true _ _ t) (eqb-true _ _ t))

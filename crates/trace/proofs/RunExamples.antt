@@ -43,7 +43,7 @@ pub record RunExamples : Type 0 where
   -- an empty frame alone
   pub empty_frame : trace_on least (0 ∷ 1 ∷ 0 ∷ 0 ∷ 0 ∷ 0 ∷ 0 ∷ []) ≡ (reported 0 0 0 1, least)
   -- a refused frame between an MSA and its MSD: the run goes on, and the MSD finds the execute pending
-  pub refusedBetween :
+  pub refused_between :
       trace_on least (0 ∷ 3 ∷ 0 ∷ 8 ∷ 0 ∷ 0 ∷ 6 ∷ 0 ∷ 6 ∷ 1 ∷ 0 ∷ 7 ∷ 1 ∷ 0x55 ∷ 0x05 ∷ 0xFF ∷ 0x22 ∷ 0x02 ∷ 0x8F ∷ 0x55 ∷ 0x49 ∷ []) ≡
       (reported 1 1 0 1, file_with 6 1 0xFF 0x22 0x02)
   -- an MSD of 6 bytes with nothing pending, and a multipartner frame
@@ -87,4 +87,4 @@ multipartner_carried = refl
 pub run_examples : RunExamples
 unfolding multipartner_carried frame_count data_length offset_in length_in data_place_lem whole_rows broken_trace frames_from frames_of after_frames one_refused one_carried
     counted report_from trace_grounds trace_ground trace_on
-run_examples = record { none = refl; empty_frame = refl; refusedBetween = refl; multipartner = refl; broken = refl; broken_file = refl }
+run_examples = record { none = refl; empty_frame = refl; refused_between = refl; multipartner = refl; broken = refl; broken_file = refl }

@@ -90,9 +90,9 @@ frames-step t row place n e = rw (row_here t row place n e)
 
 -- what the loop keeps: the frames that are left, counted into this report on this file, give the report and the file of all frames on
 -- the first file
-pub record Running (file t places : List ℕ) (rowsEnd row start : ℕ) (r : Report) (now : List ℕ) : Type 0 where
+pub record Running (file t places : List ℕ) (rows_end_lem row start : ℕ) (r : Report) (now : List ℕ) : Type 0 where
   pub facts : TraceFacts t
-  pub ends : rowsEnd ≡ data_place_lem t
+  pub ends : rows_end_lem ≡ data_place_lem t
   pub placed : Placed now places
   pub place : ℕ
   pub begins : start ≡ data_place_lem t + place
@@ -123,14 +123,14 @@ running-start {t = t} e p n =
       after = refl;
     }
 
-module _ {file t places : List ℕ} {rowsEnd row start : ℕ} {r : Report} {now : List ℕ} (h : Running file t places rowsEnd row start r now) where
+module _ {file t places : List ℕ} {rows_end_lem row start : ℕ} {r : Report} {now : List ℕ} (h : Running file t places rows_end_lem row start r now) where
   -- a row is left
   record RowLeft : Type 0 where
     fewer : ℕ
     one : h.left ≡ suc fewer
     good : whole_rows t row h.place (suc fewer) ≡ true
 
-  row_left : row < rowsEnd → RowLeft
+  row_left : row < rows_end_lem → RowLeft
   row_left more = go h.left refl
     where
       go : (k : ℕ) → h.left ≡ k → RowLeft
@@ -138,30 +138,30 @@ module _ {file t places : List ℕ} {rowsEnd row start : ℕ} {r : Report} {now 
       go (suc n) e = record { fewer = n; one = e; good = rw e at h.whole }
 
   -- it stands in the trace, and its frame too
-  pub row_within : row < rowsEnd → row + row_size ≤ length t
+  pub row_within : row < rows_end_lem → row + row_size ≤ length t
   row_within more = omega (arith, (row_left more).one, h.at, h.facts.long)
 
-  stated-length : {size : ℕ} → row < rowsEnd → ByteAt t (row + 2) size → size ≡ length_in t row
+  stated-length : {size : ℕ} → row < rows_end_lem → ByteAt t (row + 2) size → size ≡ length_in t row
   unfolding length_in
   stated-length more s = (byte-number (omega (arith, row_within more)) s).is
 
-  pub frame-within : {size : ℕ} → row < rowsEnd → ByteAt t (row + 2) size → start + size ≤ length t
+  pub frame-within : {size : ℕ} → row < rows_end_lem → ByteAt t (row + 2) size → start + size ≤ length t
   frame-within more s =
       let l = row_left more in
       let within = rows-within t (row + row_size) (h.place + length_in t row) l.fewer (row_rest t row h.place l.fewer l.good) in
       omega (arith, within, stated-length more s, h.begins, h.facts.long)
 
   -- there are no more frames than 2 bytes can count
-  pub few-frames : row < rowsEnd → FewFrames r
+  pub few-frames : row < rows_end_lem → FewFrames r
   unfolding data_place_lem
   few-frames more = omega (arith, (row_left more).one, h.counts, h.facts.long, h.facts.high)
 
   pub running-next :
       {size : ℕ} {r' : Report} {now' : List ℕ}
-      → row < rowsEnd
+      → row < rows_end_lem
       → ByteAt t (row + 2) size
       → FrameSent now places (part t start (start + size - start)) r r' now'
-      → Running file t places rowsEnd (row + row_size) (start + size) r' now'
+      → Running file t places rows_end_lem (row + row_size) (start + size) r' now'
   unfolding report_from after_frames
   running-next {size} {r'} {now'} more s sent' =
       let whole : start + size - start ≡ size = omega arith in
@@ -188,7 +188,7 @@ module _ {file t places : List ℕ} {rowsEnd row start : ℕ} {r : Report} {now 
         after = rw f.after (rw frames at h.after);
       }
 
-  pub running-done : rowsEnd ≤ row → TraceSent file t r now
+  pub running-done : rows_end_lem ≤ row → TraceSent file t r now
   unfolding report_from after_frames frames_from
   running-done none =
       let z : h.left ≡ 0 = omega (arith, h.at, h.ends) in

@@ -25,7 +25,7 @@ use Rattle.master_slave.specs.Rules.Slaves.{answers_compare, read_reply, reply_t
 use Rattle.screens.specs.Rules.Screens.{last_served, is_waiting, read_of, fresh, next_screen, due_from, due, no_screen, read_grounds, post_ground}
 use Rattle.screens.specs.Rules.Screens.{posted, post_on, place_of}
 use Rattle.screens.specs.Rules.Turn.{served_by, read_sent, after_serving, due_grounds, state_grounds, turn_ground, turn_made, turn_on}
-use Rattle.convert.proofs.Examples.{examples as convertExamples}
+use Rattle.convert.proofs.Examples.{examples as convert_examples}
 use Rattle.ttpa.specs.Rules.Calls.{check_call, screens_call, post_call, none_waited, turn_screen, turn_senders, turn_call}
 
 -- a slave named 5, epoch 0xE0
@@ -164,7 +164,7 @@ post_examples =
 
 pub record TurnExamples : Type 0 where
   -- from 7 on to 0, answered by the slave in the slots 1 to 5
-  pub afterSeven :
+  pub after_seven :
       turn_call one_slave all_wait long 0 9 ≡
       (0, 0x3E, 0, zero_served, (0x49 ∷ 0xA7 ∷ 0x27 ∷ 0x28 ∷ 0xF9 ∷ 0x18 ∷ []) ++ replicate 58 0xFF, one_read)
   pub wakes : turn_call sleeper asked long 9 9 ≡ (0, 0, 2, two_served, 0x49 ∷ replicate 63 0xFF, woken)
@@ -195,7 +195,7 @@ pub record TurnExamples : Type 0 where
   pub still_served : (turn_call equal_names sharing long 9 9).2 ≡ 5
 
 pub turn_examples : TurnExamples
-unfolding convertExamples with_slaves with_epoch with_pending with_sleep logical_name is_awake has_record pb2_of load_ground load_verdict equal_logical_names
+unfolding convert_examples with_slaves with_epoch with_pending with_sleep logical_name is_awake has_record pb2_of load_ground load_verdict equal_logical_names
     number_in result_of round_of round_in exclusive_or check_of address_check wrong_frame_length wrong_check no_file_number frame_of address_bytes address_frame
     anyone mask_below_lem sender_mask joined bus_byte answer_bytes answer_in in_slot senders_to with_address next_epoch epoch_raised execution_of duty_by pending_duty
     sent_to slaves_after slave_after rested rests_after falls_asleep addressed addresses is_unnamed answers_read answers_compare short_answer round_by_lem
@@ -204,7 +204,7 @@ unfolding convertExamples with_slaves with_epoch with_pending with_sleep logical
     turn_senders turn_call slot_bytes nobody read_reply reply_to record_of no_operation broadcast_read held_names logical_names data_check place_of
 turn_examples =
     record {
-      afterSeven = refl;
+      after_seven = refl;
       wakes = refl;
       wakes_asked = refl;
       none_waits = refl;

@@ -35,8 +35,8 @@ pub data WithoutMsa : List ℕ → List FrameCall → Type 0 where
 pub record Pending (c : Cluster) (flag name pb2 pb3 : ℕ) : Type 0 where
   pub is_flag : c.flag ≡ flag
   pub is_name : c.pending_name ≡ name
-  pub is_pB2 : c.pending_pB2 ≡ pb2
-  pub is_pB3 : c.pending_pB3 ≡ pb3
+  pub is_pb2 : c.pending_pb2 ≡ pb2
+  pub is_pb3 : c.pending_pb3 ≡ pb3
 
 -- "An accepted MSA sets the epoch to PB0 and becomes pending"
 pub record Addressed (c : Cluster) (frame : List ℕ) : Type 0 where
@@ -51,7 +51,7 @@ MsaBecomesPending =
 abbrev pub StaysPending : Type 0
 StaysPending =
     (file : List ℕ) (calls : List FrameCall) → Bytes file → All (λ (c : FrameCall). Bytes c.frame) calls → WithoutMsa file calls →
-    Pending (decode (file_after file calls)) (decode file).flag (decode file).pending_name (decode file).pending_pB2 (decode file).pending_pB3
+    Pending (decode (file_after file calls)) (decode file).flag (decode file).pending_name (decode file).pending_pb2 (decode file).pending_pb3
 
 -- "Any other round first adds 1 to the epoch, 255 going to 0.": after every accepted MSD, and every accepted multipartner frame, whoever sleeps
 pub data RaisesEpoch : Round → Type 0 where

@@ -64,7 +64,7 @@ KeepingIsRound =
 -- what a call leaves of a summary: its count, and the bytes of the slice behind the names
 pub data LeavesRest : Summary → Summary → Type 0 where
   of_none : LeavesRest without without
-  ofNames :
+  of_names :
       {count : ℕ} {slice slice' : List ℕ} → length slice' ≡ length slice → drop count slice' ≡ drop count slice →
       LeavesRest (kept count slice) (kept count slice')
 
@@ -102,8 +102,8 @@ pub data NoBaptizing (file frame buffer : List ℕ) : Type 0 where
   refused_round : round_ground file frame buffer ≢ 0 → NoBaptizing file frame buffer
   no_msd : round_by_lem frame ≢ msd → NoBaptizing file frame buffer
   nothing_pending : (decode file).flag ≢ pending_flag → NoBaptizing file frame buffer
-  other_operation : (decode file).pending_pB2 ≢ pb2_of configuration execute_operation → NoBaptizing file frame buffer
-  other_record : (decode file).pending_pB3 ≢ 1 → NoBaptizing file frame buffer
+  other_operation : (decode file).pending_pb2 ≢ pb2_of configuration execute_operation → NoBaptizing file frame buffer
+  other_record : (decode file).pending_pb3 ≢ 1 → NoBaptizing file frame buffer
 
 abbrev pub NoBaptizingExactly : Type 0
 NoBaptizingExactly =

@@ -20,7 +20,7 @@ round_by_lem [] = no_round
 round_by_lem (b ∷ bs) = round_of b
 
 unfoldable pub write_pending : Cluster → Bool
-write_pending c = both (eqb c.flag pending_flag) (eqb (operation_of c.pending_pB2) write_operation)
+write_pending c = both (eqb c.flag pending_flag) (eqb (operation_of c.pending_pb2) write_operation)
 
 -- "Checked in this order": the grounds of a frame on a cluster, those that the round of its first byte can have
 -- 10. "The frame is empty or its first byte is no firework"

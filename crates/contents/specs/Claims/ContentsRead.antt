@@ -14,7 +14,7 @@ pub record AnsweredExactly : Type 0 where
   pub told :
       (f : List ℕ) (s n : ℕ) (buffer : List ℕ) (k : ℕ) →
       ((contents_on f s n buffer).0 ≡ done k) ↔ ((file_ground f ≡ 0) × (k ≡ length (contents_in f s n)))
-  pub turnedAway :
+  pub turned_away :
       (f : List ℕ) (s n : ℕ) (buffer : List ℕ) (k : ℕ) → ((contents_on f s n buffer).0 ≡ refused k) ↔ ((file_ground f ≡ k) × (k ≢ 0))
 
 -- the files of the slave at a place of the table, none for a place behind it

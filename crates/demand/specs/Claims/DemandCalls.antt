@@ -14,11 +14,11 @@ use Rattle.trace.specs.Rules.Trace.{frames_of}
 use Rattle.trace.specs.Rules.TraceRun.{sent}
 use Rattle.screens.specs.Rules.Screens.{read_of}
 use Rattle.screens.specs.Rules.Turn.{Turn, idle, served, read_sent, turn_on}
-use Rattle.naming.specs.Rules.Account.{arguments_ground, Call, Call.step as stepBy, Call.frame as frame_of}
+use Rattle.naming.specs.Rules.Account.{arguments_ground, Call, Call.step as step_by, Call.frame as frame_of}
 use Rattle.naming.specs.Rules.Account.{Named, names_in_lem, Account, account_of, account_after, comparisons_of}
 use Rattle.naming.specs.Rules.Figures.{Outcome}
 use Rattle.naming.specs.Rules.Position.{Position}
-use Rattle.naming.specs.Claims.Demand.{State, halfway_after, permitted_frame, permitted as permittedByRules}
+use Rattle.naming.specs.Claims.Demand.{State, halfway_after, permitted_frame, permitted as permitted_by_rules}
 use Rattle.ttpa.specs.Rules.Calls.{check_call, start_call, step_call, step_keeping_call, round_call, round_keeping_call, trace_call, turn_call}
 use Rattle.ttpa.specs.Rules.Calls.{words_of, position_in}
 use Rattle.demand.specs.Claims.Traces.{CallOrTrace, halfway_from, frame_call, singly}
@@ -136,8 +136,8 @@ permitted h names m (c ∷ cs) =
 -- rounds, which "change nothing here"
 unfoldable pub calls_fed : List CCall → List Call
 calls_fed [] = []
-calls_fed (ttpa_step buffer senders ∷ cs) = stepBy (record { summary = without; buffer = buffer }) ∷ calls_fed cs
-calls_fed (ttpa_step_keeping buffer senders held count ∷ cs) = stepBy (record { summary = kept count held; buffer = buffer }) ∷ calls_fed cs
+calls_fed (ttpa_step buffer senders ∷ cs) = step_by (record { summary = without; buffer = buffer }) ∷ calls_fed cs
+calls_fed (ttpa_step_keeping buffer senders held count ∷ cs) = step_by (record { summary = kept count held; buffer = buffer }) ∷ calls_fed cs
 calls_fed (ttpa_round bytes buffer senders ∷ cs) = frame_of (record { summary = without; bytes = bytes; buffer = buffer }) ∷ calls_fed cs
 calls_fed (ttpa_round_keeping bytes buffer senders held count ∷ cs) =
     frame_of (record { summary = kept count held; bytes = bytes; buffer = buffer }) ∷ calls_fed cs
@@ -217,9 +217,9 @@ abbrev pub memory_of : State → Position → Memory
 memory_of s p = record { file = s.file; run = words_of p }
 
 unfoldable pub arguments_of : List ℕ → CCall → List CallOrTrace
-arguments_of file (ttpa_step buffer senders) = CallOrTrace.call (stepBy (record { summary = without; buffer = buffer })) ∷ []
+arguments_of file (ttpa_step buffer senders) = CallOrTrace.call (step_by (record { summary = without; buffer = buffer })) ∷ []
 arguments_of file (ttpa_step_keeping buffer senders held count) =
-    CallOrTrace.call (stepBy (record { summary = kept count held; buffer = buffer })) ∷ []
+    CallOrTrace.call (step_by (record { summary = kept count held; buffer = buffer })) ∷ []
 arguments_of file (ttpa_round bytes buffer senders) =
     CallOrTrace.call (frame_of (record { summary = without; bytes = bytes; buffer = buffer })) ∷ []
 arguments_of file (ttpa_round_keeping bytes buffer senders held count) =
@@ -236,4 +236,4 @@ arguments_of_all names m (c ∷ cs) = arguments_of m.file c ++ arguments_of_all 
 abbrev pub SamePermitted : Type 0
 SamePermitted =
     (names : List ℕ) (s : State) (p : Position) (calls : List CCall) →
-    permitted s.halfway names (memory_of s p) calls ≡ permittedByRules names s p (singly (arguments_of_all names (memory_of s p) calls))
+    permitted s.halfway names (memory_of s p) calls ≡ permitted_by_rules names s p (singly (arguments_of_all names (memory_of s p) calls))

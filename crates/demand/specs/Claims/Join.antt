@@ -11,7 +11,7 @@ use Rattle.join.specs.Rules.Join.{join_on}
 use Rattle.naming.specs.Rules.Account.{Named, falling, unnamed_among, names_held, account_of, Call}
 use Rattle.naming.specs.Rules.Position.{fresh}
 use Rattle.naming.specs.Rules.RunGrounds.{start_ground}
-use Rattle.naming.specs.Claims.Demand.{start_on, after_calls as afterByRules, permitted as permittedByRules, OfBytes, Demand}
+use Rattle.naming.specs.Claims.Demand.{start_on, after_calls as after_by_rules, permitted as permitted_by_rules, OfBytes, Demand}
 use Rattle.ttpa.specs.Rules.Calls.{check_call, start_call, join_call}
 use Rattle.demand.specs.Claims.DemandCalls.{CCall, GivenBytes, after_calls, permitted, slaves_in, TakenByRounds, CallsDemand, started}
 use Rattle.demand.specs.Claims.DemandEditions.{CallOrConversion, after_converting, permitted_converting, calls_among, Fitting}
@@ -54,8 +54,8 @@ pub record NamingFrom (j : List ℕ) : Type 0 where
   pub accepted : file_ground j ≡ 0
   pub demand :
       (names : List ℕ) → Bytes names → start_ground names ≡ 0 →
-      (calls : List Call) → All OfBytes calls → permittedByRules names (start_on j) (fresh names) calls ≡ true →
-      Demand j names calls (afterByRules names (start_on j) (fresh names) calls).0.file (afterByRules names (start_on j) (fresh names) calls).1
+      (calls : List Call) → All OfBytes calls → permitted_by_rules names (start_on j) (fresh names) calls ≡ true →
+      Demand j names calls (after_by_rules names (start_on j) (fresh names) calls).0.file (after_by_rules names (start_on j) (fresh names) calls).1
 
 abbrev pub NamingAfterJoin : Type 0
 NamingAfterJoin = (f g out : List ℕ) (n : ℕ) → Bytes f → Bytes g → (join_on f g out).0 ≡ done n → NamingFrom (take n (join_on f g out).1)

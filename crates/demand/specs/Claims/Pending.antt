@@ -35,7 +35,7 @@ abbrev pub CallsStayPending : Type 0
 CallsStayPending =
     (file names : List ℕ) (p : Position) (calls : List CallOrTrace) → Bytes file → All AllBytes calls → NoMsaAmong names (start_on file) p (singly calls) →
     Pending (decode (after_all names (start_on file) p calls).0.file)
-    (decode file).flag (decode file).pending_name (decode file).pending_pB2 (decode file).pending_pB3
+    (decode file).flag (decode file).pending_name (decode file).pending_pb2 (decode file).pending_pb3
 
 -- and so over the C calls, of which a turn that serves a screen sends an MSA
 abbrev pub CCallsStayPending : Type 0
@@ -43,4 +43,4 @@ CCallsStayPending =
     (file names : List ℕ) (p : Position) (calls : List CCall) → Bytes file → All GivenBytes calls →
     NoMsaAmong names (start_on file) p (singly (arguments_of_all names (memory_of (start_on file) p) calls)) →
     Pending (decode (after_calls names (memory_of (start_on file) p) calls).file)
-    (decode file).flag (decode file).pending_name (decode file).pending_pB2 (decode file).pending_pB3
+    (decode file).flag (decode file).pending_name (decode file).pending_pb2 (decode file).pending_pb3

@@ -6,7 +6,7 @@ use Rattle.trace.specs.Rules.Layout.{max_trace}
 use Rattle.trace.specs.Rules.Encode.{encode_trace}
 use Rattle.naming.specs.Rules.Position.{fresh}
 use Rattle.naming.specs.Rules.Account.{Call}
-use Rattle.naming.specs.Claims.Demand.{start_on, permitted as permittedByRules}
+use Rattle.naming.specs.Claims.Demand.{start_on, permitted as permitted_by_rules}
 use Rattle.naming.specs.Claims.Permitted.{PermittedList}
 use Rattle.naming.specs.Claims.PermittedRounds.{PermittedFrom, IsStep as IsStepByRules, Rounds, SentBy}
 use Rattle.ttpa.specs.Rules.Calls.{start_call}
@@ -26,7 +26,7 @@ abbrev pub TraceFits : Type 0
 TraceFits =
     (file names : List ℕ) (calls : List CallOrTrace) → PermittedFrom file names (singly calls) →
     (frames : List (List ℕ)) → Rounds frames → length (encode_trace frames) ≤ max_trace → (ds : List Call) → All IsStepByRules ds →
-    permittedByRules names (start_on file) (fresh names) (singly (calls ++ CallOrTrace.trace (encode_trace frames) ∷ map CallOrTrace.call ds)) ≡ true
+    permitted_by_rules names (start_on file) (fresh names) (singly (calls ++ CallOrTrace.trace (encode_trace frames) ∷ map CallOrTrace.call ds)) ≡ true
 
 -- and over the C calls: permitted rounds, their frames sent by ttpa_round with buffers that are long enough, by ttpa_trace or by ttpa_turn,
 -- among calls with summaries and without. (`Claims/Summary` has that ttpa_round_keeping with a summary that matches is permitted where

@@ -33,11 +33,11 @@ pub data SomeWakes : List ℕ → List (List ℕ) → Type 0 where
 pub data MayWake (m : Memory) : CCall → Type 0 where
   by_step : {c : CCall} → IsStep c → (position_in m.run).end ≡ running → MayWake m c
   by_round : {bytes buffer : List ℕ} {senders : ℕ} → round_by_lem bytes ≢ msa → MayWake m (ttpa_round bytes buffer senders)
-  byRoundKeeping :
+  by_round_keeping :
       {bytes buffer : List ℕ} {senders : ℕ} {held : List ℕ} {count : ℕ} → round_by_lem bytes ≢ msa →
       MayWake m (ttpa_round_keeping bytes buffer senders held count)
   by_trace : {t report : List ℕ} → SomeWakes m.file (frames_of t) → MayWake m (ttpa_trace_lem t report)
-  byTurn :
+  by_turn :
       {state buffer : List ℕ} {senders screen : ℕ} → SomeWakes m.file (turn_frames m.file state buffer) →
       MayWake m (ttpa_turn state buffer senders screen)
 

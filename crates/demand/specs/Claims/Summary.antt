@@ -49,7 +49,7 @@ pub data Keeps (file : List ℕ) : Made → Type 0 where
   in_round : {bytes buffer : List ℕ} {senders : ℕ} → Bytes bytes → Keeps file (keeping_round bytes buffer senders)
   in_step_lem :
       {run names buffer : List ℕ} {senders : ℕ} → Bytes names → (position_in run).place.value < 2 ^ bits → Keeps file (keeping_step_lem run names buffer senders)
-  inOther :
+  in_other :
       {run names : List ℕ} {c : CCall} → Bytes names → (position_in run).place.value < 2 ^ bits → GivenBytes c →
       names_of (other_file file run names c) ≡ names_of file → Keeps file (other run names c)
   in_turn :
@@ -59,7 +59,7 @@ pub data Keeps (file : List ℕ) : Made → Type 0 where
 -- each on the file and the slice as they then are
 pub data AllKeep (count : ℕ) : List ℕ → List ℕ → List Made → Type 0 where
   none_made_lem : {file held : List ℕ} → AllKeep count file held []
-  nextMade :
+  next_made :
       {file held : List ℕ} {c : Made} {cs : List Made} → Keeps file c →
       AllKeep count (made_on count file held c).0 (made_on count file held c).1 cs → AllKeep count file held (c ∷ cs)
 
@@ -133,10 +133,10 @@ pub data GivenRight (file : List ℕ) : CCall → Type 0 where
   round_without : {bytes buffer : List ℕ} {senders : ℕ} → GivenRight file (ttpa_round bytes buffer senders)
   trace_without : {t report : List ℕ} → GivenRight file (ttpa_trace_lem t report)
   turn_without : {state buffer : List ℕ} {senders screen : ℕ} → GivenRight file (ttpa_turn state buffer senders screen)
-  stepMatching :
+  step_matching :
       {buffer : List ℕ} {senders : ℕ} {held : List ℕ} {count : ℕ} → Matches file (kept count held) →
       GivenRight file (ttpa_step_keeping buffer senders held count)
-  roundMatching :
+  round_matching :
       {bytes buffer : List ℕ} {senders : ℕ} {held : List ℕ} {count : ℕ} → Matches file (kept count held) →
       GivenRight file (ttpa_round_keeping bytes buffer senders held count)
 

@@ -74,7 +74,7 @@ RunsEndOverCalls =
 -- a step with an answer buffer of 64 bytes or more, whatever it holds
 pub data LongStep : CCall → Type 0 where
   long : {buffer : List ℕ} {senders : ℕ} → slots ≤ length buffer → LongStep (ttpa_step buffer senders)
-  longKeeping :
+  long_keeping :
       {buffer : List ℕ} {senders : ℕ} {held : List ℕ} {count : ℕ} → slots ≤ length buffer →
       LongStep (ttpa_step_keeping buffer senders held count)
 

@@ -8,7 +8,7 @@ use Rattle.std.specs.Prelude.{ℕ, ◌+◌, ◌*◌, ◌-◌, ◌≤◌, ◌<◌
 use Rattle.file.specs.Rules.Bytes.{number_of, bytes_of, part}
 use Rattle.file.specs.Rules.Order.{either}
 use Rattle.file.specs.Rules.Layout.{width_in, width_of, edition_of, zeros_length, header_size, entry_size_lem, fill_length, max_slaves, max_length}
-use Rattle.file.specs.Rules.Layout.{mark_place, edition_place, count_place, table_place, length_place, epoch_place, flag_place, pending_name_place, pending_pB2_place, pending_pB3_place, zeros_place}
+use Rattle.file.specs.Rules.Layout.{mark_place, edition_place, count_place, table_place, length_place, epoch_place, flag_place, pending_name_place, pending_pb2_place, pending_pb3_place, zeros_place}
 use Rattle.file.specs.Rules.Cluster.{File, Slave, no_slave_lem, Cluster, last_record, bytes_in, physical_name, new_logical_name, logical_name, comparison_value}
 use Rattle.file.specs.Rules.Encode.{directory_entry, table_entry, header, file_length}
 use Rattle.file.specs.Rules.Decode.{offset_at, decode}
@@ -28,8 +28,8 @@ pub record ReadAsOne (f : List ℕ) : Type 0 where
   pub epoch_at : (decode f).epoch ≡ get_or f 8 0
   pub flag_at_lem : (decode f).flag ≡ get_or f 9 0
   pub name_at : (decode f).pending_name ≡ get_or f 10 0
-  pub pb2_at : (decode f).pending_pB2 ≡ get_or f 11 0
-  pub pb3_at : (decode f).pending_pB3 ≡ get_or f 12 0
+  pub pb2_at : (decode f).pending_pb2 ≡ get_or f 11 0
+  pub pb3_at : (decode f).pending_pb3 ≡ get_or f 12 0
   pub sleeps : SleepBytes f (λ (i : ℕ). 19 + 4 * i)
 
 pub record EditionOne : Type 0 where
@@ -46,8 +46,8 @@ pub record EditionOne : Type 0 where
   pub epoch_from : epoch_place 2 ≡ 8
   pub flag_from : flag_place 2 ≡ 9
   pub name_from : pending_name_place 2 ≡ 10
-  pub pb2_from : pending_pB2_place 2 ≡ 11
-  pub pb3_from : pending_pB3_place 2 ≡ 12
+  pub pb2_from : pending_pb2_place 2 ≡ 11
+  pub pb3_from : pending_pb3_place 2 ≡ 12
   pub zeros_from : zeros_place 2 ≡ 13
   -- of a file of either edition: bytes 2 and 3 are the edition and the slave count in both
   pub edition_at : (f : List ℕ) → file_ground f ≡ 0 → (decode f).edition ≡ get_or f 2 0
@@ -63,7 +63,7 @@ pub record EditionOne : Type 0 where
   pub header_bytes : (c : Cluster) →
       header 2 c ≡
       (0x54 ∷ 0x41 ∷ 1 ∷ length c.slaves ∷ 0 ∷ 16 ∷ []) ++
-      (bytes_of 2 (file_length 2 c.slaves) ++ (c.epoch ∷ c.flag ∷ c.pending_name ∷ c.pending_pB2 ∷ c.pending_pB3 ∷ 0 ∷ 0 ∷ 0 ∷ []))
+      (bytes_of 2 (file_length 2 c.slaves) ++ (c.epoch ∷ c.flag ∷ c.pending_name ∷ c.pending_pb2 ∷ c.pending_pb3 ∷ 0 ∷ 0 ∷ 0 ∷ []))
   pub table_bytes : (place : ℕ) (s : Slave) → table_entry 2 place s ≡ bytes_of 2 place ++ (length s.files ∷ s.asleep ∷ [])
   pub directory_bytes : (place : ℕ) (x : File) → directory_entry 2 place x ≡ x.number ∷ last_record x.bytes ∷ bytes_of 2 place
   pub physical_name_at : (s : Slave) → physical_name s ≡ number_of (part (bytes_in s 0x3D) 4 8)

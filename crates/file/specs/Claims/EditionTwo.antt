@@ -6,7 +6,7 @@ use Rattle.std.specs.Prelude.{ℕ, ◌+◌, ◌*◌, ◌-◌, ◌≤◌, ◌<◌
 use Rattle.file.specs.Rules.Bytes.{bytes_of, part}
 use Rattle.file.specs.Rules.Order.{either}
 use Rattle.file.specs.Rules.Layout.{width_in, width_of, edition_of, zeros_length, header_size, entry_size_lem, fill_length, max_slaves, max_length}
-use Rattle.file.specs.Rules.Layout.{length_place, epoch_place, flag_place, pending_name_place, pending_pB2_place, pending_pB3_place, zeros_place}
+use Rattle.file.specs.Rules.Layout.{length_place, epoch_place, flag_place, pending_name_place, pending_pb2_place, pending_pb3_place, zeros_place}
 use Rattle.file.specs.Rules.Cluster.{File, Slave, Cluster, last_record}
 use Rattle.file.specs.Rules.Encode.{directory_entry, table_entry, header, file_length}
 use Rattle.file.specs.Rules.Decode.{offset_at, decode}
@@ -36,8 +36,8 @@ pub record ReadAsTwo (f : List ℕ) : Type 0 where
   pub epoch_at : (decode f).epoch ≡ get_or f 12 0
   pub flag_at_lem : (decode f).flag ≡ get_or f 13 0
   pub name_at : (decode f).pending_name ≡ get_or f 14 0
-  pub pb2_at : (decode f).pending_pB2 ≡ get_or f 15 0
-  pub pb3_at : (decode f).pending_pB3 ≡ get_or f 16 0
+  pub pb2_at : (decode f).pending_pb2 ≡ get_or f 15 0
+  pub pb3_at : (decode f).pending_pb3 ≡ get_or f 16 0
   pub sleeps : SleepBytes f (λ (i : ℕ). 29 + 8 * i)
 
 -- the last table entry of the longest file, of a slave with no files: its offset is the file's end, "00 01 00 00"
@@ -54,8 +54,8 @@ pub record EditionTwo : Type 0 where
   pub epoch_from : epoch_place 4 ≡ 12
   pub flag_from : flag_place 4 ≡ 13
   pub name_from : pending_name_place 4 ≡ 14
-  pub pb2_from : pending_pB2_place 4 ≡ 15
-  pub pb3_from : pending_pB3_place 4 ≡ 16
+  pub pb2_from : pending_pb2_place 4 ≡ 15
+  pub pb3_from : pending_pb3_place 4 ≡ 16
   pub zeros_from : zeros_place 4 ≡ 17
   pub read : (f : List ℕ) → get_or f 2 0 ≡ 2 → ReadAsTwo f
   pub zeros_at : header_size 4 - zeros_length 4 ≡ 17
@@ -69,7 +69,7 @@ pub record EditionTwo : Type 0 where
       header 4 c ≡
       (0x54 ∷ 0x41 ∷ 2 ∷ length c.slaves ∷ 0 ∷ 0 ∷ 0 ∷ 24 ∷ []) ++
       (bytes_of 4 (file_length 4 c.slaves) ++
-      (c.epoch ∷ c.flag ∷ c.pending_name ∷ c.pending_pB2 ∷ c.pending_pB3 ∷ 0 ∷ 0 ∷ 0 ∷ 0 ∷ 0 ∷ 0 ∷ 0 ∷ []))
+      (c.epoch ∷ c.flag ∷ c.pending_name ∷ c.pending_pb2 ∷ c.pending_pb3 ∷ 0 ∷ 0 ∷ 0 ∷ 0 ∷ 0 ∷ 0 ∷ 0 ∷ []))
   pub table_bytes : (place : ℕ) (s : Slave) → table_entry 4 place s ≡ bytes_of 4 place ++ (length s.files ∷ s.asleep ∷ 0 ∷ 0 ∷ [])
   pub directory_bytes : (place : ℕ) (x : File) → directory_entry 4 place x ≡ x.number ∷ last_record x.bytes ∷ 0 ∷ 0 ∷ bytes_of 4 place
   pub count_above : (f : List ℕ) → 64 < get_or f 3 0 → wrong_header 4 f ≡ true

@@ -55,9 +55,9 @@ pub record Placed (f places : List ℕ) : Type 0 where
 pub record PendingIs (c : Cluster) (flag name number operation «record» : ℕ) : Type 0 where
   pub flag_is : flag ≡ c.flag
   pub name_is : name ≡ c.pending_name
-  pub file_is : number ≡ file_number_of c.pending_pB2
-  pub operation_is : operation ≡ operation_of c.pending_pB2
-  pub record_is : «record» ≡ c.pending_pB3
+  pub file_is : number ≡ file_number_of c.pending_pb2
+  pub operation_is : operation ≡ operation_of c.pending_pb2
+  pub record_is : «record» ≡ c.pending_pb3
 
 -- where a slave keeps a file, and how many bytes it has; where it keeps a record
 pub data FoundFile : Type 0 where

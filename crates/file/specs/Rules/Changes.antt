@@ -17,15 +17,15 @@ with_sleep s b = record { asleep = b; files = s.files }
 
 -- the edition replaced: epoch, pending bytes, sleep bytes and files as they were
 unfoldable pub with_edition : Cluster → ℕ → Cluster
-with_edition c e = record { edition = e; epoch = c.epoch; flag = c.flag; pending_name = c.pending_name; pending_pB2 = c.pending_pB2; pending_pB3 = c.pending_pB3; slaves = c.slaves }
+with_edition c e = record { edition = e; epoch = c.epoch; flag = c.flag; pending_name = c.pending_name; pending_pb2 = c.pending_pb2; pending_pb3 = c.pending_pb3; slaves = c.slaves }
 
 unfoldable pub with_slaves : Cluster → List Slave → Cluster
-with_slaves c ss = record { edition = c.edition; epoch = c.epoch; flag = c.flag; pending_name = c.pending_name; pending_pB2 = c.pending_pB2; pending_pB3 = c.pending_pB3; slaves = ss }
+with_slaves c ss = record { edition = c.edition; epoch = c.epoch; flag = c.flag; pending_name = c.pending_name; pending_pb2 = c.pending_pb2; pending_pb3 = c.pending_pb3; slaves = ss }
 
 -- the header's five bytes replaced: the epoch, and the pending flag, logical name, PB2 and PB3
 unfoldable pub with_epoch : Cluster → ℕ → Cluster
-with_epoch c epoch = record { edition = c.edition; epoch = epoch; flag = c.flag; pending_name = c.pending_name; pending_pB2 = c.pending_pB2; pending_pB3 = c.pending_pB3; slaves = c.slaves }
+with_epoch c epoch = record { edition = c.edition; epoch = epoch; flag = c.flag; pending_name = c.pending_name; pending_pb2 = c.pending_pb2; pending_pb3 = c.pending_pb3; slaves = c.slaves }
 
 unfoldable pub with_pending : Cluster → ℕ → ℕ → ℕ → ℕ → Cluster
 with_pending c flag name pb2 pb3 =
-    record { edition = c.edition; epoch = c.epoch; flag = flag; pending_name = name; pending_pB2 = pb2; pending_pB3 = pb3; slaves = c.slaves }
+    record { edition = c.edition; epoch = c.epoch; flag = flag; pending_name = name; pending_pb2 = pb2; pending_pb3 = pb3; slaves = c.slaves }

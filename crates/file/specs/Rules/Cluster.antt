@@ -29,8 +29,8 @@ pub record Cluster : Type 0 where
   pub epoch : ℕ
   pub flag : ℕ
   pub pending_name : ℕ
-  pub pending_pB2 : ℕ
-  pub pending_pB3 : ℕ
+  pub pending_pb2 : ℕ
+  pub pending_pb3 : ℕ
   pub slaves : List Slave
 
 -- "A file is 4(r + 1) bytes, records 0x00 to r": the r of that many bytes

@@ -3,7 +3,7 @@
 use Rattle.std.specs.Prelude.{ℕ, zero, suc, ◌+◌, ◌*◌, List, [], ◌∷◌, get_or}
 use Rattle.file.specs.Rules.Bytes.{number_of, part}
 use Rattle.file.specs.Rules.Layout.{width_of, edition_of, header_size, entry_size_lem, record_size}
-use Rattle.file.specs.Rules.Layout.{count_place, epoch_place, flag_place, pending_name_place, pending_pB2_place, pending_pB3_place}
+use Rattle.file.specs.Rules.Layout.{count_place, epoch_place, flag_place, pending_name_place, pending_pb2_place, pending_pb3_place}
 use Rattle.file.specs.Rules.Cluster.{File, Slave, Cluster}
 
 -- a number of the offset's width at a place
@@ -42,8 +42,8 @@ decode_at w f =
       epoch = get_or f (epoch_place w) 0;
       flag = get_or f (flag_place w) 0;
       pending_name = get_or f (pending_name_place w) 0;
-      pending_pB2 = get_or f (pending_pB2_place w) 0;
-      pending_pB3 = get_or f (pending_pB3_place w) 0;
+      pending_pb2 = get_or f (pending_pb2_place w) 0;
+      pending_pb3 = get_or f (pending_pb3_place w) 0;
       slaves = slaves_at w f (header_size w) (get_or f count_place 0);
     }
 

@@ -62,7 +62,7 @@ header w c =
     (0x54 ∷ 0x41 ∷ edition_of w ∷ length c.slaves ∷ []) ++
     (bytes_of w (header_size w) ++
     (bytes_of w (file_length w c.slaves) ++
-    ((c.epoch ∷ c.flag ∷ c.pending_name ∷ c.pending_pB2 ∷ c.pending_pB3 ∷ []) ++ replicate (zeros_length w) 0)))
+    ((c.epoch ∷ c.flag ∷ c.pending_name ∷ c.pending_pb2 ∷ c.pending_pb3 ∷ []) ++ replicate (zeros_length w) 0)))
 
 -- "After the table come, slave by slave, its directory and its files in order, without gap, up to the last byte."
 unfoldable pub encode_at : ℕ → Cluster → List ℕ

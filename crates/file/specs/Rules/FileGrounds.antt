@@ -7,7 +7,7 @@ use Rattle.file.specs.Rules.Order.{Ground, first_of, both, either}
 use Rattle.file.specs.Rules.Layout.{width_of, edition_of, pending_flag, zeros_length}
 use Rattle.file.specs.Rules.Layout.{header_size, entry_size_lem, fill_length, max_slaves, max_length}
 use Rattle.file.specs.Rules.Layout.{mark_place, edition_place, count_place, table_place, length_place, zeros_place}
-use Rattle.file.specs.Rules.Layout.{flag_place, pending_name_place, pending_pB2_place}
+use Rattle.file.specs.Rules.Layout.{flag_place, pending_name_place, pending_pb2_place}
 use Rattle.file.specs.Rules.Cluster.{Slave, bytes_in, last_record, configuration, documentation, physical_name, logical_names, unnamed, operation_of, no_operation, broadcast_read}
 use Rattle.file.specs.Rules.Decode.{offset_at, file_size, decode_at}
 use Rattle.file.specs.Rules.Results.{Result, result_of}
@@ -47,7 +47,7 @@ wrong_header w f =
     either (ltb (max_slaves w) (get_or f count_place 0))
     (either (not (eqb (offset_at w f table_place) (header_size w)))
     (either (not (all_zero (part f (zeros_place w) (zeros_length w))))
-    (wrong_pending (get_or f (flag_place w) 0) (get_or f (pending_name_place w) 0) (get_or f (pending_pB2_place w) 0))))
+    (wrong_pending (get_or f (flag_place w) 0) (get_or f (pending_name_place w) 0) (get_or f (pending_pb2_place w) 0))))
 
 -- ---- 6: the layout, walked entry by entry along the running place, the one legal value of the next offset
 

@@ -60,12 +60,12 @@ abbrev pub pending_name_place : ℕ → ℕ
 pending_name_place w = 6 + 2 * w
 
 -- 11, 15
-abbrev pub pending_pB2_place : ℕ → ℕ
-pending_pB2_place w = 7 + 2 * w
+abbrev pub pending_pb2_place : ℕ → ℕ
+pending_pb2_place w = 7 + 2 * w
 
 -- 12, 16
-abbrev pub pending_pB3_place : ℕ → ℕ
-pending_pB3_place w = 8 + 2 * w
+abbrev pub pending_pb3_place : ℕ → ℕ
+pending_pb3_place w = 8 + 2 * w
 
 -- "13 to 15 zero", "17 to 23 zero": the first of them, 13, 17
 abbrev pub zeros_place : ℕ → ℕ

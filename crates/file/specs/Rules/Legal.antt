@@ -37,10 +37,10 @@ pub record LegalPending (c : Cluster) : Type 0 where
   pub epoch : Byte c.epoch
   pub flag : c.flag ≤ pending_flag
   pub name : Byte c.pending_name
-  pub pb2 : Byte c.pending_pB2
-  pub pb3 : Byte c.pending_pB3
-  pub operation : c.flag ≡ pending_flag → operation_of c.pending_pB2 ≡ 3 → ⊥
-  pub broadcast_read : c.flag ≡ pending_flag → operation_of c.pending_pB2 ≡ read_operation → c.pending_name ≡ broadcast → ⊥
+  pub pb2 : Byte c.pending_pb2
+  pub pb3 : Byte c.pending_pb3
+  pub operation : c.flag ≡ pending_flag → operation_of c.pending_pb2 ≡ 3 → ⊥
+  pub broadcast_read : c.flag ≡ pending_flag → operation_of c.pending_pb2 ≡ read_operation → c.pending_name ≡ broadcast → ⊥
 
 -- in the edition of that offset width, which is one that there is: the slave count and the length are within the edition's limits
 pub record LegalAt (w : ℕ) (c : Cluster) : Type 0 where

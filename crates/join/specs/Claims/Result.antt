@@ -47,8 +47,8 @@ pub record JoinOf (f g j : List ℕ) : Type 0 where
   pub epoch : (decode j).epoch ≡ 0
   pub flag : (decode j).flag ≡ 0
   pub pending_name : (decode j).pending_name ≡ 0
-  pub pending_pB2 : (decode j).pending_pB2 ≡ 0
-  pub pending_pB3 : (decode j).pending_pB3 ≡ 0
+  pub pending_pb2 : (decode j).pending_pb2 ≡ 0
+  pub pending_pb3 : (decode j).pending_pb3 ≡ 0
   pub count : count_in j ≡ count_in f + count_in g
   pub awake : (i : ℕ) → i < count_in j → (slave_in j i).asleep ≡ 0
   pub first : (i : ℕ) → i < count_in f → (slave_in j i).files ≡ (slave_in f i).files

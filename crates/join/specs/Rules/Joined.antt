@@ -24,7 +24,7 @@ awake s = with_sleep s 0
 -- every record stays the same. The result has the edition of the first."
 unfoldable pub joined : Cluster → Cluster → Cluster
 joined c d =
-    record { edition = c.edition; epoch = 0; flag = 0; pending_name = 0; pending_pB2 = 0; pending_pB3 = 0; slaves = map awake (slaves_joined c d) }
+    record { edition = c.edition; epoch = 0; flag = 0; pending_name = 0; pending_pb2 = 0; pending_pb3 = 0; slaves = map awake (slaves_joined c d) }
 
 -- the joined file
 unfoldable pub joined_file : List ℕ → List ℕ → List ℕ

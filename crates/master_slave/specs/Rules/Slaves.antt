@@ -47,7 +47,7 @@ duty_by name pb2 pb3 =
 
 -- "MSD carries out the pending operation, or nothing."
 unfoldable pub pending_duty : Cluster → Duty
-pending_duty c = cond (eqb c.flag pending_flag) (duty_by c.pending_name c.pending_pB2 c.pending_pB3) nothing
+pending_duty c = cond (eqb c.flag pending_flag) (duty_by c.pending_name c.pending_pb2 c.pending_pb3) nothing
 
 -- ---- who is addressed
 

@@ -19,7 +19,7 @@ pub data MayAsk (a : Parts) : Type 0 where
   read : a.operation ≡ read_operation → MayAsk a
   other_file : a.file ≢ configuration → MayAsk a
   -- "The naming theorem now permits writes to record 1 of slaves with names 0x01 to 0xFE as well."
-  writeAtName :
+  write_at_name :
       a.file ≡ configuration → a.operation ≡ write_operation → a.«record» ≡ 1 → 0x01 ≤ a.name → a.name ≤ 0xFE → MayAsk a
   -- the one addition to the documents' words: such a write at 0x00, which reaches these slaves and those named 0x00
   write_at_all : a.file ≡ configuration → a.operation ≡ write_operation → a.«record» ≡ 1 → a.name ≡ broadcast → MayAsk a
@@ -39,7 +39,7 @@ pub data Refused (names file : List ℕ) (p : Position) : Call → Type 0 where
 -- the file and the run as the last one left them
 pub data PermittedList (names : List ℕ) : List ℕ → Position → List Call → Type 0 where
   no_calls : {file : List ℕ} {p : Position} → PermittedList names file p []
-  refusedCall :
+  refused_call :
       {file : List ℕ} {p : Position} {c : Call} {cs : List Call} → Refused names file p c → PermittedList names file p cs →
       PermittedList names file p (c ∷ cs)
   a_step :
@@ -47,11 +47,11 @@ pub data PermittedList (names : List ℕ) : List ℕ → Position → List Call 
       PermittedList names (step_on file p names arguments.buffer).3 (step_on file p names arguments.buffer).1 cs →
       PermittedList names file p (step arguments ∷ cs)
   -- "A complete round is .. a multipartner frame"
-  multipartnerRound :
+  multipartner_round :
       {file : List ℕ} {p : Position} {arguments : FrameArguments} {r : ℕ} {cs : List Call} → Accepted file arguments (multipartner r) →
       PermittedList names (round_on file arguments.bytes arguments.buffer).2 p cs → PermittedList names file p (frame arguments ∷ cs)
   -- or "an accepted MSA followed directly, refused calls aside, by an accepted MSD"
-  masterSlaveRound :
+  master_slave_round :
       {file : List ℕ} {p : Position} {address content : FrameArguments} {cs ds : List Call} → Accepted file address msa →
       MayAsk (parts_of address.bytes) → All (Refused names (round_on file address.bytes address.buffer).2 p) cs →
       Accepted (round_on file address.bytes address.buffer).2 content msd →

@@ -61,7 +61,7 @@ pub data DataFor (write : Bool) : List ℕ → Type 0 where
 pub data Rounds : List (List ℕ) → Type 0 where
   no_rounds : Rounds []
   multipartner_next : {firework r : ℕ} {frames : List (List ℕ)} → Byte firework → round_of firework ≡ multipartner r → Rounds frames → Rounds ((firework ∷ []) ∷ frames)
-  masterSlaveNext :
+  master_slave_next :
       {a : Parts} {content : List ℕ} {frames : List (List ℕ)} → Sendable a → MayAsk a → DataFor (eqb a.operation write_operation) content →
       Rounds frames → Rounds (address_of a ∷ content ∷ frames)
 
@@ -109,7 +109,7 @@ pub data NoMsdNext (names file : List ℕ) (p : Position) : List Call → Type 0
   at_the_end : NoMsdNext names file p []
   refused_next : {c : Call} {cs : List Call} → Refused names file p c → NoMsdNext names file p cs → NoMsdNext names file p (c ∷ cs)
   step_next : {arguments : StepArguments} {cs : List Call} → step_keeping_ground file p names arguments.summary arguments.buffer ≡ 0 → NoMsdNext names file p (step arguments ∷ cs)
-  frameNext :
+  frame_next :
       {arguments : FrameArguments} {round : Round} {cs : List Call} → Accepted file arguments round → round ≢ msd →
       NoMsdNext names file p (frame arguments ∷ cs)
 

@@ -33,10 +33,10 @@ NoRoundWakesNobody =
 
 -- a call that wakes all: an accepted step of a running position, an accepted frame that is no MSA
 pub data Wakes (names : List ℕ) (s : State) (p : Position) : Call → Type 0 where
-  wakesByStep :
+  wakes_by_step :
       {arguments : StepArguments} → step_keeping_ground s.file p names arguments.summary arguments.buffer ≡ 0 → p.end ≡ running →
       Wakes names s p (step arguments)
-  wakesByFrame :
+  wakes_by_frame :
       {arguments : FrameArguments} → round_keeping_ground s.file arguments.summary arguments.bytes arguments.buffer ≡ 0 →
       round_by_lem arguments.bytes ≢ msa → Wakes names s p (frame arguments)
 

@@ -132,10 +132,10 @@ pub data BaptizesNobody (file : List ℕ) : AnyCall → Type 0 where
 -- such is each of the calls that is not given the summary
 pub data GivenToBaptize : List ℕ → Summary → List ListedCall → Type 0 where
   no_calls : {file : List ℕ} {summary : Summary} → GivenToBaptize file summary []
-  nextGiven :
+  next_given :
       {file : List ℕ} {summary : Summary} {c : AnyCall} {cs : List ListedCall} → WellTyped c →
       GivenToBaptize (keeping_call file summary c).0 (keeping_call file summary c).1 cs → GivenToBaptize file summary (given c ∷ cs)
-  nextNotGiven :
+  next_not_given :
       {file : List ℕ} {summary : Summary} {c : AnyCall} {cs : List ListedCall} → WellTyped c → BaptizesNobody file c →
       GivenToBaptize (plain_call file c) summary cs → GivenToBaptize file summary (not_given c ∷ cs)
 
@@ -164,11 +164,11 @@ FilledAndKept =
 -- Demand 3's calls, each given a summary that matches the file as it then is, or none
 pub data GivenMatching (names : List ℕ) : State → Position → List Call → Type 0 where
   none_given : {s : State} {p : Position} → GivenMatching names s p []
-  stepGiven :
+  step_given_lem :
       {s : State} {p : Position} {arguments : StepArguments} {cs : List Call} → Matches s.file arguments.summary →
       GivenMatching names (call_on names s p (step arguments)).0 (call_on names s p (step arguments)).1 cs →
       GivenMatching names s p (step arguments ∷ cs)
-  frameGiven :
+  frame_given :
       {s : State} {p : Position} {arguments : FrameArguments} {cs : List Call} → Matches s.file arguments.summary →
       GivenMatching names (call_on names s p (frame arguments)).0 (call_on names s p (frame arguments)).1 cs →
       GivenMatching names s p (frame arguments ∷ cs)

@@ -3,8 +3,8 @@
 use Rattle.std.specs.Prelude.{ℕ, suc, ◌+◌, ◌/◌, ◌%◌, ◌^◌, List, Bool, true, false, cond, not, length, get_or, eqb}
 use Rattle.std.specs.Int.Bits.{bit_or}
 use Rattle.file.specs.Rules.Order.{both}
-use Rattle.naming.specs.Rules.RunRounds.{RunRound, half, RunRound.poll as pollOf, RunRound.write_name, RunRound.write_high, RunRound.write_low, RunRound.compare}
-use Rattle.naming.specs.Rules.RunRounds.{RunRound.baptize as baptizeAll}
+use Rattle.naming.specs.Rules.RunRounds.{RunRound, half, RunRound.poll as poll_of, RunRound.write_name, RunRound.write_high, RunRound.write_low, RunRound.compare}
+use Rattle.naming.specs.Rules.RunRounds.{RunRound.baptize as baptize_all}
 use Rattle.naming.specs.Rules.Position.{Place, Counts, Halves, Position, all_named_lem, end_at}
 use Rattle.naming.specs.Rules.Pass.{Question, least, bit, high, low, reply, PassPlace, poll, ask, give_name, give_high, give_low, baptize, place_of}
 
@@ -19,14 +19,14 @@ tried (bit b) value = bit_or value (2 ^ b)
 -- "Slips seen in drafts: finding the least name ..; trusting the last IDCV sent, which may hold a dropped bit.": give_high and give_low
 -- send the value
 unfoldable pub round_at : PassPlace → ℕ → ℕ → RunRound
-round_at poll name value = pollOf name
+round_at poll name value = poll_of name
 round_at (ask q high) name value = write_high (tried q value / half)
 round_at (ask q low) name value = write_low (tried q value % half)
 round_at (ask q reply) name value = compare
 round_at give_name name value = write_name name
 round_at give_high name value = write_high (value / half)
 round_at give_low name value = write_low (value % half)
-round_at baptize name value = baptizeAll
+round_at baptize name value = baptize_all
 
 -- the one at a position's step
 unfoldable pub round_here : List ℕ → Position → RunRound
@@ -38,12 +38,12 @@ with_halves halves p = record { end = p.end; place = p.place; counts = p.counts;
 
 -- the halves last written, once a round is made
 unfoldable pub wrote : RunRound → Position → Position
-wrote (pollOf n) p = p
+wrote (poll_of n) p = p
 wrote (write_name n) p = p
 wrote (write_high h) p = with_halves (record { high = h; low = p.halves.low }) p
 wrote (write_low l) p = with_halves (record { high = p.halves.high; low = l }) p
 wrote compare p = p
-wrote baptizeAll p = p
+wrote baptize_all p = p
 
 -- ---- which writes are needless
 
@@ -60,12 +60,12 @@ is_first baptize = false
 -- request 6: "after it, record 2 or 3 is written exactly if its four bytes differ from those last written in that pass": a half that is
 -- the one last written, as the position has it
 unfoldable pub is_repeated : RunRound → Position → Bool
-is_repeated (pollOf n) p = false
+is_repeated (poll_of n) p = false
 is_repeated (write_name n) p = false
 is_repeated (write_high h) p = eqb h p.halves.high
 is_repeated (write_low l) p = eqb l p.halves.low
 is_repeated compare p = false
-is_repeated baptizeAll p = false
+is_repeated baptize_all p = false
 
 unfoldable pub is_needless : List ℕ → Position → Bool
 is_needless names p = both (not (is_first (place_of p.place.step))) (is_repeated (round_here names p) p)
@@ -97,7 +97,7 @@ is_extra p = eqb p.counts.rounds 0
 
 -- the next round of a running position: the extra read, then its pass's
 unfoldable pub next_round : List ℕ → Position → RunRound
-next_round names p = cond (is_extra p) (pollOf (get_or names 0 0)) (pass_round names p)
+next_round names p = cond (is_extra p) (poll_of (get_or names 0 0)) (pass_round names p)
 
 -- ---- how the position moves on, by the answer: someone sent in slot 1
 

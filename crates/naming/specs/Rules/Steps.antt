@@ -37,10 +37,10 @@ with_step t s = record { made = suc t.made; senders = mask_in s.0; run = s.1; bu
 
 -- up to k more: they stop before one that is refused, at the end of the run, and where a position is to be stopped at
 unfoldable pub steps_from : (Position → Bool) → List ℕ → ℕ → Progress → Progress
-steps_from stopsAt names zero t = t
-steps_from stopsAt names (suc k) t =
-    let rest = steps_from stopsAt names k (with_step t (next_step names t)) in
-    cond (both (not (stopsAt t.run)) (is_made_lem (next_step names t).0)) rest t
+steps_from stops_at names zero t = t
+steps_from stops_at names (suc k) t =
+    let rest = steps_from stops_at names k (with_step t (next_step names t)) in
+    cond (both (not (stops_at t.run)) (is_made_lem (next_step names t).0)) rest t
 
 -- no position is
 abbrev pub nowhere : Position → Bool

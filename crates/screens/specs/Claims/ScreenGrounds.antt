@@ -49,7 +49,7 @@ pub record TurnGroundsInOrder : Type 0 where
 -- on a file of unknown edition the answer depends on the state and the file's length and first three bytes alone, and where the state has no
 -- ground not on the state either
 pub record UnknownEdition : Type 0 where
-  pub ofState :
+  pub of_state :
       (s f g a b : List ℕ) → length f ≡ length g → take 3 f ≡ take 3 g → NoEdition f → (turn_on s f a).0 ≡ (turn_on s g b).0
   pub of_file :
       (s t f g a b : List ℕ) → first_of (state_grounds s) ≡ 0 → first_of (state_grounds t) ≡ 0 →
