@@ -47,18 +47,16 @@ module _ (file buffer : List ℕ) (place size : ℕ) (within : place + size ≤ 
   pub front-end : {n : ℕ} → n ≡ min size (length buffer) → place + n ≤ length file
   front-end least = omega (arith, least, within)
 
-  -- what was copied stands in front of the rest of the buffer
-  pub front-put : (front : List ℕ) (n : ℕ) → n ≡ min size (length buffer)
-      → front ≡ take (place + n - place) (drop place file)
-      → front ++ drop n buffer ≡ written_in buffer (take (length buffer) (part file place size))
+  -- what `copy` put in front of the buffer
+  pub front-put : (new : List ℕ) (n : ℕ) → n ≡ min size (length buffer)
+      → new ≡ take (length (take (place + n - place) (drop place file))) (take (place + n - place) (drop place file)) ++ drop (length (take (place + n - place) (drop place file))) buffer
+      → new ≡ written_in buffer (take (length buffer) (part file place size))
   unfolding part written_in
-  front-put front n least is =
+  front-put new n least is =
       let count : place + n - place ≡ min size (length buffer) = omega (arith, least) in
       let room : size ≤ length (drop place file) = simp length-drop (omega (arith, within)) in
       let fits = take_min (length buffer) size (drop place file) room in
-      let long : length (take (min size (length buffer)) (drop place file)) ≡ n =
-      length-take-le (min size (length buffer)) (drop place file) (omega (arith, room)) ∙ sym least in
-      rw (is, count, fits, long)
+      is ∙ rw (take-length (take (place + n - place) (drop place file)), count, fits)
 
 -- ---- a file that was looked for
 

@@ -6,6 +6,7 @@ ghost use Rattle.file.specs.Inner.Typed.{file_in};
 ghost use Rattle.contents.specs.Rules.Contents.{contents_on};
 ghost use Rattle.contents.specs.Inner.ContentsAnswers.{size_of};
 
+use file::copying::copy;
 use file::readers::slave_count;
 use file::records::{FilePlace, find_file};
 use file::survey::{FileAnswer, survey};
@@ -32,9 +33,8 @@ fn put_front(file: &[u8], place: usize, size: usize, buffer: &mut [u8])
     requires { place + size ≤ length file.now }
     ensures { buffer.new ≡ written_in buffer.old (take (length buffer.old) (part file.now place size)) }
 {
-    let count = lesser(size, buffer.len());
-    let end = place + count;
-    buffer[..count].copy_from_slice(&file[place..end]);
+    let end = place + lesser(size, buffer.len());
+    copy(&file[place..end], buffer);
 }
 
 // A file of the slave at a place of the table: the cluster file is refused by its number, with the buffer as it was, or the buffer has in

@@ -168,10 +168,22 @@ fill-fits at width other room = omega (arith, width.least, width.most, width.eve
 
 -- ---- a run that is copied into a part of the buffer
 
-pub put_copied : (l src : List ℕ) (at n : ℕ) {new : List ℕ} → at + n ≤ length l → length src ≡ n → new ≡ src → Put l at src (put_mid at n l new)
+pub put_copied : (l src : List ℕ) (at n : ℕ) {new : List ℕ} → at + n ≤ length l → length src ≡ n
+    → new ≡ take (length src) src ++ drop (length src) (take n (drop at l))
+    → Put l at src (put_mid at n l new)
 put_copied l src at n {new} fits long is =
+    let cut : length (take n (drop at l)) ≤ length src = omega (arith, long, length-take_le') in
+    let whole : new ≡ src = is ∙ ap₂ (λ (x y : List ℕ). x ++ y) (take-length src) (drop_of_length-le (take n (drop at l)) cut) ∙ append-nil src in
     let put : sets l at src ≡ take at l ++ src ++ drop (at + n) l = sets-eq src l at (omega (arith, long)) ∙ ap (λ (k : ℕ). take at l ++ src ++ drop (at + k) l) long in
-    record { is = rw (is, drop-drop n at l) (sym (append_assoc (take at l) src (drop (at + n) l))) ∙ sym put }
+    record { is = rw (whole, drop-drop n at l) (sym (append_assoc (take at l) src (drop (at + n) l))) ∙ sym put }
+  where
+    length-take_le' : length (take n (drop at l)) ≤ n
+    length-take_le' = part-most n (drop at l)
+      where
+        part-most : (k : ℕ) (x : List ℕ) → length (take k x) ≤ k
+        part-most zero x = omega arith
+        part-most (suc k) [] = omega arith
+        part-most (suc k) (y ∷ ys) = omega (arith, part-most k ys)
 
 -- ---- offsets, of either width
 
@@ -190,10 +202,10 @@ zeros-done {n} {count} {l} {m} {at} few done p = let same : n ≡ count = omega 
 
 -- a run of a file, copied into a part of the buffer as long
 pub put-run : (l f : List ℕ) (at start end : ℕ) {new : List ℕ} → start ≤ end → end ≤ length f → at + (end - start) ≤ length l
-    → new ≡ take (end - start) (drop start f)
+    → new ≡ take (length (take (end - start) (drop start f))) (take (end - start) (drop start f)) ++ drop (length (take (end - start) (drop start f))) (take (at + (end - start) - at) (drop at l))
     → Put l at (take (end - start) (drop start f)) (put_mid at (at + (end - start) - at) l new)
 put-run l f at start end {new} order inside room is =
     let same : at + (end - start) - at ≡ end - start = omega arith in
     rw same
     (put_copied l (take (end - start) (drop start f)) at (end - start) room
-    (length-take-le (end - start) (drop start f) (omega (arith, length-drop start f))) is)
+    (length-take-le (end - start) (drop start f) (omega (arith, length-drop start f))) (rw same at is))

@@ -5,6 +5,7 @@ ghost use Rattle.file.specs.Rules.Layout.{OffsetWidth};
 ghost use Rattle.file.specs.Inner.Layout.{short_width};
 ghost use Rattle.convert.specs.Inner.Putting.{Put, OffsetFits};
 
+use file::copying::copy;
 use file::layout::OFFSET_WIDTH;
 
 // The values of a byte, and of two.
@@ -63,5 +64,5 @@ pub fn put_run(out: &mut [u8], at: usize, file: &[u8], start: usize, end: usize)
     ensures { Put out.old at (part file.now start (end - start)) out.new }
 {
     let behind = at + (end - start);
-    out[at..behind].copy_from_slice(&file[start..end]);
+    copy(&file[start..end], &mut out[at..behind]);
 }

@@ -1,6 +1,7 @@
 // The cluster file: its checker, the readers of header, slaves and records, and the stores.
 #![tactic(auto)]
 
+pub mod copying;
 mod header;
 pub mod held;
 pub mod layout;

@@ -143,21 +143,37 @@ module _ (master : ℕ) (buffer : List ℕ) {file places : List ℕ} {a : FileAn
 
 -- ---- two parts copied one after the other
 
-pub put-parts : (buffer head rows front part : List ℕ) → length head + length rows ≤ length buffer → front ≡ head → part ≡ rows
-    → put_mid (length head) (length head + length rows - length head) (front ++ drop (length head) buffer) part ≡ written_in buffer (head ++ rows)
+pub put-parts : (buffer head rows middle part : List ℕ) (start : ℕ) → length head + length rows ≤ length buffer → start ≡ length head
+    → middle ≡ take (length head) head ++ drop (length head) buffer
+    → part ≡ take (length rows) rows ++ drop (length rows) (take (length middle - start) (drop start middle))
+    → put_mid start (length middle - start) middle part ≡ written_in buffer (head ++ rows)
 unfolding written_in
-put-parts buffer head rows front part fits first second =
-    rw (first, second, start, back, count, drop-drop (length rows) (length head) buffer, length-append head rows)
+put-parts buffer head rows middle part start fits at first second =
+    rw (
+      front,
+      back,
+      second,
+      back,
+      take_all (length middle - start) (drop (length head) buffer) count,
+      take-length rows,
+      drop_of_length-le (drop (length head) buffer) count,
+      append-nil (rows ++ drop (length rows) (drop (length head) buffer)),
+      drop-drop (length rows) (length head) buffer,
+      length-append head rows,
+    )
     (sym (append_assoc head rows (drop (length head + length rows) buffer)))
   where
-    start : take (length head) (head ++ drop (length head) buffer) ≡ head
-    start = take_at head (drop (length head) buffer) (length head) refl
+    joined : middle ≡ head ++ drop (length head) buffer
+    joined = first ∙ ap (λ (x : List ℕ). x ++ drop (length head) buffer) (take-length head)
 
-    back : drop (length head) (head ++ drop (length head) buffer) ≡ drop (length head) buffer
-    back = drop_at head (drop (length head) buffer) (length head) refl
+    front : take start middle ≡ head
+    front = rw (joined, at) (take_at head (drop (length head) buffer) (length head) refl)
 
-    count : length head + length rows - length head ≡ length rows
-    count = omega arith
+    back : drop start middle ≡ drop (length head) buffer
+    back = rw (joined, at) (drop_at head (drop (length head) buffer) (length head) refl)
+
+    count : length (drop (length head) buffer) ≤ length middle - start
+    count = omega (arith, at, ap length joined, length-append head (drop (length head) buffer))
 
 -- ---- a file of unknown edition
 

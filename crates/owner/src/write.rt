@@ -6,6 +6,7 @@ ghost use Rattle.owner.specs.Rules.OwnerWriting.{owner_on};
 ghost use Rattle.owner.specs.Inner.OwnerAnswers.{written_of};
 
 use crate::rounds::{HEAD_SIZE, ROWS_ROOM, write_rounds};
+use file::copying::copy;
 use file::survey::{FileAnswer, survey};
 use file::types::{LogicalName, PLACES, Refusal};
 
@@ -21,10 +22,8 @@ fn put_file(buffer: &mut [u8], head: &[u8], rows: &[u8])
     requires { length head.now + length rows.now ≤ length buffer.old }
     ensures { buffer.new ≡ written_in buffer.old (head.now ++ rows.now) }
 {
-    let start = head.len();
-    let end = start + rows.len();
-    buffer[..start].copy_from_slice(head);
-    buffer[start..end].copy_from_slice(rows);
+    let start = copy(head, buffer);
+    copy(rows, &mut buffer[start..]);
 }
 
 // The owner file 0x0B of a cluster file, written into the buffer: refused by its number, with the buffer as it was, or written, with
