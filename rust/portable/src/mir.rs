@@ -9,36 +9,9 @@
 
 use crate::json::{self, Json};
 use crate::sources::Sources;
-use crate::term::{self, Node};
+use crate::term::Node;
 use crate::Refused;
 use std::collections::{BTreeMap, BTreeSet};
-
-/// The one function of the library that the engine calls, on bytes: a slice's content copied into another of the same length. Its code there goes
-/// through closures and raw pointers, so it is written down here.
-const COPY: &str = "core::slice::edits::slice+T::copy_from_slice";
-const COPY_TERM: &str = "\
-    fn-def \"core::slice::copy_from_slice\" (fnItem 2 lnil 2 \
-    (lcons (local tyUnit valueLocal) \
-    (lcons (local (tyStruct \"&[]\" (tcons (tyRef (named 0) mut (tyInt 8)) (tcons (tyInt 64) tnil))) valueLocal) \
-    (lcons (local (tyStruct \"&[]\" (tcons (tyRef (named 1) imm (tyInt 8)) (tcons (tyInt 64) tnil))) valueLocal) \
-    (lcons (local (tyInt 64) valueLocal) \
-    (lcons (local (tyInt 64) valueLocal) \
-    (lcons (local tyBool valueLocal) \
-    (lcons (local tyPtr valueLocal) \
-    (lcons (local (tyInt 8) valueLocal) \
-    (lcons (local tyPtr valueLocal) lnil))))))))) \
-    (seq (assign (place 3 lnil) (rvOpd (int 64 0))) \
-    (seq (block (loop \
-    (seq (assign (place 4 lnil) (rvOpd (copy (place 2 (lcons (field 1) lnil))))) \
-    (seq (assign (place 5 lnil) (op2 (lt unsigned) (copy (place 3 lnil)) (copy (place 4 lnil)))) \
-    (seq (if (copy (place 5 lnil)) skip (exit 1)) \
-    (seq (assign (place 6 lnil) (op2 offset (copy (place 2 (lcons (field 0) lnil))) (copy (place 3 lnil)))) \
-    (seq (assign (place 7 lnil) (rvOpd (copy (place 6 (lcons (deref (tyInt 8)) lnil))))) \
-    (seq (assign (place 8 lnil) (op2 offset (copy (place 1 (lcons (field 0) lnil))) (copy (place 3 lnil)))) \
-    (seq (assign (place 8 (lcons (deref (tyInt 8)) lnil)) (rvOpd (copy (place 7 lnil)))) \
-    (assign (place 3 lnil) (op2 (add unsigned) (copy (place 3 lnil)) (int 64 1)))))))))))) \
-    (seq (assign (place 0 lnil) (rvOpd unit)) return)))) lnil";
-const COPY_NAME: &str = "core::slice::copy_from_slice";
 
 /// The term of the functions that the calls for C reach, in the order of the texts and of each text.
 pub fn term(texts: &[String], sources: &Sources) -> Result<Node, Refused> {
@@ -59,9 +32,6 @@ pub fn term(texts: &[String], sources: &Sources) -> Result<Node, Refused> {
     let mut made = Vec::new();
     for (name, item) in all.iter().filter(|(name, _)| reached.contains(name.as_str())) {
         made.push(definition(name, item).map_err(|refused| refused.of(name))?);
-    }
-    if reached.contains(COPY) {
-        made.push(term::read(COPY_TERM)?);
     }
     Ok(list("program", [cons(made, "lcons", "lnil"), list("fnRef", [Node::Text("main".to_string())])]))
 }
@@ -375,13 +345,9 @@ impl<'a> Body<'a> {
 fn call(function: &Json, arguments: &Json, target: &Json) -> Result<Node, Refused> {
     let Some(("Fn", inner)) = function.variant() else { return Err(unknown("call", function)) };
     let Some([Json::Text(name), at]) = inner.list() else { return Err(unknown("call", function)) };
-    let is_plain = ["types", "dicts"].iter().all(|key| at.of(key).is_some_and(Json::is_empty_list));
-    let bytes = Json::List(vec![Json::Map(vec![("Int".to_string(), Json::Number("8".to_string()))])]);
-    let name = match (is_plain, name.as_str()) {
-        (true, name) => name,
-        (false, COPY) if at.of("types") == Some(&bytes) => COPY_NAME,
-        _ => return Err(Refused::new(format!("a call of a function for several types: {name}"))),
-    };
+    if !["types", "dicts"].iter().all(|key| at.of(key).is_some_and(Json::is_empty_list)) {
+        return Err(Refused::new(format!("a call of a function for several types: {name}")));
+    }
     let called = list("direct", [list("fnRef", [Node::Text(name.to_string())])]);
     Ok(list("call", [called, operands(arguments)?, place(target)?]))
 }

@@ -278,38 +278,6 @@ fn an_export_that_does_anything_else_is_no_other_function() {
     assert_eq!(two.exported().collect::<Vec<_>>(), ["m_c::f"]);
 }
 
-#[test]
-fn bytes_are_copied() {
-    let slice = |mutability: &str| {
-        json_value(&format!(
-            r#"{{"Struct": ["&[]", [{{"Ref": [{{"Named": 0}}, "{mutability}", {{"Int": 8}}]}}, {{"Int": 64}}]]}}"#
-        ))
-    };
-    let copied = |of: &str| {
-        let at = format!(r#"{{"types": [{of}], "dicts": [{{"Impl": ["core::clone::U8Clone", [], []]}}]}}"#);
-        let call = format!(
-            r#"{{"Call": [{{"Fn": ["core::slice::edits::slice+T::copy_from_slice", {at}]}}, [{}, {}], {}]}}"#,
-            json_copy(1),
-            json_copy(2),
-            json_at(0)
-        );
-        let locals = [json_value(r#""Unit""#), slice("Mut"), slice("Imm")];
-        let function = json_function("m::f", 2, &locals, "", &[r#""Seq""#, &call, r#""Return""#]);
-        c_of(&[&[function]], &sources("pub extern \"C\" fn f(to: &mut [u8], from: &[u8]) { }"), Form::Reading)
-    };
-    let c = copied(r#"{"Int": 8}"#).expect("a C file");
-    assert!(
-        c.contains(
-            "static inline void core_slice_copy_from_slice(slice_mut_u8 t1, slice_u8 t2)\n{\n    uint64_t t3 = 0;\n    \
-             while (t3 < t2.len) {\n        t1.at[t3] = t2.at[t3];\n        t3 = t3 + 1;\n    }\n}\n"
-        ),
-        "{c}"
-    );
-    assert!(c.contains("    core_slice_copy_from_slice(to, from);\n"), "{c}");
-    let why = copied(r#"{"Int": 16}"#).expect_err("words");
-    assert!(why.contains("m::f: a call of a function for several types"), "{why}");
-}
-
 /// A function `m::f` that reads the second of two words that are lent; `more` stands behind that, and its result has this type.
 fn lent(constant: &str, ty: &str, more: &str) -> String {
     let array = r#"{"Array": [{"Int": 64}, {"Lit": 2}]}"#;
@@ -417,4 +385,26 @@ fn texts_that_are_no_json() {
     assert_eq!(why("{}"), "no list of functions");
     assert!(why("[1]").contains("unknown function: 1"));
     assert!(why("[[1, 2]]").contains("a function without its name"));
+}
+
+#[test]
+fn a_call_of_a_function_for_several_types_is_refused() {
+    let slice = |mutability: &str| {
+        json_value(&format!(
+            r#"{{"Struct": ["&[]", [{{"Ref": [{{"Named": 0}}, "{mutability}", {{"Int": 8}}]}}, {{"Int": 64}}]]}}"#
+        ))
+    };
+    let at = r#"{"types": [{"Int": 8}], "dicts": [{"Impl": ["core::clone::U8Clone", [], []]}]}"#;
+    let call = format!(
+        r#"{{"Call": [{{"Fn": ["core::slice::edits::slice+T::copy_from_slice", {at}]}}, [{}, {}], {}]}}"#,
+        json_copy(1),
+        json_copy(2),
+        json_at(0)
+    );
+    let locals = [json_value(r#""Unit""#), slice("Mut"), slice("Imm")];
+    let function = json_function("m::f", 2, &locals, "", &[r#""Seq""#, &call, r#""Return""#]);
+    let why =
+        c_of(&[&[function]], &sources("pub extern \"C\" fn f(to: &mut [u8], from: &[u8]) { }"), Form::Reading)
+            .expect_err("a function for several types");
+    assert!(why.contains("m::f: a call of a function for several types"), "{why}");
 }
