@@ -1366,24 +1366,24 @@ static inline uint64_t contents_read_lesser(uint64_t a, uint64_t b)
     return b;
 }
 
-/* core::slice::copy_from_slice. */
-static inline void core_slice_copy_from_slice(slice_mut_u8 t1, slice_u8 t2)
+/* file::copying::copy. A part copied to the front of a buffer that has room for it; what is behind it stays.
+ * How many bytes it has. The loop is compiled to moves of many bytes. */
+static inline uint64_t file_copying_copy(slice_u8 part, slice_mut_u8 buffer)
 {
-    uint64_t t3 = 0;
-    while (t3 < t2.len) {
-        t1.at[t3] = t2.at[t3];
-        t3 = t3 + 1;
+    uint64_t done = 0;
+    while (done < part.len) {
+        buffer.at[done] = part.at[done];
+        done = done + 1;
     }
+    return done;
 }
 
 /* contents::read::put_front. The first bytes of a part of the file, as many as the buffer has room for, put
  * in front of whatever else it holds. */
 static inline void contents_read_put_front(slice_u8 file, uint64_t place, uint64_t size, slice_mut_u8 buffer)
 {
-    uint64_t count = contents_read_lesser(size, buffer.len);
-    uint64_t end = place + count;
-    core_slice_copy_from_slice((slice_mut_u8){buffer.at, count}, (slice_u8){cut_u8(file.at, place),
-            end - place});
+    uint64_t end = place + contents_read_lesser(size, buffer.len);
+    (void)file_copying_copy((slice_u8){cut_u8(file.at, place), end - place}, buffer);
 }
 
 /* contents::read::read_contents. A file of the slave at a place of the table: the cluster file is refused by
@@ -1701,8 +1701,8 @@ static inline void convert_put_put_run(slice_mut_u8 out, uint64_t at, slice_u8 f
         uint64_t end)
 {
     uint64_t behind = at + (end - start);
-    core_slice_copy_from_slice((slice_mut_u8){cut_mut_u8(out.at, at), behind - at}, (slice_u8){cut_u8(file.at,
-            start), end - start});
+    (void)file_copying_copy((slice_u8){cut_u8(file.at, start), end - start}, (slice_mut_u8){cut_mut_u8(out.at,
+            at), behind - at});
 }
 
 /* convert::sizes::file_count. How many files a slave of a file has, whose offsets have that width. */
@@ -2376,10 +2376,8 @@ static inline owner_rounds_Rows owner_rounds_write_rounds(slice_u8 file, const u
 /* owner::write::put_file. The head and the rows, one after the other. */
 static inline void owner_write_put_file(slice_mut_u8 buffer, slice_u8 head, slice_u8 rows)
 {
-    uint64_t start = head.len;
-    uint64_t end = start + rows.len;
-    core_slice_copy_from_slice((slice_mut_u8){buffer.at, start}, head);
-    core_slice_copy_from_slice((slice_mut_u8){cut_mut_u8(buffer.at, start), end - start}, rows);
+    uint64_t start = file_copying_copy(head, buffer);
+    (void)file_copying_copy(rows, (slice_mut_u8){cut_mut_u8(buffer.at, start), buffer.len - start});
 }
 
 /* owner::write::write_owner. The owner file 0x0B of a cluster file, written into the buffer: refused by its
