@@ -140,10 +140,14 @@ impl Arguments {
     }
 }
 
+/// What help alone tells of the usage: a picture is drawn beside what was asked.
+const PICTURE: &str = " [--svg OUT]";
+
 /// The words, and how the subcommand is used.
 fn misused(subcommand: &Subcommand, words: &str) -> Stop {
     let &Subcommand { name, .. } = subcommand;
-    Stop::Usage(format!("{name}: {words}: {}; see 'ttpa {name} --help'", usage(subcommand)))
+    let usage = usage(subcommand).replace(PICTURE, "");
+    Stop::Usage(format!("{name}: {words}: {usage}; see 'ttpa {name} --help'"))
 }
 
 /// `ttpa check FILE..`

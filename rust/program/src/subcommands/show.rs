@@ -11,7 +11,7 @@ use std::ffi::OsStr;
 
 pub const SUBCOMMAND: Subcommand = Subcommand {
     name: "show",
-    usage: "FILE [--slave N|NAME] [--names]",
+    usage: "FILE [--slave N|NAME] [--names] [--svg OUT]",
     summary: "write a cluster file as text, from which 'make' makes the same file",
     text: "\
 Writes a cluster file as text. 'ttpa make' makes the same file of it, byte for byte. A file in which slaves have one logical name is
