@@ -3,7 +3,7 @@
 
 use std::env;
 use std::fs;
-use std::os::unix::fs::{symlink, PermissionsExt};
+use std::os::unix::fs::PermissionsExt;
 use std::path::{Path, PathBuf};
 use std::process::{Command, Output};
 
@@ -22,7 +22,8 @@ fn folder(test: &str, callgrind: &str) -> PathBuf {
     let folder = Path::new(env!("CARGO_TARGET_TMPDIR")).join(test);
     let _ = fs::remove_dir_all(&folder);
     fs::create_dir_all(folder.join("release")).expect("a folder");
-    symlink(env!("CARGO_BIN_EXE_bench"), folder.join("release/bench")).expect("a link");
+    // a copy: `rt ci` passes no link in the checkout
+    fs::copy(env!("CARGO_BIN_EXE_bench"), folder.join("release/bench")).expect("a copy");
     for (name, text) in [("valgrind", callgrind), ("cargo", CARGO)] {
         fs::write(folder.join(name), text).expect("a program");
         fs::set_permissions(folder.join(name), fs::Permissions::from_mode(0o755)).expect("one that can be run");
