@@ -3,7 +3,7 @@
 ghost use Rattle.std.specs.Prelude.{◌≡◌};
 ghost use Rattle.file.specs.Inner.Typed.{name_in_lem};
 
-#[derive(Clone, Copy)]
+#[derive(Clone, Copy, PartialEq, Eq, PartialOrd, Ord)]
 pub struct FileNumber(pub u8);
 
 // "file 0x08 (configuration)" and "file 0x3D (documentation, 000)"; "file number 0 to 63".
@@ -15,7 +15,7 @@ impl FileNumber {
     pub const LAST: FileNumber = FileNumber(63);
 }
 
-#[derive(Clone, Copy)]
+#[derive(Clone, Copy, PartialEq, Eq, PartialOrd, Ord)]
 pub struct RecordNumber(pub u8);
 
 // "Records 1 and 2 of 0x3D are the physical name: series number, then serial number"; of 0x08 "record 1 holds the new logical name in
@@ -33,7 +33,7 @@ impl RecordNumber {
     pub const SLEEP: RecordNumber = RecordNumber(4);
 }
 
-#[derive(Clone, Copy)]
+#[derive(Clone, Copy, PartialEq, Eq)]
 pub struct LogicalName(pub u8);
 
 // "Logical name 0xFF is "unnamed", 0x00 is broadcast."
@@ -50,7 +50,7 @@ impl LogicalName {
 }
 
 // Any byte can be handed to the frame writer, so an operation is a byte; the values that have a meaning are the constants.
-#[derive(Clone, Copy)]
+#[derive(Clone, Copy, PartialEq, Eq)]
 pub struct Operation(pub u8);
 
 impl Operation {
