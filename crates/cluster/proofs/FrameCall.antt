@@ -15,9 +15,6 @@ use Rattle.file.specs.Rules.Cluster.{Cluster}
 use Rattle.file.specs.Rules.Decode.{decode}
 use Rattle.file.specs.Inner.Accepted.{Becomes, Placed}
 use Rattle.file.specs.Inner.Surveyed.{Surveyed}
-use Rattle.file.specs.Inner.FileAnswers.{checked_of}
-use Rattle.file.specs.declared.survey.FileAnswer.{FileAnswer}
-use Rattle.file.specs.declared.survey.FileAnswer.TheVariants as answers
 use Rattle.file.specs.declared.types.Refusal.{Refusal}
 use Rattle.file.proofs.Order.{by_case}
 use Rattle.file.proofs.Surveyed.{survey-accepted, survey-becomes, survey-refused, placed-kept}
@@ -39,6 +36,8 @@ use Rattle.cluster.proofs.Rounds.{frame-kept}
 use Rattle.cluster.proofs.FrameLaws.{exchange-refused, exchange-carried, first-of, never_multipartner}
 use Rattle.cluster.proofs.RoundNumbers.{multipartner-low}
 use Rattle.cluster.proofs.RoundCall.{file-refused, buffer-refused, exchanged-round}
+use Rattle.file.specs.Inner.Refusals.{Answered, refusal_number, outcome_of}
+use Rattle.std.specs.Prelude.{Ok, Err}
 
 -- ---- the firework of a frame
 
@@ -106,11 +105,11 @@ module _ (frame : List ℕ) (w : Firework) (is : firework_round w ≡ round_by_l
 
 -- ---- the call from outside, by the answer of the survey
 
-module _ (frame buffer : List ℕ) {file places : List ℕ} {a : FileAnswer} (s : Surveyed file (checked_of a) places) where
-  pub call-refused : {why : Refusal} → a ≡ answers.Refused why → (refused why.0, buffer, file) ≡ round_on file frame buffer
+module _ (frame buffer : List ℕ) {file places : List ℕ} {a : Answered (Unit {0})} (s : Surveyed file (outcome_of a) places) where
+  pub call-refused : {why : Refusal} → a ≡ Err why → (refused (refusal_number why), buffer, file) ≡ round_on file frame buffer
   call-refused e = let reason = survey-refused s e in file-refused file frame buffer reason.0 reason.1
 
-  module _ (yes : a ≡ answers.Accepted) where
+  module _ (yes : a ≡ Ok tt) where
     pub call-short : length buffer < slots → (refused 9, buffer, file) ≡ round_on file frame buffer
     call-short short = buffer-refused file frame buffer (survey-accepted s yes) short
 

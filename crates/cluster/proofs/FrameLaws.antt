@@ -31,8 +31,6 @@ use Rattle.frame.specs.Rules.Frames.{frame_size, between}
 use Rattle.frame.specs.Rules.FrameGrounds.{wrong_frame_length, wrong_check, no_address}
 use Rattle.frame.specs.Rules.Reading.{Parts, parts, read_ground, parts_of, read_address}
 use Rattle.frame.specs.Inner.FrameAnswers.{reading_of}
-use Rattle.frame.specs.declared.types.AddressReading.{AddressReading}
-use Rattle.frame.specs.declared.types.AddressReading.TheVariants as address_readings
 use Rattle.frame.proofs.Tests as Tests
 use Rattle.master_slave.specs.declared.types.DataBytes.{DataBytes}
 use Rattle.master_slave.specs.Rules.Bus.{sender_mask, answer_bytes, answer_in, nobody}
@@ -41,17 +39,15 @@ use Rattle.master_slave.specs.Rules.Effect.{Effect}
 use Rattle.master_slave.specs.Inner.Duties.{data_effect, data_in}
 use Rattle.master_slave.specs.Inner.Carried.{Carried}
 use Rattle.master_slave.proofs.Bus.{mask-nobody}
-use Rattle.cluster.specs.declared.msd.DataReading.{DataReading}
-use Rattle.cluster.specs.declared.msd.DataReading.TheVariants as readings
 use Rattle.cluster.specs.Rules.RoundGrounds.{round_by_lem, write_pending, grounds_on}
 use Rattle.cluster.specs.Inner.EachGround.{no_firework, firework_size, length_for, wrong_length_on, wrong_check_on, no_operation_on, broadcast_read_on, frame_ground}
 use Rattle.cluster.specs.Rules.Round.{effect_of, frame_on}
 use Rattle.cluster.specs.Inner.Effects.{address_effect}
 use Rattle.cluster.specs.Inner.Exchanged.{answer_to, left_by_lem, heard_in, Exchanged, Taken}
-use Rattle.cluster.specs.declared.answer.RoundAnswer.{RoundAnswer}
-use Rattle.cluster.specs.declared.answer.RoundAnswer.TheVariants as answers
-use Rattle.cluster.specs.Inner.RoundAnswers.{answer_of, data_read}
+use Rattle.cluster.specs.Inner.RoundAnswers.{data_read}
 use Rattle.cluster.proofs.Rounds.{Fits, fits_facts, address-pending}
+use Rattle.file.specs.Inner.Refusals.{Answered, refusal_number, outcome_of}
+use Rattle.std.specs.Prelude.{Ok, Err}
 
 -- ---- answer and file of one frame, and its buffer
 
@@ -227,16 +223,16 @@ exchange-data c frame {f} old {new} {mask} is_data z k =
     exchange-carried c frame old z (subst (λ (b : ℕ). Carried (frame_on c frame) b old new mask f) (sym (data-first frame is_data)) there)
 
 pub data-refused :
-    (c : Cluster) (frame : List ℕ) {f : List ℕ} (b : List ℕ) {x : DataReading} {why : Refusal} → Becomes f c →
-    data_read x ≡ result_of (frame_ground c frame) (between frame) → x ≡ readings.Refused why → Exchanged c frame b b (refused why.0) f
+    (c : Cluster) (frame : List ℕ) {f : List ℕ} (b : List ℕ) {x : Answered DataBytes} {why : Refusal} → Becomes f c →
+    data_read x ≡ result_of (frame_ground c frame) (between frame) → x ≡ Err why → Exchanged c frame b b (refused (refusal_number why)) f
 unfolding data_read
 data-refused c frame b {why = why} h e is =
-    let reason = that_ground (between frame) why.0 (frame_ground c frame) (rw is at e) in
+    let reason = that_ground (between frame) (refusal_number why) (frame_ground c frame) (rw is at e) in
     exchange-refused c frame b h reason.0 reason.1
 
 pub data-taken :
-    (c : Cluster) (frame : List ℕ) {f : List ℕ} (old : List ℕ) {new : List ℕ} {mask : ℕ} {x : DataReading} {bytes : DataBytes} → round_by_lem frame ≡ msd →
-    data_read x ≡ result_of (frame_ground c frame) (between frame) → x ≡ readings.Data bytes →
+    (c : Cluster) (frame : List ℕ) {f : List ℕ} (old : List ℕ) {new : List ℕ} {mask : ℕ} {x : Answered DataBytes} {bytes : DataBytes} → round_by_lem frame ≡ msd →
+    data_read x ≡ result_of (frame_ground c frame) (between frame) → x ≡ Ok bytes →
     Carried (data_effect c (data_in bytes)) data_firework old new mask f → Exchanged c frame old new (done mask) f
 unfolding data_read
 data-taken c frame {f} old {new} {mask} {bytes = bytes} is_data e is k =
@@ -276,15 +272,15 @@ parts_facts frame {e} {n} {m} {o} {r} h =
     }
 
 pub address-refused :
-    (c : Cluster) (frame : List ℕ) {f : List ℕ} {x : AddressReading} {why : Refusal} → Becomes f c → round_by_lem frame ≡ msa →
-    reading_of x ≡ read_address frame → x ≡ address_readings.Refused why → Taken c frame (refused why.0) f
+    (c : Cluster) (frame : List ℕ) {f : List ℕ} {x : Answered AddressFrame} {why : Refusal} → Becomes f c → round_by_lem frame ≡ msa →
+    reading_of x ≡ read_address frame → x ≡ Err why → Taken c frame (refused (refusal_number why)) f
 unfolding reading_of read_address
 address-refused c frame {x = x} {why} h is_address e is =
-    let reason = that_ground (parts_of frame) why.0 (read_ground frame) (rw is at e) in
+    let reason = that_ground (parts_of frame) (refusal_number why) (read_ground frame) (rw is at e) in
     taken_refused c frame h (reason.0 ∙ sym (address_ground c frame is_address)) reason.1
 
-module _ (c : Cluster) (frame : List ℕ) {x : AddressReading} {epoch : ℕ} {name : LogicalName} {number : FileNumber} {operation : Operation}
-    {record' : RecordNumber} (is_address : round_by_lem frame ≡ msa) (e : reading_of x ≡ read_address frame) (is : x ≡ address_readings.Address epoch name number operation record') where
+module _ (c : Cluster) (frame : List ℕ) {x : Answered AddressFrame} {epoch : ℕ} {name : LogicalName} {number : FileNumber} {operation : Operation}
+    {record' : RecordNumber} (is_address : round_by_lem frame ≡ msa) (e : reading_of x ≡ read_address frame) (is : x ≡ OkAddress epoch name number operation record') where
   taken : PartsAre frame epoch (name_in_lem name) (file_in number) (operation_in operation) (record_in record')
   unfolding reading_of
   taken = parts_facts frame (rw is at e)
@@ -309,13 +305,13 @@ module _ (c : Cluster) (frame : List ℕ) {x : AddressReading} {epoch : ℕ} {na
       taken_carried c frame fits (rw effect mask-nobody) (rw effect after)
 
 -- its buffer, by the answer
-module _ (c : Cluster) (frame : List ℕ) {f : List ℕ} {x : RoundAnswer} (t : Taken c frame (answer_of x) f) where
-  pub address_alone : (b : List ℕ) {why : Refusal} → x ≡ answers.Refused why → Exchanged c frame b b (refused why.0) f
-  unfolding answer_of
+module _ (c : Cluster) (frame : List ℕ) {f : List ℕ} {x : Answered ℕ} (t : Taken c frame (outcome_of x) f) where
+  pub address_alone : (b : List ℕ) {why : Refusal} → x ≡ Err why → Exchanged c frame b b (refused (refusal_number why)) f
+  unfolding outcome_of
   address_alone b is = taken_alone c frame b (rw is at t)
 
-  pub address-heard : {old new : List ℕ} {m : ℕ} → round_by_lem frame ≡ msa → x ≡ answers.Carried m → new ≡ answer_in old (answer_bytes address_firework nobody) → Exchanged c frame old new (done m) f
-  unfolding answer_of frame_on effect_of
+  pub address-heard : {old new : List ℕ} {m : ℕ} → round_by_lem frame ≡ msa → x ≡ Ok m → new ≡ answer_in old (answer_bytes address_firework nobody) → Exchanged c frame old new (done m) f
+  unfolding outcome_of frame_on effect_of
   address-heard {old} {new} is_address is b =
       let effect : frame_on c frame ≡ address_effect c frame = rw is_address in
       let there : new ≡ answer_in old (answer_bytes (get_or frame 0 0) (frame_on c frame).senders) = rw (address-first frame is_address, effect) b in

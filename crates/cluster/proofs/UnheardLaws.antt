@@ -25,8 +25,6 @@ use Rattle.master_slave.specs.declared.types.RecordAddress.{RecordAddress}
 use Rattle.master_slave.specs.declared.types.DataBytes.{DataBytes}
 use Rattle.master_slave.specs.declared.pending.Duty.{Duty as CodeDuty}
 use Rattle.master_slave.specs.declared.pending.Duty.TheVariants as duties
-use Rattle.cluster.specs.declared.msd.DataReading.{DataReading}
-use Rattle.cluster.specs.declared.msd.DataReading.TheVariants as readings
 use Rattle.master_slave.specs.Rules.Slaves.{Duty, nothing, epoch_raised, pending_duty, slave_after, slaves_after, falls_asleep, rests_after, rested}
 use Rattle.cluster.specs.Rules.RoundGrounds.{round_by_lem}
 use Rattle.master_slave.specs.Rules.Effect.{Effect}
@@ -43,6 +41,8 @@ use Rattle.master_slave.specs.Inner.Duties.{puts_to_sleep, leaves_slaves}
 use Rattle.master_slave.proofs.DataLaws.{after_same, awake-alike, stays_up}
 use Rattle.cluster.proofs.Sleep.{rested-awake, address_same, multipartner-awake}
 use Rattle.cluster.proofs.FrameCall.{no_ground_ten, round_is, ground_eleven, ground_none, frame_effect}
+use Rattle.file.specs.Inner.Refusals.{Answered, refusal_number}
+use Rattle.std.specs.Prelude.{Ok, Err}
 
 -- ---- the data part
 
@@ -117,14 +117,14 @@ module _ (c : Cluster) (frame : List ℕ) where
       record { fits = sym yes'; left = record { becomes = rw yes' h.becomes; awake = rw yes' h.awake } }
 
 -- a data frame, by what was read of it
-module _ (c : Cluster) (frame : List ℕ) {f : List ℕ} {x : DataReading} {sleepers : Bool} (e : data_read x ≡ result_of (frame_ground c frame) (between frame)) where
-  pub unheard_refused : {why : Refusal} → Becomes f c → x ≡ readings.Refused why → MaySleep sleepers c → LeftUnheard c frame false sleepers f
+module _ (c : Cluster) (frame : List ℕ) {f : List ℕ} {x : Answered DataBytes} {sleepers : Bool} (e : data_read x ≡ result_of (frame_ground c frame) (between frame)) where
+  pub unheard_refused : {why : Refusal} → Becomes f c → x ≡ Err why → MaySleep sleepers c → LeftUnheard c frame false sleepers f
   unfolding data_read
   unheard_refused {why} h is may =
-      let reason = that_ground (between frame) why.0 (frame_ground c frame) (rw is at e) in
+      let reason = that_ground (between frame) (refusal_number why) (frame_ground c frame) (rw is at e) in
       left-refused c frame h reason.0 reason.1 may
 
-  pub unheard_taken : {bytes : DataBytes} → round_by_lem frame ≡ msd → x ≡ readings.Data bytes → Left (data_effect c (data_in bytes)).after sleepers f → LeftUnheard c frame true sleepers f
+  pub unheard_taken : {bytes : DataBytes} → round_by_lem frame ≡ msd → x ≡ Ok bytes → Left (data_effect c (data_in bytes)).after sleepers f → LeftUnheard c frame true sleepers f
   unfolding data_read frame_on effect_of
   unheard_taken {bytes} is_data is h =
       let there : done (data_in bytes) ≡ result_of (frame_ground c frame) (between frame) = rw is at e in

@@ -1,25 +1,15 @@
 // The answer to a frame.
 ghost use Rattle.std.specs.Prelude.{◌≡◌};
-ghost use Rattle.cluster.specs.Inner.RoundAnswers.{answer_of};
 ghost use Rattle.cluster.specs.Inner.Unheard.{is_done};
 
 use file::types::Refusal;
-
-// A frame is refused, or carried out, with the mask of the slots in which someone sent.
-#[derive(Clone, Copy)]
-pub enum RoundAnswer {
-    Refused(Refusal),
-    Carried(u64),
-}
+ghost use Rattle.file.specs.Inner.Refusals.{outcome_of};
 
 // Whether a frame was carried out.
-pub fn is_carried(answer: RoundAnswer) -> bool
-    ensures { result ≡ is_done (answer_of answer) }
+pub fn is_carried(answer: Result<u64, Refusal>) -> bool
+    ensures { result ≡ is_done (outcome_of answer) }
 {
-    match answer {
-        RoundAnswer::Refused(_) => false,
-        RoundAnswer::Carried(_) => true,
-    }
+    answer.is_ok()
 }
 
 // What came of a frame that nobody hears: whether it was carried out, and whether someone may be asleep afterwards.

@@ -3,6 +3,7 @@ ghost use Rattle.std.specs.Prelude.{◌≡◌, ◌≤◌, length};
 ghost use Rattle.file.specs.Rules.Results.{result_of};
 ghost use Rattle.file.specs.Rules.Decode.{decode};
 ghost use Rattle.file.specs.Inner.Accepted.{AcceptedFile, Placed};
+ghost use Rattle.file.specs.Inner.Refusals.{outcome_of};
 ghost use Rattle.frame.specs.Rules.Fireworks.{msd};
 ghost use Rattle.frame.specs.Rules.Frames.{between};
 ghost use Rattle.master_slave.specs.Rules.Bus.{slots};
@@ -11,10 +12,10 @@ ghost use Rattle.master_slave.specs.Inner.Carried.{Carried};
 ghost use Rattle.cluster.specs.Rules.RoundGrounds.{round_by_lem, write_pending};
 ghost use Rattle.cluster.specs.Inner.EachGround.{frame_ground};
 ghost use Rattle.cluster.specs.Inner.Exchanged.{Exchanged};
-ghost use Rattle.cluster.specs.Inner.RoundAnswers.{answer_of, data_read};
+ghost use Rattle.cluster.specs.Inner.RoundAnswers.{data_read};
 ghost use Rattle.cluster.specs.Inner.Unheard.{MaySleep, Left, LeftUnheard};
 
-use crate::answer::{RoundAnswer, Unheard};
+use crate::answer::Unheard;
 use file::layout::PENDING;
 use file::readers::read_pending;
 use file::types::{Operation, Refusal, SlavePlaces};
@@ -37,37 +38,31 @@ fn is_write_pending(file: &[u8]) -> bool
     pending.operation.0 == Operation::WRITE.0
 }
 
-// A data frame is refused, or has these bytes.
-#[derive(Clone, Copy)]
-pub enum DataReading {
-    Refused(Refusal),
-    Data(DataBytes),
-}
-
 // "MSD is 6 bytes .. if a write is pending, otherwise 1. A multipartner frame is 1 byte.": the firework alone.
 pub const FIREWORK_SIZE: usize = 1;
 
-fn read_data(file: &[u8], frame: &[u8]) -> DataReading
+// A data frame is refused, or has these bytes.
+fn read_data(file: &[u8], frame: &[u8]) -> Result<DataBytes, Refusal>
     requires { AcceptedFile file.now × (round_by_lem frame.now ≡ msd) }
     ensures { data_read result ≡ result_of (frame_ground (decode file.now) frame.now) (between frame.now) }
 {
     if !is_write_pending(file) {
         if frame.len() != FIREWORK_SIZE {
-            return DataReading::Refused(Refusal::FRAME_LENGTH);
+            return Err(Refusal::FrameLength);
         }
-        return DataReading::Data(DataBytes::NONE);
+        return Ok(DataBytes::NONE);
     }
     if frame.len() != FRAME_SIZE {
-        return DataReading::Refused(Refusal::FRAME_LENGTH);
+        return Err(Refusal::FrameLength);
     }
     let b0 = frame[PB0_PLACE];
     let b1 = frame[PB1_PLACE];
     let b2 = frame[PB2_PLACE];
     let b3 = frame[PB3_PLACE];
     if frame[CHECK_PLACE] != data_check(b0, b1, b2, b3) {
-        return DataReading::Refused(Refusal::CHECK);
+        return Err(Refusal::Check);
     }
-    DataReading::Data(DataBytes { b0, b1, b2, b3 })
+    Ok(DataBytes { b0, b1, b2, b3 })
 }
 
 // A data frame: the pending operation is carried out.
@@ -76,18 +71,12 @@ pub fn take_data(
     places: &SlavePlaces,
     frame: &[u8],
     buffer: &mut [u8],
-) -> RoundAnswer
+) -> Result<u64, Refusal>
     requires { Placed file.old places.now × (round_by_lem frame.now ≡ msd) × (slots ≤ length buffer.old) }
-    ensures { Exchanged (decode file.old) frame.now buffer.old buffer.new (answer_of result) file.new }
+    ensures { Exchanged (decode file.old) frame.now buffer.old buffer.new (outcome_of result) file.new }
 {
-    let reading = read_data(file, frame);
-    match reading {
-        DataReading::Refused(why) => RoundAnswer::Refused(why),
-        DataReading::Data(bytes) => {
-            let mask = carry_data(file, places, bytes, buffer);
-            RoundAnswer::Carried(mask)
-        }
-    }
+    let bytes = read_data(file, frame)?;
+    Ok(carry_data(file, places, bytes, buffer))
 }
 
 // The data part of a round that nobody hears. Whether someone may be asleep, before and afterwards: where nobody is, a duty that leaves the
@@ -127,11 +116,11 @@ pub fn take_unheard(
 {
     let reading = read_data(file, frame);
     match reading {
-        DataReading::Refused(_) => Unheard {
+        Err(_) => Unheard {
             carried: false,
             sleepers,
         },
-        DataReading::Data(bytes) => {
+        Ok(bytes) => {
             let asleep = carry_unheard(file, places, bytes, buffer, sleepers);
             Unheard {
                 carried: true,

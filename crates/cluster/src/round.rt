@@ -2,18 +2,18 @@
 ghost use Rattle.std.specs.Prelude.{◌≡◌, ◌≤◌, length};
 ghost use Rattle.file.specs.Rules.Decode.{decode};
 ghost use Rattle.file.specs.Inner.Accepted.{Placed};
+ghost use Rattle.file.specs.Inner.Refusals.{outcome_of};
 ghost use Rattle.frame.specs.Inner.FrameAnswers.{firework_round};
 ghost use Rattle.master_slave.specs.Rules.Bus.{slots};
 ghost use Rattle.cluster.specs.Rules.RoundGrounds.{round_by_lem};
 ghost use Rattle.cluster.specs.Rules.Round.{round_on};
 ghost use Rattle.cluster.specs.Inner.Exchanged.{Exchanged};
-ghost use Rattle.cluster.specs.Inner.RoundAnswers.{answer_of};
 ghost use Rattle.cluster.specs.Inner.Unheard.{MaySleep, LeftUnheard};
 
-use crate::answer::{RoundAnswer, Unheard, is_carried};
+use crate::answer::{Unheard, is_carried};
 use crate::msa::{pend_address, take_address};
 use crate::msd::{FIREWORK_SIZE, take_data, take_unheard};
-use file::survey::{FileAnswer, survey};
+use file::survey::survey;
 use file::types::{PLACES, Refusal, SlavePlaces};
 use frame::firework::{Firework, firework_of};
 use frame::frames::FIREWORK_PLACE;
@@ -21,11 +21,11 @@ use master_slave::slots::SLOTS;
 use multipartner::multipartner::carry_multipartner;
 
 // The round that a frame opens, by its first byte.
-pub fn firework_in(frame: &[u8]) -> Firework
+pub fn firework_in(frame: &[u8]) -> Option<Firework>
     ensures { firework_round result ≡ round_by_lem frame.now }
 {
     if frame.len() == 0 {
-        return Firework::None;
+        return None;
     }
     firework_of(frame[FIREWORK_PLACE])
 }
@@ -36,21 +36,26 @@ pub fn one_frame(
     places: &SlavePlaces,
     frame: &[u8],
     buffer: &mut [u8],
-) -> RoundAnswer
+) -> Result<u64, Refusal>
     requires { Placed file.old places.now × (slots ≤ length buffer.old) }
-    ensures { Exchanged (decode file.old) frame.now buffer.old buffer.new (answer_of result) file.new }
+    ensures { Exchanged (decode file.old) frame.now buffer.old buffer.new (outcome_of result) file.new }
 {
     let firework = firework_in(frame);
     match firework {
-        Firework::None => RoundAnswer::Refused(Refusal::FIREWORK),
-        Firework::Address => take_address(file, frame, buffer),
-        Firework::Data => take_data(file, places, frame, buffer),
-        Firework::Multipartner(round) => {
+        None => Err(Refusal::Firework),
+        Some(Firework::Address) => take_address(file, frame, buffer),
+        Some(Firework::Data) => take_data(file, places, frame, buffer),
+        Some(Firework::Multipartner(round)) => {
             if frame.len() != FIREWORK_SIZE {
-                return RoundAnswer::Refused(Refusal::FRAME_LENGTH);
+                return Err(Refusal::FrameLength);
             }
-            let mask = carry_multipartner(file, places, round, frame[FIREWORK_PLACE], buffer);
-            RoundAnswer::Carried(mask)
+            Ok(carry_multipartner(
+                file,
+                places,
+                round,
+                frame[FIREWORK_PLACE],
+                buffer,
+            ))
         }
     }
 }
@@ -59,7 +64,7 @@ pub fn one_frame(
 pub fn one_unheard(
     file: &mut [u8],
     places: &SlavePlaces,
-    firework: Firework,
+    firework: Option<Firework>,
     frame: &[u8],
     buffer: &mut [u8],
     sleepers: bool,
@@ -68,19 +73,19 @@ pub fn one_unheard(
     ensures { LeftUnheard (decode file.old) frame.now result.carried result.sleepers file.new }
 {
     match firework {
-        Firework::None => Unheard {
+        None => Unheard {
             carried: false,
             sleepers,
         },
-        Firework::Address => {
+        Some(Firework::Address) => {
             let answer = pend_address(file, frame);
             Unheard {
                 carried: is_carried(answer),
                 sleepers,
             }
         }
-        Firework::Data => take_unheard(file, places, frame, buffer, sleepers),
-        Firework::Multipartner(round) => {
+        Some(Firework::Data) => take_unheard(file, places, frame, buffer, sleepers),
+        Some(Firework::Multipartner(round)) => {
             if frame.len() != FIREWORK_SIZE {
                 return Unheard {
                     carried: false,
@@ -98,18 +103,13 @@ pub fn one_unheard(
 
 // One frame on a file: refused by its number, with nothing altered, or carried out, with the mask of the slots in which someone
 // sent.
-pub fn round(file: &mut [u8], frame: &[u8], buffer: &mut [u8]) -> RoundAnswer
-    ensures { (answer_of result, buffer.new, file.new) ≡ round_on file.old frame.now buffer.old }
+pub fn round(file: &mut [u8], frame: &[u8], buffer: &mut [u8]) -> Result<u64, Refusal>
+    ensures { (outcome_of result, buffer.new, file.new) ≡ round_on file.old frame.now buffer.old }
 {
     let mut places = [0u16; PLACES];
-    let surveyed = survey(file, &mut places);
-    match surveyed {
-        FileAnswer::Refused(why) => RoundAnswer::Refused(why),
-        FileAnswer::Accepted => {
-            if buffer.len() < SLOTS {
-                return RoundAnswer::Refused(Refusal::BUFFER);
-            }
-            one_frame(file, &places, frame, buffer)
-        }
+    survey(file, &mut places)?;
+    if buffer.len() < SLOTS {
+        return Err(Refusal::Buffer);
     }
+    one_frame(file, &places, frame, buffer)
 }

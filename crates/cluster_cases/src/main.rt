@@ -26,8 +26,8 @@ fn answered(out: &impl Print, number: u8, mask: u64) -> io::Result<()> {
 fn carry(out: &impl Print, file: &mut [u8], frame: &[u8], buffer: &mut [u8]) -> io::Result<()> {
     let answer = round(file, frame, buffer);
     match answer {
-        RoundAnswer::Refused(why) => answered(out, why.0, 0)?,
-        RoundAnswer::Carried(mask) => answered(out, 0, mask)?,
+        Err(why) => answered(out, why.0, 0)?,
+        Ok(mask) => answered(out, 0, mask)?,
     }
     show::bytes(out, file)?;
     show::bytes(out, buffer)

@@ -15,19 +15,17 @@ use Rattle.file.specs.Rules.Decode.{decode}
 use Rattle.file.specs.Rules.FileGrounds.{file_ground}
 use Rattle.file.specs.Inner.Places.{slave_of, file_place}
 use Rattle.file.specs.Inner.Accepted.{AcceptedFile, FoundFile, file_found, find_file, slave_count}
-use Rattle.file.specs.Inner.FileAnswers.{checked_of, found_file}
+use Rattle.file.specs.Inner.FileAnswers.{found_file}
 use Rattle.file.specs.Inner.Surveyed.{Surveyed}
 use Rattle.file.specs.declared.records.FileBytes.{FileBytes}
-use Rattle.file.specs.declared.records.FilePlace.{FilePlace}
-use Rattle.file.specs.declared.records.FilePlace.TheVariants.{Bytes, NoFile}
-use Rattle.file.specs.declared.survey.FileAnswer.{FileAnswer}
-use Rattle.file.specs.declared.survey.FileAnswer.TheVariants as answers
 use Rattle.file.specs.declared.types.Refusal.{Refusal}
 use Rattle.file.proofs.Order.{by_case}
 use Rattle.file.proofs.ReaderLaws.{part-there}
 use Rattle.file.proofs.RecordLaws.{bytes-within}
 use Rattle.file.proofs.Surveyed.{survey-accepted, survey-refused, survey-becomes}
 use Rattle.contents.specs.Rules.Contents.{contents_in, contents_on}
+use Rattle.file.specs.Inner.Refusals.{Answered, refusal_number, outcome_of}
+use Rattle.std.specs.Prelude.{Ok, Err, Option, Some, None}
 
 -- ---- the bytes that fit
 
@@ -70,8 +68,8 @@ past_none number [] s h = refl
 past_none number (x ∷ ss) zero h = absurd (omega (arith, h))
 past_none number (x ∷ ss) (suc s) h = past_none number ss s (omega (arith, h))
 
-module _ (c : Cluster) (s n : ℕ) {r : FilePlace} (is : found_file r ≡ find_file c s n) where
-  missing : r ≡ NoFile → bytes_in (slave_of c s) n ≡ []
+module _ (c : Cluster) (s n : ℕ) {r : Option FileBytes} (is : found_file r ≡ find_file c s n) where
+  missing : r ≡ None → bytes_in (slave_of c s) n ≡ []
   unfolding found_file find_file
   missing q =
       by_case (eqb (length (bytes_in (slave_of c s) n)) 0)
@@ -81,7 +79,7 @@ module _ (c : Cluster) (s n : ℕ) {r : FilePlace} (is : found_file r ≡ find_f
       other : {a b : ℕ} → FoundFile.no_file_lem ≡ file_found a b → ⊥
       other q = let z : ◌≡◌ {A = ℕ} 0 1 = cc in omega arith
 
-  found : {b : FileBytes} → r ≡ Bytes b → (b.place ≡ file_place c s n) × (b.size ≡ length (bytes_in (slave_of c s) n))
+  found : {b : FileBytes} → r ≡ Some b → (b.place ≡ file_place c s n) × (b.size ≡ length (bytes_in (slave_of c s) n))
   unfolding found_file find_file
   found q =
       by_case (eqb (length (bytes_in (slave_of c s) n)) 0)
@@ -116,21 +114,21 @@ contents_of : (f : List ℕ) (slave number : ℕ) → contents_in f slave number
 unfolding contents_in slave_of
 contents_of f slave number = refl
 
-module _ {f places : List ℕ} {a : FileAnswer} (s : Surveyed f (checked_of a) places) (slave number : ℕ) (buffer : List ℕ) where
-  pub call-refused : {why : Refusal} → a ≡ answers.Refused why → (refused why.0, buffer) ≡ contents_on f slave number buffer
+module _ {f places : List ℕ} {a : Answered (Unit {0})} (s : Surveyed f (outcome_of a) places) (slave number : ℕ) (buffer : List ℕ) where
+  pub call-refused : {why : Refusal} → a ≡ Err why → (refused (refusal_number why), buffer) ≡ contents_on f slave number buffer
   call-refused e = let (is, some) = survey-refused s e in sym (contents-refused f slave number buffer is some)
 
-  module _ (e : a ≡ answers.Accepted) where
+  module _ (e : a ≡ Ok tt) where
     pub call_past : {n : ℕ} → n ≡ slave_count f → n ≤ slave → (done 0, buffer) ≡ contents_on f slave number buffer
     unfolding contents_in
     call_past is past = sym (none_read f slave number buffer (survey-accepted s e) (past_none number (decode f).slaves slave (omega (arith, is, past))))
 
-    module _ {r : FilePlace} (is : found_file r ≡ find_file (decode f) slave number) where
-      pub call_missing : r ≡ NoFile → (done 0, buffer) ≡ contents_on f slave number buffer
+    module _ {r : Option FileBytes} (is : found_file r ≡ find_file (decode f) slave number) where
+      pub call_missing : r ≡ None → (done 0, buffer) ≡ contents_on f slave number buffer
       call_missing q =
           sym (none_read f slave number buffer (survey-accepted s e) (contents_of f slave number ∙ missing (decode f) slave number is q))
 
-      module _ {b : FileBytes} (q : r ≡ Bytes b) where
+      module _ {b : FileBytes} (q : r ≡ Some b) where
         pub call-within : b.place + b.size ≤ length f
         call-within = bytes-within (decode f) slave number is q (survey-becomes s e)
 

@@ -1,5 +1,3 @@
--- Rules: what a reader must believe of the call that reads a slave's file. Claims: what is proved of it beside the contract. Inner: the
--- code's answers.
+-- Rules: what a reader must believe of the call that reads a slave's file. Claims: what is proved of it beside the contract.
 pub mod Rules
 pub mod Claims
-pub mod Inner

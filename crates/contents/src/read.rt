@@ -3,21 +3,14 @@ ghost use Rattle.std.specs.Prelude.{◌≡◌, ◌+◌, ◌≤◌, min, length, 
 ghost use Rattle.file.specs.Rules.Bytes.{part};
 ghost use Rattle.file.specs.Rules.Results.{written_in};
 ghost use Rattle.file.specs.Inner.Typed.{file_in};
+ghost use Rattle.file.specs.Inner.Refusals.{outcome_of};
 ghost use Rattle.contents.specs.Rules.Contents.{contents_on};
-ghost use Rattle.contents.specs.Inner.ContentsAnswers.{size_of};
 
 use file::copying::copy;
 use file::readers::slave_count;
-use file::records::{FilePlace, find_file};
-use file::survey::{FileAnswer, survey};
+use file::records::find_file;
+use file::survey::survey;
 use file::types::{FileNumber, PLACES, Refusal};
-
-// A cluster file is refused, or the slave's file has so many bytes: none where there is no such slave or file.
-#[derive(Clone, Copy)]
-pub enum ContentsAnswer {
-    Refused(Refusal),
-    Size(usize),
-}
 
 fn lesser(a: usize, b: usize) -> usize
     ensures { result ≡ min a b }
@@ -38,29 +31,24 @@ fn put_front(file: &[u8], place: usize, size: usize, buffer: &mut [u8])
 }
 
 // A file of the slave at a place of the table: the cluster file is refused by its number, with the buffer as it was, or the buffer has in
-// front as many of the file's bytes as it has room for. The cluster file is checked once and not altered.
+// front as many of the file's bytes as it has room for, and the answer is how many bytes the file has, none where there is no such slave or
+// file. The cluster file is checked once and not altered.
 pub fn read_contents(
     file: &[u8],
     slave: usize,
     number: FileNumber,
     buffer: &mut [u8],
-) -> ContentsAnswer
-    ensures { (size_of result, buffer.new) ≡ contents_on file.now slave (file_in number) buffer.old }
+) -> Result<usize, Refusal>
+    ensures { (outcome_of result, buffer.new) ≡ contents_on file.now slave (file_in number) buffer.old }
 {
     let mut places = [0u16; PLACES];
-    let surveyed = survey(file, &mut places);
-    match surveyed {
-        FileAnswer::Refused(why) => ContentsAnswer::Refused(why),
-        FileAnswer::Accepted => {
-            if slave_count(file) <= slave {
-                return ContentsAnswer::Size(0);
-            }
-            let found = find_file(file, slave, number);
-            let FilePlace::Bytes(bytes) = found else {
-                return ContentsAnswer::Size(0);
-            };
-            put_front(file, bytes.place, bytes.size, buffer);
-            ContentsAnswer::Size(bytes.size)
-        }
+    survey(file, &mut places)?;
+    if slave_count(file) <= slave {
+        return Ok(0);
     }
+    let Some(bytes) = find_file(file, slave, number) else {
+        return Ok(0);
+    };
+    put_front(file, bytes.place, bytes.size, buffer);
+    Ok(bytes.size)
 }

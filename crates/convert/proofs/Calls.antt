@@ -19,10 +19,7 @@ use Rattle.file.specs.Rules.Changes.{with_edition}
 use Rattle.file.specs.Rules.Editions.{in_edition, exceeds}
 use Rattle.file.specs.Rules.FileGrounds.{file_grounds, file_ground}
 use Rattle.file.specs.Inner.Accepted.{slave_count}
-use Rattle.file.specs.Inner.FileAnswers.{checked_of}
 use Rattle.file.specs.Inner.Surveyed.{Surveyed}
-use Rattle.file.specs.declared.survey.FileAnswer.{FileAnswer}
-use Rattle.file.specs.declared.survey.FileAnswer.TheVariants as answers
 use Rattle.file.specs.declared.types.Refusal.{Refusal}
 use Rattle.file.proofs.Order.{joined-here, joined-next, either_false_left, either_false_right}
 use Rattle.file.proofs.Results.{file-first, file_numbered}
@@ -35,6 +32,8 @@ use Rattle.convert.specs.Inner.Putting.{Put}
 use Rattle.convert.specs.Inner.Slaves.{FormFits, is_over}
 use Rattle.convert.proofs.Putting.{put_same, put_written}
 use Rattle.convert.proofs.EditionLaws.{edition-width}
+use Rattle.file.specs.Inner.Refusals.{Answered, refusal_number, outcome_of}
+use Rattle.std.specs.Prelude.{Ok, Err}
 
 -- ---- the limits
 
@@ -104,14 +103,14 @@ in-edition f e = form-is (width_in e) e (decode f)
 
 -- ---- the ways of the call, by the answer of the survey
 
-module _ {f places : List ℕ} {a : FileAnswer} (s : Surveyed f (checked_of a) places) (e : Edition) (out : List ℕ) where
-  pub call-refused : {why : Refusal} → a ≡ answers.Refused why → (refused why.0, out) ≡ convert_on f (edition_in e) out
+module _ {f places : List ℕ} {a : Answered (Unit {0})} (s : Surveyed f (outcome_of a) places) (e : Edition) (out : List ℕ) where
+  pub call-refused : {why : Refusal} → a ≡ Err why → (refused (refusal_number why), out) ≡ convert_on f (edition_in e) out
   call-refused {why} is =
       let reason = survey-refused s is in
       let here : convert_ground f (edition_in e) out ≡ file_ground f = file_decides f (edition_in e) out (λ z. reason.1 (reason.0 ∙ z)) in
       sym (convert-refused f (edition_in e) out (here ∙ sym reason.0) reason.1)
 
-  module _ (accepted : a ≡ answers.Accepted) {v size : ℕ} (width : v ≡ width_in (edition_in e)) (long : size ≡ file_length v (decode f).slaves) where
+  module _ (accepted : a ≡ Ok tt) {v size : ℕ} (width : v ≡ width_in (edition_in e)) (long : size ≡ file_length v (decode f).slaves) where
     length-is : size ≡ file_length (width_in (edition_in e)) (decode f).slaves
     length-is = long ∙ ap (λ (w : ℕ). file_length w (decode f).slaves) width
 

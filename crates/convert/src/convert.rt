@@ -4,7 +4,8 @@ ghost use Rattle.file.specs.Rules.Layout.{OffsetWidth};
 ghost use Rattle.file.specs.Rules.Encode.{encode_at};
 ghost use Rattle.file.specs.Rules.Decode.{decode};
 ghost use Rattle.file.specs.Inner.Accepted.{AcceptedFile};
-ghost use Rattle.convert.specs.Inner.ConversionAnswers.{edition_in, converted_of};
+ghost use Rattle.file.specs.Inner.Refusals.{outcome_of};
+ghost use Rattle.convert.specs.Inner.ConversionAnswers.{edition_in};
 ghost use Rattle.convert.specs.Inner.Putting.{Put};
 ghost use Rattle.convert.specs.Inner.Slaves.{FormFits, is_over};
 ghost use Rattle.convert.specs.Rules.Convert.{convert_on};
@@ -19,15 +20,8 @@ use file::layout::{
     ENTRY_OFFSETS, HEADER_BYTES, HEADER_OFFSETS, LONGEST_BY_WIDTH, MOST_SLAVES_BY_WIDTH,
 };
 use file::readers::{slave_count, width_of};
-use file::survey::{FileAnswer, survey};
+use file::survey::survey;
 use file::types::{PLACES, Refusal};
-
-// A file is refused, or its form is written, with its length.
-#[derive(Clone, Copy)]
-pub enum Conversion {
-    Refused(Refusal),
-    Written(usize),
-}
 
 // Whether a form of so many slaves and of that length exceeds the limits of its width: "the limits are 64 slaves and 65,536 bytes".
 pub fn is_over(width: usize, count: usize, size: usize) -> bool
@@ -65,24 +59,19 @@ fn put_file(out: &mut [u8], width: usize, size: usize, file: &[u8])
 
 // The file's form in an edition, written into the buffer: refused by its number, with the buffer as it was, or written, with how many
 // bytes it has. The file is checked once, and each byte is written once.
-pub fn convert(file: &[u8], edition: Edition, out: &mut [u8]) -> Conversion
-    ensures { (converted_of result, out.new) ≡ convert_on file.now (edition_in edition) out.old }
+pub fn convert(file: &[u8], edition: Edition, out: &mut [u8]) -> Result<usize, Refusal>
+    ensures { (outcome_of result, out.new) ≡ convert_on file.now (edition_in edition) out.old }
 {
     let mut places = [0u16; PLACES];
-    let surveyed = survey(file, &mut places);
-    match surveyed {
-        FileAnswer::Refused(why) => Conversion::Refused(why),
-        FileAnswer::Accepted => {
-            let width = width_in(edition);
-            let size = length_in(file, width);
-            if is_over(width, slave_count(file), size) {
-                return Conversion::Refused(Refusal::EDITION_LIMITS);
-            }
-            if out.len() < size {
-                return Conversion::Refused(Refusal::CONVERSION_BUFFER);
-            }
-            put_file(out, width, size, file);
-            Conversion::Written(size)
-        }
+    survey(file, &mut places)?;
+    let width = width_in(edition);
+    let size = length_in(file, width);
+    if is_over(width, slave_count(file), size) {
+        return Err(Refusal::EditionLimits);
     }
+    if out.len() < size {
+        return Err(Refusal::ConversionBuffer);
+    }
+    put_file(out, width, size, file);
+    Ok(size)
 }

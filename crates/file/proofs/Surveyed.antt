@@ -12,43 +12,42 @@ use Rattle.file.specs.Rules.FileGrounds.{file_ground, has_repeat, held_names, lo
 use Rattle.file.specs.Rules.Results.{refused, done, result_of}
 use Rattle.file.specs.Inner.Places.{file_place, SameShape}
 use Rattle.file.specs.Inner.Accepted.{Becomes, AcceptedFile, slave_count, Placed}
-use Rattle.file.specs.Inner.FileAnswers.{checked_of}
 use Rattle.file.specs.Inner.Surveyed.{Surveyed}
-use Rattle.file.specs.declared.survey.FileAnswer.{FileAnswer}
-use Rattle.file.specs.declared.survey.FileAnswer.TheVariants as answers
 use Rattle.file.specs.declared.types.Refusal.{Refusal}
 use Rattle.file.proofs.Results.{load_first, load_twice, result_refused, no_ground, that_ground}
 use Rattle.file.proofs.Shape.{shape_count}
 use Rattle.file.proofs.AtWidth.{shape_file_place}
 use Rattle.file.proofs.ReaderLaws.{becomes-decoded}
+use Rattle.file.specs.Inner.Refusals.{Answered, refusal_number, outcome_of}
+use Rattle.std.specs.Prelude.{Ok, Err}
 
 -- ---- the answer of the survey
 
-module _ {f places : List ℕ} {a : FileAnswer} (s : Surveyed f (checked_of a) places) where
-  pub survey-accepted : a ≡ answers.Accepted → file_ground f ≡ 0
-  unfolding checked_of
+module _ {f places : List ℕ} {a : Answered (Unit {0})} (s : Surveyed f (outcome_of a) places) where
+  pub survey-accepted : a ≡ Ok tt → file_ground f ≡ 0
+  unfolding outcome_of
   survey-accepted e = no_ground tt (file_ground f) (rw e at s.is)
 
-  pub survey-placed : a ≡ answers.Accepted → Placed f places
-  unfolding checked_of
+  pub survey-placed : a ≡ Ok tt → Placed f places
+  unfolding outcome_of
   survey-placed e = s.placed (rw e)
 
-  pub survey-becomes : a ≡ answers.Accepted → AcceptedFile f
+  pub survey-becomes : a ≡ Ok tt → AcceptedFile f
   survey-becomes e = (survey-placed e).file
 
-  pub survey-refused : {why : Refusal} → a ≡ answers.Refused why → (why.0 ≡ file_ground f) × (why.0 ≡ 0 → ⊥)
-  unfolding checked_of
-  survey-refused {why} e = that_ground tt why.0 (file_ground f) (rw e at s.is)
+  pub survey-refused : {why : Refusal} → a ≡ Err why → (refusal_number why ≡ file_ground f) × (refusal_number why ≡ 0 → ⊥)
+  unfolding outcome_of
+  survey-refused {why} e = that_ground tt (refusal_number why) (file_ground f) (rw e at s.is)
 
   -- the checker's call: the survey's refusal, 22, or none
-  pub check_surveyed : {why : Refusal} → a ≡ answers.Refused why → refused why.0 ≡ load_verdict f
+  pub check_surveyed : {why : Refusal} → a ≡ Err why → refused (refusal_number why) ≡ load_verdict f
   unfolding load_verdict
   check_surveyed {why} e =
       let (is, some) = survey-refused e in
-      let reason : load_ground f ≡ why.0 = load_first f (λ z. some (is ∙ z)) ∙ sym is in
+      let reason : load_ground f ≡ (refusal_number why) = load_first f (λ z. some (is ∙ z)) ∙ sym is in
       rw reason (result_refused tt some)
 
-  module _ (e : a ≡ answers.Accepted) {t : Bool} (test : t ≡ has_repeat (held_names (logical_names (decode f)))) where
+  module _ (e : a ≡ Ok tt) {t : Bool} (test : t ≡ has_repeat (held_names (logical_names (decode f)))) where
     last_ground : load_ground f ≡ cond t 22 0
     last_ground = load_twice f (survey-accepted e) ∙ rw test
 

@@ -3,8 +3,10 @@ ghost use Rattle.std.specs.Prelude.{◌≡◌, ◌+◌, ◌*◌, ◌-◌, ◌≤
 ghost use Rattle.file.specs.Rules.Layout.{OffsetWidth};
 ghost use Rattle.file.specs.Rules.Bytes.{part, all_zero};
 ghost use Rattle.file.specs.Rules.FileGrounds.{wrong_size, wrong_mark, wrong_edition, wrong_length, wrong_pending, wrong_header};
+ghost use Rattle.file.specs.Rules.Results.{number_in};
 ghost use Rattle.file.specs.Inner.Typed.{name_in_lem};
 ghost use Rattle.file.specs.Inner.Checked.{HeaderFits, HeaderChecked};
+ghost use Rattle.file.specs.Inner.Refusals.{outcome_of};
 
 use crate::layout::{
     COUNT_PLACE, EDITION_PLACE, EPOCH_OFFSETS, FLAG_FIELD, HEADER_BYTES, HEADER_OFFSETS,
@@ -109,33 +111,33 @@ fn wrong_header(file: &[u8], width: usize) -> bool
     )
 }
 
-// The first of grounds 1 to 5 that holds, or 0.
-fn header_ground_at(file: &[u8], width: usize) -> u8
+// Refused by the first of grounds 1 to 5 that holds.
+fn header_ground_at(file: &[u8], width: usize) -> Result<(), Refusal>
     requires { OffsetWidth width }
-    ensures { HeaderChecked width file.now result }
+    ensures { HeaderChecked width file.now (number_in (outcome_of result)) }
 {
     if wrong_size(file, width) {
-        return Refusal::SIZE.0;
+        return Err(Refusal::Size);
     }
     if wrong_mark(file) {
-        return Refusal::MARK.0;
+        return Err(Refusal::Mark);
     }
     if wrong_edition(file, width) {
-        return Refusal::EDITION.0;
+        return Err(Refusal::Edition);
     }
     if wrong_length(file, width) {
-        return Refusal::LENGTH.0;
+        return Err(Refusal::Length);
     }
     if wrong_header(file, width) {
-        return Refusal::HEADER.0;
+        return Err(Refusal::Header);
     }
-    0
+    Ok(())
 }
 
 // The same with the width as a literal in each call: the compiler then writes the tests once for each edition, with its numbers.
-pub fn header_ground(file: &[u8], width: usize) -> u8
+pub fn header_ground(file: &[u8], width: usize) -> Result<(), Refusal>
     requires { OffsetWidth width }
-    ensures { HeaderChecked width file.now result }
+    ensures { HeaderChecked width file.now (number_in (outcome_of result)) }
 {
     if width == OFFSET_WIDTH {
         return header_ground_at(file, OFFSET_WIDTH);

@@ -15,23 +15,10 @@ use crate::numbers::{byte_at, offset_at};
 use crate::types::{FileNumber, PLACES_EACH, RecordNumber, SlavePlaces};
 
 // Where a slave keeps a file, and how many bytes it has.
-#[derive(Drop)]
+#[derive(Clone, Copy)]
 pub struct FileBytes {
     pub place: usize,
     pub size: usize,
-}
-
-#[derive(Drop)]
-pub enum FilePlace {
-    Bytes(FileBytes),
-    NoFile,
-}
-
-// Where a slave keeps a record.
-#[derive(Drop)]
-pub enum RecordPlace {
-    At(usize),
-    NoRecord,
 }
 
 // What a directory states for a file number.
@@ -41,7 +28,7 @@ fn search_directory(
     directory: usize,
     count: usize,
     number: usize,
-) -> FilePlace
+) -> Option<FileBytes>
     requires { EntriesFit width file.now directory count }
     ensures { found_file result ≡ search_directory width file.now number directory count }
 {
@@ -53,15 +40,15 @@ fn search_directory(
             let last = byte_at(file, entry + RECORD_COUNT_PLACE);
             let place = offset_at(file, width, entry + width);
             let size = RECORD_SIZE * (last + 1);
-            return FilePlace::Bytes(FileBytes { place, size });
+            return Some(FileBytes { place, size });
         }
         entry = entry + entry_size;
     }
-    FilePlace::NoFile
+    None
 }
 
 // Where a slave keeps a file, or that it has none, at the file's width.
-fn find_file_at(file: &[u8], width: usize, slave: usize, number: FileNumber) -> FilePlace
+fn find_file_at(file: &[u8], width: usize, slave: usize, number: FileNumber) -> Option<FileBytes>
     requires { AcceptedFile file.now × WidthOf file.now width × (slave < slave_count file.now) }
     ensures { found_file result ≡ find_file (decode file.now) slave (file_in number) }
 {
@@ -74,7 +61,7 @@ fn find_file_at(file: &[u8], width: usize, slave: usize, number: FileNumber) -> 
 }
 
 // The same, each width as a literal, since a round asks it of every slave.
-pub fn find_file(file: &[u8], slave: usize, number: FileNumber) -> FilePlace
+pub fn find_file(file: &[u8], slave: usize, number: FileNumber) -> Option<FileBytes>
     requires { AcceptedFile file.now × (slave < slave_count file.now) }
     ensures { found_file result ≡ find_file (decode file.now) slave (file_in number) }
 {
@@ -90,21 +77,16 @@ pub fn find_record(
     slave: usize,
     number: FileNumber,
     record: RecordNumber,
-) -> RecordPlace
+) -> Option<usize>
     requires { AcceptedFile file.now × (slave < slave_count file.now) }
     ensures { found_record result ≡ find_record (decode file.now) slave (file_in number) (record_in «record») }
 {
-    let found = find_file(file, slave, number);
-    let FilePlace::Bytes(bytes) = found else {
-        return RecordPlace::NoRecord;
-    };
-    let place = bytes.place;
-    let size = bytes.size;
+    let bytes = find_file(file, slave, number)?;
     let start = RECORD_SIZE * (record.0 as usize);
-    if size < start + RECORD_SIZE {
-        return RecordPlace::NoRecord;
+    if bytes.size < start + RECORD_SIZE {
+        return None;
     }
-    RecordPlace::At(place + start)
+    Some(bytes.place + start)
 }
 
 // The same, for a write or a read in a round: the records of 0x08 that every slave has need no search.
@@ -114,14 +96,14 @@ pub fn place_of_record(
     slave: usize,
     number: FileNumber,
     record: RecordNumber,
-) -> RecordPlace
+) -> Option<usize>
     requires { Placed file.now places.now × (slave < slave_count file.now) }
     ensures { found_record result ≡ find_record (decode file.now) slave (file_in number) (record_in «record») }
 {
     if number.0 == FileNumber::CONFIGURATION.0 {
         if record.0 <= NEEDED_CONFIGURATION {
             let place = places[PLACES_EACH * slave] as usize;
-            return RecordPlace::At(place + RECORD_SIZE * (record.0 as usize));
+            return Some(place + RECORD_SIZE * (record.0 as usize));
         }
     }
     find_record(file, slave, number, record)
@@ -144,13 +126,13 @@ pub fn read_place(
     slave: usize,
     number: FileNumber,
     record: RecordNumber,
-) -> RecordPlace
+) -> Option<usize>
     requires { Placed file.now places.now × (slave < slave_count file.now) }
     ensures { found_record result ≡ find_record (decode file.now) slave (file_in number) (record_in «record») }
 {
     if is_documented(number, record) {
         let place = places[PLACES_EACH * slave + 1] as usize;
-        return RecordPlace::At(place + RECORD_SIZE * (record.0 as usize));
+        return Some(place + RECORD_SIZE * (record.0 as usize));
     }
     place_of_record(file, places, slave, number, record)
 }

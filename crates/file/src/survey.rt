@@ -4,7 +4,8 @@ ghost use Rattle.file.specs.Rules.Layout.{OffsetWidth};
 ghost use Rattle.file.specs.Rules.FileGrounds.{is_among, load_verdict};
 ghost use Rattle.file.specs.Inner.Checked.{GoodHeader, BodyWalked, PlacesFit, WholeWalk, slaves_ground};
 ghost use Rattle.file.specs.Inner.Surveyed.{Surveyed};
-ghost use Rattle.file.specs.Inner.FileAnswers.{checked_of};
+ghost use Rattle.file.specs.Rules.Results.{number_in};
+ghost use Rattle.file.specs.Inner.Refusals.{outcome_of};
 
 use crate::header::header_ground;
 use crate::held::is_held_twice;
@@ -14,12 +15,6 @@ use crate::numbers::byte_at;
 use crate::readers::width_of;
 use crate::types::{PLACES, PLACES_EACH, Refusal, SlavePlaces};
 use crate::walk::walk_slaves;
-
-#[derive(Drop)]
-pub enum FileAnswer {
-    Accepted,
-    Refused(Refusal),
-}
 
 // Whether a slave lacks a file: its place is 0. Without an exit the compiler looks at several places at a time.
 fn is_missing(places: &[u16]) -> bool
@@ -55,55 +50,43 @@ fn walk_body(file: &[u8], width: usize, places: &mut [u16]) -> bool
 }
 
 // Grounds 7 and 8, by the places that the directories of all slaves state.
-fn slaves_ground(file: &[u8], width: usize, places: &[u16]) -> u8
+fn slaves_ground(file: &[u8], width: usize, places: &[u16]) -> Result<(), Refusal>
     requires { WholeWalk width file.now places.now × PlacesFit width places.now }
-    ensures { result ≡ slaves_ground width file.now }
+    ensures { number_in (outcome_of result) ≡ slaves_ground width file.now }
 {
     let count = byte_at(file, COUNT_PLACE);
     let stated = &places[..PLACES_EACH * count];
     if is_missing(stated) {
-        return Refusal::NEEDED_FILE.0;
+        return Err(Refusal::NeededFile);
     }
     if equal_names(file, stated) {
-        return Refusal::PHYSICAL_NAMES.0;
+        return Err(Refusal::PhysicalNames);
     }
-    0
+    Ok(())
 }
 
 // The answer to a file; where it is accepted, the lent array holds its places.
-pub fn survey(file: &[u8], places: &mut SlavePlaces) -> FileAnswer
-    ensures { Surveyed file.now (checked_of result) places.new }
+pub fn survey(file: &[u8], places: &mut SlavePlaces) -> Result<(), Refusal>
+    ensures { Surveyed file.now (outcome_of result) places.new }
 {
     // The whole file as a slice of its own: then its place and its length are handed over in registers.
     let bytes = &file[..];
     let width = width_of(bytes);
-    let ground = header_ground(bytes, width);
-    if ground != 0 {
-        return FileAnswer::Refused(Refusal(ground));
-    }
+    header_ground(bytes, width)?;
     if !walk_body(bytes, width, places) {
-        return FileAnswer::Refused(Refusal::LAYOUT);
+        return Err(Refusal::Layout);
     }
-    let last = slaves_ground(bytes, width, places);
-    if last != 0 {
-        return FileAnswer::Refused(Refusal(last));
-    }
-    FileAnswer::Accepted
+    slaves_ground(bytes, width, places)
 }
 
 // The checker's call: a file from outside is accepted, or refused by the first of its grounds that holds.
-pub fn check(file: &[u8]) -> FileAnswer
-    ensures { checked_of result ≡ load_verdict file.now }
+pub fn check(file: &[u8]) -> Result<(), Refusal>
+    ensures { outcome_of result ≡ load_verdict file.now }
 {
     let mut places = [0u16; PLACES];
-    let surveyed = survey(file, &mut places);
-    match surveyed {
-        FileAnswer::Refused(why) => FileAnswer::Refused(why),
-        FileAnswer::Accepted => {
-            if is_held_twice(file, &places) {
-                return FileAnswer::Refused(Refusal::LOGICAL_NAMES);
-            }
-            FileAnswer::Accepted
-        }
+    survey(file, &mut places)?;
+    if is_held_twice(file, &places) {
+        return Err(Refusal::LogicalNames);
     }
+    Ok(())
 }

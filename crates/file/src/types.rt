@@ -2,6 +2,7 @@
 // The refusals. And the layout's numbers that the layers above need.
 ghost use Rattle.std.specs.Prelude.{◌≡◌};
 ghost use Rattle.file.specs.Inner.Typed.{name_in_lem};
+ghost use Rattle.file.specs.Inner.Refusals.{refusal_number};
 
 #[derive(Clone, Copy, PartialEq, Eq, PartialOrd, Ord)]
 pub struct FileNumber(pub u8);
@@ -62,72 +63,49 @@ impl Operation {
 }
 
 // Why something is turned away: document 01's number ("Grounds for turning something away"), or document 02's.
-#[derive(Clone, Copy)]
-pub struct Refusal(pub u8);
+#[derive(Clone, Copy, PartialEq, Eq)]
+pub enum Refusal {
+    Size = 1,
+    Mark = 2,
+    Edition = 3,
+    Length = 4,
+    Header = 5,
+    Layout = 6,
+    NeededFile = 7,
+    PhysicalNames = 8,
+    Buffer = 9,
+    Firework = 10,
+    FrameLength = 11,
+    Check = 12,
+    Operation = 13,
+    BroadcastRead = 14,
+    ListedName = 15,
+    NameTwice = 16,
+    RunPosition = 17,
+    FileNumber = 18,
+    // Document 02 from here on: "New numbers, all joining document 01's".
+    Trace = 19,
+    TwoSenders = 20,
+    OwnerBuffer = 21,
+    LogicalNames = 22,
+    MultiplexedSend = 23,
+    Summary = 24,
+    EditionLimits = 25,
+    ConversionBuffer = 26,
+    Screen = 27,
+    ScreenWaiting = 28,
+    SharedName = 29,
+    JoinedLimits = 30,
+    Pattern = 31,
+}
 
 impl Refusal {
-    pub const SIZE: Refusal = Refusal(1);
-
-    pub const MARK: Refusal = Refusal(2);
-
-    pub const EDITION: Refusal = Refusal(3);
-
-    pub const LENGTH: Refusal = Refusal(4);
-
-    pub const HEADER: Refusal = Refusal(5);
-
-    pub const LAYOUT: Refusal = Refusal(6);
-
-    pub const NEEDED_FILE: Refusal = Refusal(7);
-
-    pub const PHYSICAL_NAMES: Refusal = Refusal(8);
-
-    pub const BUFFER: Refusal = Refusal(9);
-
-    pub const FIREWORK: Refusal = Refusal(10);
-
-    pub const FRAME_LENGTH: Refusal = Refusal(11);
-
-    pub const CHECK: Refusal = Refusal(12);
-
-    pub const OPERATION: Refusal = Refusal(13);
-
-    pub const BROADCAST_READ: Refusal = Refusal(14);
-
-    pub const LISTED_NAME: Refusal = Refusal(15);
-
-    pub const NAME_TWICE: Refusal = Refusal(16);
-
-    pub const RUN_POSITION: Refusal = Refusal(17);
-
-    pub const FILE_NUMBER: Refusal = Refusal(18);
-
-    // Document 02 from here on: "New numbers, all joining document 01's".
-    pub const TRACE: Refusal = Refusal(19);
-
-    pub const TWO_SENDERS: Refusal = Refusal(20);
-
-    pub const OWNER_BUFFER: Refusal = Refusal(21);
-
-    pub const LOGICAL_NAMES: Refusal = Refusal(22);
-
-    pub const MULTIPLEXED_SEND: Refusal = Refusal(23);
-
-    pub const SUMMARY: Refusal = Refusal(24);
-
-    pub const EDITION_LIMITS: Refusal = Refusal(25);
-
-    pub const CONVERSION_BUFFER: Refusal = Refusal(26);
-
-    pub const SCREEN: Refusal = Refusal(27);
-
-    pub const SCREEN_WAITING: Refusal = Refusal(28);
-
-    pub const SHARED_NAME: Refusal = Refusal(29);
-
-    pub const JOINED_LIMITS: Refusal = Refusal(30);
-
-    pub const PATTERN: Refusal = Refusal(31);
+    // "A refusal returns its number".
+    pub fn number(self) -> u8
+        ensures { result ≡ refusal_number self }
+    {
+        self as u8
+    }
 }
 
 // The slaves that an array has room for: the most of either edition.

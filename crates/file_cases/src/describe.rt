@@ -16,13 +16,13 @@ fn file_place(out: &impl Print, file: &[u8], slave: usize, file_number: u8) -> i
     bytes(out, &[file_number])?;
     let answer = find_file(file, slave, FileNumber(file_number));
     match answer {
-        FilePlace::Bytes(found) => {
+        Some(found) => {
             text(out, b" at")?;
             number(out, found.place as u64)?;
             text(out, b" size")?;
             number(out, found.size as u64)
         }
-        FilePlace::NoFile => text(out, b" none"),
+        None => text(out, b" none"),
     }
 }
 
@@ -41,11 +41,11 @@ fn record_place(
     number(out, record as u64)?;
     let answer = find_record(file, slave, FileNumber(file_number), RecordNumber(record));
     match answer {
-        RecordPlace::At(place) => {
+        Some(place) => {
             text(out, b" at")?;
             number(out, place as u64)
         }
-        RecordPlace::NoRecord => text(out, b" none"),
+        None => text(out, b" none"),
     }
 }
 
@@ -95,7 +95,7 @@ fn slaves(out: &impl Print, file: &[u8], places: &SlavePlaces) -> io::Result<()>
 pub fn describe(out: &impl Print, file: &[u8]) -> io::Result<()> {
     let mut places = [0u16; PLACES];
     let answer = survey(file, &mut places);
-    let FileAnswer::Accepted = answer else {
+    let Ok(()) = answer else {
         return text(out, b" refused");
     };
     slaves(out, file, &places)

@@ -18,8 +18,8 @@ const FILE: usize = 65537;
 fn checked(out: &impl Print, file: &[u8]) -> io::Result<()> {
     let answer = check(file);
     match answer {
-        FileAnswer::Accepted => number(out, 0),
-        FileAnswer::Refused(why) => number(out, why.0 as u64),
+        Ok(()) => number(out, 0),
+        Err(why) => number(out, why.0 as u64),
     }
 }
 

@@ -1,45 +1,36 @@
 -- An answer can be had back from what it is taken to, so no two answers of one type are taken to the same.
 -- Assumes nothing.
-use mathlib.Core.Path.{◌≡◌, refl}
+use mathlib.Core.Path.{◌≡◌, refl, ap}
 use Rattle.frame.specs.declared.firework.Firework.{Firework}
 use Rattle.frame.specs.declared.firework.Firework.TheVariants as fireworks
-use Rattle.frame.specs.declared.types.AddressReading.{AddressReading}
-use Rattle.frame.specs.declared.types.AddressReading.TheVariants as readings
-use Rattle.frame.specs.declared.types.FrameWriting.{FrameWriting}
-use Rattle.frame.specs.declared.types.FrameWriting.TheVariants as writings
 use Rattle.frame.specs.Rules.Fireworks.{Round}
 use Rattle.file.specs.Rules.Results.{Result, refused, done}
 use Rattle.frame.specs.Rules.Reading.{Parts}
-use Rattle.frame.specs.Inner.FrameAnswers.{firework_round, reading_of, writing_of}
+use Rattle.frame.specs.Inner.FrameAnswers.{firework_round, reading_of}
+use Rattle.file.specs.Inner.Refusals.{Answered, refusal_number, outcome_of}
+use Rattle.std.specs.Prelude.{Ok, Err, Option, Some, None}
+use Rattle.frame.specs.declared.types.AddressFrame.{AddressFrame}
+use Rattle.file.proofs.Distinct.{refusal_in, refusal_back}
 
-abbrev round_firework : Round → Firework
-round_firework (Round.multipartner r) = fireworks.Multipartner r
-round_firework Round.msd = fireworks.Data
-round_firework Round.msa = fireworks.Address
-round_firework Round.no_round = fireworks.None
+abbrev round_firework : Round → Option Firework
+round_firework (Round.multipartner r) = Some (fireworks.Multipartner r)
+round_firework Round.msd = Some fireworks.Data
+round_firework Round.msa = Some fireworks.Address
+round_firework Round.no_round = None
 
-pub firework-back : (f : Firework) → round_firework (firework_round f) ≡ f
+pub firework-back : (f : Option Firework) → round_firework (firework_round f) ≡ f
 unfolding firework_round
-firework-back (fireworks.Multipartner r) = refl
-firework-back fireworks.Data = refl
-firework-back fireworks.Address = refl
-firework-back fireworks.None = refl
+firework-back (Some (fireworks.Multipartner r)) = refl
+firework-back (Some fireworks.Data) = refl
+firework-back (Some fireworks.Address) = refl
+firework-back None = refl
 
-abbrev reading_answer : Result Parts → AddressReading
-reading_answer (refused n) = readings.Refused record { 0 = n }
+abbrev reading_answer : Result Parts → (Answered AddressFrame)
+reading_answer (refused n) = Err (refusal_in n)
 reading_answer (done p) =
-    readings.Address p.epoch (record { 0 = p.name }) (record { 0 = p.file }) (record { 0 = p.operation }) (record { 0 = p.«record» })
+    Ok (record { epoch = p.epoch; name = record { 0 = p.name }; file = record { 0 = p.file }; operation = record { 0 = p.operation }; «record» = record { 0 = p.«record» } })
 
-pub reading-back : (r : AddressReading) → reading_answer (reading_of r) ≡ r
+pub reading-back : (r : Answered AddressFrame) → reading_answer (reading_of r) ≡ r
 unfolding reading_of
-reading-back (readings.Refused why) = refl
-reading-back (readings.Address epoch name file operation «record») = refl
-
-abbrev writing_answer : Result (Unit {0}) → FrameWriting
-writing_answer (refused n) = writings.Refused record { 0 = n }
-writing_answer (done value) = writings.Written
-
-pub writing-back : (w : FrameWriting) → writing_answer (writing_of w) ≡ w
-unfolding writing_of
-writing-back (writings.Refused why) = refl
-writing-back writings.Written = refl
+reading-back (Err why) = ap Err (refusal_back why)
+reading-back (Ok read) = refl

@@ -8,7 +8,7 @@ pub const MSA: u8 = 0x55;
 
 pub const MSD: u8 = 0x49;
 
-#[derive(Clone, Copy)]
+#[derive(Clone, Copy, PartialEq, Eq)]
 pub enum Firework {
     // A multipartner round, by its number.
     Multipartner(u8),
@@ -16,7 +16,6 @@ pub enum Firework {
     Data,
     // Round 5, MSA.
     Address,
-    None,
 }
 
 // A byte is a firework exactly if its bits 7 to 3 are those that its bits 2 to 0, the round's number, ask for: 01111 in round 0; each bit
@@ -30,16 +29,16 @@ fn high_bits(round: u8) -> u8
     0b01111 ^ (by_bit_0 ^ (by_bit_1 ^ by_bit_2))
 }
 
-pub fn firework_of(byte: u8) -> Firework
+pub fn firework_of(byte: u8) -> Option<Firework>
     ensures { firework_round result ≡ round_of byte }
 {
     let round = byte % 8;
     if byte / 8 != high_bits(round) {
-        return Firework::None;
+        return None;
     }
     match round {
-        1 => Firework::Data,
-        5 => Firework::Address,
-        round => Firework::Multipartner(round),
+        1 => Some(Firework::Data),
+        5 => Some(Firework::Address),
+        round => Some(Firework::Multipartner(round)),
     }
 }

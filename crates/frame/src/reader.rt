@@ -11,7 +11,7 @@ use crate::firework::MSA;
 use crate::frames::{
     CHECK_PLACE, FIREWORK_PLACE, FRAME_SIZE, PB0_PLACE, PB1_PLACE, PB2_PLACE, PB3_PLACE,
 };
-use crate::types::AddressReading;
+use crate::types::AddressFrame;
 use file::operations::{file_number_of, is_broadcast_read, is_no_operation, operation_of};
 use file::types::{LogicalName, RecordNumber, Refusal};
 
@@ -37,32 +37,32 @@ fn is_wrong_check(frame: &[u8]) -> bool
     frame[CHECK_PLACE] != check
 }
 
-pub fn read_address(frame: &[u8]) -> AddressReading
+pub fn read_address(frame: &[u8]) -> Result<AddressFrame, Refusal>
     ensures { reading_of result ≡ read_address frame.now }
 {
     if is_no_address(frame) {
-        return AddressReading::Refused(Refusal::FIREWORK);
+        return Err(Refusal::Firework);
     }
     if frame.len() != FRAME_SIZE {
-        return AddressReading::Refused(Refusal::FRAME_LENGTH);
+        return Err(Refusal::FrameLength);
     }
     if is_wrong_check(frame) {
-        return AddressReading::Refused(Refusal::CHECK);
+        return Err(Refusal::Check);
     }
     let pb2 = frame[PB2_PLACE];
     let name = LogicalName::new(frame[PB1_PLACE]);
     let operation = operation_of(pb2);
     if is_no_operation(operation) {
-        return AddressReading::Refused(Refusal::OPERATION);
+        return Err(Refusal::Operation);
     }
     if is_broadcast_read(operation, name) {
-        return AddressReading::Refused(Refusal::BROADCAST_READ);
+        return Err(Refusal::BroadcastRead);
     }
-    AddressReading::Address {
+    Ok(AddressFrame {
         epoch: frame[PB0_PLACE],
         name,
         file: file_number_of(pb2),
         operation,
         record: RecordNumber(frame[PB3_PLACE]),
-    }
+    })
 }

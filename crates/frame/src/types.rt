@@ -1,20 +1,11 @@
-// What the reader and the writers of frames answer.
-use file::types::{FileNumber, LogicalName, Operation, RecordNumber, Refusal};
+// What an address frame says.
+use file::types::{FileNumber, LogicalName, Operation, RecordNumber};
 
 #[derive(Clone, Copy)]
-pub enum AddressReading {
-    Refused(Refusal),
-    Address {
-        epoch: u8,
-        name: LogicalName,
-        file: FileNumber,
-        operation: Operation,
-        record: RecordNumber,
-    },
-}
-
-#[derive(Clone, Copy)]
-pub enum FrameWriting {
-    Refused(Refusal),
-    Written,
+pub struct AddressFrame {
+    pub epoch: u8,
+    pub name: LogicalName,
+    pub file: FileNumber,
+    pub operation: Operation,
+    pub record: RecordNumber,
 }

@@ -3,14 +3,13 @@ ghost use Rattle.std.specs.Prelude.{◌≡◌, [], ◌∷◌, ◌++◌, ◌≤�
 ghost use Rattle.frame.specs.Rules.Frames.{frame_size, frame_of};
 ghost use Rattle.frame.specs.Rules.Writing.{write_address, write_data};
 ghost use Rattle.file.specs.Inner.Typed.{file_in, record_in, name_in_lem, operation_in};
-ghost use Rattle.frame.specs.Inner.FrameAnswers.{writing_of};
+ghost use Rattle.file.specs.Inner.Refusals.{outcome_of};
 
 use crate::check::{address_check, data_check};
 use crate::firework::{MSA, MSD};
 use crate::frames::{
     CHECK_PLACE, FIREWORK_PLACE, FRAME_SIZE, PB0_PLACE, PB1_PLACE, PB2_PLACE, PB3_PLACE,
 };
-use crate::types::FrameWriting;
 use file::operations::{is_broadcast_read, is_no_operation, pb2_of};
 use file::types::{FileNumber, LogicalName, Operation, RecordNumber, Refusal};
 
@@ -35,35 +34,35 @@ pub fn write_address(
     file: FileNumber,
     operation: Operation,
     record: RecordNumber,
-) -> FrameWriting
-    ensures { (writing_of result, buf.new)
+) -> Result<(), Refusal>
+    ensures { (outcome_of result, buf.new)
         ≡ write_address buf.old epoch (name_in_lem name) (file_in file) (operation_in operation) (record_in «record») }
 {
     if buf.len() < FRAME_SIZE {
-        return FrameWriting::Refused(Refusal::BUFFER);
+        return Err(Refusal::Buffer);
     }
     if is_no_operation(operation) {
-        return FrameWriting::Refused(Refusal::OPERATION);
+        return Err(Refusal::Operation);
     }
     if is_broadcast_read(operation, name) {
-        return FrameWriting::Refused(Refusal::BROADCAST_READ);
+        return Err(Refusal::BroadcastRead);
     }
     if FileNumber::LAST.0 < file.0 {
-        return FrameWriting::Refused(Refusal::FILE_NUMBER);
+        return Err(Refusal::FileNumber);
     }
     let pb2 = pb2_of(file, operation);
     let check = address_check(epoch, name.0, pb2, record.0);
     put_frame(buf, MSA, epoch, name.0, pb2, record.0, check);
-    FrameWriting::Written
+    Ok(())
 }
 
-pub fn write_data(buf: &mut [u8], b0: u8, b1: u8, b2: u8, b3: u8) -> FrameWriting
-    ensures { (writing_of result, buf.new) ≡ write_data buf.old (b0 ∷ b1 ∷ b2 ∷ b3 ∷ []) }
+pub fn write_data(buf: &mut [u8], b0: u8, b1: u8, b2: u8, b3: u8) -> Result<(), Refusal>
+    ensures { (outcome_of result, buf.new) ≡ write_data buf.old (b0 ∷ b1 ∷ b2 ∷ b3 ∷ []) }
 {
     if buf.len() < FRAME_SIZE {
-        return FrameWriting::Refused(Refusal::BUFFER);
+        return Err(Refusal::Buffer);
     }
     let check = data_check(b0, b1, b2, b3);
     put_frame(buf, MSD, b0, b1, b2, b3, check);
-    FrameWriting::Written
+    Ok(())
 }

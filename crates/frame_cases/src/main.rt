@@ -28,7 +28,7 @@ fn number(out: &impl Print, n: u8) -> io::Result<()> {
 fn read(out: &impl Print, frame: &[u8]) -> io::Result<()> {
     let answer = read_address(frame);
     match answer {
-        AddressReading::Refused(why) => number(out, why.0),
+        Err(why) => number(out, why.0),
         AddressReading::Address {
             epoch,
             name,
@@ -46,10 +46,10 @@ fn read(out: &impl Print, frame: &[u8]) -> io::Result<()> {
     }
 }
 
-fn written(out: &impl Print, answer: FrameWriting) -> io::Result<()> {
+fn written(out: &impl Print, answer: Result<(), Refusal>) -> io::Result<()> {
     match answer {
-        FrameWriting::Refused(why) => number(out, why.0),
-        FrameWriting::Written => number(out, 0),
+        Err(why) => number(out, why.0),
+        Ok(()) => number(out, 0),
     }
 }
 
@@ -87,7 +87,7 @@ fn firework(out: &impl Print, byte: &[u8]) -> io::Result<()> {
         Firework::Multipartner(r) => show::number(out, r as u64),
         Firework::Data => text(out, b" MSD"),
         Firework::Address => text(out, b" MSA"),
-        Firework::None => text(out, b" -"),
+        None => text(out, b" -"),
     }
 }
 

@@ -20,10 +20,7 @@ use Rattle.file.specs.Rules.Legal.{LegalFile, LegalSlave}
 use Rattle.file.specs.Rules.Changes.{with_sleep}
 use Rattle.file.specs.Rules.Editions.{exceeds}
 use Rattle.file.specs.Inner.Accepted.{WidthOf, slave_count, Placed}
-use Rattle.file.specs.Inner.FileAnswers.{checked_of}
 use Rattle.file.specs.Inner.Surveyed.{Surveyed}
-use Rattle.file.specs.declared.survey.FileAnswer.{FileAnswer}
-use Rattle.file.specs.declared.survey.FileAnswer.TheVariants as answers
 use Rattle.file.specs.declared.types.Refusal.{Refusal}
 use Rattle.file.proofs.Order.{by_case, either_left, either_right, either_false}
 use Rattle.file.proofs.Bytes.{byte_at}
@@ -45,6 +42,8 @@ use Rattle.join.proofs.Joining.{joined_shape, joined-count}
 use Rattle.join.proofs.Order.{over as too_large_lem, first_decides, second_decides, names_decide, size_decides, none-holds, join-refused, join_written}
 use Rattle.join.proofs.TurnLaws.{turned-slaves}
 use Rattle.join.proofs.BodyLaws.{fits_kept}
+use Rattle.file.specs.Inner.Refusals.{Answered, refusal_number, outcome_of}
+use Rattle.std.specs.Prelude.{Err}
 
 -- ---- the joined slaves take what both files' do
 
@@ -174,14 +173,14 @@ module _ (f g out : List ℕ) where
   abbrev slaves : List Slave
   slaves = (joined (decode f) (decode g)).slaves
 
-pub call-first : {f places : List ℕ} {a : FileAnswer} (g out : List ℕ) → Surveyed f (checked_of a) places → {why : Refusal} → a ≡ answers.Refused why
-    → (refused why.0, out) ≡ join_on f g out
+pub call-first : {f places : List ℕ} {a : Answered (Unit {0})} (g out : List ℕ) → Surveyed f (outcome_of a) places → {why : Refusal} → a ≡ Err why
+    → (refused (refusal_number why), out) ≡ join_on f g out
 call-first {f} g out s is =
     let reason = survey-refused s is in
     sym (join-refused f g out (first_decides f g out (λ z. reason.1 (reason.0 ∙ z)) ∙ sym reason.0) reason.1)
 
-pub call-second : {f g places others : List ℕ} {a : FileAnswer} (out : List ℕ) → Placed f places → Surveyed g (checked_of a) others → {why : Refusal}
-    → a ≡ answers.Refused why → (refused why.0, out) ≡ join_on f g out
+pub call-second : {f g places others : List ℕ} {a : Answered (Unit {0})} (out : List ℕ) → Placed f places → Surveyed g (outcome_of a) others → {why : Refusal}
+    → a ≡ Err why → (refused (refusal_number why), out) ≡ join_on f g out
 call-second {f} {g} out p s is =
     let reason = survey-refused s is in
     sym (join-refused f g out (second_decides f g out p.file.accepted (λ z. reason.1 (reason.0 ∙ z)) ∙ sym reason.0) reason.1)

@@ -1,5 +1,4 @@
--- Maps of the code's types, and words of the contracts between functions.
-pub mod JoinAnswers
+-- Words of the contracts between functions.
 pub mod Names
 pub mod Turned
 pub mod Form

@@ -2,21 +2,22 @@
 -- Assumes nothing.
 use mathlib.Core.Path.{◌≡◌, refl, sym, ◌∙◌, ap}
 use Rattle.file.specs.Rules.Results.{Result, refused, done}
-use Rattle.line.specs.declared.pattern.PatternAnswer.{PatternAnswer}
-use Rattle.line.specs.declared.pattern.PatternAnswer.TheVariants as answers
 use Rattle.line.specs.declared.pattern.PatternClass.{PatternClass}
 use Rattle.line.specs.declared.pattern.PatternClass.TheVariants as classes
 use Rattle.line.specs.Rules.Patterns.{PatternClass as Class, data_byte, firework, broken}
 use Rattle.line.specs.Inner.LineAnswers.{class_in, read_of}
+use Rattle.file.specs.Inner.Refusals.{Answered, refusal_number}
+use Rattle.std.specs.Prelude.{Ok, Err}
+use Rattle.file.proofs.Distinct.{refusal_in, refusal_back}
 
 class : Class → PatternClass
 class data_byte = classes.DataByte
 class firework = classes.Firework
 class broken = classes.Broken
 
-answer : Result Class → PatternAnswer
-answer (refused n) = answers.Refused (record { 0 = n })
-answer (done c) = answers.Read (class c)
+answer : Result Class → (Answered PatternClass)
+answer (refused n) = Err (refusal_in n)
+answer (done c) = Ok (class c)
 
 class_back : (c : PatternClass) → class (class_in c) ≡ c
 unfolding class class_in
@@ -24,10 +25,10 @@ class_back classes.DataByte = refl
 class_back classes.Firework = refl
 class_back classes.Broken = refl
 
-answer_back : (a : PatternAnswer) → answer (read_of a) ≡ a
+answer_back : (a : Answered PatternClass) → answer (read_of a) ≡ a
 unfolding answer read_of
-answer_back (answers.Refused why) = refl
-answer_back (answers.Read c) = ap answers.Read (class_back c)
+answer_back (Err why) = ap Err (refusal_back why)
+answer_back (Ok c) = ap Ok (class_back c)
 
-pub answers_distinct : (a b : PatternAnswer) → read_of a ≡ read_of b → a ≡ b
+pub answers_distinct : (a b : Answered PatternClass) → read_of a ≡ read_of b → a ≡ b
 answers_distinct a b h = sym (answer_back a) ∙ (ap answer h ∙ answer_back b)

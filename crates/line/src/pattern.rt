@@ -18,17 +18,11 @@ const ENTRY_BITS: u16 = 2;
 
 const ENTRY_VALUES: u64 = 4;
 
-#[derive(Clone, Copy)]
+#[derive(Clone, Copy, PartialEq, Eq)]
 pub enum PatternClass {
     DataByte,
     Firework,
     Broken,
-}
-
-#[derive(Clone, Copy)]
-pub enum PatternAnswer {
-    Refused(Refusal),
-    Read(PatternClass),
 }
 
 // "Each of the 512 patterns has an entry": two bits, 0 a data byte, 1 a firework, 2 broken. A row is the entries of 32 patterns, the first in the
@@ -78,18 +72,18 @@ fn row_at(row: u16) -> u64
     }
 }
 
-pub fn read_pattern(pattern: u16) -> PatternAnswer
+pub fn read_pattern(pattern: u16) -> Result<PatternClass, Refusal>
     ensures { read_of result ≡ pattern_on pattern }
 {
     if LAST_PATTERN < pattern {
-        return PatternAnswer::Refused(Refusal::PATTERN);
+        return Err(Refusal::Pattern);
     }
     let row = row_at(pattern / ROW_PATTERNS);
     // An arm for each number, also for 3, which stands in no row: the compiler then compares nothing and shifts one constant.
     match (row >> (ENTRY_BITS * (pattern % ROW_PATTERNS))) % ENTRY_VALUES {
-        0 => PatternAnswer::Read(PatternClass::DataByte),
-        1 => PatternAnswer::Read(PatternClass::Firework),
-        2 => PatternAnswer::Read(PatternClass::Broken),
-        _ => PatternAnswer::Read(PatternClass::Broken),
+        0 => Ok(PatternClass::DataByte),
+        1 => Ok(PatternClass::Firework),
+        2 => Ok(PatternClass::Broken),
+        _ => Ok(PatternClass::Broken),
     }
 }

@@ -14,10 +14,7 @@ use Rattle.file.proofs.BytesBelow.{all_below, bytes_below}
 use Rattle.file.specs.Rules.Order.{first_of, both, either}
 use Rattle.file.specs.Rules.Results.{Result, refused, done, result_of}
 use Rattle.file.specs.Rules.FileGrounds.{is_among, has_repeat, load_ground, load_verdict}
-use Rattle.file.specs.Inner.FileAnswers.{checked_of}
 use Rattle.file.specs.Inner.Surveyed.{Surveyed}
-use Rattle.file.specs.declared.survey.FileAnswer.{FileAnswer}
-use Rattle.file.specs.declared.survey.FileAnswer.TheVariants as verdicts
 use Rattle.file.proofs.Results.{load_file, no_ground}
 use Rattle.file.proofs.Order.{by_case, clash, both_left, both_right, both_false_right, both_false_next, either_false_left}
 use Rattle.naming.specs.Rules.Position.{Position}
@@ -33,6 +30,8 @@ use Rattle.listing_text.specs.Rules.Listing.{all_names, names_from, ListState, i
 use Rattle.listing_text.specs.Inner.ListRuns.{state_of, StateIs, Moves, moved_to, none_given}
 use Rattle.listing_text.specs.declared.run.ListProgress.{ListProgress}
 use Rattle.listing_text.proofs.ListLaws.{moves, list-next, Going, going_done, going_stuck}
+use Rattle.file.specs.Inner.Refusals.{Answered, refusal_number, outcome_of}
+use Rattle.std.specs.Prelude.{Ok}
 
 made-mask : (r : Result StepDone) → is_step_made r ≡ true → r ≡ done (made (mask_in r))
 unfolding is_step_made mask_in
@@ -233,8 +232,8 @@ step-placed state file answer text {places = places} placed small s =
     (step-moved {names = all_names} (position_of state.run) answer placed all-bytes small refl).placed
 
 -- what loading accepts the survey accepts, with the places
-pub load_accepted : (f : List ℕ) {a : FileAnswer} → checked_of a ≡ load_verdict f → a ≡ verdicts.Accepted → load_ground f ≡ 0
-unfolding checked_of load_verdict
+pub load_accepted : (f : List ℕ) {a : Answered (Unit {0})} → outcome_of a ≡ load_verdict f → a ≡ Ok tt → load_ground f ≡ 0
+unfolding outcome_of load_verdict
 load_accepted f is e = no_ground tt (load_ground f) (rw e at is)
 
 pub load_placed : (f : List ℕ) {r : Result (Unit {0})} {places : List ℕ} → load_ground f ≡ 0 → Surveyed f r places → Placed f places

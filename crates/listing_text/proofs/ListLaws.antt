@@ -29,12 +29,7 @@ use Rattle.naming.specs.Rules.Steps.{is_made_lem as is_step_made, begun, next_st
 use Rattle.naming.specs.Inner.StepAnswers.{position_of, stepped_of, run_after}
 use Rattle.file.specs.declared.types.Refusal.{Refusal}
 use Rattle.file.specs.Rules.FileGrounds.{load_ground, load_verdict}
-use Rattle.file.specs.Inner.FileAnswers.{checked_of}
 use Rattle.file.proofs.Results.{that_ground}
-use Rattle.file.specs.declared.survey.FileAnswer.{FileAnswer}
-use Rattle.file.specs.declared.survey.FileAnswer.TheVariants as verdicts
-use Rattle.naming.specs.declared.run.Stepped.{Stepped}
-use Rattle.naming.specs.declared.run.Stepped.TheVariants as steps
 use Rattle.naming.specs.declared.position.RunPosition.{RunPosition}
 use Rattle.naming.proofs.RunLaws.{Runs, runs}
 use Rattle.naming.proofs.StepsLaws.{made_makes}
@@ -50,6 +45,8 @@ use Rattle.listing_text.specs.Rules.Listing.{most_steps, start_state, end_state,
 use Rattle.listing_text.specs.Inner.ListRuns.{state_of, Room, StateIs, Moves, StepListed}
 use Rattle.listing_text.specs.Rules.Listing.{text_size}
 use Rattle.listing_text.specs.declared.run.ListProgress.{ListProgress}
+use Rattle.file.specs.Inner.Refusals.{Answered, refusal_number, outcome_of}
+use Rattle.std.specs.Prelude.{Ok, Err, Option, None}
 
 -- ---- what a step that made its round leaves of a position
 
@@ -275,8 +272,8 @@ one-step-idle f answer text n e r =
 
 -- by what the code's step answers
 module _
-    (f answer : List ℕ) (p : Position) {names new file : List ℕ} {r : Stepped} (all : names ≡ all_names)
-    (e : (stepped_of r, run_after p r, new, file) ≡ step_on f p names answer) {senders : ℕ} {next : RunPosition} (is : r ≡ steps.Made senders next) where
+    (f answer : List ℕ) (p : Position) {names new file : List ℕ} {r : Answered (Option MadeStep)} (all : names ≡ all_names)
+    (e : (stepped_of r, run_after p r, new, file) ≡ step_on f p names answer) {senders : ℕ} {next : RunPosition} (is : r ≡ OkMade senders next) where
   made_by : (done (made senders), position_of next, new, file) ≡ step_on f p all_names answer
   unfolding stepped_of run_after
   made_by = rw (is, all) at e
@@ -285,19 +282,19 @@ module _
   made_moves begins = moves f answer p begins made_by
 
 module _
-    {state : ListProgress} (f answer text : List ℕ) {names new file : List ℕ} {r : Stepped} (all : names ≡ all_names)
+    {state : ListProgress} (f answer text : List ℕ) {names new file : List ℕ} {r : Answered (Option MadeStep)} (all : names ≡ all_names)
     (e : (stepped_of r, run_after (position_of state.run) r, new, file) ≡ step_on f (position_of state.run) names answer) where
-  pub one-step-refused : {w : Refusal} → r ≡ steps.Refused w → Room state (length text) →
+  pub one-step-refused : {w : Refusal} → r ≡ Err w → Room state (length text) →
       StateIs (list_step (state_of state f answer text)) text state.at state file new text
   unfolding stepped_of run_after
   one-step-refused {w} is room = one-step-idle f answer text (idle-refused w.0) (rw (is, all) at e) room
 
-  pub one-step-ended : r ≡ steps.Ended → Room state (length text) →
+  pub one-step-ended : r ≡ Ok None → Room state (length text) →
       StateIs (list_step (state_of state f answer text)) text state.at state file new text
   unfolding stepped_of run_after
   one-step-ended is room = one-step-idle f answer text idle_ended (rw (is, all) at e) room
 
-  pub one-step-made : {senders : ℕ} {next : RunPosition} {after : ListProgress} {text' : List ℕ} → r ≡ steps.Made senders next →
+  pub one-step-made : {senders : ℕ} {next : RunPosition} {after : ListProgress} {text' : List ℕ} → r ≡ OkMade senders next →
       StepListed state (position_of next) text after text' →
       StateIs (list_step (state_of state f answer text)) text state.at after file new text'
   unfolding list_step gives_name is_made_lem both
@@ -456,9 +453,9 @@ in_front : (front old : List ℕ) {new : List ℕ} {r : ℕ} (f : List ℕ) → 
 in_front front old f e h = rw (e, h)
 
 pub listed-refused :
-    (f : List ℕ) {old new : List ℕ} {a : FileAnswer} {w : Refusal} {r : ℕ} → checked_of a ≡ load_verdict f → a ≡ verdicts.Refused w →
+    (f : List ℕ) {old new : List ℕ} {a : Answered (Unit {0})} {w : Refusal} {r : ℕ} → outcome_of a ≡ load_verdict f → a ≡ Err w →
     Puts (refused_line w.0) old 0 new r → (r, new, f) ≡ listed f old
-unfolding checked_of load_verdict listed listing file_listed
+unfolding outcome_of load_verdict listed listing file_listed
 listed-refused f {old = old} {w = w} is e h =
     let by = that_ground tt w.0 (load_ground f) (rw e at is) in
     rw (← by.0, ne_eqb w.0 0 by.1) (in_front (refused_line w.0) old f (front_length h) (apart h))

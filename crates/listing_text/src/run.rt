@@ -10,12 +10,12 @@ ghost use Rattle.listing_text.specs.Inner.ListRuns.{state_of, Room, StateIs, Mov
 ghost use Rattle.listing_text.specs.Rules.Listing.{text_size};
 
 use crate::put::{LINE_SIZE, TOTALS_SIZE, put_name, put_refused, put_totals};
-use file::survey::{FileAnswer, check, survey};
+use file::survey::{check, survey};
 use file::types::{PLACES, SlavePlaces};
 use master_slave::slots::SLOTS;
 use naming::pass::LAST_STEP;
 use naming::position::{RunPosition, first_position};
-use naming::run::{Stepped, step_on};
+use naming::run::step_on;
 use naming::steps::make_steps;
 
 // "names 0x01 to 0xFE".
@@ -112,14 +112,9 @@ fn one_step(
     ensures { StateIs (Listing·list_step (state_of state file.old answer.old text.old)) text.old state.at result file.new answer.new text.new }
 {
     let run = state.run;
-    let stepped = step_on(file, places, run, names, answer);
-    match stepped {
-        Stepped::Refused(_) => state,
-        Stepped::Ended => state,
-        Stepped::Made {
-            senders: _,
-            run: next,
-        } => after_step(names, state, next, text),
+    match step_on(file, places, run, names, answer) {
+        Ok(Some(made)) => after_step(names, state, made.run, text),
+        _ => state,
     }
 }
 
@@ -156,7 +151,7 @@ fn list_accepted(file: &mut [u8], text: &mut [u8]) -> usize
     ensures { (result, text.new, file.new) ≡ listed file.old text.old }
 {
     let mut places = [0u16; PLACES];
-    survey(file, &mut places);
+    survey(file, &mut places).unwrap();
     let names = all_names();
     let mut answer = [0u8; SLOTS];
     let start = ListProgress {
@@ -181,9 +176,8 @@ pub fn list(file: &mut [u8], text: &mut [u8]) -> usize
     requires { text_size ≤ length text.old }
     ensures { (result, text.new, file.new) ≡ listed file.old text.old }
 {
-    let verdict = check(file);
-    if let FileAnswer::Refused(why) = verdict {
-        return put_refused(text, 0, why.0);
+    if let Err(why) = check(file) {
+        return put_refused(text, 0, why.number());
     }
     list_accepted(file, text)
 }

@@ -21,8 +21,6 @@ use Rattle.file.specs.Inner.Places.{no_slave_lem, slave_of, file_place, put_byte
 use Rattle.file.specs.Rules.Changes.{put_in_slave, with_slaves}
 use Rattle.file.specs.Inner.Accepted.{Becomes, FoundRecord, record_at, find_record}
 use Rattle.file.specs.Inner.FileAnswers.{found_record}
-use Rattle.file.specs.declared.records.RecordPlace.{RecordPlace}
-use Rattle.file.specs.declared.records.RecordPlace.TheVariants.{At, NoRecord}
 use Rattle.file.proofs.Order.{by_case, clash, both_true, both_left, both-next, both_false_left, both_false_right}
 use Rattle.file.proofs.Puts.{put_byte-slave-same, put_byte-count, sets_again, has_record-fits}
 use Rattle.file.proofs.ReaderLaws.{place-within, part-there}
@@ -37,6 +35,7 @@ use Rattle.master_slave.proofs.Hearing.{record_of-length}
 use Rattle.master_slave.specs.Inner.Carried.{said, reach_of, Replied, with_slave}
 use Rattle.master_slave.specs.Inner.Duties.{data_in, DataPut}
 use Rattle.master_slave.specs.declared.types.DataBytes.{DataBytes}
+use Rattle.std.specs.Prelude.{Option, Some, None}
 
 -- ---- who is addressed
 
@@ -92,7 +91,7 @@ at_injective e = cc
 never_at : {A : Type 0} {p : ℕ} → record_at p ≡ FoundRecord.no_record_lem → A
 never_at e = let z : ◌≡◌ {A = ℕ} 0 1 = cc in absurd (omega arith)
 
-pub found_facts : (c : Cluster) (s n r : ℕ) {x : RecordPlace} {place : ℕ} → found_record x ≡ find_record c s n r → x ≡ At place → Found c s n r place
+pub found_facts : (c : Cluster) (s n r : ℕ) {x : Option ℕ} {place : ℕ} → found_record x ≡ find_record c s n r → x ≡ Some place → Found c s n r place
 unfolding found_record find_record
 found_facts c s n r {x} {place} e is =
     let g : record_at place ≡ cond (has_record (slave_of c s) n r) (record_at (file_place c s n + record_size * r)) FoundRecord.no_record_lem = rw is at e in
@@ -100,7 +99,7 @@ found_facts c s n r {x} {place} e is =
     (λ t. record { has = t; at = at_injective (rw t at g) })
     (λ t. never_at (rw t at g))
 
-pub missing_facts : (c : Cluster) (s n r : ℕ) {x : RecordPlace} → found_record x ≡ find_record c s n r → x ≡ NoRecord → has_record (slave_of c s) n r ≡ false
+pub missing_facts : (c : Cluster) (s n r : ℕ) {x : Option ℕ} → found_record x ≡ find_record c s n r → x ≡ None → has_record (slave_of c s) n r ≡ false
 unfolding found_record find_record
 missing_facts c s n r {x} e is =
     let g : FoundRecord.no_record_lem ≡ cond (has_record (slave_of c s) n r) (record_at (file_place c s n + record_size * r)) FoundRecord.no_record_lem = rw is at e in
@@ -110,7 +109,7 @@ pub found_room : {f : List ℕ} {c : Cluster} {s n r place : ℕ} → Becomes f 
 found_room {f} {c} {s} {n} {r} h x =
     omega (arith, x.at, place-within h s n (omega (arith, has_record-fits (slave_of c s) n r x.has)), has_record-fits (slave_of c s) n r x.has)
 
-pub record-room : {f : List ℕ} (c : Cluster) (s n r : ℕ) {x : RecordPlace} {place : ℕ} → Becomes f c → found_record x ≡ find_record c s n r → x ≡ At place → place + 4 ≤ length f
+pub record-room : {f : List ℕ} (c : Cluster) (s n r : ℕ) {x : Option ℕ} {place : ℕ} → Becomes f c → found_record x ≡ find_record c s n r → x ≡ Some place → place + 4 ≤ length f
 record-room c s n r h e is = found_room h (found_facts c s n r e is)
 
 -- ---- replies
@@ -162,14 +161,14 @@ module _ {f : List ℕ} {c : Cluster} (h : Becomes f c) (s name n r : ℕ) {own 
       (reply_unread name n r (slave_of c s)
       (answers_read_as name n r (slave_of c s) (sym wakes ∙ not-false up is_up) named' ∙ both_false_left (has_record (slave_of c s) n r) (sym test ∙ not-true t no')))
 
-  pub read_missing : {x : RecordPlace} → found_record x ≡ find_record c s n r → x ≡ NoRecord → Replied (reply_to (reading name n r) (slave_of c s)) b b last last
+  pub read_missing : {x : Option ℕ} → found_record x ≡ find_record c s n r → x ≡ None → Replied (reply_to (reading name n r) (slave_of c s)) b b last last
   read_missing e is =
       reply_quiet b last
       (reply_unread name n r (slave_of c s)
       (answers_read_as name n r (slave_of c s) (sym wakes ∙ not-false up is_up) named' ∙ both_false_right (both (addresses name own) (not (eqb own unnamed))) (missing_facts c s n r e is)))
 
   pub read_found :
-      not t ≡ false → {x : RecordPlace} {place : ℕ} {new : List ℕ} → found_record x ≡ find_record c s n r → x ≡ At place →
+      not t ≡ false → {x : Option ℕ} {place : ℕ} {new : List ℕ} → found_record x ≡ find_record c s n r → x ≡ Some place →
       new ≡ said b 1 (read_reply (part f place 4)) → Replied (reply_to (reading name n r) (slave_of c s)) b new last 5
   unfolding record_of
   read_found yes' {x} {place} e is stored =
@@ -327,15 +326,15 @@ module _ {f : List ℕ} {c : Cluster} (h : Becomes f c) (s name n r : ℕ) {own 
       (after_unwritten name n r bytes (slave_of c s)
       (takes_write_as name n r (slave_of c s) (sym wakes ∙ not-false up is_up) named' ∙ both_false_left (both (has_record (slave_of c s) n r) (may_write n r)) (sym test ∙ not-true t no')))
 
-  pub write_missing : {x : RecordPlace} → found_record x ≡ find_record c s n r → x ≡ NoRecord → Becomes f (with_slave c s (slave_after (writing name n r) bytes (slave_of c s)))
+  pub write_missing : {x : Option ℕ} → found_record x ≡ find_record c s n r → x ≡ None → Becomes f (with_slave c s (slave_after (writing name n r) bytes (slave_of c s)))
   write_missing e is =
       same-slave s h
       (after_unwritten name n r bytes (slave_of c s)
       (takes_write_as name n r (slave_of c s) (sym wakes ∙ not-false up is_up) named' ∙ both_false_right (addresses name own) (both_false_left (may_write n r) (missing_facts c s n r e is))))
 
   pub write-found :
-      not t ≡ false → may_write n r ≡ true → length bytes ≡ 4 → s < length c.slaves → {x : RecordPlace} {place : ℕ} {new : List ℕ} →
-      found_record x ≡ find_record c s n r → x ≡ At place → DataPut f new place (written n r bytes) →
+      not t ≡ false → may_write n r ≡ true → length bytes ≡ 4 → s < length c.slaves → {x : Option ℕ} {place : ℕ} {new : List ℕ} →
+      found_record x ≡ find_record c s n r → x ≡ Some place → DataPut f new place (written n r bytes) →
       Becomes new (with_slave c s (slave_after (writing name n r) bytes (slave_of c s)))
   write-found yes' may four inside {place = place} {new} e is put =
       let found : Found c s n r place = found_facts c s n r e is in
@@ -414,11 +413,11 @@ module _ (c : Cluster) (s name : ℕ) {own : ℕ} {t up : Bool} (wakes : up ≡ 
   pub sleep_unaddressed : not t ≡ true → false ≡ falls_asleep (sleeping name) (slave_of c s)
   sleep_unaddressed no' = sym (falls ∙ both_false_left (has_record (slave_of c s) configuration sleep_record) (sym test ∙ not-true t no'))
 
-  module _ {x : RecordPlace} (e : found_record x ≡ find_record c s configuration sleep_record) where
-    pub sleep_missing : x ≡ NoRecord → false ≡ falls_asleep (sleeping name) (slave_of c s)
+  module _ {x : Option ℕ} (e : found_record x ≡ find_record c s configuration sleep_record) where
+    pub sleep_missing : x ≡ None → false ≡ falls_asleep (sleeping name) (slave_of c s)
     sleep_missing is = sym (falls ∙ both_false_right (addresses name own) (missing_facts c s configuration sleep_record e is))
 
-    pub sleep_falls : not t ≡ false → {place : ℕ} → x ≡ At place → true ≡ falls_asleep (sleeping name) (slave_of c s)
+    pub sleep_falls : not t ≡ false → {place : ℕ} → x ≡ Some place → true ≡ falls_asleep (sleeping name) (slave_of c s)
     sleep_falls yes' is = sym (falls ∙ both_true (sym test ∙ not-false t yes') (found_facts c s configuration sleep_record e is).has)
 
 -- the sleep byte set by it

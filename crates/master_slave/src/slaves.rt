@@ -17,7 +17,7 @@ use crate::slots::{CHECK_SLOT, FIRST_SLOT, send_byte, send_record};
 use crate::types::{DataBytes, RecordAddress};
 use file::layout::{ASLEEP, AWAKE};
 use file::readers::{comparison_value, is_awake, logical_name, physical_name};
-use file::records::{RecordPlace, find_record, place_of_record, read_place};
+use file::records::{find_record, place_of_record, read_place};
 use file::types::{FileNumber, LogicalName, RecordNumber, SlavePlaces};
 use file::writers::{set_sleep, store_record, take_new_name};
 
@@ -84,7 +84,7 @@ pub fn read_slave(
         return last;
     }
     let found = read_place(file, places, slave, address.number, address.record);
-    let RecordPlace::At(place) = found else {
+    let Some(place) = found else {
         return last;
     };
     send_record(buffer, file, place);
@@ -170,7 +170,7 @@ pub fn write_slave(
         return;
     }
     let found = place_of_record(file, places, slave, address.number, address.record);
-    let RecordPlace::At(place) = found else {
+    let Some(place) = found else {
         return;
     };
     put_data(file, place, address, bytes);
@@ -208,10 +208,7 @@ fn falls_asleep(file: &[u8], places: &SlavePlaces, slave: usize, name: LogicalNa
         return false;
     }
     let found = find_record(file, slave, FileNumber::CONFIGURATION, RecordNumber::SLEEP);
-    match found {
-        RecordPlace::At(_) => true,
-        RecordPlace::NoRecord => false,
-    }
+    found.is_some()
 }
 
 // The same slave after that round: asleep, or awake.

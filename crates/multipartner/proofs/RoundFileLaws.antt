@@ -20,13 +20,12 @@ use Rattle.file.specs.Inner.FileAnswers.{found_file}
 use mir.Val.{Fits}
 use mir.Syntax.{w64}
 use Rattle.file.specs.declared.records.FileBytes.{FileBytes}
-use Rattle.file.specs.declared.records.FilePlace.{FilePlace}
-use Rattle.file.specs.declared.records.FilePlace.TheVariants.{Bytes, NoFile}
 use Rattle.file.proofs.Order.{by_case}
 use Rattle.file.proofs.ReaderLaws.{slave-legal, length_limit, place-within, becomes-decoded}
 use Rattle.master_slave.specs.Rules.Slaves.{is_unnamed}
 use Rattle.multipartner.specs.Inner.Slots.{planned_entries, entries_in, EntriesLie, PlannedFileIs, RoundFileIs, RoundFilesAre}
 use Rattle.multipartner.proofs.SlotActLaws.{Found, found_facts, missing_empty}
+use Rattle.std.specs.Prelude.{Option, Some, None}
 
 -- ---- one slave
 
@@ -69,14 +68,14 @@ module _ (c : Cluster) (round s : ℕ) where
     unfolding entries_in
     round-awake yes' lie = rw (sym is ∙ not-false t yes') lie
 
-  module _ {r : FilePlace} (is : found_file r ≡ find_file c s round) where
-    pub round_missing : r ≡ NoFile → PlannedFileIs c round s 0 0
+  module _ {r : Option FileBytes} (is : found_file r ≡ find_file c s round) where
+    pub round_missing : r ≡ None → PlannedFileIs c round s 0 0
     unfolding found_file planned_entries last_record
     round_missing q =
         let empty = missing_empty c s round (rw q at is) in
         no_entries (by_case (is_unnamed (slave_of c s)) (λ t. rw t) (λ t. rw (t, empty)))
 
-    module _ {b : FileBytes} (q : r ≡ Bytes b) where
+    module _ {b : FileBytes} (q : r ≡ Some b) where
       round_facts : Found c s round b.place b.size
       unfolding found_file
       round_facts = found_facts c s round (rw q at is)

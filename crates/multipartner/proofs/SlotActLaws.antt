@@ -19,8 +19,6 @@ use Rattle.file.specs.Inner.FileAnswers.{found_file}
 use mir.Val.{Fits}
 use mir.Syntax.{w32}
 use Rattle.file.specs.declared.records.FileBytes.{FileBytes}
-use Rattle.file.specs.declared.records.FilePlace.{FilePlace}
-use Rattle.file.specs.declared.records.FilePlace.TheVariants.{Bytes, NoFile}
 use Rattle.file.proofs.Order.{by_case, both_right, both_true, both_false_left, both_false_right, both-next, either_right}
 use Rattle.file.proofs.Shape.{shape_count, shape_bytes-length}
 use Rattle.file.proofs.AtWidth.{shape_file_place}
@@ -36,6 +34,7 @@ use Rattle.multipartner.specs.declared.entry.EntryAction.TheVariants as Action
 use Rattle.multipartner.specs.declared.slot_act.SlotAct.{SlotAct}
 use Rattle.multipartner.specs.declared.slot_act.SlotAct.TheVariants as Acts
 use Rattle.multipartner.proofs.EntryLaws.{Does, does, is_sending, is_receiving}
+use Rattle.std.specs.Prelude.{Option, Some, None}
 
 -- ---- a file that was found, or not
 
@@ -75,12 +74,12 @@ module _ (c : Cluster) (s n : ℕ) where
 
 -- ---- the file that an entry names, and those that are kept
 
-module _ {f : List ℕ} {s n : ℕ} {r : FilePlace} (is : found_file r ≡ find_file (decode f) s n) where
-  pub file-none : r ≡ NoFile → FileIs f s n 0 0
+module _ {f : List ℕ} {s n : ℕ} {r : Option FileBytes} (is : found_file r ≡ find_file (decode f) s n) where
+  pub file-none : r ≡ None → FileIs f s n 0 0
   unfolding found_file
   file-none q = record { has = sym (missing_empty (decode f) s n (rw q at is)); lies = λ l. absurd (omega arith); inside = omega arith }
 
-  pub file-there : {b : FileBytes} → r ≡ Bytes b → AcceptedFile f → FileIs f s n b.place b.size
+  pub file-there : {b : FileBytes} → r ≡ Some b → AcceptedFile f → FileIs f s n b.place b.size
   unfolding found_file
   file-there {b} q h =
       let fact = found_facts (decode f) s n (rw q at is) in

@@ -5,7 +5,7 @@ ghost use Rattle.file.specs.Inner.Accepted.{AcceptedFile, slave_count};
 ghost use Rattle.multipartner.specs.Inner.EntryForm.{file_numbers};
 ghost use Rattle.multipartner.specs.Inner.Slots.{FileIs, FilesKept, KeptFor};
 
-use file::records::{FileBytes, FilePlace, find_file};
+use file::records::{FileBytes, find_file};
 use file::types::{FileNumber, SLAVES_ROOM};
 
 // Where a slave keeps a file, and how many bytes it has: none where it is not there.
@@ -13,11 +13,10 @@ fn bytes_of(file: &[u8], slave: usize, number: FileNumber) -> FileBytes
     requires { AcceptedFile file.now × (slave < slave_count file.now) }
     ensures { FileIs file.now slave (file_in number) result.place result.size }
 {
-    let found = find_file(file, slave, number);
-    let FilePlace::Bytes(bytes) = found else {
-        return FileBytes { place: 0, size: 0 };
-    };
-    bytes
+    match find_file(file, slave, number) {
+        Some(bytes) => bytes,
+        None => FileBytes { place: 0, size: 0 },
+    }
 }
 
 // Neighbouring entries often name one file: of each slave the file named last is kept, by its number, place and size. Looked for is

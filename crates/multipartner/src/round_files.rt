@@ -8,7 +8,7 @@ ghost use Rattle.multipartner.specs.Inner.Slots.{PlannedFileIs, RoundFileIs, Rou
 
 use file::layout::RECORD_SIZE;
 use file::readers::{is_awake, logical_name, slave_count};
-use file::records::{FilePlace, find_file};
+use file::records::find_file;
 use file::types::{FileNumber, LogicalName, SLAVES_ROOM, SlavePlaces};
 
 // Where a slave's entries of a round begin, and where they end.
@@ -30,7 +30,7 @@ pub fn planned_file(file: &[u8], places: &SlavePlaces, slave: usize, round: File
         return NO_ROUND_FILE;
     }
     let found = find_file(file, slave, round);
-    let FilePlace::Bytes(bytes) = found else {
+    let Some(bytes) = found else {
         return NO_ROUND_FILE;
     };
     RoundFile {

@@ -9,12 +9,9 @@ use Rattle.naming.specs.Rules.Steps.{StepsDone, StepsDone.steps as several}
 use Rattle.naming.specs.Inner.StepAnswers.{started_of, stepped_of, run_after}
 use Rattle.naming.specs.Inner.Steps.{steps_of, run_then}
 use Rattle.naming.specs.declared.position.RunPosition.{RunPosition}
-use Rattle.naming.specs.declared.run.Started.{Started}
-use Rattle.naming.specs.declared.run.Started.TheVariants as starts
-use Rattle.naming.specs.declared.run.Stepped.{Stepped}
-use Rattle.naming.specs.declared.run.Stepped.TheVariants as steps
-use Rattle.naming.specs.declared.steps.StepsAnswer.{StepsAnswer}
-use Rattle.naming.specs.declared.steps.StepsAnswer.TheVariants as answers
+use Rattle.file.specs.Inner.Refusals.{Answered, refusal_number}
+use Rattle.std.specs.Prelude.{Ok, Err, Option, None}
+use Rattle.file.proofs.Distinct.{refusal_in, refusal_back}
 
 run : Position → RunPosition
 run p =
@@ -25,45 +22,45 @@ run p =
       halves = record { high = p.halves.high; low = p.halves.low };
     }
 
-start : Result Position → Started
-start (refused n) = starts.Refused (record { 0 = n })
-start (done p) = starts.Fresh (run p)
+start : Result Position → (Answered RunPosition)
+start (refused n) = Err (refusal_in n)
+start (done p) = Ok (run p)
 
-start_back : (a : Started) → start (started_of a) ≡ a
+start_back : (a : Answered RunPosition) → start (started_of a) ≡ a
 unfolding start started_of run
-start_back (starts.Refused why) = refl
-start_back (starts.Fresh p) = refl
+start_back (Err why) = ap Err (refusal_back why)
+start_back (Ok p) = refl
 
-pub starts_distinct : (a b : Started) → started_of a ≡ started_of b → a ≡ b
+pub starts_distinct : (a b : Answered RunPosition) → started_of a ≡ started_of b → a ≡ b
 starts_distinct a b h = sym (start_back a) ∙ (ap start h ∙ start_back b)
 
-stepped : Result StepDone × Position → Stepped
-stepped (refused n, p) = steps.Refused (record { 0 = n })
-stepped (done ended, p) = steps.Ended
-stepped (done (made mask), p) = steps.Made mask (run p)
+stepped : Result StepDone × Position → (Answered (Option MadeStep))
+stepped (refused n, p) = Err (refusal_in n)
+stepped (done ended, p) = (Ok None)
+stepped (done (made mask), p) = Ok (Some (record { senders = mask; run = run p }))
 
-stepped-back : (p : Position) (a : Stepped) → stepped (stepped_of a, run_after p a) ≡ a
+stepped-back : (p : Position) (a : Answered (Option MadeStep)) → stepped (stepped_of a, run_after p a) ≡ a
 unfolding stepped stepped_of run_after run
-stepped-back p (steps.Refused why) = refl
-stepped-back p steps.Ended = refl
-stepped-back p (steps.Made mask q) = refl
+stepped-back p (Err why) = ap Err (refusal_back why)
+stepped-back p (Ok None) = refl
+stepped-back p (Ok (Some made)) = refl
 
-pub steps_distinct : (p : Position) (a b : Stepped) → stepped_of a ≡ stepped_of b → run_after p a ≡ run_after p b → a ≡ b
+pub steps_distinct : (p : Position) (a b : Answered (Option MadeStep)) → stepped_of a ≡ stepped_of b → run_after p a ≡ run_after p b → a ≡ b
 steps_distinct p a b h g = sym (stepped-back p a) ∙ (alike ∙ stepped-back p b)
   where
     alike : stepped (stepped_of a, run_after p a) ≡ stepped (stepped_of b, run_after p b)
     alike = rw (h, g)
 
-severally : Result StepsDone × Position → StepsAnswer
-severally (refused n, p) = answers.Refused (record { 0 = n })
-severally (done (several n mask), p) = answers.Made (record { steps = n; senders = mask; run = run p })
+severally : Result StepsDone × Position → (Answered MadeSteps)
+severally (refused n, p) = Err (refusal_in n)
+severally (done (several n mask), p) = Ok (record { steps = n; senders = mask; run = run p })
 
-severally_back : (p : Position) (a : StepsAnswer) → severally (steps_of a, run_then p a) ≡ a
+severally_back : (p : Position) (a : Answered MadeSteps) → severally (steps_of a, run_then p a) ≡ a
 unfolding severally steps_of run_then run
-severally_back p (answers.Refused why) = refl
-severally_back p (answers.Made m) = refl
+severally_back p (Err why) = ap Err (refusal_back why)
+severally_back p (Ok m) = refl
 
-pub several_distinct : (p : Position) (a b : StepsAnswer) → steps_of a ≡ steps_of b → run_then p a ≡ run_then p b → a ≡ b
+pub several_distinct : (p : Position) (a b : Answered MadeSteps) → steps_of a ≡ steps_of b → run_then p a ≡ run_then p b → a ≡ b
 several_distinct p a b h g = sym (severally_back p a) ∙ (alike ∙ severally_back p b)
   where
     alike : severally (steps_of a, run_then p a) ≡ severally (steps_of b, run_then p b)

@@ -9,10 +9,7 @@ use Rattle.file.specs.Rules.Order.{first_of}
 use Rattle.file.specs.Rules.Results.{Result, refused, done}
 use Rattle.file.specs.Inner.Accepted.{Placed}
 use Rattle.file.specs.Inner.Surveyed.{Surveyed}
-use Rattle.file.specs.Inner.FileAnswers.{checked_of}
 use Rattle.file.specs.declared.types.Refusal.{Refusal}
-use Rattle.file.specs.declared.survey.FileAnswer.{FileAnswer}
-use Rattle.file.specs.declared.survey.FileAnswer.TheVariants as answers
 use Rattle.file.proofs.Surveyed.{survey-refused}
 use Rattle.master_slave.specs.Rules.Bus.{slots}
 use Rattle.cluster.proofs.Rounds.{file_decides, buffer_decides, others_decide}
@@ -21,13 +18,15 @@ use Rattle.naming.specs.Rules.RunGrounds.{run_grounds}
 use Rattle.naming.specs.Rules.Step.{StepDone, ended, step_ground, step_made, step_on}
 use Rattle.naming.specs.Inner.StepAnswers.{StepGoes}
 use Rattle.naming.proofs.StepLaws.{step-refused}
+use Rattle.file.specs.Inner.Refusals.{Answered, refusal_number, outcome_of}
+use Rattle.std.specs.Prelude.{Err}
 
 -- what no ground but the file's refuses, of a running position
 pub step_ready : {names buffer : List ℕ} {p : Position} {g : ℕ} → slots ≤ length buffer → g ≡ first_of (run_grounds names p) → g ≡ 0 → p.end ≡ running → StepGoes names p buffer
 step_ready long is fits runs = record { long = long; accepted = sym is ∙ fits; runs = runs }
 
-module _ (f : List ℕ) (p : Position) (names buffer : List ℕ) {a : FileAnswer} {places : List ℕ} (s : Surveyed f (checked_of a) places) where
-  pub step-turned : {w : Refusal} → a ≡ answers.Refused w → (refused w.0, p, buffer, f) ≡ step_on f p names buffer
+module _ (f : List ℕ) (p : Position) (names buffer : List ℕ) {a : Answered (Unit {0})} {places : List ℕ} (s : Surveyed f (outcome_of a) places) where
+  pub step-turned : {w : Refusal} → a ≡ Err w → (refused w.0, p, buffer, f) ≡ step_on f p names buffer
   unfolding step_ground
   step-turned {w} e =
       let by = survey-refused s e in

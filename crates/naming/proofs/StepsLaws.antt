@@ -15,10 +15,7 @@ use Rattle.file.specs.Rules.Results.{Result, refused, done}
 use Rattle.file.specs.Rules.FileGrounds.{file_ground}
 use Rattle.file.specs.Inner.Accepted.{Placed}
 use Rattle.file.specs.Inner.Surveyed.{Surveyed}
-use Rattle.file.specs.Inner.FileAnswers.{checked_of}
 use Rattle.file.specs.declared.types.Refusal.{Refusal}
-use Rattle.file.specs.declared.survey.FileAnswer.{FileAnswer}
-use Rattle.file.specs.declared.survey.FileAnswer.TheVariants as files
 use Rattle.file.proofs.Surveyed.{survey-accepted, survey-refused}
 use Rattle.file.proofs.Order.{by_case, clash, both_false_left, both_false_right, either_false, either_false_left, either_false_right}
 use Rattle.master_slave.specs.Rules.Bus.{slots}
@@ -35,6 +32,8 @@ use Rattle.naming.proofs.RunLaws.{runs, run-names, run_unfit, run_fits}
 use Rattle.naming.proofs.StepLaws.{step-refused, step-ended}
 use Rattle.naming.proofs.StepCode.{step_goes}
 use Rattle.naming.proofs.Moves.{step-moved}
+use Rattle.file.specs.Inner.Refusals.{Answered, refusal_number, outcome_of}
+use Rattle.std.specs.Prelude.{Ok, Err}
 
 -- ---- whether no other step is made
 
@@ -217,14 +216,14 @@ names-accepted names p is none =
 told : Progress → Result StepsDone × Position × List ℕ × List ℕ
 told t = (done (steps t.made t.senders), t.run, t.buffer, t.file)
 
-module _ (k : ℕ) (f : List ℕ) (p : Position) (names buffer : List ℕ) {a : FileAnswer} {places : List ℕ} (s : Surveyed f (checked_of a) places) where
-  pub steps-turned : {w : Refusal} → a ≡ files.Refused w → (refused w.0, p, buffer, f) ≡ steps_on k f p names buffer
+module _ (k : ℕ) (f : List ℕ) (p : Position) (names buffer : List ℕ) {a : Answered (Unit {0})} {places : List ℕ} (s : Surveyed f (outcome_of a) places) where
+  pub steps-turned : {w : Refusal} → a ≡ Err w → (refused w.0, p, buffer, f) ≡ steps_on k f p names buffer
   unfolding step_ground
   steps-turned e =
       let by = survey-refused s e in
       steps-refused k f p names buffer (file_decides f buffer (run_grounds names p) (λ z. by.1 (by.0 ∙ z)) ∙ sym by.0) by.1
 
-  module _ (accepted : a ≡ files.Accepted) where
+  module _ (accepted : a ≡ Ok tt) where
     pub steps-short : length buffer < slots → (refused 9, p, buffer, f) ≡ steps_on k f p names buffer
     unfolding step_ground
     steps-short h = steps-refused k f p names buffer (buffer_decides f buffer (run_grounds names p) (survey-accepted s accepted) h) (λ z. omega arith)

@@ -1,5 +1,7 @@
 // Grounds 15 and 16, of a list of names.
 ghost use Rattle.std.specs.Prelude.{◌≡◌, [], ◌∷◌};
+ghost use Rattle.file.specs.Rules.Results.{number_in};
+ghost use Rattle.file.specs.Inner.Refusals.{outcome_of};
 ghost use Rattle.naming.specs.Rules.RunGrounds.{unfit_name, start_ground};
 
 use file::held::NAME_VALUES;
@@ -16,8 +18,8 @@ fn is_unfit_name(name: u8) -> bool
 }
 
 // Both grounds in one loop without an exit, from the last name to the first: which names there are, and whether one is there twice.
-fn marked_ground(names: &[u8]) -> u8
-    ensures { result ≡ start_ground names.now }
+fn marked_ground(names: &[u8]) -> Result<(), Refusal>
+    ensures { number_in (outcome_of result) ≡ start_ground names.now }
 {
     let mut seen = [false; NAME_VALUES];
     let mut twice = false;
@@ -31,26 +33,26 @@ fn marked_ground(names: &[u8]) -> u8
         seen[mark] = true;
     }
     if seen[LogicalName::BROADCAST.0 as usize] {
-        return Refusal::LISTED_NAME.0;
+        return Err(Refusal::ListedName);
     }
     if seen[LogicalName::UNNAMED.0 as usize] {
-        return Refusal::LISTED_NAME.0;
+        return Err(Refusal::ListedName);
     }
     if twice {
-        return Refusal::NAME_TWICE.0;
+        return Err(Refusal::NameTwice);
     }
-    0
+    Ok(())
 }
 
-// The number by which a list of names is refused, 0 where it is accepted. One name needs no marks.
-pub fn names_ground(names: &[u8]) -> u8
-    ensures { result ≡ start_ground names.now }
+// A list of names is accepted, or refused by its ground. One name needs no marks.
+pub fn names_ground(names: &[u8]) -> Result<(), Refusal>
+    ensures { number_in (outcome_of result) ≡ start_ground names.now }
 {
     if names.len() != 1 {
         return marked_ground(names);
     }
     if is_unfit_name(names[0]) {
-        return Refusal::LISTED_NAME.0;
+        return Err(Refusal::ListedName);
     }
-    0
+    Ok(())
 }

@@ -3,6 +3,8 @@ ghost use Rattle.std.specs.Prelude.{◌≡◌, ◌<◌};
 ghost use Rattle.file.specs.Rules.Order.{first_of};
 ghost use Rattle.file.specs.Rules.Results.{done};
 ghost use Rattle.file.specs.Inner.Accepted.{Placed};
+ghost use Rattle.file.specs.Rules.Results.{number_in};
+ghost use Rattle.file.specs.Inner.Refusals.{outcome_of};
 ghost use Rattle.naming.specs.Rules.RunGrounds.{start_over, run_grounds};
 ghost use Rattle.naming.specs.Rules.Step.{made, step_made, step_on};
 ghost use Rattle.naming.specs.Inner.StepAnswers.{position_of, started_of, stepped_of, run_after, StepGoes};
@@ -13,47 +15,27 @@ use crate::position::{RUNNING, RunPosition, count_raised, first_position, is_unf
 use crate::sending::{poll_round, reply_in, round_at};
 use crate::standing::standing_at;
 use cluster::sending::send;
-use file::survey::{FileAnswer, survey};
+use file::survey::survey;
 use file::types::{LogicalName, PLACES, Refusal, SlavePlaces};
 use master_slave::slots::SLOTS;
 
-#[derive(Clone, Copy)]
-pub enum Started {
-    Refused(Refusal),
-    Fresh(RunPosition),
-}
-
 // A fresh run over a list of names.
-pub fn start(names: &[u8]) -> Started
+pub fn start(names: &[u8]) -> Result<RunPosition, Refusal>
     ensures { started_of result ≡ start_over names.now }
 {
-    let ground = names_ground(names);
-    if ground != 0 {
-        return Started::Refused(Refusal(ground));
-    }
-    Started::Fresh(first_position(names))
-}
-
-// A step that is refused, that of an ended run, or one that made its round: the mask of its data frame, and the run.
-#[derive(Clone, Copy)]
-pub enum Stepped {
-    Refused(Refusal),
-    Ended,
-    Made { senders: u64, run: RunPosition },
+    names_ground(names)?;
+    Ok(first_position(names))
 }
 
 // Grounds 15 to 17.
-pub fn run_ground(names: &[u8], run: RunPosition) -> u8
-    ensures { result ≡ first_of (run_grounds names.now (position_of run)) }
+pub fn run_ground(names: &[u8], run: RunPosition) -> Result<(), Refusal>
+    ensures { number_in (outcome_of result) ≡ first_of (run_grounds names.now (position_of run)) }
 {
-    let ground = names_ground(names);
-    if ground != 0 {
-        return ground;
-    }
+    names_ground(names)?;
     if is_unfit(names, run) {
-        return Refusal::RUN_POSITION.0;
+        return Err(Refusal::RunPosition);
     }
-    0
+    Ok(())
 }
 
 // A step that made its round: the mask of its data frame, and the run.
@@ -118,41 +100,32 @@ pub fn make_step(
     pass_step(file, places, run, names, answer)
 }
 
-// A step on an accepted file, with the places of its slaves.
+// A step on an accepted file, with the places of its slaves: none of an ended run.
 pub fn step_on(
     file: &mut [u8],
     places: &SlavePlaces,
     run: RunPosition,
     names: &[u8],
     answer: &mut [u8],
-) -> Stepped
+) -> Result<Option<MadeStep>, Refusal>
     requires { Placed file.old places.now }
     ensures { (stepped_of result, run_after (position_of run) result, answer.new, file.new) ≡ step_on file.old (position_of run) names.now answer.old }
 {
     if answer.len() < SLOTS {
-        return Stepped::Refused(Refusal::BUFFER);
+        return Err(Refusal::Buffer);
     }
-    let ground = run_ground(names, run);
-    if ground != 0 {
-        return Stepped::Refused(Refusal(ground));
-    }
+    run_ground(names, run)?;
     if run.end != RUNNING {
-        return Stepped::Ended;
+        return Ok(None);
     }
-    let made = make_step(file, places, run, names, answer);
-    let senders = made.senders;
-    let run = made.run;
-    Stepped::Made { senders, run }
+    Ok(Some(make_step(file, places, run, names, answer)))
 }
 
 // One step: the file is checked once, and its round is carried out on it.
-pub fn step(file: &mut [u8], run: RunPosition, names: &[u8], answer: &mut [u8]) -> Stepped
+pub fn step(file: &mut [u8], run: RunPosition, names: &[u8], answer: &mut [u8]) -> Result<Option<MadeStep>, Refusal>
     ensures { (stepped_of result, run_after (position_of run) result, answer.new, file.new) ≡ step_on file.old (position_of run) names.now answer.old }
 {
     let mut places = [0u16; PLACES];
-    let verdict = survey(file, &mut places);
-    if let FileAnswer::Refused(why) = verdict {
-        return Stepped::Refused(why);
-    }
+    survey(file, &mut places)?;
     step_on(file, &places, run, names, answer)
 }

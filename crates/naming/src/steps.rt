@@ -10,7 +10,7 @@ ghost use Rattle.naming.specs.Inner.Steps.{steps_of, run_then, steps_end, StepsM
 use crate::pass::NO_STEP;
 use crate::position::{RUNNING, RunPosition, is_unfit};
 use crate::run::{make_step, run_ground};
-use file::survey::{FileAnswer, survey};
+use file::survey::survey;
 use file::types::{PLACES, Refusal, SlavePlaces};
 use master_slave::slots::{NOBODY, SLOTS};
 
@@ -72,35 +72,23 @@ pub fn make_steps(
     }
 }
 
-// Steps that are refused as one is, or that were made.
-#[derive(Clone, Copy)]
-pub enum StepsAnswer {
-    Refused(Refusal),
-    Made(MadeSteps),
-}
-
-// Up to so many steps: file, buffer, names and position are checked once, as a step checks them.
+// Up to so many steps, refused as one is: file, buffer, names and position are checked once, as a step checks them.
 pub fn steps(
     file: &mut [u8],
     run: RunPosition,
     names: &[u8],
     answer: &mut [u8],
     most: u64,
-) -> StepsAnswer
+) -> Result<MadeSteps, Refusal>
     ensures { (steps_of result, run_then (position_of run) result, answer.new, file.new) ≡ steps_on most file.old (position_of run) names.now answer.old }
 {
     let mut places = [0u16; PLACES];
-    let verdict = survey(file, &mut places);
-    if let FileAnswer::Refused(why) = verdict {
-        return StepsAnswer::Refused(why);
-    }
+    survey(file, &mut places)?;
     if answer.len() < SLOTS {
-        return StepsAnswer::Refused(Refusal::BUFFER);
+        return Err(Refusal::Buffer);
     }
-    let ground = run_ground(names, run);
-    if ground != 0 {
-        return StepsAnswer::Refused(Refusal(ground));
-    }
-    let made = make_steps(file, &places, run, names, answer, most, NO_STEP);
-    StepsAnswer::Made(made)
+    run_ground(names, run)?;
+    Ok(make_steps(
+        file, &places, run, names, answer, most, NO_STEP,
+    ))
 }

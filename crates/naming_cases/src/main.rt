@@ -55,12 +55,12 @@ struct Answer {
 fn started(names: &[u8]) -> Answer {
     let answer = start(names);
     match answer {
-        Started::Refused(why) => Answer {
+        Err(why) => Answer {
             number: why.0,
             mask: 0,
             run: position_at(b""),
         },
-        Started::Fresh(run) => Answer {
+        Ok(run) => Answer {
             number: 0,
             mask: 0,
             run,
@@ -71,12 +71,12 @@ fn started(names: &[u8]) -> Answer {
 fn stepped(file: &mut [u8], run: RunPosition, names: &[u8], buffer: &mut [u8]) -> Answer {
     let answer = step(file, run, names, buffer);
     match answer {
-        Stepped::Refused(why) => Answer {
+        Err(why) => Answer {
             number: why.0,
             mask: 0,
             run,
         },
-        Stepped::Ended => Answer {
+        Ok(None) => Answer {
             number: 0,
             mask: 0,
             run,
@@ -111,13 +111,13 @@ fn at_once(
 ) -> SeveralSteps {
     let answer = steps(file, run, names, buffer, most);
     match answer {
-        StepsAnswer::Refused(why) => SeveralSteps {
+        Err(why) => SeveralSteps {
             number: why.0,
             made: 0,
             mask: 0,
             run,
         },
-        StepsAnswer::Made(made) => {
+        Ok(made) => {
             let moved = made.run;
             SeveralSteps {
                 number: 0,

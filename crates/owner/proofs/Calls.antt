@@ -16,10 +16,7 @@ use Rattle.file.specs.Rules.Layout.{record_size}
 use Rattle.file.specs.Rules.Cluster.{Slave}
 use Rattle.file.specs.Rules.Decode.{decode}
 use Rattle.file.specs.Rules.FileGrounds.{file_grounds, file_ground}
-use Rattle.file.specs.Inner.FileAnswers.{checked_of}
 use Rattle.file.specs.Inner.Surveyed.{Surveyed}
-use Rattle.file.specs.declared.survey.FileAnswer.{FileAnswer}
-use Rattle.file.specs.declared.survey.FileAnswer.TheVariants as answers
 use Rattle.file.specs.declared.types.Refusal.{Refusal}
 use Rattle.file.proofs.Order.{joined-here, joined-next}
 use Rattle.file.proofs.Results.{file-first, file_numbered}
@@ -31,6 +28,8 @@ use Rattle.owner.specs.Rules.OwnerWriting.{too_short, owner_grounds, owner_groun
 use Rattle.owner.specs.Claims.Call.{UnknownEdition}
 use Rattle.owner.specs.Inner.Planned.{RoundsWritten}
 use Rattle.owner.proofs.RowLaws.{head-room, rows_written}
+use Rattle.file.specs.Inner.Refusals.{Answered, refusal_number, outcome_of}
+use Rattle.std.specs.Prelude.{Ok, Err}
 
 module _ (file : List ℕ) (master : ℕ) (buffer : List ℕ) where
   -- the first ground is the file's, or else 23, or else 20, or else 21
@@ -103,14 +102,14 @@ module _ {ss : List Slave} {master : ℕ} {head rows : List ℕ} {size : ℕ} {c
 
 -- ---- the ways of the call, by the answer of the survey
 
-module _ (master : ℕ) (buffer : List ℕ) {file places : List ℕ} {a : FileAnswer} (s : Surveyed file (checked_of a) places) where
-  pub call-refused : {why : Refusal} → a ≡ answers.Refused why → (refused why.0, buffer) ≡ owner_on file master buffer
+module _ (master : ℕ) (buffer : List ℕ) {file places : List ℕ} {a : Answered (Unit {0})} (s : Surveyed file (outcome_of a) places) where
+  pub call-refused : {why : Refusal} → a ≡ Err why → (refused (refusal_number why), buffer) ≡ owner_on file master buffer
   call-refused {why} e =
       let reason = survey-refused s e in
       let here : owner_ground file master buffer ≡ file_ground file = file_decides file master buffer (λ z. reason.1 (reason.0 ∙ z)) in
       sym (owner-refused file master buffer (λ z. reason.1 (reason.0 ∙ sym here ∙ z)) ∙ rw (here, reason.0))
 
-  module _ (accepted : a ≡ answers.Accepted) {head rows : List ℕ} {size : ℕ} {clash multiplexed : Bool} (h : RoundsWritten (decode file).slaves master rounds head rows size clash multiplexed) where
+  module _ (accepted : a ≡ Ok tt) {head rows : List ℕ} {size : ℕ} {clash multiplexed : Bool} (h : RoundsWritten (decode file).slaves master rounds head rows size clash multiplexed) where
     pub call_multiplexed : multiplexed ≡ true → (refused 23, buffer) ≡ owner_on file master buffer
     call_multiplexed e =
         let here : owner_ground file master buffer ≡ 23 = multiplexed_decides file master buffer (survey-accepted s accepted) (sym (written_multiplexed h) ∙ e) in

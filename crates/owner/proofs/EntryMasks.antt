@@ -16,8 +16,6 @@ use Rattle.file.specs.Inner.Places.{slave_of}
 use Rattle.file.specs.Inner.Accepted.{find_file}
 use Rattle.file.specs.Inner.FileAnswers.{found_file}
 use Rattle.file.specs.declared.records.FileBytes.{FileBytes}
-use Rattle.file.specs.declared.records.FilePlace.{FilePlace}
-use Rattle.file.specs.declared.records.FilePlace.TheVariants.{Bytes, NoFile}
 use Rattle.file.proofs.Order.{by_case, clash, both_left, both_right, both_true, both_false_left, both_false_right, both-next, both_unless, either_left, either-next}
 use Rattle.master_slave.specs.Rules.Bus.{slots}
 use Rattle.multipartner.specs.Rules.Entries.{Entry, entry_of, entry_there, is_multiplexed, covers, sends, ends, eligible, byte_place}
@@ -28,6 +26,7 @@ use Rattle.owner.specs.Rules.Plan.{is_multiplexed_receive, is_multiplexed_send}
 use Rattle.owner.specs.Inner.Masks.{is_set, Marks, between}
 use Rattle.owner.specs.Inner.OwnerEntries.{kind_at, is_single, Kept, would_send, hidden_with, sends_with, EntryTaken}
 use Rattle.owner.proofs.MaskLaws.{or_either, either_false, both-all, set-none, set_or, set_and, set_free, one_shifted, one_bit}
+use Rattle.std.specs.Prelude.{Option, Some, None}
 
 -- ---- an entry's byte tests
 
@@ -72,12 +71,12 @@ module _ {operation : ℕ} where
 
 -- ---- the size of the file that an entry names
 
-module _ (c : Cluster) (s n : ℕ) {r : FilePlace} (is : found_file r ≡ find_file c s n) where
-  pub size_none : r ≡ NoFile → 0 ≡ length (bytes_in (slave_of c s) n)
+module _ (c : Cluster) (s n : ℕ) {r : Option FileBytes} (is : found_file r ≡ find_file c s n) where
+  pub size_none : r ≡ None → 0 ≡ length (bytes_in (slave_of c s) n)
   unfolding found_file
   size_none q = sym (missing_empty c s n (rw q at is))
 
-  pub size_found : {b : FileBytes} → r ≡ Bytes b → b.size ≡ length (bytes_in (slave_of c s) n)
+  pub size_found : {b : FileBytes} → r ≡ Some b → b.size ≡ length (bytes_in (slave_of c s) n)
   unfolding found_file
   size_found q = (found_facts c s n (rw q at is)).has
 

@@ -17,7 +17,6 @@ pub mod OwnerGrounds
 pub mod Asleep
 pub mod OwnerEditions
 pub mod Witnesses
-pub mod Distinct
 -- who sends in a round as it runs; the file's size and its index
 pub mod Runs
 pub mod Sizes

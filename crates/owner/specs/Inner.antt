@@ -1,5 +1,4 @@
--- Maps of the code's types, and words of the contracts between functions.
-pub mod OwnerAnswers
+-- Words of the contracts between functions.
 pub mod OwnerEntries
 pub mod Held
 pub mod Masks

@@ -14,7 +14,7 @@ ghost use Rattle.owner.specs.Inner.OwnerEntries.{kind_at, is_single, Kept, would
 use crate::masks::{ALL_SLOTS, NO_SLOTS, slots_from};
 use file::layout::RECORD_SIZE;
 use file::numbers::byte_at;
-use file::records::{FilePlace, find_file};
+use file::records::find_file;
 use file::types::FileNumber;
 use multipartner::entry::{
     ALIGN_VALUES, END_OF_ROUND, EXECUTE_AND_END, FIRST_MULTIPLEXED, KIND_PLACE, LENGTH_VALUES,
@@ -76,8 +76,8 @@ fn file_size(file: &[u8], slave: usize, number: FileNumber) -> usize
 {
     let found = find_file(file, slave, number);
     match found {
-        FilePlace::Bytes(bytes) => bytes.size,
-        FilePlace::NoFile => 0,
+        Some(bytes) => bytes.size,
+        None => 0,
     }
 }
 

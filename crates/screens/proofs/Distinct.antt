@@ -6,52 +6,37 @@ use mathlib.Core.Bool.{Bool, true, false}
 use Rattle.file.specs.Rules.Results.{Result, refused, done}
 use Rattle.file.proofs.Order.{clash}
 use Rattle.cluster.specs.Rules.Round.{Answer}
-use Rattle.screens.specs.declared.state.DueScreen.{DueScreen}
-use Rattle.screens.specs.declared.state.DueScreen.TheVariants as dues
-use Rattle.screens.specs.declared.post.Posted.{Posted}
-use Rattle.screens.specs.declared.post.Posted.TheVariants as posts
-use Rattle.screens.specs.declared.turn.Turned.{Turned}
-use Rattle.screens.specs.declared.turn.Turned.TheVariants as turns
 use Rattle.screens.specs.Rules.Screens.{Due, nobody, screen}
 use Rattle.screens.specs.Rules.Turn.{Turn, idle, served, served_by}
-use Rattle.screens.specs.Inner.ScreenAnswers.{due_of, posted_of, turned_of}
+use Rattle.screens.specs.Inner.ScreenAnswers.{due_of, turned_of}
+use Rattle.file.specs.Inner.Refusals.{Answered, refusal_number, outcome_of}
+use Rattle.std.specs.Prelude.{Ok, Err, Option, Some, None}
+use Rattle.file.proofs.Distinct.{refusal_in, refusal_back}
 
-looking : Due → DueScreen
-looking nobody = dues.Nobody
-looking (screen i) = dues.Screen i
+looking : Due → (Option ℕ)
+looking nobody = None
+looking (screen i) = Some i
 
-looking_back : (a : DueScreen) → looking (due_of a) ≡ a
+looking_back : (a : Option ℕ) → looking (due_of a) ≡ a
 unfolding looking due_of
-looking_back dues.Nobody = refl
-looking_back (dues.Screen i) = refl
+looking_back None = refl
+looking_back (Some i) = refl
 
-posting : Result (Unit {0}) → Posted
-posting (refused n) = posts.Refused (record { 0 = n })
-posting (done u) = posts.Posted
+turning : Result Turn → (Answered (Option Served))
+turning (refused n) = Err (refusal_in n)
+turning (done idle) = (Ok None)
+turning (done (served i mask)) = Ok (Some (record { screen = i; senders = mask }))
 
-posting_back : (a : Posted) → posting (posted_of a) ≡ a
-unfolding posting posted_of
-posting_back (posts.Refused why) = refl
-posting_back posts.Posted = refl
-
-turning : Result Turn → Turned
-turning (refused n) = turns.Refused (record { 0 = n })
-turning (done idle) = turns.Idle
-turning (done (served i mask)) = turns.Served i mask
-
-turning_back : (a : Turned) → turning (turned_of a) ≡ a
+turning_back : (a : Answered (Option Served)) → turning (turned_of a) ≡ a
 unfolding turning turned_of
-turning_back (turns.Refused why) = refl
-turning_back turns.Idle = refl
-turning_back (turns.Served i mask) = refl
+turning_back (Err why) = ap Err (refusal_back why)
+turning_back (Ok None) = refl
+turning_back (Ok (Some s)) = refl
 
-pub dues_distinct : (a b : DueScreen) → due_of a ≡ due_of b → a ≡ b
+pub dues_distinct : (a b : Option ℕ) → due_of a ≡ due_of b → a ≡ b
 dues_distinct a b h = sym (looking_back a) ∙ (ap looking h ∙ looking_back b)
 
-pub posts_distinct : (a b : Posted) → posted_of a ≡ posted_of b → a ≡ b
-posts_distinct a b h = sym (posting_back a) ∙ (ap posting h ∙ posting_back b)
-
-pub turns_distinct : (a b : Turned) → turned_of a ≡ turned_of b → a ≡ b
+pub turns_distinct : (a b : Answered (Option Served)) → turned_of a ≡ turned_of b → a ≡ b
 turns_distinct a b h = sym (turning_back a) ∙ (ap turning h ∙ turning_back b)
 
 -- ---- the rules' answers

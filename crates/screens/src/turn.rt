@@ -1,6 +1,9 @@
 // A turn: the read of the screen that is due, carried out on a cluster file.
 ghost use Rattle.std.specs.Prelude.{◌≡◌, ◌≤◌, ◌<◌, length};
+ghost use Rattle.std.specs.Prelude.{Ok};
 ghost use Rattle.file.specs.Rules.Order.{first_of};
+ghost use Rattle.file.specs.Rules.Results.{number_in};
+ghost use Rattle.file.specs.Inner.Refusals.{outcome_of};
 ghost use Rattle.file.specs.Inner.Accepted.{Placed};
 ghost use Rattle.master_slave.specs.Rules.Bus.{slots};
 ghost use Rattle.cluster.specs.Inner.Sending.{sent_for};
@@ -11,20 +14,19 @@ ghost use Rattle.screens.specs.Inner.Parts.{read_in};
 
 use crate::post::read_ground;
 use crate::state::{
-    DueScreen, LAST_SCREEN, LAST_SERVED, ScreenState, due_screen, mark_served, posted_read,
+    LAST_SCREEN, LAST_SERVED, ScreenState, due_screen, mark_served, posted_read,
 };
 use cluster::sending::send;
-use file::survey::{FileAnswer, survey};
+use file::survey::survey;
 use file::types::{Operation, PLACES, Refusal, SlavePlaces};
 use master_slave::slots::SLOTS;
 use master_slave::types::{MasterSlaveRound, RecordAddress};
 
-// A turn is refused, has nobody to serve, or served a screen, with the mask of the read's data frame.
+// A screen that was served, and the mask of its read's data frame.
 #[derive(Clone, Copy)]
-pub enum Turned {
-    Refused(Refusal),
-    Idle,
-    Served { screen: u8, senders: u64 },
+pub struct Served {
+    pub screen: u8,
+    pub senders: u64,
 }
 
 // A read, as a complete round.
@@ -46,61 +48,52 @@ fn read_round(read: RecordAddress) -> MasterSlaveRound
     }
 }
 
-// 18 and 14 on the read that is due, of a state that 27 does not refuse; 0 where neither holds, or nobody waits.
-fn due_ground(state: &ScreenState, next: DueScreen) -> u8
+// 18 and 14 on the read that is due, of a state that 27 does not refuse. Neither holds where nobody waits.
+fn due_ground(state: &ScreenState, next: Option<u8>) -> Result<(), Refusal>
     requires { (last_served state.now < screens) × (due_of next ≡ due state.now) }
-    ensures { result ≡ first_of (state_grounds state.now) }
+    ensures { number_in (outcome_of result) ≡ first_of (state_grounds state.now) }
 {
     match next {
-        DueScreen::Nobody => 0,
-        DueScreen::Screen(screen) => {
-            let read = posted_read(state, screen);
-            read_ground(read)
-        }
+        None => Ok(()),
+        Some(screen) => read_ground(posted_read(state, screen)),
     }
 }
 
-// The turn, where no ground refuses it: nothing, or the round of the read that is due.
+// The turn, where no ground refuses it: nothing where nobody waits, or the round of the read that is due.
 fn serve(
     file: &mut [u8],
     places: &SlavePlaces,
     state: &mut ScreenState,
-    next: DueScreen,
+    next: Option<u8>,
     buffer: &mut [u8],
-) -> Turned
+) -> Option<Served>
     requires { (due_of next ≡ due state.old) × (first_of (state_grounds state.old) ≡ 0) × Placed file.old places.now × (slots ≤ length buffer.old) }
-    ensures { (turned_of result, state.new, buffer.new, file.new) ≡ turn_made (due state.old) state.old file.old buffer.old }
+    ensures { (turned_of (Ok result), state.new, buffer.new, file.new) ≡ turn_made (due state.old) state.old file.old buffer.old }
 {
     match next {
-        DueScreen::Nobody => Turned::Idle,
-        DueScreen::Screen(screen) => {
+        None => None,
+        Some(screen) => {
             let read = posted_read(state, screen);
             let senders = send(file, places, read_round(read), buffer);
             mark_served(state, screen);
-            Turned::Served { screen, senders }
+            Some(Served { screen, senders })
         }
     }
 }
 
 // "A turn serves the next waiting screen after the one last served"
-pub fn turn(file: &mut [u8], state: &mut ScreenState, buffer: &mut [u8]) -> Turned
+pub fn turn(file: &mut [u8], state: &mut ScreenState, buffer: &mut [u8]) -> Result<Option<Served>, Refusal>
     ensures { (turned_of result, state.new, buffer.new, file.new) ≡ turn_on state.old file.old buffer.old }
 {
     if LAST_SCREEN < state[LAST_SERVED] {
-        return Turned::Refused(Refusal::SCREEN);
+        return Err(Refusal::Screen);
     }
     let next = due_screen(state);
-    let ground = due_ground(state, next);
-    if ground != 0 {
-        return Turned::Refused(Refusal(ground));
-    }
+    due_ground(state, next)?;
     let mut places = [0u16; PLACES];
-    let verdict = survey(file, &mut places);
-    if let FileAnswer::Refused(why) = verdict {
-        return Turned::Refused(why);
-    }
+    survey(file, &mut places)?;
     if buffer.len() < SLOTS {
-        return Turned::Refused(Refusal::BUFFER);
+        return Err(Refusal::Buffer);
     }
-    serve(file, &places, state, next, buffer)
+    Ok(serve(file, &places, state, next, buffer))
 }

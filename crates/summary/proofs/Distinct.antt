@@ -4,34 +4,21 @@ use Prim.Native.Nat.{ℕ}
 use mathlib.Core.Path.{◌≡◌, refl, sym, ◌∙◌, ap}
 use Rattle.file.specs.Rules.Results.{Result, refused, done}
 use Rattle.cluster.specs.Rules.Summary.{Held, nobody, at}
-use Rattle.summary.specs.declared.fill.Filling.{Filling}
-use Rattle.summary.specs.declared.fill.Filling.TheVariants as fillings
-use Rattle.summary.specs.declared.holder.Holder.{Holder}
-use Rattle.summary.specs.declared.holder.Holder.TheVariants as holders
-use Rattle.summary.specs.Inner.SummaryAnswers.{filled_of, holder_of}
+use Rattle.summary.specs.Inner.SummaryAnswers.{holder_of}
+use Rattle.file.specs.Inner.Refusals.{Answered, refusal_number, outcome_of}
+use Rattle.std.specs.Prelude.{Ok, Err, Option, Some, None}
+use Rattle.file.proofs.Distinct.{refusal_in, refusal_back}
 
-filling : Result ℕ → Filling
-filling (refused n) = fillings.Refused (record { 0 = n })
-filling (done n) = fillings.Filled n
+holder : Result Held → (Answered (Option ℕ))
+holder (refused n) = Err (refusal_in n)
+holder (done nobody) = (Ok None)
+holder (done (at place)) = Ok (Some place)
 
-filling_back : (a : Filling) → filling (filled_of a) ≡ a
-unfolding filling filled_of
-filling_back (fillings.Refused why) = refl
-filling_back (fillings.Filled n) = refl
-
-pub fillings_distinct : (a b : Filling) → filled_of a ≡ filled_of b → a ≡ b
-fillings_distinct a b h = sym (filling_back a) ∙ (ap filling h ∙ filling_back b)
-
-holder : Result Held → Holder
-holder (refused n) = holders.Refused (record { 0 = n })
-holder (done nobody) = holders.Nobody
-holder (done (at place)) = holders.At place
-
-holder-back : (a : Holder) → holder (holder_of a) ≡ a
+holder-back : (a : Answered (Option ℕ)) → holder (holder_of a) ≡ a
 unfolding holder holder_of
-holder-back (holders.Refused why) = refl
-holder-back (holders.At place) = refl
-holder-back holders.Nobody = refl
+holder-back (Err why) = ap Err (refusal_back why)
+holder-back (Ok (Some place)) = refl
+holder-back (Ok None) = refl
 
-pub holders_distinct : (a b : Holder) → holder_of a ≡ holder_of b → a ≡ b
+pub holders_distinct : (a b : Answered (Option ℕ)) → holder_of a ≡ holder_of b → a ≡ b
 holders_distinct a b h = sym (holder-back a) ∙ (ap holder h ∙ holder-back b)

@@ -10,20 +10,19 @@ use Rattle.file.specs.Rules.Cluster.{logical_names}
 use Rattle.file.specs.Rules.Decode.{decode}
 use Rattle.file.specs.Inner.Accepted.{slave_count}
 use Rattle.file.specs.Inner.Surveyed.{Surveyed}
-use Rattle.file.specs.Inner.FileAnswers.{checked_of}
 use Rattle.file.specs.declared.types.Refusal.{Refusal}
-use Rattle.file.specs.declared.survey.FileAnswer.{FileAnswer}
-use Rattle.file.specs.declared.survey.FileAnswer.TheVariants as answers
 use Rattle.file.proofs.Surveyed.{survey-accepted, survey-refused}
 use Rattle.cluster.specs.Rules.Summary.{fill_on}
 use Rattle.cluster.proofs.Holders as holders
 use Rattle.cluster.proofs.Holders.{fillings_refused}
+use Rattle.file.specs.Inner.Refusals.{Answered, refusal_number, outcome_of}
+use Rattle.std.specs.Prelude.{Ok, Err}
 
-module _ (file slice : List ℕ) {a : FileAnswer} {places : List ℕ} (s : Surveyed file (checked_of a) places) where
-  pub fill-refused : {why : Refusal} → a ≡ answers.Refused why → (refused why.0, slice) ≡ fill_on file slice
+module _ (file slice : List ℕ) {a : Answered (Unit {0})} {places : List ℕ} (s : Surveyed file (outcome_of a) places) where
+  pub fill-refused : {why : Refusal} → a ≡ Err why → (refused (refusal_number why), slice) ≡ fill_on file slice
   fill-refused e = let (is, some) = survey-refused s e in rw ((fillings_refused file slice).of_file (λ z. some (is ∙ z)), is)
 
-  module _ (e : a ≡ answers.Accepted) {count : ℕ} (is : count ≡ slave_count file) where
+  module _ (e : a ≡ Ok tt) {count : ℕ} (is : count ≡ slave_count file) where
     pub fill-short : length slice < count → (refused 24, slice) ≡ fill_on file slice
     fill-short h =
         let short : length slice < length (decode file).slaves = omega arith in

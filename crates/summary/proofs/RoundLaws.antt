@@ -15,10 +15,7 @@ use Rattle.file.specs.Rules.Cluster.{logical_names}
 use Rattle.file.specs.Rules.Decode.{decode}
 use Rattle.file.specs.Inner.Accepted.{Placed, slave_count}
 use Rattle.file.specs.Inner.Surveyed.{Surveyed}
-use Rattle.file.specs.Inner.FileAnswers.{checked_of}
 use Rattle.file.specs.declared.types.Refusal.{Refusal}
-use Rattle.file.specs.declared.survey.FileAnswer.{FileAnswer}
-use Rattle.file.specs.declared.survey.FileAnswer.TheVariants as answers
 use Rattle.file.proofs.Order.{by_case}
 use Rattle.file.proofs.NameReadLaws.{names-count}
 use Rattle.file.proofs.Surveyed.{survey-accepted, survey-refused}
@@ -27,9 +24,6 @@ use Rattle.cluster.specs.Rules.Round.{Answer, round_ground, round_on}
 use Rattle.cluster.specs.Rules.Summary.{kept, wrong_summary, kept_for, round_keeping_ground, round_keeping}
 use Rattle.cluster.specs.Claims.Renaming.{names_of}
 use Rattle.cluster.specs.Inner.Exchanged.{Exchanged}
-use Rattle.cluster.specs.Inner.RoundAnswers.{answer_of}
-use Rattle.cluster.specs.declared.answer.RoundAnswer.{RoundAnswer}
-use Rattle.cluster.specs.declared.answer.RoundAnswer.TheVariants as rounds
 use Rattle.cluster.proofs.Rounds.{round-refused, round-accepted}
 use Rattle.cluster.proofs.SummaryLaws.{right_matches, given_wrong}
 use Rattle.cluster.proofs.Keeping as keeping
@@ -39,6 +33,8 @@ use Rattle.cluster.proofs.FrameCall.{call-short}
 use Rattle.summary.specs.Inner.Kept.{names_put, slice_after, RoundKept}
 use Rattle.summary.proofs.MatchLaws.{matches-room}
 use Rattle.naming.proofs.Moves.{Moved, round-moved}
+use Rattle.file.specs.Inner.Refusals.{Answered, refusal_number, outcome_of}
+use Rattle.std.specs.Prelude.{Ok, Err}
 
 -- ---- the slice after a call
 
@@ -67,15 +63,15 @@ module _ {file places frame buffer : List ℕ} (p : Placed file places) (long : 
   frame-moved x b =
       subst (λ (f : List ℕ). Moved file places f) (sym (ap (λ (r : Rounded). r.2) (exchanged x))) (round-moved p b buffer)
 
-  module _ {a : RoundAnswer} {buffer' file' : List ℕ} (x : Exchanged (decode file) frame buffer buffer' (answer_of a) file') where
-    pub frame_refused : (slice : List ℕ) {why : Refusal} → a ≡ rounds.Refused why → RoundKept file frame buffer slice (refused why.0) buffer' file' slice
-    unfolding answer_of slice_after
+  module _ {a : Answered ℕ} {buffer' file' : List ℕ} (x : Exchanged (decode file) frame buffer buffer' (outcome_of a) file') where
+    pub frame_refused : (slice : List ℕ) {why : Refusal} → a ≡ Err why → RoundKept file frame buffer slice (refused (refusal_number why)) buffer' file' slice
+    unfolding outcome_of slice_after
     frame_refused slice e = record { round = rw e at (exchanged x); names = refl }
 
     pub frame-carried :
-        {slice slice' : List ℕ} {mask : ℕ} → a ≡ rounds.Carried mask → slice' ≡ logical_names (decode file') ++ drop (slave_count file') slice →
+        {slice slice' : List ℕ} {mask : ℕ} → a ≡ Ok mask → slice' ≡ logical_names (decode file') ++ drop (slave_count file') slice →
         RoundKept file frame buffer slice (done mask) buffer' file' slice'
-    unfolding answer_of slice_after names_put
+    unfolding outcome_of slice_after names_put
     frame-carried e put = record { round = rw e at (exchanged x); names = put }
 
 -- ---- the call from outside
@@ -84,13 +80,13 @@ module _ (file frame buffer slice : List ℕ) (count : ℕ) where
   turned : {n : ℕ} → round_keeping_ground file (kept count slice) frame buffer ≡ n → n ≢ 0 → (refused n, buffer, file, kept count slice) ≡ round_keeping file (kept count slice) frame buffer
   turned here some = sym (keeping.keeping_refused file (kept count slice) frame buffer (λ z. some (sym here ∙ z)) ∙ rw here)
 
-  module _ {a : FileAnswer} {places : List ℕ} (s : Surveyed file (checked_of a) places) where
-    pub keeping_refused : {why : Refusal} → a ≡ answers.Refused why → (refused why.0, buffer, file, kept count slice) ≡ round_keeping file (kept count slice) frame buffer
+  module _ {a : Answered (Unit {0})} {places : List ℕ} (s : Surveyed file (outcome_of a) places) where
+    pub keeping_refused : {why : Refusal} → a ≡ Err why → (refused (refusal_number why), buffer, file, kept count slice) ≡ round_keeping file (kept count slice) frame buffer
     keeping_refused {why} e =
         let (is, some) = survey-refused s e in
         turned ((rounds_in_order file (kept count slice) frame buffer).of_file (λ z. some (is ∙ z)) ∙ sym is) some
 
-    module _ (accepted : a ≡ answers.Accepted) {t : Bool} (test : t ≡ wrong_summary (kept count slice) (logical_names (decode file))) where
+    module _ (accepted : a ≡ Ok tt) {t : Bool} (test : t ≡ wrong_summary (kept count slice) (logical_names (decode file))) where
       pub keeping_wrong : t ≡ true → (refused 24, buffer, file, kept count slice) ≡ round_keeping file (kept count slice) frame buffer
       unfolding round_keeping_ground
       keeping_wrong e = turned (given_wrong file _ _ (survey-accepted s accepted) (sym test ∙ e)) (λ z. omega arith)

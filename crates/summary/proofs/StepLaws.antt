@@ -12,10 +12,7 @@ use Rattle.file.specs.Rules.Results.{Result, refused, done}
 use Rattle.file.specs.Rules.Cluster.{logical_names}
 use Rattle.file.specs.Rules.Decode.{decode}
 use Rattle.file.specs.Inner.Surveyed.{Surveyed}
-use Rattle.file.specs.Inner.FileAnswers.{checked_of}
 use Rattle.file.specs.declared.types.Refusal.{Refusal}
-use Rattle.file.specs.declared.survey.FileAnswer.{FileAnswer}
-use Rattle.file.specs.declared.survey.FileAnswer.TheVariants as answers
 use Rattle.file.proofs.Order.{by_case}
 use Rattle.file.proofs.Surveyed.{survey-accepted, survey-refused}
 use Rattle.cluster.specs.Rules.Summary.{kept, wrong_summary, kept_for}
@@ -28,6 +25,8 @@ use Rattle.naming.proofs.StepLaws.{step-refused, step-ended, step-made}
 use Rattle.naming.proofs.StepKeeping.{file-step, matched_step, step-keeping-refused, step-keeping-accepted}
 use Rattle.summary.specs.Inner.Kept.{names_put, slice_after, is_refused, StepKept}
 use Rattle.summary.proofs.RoundLaws.{slice_carried, slice-refused}
+use Rattle.file.specs.Inner.Refusals.{Answered, refusal_number, outcome_of}
+use Rattle.std.specs.Prelude.{Ok, Err}
 
 abbrev Answered : Type 0
 Answered = Result StepDone × Position × List ℕ × List ℕ
@@ -65,13 +64,13 @@ module _ (file : List ℕ) (p : Position) (names buffer slice : List ℕ) (count
       (λ t. slice_carried count file' slice (is ∙ ap (λ (r : Answered). r.0) (step-made file p names buffer none (eqb-true _ _ t))))
       (λ f. slice_carried count file' slice (is ∙ ap (λ (r : Answered). r.0) (step-ended file p names buffer none (eqb-false _ _ f))))
 
-  module _ {a : FileAnswer} {places : List ℕ} (s : Surveyed file (checked_of a) places) where
-    pub stepping_refused : {why : Refusal} → a ≡ answers.Refused why → (refused why.0, p, buffer, file, kept count slice) ≡ step_keeping file p names (kept count slice) buffer
+  module _ {a : Answered (Unit {0})} {places : List ℕ} (s : Surveyed file (outcome_of a) places) where
+    pub stepping_refused : {why : Refusal} → a ≡ Err why → (refused (refusal_number why), p, buffer, file, kept count slice) ≡ step_keeping file p names (kept count slice) buffer
     stepping_refused {why} e =
         let (is, some) = survey-refused s e in
         turned (file-step file p names (kept count slice) buffer (λ z. some (is ∙ z)) ∙ sym is) some
 
-    module _ (accepted : a ≡ answers.Accepted) {t : Bool} (test : t ≡ wrong_summary (kept count slice) (logical_names (decode file))) where
+    module _ (accepted : a ≡ Ok tt) {t : Bool} (test : t ≡ wrong_summary (kept count slice) (logical_names (decode file))) where
       pub stepping_wrong : t ≡ true → (refused 24, p, buffer, file, kept count slice) ≡ step_keeping file p names (kept count slice) buffer
       unfolding step_keeping_ground
       stepping_wrong e = turned (given_wrong file _ _ (survey-accepted s accepted) (sym test ∙ e)) (λ z. omega arith)

@@ -6,26 +6,19 @@ ghost use Rattle.summary.specs.Inner.SummaryAnswers.{holder_of};
 
 use file::types::{LogicalName, Refusal};
 
-// The place in the slave table of the first slave that holds the name, or that nobody does.
-#[derive(Clone, Copy)]
-pub enum Holder {
-    Refused(Refusal),
-    At(usize),
-    Nobody,
-}
-
-pub fn find_holder(held: &[u8], count: usize, name: LogicalName) -> Holder
+// The place in the slave table of the first slave that holds the name, or none where nobody does.
+pub fn find_holder(held: &[u8], count: usize, name: LogicalName) -> Result<Option<usize>, Refusal>
     ensures { holder_of result ≡ holder_in (name_in_lem name) count held.now }
 {
     if held.len() < count {
-        return Holder::Refused(Refusal::SUMMARY);
+        return Err(Refusal::Summary);
     }
     let mut place = 0;
     while place < count {
         if held[place] == name.0 {
-            return Holder::At(place);
+            return Ok(Some(place));
         }
         place = place + 1;
     }
-    Holder::Nobody
+    Ok(None)
 }

@@ -8,20 +8,10 @@ ghost use Rattle.summary.specs.Inner.Kept.{is_refused, StepKept};
 
 use crate::matching::is_wrong;
 use file::readers::logical_names;
-use file::survey::{FileAnswer, survey};
+use file::survey::survey;
 use file::types::{PLACES, Refusal, SlavePlaces};
 use naming::position::RunPosition;
-use naming::run::{Stepped, step_on};
-
-fn is_refused(stepped: Stepped) -> bool
-    ensures { result ≡ is_refused (stepped_of stepped) }
-{
-    match stepped {
-        Stepped::Refused(_) => true,
-        Stepped::Ended => false,
-        Stepped::Made { senders: _, run: _ } => false,
-    }
-}
+use naming::run::{MadeStep, step_on};
 
 // A step on a file that is known to be accepted; unless it is refused the names that the file then holds are put into the slice.
 fn keep_step(
@@ -31,16 +21,13 @@ fn keep_step(
     names: &[u8],
     answer: &mut [u8],
     held: &mut [u8],
-) -> Stepped
+) -> Result<Option<MadeStep>, Refusal>
     requires { Placed file.old places.now × (slave_count file.old ≤ length held.old) }
     ensures { StepKept file.old (position_of run) names.now answer.old held.old (stepped_of result) (run_after (position_of run) result) answer.new file.new held.new }
 {
-    let stepped = step_on(file, places, run, names, answer);
-    if is_refused(stepped) {
-        return stepped;
-    }
+    let stepped = step_on(file, places, run, names, answer)?;
     logical_names(file, places, held);
-    stepped
+    Ok(stepped)
 }
 
 // One step with the file's summary: the file is checked once, and its round is carried out on it.
@@ -51,17 +38,14 @@ pub fn step_keeping(
     answer: &mut [u8],
     held: &mut [u8],
     count: usize,
-) -> Stepped
+) -> Result<Option<MadeStep>, Refusal>
     ensures { (stepped_of result, run_after (position_of run) result, answer.new, file.new, kept count held.new)
         ≡ step_keeping file.old (position_of run) names.now (kept count held.old) answer.old }
 {
     let mut places = [0u16; PLACES];
-    let verdict = survey(file, &mut places);
-    if let FileAnswer::Refused(why) = verdict {
-        return Stepped::Refused(why);
-    }
+    survey(file, &mut places)?;
     if is_wrong(file, &places, held, count) {
-        return Stepped::Refused(Refusal::SUMMARY);
+        return Err(Refusal::Summary);
     }
     keep_step(file, &places, run, names, answer, held)
 }

@@ -12,10 +12,7 @@ use borrow.Author.Tests.{eqb-true, eqb-false, eq-eqb, ne_eqb}
 use Rattle.file.specs.Rules.Order.{first_of}
 use Rattle.file.specs.Rules.Results.{Result, refused, done}
 use Rattle.file.specs.Rules.FileGrounds.{file_grounds, file_ground}
-use Rattle.file.specs.Inner.FileAnswers.{checked_of}
 use Rattle.file.specs.Inner.Surveyed.{Surveyed}
-use Rattle.file.specs.declared.survey.FileAnswer.{FileAnswer}
-use Rattle.file.specs.declared.survey.FileAnswer.TheVariants as answers
 use Rattle.file.specs.declared.types.Refusal.{Refusal}
 use Rattle.file.proofs.Order.{by_case, first-none, joined-here, joined-next, joined_right}
 use Rattle.file.proofs.Results.{file-first, file_numbered}
@@ -28,6 +25,8 @@ use Rattle.trace.specs.Claims.TraceRun.{SumIsCount, RunKeepsFile, UnknownEdition
 use Rattle.trace.proofs.Facts.{trace_facts}
 use Rattle.trace.proofs.Encoded.{frames-count}
 use Rattle.trace.proofs.Runs.{report-sum, frames-bytes, frames_keep}
+use Rattle.file.specs.Inner.Refusals.{Answered, refusal_number, outcome_of}
+use Rattle.std.specs.Prelude.{Ok, Err}
 
 module _ (file t : List ℕ) where
   -- the first ground is the file's, or else 19
@@ -73,14 +72,14 @@ module _ (file t : List ℕ) where
 
 -- ---- the ways of the call, by the answer of the survey
 
-module _ (t : List ℕ) {file places : List ℕ} {a : FileAnswer} (s : Surveyed file (checked_of a) places) where
-  pub call-refused : {why : Refusal} → a ≡ answers.Refused why → (refused why.0, file) ≡ trace_on file t
+module _ (t : List ℕ) {file places : List ℕ} {a : Answered (Unit {0})} (s : Surveyed file (outcome_of a) places) where
+  pub call-refused : {why : Refusal} → a ≡ Err why → (refused (refusal_number why), file) ≡ trace_on file t
   call-refused {why} e =
       let reason = survey-refused s e in
       let here : trace_ground file t ≡ file_ground file = file_decides file t (λ z. reason.1 (reason.0 ∙ z)) in
       sym (trace-refused file t (λ z. reason.1 (reason.0 ∙ sym here ∙ z)) ∙ rw (here, reason.0))
 
-  module _ (accepted : a ≡ answers.Accepted) {broken : Bool} (is : broken ≡ broken_trace t) where
+  module _ (accepted : a ≡ Ok tt) {broken : Bool} (is : broken ≡ broken_trace t) where
     pub call-broken : broken ≡ true → (refused 19, file) ≡ trace_on file t
     call-broken e =
         let here : trace_ground file t ≡ 19 = layout_decides file t (survey-accepted s accepted) (sym is ∙ e) in

@@ -35,25 +35,25 @@ fn one_refused(report: Report) -> Report
 }
 
 // A frame that was carried out, by its firework. None without one is.
-fn one_carried(report: Report, firework: Firework) -> Report
+fn one_carried(report: Report, firework: Option<Firework>) -> Report
     requires { FewFrames (report_in report) }
     ensures { report_in result ≡ one_carried (firework_round firework) (report_in report) }
 {
     match firework {
-        Firework::None => one_refused(report),
-        Firework::Address => Report {
+        None => one_refused(report),
+        Some(Firework::Address) => Report {
             msa: report.msa + 1,
             msd: report.msd,
             multipartner: report.multipartner,
             refused: report.refused,
         },
-        Firework::Data => Report {
+        Some(Firework::Data) => Report {
             msa: report.msa,
             msd: report.msd + 1,
             multipartner: report.multipartner,
             refused: report.refused,
         },
-        Firework::Multipartner(_) => Report {
+        Some(Firework::Multipartner(_)) => Report {
             msa: report.msa,
             msd: report.msd,
             multipartner: report.multipartner + 1,
@@ -63,7 +63,7 @@ fn one_carried(report: Report, firework: Firework) -> Report
 }
 
 // One frame more: "a refused frame counting as refused only".
-pub fn counted(report: Report, carried: bool, firework: Firework) -> Report
+pub fn counted(report: Report, carried: bool, firework: Option<Firework>) -> Report
     requires { FewFrames (report_in report) }
     ensures { report_in result ≡ cond carried (one_carried (firework_round firework) (report_in report)) (one_refused (report_in report)) }
 {

@@ -12,15 +12,9 @@ use crate::layout::{COUNT_PLACE, HEADER_SIZE, LENGTH_PLACE, ROW_SIZE, is_broken}
 use crate::report::{NO_FRAMES, Report, counted};
 use cluster::round::{firework_in, one_unheard};
 use file::numbers::{byte_at, u16_at};
-use file::survey::{FileAnswer, survey};
+use file::survey::survey;
 use file::types::{PLACES, Refusal, SlavePlaces};
 use master_slave::slots::SLOTS;
-
-#[derive(Clone, Copy)]
-pub enum TraceAnswer {
-    Refused(Refusal),
-    Ran(Report),
-}
 
 // The frames counted so far, and whether someone may be asleep after them.
 #[derive(Clone, Copy)]
@@ -73,19 +67,13 @@ fn run_frames(file: &mut [u8], places: &SlavePlaces, trace: &[u8]) -> Report
 }
 
 // A trace on a file: refused by its number, with the file as it was, or run, with the report. The file is checked once.
-pub fn run_trace(file: &mut [u8], trace: &[u8]) -> TraceAnswer
+pub fn run_trace(file: &mut [u8], trace: &[u8]) -> Result<Report, Refusal>
     ensures { (traced_of result, file.new) ≡ trace_on file.old trace.now }
 {
     let mut places = [0u16; PLACES];
-    let surveyed = survey(file, &mut places);
-    match surveyed {
-        FileAnswer::Refused(why) => TraceAnswer::Refused(why),
-        FileAnswer::Accepted => {
-            if is_broken(trace) {
-                return TraceAnswer::Refused(Refusal::TRACE);
-            }
-            let report = run_frames(file, &places, trace);
-            TraceAnswer::Ran(report)
-        }
+    survey(file, &mut places)?;
+    if is_broken(trace) {
+        return Err(Refusal::Trace);
     }
+    Ok(run_frames(file, &places, trace))
 }

@@ -4,110 +4,75 @@ use Prim.Native.Nat.{ℕ, ◌-◌, ◌^◌}
 use mathlib.Core.Path.{◌≡◌, refl, ap}
 use mathlib.Core.List.{List, [], ◌∷◌}
 use Rattle.file.specs.Rules.FileGrounds.{load_verdict}
-use Rattle.file.specs.Inner.FileAnswers.{checked_of}
-use Rattle.file.specs.declared.survey.FileAnswer.{FileAnswer}
-use Rattle.file.specs.declared.survey.FileAnswer.TheVariants as answers
 use Rattle.file.specs.declared.types.Refusal.{Refusal}
 use Rattle.file.specs.declared.types.FileNumber.{FileNumber}
 use Rattle.file.specs.declared.types.RecordNumber.{RecordNumber}
 use Rattle.file.specs.declared.types.LogicalName.{LogicalName}
 use Rattle.file.specs.declared.types.Operation.{Operation}
-use Rattle.frame.specs.declared.types.AddressReading.{AddressReading}
-use Rattle.frame.specs.declared.types.AddressReading.TheVariants as readings
-use Rattle.frame.specs.declared.types.FrameWriting.{FrameWriting}
-use Rattle.frame.specs.declared.types.FrameWriting.TheVariants as writings
 use Rattle.frame.specs.Rules.Reading.{parts, read_address}
 use Rattle.frame.specs.Rules.Writing.{write_address, write_data}
-use Rattle.frame.specs.Inner.FrameAnswers.{reading_of, writing_of}
+use Rattle.frame.specs.Inner.FrameAnswers.{reading_of}
 use Rattle.file.specs.Rules.Results.{Result, refused, done, number_in}
 use Rattle.cluster.specs.Rules.Round.{Answer, round_on}
 use Rattle.cluster.specs.Rules.Summary.{kept, round_keeping, fill_on, nobody, at, holder_in}
-use Rattle.cluster.specs.Inner.RoundAnswers.{answer_of}
-use Rattle.cluster.specs.declared.answer.RoundAnswer.{RoundAnswer}
-use Rattle.cluster.specs.declared.answer.RoundAnswer.TheVariants as rounds
 use Rattle.trace.specs.Rules.TraceRun.{report_words, trace_on}
 use Rattle.trace.specs.Inner.TraceAnswers.{report_in, traced_of}
 use Rattle.trace.specs.Inner.Sent.{FewFrames}
 use Rattle.trace.specs.declared.report.Report.{Report}
-use Rattle.trace.specs.declared.run.TraceAnswer.{TraceAnswer}
-use Rattle.trace.specs.declared.run.TraceAnswer.TheVariants as traces
 use Rattle.trace.proofs.Calls.{ran-few}
 use Rattle.convert.specs.Rules.Convert.{convert_on}
-use Rattle.convert.specs.Inner.ConversionAnswers.{edition_in, converted_of}
+use Rattle.convert.specs.Inner.ConversionAnswers.{edition_in}
 use Rattle.convert.specs.declared.editions.Edition.TheVariants as editions
-use Rattle.convert.specs.declared.convert.Conversion.{Conversion}
-use Rattle.convert.specs.declared.convert.Conversion.TheVariants as conversions
 use Rattle.join.specs.Rules.Join.{join_on}
-use Rattle.join.specs.Inner.JoinAnswers.{joining_of}
-use Rattle.join.specs.declared.join.Joining.{Joining}
-use Rattle.join.specs.declared.join.Joining.TheVariants as joinings
 use Rattle.owner.specs.Rules.OwnerWriting.{owner_on}
-use Rattle.owner.specs.Inner.OwnerAnswers.{written_of}
-use Rattle.owner.specs.declared.write.OwnerAnswer.{OwnerAnswer}
-use Rattle.owner.specs.declared.write.OwnerAnswer.TheVariants as owners
 use Rattle.naming.specs.Rules.Position.{Position}
 use Rattle.naming.specs.Rules.RunGrounds.{start_over}
 use Rattle.naming.specs.Rules.Step.{step_on, step_keeping}
 use Rattle.naming.specs.Inner.StepAnswers.{position_of, started_of, stepped_of, run_after}
 use Rattle.naming.specs.declared.position.RunPosition.{RunPosition}
-use Rattle.naming.specs.declared.run.Started.{Started}
-use Rattle.naming.specs.declared.run.Started.TheVariants as starts
-use Rattle.naming.specs.declared.run.Stepped.{Stepped}
-use Rattle.naming.specs.declared.run.Stepped.TheVariants as steps
 use Rattle.screens.specs.Rules.Screens.{read_by, fresh, post_on}
 use Rattle.screens.specs.Rules.Turn.{idle, served, turn_on}
-use Rattle.screens.specs.Inner.ScreenAnswers.{posted_of, turned_of}
-use Rattle.screens.specs.declared.post.Posted.{Posted}
-use Rattle.screens.specs.declared.post.Posted.TheVariants as posts
-use Rattle.screens.specs.declared.turn.Turned.{Turned}
-use Rattle.screens.specs.declared.turn.Turned.TheVariants as turns
+use Rattle.screens.specs.Inner.ScreenAnswers.{turned_of}
 use Rattle.line.specs.Rules.Patterns.{pattern_on}
 use Rattle.line.specs.Inner.LineAnswers.{class_in, read_of}
-use Rattle.line.specs.declared.pattern.PatternAnswer.{PatternAnswer}
-use Rattle.line.specs.declared.pattern.PatternAnswer.TheVariants as patterns
 use Rattle.line.specs.declared.pattern.PatternClass.{PatternClass}
 use Rattle.line.specs.declared.pattern.PatternClass.TheVariants as classes
 use Rattle.contents.specs.Rules.Contents.{contents_on}
-use Rattle.contents.specs.Inner.ContentsAnswers.{size_of}
-use Rattle.contents.specs.declared.read.ContentsAnswer.{ContentsAnswer}
-use Rattle.contents.specs.declared.read.ContentsAnswer.TheVariants as contents
-use Rattle.summary.specs.Inner.SummaryAnswers.{filled_of, holder_of}
-use Rattle.summary.specs.declared.fill.Filling.{Filling}
-use Rattle.summary.specs.declared.fill.Filling.TheVariants as fillings
-use Rattle.summary.specs.declared.holder.Holder.{Holder}
-use Rattle.summary.specs.declared.holder.Holder.TheVariants as holders
+use Rattle.summary.specs.Inner.SummaryAnswers.{holder_of}
 use Rattle.ttpa.specs.Rules.Calls.{lent_after, check_call, part_bytes, read_address_call, write_address_call, write_data_call, round_call, trace_call, owner_call}
 use Rattle.ttpa.specs.Rules.Calls.{convert_call, words_of, position_in, start_call, step_senders, step_words_lem, step_call, fill_call, nobody_place, place_of}
 use Rattle.ttpa.specs.Rules.Calls.{holder_call, slice_of, round_keeping_call, step_keeping_call, screens_call, post_call, none_waited, turn_screen, turn_senders}
 use Rattle.ttpa.specs.Rules.Calls.{turn_call, join_call}
 use Rattle.ttpa.specs.Rules.Calls.{class_number, pattern_call, contents_call}
 use Rattle.ttpa.specs.Inner.Told.{round_told, step_told}
+use Rattle.file.specs.Inner.Refusals.{Answered, refusal_number, outcome_of}
+use Rattle.std.specs.Prelude.{Ok, Err, Option, None}
 
 -- ---- the checker
 
-pub check_accepts : (f : List ℕ) {a : FileAnswer} → checked_of a ≡ load_verdict f → a ≡ answers.Accepted → 0 ≡ check_call f
-unfolding check_call checked_of number_in
+pub check_accepts : (f : List ℕ) {a : Answered (Unit {0})} → outcome_of a ≡ load_verdict f → a ≡ Ok tt → 0 ≡ check_call f
+unfolding check_call outcome_of number_in
 check_accepts f is e =
     let r : done tt ≡ load_verdict f = rw e at is in
     rw (← r)
 
-pub check_refuses : (f : List ℕ) {a : FileAnswer} {why : Refusal} → checked_of a ≡ load_verdict f → a ≡ answers.Refused why → why.0 ≡ check_call f
-unfolding check_call checked_of number_in
+pub check_refuses : (f : List ℕ) {a : Answered (Unit {0})} {why : Refusal} → outcome_of a ≡ load_verdict f → a ≡ Err why → refusal_number why ≡ check_call f
+unfolding check_call outcome_of number_in
 check_refuses f {why = why} is e =
-    let r : refused why.0 ≡ load_verdict f = rw e at is in
+    let r : refused (refusal_number why) ≡ load_verdict f = rw e at is in
     rw (← r)
 
 -- ---- the reader
 
-pub read_refuses : (f old : List ℕ) {a : AddressReading} {why : Refusal} → reading_of a ≡ read_address f → a ≡ readings.Refused why → (why.0, old) ≡ read_address_call f old
+pub read_refuses : (f old : List ℕ) {a : Answered AddressFrame} {why : Refusal} → reading_of a ≡ read_address f → a ≡ Err why → ((refusal_number why), old) ≡ read_address_call f old
 unfolding read_address_call number_in lent_after part_bytes reading_of
 read_refuses f old {why = why} is e =
-    let r : refused why.0 ≡ read_address f = rw e at is in
+    let r : refused (refusal_number why) ≡ read_address f = rw e at is in
     rw (← r)
 
 pub read-parts :
-    (f old : List ℕ) {a : AddressReading} {epoch : ℕ} {name : LogicalName} {file : FileNumber} {operation : Operation} {record' : RecordNumber} →
-    reading_of a ≡ read_address f → a ≡ readings.Address epoch name file operation record' →
+    (f old : List ℕ) {a : Answered AddressFrame} {epoch : ℕ} {name : LogicalName} {file : FileNumber} {operation : Operation} {record' : RecordNumber} →
+    reading_of a ≡ read_address f → a ≡ OkAddress epoch name file operation record' →
     (0, epoch ∷ name.0 ∷ file.0 ∷ operation.0 ∷ record'.0 ∷ []) ≡ read_address_call f old
 unfolding read_address_call number_in lent_after part_bytes reading_of
 read-parts f old {epoch = epoch} {name = name} {file = file} {operation = operation} {record' = record'} is e =
@@ -116,12 +81,12 @@ read-parts f old {epoch = epoch} {name = name} {file = file} {operation = operat
 
 -- ---- the writers
 
-pub write_refuses : {a : FrameWriting} {why : Refusal} → a ≡ writings.Refused why → why.0 ≡ number_in (writing_of a)
-unfolding number_in writing_of
+pub write_refuses : {a : Answered (Unit {0})} {why : Refusal} → a ≡ Err why → refusal_number why ≡ number_in (outcome_of a)
+unfolding number_in outcome_of
 write_refuses e = rw e
 
-pub write_done : {a : FrameWriting} → a ≡ writings.Written → 0 ≡ number_in (writing_of a)
-unfolding number_in writing_of
+pub write_done : {a : Answered (Unit {0})} → a ≡ Ok tt → 0 ≡ number_in (outcome_of a)
+unfolding number_in outcome_of
 write_done e = rw e
 
 pub address-written :
@@ -139,13 +104,13 @@ data-written old bytes is e = rw (← is, e)
 
 -- ---- a frame on a file
 
-module _ (senders : ℕ) {a : RoundAnswer} where
-  pub told-refused : {why : Refusal} → a ≡ rounds.Refused why → (why.0, senders) ≡ round_told (answer_of a) senders
-  unfolding round_told number_in lent_after answer_of
+module _ (senders : ℕ) {a : Answered ℕ} where
+  pub told-refused : {why : Refusal} → a ≡ Err why → ((refusal_number why), senders) ≡ round_told (outcome_of a) senders
+  unfolding round_told number_in lent_after outcome_of
   told-refused e = rw e
 
-  pub told_carried : {mask : ℕ} → a ≡ rounds.Carried mask → (0, mask) ≡ round_told (answer_of a) senders
-  unfolding round_told number_in lent_after answer_of
+  pub told_carried : {mask : ℕ} → a ≡ Ok mask → (0, mask) ≡ round_told (outcome_of a) senders
+  unfolding round_told number_in lent_after outcome_of
   told_carried e = rw e
 
 module _ (file frame answer : List ℕ) (senders : ℕ) {r : Answer} {n senders' : ℕ} (told : (n, senders') ≡ round_told r senders) {answer' file' : List ℕ} where
@@ -163,21 +128,21 @@ module _ (file frame answer : List ℕ) (senders : ℕ) {r : Answer} {n senders'
 
 -- ---- a trace on a file
 
-module _ (file t report : List ℕ) {file' : List ℕ} (a : TraceAnswer) (is : (traced_of a, file') ≡ trace_on file t) where
-  pub trace_refuses : {why : Refusal} → a ≡ traces.Refused why → (why.0, report, file') ≡ trace_call file t report
+module _ (file t report : List ℕ) {file' : List ℕ} (a : Answered Report) (is : (traced_of a, file') ≡ trace_on file t) where
+  pub trace_refuses : {why : Refusal} → a ≡ Err why → ((refusal_number why), report, file') ≡ trace_call file t report
   unfolding trace_call number_in lent_after traced_of
   trace_refuses {why} e =
-      let r : (refused why.0, file') ≡ trace_on file t = rw e at is in
+      let r : (refused (refusal_number why), file') ≡ trace_on file t = rw e at is in
       rw (← r)
 
-  pub trace-runs : {r : Report} {words : List ℕ} → a ≡ traces.Ran r → words ≡ report_words (report_in r) → (0, words, file') ≡ trace_call file t report
+  pub trace-runs : {r : Report} {words : List ℕ} → a ≡ Ok r → words ≡ report_words (report_in r) → (0, words, file') ≡ trace_call file t report
   unfolding trace_call number_in lent_after traced_of
   trace-runs {r} e same =
       let ran : (done (report_in r), file') ≡ trace_on file t = rw e at is in
       rw (← ran, same)
 
   -- a report of few frames: its sum fits
-  pub trace-few : {r : Report} → a ≡ traces.Ran r → FewFrames (report_in r)
+  pub trace-few : {r : Report} → a ≡ Ok r → FewFrames (report_in r)
   unfolding traced_of
   trace-few {r} e =
       let ran : (done (report_in r), file') ≡ trace_on file t = rw e at is in
@@ -185,31 +150,31 @@ module _ (file t report : List ℕ) {file' : List ℕ} (a : TraceAnswer) (is : (
 
 -- ---- the owner file
 
-module _ (file : List ℕ) (master : ℕ) (buffer : List ℕ) (length : ℕ) {name : ℕ} (same : name ≡ master) {buffer' : List ℕ} (a : OwnerAnswer)
-    (is : (written_of a, buffer') ≡ owner_on file name buffer) where
-  pub owner_refuses : {why : Refusal} → a ≡ owners.Refused why → (why.0, length, buffer') ≡ owner_call file master buffer length
-  unfolding owner_call number_in lent_after written_of
+module _ (file : List ℕ) (master : ℕ) (buffer : List ℕ) (length : ℕ) {name : ℕ} (same : name ≡ master) {buffer' : List ℕ} (a : Answered ℕ)
+    (is : (outcome_of a, buffer') ≡ owner_on file name buffer) where
+  pub owner_refuses : {why : Refusal} → a ≡ Err why → ((refusal_number why), length, buffer') ≡ owner_call file master buffer length
+  unfolding owner_call number_in lent_after outcome_of
   owner_refuses {why} e =
-      let r : (refused why.0, buffer') ≡ owner_on file master buffer = rw (e, same) at is in
+      let r : (refused (refusal_number why), buffer') ≡ owner_on file master buffer = rw (e, same) at is in
       rw (← r)
 
-  pub owner-writes : {written : ℕ} → a ≡ owners.Written written → (0, written, buffer') ≡ owner_call file master buffer length
-  unfolding owner_call number_in lent_after written_of
+  pub owner-writes : {written : ℕ} → a ≡ Ok written → (0, written, buffer') ≡ owner_call file master buffer length
+  unfolding owner_call number_in lent_after outcome_of
   owner-writes {written} e =
       let r : (done written, buffer') ≡ owner_on file master buffer = rw (e, same) at is in
       rw (← r)
 
 -- ---- a file in an edition
 
-module _ (edition : ℕ) (file out : List ℕ) (length : ℕ) {out' : List ℕ} (a : Conversion) (is : (converted_of a, out') ≡ convert_on file edition out) where
-  pub convert_refuses : {why : Refusal} → a ≡ conversions.Refused why → (why.0, length, out') ≡ convert_call edition file out length
-  unfolding convert_call number_in lent_after converted_of
+module _ (edition : ℕ) (file out : List ℕ) (length : ℕ) {out' : List ℕ} (a : Answered ℕ) (is : (outcome_of a, out') ≡ convert_on file edition out) where
+  pub convert_refuses : {why : Refusal} → a ≡ Err why → ((refusal_number why), length, out') ≡ convert_call edition file out length
+  unfolding convert_call number_in lent_after outcome_of
   convert_refuses {why} e =
-      let r : (refused why.0, out') ≡ convert_on file edition out = rw e at is in
+      let r : (refused (refusal_number why), out') ≡ convert_on file edition out = rw e at is in
       rw (← r)
 
-  pub convert-writes : {written : ℕ} → a ≡ conversions.Written written → (0, written, out') ≡ convert_call edition file out length
-  unfolding convert_call number_in lent_after converted_of
+  pub convert-writes : {written : ℕ} → a ≡ Ok written → (0, written, out') ≡ convert_call edition file out length
+  unfolding convert_call number_in lent_after outcome_of
   convert-writes {written} e =
       let r : (done written, out') ≡ convert_on file edition out = rw e at is in
       rw (← r)
@@ -226,29 +191,29 @@ module _ (file out : List ℕ) (length : ℕ) {x : ℕ × ℕ × List ℕ} where
 
 -- ---- two files joined
 
-module _ (first second out : List ℕ) (length : ℕ) {out' : List ℕ} (a : Joining) (is : (joining_of a, out') ≡ join_on first second out) where
-  pub join_refuses : {why : Refusal} → a ≡ joinings.Refused why → (why.0, length, out') ≡ join_call first second out length
-  unfolding join_call number_in lent_after joining_of
+module _ (first second out : List ℕ) (length : ℕ) {out' : List ℕ} (a : Answered ℕ) (is : (outcome_of a, out') ≡ join_on first second out) where
+  pub join_refuses : {why : Refusal} → a ≡ Err why → ((refusal_number why), length, out') ≡ join_call first second out length
+  unfolding join_call number_in lent_after outcome_of
   join_refuses {why} e =
-      let r : (refused why.0, out') ≡ join_on first second out = rw e at is in
+      let r : (refused (refusal_number why), out') ≡ join_on first second out = rw e at is in
       rw (← r)
 
-  pub join-writes : {written : ℕ} → a ≡ joinings.Written written → (0, written, out') ≡ join_call first second out length
-  unfolding join_call number_in lent_after joining_of
+  pub join-writes : {written : ℕ} → a ≡ Ok written → (0, written, out') ≡ join_call first second out length
+  unfolding join_call number_in lent_after outcome_of
   join-writes {written} e =
       let r : (done written, out') ≡ join_on first second out = rw e at is in
       rw (← r)
 
 -- ---- a fresh run
 
-module _ (names run : List ℕ) (a : Started) (is : started_of a ≡ start_over names) where
-  pub start_refuses : {why : Refusal} → a ≡ starts.Refused why → (why.0, run) ≡ start_call names run
+module _ (names run : List ℕ) (a : Answered RunPosition) (is : started_of a ≡ start_over names) where
+  pub start_refuses : {why : Refusal} → a ≡ Err why → ((refusal_number why), run) ≡ start_call names run
   unfolding start_call number_in lent_after started_of
   start_refuses {why} e =
-      let r : refused why.0 ≡ start_over names = rw e at is in
+      let r : refused (refusal_number why) ≡ start_over names = rw e at is in
       rw (← r)
 
-  pub start-begins : {p : RunPosition} → a ≡ starts.Fresh p → {words : List ℕ} → words ≡ words_of (position_of p) → (0, words) ≡ start_call names run
+  pub start-begins : {p : RunPosition} → a ≡ Ok p → {words : List ℕ} → words ≡ words_of (position_of p) → (0, words) ≡ start_call names run
   unfolding start_call number_in lent_after started_of
   start-begins {p} e same =
       let r : done (position_of p) ≡ start_over names = rw e at is in
@@ -256,16 +221,16 @@ module _ (names run : List ℕ) (a : Started) (is : started_of a ≡ start_over 
 
 -- ---- a naming step
 
-module _ (p : Position) (senders : ℕ) (run : List ℕ) {a : Stepped} where
-  pub told-turned : {why : Refusal} → a ≡ steps.Refused why → (why.0, senders, run) ≡ step_told (stepped_of a) (run_after p a) senders run
+module _ (p : Position) (senders : ℕ) (run : List ℕ) {a : Answered (Option MadeStep)} where
+  pub told-turned : {why : Refusal} → a ≡ Err why → ((refusal_number why), senders, run) ≡ step_told (stepped_of a) (run_after p a) senders run
   unfolding step_told number_in step_senders step_words_lem stepped_of run_after
   told-turned e = rw e
 
-  pub told-ended : a ≡ steps.Ended → (0, senders, run) ≡ step_told (stepped_of a) (run_after p a) senders run
+  pub told-ended : a ≡ Ok None → (0, senders, run) ≡ step_told (stepped_of a) (run_after p a) senders run
   unfolding step_told number_in step_senders step_words_lem stepped_of run_after
   told-ended e = rw e
 
-  pub told-made : {mask : ℕ} {q : RunPosition} {words : List ℕ} → a ≡ steps.Made mask q → words ≡ words_of (position_of q) → (0, mask, words) ≡ step_told (stepped_of a) (run_after p a) senders run
+  pub told-made : {mask : ℕ} {q : RunPosition} {words : List ℕ} → a ≡ OkMade mask q → words ≡ words_of (position_of q) → (0, mask, words) ≡ step_told (stepped_of a) (run_after p a) senders run
   unfolding step_told number_in step_senders step_words_lem stepped_of run_after
   told-made e same = rw (e, same)
 
@@ -273,7 +238,7 @@ abbrev Told : Type 0
 Told = ℕ × ℕ × List ℕ
 
 module _
-    (file run names answer : List ℕ) (senders : ℕ) (a : Stepped) {n senders' : ℕ} {run' : List ℕ}
+    (file run names answer : List ℕ) (senders : ℕ) (a : Answered (Option MadeStep)) {n senders' : ℕ} {run' : List ℕ}
     (told : (n, senders', run') ≡ step_told (stepped_of a) (run_after (position_in run) a) senders run)
     {position : RunPosition} (from : position_of position ≡ position_in run) {answer' file' : List ℕ} where
   pub step-told :
@@ -295,36 +260,36 @@ module _
 
 -- ---- the summary filled, and asked
 
-module _ (file held : List ℕ) (count : ℕ) {held' : List ℕ} (a : Filling) (is : (filled_of a, held') ≡ fill_on file held) where
-  pub fill_refuses : {why : Refusal} → a ≡ fillings.Refused why → (why.0, count, held') ≡ fill_call file held count
-  unfolding fill_call number_in lent_after filled_of
+module _ (file held : List ℕ) (count : ℕ) {held' : List ℕ} (a : Answered ℕ) (is : (outcome_of a, held') ≡ fill_on file held) where
+  pub fill_refuses : {why : Refusal} → a ≡ Err why → ((refusal_number why), count, held') ≡ fill_call file held count
+  unfolding fill_call number_in lent_after outcome_of
   fill_refuses {why} e =
-      let r : (refused why.0, held') ≡ fill_on file held = rw e at is in
+      let r : (refused (refusal_number why), held') ≡ fill_on file held = rw e at is in
       rw (← r)
 
-  pub fill_fills : {names : ℕ} → a ≡ fillings.Filled names → (0, names, held') ≡ fill_call file held count
-  unfolding fill_call number_in lent_after filled_of
+  pub fill_fills : {names : ℕ} → a ≡ Ok names → (0, names, held') ≡ fill_call file held count
+  unfolding fill_call number_in lent_after outcome_of
   fill_fills {names} e =
       let r : (done names, held') ≡ fill_on file held = rw e at is in
       rw (← r)
 
-module _ (held : List ℕ) (count name place : ℕ) {c n : ℕ} (counted : c ≡ count) (named : n ≡ name) (a : Holder) (by : holder_of a ≡ holder_in n c held) where
+module _ (held : List ℕ) (count name place : ℕ) {c n : ℕ} (counted : c ≡ count) (named : n ≡ name) (a : Answered (Option ℕ)) (by : holder_of a ≡ holder_in n c held) where
   is : holder_of a ≡ holder_in name count held
   is = rw (counted, named) at by
 
-  pub holder_refuses : {why : Refusal} → a ≡ holders.Refused why → (why.0, place) ≡ holder_call held count name place
+  pub holder_refuses : {why : Refusal} → a ≡ Err why → ((refusal_number why), place) ≡ holder_call held count name place
   unfolding holder_call number_in lent_after holder_of
   holder_refuses {why} e =
-      let r : refused why.0 ≡ holder_in name count held = rw e at is in
+      let r : refused (refusal_number why) ≡ holder_in name count held = rw e at is in
       rw (← r)
 
-  pub holder_found : {at' : ℕ} → a ≡ holders.At at' → (0, at') ≡ holder_call held count name place
+  pub holder_found : {at' : ℕ} → a ≡ OkSome at' → (0, at') ≡ holder_call held count name place
   unfolding holder_call number_in lent_after holder_of place_of
   holder_found {at'} e =
       let r : done (at at') ≡ holder_in name count held = rw e at is in
       rw (← r)
 
-  pub holder-nobody : a ≡ holders.Nobody → (0, 2 ^ 64 - 1) ≡ holder_call held count name place
+  pub holder-nobody : a ≡ Ok None → (0, 2 ^ 64 - 1) ≡ holder_call held count name place
   unfolding holder_call number_in lent_after holder_of place_of nobody_place
   holder-nobody e =
       let r : done nobody ≡ holder_in name count held = rw e at is in
@@ -336,37 +301,37 @@ pub screens-start : (state : List ℕ) {new : List ℕ} → new ≡ fresh → (0
 unfolding screens_call
 screens-start state e = rw e
 
-module _ (state : List ℕ) (i name file «record» : ℕ) {n : ℕ} (same : n ≡ name) {after : List ℕ} {a : Posted}
-    (is : (posted_of a, after) ≡ post_on state i (read_by n file «record»)) where
-  pub post_refuses : {why : Refusal} → a ≡ posts.Refused why → (why.0, after) ≡ post_call state i name file «record»
-  unfolding post_call number_in posted_of
+module _ (state : List ℕ) (i name file «record» : ℕ) {n : ℕ} (same : n ≡ name) {after : List ℕ} {a : Answered (Unit {0})}
+    (is : (outcome_of a, after) ≡ post_on state i (read_by n file «record»)) where
+  pub post_refuses : {why : Refusal} → a ≡ Err why → ((refusal_number why), after) ≡ post_call state i name file «record»
+  unfolding post_call number_in outcome_of
   post_refuses {why} e =
-      let r : (refused why.0, after) ≡ post_on state i (read_by name file «record») = rw (e, same) at is in
+      let r : (refused (refusal_number why), after) ≡ post_on state i (read_by name file «record») = rw (e, same) at is in
       rw (← r)
 
-  pub post_posts : a ≡ posts.Posted → (0, after) ≡ post_call state i name file «record»
-  unfolding post_call number_in posted_of
+  pub post_posts : a ≡ Ok tt → (0, after) ≡ post_call state i name file «record»
+  unfolding post_call number_in outcome_of
   post_posts e =
       let r : (done tt, after) ≡ post_on state i (read_by name file «record») = rw (e, same) at is in
       rw (← r)
 
-module _ (file state answer : List ℕ) (senders screen : ℕ) {state' answer' file' : List ℕ} {a : Turned}
+module _ (file state answer : List ℕ) (senders screen : ℕ) {state' answer' file' : List ℕ} {a : Answered (Option Served)}
     (is : (turned_of a, state', answer', file') ≡ turn_on state file answer) where
   pub turn-refuses :
-      {why : Refusal} → a ≡ turns.Refused why → (why.0, senders, screen, state', answer', file') ≡ turn_call file state answer senders screen
+      {why : Refusal} → a ≡ Err why → ((refusal_number why), senders, screen, state', answer', file') ≡ turn_call file state answer senders screen
   unfolding turn_call turn_screen turn_senders number_in turned_of
   turn-refuses {why} e =
-      let r : (refused why.0, state', answer', file') ≡ turn_on state file answer = rw e at is in
+      let r : (refused (refusal_number why), state', answer', file') ≡ turn_on state file answer = rw e at is in
       rw (← r)
 
-  pub turn_idles : a ≡ turns.Idle → (0, senders, 8, state', answer', file') ≡ turn_call file state answer senders screen
+  pub turn_idles : a ≡ Ok None → (0, senders, 8, state', answer', file') ≡ turn_call file state answer senders screen
   unfolding turn_call turn_screen turn_senders none_waited number_in turned_of
   turn_idles e =
       let r : (done idle, state', answer', file') ≡ turn_on state file answer = rw e at is in
       rw (← r)
 
   pub turn-serves :
-      {i mask : ℕ} → a ≡ turns.Served i mask → (0, mask, i, state', answer', file') ≡ turn_call file state answer senders screen
+      {i mask : ℕ} → a ≡ OkServed i mask → (0, mask, i, state', answer', file') ≡ turn_call file state answer senders screen
   unfolding turn_call turn_screen turn_senders number_in turned_of
   turn-serves {i} {mask} e =
       let r : (done (served i mask), state', answer', file') ≡ turn_on state file answer = rw e at is in
@@ -387,28 +352,28 @@ module _ {c : PatternClass} where
   unfolding class_number class_in
   broken-number e = rw e
 
-module _ (pattern kind : ℕ) {a : PatternAnswer} (is : read_of a ≡ pattern_on pattern) where
-  pub pattern_refuses : {why : Refusal} → a ≡ patterns.Refused why → (why.0, kind) ≡ pattern_call pattern kind
+module _ (pattern kind : ℕ) {a : Answered PatternClass} (is : read_of a ≡ pattern_on pattern) where
+  pub pattern_refuses : {why : Refusal} → a ≡ Err why → ((refusal_number why), kind) ≡ pattern_call pattern kind
   unfolding pattern_call number_in lent_after read_of
-  pattern_refuses {why} e = let r : refused why.0 ≡ pattern_on pattern = rw e at is in rw (← r)
+  pattern_refuses {why} e = let r : refused (refusal_number why) ≡ pattern_on pattern = rw e at is in rw (← r)
 
   pub pattern-reads :
-      {c : PatternClass} {n : ℕ} → a ≡ patterns.Read c → n ≡ class_number (class_in c) → (0, n) ≡ pattern_call pattern kind
+      {c : PatternClass} {n : ℕ} → a ≡ Ok c → n ≡ class_number (class_in c) → (0, n) ≡ pattern_call pattern kind
   unfolding pattern_call number_in lent_after read_of
   pattern-reads {c} e same = let r : done (class_in c) ≡ pattern_on pattern = rw e at is in rw (← r, same)
 
 -- ---- a slave's file
 
-module _ (file : List ℕ) (slave number : ℕ) (buffer : List ℕ) (length : ℕ) {buffer' : List ℕ} (a : ContentsAnswer)
-    (is : (size_of a, buffer') ≡ contents_on file slave number buffer) where
-  pub contents_refuses : {why : Refusal} → a ≡ contents.Refused why → (why.0, length, buffer') ≡ contents_call file slave number buffer length
-  unfolding contents_call number_in lent_after size_of
+module _ (file : List ℕ) (slave number : ℕ) (buffer : List ℕ) (length : ℕ) {buffer' : List ℕ} (a : Answered ℕ)
+    (is : (outcome_of a, buffer') ≡ contents_on file slave number buffer) where
+  pub contents_refuses : {why : Refusal} → a ≡ Err why → ((refusal_number why), length, buffer') ≡ contents_call file slave number buffer length
+  unfolding contents_call number_in lent_after outcome_of
   contents_refuses {why} e =
-      let r : (refused why.0, buffer') ≡ contents_on file slave number buffer = rw e at is in
+      let r : (refused (refusal_number why), buffer') ≡ contents_on file slave number buffer = rw e at is in
       rw (← r)
 
-  pub contents-reads : {size : ℕ} → a ≡ contents.Size size → (0, size, buffer') ≡ contents_call file slave number buffer length
-  unfolding contents_call number_in lent_after size_of
+  pub contents-reads : {size : ℕ} → a ≡ Ok size → (0, size, buffer') ≡ contents_call file slave number buffer length
+  unfolding contents_call number_in lent_after outcome_of
   contents-reads {size} e =
       let r : (done size, buffer') ≡ contents_on file slave number buffer = rw e at is in
       rw (← r)

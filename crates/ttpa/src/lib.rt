@@ -5,42 +5,39 @@
 ghost use Rattle.std.specs.Prelude.{◌≡◌, [], ◌∷◌};
 ghost use Rattle.ttpa.specs.Rules.Calls.{version_call, check_call, read_address_call, write_address_call, write_data_call, round_call, trace_call, owner_call, convert_call, words_of, position_in, start_call};
 ghost use Rattle.ttpa.specs.Rules.Calls.{step_call, fill_call, holder_call, round_keeping_call, step_keeping_call, screens_call, post_call, turn_call, join_call, class_number, pattern_call, contents_call};
-ghost use Rattle.ttpa.specs.Inner.Told.{round_told, step_told};
-ghost use Rattle.cluster.specs.Inner.RoundAnswers.{answer_of};
+ghost use Rattle.ttpa.specs.Inner.Told.{number_told, step_told};
 ghost use Rattle.convert.specs.Inner.ConversionAnswers.{edition_in};
 ghost use Rattle.naming.specs.Inner.StepAnswers.{position_of, stepped_of, run_after};
 ghost use Rattle.file.specs.Rules.Results.{number_in};
-ghost use Rattle.frame.specs.Inner.FrameAnswers.{writing_of};
+ghost use Rattle.file.specs.Inner.Refusals.{outcome_of};
 ghost use Rattle.line.specs.Inner.LineAnswers.{class_in};
 ghost use Rattle.trace.specs.Rules.TraceRun.{report_words};
 ghost use Rattle.trace.specs.Inner.TraceAnswers.{report_in};
 ghost use Rattle.trace.specs.Inner.Sent.{FewFrames};
 
-use cluster::answer::RoundAnswer;
 use cluster::round::round;
-use contents::read::{ContentsAnswer, read_contents};
-use convert::convert::{Conversion, convert};
+use contents::read::read_contents;
+use convert::convert::convert;
 use convert::editions::Edition;
-use file::survey::{FileAnswer, check};
-use file::types::{FileNumber, LogicalName, Operation, RecordNumber};
+use file::survey::check;
+use file::types::{FileNumber, LogicalName, Operation, RecordNumber, Refusal};
 use frame::reader::read_address;
-use frame::types::{AddressReading, FrameWriting};
 use frame::writer::{write_address, write_data};
-use join::join::{Joining, join};
-use line::pattern::{PatternAnswer, PatternClass, read_pattern};
+use join::join::join;
+use line::pattern::{PatternClass, read_pattern};
 use master_slave::types::RecordAddress;
 use naming::position::{RunCounts, RunHalves, RunPlace, RunPosition};
-use naming::run::{Started, Stepped, start, step};
-use owner::write::{OwnerAnswer, write_owner};
-use screens::post::{Posted, post};
+use naming::run::{MadeStep, start, step};
+use owner::write::write_owner;
+use screens::post::post;
 use screens::state::{ScreenState, fresh_state};
-use screens::turn::{Turned, turn};
-use summary::fill::{Filling, fill};
-use summary::holder::{Holder, find_holder};
+use screens::turn::turn;
+use summary::fill::fill;
+use summary::holder::find_holder;
 use summary::round::round_keeping;
 use summary::step::step_keeping;
 use trace::report::Report;
-use trace::run::{TraceAnswer, run_trace};
+use trace::run::run_trace;
 
 // The version, as one number: its three numbers stand in specs/Rules/Calls.
 const VERSION: u32 = 10100;
@@ -82,41 +79,57 @@ pub fn ttpa_version() -> u32
     VERSION
 }
 
-pub fn ttpa_check(file: &[u8]) -> u8
-    ensures { result ≡ check_call file.now }
+// The number that a call returns: 0 where it is done.
+fn number_in(done: Result<(), Refusal>) -> u8
+    ensures { result ≡ number_in (outcome_of done) }
 {
-    let answer = check(file);
-    match answer {
-        FileAnswer::Accepted => 0,
-        FileAnswer::Refused(why) => why.0,
+    match done {
+        Ok(()) => 0,
+        Err(why) => why.number(),
     }
 }
 
-pub fn ttpa_read_address(frame: &[u8], parts: &mut [u8; PARTS]) -> u8
-    ensures { (result, parts.new) ≡ read_address_call frame.now parts.old }
+// The same of a call that has a number of its own to tell, which is put into the lent word where it is done.
+fn number_telling(done: Result<u64, Refusal>, told: &mut u64) -> u8
+    ensures { (result, told.new) ≡ number_told (outcome_of done) told.old }
 {
-    let reading = read_address(frame);
-    match reading {
-        AddressReading::Refused(why) => why.0,
-        AddressReading::Address {
-            epoch,
-            name,
-            file,
-            operation,
-            record,
-        } => {
-            *parts = [epoch, name.0, file.0, operation.0, record.0];
+    match done {
+        Err(why) => why.number(),
+        Ok(number) => {
+            *told = number;
             0
         }
     }
 }
 
-fn writing_number(writing: FrameWriting) -> u8
-    ensures { result ≡ number_in (writing_of writing) }
+// How many bytes or names there are, as a word of the C interface.
+fn in_word(count: Result<usize, Refusal>) -> Result<u64, Refusal>
+    ensures { outcome_of result ≡ outcome_of count }
 {
-    match writing {
-        FrameWriting::Refused(why) => why.0,
-        FrameWriting::Written => 0,
+    Ok(count? as u64)
+}
+
+pub fn ttpa_check(file: &[u8]) -> u8
+    ensures { result ≡ check_call file.now }
+{
+    number_in(check(file))
+}
+
+pub fn ttpa_read_address(frame: &[u8], parts: &mut [u8; PARTS]) -> u8
+    ensures { (result, parts.new) ≡ read_address_call frame.now parts.old }
+{
+    match read_address(frame) {
+        Err(why) => why.number(),
+        Ok(read) => {
+            *parts = [
+                read.epoch,
+                read.name.0,
+                read.file.0,
+                read.operation.0,
+                read.record.0,
+            ];
+            0
+        }
     }
 }
 
@@ -130,42 +143,26 @@ pub fn ttpa_write_address(
 ) -> u8
     ensures { (result, frame.new) ≡ write_address_call frame.old epoch name file operation «record» }
 {
-    let written = write_address(
+    number_in(write_address(
         frame,
         epoch,
         LogicalName::new(name),
         FileNumber(file),
         Operation(operation),
         RecordNumber(record),
-    );
-    writing_number(written)
+    ))
 }
 
 pub fn ttpa_write_data(frame: &mut [u8], b0: u8, b1: u8, b2: u8, b3: u8) -> u8
     ensures { (result, frame.new) ≡ write_data_call frame.old (b0 ∷ b1 ∷ b2 ∷ b3 ∷ []) }
 {
-    let written = write_data(frame, b0, b1, b2, b3);
-    writing_number(written)
-}
-
-// A round's number; its senders are put into the lent word where it is carried out.
-fn round_number(done: RoundAnswer, senders: &mut u64) -> u8
-    ensures { (result, senders.new) ≡ round_told (answer_of done) senders.old }
-{
-    match done {
-        RoundAnswer::Refused(why) => why.0,
-        RoundAnswer::Carried(mask) => {
-            *senders = mask;
-            0
-        }
-    }
+    number_in(write_data(frame, b0, b1, b2, b3))
 }
 
 pub fn ttpa_round(file: &mut [u8], frame: &[u8], answer: &mut [u8], senders: &mut u64) -> u8
     ensures { (result, senders.new, answer.new, file.new) ≡ round_call file.old frame.now answer.old senders.old }
 {
-    let done = round(file, frame, answer);
-    round_number(done, senders)
+    number_telling(round(file, frame, answer), senders)
 }
 
 fn report_words(report: Report) -> [u64; REPORT_WORDS]
@@ -185,10 +182,9 @@ fn report_words(report: Report) -> [u64; REPORT_WORDS]
 pub fn ttpa_trace(file: &mut [u8], trace: &[u8], report: &mut [u64; REPORT_WORDS]) -> u8
     ensures { (result, report.new, file.new) ≡ trace_call file.old trace.now report.old }
 {
-    let done = run_trace(file, trace);
-    match done {
-        TraceAnswer::Refused(why) => why.0,
-        TraceAnswer::Ran(counts) => {
+    match run_trace(file, trace) {
+        Err(why) => why.number(),
+        Ok(counts) => {
             *report = report_words(counts);
             0
         }
@@ -198,28 +194,17 @@ pub fn ttpa_trace(file: &mut [u8], trace: &[u8], report: &mut [u64; REPORT_WORDS
 pub fn ttpa_owner(file: &[u8], master: u8, buffer: &mut [u8], length: &mut u64) -> u8
     ensures { (result, length.new, buffer.new) ≡ owner_call file.now master buffer.old length.old }
 {
-    let done = write_owner(file, LogicalName::new(master), buffer);
-    match done {
-        OwnerAnswer::Refused(why) => why.0,
-        OwnerAnswer::Written(written) => {
-            *length = written as u64;
-            0
-        }
-    }
+    number_telling(
+        in_word(write_owner(file, LogicalName::new(master), buffer)),
+        length,
+    )
 }
 
 // A file's form in an edition: the number, and the form's length in the lent word.
 fn to_edition(file: &[u8], edition: Edition, out: &mut [u8], length: &mut u64) -> u8
     ensures { (result, length.new, out.new) ≡ convert_call (edition_in edition) file.now out.old length.old }
 {
-    let done = convert(file, edition, out);
-    match done {
-        Conversion::Refused(why) => why.0,
-        Conversion::Written(size) => {
-            *length = size as u64;
-            0
-        }
-    }
+    number_telling(in_word(convert(file, edition, out)), length)
 }
 
 pub fn ttpa_to_edition_1(file: &[u8], out: &mut [u8], length: &mut u64) -> u8
@@ -238,14 +223,7 @@ pub fn ttpa_to_edition_2(file: &[u8], out: &mut [u8], length: &mut u64) -> u8
 pub fn ttpa_join(first: &[u8], second: &[u8], out: &mut [u8], length: &mut u64) -> u8
     ensures { (result, length.new, out.new) ≡ join_call first.now second.now out.old length.old }
 {
-    let done = join(first, second, out);
-    match done {
-        Joining::Refused(why) => why.0,
-        Joining::Written(bytes) => {
-            *length = bytes as u64;
-            0
-        }
-    }
+    number_telling(in_word(join(first, second, out)), length)
 }
 
 fn words_of(position: RunPosition) -> [u64; WORDS]
@@ -287,10 +265,9 @@ fn position_in(run: &[u64; WORDS]) -> RunPosition
 pub fn ttpa_start(names: &[u8], run: &mut [u64; WORDS]) -> u8
     ensures { (result, run.new) ≡ start_call names.now run.old }
 {
-    let started = start(names);
-    match started {
-        Started::Refused(why) => why.0,
-        Started::Fresh(fresh) => {
+    match start(names) {
+        Err(why) => why.number(),
+        Ok(fresh) => {
             *run = words_of(fresh);
             0
         }
@@ -298,18 +275,19 @@ pub fn ttpa_start(names: &[u8], run: &mut [u64; WORDS]) -> u8
 }
 
 // A step's number; its senders and its run are put into lent memory where it made a round.
-fn step_number(stepped: Stepped, senders: &mut u64, run: &mut [u64; WORDS]) -> u8
+fn step_number(
+    stepped: Result<Option<MadeStep>, Refusal>,
+    senders: &mut u64,
+    run: &mut [u64; WORDS],
+) -> u8
     ensures { (result, senders.new, run.new) ≡ step_told (stepped_of stepped) (run_after (position_in run.old) stepped) senders.old run.old }
 {
     match stepped {
-        Stepped::Refused(why) => why.0,
-        Stepped::Ended => 0,
-        Stepped::Made {
-            senders: mask,
-            run: position,
-        } => {
-            *senders = mask;
-            *run = words_of(position);
+        Err(why) => why.number(),
+        Ok(None) => 0,
+        Ok(Some(made)) => {
+            *senders = made.senders;
+            *run = words_of(made.run);
             0
         }
     }
@@ -332,27 +310,19 @@ pub fn ttpa_step(
 pub fn ttpa_fill(file: &[u8], held: &mut [u8], count: &mut u64) -> u8
     ensures { (result, count.new, held.new) ≡ fill_call file.now held.old count.old }
 {
-    let done = fill(file, held);
-    match done {
-        Filling::Refused(why) => why.0,
-        Filling::Filled(names) => {
-            *count = names as u64;
-            0
-        }
-    }
+    number_telling(in_word(fill(file, held)), count)
 }
 
 pub fn ttpa_holder(held: &[u8], count: u64, name: u8, place: &mut u64) -> u8
     ensures { (result, place.new) ≡ holder_call held.now count name place.old }
 {
-    let found = find_holder(held, count as usize, LogicalName::new(name));
-    match found {
-        Holder::Refused(why) => why.0,
-        Holder::At(at) => {
+    match find_holder(held, count as usize, LogicalName::new(name)) {
+        Err(why) => why.number(),
+        Ok(Some(at)) => {
             *place = at as u64;
             0
         }
-        Holder::Nobody => {
+        Ok(None) => {
             *place = NOBODY;
             0
         }
@@ -370,8 +340,10 @@ pub fn ttpa_round_keeping(
     ensures { (result, senders.new, answer.new, file.new, held.new)
         ≡ round_keeping_call file.old frame.now answer.old senders.old held.old count }
 {
-    let done = round_keeping(file, frame, answer, held, count as usize);
-    round_number(done, senders)
+    number_telling(
+        round_keeping(file, frame, answer, held, count as usize),
+        senders,
+    )
 }
 
 pub fn ttpa_step_keeping(
@@ -405,11 +377,7 @@ pub fn ttpa_post(state: &mut ScreenState, screen: u8, name: u8, file: u8, record
         number: FileNumber(file),
         record: RecordNumber(record),
     };
-    let posted = post(state, screen, read);
-    match posted {
-        Posted::Refused(why) => why.0,
-        Posted::Posted => 0,
-    }
+    number_in(post(state, screen, read))
 }
 
 pub fn ttpa_turn(
@@ -422,19 +390,15 @@ pub fn ttpa_turn(
     ensures { (result, senders.new, screen.new, state.new, answer.new, file.new)
         ≡ turn_call file.old state.old answer.old senders.old screen.old }
 {
-    let turned = turn(file, state, answer);
-    match turned {
-        Turned::Refused(why) => why.0,
-        Turned::Idle => {
+    match turn(file, state, answer) {
+        Err(why) => why.number(),
+        Ok(None) => {
             *screen = NO_SCREEN;
             0
         }
-        Turned::Served {
-            screen: served,
-            senders: mask,
-        } => {
-            *senders = mask;
-            *screen = served;
+        Ok(Some(served)) => {
+            *senders = served.senders;
+            *screen = served.screen;
             0
         }
     }
@@ -460,10 +424,9 @@ fn class_number(class: PatternClass) -> u8
 pub fn ttpa_pattern(pattern: u16, kind: &mut u8) -> u8
     ensures { (result, kind.new) ≡ pattern_call pattern kind.old }
 {
-    let read = read_pattern(pattern);
-    match read {
-        PatternAnswer::Refused(why) => why.0,
-        PatternAnswer::Read(class) => {
+    match read_pattern(pattern) {
+        Err(why) => why.number(),
+        Ok(class) => {
             *kind = class_number(class);
             0
         }
@@ -473,12 +436,13 @@ pub fn ttpa_pattern(pattern: u16, kind: &mut u8) -> u8
 pub fn ttpa_contents(file: &[u8], slave: u64, number: u8, buffer: &mut [u8], length: &mut u64) -> u8
     ensures { (result, length.new, buffer.new) ≡ contents_call file.now slave number buffer.old length.old }
 {
-    let read = read_contents(file, slave as usize, FileNumber(number), buffer);
-    match read {
-        ContentsAnswer::Refused(why) => why.0,
-        ContentsAnswer::Size(told) => {
-            *length = told as u64;
-            0
-        }
-    }
+    number_telling(
+        in_word(read_contents(
+            file,
+            slave as usize,
+            FileNumber(number),
+            buffer,
+        )),
+        length,
+    )
 }

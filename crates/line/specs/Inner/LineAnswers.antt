@@ -1,7 +1,7 @@
 -- The code's answers in the terms of the rules. No two are taken to the same.
+use Rattle.std.specs.Prelude.{Ok, Err}
 use Rattle.file.specs.Rules.Results.{Result, refused, done}
-use Rattle.line.specs.declared.pattern.PatternAnswer.{PatternAnswer}
-use Rattle.line.specs.declared.pattern.PatternAnswer.TheVariants as answers
+use Rattle.file.specs.Inner.Refusals.{Answered, refusal_number}
 use Rattle.line.specs.declared.pattern.PatternClass.{PatternClass}
 use Rattle.line.specs.declared.pattern.PatternClass.TheVariants as classes
 use Rattle.line.specs.Rules.Patterns.{PatternClass as Class, data_byte, firework, broken}
@@ -11,6 +11,6 @@ class_in classes.DataByte = data_byte
 class_in classes.Firework = firework
 class_in classes.Broken = broken
 
-unfoldable pub read_of : PatternAnswer → Result Class
-read_of (answers.Refused why) = refused why.0
-read_of (answers.Read c) = done (class_in c)
+unfoldable pub read_of : Answered PatternClass → Result Class
+read_of (Err why) = refused (refusal_number why)
+read_of (Ok c) = done (class_in c)

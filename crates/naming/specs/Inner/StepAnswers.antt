@@ -1,9 +1,10 @@
 -- The code's types in the terms of the rules. No two values of one type are taken to the same, but for a round's bytes that are not
 -- sent (`cluster/specs/Inner/Sending` sent_for); of a step's answers, which carry the run, `stepped_of` and `run_after` together tell any
 -- two apart.
-use Rattle.std.specs.Prelude.{ℕ, ◌+◌, ◌≤◌, ◌<◌, ◌≡◌, List, Bool, true, false, length}
+use Rattle.std.specs.Prelude.{ℕ, ◌+◌, ◌≤◌, ◌<◌, ◌≡◌, List, Bool, true, false, length, Ok, Err, Option, Some, None}
 use Rattle.file.specs.Rules.Order.{first_of}
 use Rattle.file.specs.Rules.Results.{Result, refused, done}
+use Rattle.file.specs.Inner.Refusals.{Answered, refusal_number}
 use Rattle.master_slave.specs.Rules.Bus.{slots}
 use Rattle.cluster.specs.Rules.MasterSlave.{Sent}
 use Rattle.cluster.specs.Inner.Sending.{sent_for}
@@ -16,10 +17,7 @@ use Rattle.naming.specs.Rules.Step.{StepDone, ended, made}
 use Rattle.naming.specs.declared.position.RunPosition.{RunPosition}
 use Rattle.naming.specs.declared.advance.Reply.{Reply}
 use Rattle.naming.specs.declared.advance.Reply.TheVariants as replies
-use Rattle.naming.specs.declared.run.Started.{Started}
-use Rattle.naming.specs.declared.run.Started.TheVariants as starts
-use Rattle.naming.specs.declared.run.Stepped.{Stepped}
-use Rattle.naming.specs.declared.run.Stepped.TheVariants as steps
+use Rattle.naming.specs.declared.run.MadeStep.{MadeStep}
 
 abbrev pub position_of : RunPosition → Position
 position_of r =
@@ -31,20 +29,20 @@ position_of r =
     }
 
 -- "If an answer is an enum, a definition gives this paper's number and values for each of its cases. The promises use this definition."
-unfoldable pub started_of : Started → Result Position
-started_of (starts.Refused why) = refused why.0
-started_of (starts.Fresh run) = done (position_of run)
+unfoldable pub started_of : Answered RunPosition → Result Position
+started_of (Err why) = refused (refusal_number why)
+started_of (Ok run) = done (position_of run)
 
 -- a step's answer, and the run after it: a refused step and that of an ended run leave it
-unfoldable pub stepped_of : Stepped → Result StepDone
-stepped_of (steps.Refused why) = refused why.0
-stepped_of steps.Ended = done ended
-stepped_of (steps.Made senders run) = done (made senders)
+unfoldable pub stepped_of : Answered (Option MadeStep) → Result StepDone
+stepped_of (Err why) = refused (refusal_number why)
+stepped_of (Ok None) = done ended
+stepped_of (Ok (Some step)) = done (made step.senders)
 
-unfoldable pub run_after : Position → Stepped → Position
-run_after p (steps.Refused why) = p
-run_after p steps.Ended = p
-run_after p (steps.Made senders run) = position_of run
+unfoldable pub run_after : Position → Answered (Option MadeStep) → Position
+run_after p (Err why) = p
+run_after p (Ok None) = p
+run_after p (Ok (Some step)) = position_of step.run
 
 unfoldable pub heard : Reply → Bool
 heard replies.Heard = true

@@ -1,27 +1,26 @@
 -- Words of the functions that make several steps.
-use Rattle.std.specs.Prelude.{ℕ, ◌≡◌, List, Bool, not, eqb}
+use Rattle.std.specs.Prelude.{ℕ, ◌≡◌, List, Bool, not, eqb, Ok, Err}
 use Rattle.file.specs.Rules.Order.{either}
 use Rattle.file.specs.Rules.Results.{Result, refused, done}
+use Rattle.file.specs.Inner.Refusals.{Answered, refusal_number}
 use Rattle.file.specs.Inner.Accepted.{Placed}
 use Rattle.naming.specs.Rules.Position.{Position, running}
 use Rattle.naming.specs.Rules.RunGrounds.{unfit_position}
 use Rattle.naming.specs.Rules.Steps.{Progress, begun, steps_from, StepsDone, steps}
 use Rattle.naming.specs.Inner.StepAnswers.{position_of}
 use Rattle.naming.specs.declared.steps.MadeSteps.{MadeSteps}
-use Rattle.naming.specs.declared.steps.StepsAnswer.{StepsAnswer}
-use Rattle.naming.specs.declared.steps.StepsAnswer.TheVariants as answers
 
 abbrev pub progress_of : MadeSteps → List ℕ → List ℕ → Progress
 progress_of m buffer file = record { made = m.steps; senders = m.senders; run = position_of m.run; buffer = buffer; file = file }
 
 -- their answer, and the run after them: refused, it is left
-unfoldable pub steps_of : StepsAnswer → Result StepsDone
-steps_of (answers.Refused why) = refused why.0
-steps_of (answers.Made m) = done (steps m.steps m.senders)
+unfoldable pub steps_of : Answered MadeSteps → Result StepsDone
+steps_of (Err why) = refused (refusal_number why)
+steps_of (Ok m) = done (steps m.steps m.senders)
 
-unfoldable pub run_then : Position → StepsAnswer → Position
-run_then p (answers.Refused why) = p
-run_then p (answers.Made m) = position_of m.run
+unfoldable pub run_then : Position → Answered MadeSteps → Position
+run_then p (Err why) = p
+run_then p (Ok m) = position_of m.run
 
 -- a position at a step of its pass
 abbrev pub stands_at_lem : ℕ → Position → Bool

@@ -1,23 +1,16 @@
 -- The code's answers in the terms of the rules. No two of one type are taken to the same.
+use Rattle.std.specs.Prelude.{ℕ, Ok, Err, Option, Some, None}
 use Rattle.file.specs.Rules.Results.{Result, refused, done}
-use Rattle.screens.specs.declared.state.DueScreen.{DueScreen}
-use Rattle.screens.specs.declared.state.DueScreen.TheVariants as dues
-use Rattle.screens.specs.declared.post.Posted.{Posted}
-use Rattle.screens.specs.declared.post.Posted.TheVariants as posts
-use Rattle.screens.specs.declared.turn.Turned.{Turned}
-use Rattle.screens.specs.declared.turn.Turned.TheVariants as turns
+use Rattle.file.specs.Inner.Refusals.{Answered, refusal_number}
+use Rattle.screens.specs.declared.turn.Served.{Served}
 use Rattle.screens.specs.Rules.Screens.{Due, nobody, screen}
 use Rattle.screens.specs.Rules.Turn.{Turn, idle, served}
 
-unfoldable pub due_of : DueScreen → Due
-due_of dues.Nobody = nobody
-due_of (dues.Screen i) = screen i
+unfoldable pub due_of : Option ℕ → Due
+due_of None = nobody
+due_of (Some i) = screen i
 
-unfoldable pub posted_of : Posted → Result (Unit {0})
-posted_of (posts.Refused why) = refused why.0
-posted_of posts.Posted = done tt
-
-unfoldable pub turned_of : Turned → Result Turn
-turned_of (turns.Refused why) = refused why.0
-turned_of turns.Idle = done idle
-turned_of (turns.Served i mask) = done (served i mask)
+unfoldable pub turned_of : Answered (Option Served) → Result Turn
+turned_of (Err why) = refused (refusal_number why)
+turned_of (Ok None) = done idle
+turned_of (Ok (Some s)) = done (served s.screen s.senders)

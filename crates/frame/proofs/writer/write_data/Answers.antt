@@ -1,14 +1,14 @@
 -- `frame::writer::write_data` meets its contract.
 -- Assumes nothing.
-use Rattle.frame.specs.Inner.FrameAnswers.{writing_of}
 use Rattle.frame.proofs.Tests.{short, long}
 use Rattle.frame.proofs.Writing.{data_9, data-written}
 use Rattle.frame.proofs.writer.write_data.Goals as goal
+use Rattle.file.specs.Inner.Refusals.{outcome_of}
 
 pub returns-then-buf-lt-FRAME_SIZE : goal.returns-then-buf-lt-FRAME_SIZE
-unfolding writing_of
+unfolding outcome_of
 returns-then-buf-lt-FRAME_SIZE c = search (data_9, short)
 
 pub returns : goal.returns
-unfolding writing_of
+unfolding outcome_of
 returns c = search (data-written, long)

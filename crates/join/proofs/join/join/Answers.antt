@@ -1,7 +1,7 @@
 -- `join::join::join` meets its contract: the first file's refusal, or the answer to an accepted one.
 -- Assumes nothing.
 use Rattle.file.proofs.Surveyed.{survey-placed}
-use Rattle.join.specs.Inner.JoinAnswers.{joining_of}
+use Rattle.file.specs.Inner.Refusals.{outcome_of}
 use Rattle.join.proofs.JoinLaws.{call-first}
 use Rattle.std.proofs.Common.{rules}
 use Rattle.join.proofs.join.join.Goals as goal
@@ -10,5 +10,5 @@ pub join_second-requires : goal.join_second-requires
 join_second-requires c = search (rules, survey-placed)
 
 pub returns-in-Refused : goal.returns-in-Refused
-unfolding joining_of
+unfolding outcome_of
 returns-in-Refused c = search (rules, call-first)

@@ -1,12 +1,12 @@
 -- `join::join::join_both` meets its contract: 29, or the answer to files that share no name.
 -- Assumes nothing.
-use Rattle.join.specs.Inner.JoinAnswers.{joining_of}
 use Rattle.join.proofs.JoinLaws.{call-shared, names_apart}
 use Rattle.std.proofs.Common.{rules}
 use Rattle.join.proofs.join.join_both.Goals as goal
+use Rattle.file.specs.Inner.Refusals.{outcome_of}
 
 pub returns-then-shares_name : goal.returns-then-shares_name
-unfolding joining_of
+unfolding outcome_of
 returns-then-shares_name c = search (rules, call-shared)
 
 pub join_apart-requires : goal.join_apart-requires

@@ -1,7 +1,7 @@
 -- `join::join::join_second` meets its contract: the second file's refusal, or the answer to two accepted files.
 -- Assumes nothing.
 use Rattle.file.proofs.Surveyed.{survey-placed}
-use Rattle.join.specs.Inner.JoinAnswers.{joining_of}
+use Rattle.file.specs.Inner.Refusals.{outcome_of}
 use Rattle.join.proofs.JoinLaws.{call-second}
 use Rattle.std.proofs.Common.{rules}
 use Rattle.join.proofs.join.join_second.Goals as goal
@@ -10,5 +10,5 @@ pub join_both-requires : goal.join_both-requires
 join_both-requires c = search (rules, survey-placed)
 
 pub returns-in-Refused : goal.returns-in-Refused
-unfolding joining_of
+unfolding outcome_of
 returns-in-Refused c = search (rules, call-second)

@@ -3,7 +3,7 @@
 use Rattle.std.proofs.Common.{arith}
 use Rattle.std.proofs.Common.{rules}
 use Rattle.file.proofs.SurveyLaws.{bytes-known}
-use Rattle.cluster.specs.Inner.RoundAnswers.{answer_of}
+use Rattle.file.specs.Inner.Refusals.{outcome_of}
 use Rattle.summary.proofs.RoundLaws.{frame-moved, frame_refused, frame-carried}
 use Rattle.summary.proofs.round.carry_keeping.Goals as goal
 
@@ -14,9 +14,9 @@ logical_names-requires c =
     (moved.placed, omega (arith, moved.count, c.requires.2))
 
 pub returns-in-Refused : goal.returns-in-Refused
-unfolding answer_of
+unfolding outcome_of
 returns-in-Refused c = search (rules, frame_refused)
 
 pub returns-in-Carried : goal.returns-in-Carried
-unfolding answer_of
+unfolding outcome_of
 returns-in-Carried c = search (rules, frame-carried)

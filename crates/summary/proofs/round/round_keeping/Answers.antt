@@ -2,7 +2,7 @@
 -- Assumes nothing.
 use Rattle.std.proofs.Common.{rules}
 use Rattle.file.proofs.Surveyed.{survey-placed}
-use Rattle.cluster.specs.Inner.RoundAnswers.{answer_of}
+use Rattle.file.specs.Inner.Refusals.{outcome_of}
 use Rattle.summary.proofs.RoundLaws.{keeping_refused, keeping_wrong, keeping_short, keeping_made, names-fit}
 use Rattle.summary.proofs.round.round_keeping.Goals as goal
 
@@ -11,12 +11,12 @@ is_wrong-requires c =
     survey-placed c.survey-surveyed.ensures c.in-Accepted.is
 
 pub returns-then-is_wrong : goal.returns-then-is_wrong
-unfolding answer_of
+unfolding outcome_of
 returns-then-is_wrong c =
     keeping_wrong _ _ _ _ _ c.survey-surveyed.ensures c.in-Accepted.is c.is_wrong.ensures c.if-is_wrong.true
 
 pub returns-then-buffer-lt-SLOTS : goal.returns-then-buffer-lt-SLOTS
-unfolding answer_of
+unfolding outcome_of
 returns-then-buffer-lt-SLOTS c =
     keeping_short _ _ _ _ _ c.survey-surveyed.ensures c.in-Accepted.is c.is_wrong.ensures c.if-is_wrong.false c.if-buffer-lt-SLOTS.true
 
@@ -25,7 +25,7 @@ carry_keeping-requires c =
     (survey-placed c.survey-surveyed.ensures c.in-Accepted.is, c.if-buffer-lt-SLOTS.false, names-fit _ _ _ c.is_wrong.ensures c.if-is_wrong.false)
 
 pub returns-in-Refused : goal.returns-in-Refused
-unfolding answer_of
+unfolding outcome_of
 returns-in-Refused c = search (rules, keeping_refused)
 
 pub returns-else-buffer-lt-SLOTS : goal.returns-else-buffer-lt-SLOTS

@@ -1,2 +1,0 @@
--- The code's answers in the terms of the rules.
-pub mod ContentsAnswers
