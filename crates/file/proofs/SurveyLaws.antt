@@ -1,7 +1,7 @@
 -- The checker's last steps: the physical names, and one law for each way to its answer.
 -- Assumes nothing.
 use Prim.Native.Nat.{ℕ, suc, ◌+◌, ◌*◌, ◌≤◌, ◌<◌}
-use mathlib.Core.Path.{◌≡◌, refl, sym, ◌∙◌, ap}
+use mathlib.Core.Path.{◌≡◌, refl, sym, ◌∙◌, ap, subst}
 use mathlib.Core.List.{List, [], ◌∷◌, map}
 use mathlib.Core.Bool.{Bool, true, false, not}
 use native.Mathlib.Omega.{arith}
@@ -17,7 +17,10 @@ use mir.Val.{Fits}
 use Rattle.file.specs.Inner.Numbers.{ByteAt}
 use Rattle.file.specs.Rules.Cluster.{physical_name}
 use Rattle.file.specs.Rules.Decode.{slaves_at, decode_at}
-use Rattle.file.specs.Rules.Results.{refused, done, result_of}
+use Rattle.file.specs.Rules.Results.{refused, done, result_of, number_in}
+use Rattle.file.specs.Inner.Refusals.{refusal_number, Answered, outcome_of}
+use Rattle.file.specs.declared.types.Refusal.{Refusal}
+use Rattle.std.specs.Prelude.{Ok, Err}
 use Rattle.file.specs.Rules.FileGrounds.{to, walk_slaves, table_end, walk_file, broken_layout, lacks_needed, equal_physical_names, is_among, has_repeat, file_ground_at, file_ground}
 use Rattle.file.specs.Rules.Encode.{slaves_place}
 use Rattle.file.specs.Inner.Places.{file_place_at, file_place, places_each}
@@ -28,6 +31,7 @@ use Rattle.file.specs.Inner.Surveyed.{Surveyed}
 use Rattle.file.proofs.Order.{by_case, clash}
 use Rattle.file.proofs.Facts.{true_unless, size_facts, header_facts}
 use Rattle.file.proofs.Results.{result_done, result_refused}
+use Rattle.file.proofs.RefusalLaws.{refusal_some}
 use Rattle.file.proofs.AcceptedFacts.{layout-whole}
 use Rattle.file.proofs.Arrivals.{broken_arrives, length-slaves_at}
 use Rattle.file.proofs.StatedSlaves.{needed-places, stated-names, stated-config, stated-document}
@@ -45,8 +49,9 @@ header-sizes w f h =
     let rest = header_facts w f h.rest in
     (size.low, size.high, rest.count)
 
-pub header_good : {w : ℕ} {f : List ℕ} {n : ℕ} → HeaderChecked w f n → n ≡ 0 → GoodHeader w f
-header_good h none = h.passed none
+pub header_good : {w : ℕ} {f : List ℕ} {a : Answered (Unit {0})} → HeaderChecked w f (number_in (outcome_of a)) → a ≡ Ok tt → GoodHeader w f
+unfolding number_in outcome_of
+header_good {w} {f} h e = (subst (λ (x : Answered (Unit {0})). HeaderChecked w f (number_in (outcome_of x))) e h).passed refl
 
 pub whole : {w : ℕ} {f places : List ℕ} {good : Bool} → BodyWalked w f good places → good ≡ true → WholeWalk w f places
 whole w e = w.whole e
@@ -219,17 +224,20 @@ module _ {f : List ℕ} {w : ℕ} (v : WidthOf f w) (places : List ℕ) where
         placed = λ a. let z : ◌≡◌ {A = ℕ} 0 1 = cc in absurd (omega arith);
       }
 
-  pub refused_by_header : {n : ℕ} → HeaderChecked w f n → (n ≡ 0 → ⊥) → Surveyed f (refused n) places
-  refused_by_header h some = survey_refuses (h.refused some) some
+  pub refused_by_header : {a : Answered (Unit {0})} {why : Refusal} → HeaderChecked w f (number_in (outcome_of a)) → a ≡ Err why → Surveyed f (refused (refusal_number why)) places
+  unfolding number_in outcome_of
+  refused_by_header {why = why} h e =
+      let checked : HeaderChecked w f (refusal_number why) = subst (λ (x : Answered (Unit {0})). HeaderChecked w f (number_in (outcome_of x))) e h in
+      survey_refuses (checked.refused (refusal_some why)) (refusal_some why)
 
   pub refused_by_layout : {good : Bool} {a : List ℕ} → GoodHeader w f → BodyWalked w f good a → good ≡ false → Surveyed f (refused 6) places
   unfolding first_of
   refused_by_layout h b bad = survey_refuses (rw (after-header w f h, b.broke bad)) (λ z. omega arith)
 
-  pub refused_by_slaves : {good : Bool} {n : ℕ} {a : List ℕ} → BodyWalked w f good a → good ≡ true → n ≡ slaves_ground w f → (n ≡ 0 → ⊥) → Surveyed f (refused n) places
+  refused_by_slaves : {good : Bool} {n : ℕ} {a : List ℕ} → BodyWalked w f good a → good ≡ true → n ≡ slaves_ground w f → (n ≡ 0 → ⊥) → Surveyed f (refused n) places
   refused_by_slaves b good is some = survey_refuses (is ∙ sym (after-layout (b.whole good))) some
 
-  pub survey_accepts : {good : Bool} {n : ℕ} → Bytes f → BodyWalked w f good places → good ≡ true → n ≡ slaves_ground w f → n ≡ 0 → Surveyed f (done tt) places
+  survey_accepts : {good : Bool} {n : ℕ} → Bytes f → BodyWalked w f good places → good ≡ true → n ≡ slaves_ground w f → n ≡ 0 → Surveyed f (done tt) places
   survey_accepts bytes body walked is none =
       let h = body.whole walked in
       let good : file_ground f ≡ 0 = ground_at v ∙ after-layout h ∙ (sym is ∙ none) in
@@ -240,6 +248,13 @@ module _ {f : List ℕ} {w : ℕ} (v : WidthOf f w) (places : List ℕ) where
           at = rw (decode-at v) (placed-there places v.width h (sym is ∙ none));
         };
       }
+
+  pub survey-answers :
+      {good : Bool} (a : Answered (Unit {0})) → Bytes f → BodyWalked w f good places → good ≡ true → number_in (outcome_of a) ≡ slaves_ground w f →
+      Surveyed f (outcome_of a) places
+  unfolding number_in outcome_of
+  survey-answers (Ok u) bytes body walked is = survey_accepts bytes body walked is refl
+  survey-answers (Err why) bytes body walked is = refused_by_slaves body walked is (refusal_some why)
 
 -- a list whose every element is a byte
 pub bytes-known : (f : List ℕ) → ((k : ℕ) → get_or f k 0 < 256) → Bytes f

@@ -44,50 +44,55 @@ use Rattle.ttpa.specs.Rules.Calls.{convert_call, words_of, position_in, start_ca
 use Rattle.ttpa.specs.Rules.Calls.{holder_call, slice_of, round_keeping_call, step_keeping_call, screens_call, post_call, none_waited, turn_screen, turn_senders}
 use Rattle.ttpa.specs.Rules.Calls.{turn_call, join_call}
 use Rattle.ttpa.specs.Rules.Calls.{class_number, pattern_call, contents_call}
-use Rattle.ttpa.specs.Inner.Told.{round_told, step_told}
+use Rattle.ttpa.specs.Inner.Told.{number_told, step_told}
 use Rattle.file.specs.Inner.Refusals.{Answered, refusal_number, outcome_of}
-use Rattle.std.specs.Prelude.{Ok, Err, Option, None}
+use Rattle.std.specs.Prelude.{Ok, Err, Option, Some, None}
+use Rattle.frame.specs.declared.types.AddressFrame.{AddressFrame}
+use Rattle.naming.specs.declared.run.MadeStep.{MadeStep}
+use Rattle.screens.specs.declared.turn.Served.{Served}
+
+-- ---- the number of an answer, and what a call has to tell
+
+pub number_done : {a : Answered (Unit {0})} → a ≡ Ok tt → 0 ≡ number_in (outcome_of a)
+unfolding number_in outcome_of
+number_done e = rw e
+
+pub number-refused : {A : Type 0} {a : Answered A} {why : Refusal} → a ≡ Err why → refusal_number why ≡ number_in (outcome_of a)
+unfolding number_in outcome_of
+number-refused e = rw e
+
+module _ (word : ℕ) {a : Answered ℕ} where
+  pub told_refused : {why : Refusal} → a ≡ Err why → (refusal_number why, word) ≡ number_told (outcome_of a) word
+  unfolding number_told number_in lent_after outcome_of
+  told_refused e = rw e
+
+  pub told_done : {n : ℕ} → a ≡ Ok n → (0, n) ≡ number_told (outcome_of a) word
+  unfolding number_told number_in lent_after outcome_of
+  told_done e = rw e
 
 -- ---- the checker
 
-pub check_accepts : (f : List ℕ) {a : Answered (Unit {0})} → outcome_of a ≡ load_verdict f → a ≡ Ok tt → 0 ≡ check_call f
-unfolding check_call outcome_of number_in
-check_accepts f is e =
-    let r : done tt ≡ load_verdict f = rw e at is in
-    rw (← r)
-
-pub check_refuses : (f : List ℕ) {a : Answered (Unit {0})} {why : Refusal} → outcome_of a ≡ load_verdict f → a ≡ Err why → refusal_number why ≡ check_call f
-unfolding check_call outcome_of number_in
-check_refuses f {why = why} is e =
-    let r : refused (refusal_number why) ≡ load_verdict f = rw e at is in
-    rw (← r)
+pub check-told : (f : List ℕ) {n : ℕ} {v : Result (Unit {0})} → v ≡ load_verdict f → n ≡ number_in v → n ≡ check_call f
+unfolding check_call
+check-told f is e = rw (← is, e)
 
 -- ---- the reader
 
-pub read_refuses : (f old : List ℕ) {a : Answered AddressFrame} {why : Refusal} → reading_of a ≡ read_address f → a ≡ Err why → ((refusal_number why), old) ≡ read_address_call f old
+pub read_refuses : (f old : List ℕ) {a : Answered AddressFrame} {why : Refusal} → reading_of a ≡ read_address f → a ≡ Err why → (refusal_number why, old) ≡ read_address_call f old
 unfolding read_address_call number_in lent_after part_bytes reading_of
 read_refuses f old {why = why} is e =
     let r : refused (refusal_number why) ≡ read_address f = rw e at is in
     rw (← r)
 
 pub read-parts :
-    (f old : List ℕ) {a : Answered AddressFrame} {epoch : ℕ} {name : LogicalName} {file : FileNumber} {operation : Operation} {record' : RecordNumber} →
-    reading_of a ≡ read_address f → a ≡ OkAddress epoch name file operation record' →
-    (0, epoch ∷ name.0 ∷ file.0 ∷ operation.0 ∷ record'.0 ∷ []) ≡ read_address_call f old
+    (f old : List ℕ) {a : Answered AddressFrame} {read : AddressFrame} → reading_of a ≡ read_address f → a ≡ Ok read →
+    (0, read.epoch ∷ read.name.0 ∷ read.file.0 ∷ read.operation.0 ∷ read.«record».0 ∷ []) ≡ read_address_call f old
 unfolding read_address_call number_in lent_after part_bytes reading_of
-read-parts f old {epoch = epoch} {name = name} {file = file} {operation = operation} {record' = record'} is e =
-    let r : done (parts epoch name.0 file.0 operation.0 record'.0) ≡ read_address f = rw e at is in
+read-parts f old {read = read} is e =
+    let r : done (parts read.epoch read.name.0 read.file.0 read.operation.0 read.«record».0) ≡ read_address f = rw e at is in
     rw (← r)
 
 -- ---- the writers
-
-pub write_refuses : {a : Answered (Unit {0})} {why : Refusal} → a ≡ Err why → refusal_number why ≡ number_in (outcome_of a)
-unfolding number_in outcome_of
-write_refuses e = rw e
-
-pub write_done : {a : Answered (Unit {0})} → a ≡ Ok tt → 0 ≡ number_in (outcome_of a)
-unfolding number_in outcome_of
-write_done e = rw e
 
 pub address-written :
     (old : List ℕ) {new : List ℕ} {n : ℕ} {w : Result (Unit {0})} (epoch name file operation record' : ℕ) {x : ℕ} → x ≡ name →
@@ -104,32 +109,23 @@ data-written old bytes is e = rw (← is, e)
 
 -- ---- a frame on a file
 
-module _ (senders : ℕ) {a : Answered ℕ} where
-  pub told-refused : {why : Refusal} → a ≡ Err why → ((refusal_number why), senders) ≡ round_told (outcome_of a) senders
-  unfolding round_told number_in lent_after outcome_of
-  told-refused e = rw e
-
-  pub told_carried : {mask : ℕ} → a ≡ Ok mask → (0, mask) ≡ round_told (outcome_of a) senders
-  unfolding round_told number_in lent_after outcome_of
-  told_carried e = rw e
-
-module _ (file frame answer : List ℕ) (senders : ℕ) {r : Answer} {n senders' : ℕ} (told : (n, senders') ≡ round_told r senders) {answer' file' : List ℕ} where
+module _ (file frame answer : List ℕ) (senders : ℕ) {r : Answer} {n senders' : ℕ} (told : (n, senders') ≡ number_told r senders) {answer' file' : List ℕ} where
   pub round-told : (r, answer', file') ≡ round_on file frame answer → (n, senders', answer', file') ≡ round_call file frame answer senders
-  unfolding round_call round_told
+  unfolding round_call number_told
   round-told is = rw (← is, ap (λ (t : ℕ × ℕ). t.0) told, ap (λ (t : ℕ × ℕ). t.1) told)
 
   pub round-keeping-told :
       (held : List ℕ) (count : ℕ) {held' : List ℕ} {c : ℕ} → c ≡ count →
       (r, answer', file', kept c held') ≡ round_keeping file (kept c held) frame answer →
       (n, senders', answer', file', held') ≡ round_keeping_call file frame answer senders held count
-  unfolding round_keeping_call round_told
+  unfolding round_keeping_call number_told
   round-keeping-told held count same is =
       rw (← same, ← is, ap (λ (t : ℕ × ℕ). t.0) told, ap (λ (t : ℕ × ℕ). t.1) told) (unfold slice_of in refl)
 
 -- ---- a trace on a file
 
 module _ (file t report : List ℕ) {file' : List ℕ} (a : Answered Report) (is : (traced_of a, file') ≡ trace_on file t) where
-  pub trace_refuses : {why : Refusal} → a ≡ Err why → ((refusal_number why), report, file') ≡ trace_call file t report
+  pub trace_refuses : {why : Refusal} → a ≡ Err why → (refusal_number why, report, file') ≡ trace_call file t report
   unfolding trace_call number_in lent_after traced_of
   trace_refuses {why} e =
       let r : (refused (refusal_number why), file') ≡ trace_on file t = rw e at is in
@@ -148,36 +144,36 @@ module _ (file t report : List ℕ) {file' : List ℕ} (a : Answered Report) (is
       let ran : (done (report_in r), file') ≡ trace_on file t = rw e at is in
       ran-few file t (report_in r) (rw (← ran))
 
--- ---- the owner file
+-- ---- a file that is written, with its length: the owner file, a file in an edition, two files joined, a slave's file
 
-module _ (file : List ℕ) (master : ℕ) (buffer : List ℕ) (length : ℕ) {name : ℕ} (same : name ≡ master) {buffer' : List ℕ} (a : Answered ℕ)
-    (is : (outcome_of a, buffer') ≡ owner_on file name buffer) where
-  pub owner_refuses : {why : Refusal} → a ≡ Err why → ((refusal_number why), length, buffer') ≡ owner_call file master buffer length
-  unfolding owner_call number_in lent_after outcome_of
-  owner_refuses {why} e =
-      let r : (refused (refusal_number why), buffer') ≡ owner_on file master buffer = rw (e, same) at is in
-      rw (← r)
+module _ {r : Result ℕ} {n length length' : ℕ} (told : (n, length') ≡ number_told r length) {out out' : List ℕ} where
+  number_is : n ≡ number_in r
+  unfolding number_told
+  number_is = ap (λ (t : ℕ × ℕ). t.0) told
 
-  pub owner-writes : {written : ℕ} → a ≡ Ok written → (0, written, buffer') ≡ owner_call file master buffer length
-  unfolding owner_call number_in lent_after outcome_of
-  owner-writes {written} e =
-      let r : (done written, buffer') ≡ owner_on file master buffer = rw (e, same) at is in
-      rw (← r)
+  length-is : length' ≡ lent_after r length (λ (k : ℕ). k)
+  unfolding number_told
+  length-is = ap (λ (t : ℕ × ℕ). t.1) told
 
--- ---- a file in an edition
+  pub owner-told : (file : List ℕ) (master : ℕ) {name : ℕ} → name ≡ master → (r, out') ≡ owner_on file name out → (n, length', out') ≡ owner_call file master out length
+  unfolding owner_call
+  owner-told file master same is = rw (← same, ← is, number_is, length-is)
 
-module _ (edition : ℕ) (file out : List ℕ) (length : ℕ) {out' : List ℕ} (a : Answered ℕ) (is : (outcome_of a, out') ≡ convert_on file edition out) where
-  pub convert_refuses : {why : Refusal} → a ≡ Err why → ((refusal_number why), length, out') ≡ convert_call edition file out length
-  unfolding convert_call number_in lent_after outcome_of
-  convert_refuses {why} e =
-      let r : (refused (refusal_number why), out') ≡ convert_on file edition out = rw e at is in
-      rw (← r)
+  pub convert-told : (edition : ℕ) (file : List ℕ) → (r, out') ≡ convert_on file edition out → (n, length', out') ≡ convert_call edition file out length
+  unfolding convert_call
+  convert-told edition file is = rw (← is, number_is, length-is)
 
-  pub convert-writes : {written : ℕ} → a ≡ Ok written → (0, written, out') ≡ convert_call edition file out length
-  unfolding convert_call number_in lent_after outcome_of
-  convert-writes {written} e =
-      let r : (done written, out') ≡ convert_on file edition out = rw e at is in
-      rw (← r)
+  pub join-told : (first second : List ℕ) → (r, out') ≡ join_on first second out → (n, length', out') ≡ join_call first second out length
+  unfolding join_call
+  join-told first second is = rw (← is, number_is, length-is)
+
+  pub contents-told : (file : List ℕ) (slave number : ℕ) → (r, out') ≡ contents_on file slave number out → (n, length', out') ≡ contents_call file slave number out length
+  unfolding contents_call
+  contents-told file slave number is = rw (← is, number_is, length-is)
+
+  pub fill-told : (file : List ℕ) → (r, out') ≡ fill_on file out → (n, length', out') ≡ fill_call file out length
+  unfolding fill_call
+  fill-told file is = rw (← is, number_is, length-is)
 
 -- the editions of the two calls
 module _ (file out : List ℕ) (length : ℕ) {x : ℕ × ℕ × List ℕ} where
@@ -189,25 +185,10 @@ module _ (file out : List ℕ) (length : ℕ) {x : ℕ × ℕ × List ℕ} where
   unfolding edition_in
   edition-two is = is
 
--- ---- two files joined
-
-module _ (first second out : List ℕ) (length : ℕ) {out' : List ℕ} (a : Answered ℕ) (is : (outcome_of a, out') ≡ join_on first second out) where
-  pub join_refuses : {why : Refusal} → a ≡ Err why → ((refusal_number why), length, out') ≡ join_call first second out length
-  unfolding join_call number_in lent_after outcome_of
-  join_refuses {why} e =
-      let r : (refused (refusal_number why), out') ≡ join_on first second out = rw e at is in
-      rw (← r)
-
-  pub join-writes : {written : ℕ} → a ≡ Ok written → (0, written, out') ≡ join_call first second out length
-  unfolding join_call number_in lent_after outcome_of
-  join-writes {written} e =
-      let r : (done written, out') ≡ join_on first second out = rw e at is in
-      rw (← r)
-
 -- ---- a fresh run
 
 module _ (names run : List ℕ) (a : Answered RunPosition) (is : started_of a ≡ start_over names) where
-  pub start_refuses : {why : Refusal} → a ≡ Err why → ((refusal_number why), run) ≡ start_call names run
+  pub start_refuses : {why : Refusal} → a ≡ Err why → (refusal_number why, run) ≡ start_call names run
   unfolding start_call number_in lent_after started_of
   start_refuses {why} e =
       let r : refused (refusal_number why) ≡ start_over names = rw e at is in
@@ -222,7 +203,7 @@ module _ (names run : List ℕ) (a : Answered RunPosition) (is : started_of a �
 -- ---- a naming step
 
 module _ (p : Position) (senders : ℕ) (run : List ℕ) {a : Answered (Option MadeStep)} where
-  pub told-turned : {why : Refusal} → a ≡ Err why → ((refusal_number why), senders, run) ≡ step_told (stepped_of a) (run_after p a) senders run
+  pub told-turned : {why : Refusal} → a ≡ Err why → (refusal_number why, senders, run) ≡ step_told (stepped_of a) (run_after p a) senders run
   unfolding step_told number_in step_senders step_words_lem stepped_of run_after
   told-turned e = rw e
 
@@ -230,7 +211,7 @@ module _ (p : Position) (senders : ℕ) (run : List ℕ) {a : Answered (Option M
   unfolding step_told number_in step_senders step_words_lem stepped_of run_after
   told-ended e = rw e
 
-  pub told-made : {mask : ℕ} {q : RunPosition} {words : List ℕ} → a ≡ OkMade mask q → words ≡ words_of (position_of q) → (0, mask, words) ≡ step_told (stepped_of a) (run_after p a) senders run
+  pub told-made : {made : MadeStep} {words : List ℕ} → a ≡ Ok (Some made) → words ≡ words_of (position_of made.run) → (0, made.senders, words) ≡ step_told (stepped_of a) (run_after p a) senders run
   unfolding step_told number_in step_senders step_words_lem stepped_of run_after
   told-made e same = rw (e, same)
 
@@ -258,32 +239,19 @@ module _
       let is : (stepped_of a, run_after (position_in run) a, answer', file', kept c held') ≡ step_keeping file (position_in run) names (kept c held) answer = rw from at by in
       rw (← same, ← is, ap (λ (t : Told). t.0) told, ap (λ (t : Told). t.1) told, ap (λ (t : Told). t.2) told) (unfold slice_of in refl)
 
--- ---- the summary filled, and asked
-
-module _ (file held : List ℕ) (count : ℕ) {held' : List ℕ} (a : Answered ℕ) (is : (outcome_of a, held') ≡ fill_on file held) where
-  pub fill_refuses : {why : Refusal} → a ≡ Err why → ((refusal_number why), count, held') ≡ fill_call file held count
-  unfolding fill_call number_in lent_after outcome_of
-  fill_refuses {why} e =
-      let r : (refused (refusal_number why), held') ≡ fill_on file held = rw e at is in
-      rw (← r)
-
-  pub fill_fills : {names : ℕ} → a ≡ Ok names → (0, names, held') ≡ fill_call file held count
-  unfolding fill_call number_in lent_after outcome_of
-  fill_fills {names} e =
-      let r : (done names, held') ≡ fill_on file held = rw e at is in
-      rw (← r)
+-- ---- the summary asked
 
 module _ (held : List ℕ) (count name place : ℕ) {c n : ℕ} (counted : c ≡ count) (named : n ≡ name) (a : Answered (Option ℕ)) (by : holder_of a ≡ holder_in n c held) where
   is : holder_of a ≡ holder_in name count held
   is = rw (counted, named) at by
 
-  pub holder_refuses : {why : Refusal} → a ≡ Err why → ((refusal_number why), place) ≡ holder_call held count name place
+  pub holder_refuses : {why : Refusal} → a ≡ Err why → (refusal_number why, place) ≡ holder_call held count name place
   unfolding holder_call number_in lent_after holder_of
   holder_refuses {why} e =
       let r : refused (refusal_number why) ≡ holder_in name count held = rw e at is in
       rw (← r)
 
-  pub holder_found : {at' : ℕ} → a ≡ OkSome at' → (0, at') ≡ holder_call held count name place
+  pub holder_found : {at' : ℕ} → a ≡ Ok (Some at') → (0, at') ≡ holder_call held count name place
   unfolding holder_call number_in lent_after holder_of place_of
   holder_found {at'} e =
       let r : done (at at') ≡ holder_in name count held = rw e at is in
@@ -301,24 +269,16 @@ pub screens-start : (state : List ℕ) {new : List ℕ} → new ≡ fresh → (0
 unfolding screens_call
 screens-start state e = rw e
 
-module _ (state : List ℕ) (i name file «record» : ℕ) {n : ℕ} (same : n ≡ name) {after : List ℕ} {a : Answered (Unit {0})}
-    (is : (outcome_of a, after) ≡ post_on state i (read_by n file «record»)) where
-  pub post_refuses : {why : Refusal} → a ≡ Err why → ((refusal_number why), after) ≡ post_call state i name file «record»
-  unfolding post_call number_in outcome_of
-  post_refuses {why} e =
-      let r : (refused (refusal_number why), after) ≡ post_on state i (read_by name file «record») = rw (e, same) at is in
-      rw (← r)
-
-  pub post_posts : a ≡ Ok tt → (0, after) ≡ post_call state i name file «record»
-  unfolding post_call number_in outcome_of
-  post_posts e =
-      let r : (done tt, after) ≡ post_on state i (read_by name file «record») = rw (e, same) at is in
-      rw (← r)
+module _ (state : List ℕ) (i name file «record» : ℕ) {n : ℕ} (same : n ≡ name) {after : List ℕ} {r : Result (Unit {0})}
+    (is : (r, after) ≡ post_on state i (read_by n file «record»)) where
+  pub post-told : {m : ℕ} → m ≡ number_in r → (m, after) ≡ post_call state i name file «record»
+  unfolding post_call
+  post-told e = rw (← same, ← is, e)
 
 module _ (file state answer : List ℕ) (senders screen : ℕ) {state' answer' file' : List ℕ} {a : Answered (Option Served)}
     (is : (turned_of a, state', answer', file') ≡ turn_on state file answer) where
   pub turn-refuses :
-      {why : Refusal} → a ≡ Err why → ((refusal_number why), senders, screen, state', answer', file') ≡ turn_call file state answer senders screen
+      {why : Refusal} → a ≡ Err why → (refusal_number why, senders, screen, state', answer', file') ≡ turn_call file state answer senders screen
   unfolding turn_call turn_screen turn_senders number_in turned_of
   turn-refuses {why} e =
       let r : (refused (refusal_number why), state', answer', file') ≡ turn_on state file answer = rw e at is in
@@ -331,10 +291,10 @@ module _ (file state answer : List ℕ) (senders screen : ℕ) {state' answer' f
       rw (← r)
 
   pub turn-serves :
-      {i mask : ℕ} → a ≡ OkServed i mask → (0, mask, i, state', answer', file') ≡ turn_call file state answer senders screen
+      {s : Served} → a ≡ Ok (Some s) → (0, s.senders, s.screen, state', answer', file') ≡ turn_call file state answer senders screen
   unfolding turn_call turn_screen turn_senders number_in turned_of
-  turn-serves {i} {mask} e =
-      let r : (done (served i mask), state', answer', file') ≡ turn_on state file answer = rw e at is in
+  turn-serves {s} e =
+      let r : (done (served s.screen s.senders), state', answer', file') ≡ turn_on state file answer = rw e at is in
       rw (← r)
 
 -- ---- a pattern of the line
@@ -353,7 +313,7 @@ module _ {c : PatternClass} where
   broken-number e = rw e
 
 module _ (pattern kind : ℕ) {a : Answered PatternClass} (is : read_of a ≡ pattern_on pattern) where
-  pub pattern_refuses : {why : Refusal} → a ≡ Err why → ((refusal_number why), kind) ≡ pattern_call pattern kind
+  pub pattern_refuses : {why : Refusal} → a ≡ Err why → (refusal_number why, kind) ≡ pattern_call pattern kind
   unfolding pattern_call number_in lent_after read_of
   pattern_refuses {why} e = let r : refused (refusal_number why) ≡ pattern_on pattern = rw e at is in rw (← r)
 
@@ -361,19 +321,3 @@ module _ (pattern kind : ℕ) {a : Answered PatternClass} (is : read_of a ≡ pa
       {c : PatternClass} {n : ℕ} → a ≡ Ok c → n ≡ class_number (class_in c) → (0, n) ≡ pattern_call pattern kind
   unfolding pattern_call number_in lent_after read_of
   pattern-reads {c} e same = let r : done (class_in c) ≡ pattern_on pattern = rw e at is in rw (← r, same)
-
--- ---- a slave's file
-
-module _ (file : List ℕ) (slave number : ℕ) (buffer : List ℕ) (length : ℕ) {buffer' : List ℕ} (a : Answered ℕ)
-    (is : (outcome_of a, buffer') ≡ contents_on file slave number buffer) where
-  pub contents_refuses : {why : Refusal} → a ≡ Err why → ((refusal_number why), length, buffer') ≡ contents_call file slave number buffer length
-  unfolding contents_call number_in lent_after outcome_of
-  contents_refuses {why} e =
-      let r : (refused (refusal_number why), buffer') ≡ contents_on file slave number buffer = rw e at is in
-      rw (← r)
-
-  pub contents-reads : {size : ℕ} → a ≡ Ok size → (0, size, buffer') ≡ contents_call file slave number buffer length
-  unfolding contents_call number_in lent_after outcome_of
-  contents-reads {size} e =
-      let r : (done size, buffer') ≡ contents_on file slave number buffer = rw e at is in
-      rw (← r)

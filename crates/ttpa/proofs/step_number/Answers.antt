@@ -4,11 +4,11 @@ use Rattle.std.proofs.Common.{rules}
 use Rattle.ttpa.proofs.CallLaws.{told-turned, told-ended, told-made}
 use Rattle.ttpa.proofs.step_number.Goals as goal
 
-pub returns-in-Refused : goal.returns-in-Refused
-returns-in-Refused c = search (rules, told-turned)
+pub returns-in-Err : goal.returns-in-Err
+returns-in-Err c = search (rules, told-turned)
 
-pub returns-in-Ended : goal.returns-in-Ended
-returns-in-Ended c = search (rules, told-ended)
+pub returns-in-Ok-None : goal.returns-in-Ok-None
+returns-in-Ok-None c = search (rules, told-ended)
 
-pub returns-in-Made : goal.returns-in-Made
-returns-in-Made c = search (rules, told-made)
+pub returns-in-Ok-Some : goal.returns-in-Ok-Some
+returns-in-Ok-Some c = search (rules, told-made)

@@ -1,11 +1,8 @@
--- `ttpa::ttpa_owner` meets its contract: a law for each way.
+-- `ttpa::ttpa_owner` meets its contract: the answer of the layer below and what is told of it.
 -- Assumes nothing.
-use Rattle.ttpa.proofs.CallLaws.{owner_refuses, owner-writes}
 use Rattle.std.proofs.Common.{rules}
+use Rattle.ttpa.proofs.CallLaws.{owner-told}
 use Rattle.ttpa.proofs.ttpa_owner.Goals as goal
 
-pub returns-in-Refused : goal.returns-in-Refused
-returns-in-Refused c = search (rules, owner_refuses)
-
-pub returns-in-Written : goal.returns-in-Written
-returns-in-Written c = search (rules, owner-writes)
+pub returns : goal.returns
+returns c = search (rules, owner-told)

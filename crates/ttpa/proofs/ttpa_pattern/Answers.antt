@@ -4,8 +4,8 @@ use Rattle.std.proofs.Common.{rules}
 use Rattle.ttpa.proofs.CallLaws.{pattern_refuses, pattern-reads}
 use Rattle.ttpa.proofs.ttpa_pattern.Goals as goal
 
-pub returns-in-Refused : goal.returns-in-Refused
-returns-in-Refused c = search (rules, pattern_refuses)
+pub returns-in-Err : goal.returns-in-Err
+returns-in-Err c = search (rules, pattern_refuses)
 
-pub returns-in-Read : goal.returns-in-Read
-returns-in-Read c = search (rules, pattern-reads)
+pub returns-in-Ok : goal.returns-in-Ok
+returns-in-Ok c = search (rules, pattern-reads)

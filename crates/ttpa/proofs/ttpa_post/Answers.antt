@@ -1,11 +1,8 @@
--- `ttpa::ttpa_post` meets its contract: a law for each way.
+-- `ttpa::ttpa_post` meets its contract: the answer of the layer below and what is told of it.
 -- Assumes nothing.
 use Rattle.std.proofs.Common.{rules}
-use Rattle.ttpa.proofs.CallLaws.{post_refuses, post_posts}
+use Rattle.ttpa.proofs.CallLaws.{post-told}
 use Rattle.ttpa.proofs.ttpa_post.Goals as goal
 
-pub returns-in-Refused : goal.returns-in-Refused
-returns-in-Refused c = search (rules, post_refuses)
-
-pub returns-in-Posted : goal.returns-in-Posted
-returns-in-Posted c = search (rules, post_posts)
+pub returns : goal.returns
+returns c = search (rules, post-told)

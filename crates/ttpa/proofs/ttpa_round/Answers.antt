@@ -1,4 +1,4 @@
--- `ttpa::ttpa_round` meets its contract: the round and what is told of it.
+-- `ttpa::ttpa_round` meets its contract: the answer of the layer below and what is told of it.
 -- Assumes nothing.
 use Rattle.std.proofs.Common.{rules}
 use Rattle.ttpa.proofs.CallLaws.{round-told}

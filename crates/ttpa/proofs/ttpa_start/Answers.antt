@@ -4,8 +4,8 @@ use Rattle.ttpa.proofs.CallLaws.{start_refuses, start-begins}
 use Rattle.std.proofs.Common.{rules}
 use Rattle.ttpa.proofs.ttpa_start.Goals as goal
 
-pub returns-in-Refused : goal.returns-in-Refused
-returns-in-Refused c = search (rules, start_refuses)
+pub returns-in-Err : goal.returns-in-Err
+returns-in-Err c = search (rules, start_refuses)
 
-pub returns-in-Fresh : goal.returns-in-Fresh
-returns-in-Fresh c = search (rules, start-begins)
+pub returns-in-Ok : goal.returns-in-Ok
+returns-in-Ok c = search (rules, start-begins)

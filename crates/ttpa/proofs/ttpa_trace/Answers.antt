@@ -7,8 +7,8 @@ use Rattle.ttpa.proofs.ttpa_trace.Goals as goal
 pub report_words-requires : goal.report_words-requires
 report_words-requires c = search (rules, trace-few)
 
-pub returns-in-Refused : goal.returns-in-Refused
-returns-in-Refused c = search (rules, trace_refuses)
+pub returns-in-Err : goal.returns-in-Err
+returns-in-Err c = search (rules, trace_refuses)
 
-pub returns-in-Ran : goal.returns-in-Ran
-returns-in-Ran c = search (rules, trace-runs)
+pub returns-in-Ok : goal.returns-in-Ok
+returns-in-Ok c = search (rules, trace-runs)

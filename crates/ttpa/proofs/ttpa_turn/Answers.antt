@@ -4,11 +4,11 @@ use Rattle.std.proofs.Common.{rules}
 use Rattle.ttpa.proofs.CallLaws.{turn-refuses, turn_idles, turn-serves}
 use Rattle.ttpa.proofs.ttpa_turn.Goals as goal
 
-pub returns-in-Refused : goal.returns-in-Refused
-returns-in-Refused c = search (rules, turn-refuses)
+pub returns-in-Err : goal.returns-in-Err
+returns-in-Err c = search (rules, turn-refuses)
 
-pub returns-in-Idle : goal.returns-in-Idle
-returns-in-Idle c = search (rules, turn_idles)
+pub returns-in-Ok-None : goal.returns-in-Ok-None
+returns-in-Ok-None c = search (rules, turn_idles)
 
-pub returns-in-Served : goal.returns-in-Served
-returns-in-Served c = search (rules, turn-serves)
+pub returns-in-Ok-Some : goal.returns-in-Ok-Some
+returns-in-Ok-Some c = search (rules, turn-serves)

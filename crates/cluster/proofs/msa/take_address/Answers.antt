@@ -3,12 +3,12 @@
 use Rattle.cluster.proofs.FrameLaws.{address_alone, address-heard}
 use Rattle.std.proofs.Common.{rules}
 use Rattle.cluster.proofs.msa.take_address.Goals as goal
-use Rattle.file.specs.Inner.Refusals.{outcome_of}
+use Rattle.file.specs.Inner.Refusals.{refusal_number, outcome_of}
 
-pub returns-in-Refused : goal.returns-in-Refused
-unfolding outcome_of
-returns-in-Refused c = search (rules, address_alone)
+pub returns-in_err-mask : goal.returns-in_err-mask
+unfolding outcome_of refusal_number
+returns-in_err-mask c = search (rules, address_alone)
 
-pub returns-in-Carried : goal.returns-in-Carried
-unfolding outcome_of
-returns-in-Carried c = search (rules, address-heard)
+pub returns : goal.returns
+unfolding outcome_of refusal_number
+returns c = search (rules, address-heard)

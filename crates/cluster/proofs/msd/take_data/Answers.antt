@@ -3,12 +3,12 @@
 use Rattle.cluster.proofs.FrameLaws.{data-refused, data-taken}
 use Rattle.std.proofs.Common.{rules}
 use Rattle.cluster.proofs.msd.take_data.Goals as goal
-use Rattle.file.specs.Inner.Refusals.{outcome_of}
+use Rattle.file.specs.Inner.Refusals.{refusal_number, outcome_of}
 
-pub returns-in-Refused : goal.returns-in-Refused
-unfolding outcome_of
-returns-in-Refused c = search (rules, data-refused)
+pub returns-in_err-bytes : goal.returns-in_err-bytes
+unfolding outcome_of refusal_number
+returns-in_err-bytes c = search (rules, data-refused)
 
-pub returns-in-Data : goal.returns-in-Data
-unfolding outcome_of
-returns-in-Data c = search (rules, data-taken)
+pub returns : goal.returns
+unfolding outcome_of refusal_number
+returns c = search (rules, data-taken)

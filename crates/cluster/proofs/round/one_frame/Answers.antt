@@ -3,7 +3,7 @@
 use Rattle.cluster.proofs.FrameCall.{frame-none, frame-address, frame-data, round-low, frame-long, frame-carried}
 use Rattle.std.proofs.Common.{rules}
 use Rattle.cluster.proofs.round.one_frame.Goals as goal
-use Rattle.file.specs.Inner.Refusals.{outcome_of}
+use Rattle.file.specs.Inner.Refusals.{refusal_number, outcome_of}
 
 pub take_address-requires : goal.take_address-requires
 take_address-requires c = search (rules, frame-address)
@@ -12,16 +12,16 @@ pub take_data-requires : goal.take_data-requires
 take_data-requires c = search (rules, frame-data)
 
 pub returns-then-frame-ne-FIREWORK_SIZE : goal.returns-then-frame-ne-FIREWORK_SIZE
-unfolding outcome_of
+unfolding outcome_of refusal_number
 returns-then-frame-ne-FIREWORK_SIZE c = search (rules, frame-long)
 
-pub carry_multipartner-mask-requires : goal.carry_multipartner-mask-requires
-carry_multipartner-mask-requires c = search (rules, round-low)
+pub carry_multipartner-requires : goal.carry_multipartner-requires
+carry_multipartner-requires c = search (rules, round-low)
 
 pub returns-in-None : goal.returns-in-None
-unfolding outcome_of
+unfolding outcome_of refusal_number
 returns-in-None c = search (rules, frame-none)
 
 pub returns-else-frame-ne-FIREWORK_SIZE : goal.returns-else-frame-ne-FIREWORK_SIZE
-unfolding outcome_of
+unfolding outcome_of refusal_number
 returns-else-frame-ne-FIREWORK_SIZE c = search (rules, frame-carried)

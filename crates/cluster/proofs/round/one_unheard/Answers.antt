@@ -20,8 +20,8 @@ carry_multipartner-requires c = search (rules, round-low)
 pub returns-in-None : goal.returns-in-None
 returns-in-None c = search (rules, unheard_none)
 
-pub returns-in-Address : goal.returns-in-Address
-returns-in-Address c = search (rules, unheard-address, frame-address)
+pub returns-in-Some-Address : goal.returns-in-Some-Address
+returns-in-Some-Address c = search (rules, unheard-address, frame-address)
 
 pub returns-else-frame-ne-FIREWORK_SIZE : goal.returns-else-frame-ne-FIREWORK_SIZE
 returns-else-frame-ne-FIREWORK_SIZE c = search (rules, unheard_multipartner)

@@ -1,7 +1,7 @@
 -- `convert::convert::convert` meets its contract: a law for each way.
 -- Assumes nothing.
 use Rattle.file.proofs.Surveyed.{survey-becomes}
-use Rattle.file.specs.Inner.Refusals.{outcome_of}
+use Rattle.file.specs.Inner.Refusals.{refusal_number, outcome_of}
 use Rattle.convert.proofs.EditionLaws.{width-there}
 use Rattle.convert.proofs.Calls.{call-refused, call_over, call-short, call_fits, call-written}
 use Rattle.std.proofs.Common.{rules}
@@ -17,20 +17,20 @@ pub is_over-requires : goal.is_over-requires
 is_over-requires c = search (rules, width-there)
 
 pub returns-then-is_over : goal.returns-then-is_over
-unfolding outcome_of
+unfolding outcome_of refusal_number
 returns-then-is_over c = search (rules, call_over)
 
 pub returns-then-out-size : goal.returns-then-out-size
-unfolding outcome_of
+unfolding outcome_of refusal_number
 returns-then-out-size c = search (rules, call-short)
 
 pub put_file-requires : goal.put_file-requires
 put_file-requires c = search (rules, survey-becomes, call_fits)
 
-pub returns-in-Refused : goal.returns-in-Refused
-unfolding outcome_of
-returns-in-Refused c = search (rules, call-refused)
+pub returns-in_err-survey : goal.returns-in_err-survey
+unfolding outcome_of refusal_number
+returns-in_err-survey c = search (rules, call-refused)
 
-pub returns-else-out-size : goal.returns-else-out-size
-unfolding outcome_of
-returns-else-out-size c = search (rules, call-written)
+pub returns : goal.returns
+unfolding outcome_of refusal_number
+returns c = search (rules, call-written)

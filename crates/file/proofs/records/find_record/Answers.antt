@@ -4,11 +4,11 @@ use Rattle.file.proofs.RecordLaws.{no_file, no_record, record-there, record-fits
 use Rattle.std.proofs.Common.{rules}
 use Rattle.file.proofs.records.find_record.Goals as goal
 
-pub returns-in_default : goal.returns-in_default
-returns-in_default c = search (rules, no_file)
+pub returns-in_err-bytes : goal.returns-in_err-bytes
+returns-in_err-bytes c = search (rules, no_file)
 
-pub returns-then-size-start : goal.returns-then-size-start
-returns-then-size-start c = search (rules, no_record)
+pub returns-then-bytes-start : goal.returns-then-bytes-start
+returns-then-bytes-start c = search (rules, no_record)
 
 pub overflow_add-result : goal.overflow_add-result
 overflow_add-result c = search (rules, record-fits)

@@ -8,6 +8,7 @@ use Rattle.frame.proofs.Reading.{Formed, refuse_10, refuse_11, refuse_12, refuse
 use Rattle.std.proofs.Common.{rules}
 use Rattle.frame.proofs.reader.read_address.Goals as goal
 use Rattle.frame.proofs.reader.read_address.Goals.{Else-is_wrong_check}
+use Rattle.file.specs.Inner.Refusals.{refusal_number}
 
 -- after the third test: the frame that is read, and that none of grounds 10 to 12 holds
 read-frame : Else-is_wrong_check → List ℕ
@@ -19,27 +20,27 @@ unfolding read-frame
 well-formed c = search formed_by
 
 pub returns-then-is_no_address : goal.returns-then-is_no_address
-unfolding reading_of
+unfolding reading_of refusal_number
 returns-then-is_no_address c = search (rules, refuse_10)
 
 pub returns-then-frame-ne-FRAME_SIZE : goal.returns-then-frame-ne-FRAME_SIZE
-unfolding reading_of
+unfolding reading_of refusal_number
 returns-then-frame-ne-FRAME_SIZE c = search (rules, refuse_11, other_length)
 
 pub returns-then-is_wrong_check : goal.returns-then-is_wrong_check
-unfolding reading_of
+unfolding reading_of refusal_number
 returns-then-is_wrong_check c = search (rules, refuse_12)
 
 pub returns-then-is_no_operation : goal.returns-then-is_no_operation
-unfolding reading_of
+unfolding reading_of refusal_number
 returns-then-is_no_operation c = search (refuse_13, formed_by)
 
 pub returns-then-is_broadcast_read : goal.returns-then-is_broadcast_read
-unfolding reading_of
+unfolding reading_of refusal_number
 returns-then-is_broadcast_read c = search (refuse_14, formed_by)
 
 pub returns : goal.returns
-unfolding reading_of read-frame
+unfolding reading_of read-frame refusal_number
 returns c =
     accept _ (well-formed (goal.at.returns c).Else-is_wrong_check)
     c.new-name.ensures

@@ -3,7 +3,7 @@
 use Rattle.join.proofs.JoinLaws.{sum_fits, header-below, call_over, call-short, call_fits, call-written}
 use Rattle.std.proofs.Common.{rules}
 use Rattle.join.proofs.join.join_apart.Goals as goal
-use Rattle.file.specs.Inner.Refusals.{outcome_of}
+use Rattle.file.specs.Inner.Refusals.{refusal_number, outcome_of}
 
 pub overflow_add-size : goal.overflow_add-size
 overflow_add-size c = search (rules, sum_fits)
@@ -12,11 +12,11 @@ pub overflow_sub-size : goal.overflow_sub-size
 overflow_sub-size c = search (rules, header-below)
 
 pub returns-then-is_over : goal.returns-then-is_over
-unfolding outcome_of
+unfolding outcome_of refusal_number
 returns-then-is_over c = search (rules, call_over)
 
 pub returns-then-out-size : goal.returns-then-out-size
-unfolding outcome_of
+unfolding outcome_of refusal_number
 returns-then-out-size c = search (rules, call-short)
 
 pub write_joined-requires : goal.write_joined-requires
@@ -28,5 +28,5 @@ write_joined-requires c = (
 )
 
 pub returns : goal.returns
-unfolding outcome_of
+unfolding outcome_of refusal_number
 returns c = search (rules, call-written)

@@ -3,10 +3,10 @@
 use Rattle.join.proofs.JoinLaws.{call-shared, names_apart}
 use Rattle.std.proofs.Common.{rules}
 use Rattle.join.proofs.join.join_both.Goals as goal
-use Rattle.file.specs.Inner.Refusals.{outcome_of}
+use Rattle.file.specs.Inner.Refusals.{refusal_number, outcome_of}
 
 pub returns-then-shares_name : goal.returns-then-shares_name
-unfolding outcome_of
+unfolding outcome_of refusal_number
 returns-then-shares_name c = search (rules, call-shared)
 
 pub join_apart-requires : goal.join_apart-requires

@@ -5,8 +5,8 @@ use Rattle.listing_text.proofs.BatchLaws.{load_accepted}
 use Rattle.std.proofs.Common.{rules}
 use Rattle.listing_text.proofs.run.list.Goals as goal
 
-pub returns-in-Refused : goal.returns-in-Refused
-returns-in-Refused c = search listed-refused
+pub returns-in-Err : goal.returns-in-Err
+returns-in-Err c = search listed-refused
 
 pub list_accepted-requires : goal.list_accepted-requires
 list_accepted-requires c = search (rules, load_accepted)

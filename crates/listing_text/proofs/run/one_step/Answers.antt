@@ -6,12 +6,12 @@ use Rattle.listing_text.proofs.run.one_step.Goals as goal
 pub after_step-requires : goal.after_step-requires
 after_step-requires c = let begins = c.requires.1.begins in search made_moves
 
-pub returns-in-Refused : goal.returns-in-Refused
-returns-in-Refused c = search one-step-refused
+pub returns-in_default : goal.returns-in_default
+returns-in_default c = search one-step-refused
 
 pub returns-in-Ended : goal.returns-in-Ended
 returns-in-Ended c = search one-step-ended
 
-pub returns-in-Made : goal.returns-in-Made
-returns-in-Made c =
+pub returns-in-Ok-Some : goal.returns-in-Ok-Some
+returns-in-Ok-Some c =
     search one-step-made

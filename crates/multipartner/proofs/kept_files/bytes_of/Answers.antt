@@ -4,8 +4,8 @@ use Rattle.multipartner.proofs.SlotActLaws.{file-none, file-there}
 use Rattle.std.proofs.Common.{rules}
 use Rattle.multipartner.proofs.kept_files.bytes_of.Goals as goal
 
-pub returns-in_default : goal.returns-in_default
-returns-in_default c = search (rules, file-none)
+pub returns-in-None : goal.returns-in-None
+returns-in-None c = search (rules, file-none)
 
 pub returns : goal.returns
 returns c = search (rules, file-there)

@@ -5,6 +5,7 @@ use Rattle.std.proofs.Common.{arith}
 use lib.ListN.{get_or}
 use Rattle.naming.specs.Inner.StepAnswers.{stepped_of, run_after}
 use Rattle.naming.proofs.RunLaws.{runs, extra-may, extra-is}
+use Rattle.file.specs.Inner.Refusals.{refusal_number}
 use Rattle.naming.proofs.run.extra_step.Goals as goal
 
 pub bounds-names-0 : goal.bounds-names-0
@@ -21,5 +22,5 @@ count_raised-run-requires c =
     (runs c.requires.1.accepted c.requires.1.runs).goes.counts
 
 pub returns : goal.returns
-unfolding stepped_of run_after
+unfolding stepped_of run_after refusal_number
 returns c = search extra-is

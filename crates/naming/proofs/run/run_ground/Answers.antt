@@ -3,8 +3,8 @@
 use Rattle.naming.proofs.RunLaws.{run-names, run_unfit, run_fits}
 use Rattle.naming.proofs.run.run_ground.Goals as goal
 
-pub returns-then-ground-ne0 : goal.returns-then-ground-ne0
-returns-then-ground-ne0 c = search run-names
+pub returns-in_err-names_ground : goal.returns-in_err-names_ground
+returns-in_err-names_ground c = search run-names
 
 pub returns-then-is_unfit : goal.returns-then-is_unfit
 returns-then-is_unfit c = search run_unfit

@@ -3,11 +3,12 @@
 use Rattle.naming.specs.Inner.StepAnswers.{stepped_of, run_after}
 use Rattle.file.proofs.Surveyed.{survey-placed}
 use Rattle.naming.proofs.StepCode.{step-turned}
+use Rattle.file.specs.Inner.Refusals.{refusal_number}
 use Rattle.naming.proofs.run.step.Goals as goal
 
-pub returns-in-Refused : goal.returns-in-Refused
-unfolding stepped_of run_after
-returns-in-Refused c = search step-turned
+pub returns-in_err-survey : goal.returns-in_err-survey
+unfolding stepped_of run_after refusal_number
+returns-in_err-survey c = search step-turned
 
 pub step_on-requires : goal.step_on-requires
 step_on-requires c = search survey-placed

@@ -2,37 +2,37 @@
 -- Assumes nothing.
 use mathlib.Core.Path.{refl}
 use Rattle.file.proofs.Surveyed.{survey-placed}
-use Rattle.file.specs.Inner.Refusals.{outcome_of}
+use Rattle.file.specs.Inner.Refusals.{refusal_number, outcome_of}
 use Rattle.owner.proofs.Calls.{written-size, written-fits, call-refused, call_multiplexed, call_clash, call-short, call-written}
 use Rattle.std.proofs.Common.{rules}
 use Rattle.owner.proofs.write.write_owner.Goals as goal
 
 pub write_rounds-written-requires : goal.write_rounds-written-requires
 write_rounds-written-requires c =
-    (survey-placed c.survey-surveyed.ensures c.in-Accepted.is, refl, refl)
+    (survey-placed c.survey.ensures c.in_ok-survey.was, refl, refl)
 
 pub returns-then-written : goal.returns-then-written
-unfolding outcome_of
+unfolding outcome_of refusal_number
 returns-then-written c = search (rules, call_multiplexed)
 
 pub returns-then-written-2 : goal.returns-then-written-2
-unfolding outcome_of
+unfolding outcome_of refusal_number
 returns-then-written-2 c = search (rules, call_clash)
 
 pub returns-then-buffer-end : goal.returns-then-buffer-end
-unfolding outcome_of
+unfolding outcome_of refusal_number
 returns-then-buffer-end c = search (rules, call-short)
 
-pub slice_bounds-put_file-end-in-Accepted : goal.slice_bounds-put_file-end-in-Accepted
-slice_bounds-put_file-end-in-Accepted c = search (rules, written-size)
+pub slice_bounds-put_file-end : goal.slice_bounds-put_file-end
+slice_bounds-put_file-end c = search (rules, written-size)
 
 pub put_file-requires : goal.put_file-requires
 put_file-requires c = search (rules, written-fits)
 
-pub returns-in-Refused : goal.returns-in-Refused
-unfolding outcome_of
-returns-in-Refused c = search (rules, call-refused)
+pub returns-in_err-survey : goal.returns-in_err-survey
+unfolding outcome_of refusal_number
+returns-in_err-survey c = search (rules, call-refused)
 
-pub returns-else-buffer-end : goal.returns-else-buffer-end
-unfolding outcome_of
-returns-else-buffer-end c = search (rules, call-written)
+pub returns : goal.returns
+unfolding outcome_of refusal_number
+returns c = search (rules, call-written)

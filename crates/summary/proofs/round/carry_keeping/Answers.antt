@@ -3,7 +3,7 @@
 use Rattle.std.proofs.Common.{arith}
 use Rattle.std.proofs.Common.{rules}
 use Rattle.file.proofs.SurveyLaws.{bytes-known}
-use Rattle.file.specs.Inner.Refusals.{outcome_of}
+use Rattle.file.specs.Inner.Refusals.{refusal_number, outcome_of}
 use Rattle.summary.proofs.RoundLaws.{frame-moved, frame_refused, frame-carried}
 use Rattle.summary.proofs.round.carry_keeping.Goals as goal
 
@@ -13,10 +13,10 @@ logical_names-requires c =
     let moved = frame-moved c.requires.0 c.requires.1 c.one_frame-answer.ensures bytes in
     (moved.placed, omega (arith, moved.count, c.requires.2))
 
-pub returns-in-Refused : goal.returns-in-Refused
-unfolding outcome_of
-returns-in-Refused c = search (rules, frame_refused)
+pub returns-in_err-mask : goal.returns-in_err-mask
+unfolding outcome_of refusal_number
+returns-in_err-mask c = search (rules, frame_refused)
 
-pub returns-in-Carried : goal.returns-in-Carried
-unfolding outcome_of
-returns-in-Carried c = search (rules, frame-carried)
+pub returns : goal.returns
+unfolding outcome_of refusal_number
+returns c = search (rules, frame-carried)

@@ -7,8 +7,8 @@ use Rattle.summary.specs.Inner.Kept.{names_put}
 use Rattle.summary.proofs.StepLaws.{slice-turned, slice-put}
 use Rattle.summary.proofs.step.keep_step.Goals as goal
 
-pub returns-then-is_refused : goal.returns-then-is_refused
-returns-then-is_refused c = search slice-turned
+pub returns-in_err-stepped : goal.returns-in_err-stepped
+returns-in_err-stepped c = search slice-turned
 
 pub logical_names-requires : goal.logical_names-requires
 logical_names-requires c =

@@ -5,25 +5,26 @@ use Rattle.naming.specs.Inner.StepAnswers.{stepped_of, run_after}
 use Rattle.summary.proofs.RoundLaws.{names-fit}
 use Rattle.summary.proofs.StepLaws.{stepping_refused, stepping_wrong, stepping-kept}
 use Rattle.std.proofs.Common.{rules}
+use Rattle.file.specs.Inner.Refusals.{refusal_number}
 use Rattle.summary.proofs.step.step_keeping.Goals as goal
 
-pub returns-in-Refused : goal.returns-in-Refused
-unfolding stepped_of run_after
-returns-in-Refused c = search (rules, stepping_refused)
+pub returns-in_err-survey : goal.returns-in_err-survey
+unfolding stepped_of run_after refusal_number
+returns-in_err-survey c = search (rules, stepping_refused)
 
 pub is_wrong-requires : goal.is_wrong-requires
 is_wrong-requires c =
-    survey-placed c.survey-verdict.ensures c.in_default.is
+    survey-placed c.survey.ensures c.in_ok-survey.was
 
 pub returns-then-is_wrong : goal.returns-then-is_wrong
-unfolding stepped_of run_after
+unfolding stepped_of run_after refusal_number
 returns-then-is_wrong c =
-    stepping_wrong _ _ _ _ _ _ c.survey-verdict.ensures c.in_default.is c.is_wrong.ensures c.if-is_wrong.true
+    stepping_wrong _ _ _ _ _ _ c.survey.ensures c.in_ok-survey.was c.is_wrong.ensures c.if-is_wrong.true
 
 pub keep_step-requires : goal.keep_step-requires
 keep_step-requires c =
-    (survey-placed c.survey-verdict.ensures c.in_default.is, names-fit _ _ _ c.is_wrong.ensures c.if-is_wrong.false)
+    (survey-placed c.survey.ensures c.in_ok-survey.was, names-fit _ _ _ c.is_wrong.ensures c.if-is_wrong.false)
 
 pub returns : goal.returns
 returns c =
-    stepping-kept _ _ _ _ _ _ c.survey-verdict.ensures c.in_default.is c.is_wrong.ensures c.if-is_wrong.false c.keep_step.ensures
+    stepping-kept _ _ _ _ _ _ c.survey.ensures c.in_ok-survey.was c.is_wrong.ensures c.if-is_wrong.false c.keep_step.ensures

@@ -8,14 +8,14 @@ use Rattle.trace.proofs.report.one_carried.Goals as goal
 pub returns-in-None : goal.returns-in-None
 returns-in-None c = search (rules, carried_none)
 
-pub returns-in-Address : goal.returns-in-Address
+pub returns-in-Some-Address : goal.returns-in-Some-Address
 unfolding one_carried
-returns-in-Address c = search (rules, carried_address)
+returns-in-Some-Address c = search (rules, carried_address)
 
-pub returns-in-Data : goal.returns-in-Data
+pub returns-in-Some-Data : goal.returns-in-Some-Data
 unfolding one_carried
-returns-in-Data c = search (rules, carried_data)
+returns-in-Some-Data c = search (rules, carried_data)
 
-pub returns-in-Multipartner : goal.returns-in-Multipartner
+pub returns-in-Some-Multipartner : goal.returns-in-Some-Multipartner
 unfolding one_carried
-returns-in-Multipartner c = search (rules, carried_multipartner)
+returns-in-Some-Multipartner c = search (rules, carried_multipartner)
