@@ -49,7 +49,7 @@ header-sizes w f h =
     let rest = header_facts w f h.rest in
     (size.low, size.high, rest.count)
 
-pub header_good : {w : ℕ} {f : List ℕ} {a : Answered (Unit {0})} → HeaderChecked w f (number_in (outcome_of a)) → a ≡ Ok tt → GoodHeader w f
+pub header_good : {w : ℕ} {f : List ℕ} {a : Answered (Unit {0})} → HeaderChecked w f (number_in (outcome_of a)) → {u : Unit {0}} → a ≡ Ok u → GoodHeader w f
 unfolding number_in outcome_of
 header_good {w} {f} h e = (subst (λ (x : Answered (Unit {0})). HeaderChecked w f (number_in (outcome_of x))) e h).passed refl
 

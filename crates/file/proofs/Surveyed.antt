@@ -24,15 +24,15 @@ use Rattle.std.specs.Prelude.{Ok, Err}
 -- ---- the answer of the survey
 
 module _ {f places : List ℕ} {a : Answered (Unit {0})} (s : Surveyed f (outcome_of a) places) where
-  pub survey-accepted : a ≡ Ok tt → file_ground f ≡ 0
+  pub survey-accepted : {u : Unit {0}} → a ≡ Ok u → file_ground f ≡ 0
   unfolding outcome_of
   survey-accepted e = no_ground tt (file_ground f) (rw e at s.is)
 
-  pub survey-placed : a ≡ Ok tt → Placed f places
+  pub survey-placed : {u : Unit {0}} → a ≡ Ok u → Placed f places
   unfolding outcome_of
   survey-placed e = s.placed (rw e)
 
-  pub survey-becomes : a ≡ Ok tt → AcceptedFile f
+  pub survey-becomes : {u : Unit {0}} → a ≡ Ok u → AcceptedFile f
   survey-becomes e = (survey-placed e).file
 
   pub survey-refused : {why : Refusal} → a ≡ Err why → (refusal_number why ≡ file_ground f) × (refusal_number why ≡ 0 → ⊥)
@@ -47,7 +47,7 @@ module _ {f places : List ℕ} {a : Answered (Unit {0})} (s : Surveyed f (outcom
       let reason : load_ground f ≡ (refusal_number why) = load_first f (λ z. some (is ∙ z)) ∙ sym is in
       rw reason (result_refused tt some)
 
-  module _ (e : a ≡ Ok tt) {t : Bool} (test : t ≡ has_repeat (held_names (logical_names (decode f)))) where
+  module _ {u : Unit {0}} (e : a ≡ Ok u) {t : Bool} (test : t ≡ has_repeat (held_names (logical_names (decode f)))) where
     last_ground : load_ground f ≡ cond t 22 0
     last_ground = load_twice f (survey-accepted e) ∙ rw test
 

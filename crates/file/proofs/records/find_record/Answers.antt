@@ -8,10 +8,10 @@ pub returns-in_err-bytes : goal.returns-in_err-bytes
 returns-in_err-bytes c = search (rules, no_file)
 
 pub returns-then-bytes-start : goal.returns-then-bytes-start
-returns-then-bytes-start c = search (rules, no_record)
+returns-then-bytes-start c = no_record _ _ _ c.find_file.ensures c.in_ok-bytes.was _ c.if-bytes-start.true
 
 pub overflow_add-result : goal.overflow_add-result
-overflow_add-result c = search (rules, record-fits)
+overflow_add-result c = record-fits _ _ c.requires.0 c.find_file.ensures c.in_ok-bytes.was _ c.if-bytes-start.false
 
 pub returns : goal.returns
-returns c = search (rules, record-there)
+returns c = record-there _ _ _ c.find_file.ensures c.in_ok-bytes.was _ c.if-bytes-start.false
