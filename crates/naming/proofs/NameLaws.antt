@@ -146,13 +146,14 @@ module _ {l : List ℕ} {seen : List Bool} {twice : Bool} {i : ℕ} (h : Listed 
 
 -- one name
 
-pub unfit_first : (n : ℕ) → n ≡ 0 → true ≡ unfit_name (n ∷ [])
-unfolding unfit_name either
-unfit_first n is = rw (eq-eqb n broadcast is)
+module _ (n : ℕ) {first : Bool} (is : first ≡ eqb n broadcast) where
+  pub unfit_first : first ≡ true → true ≡ unfit_name (n ∷ [])
+  unfolding unfit_name either
+  unfit_first e = rw (← is, e)
 
-pub unfit_second : (n : ℕ) → (n ≡ 0 → ⊥) → eqb n 0xFF ≡ unfit_name (n ∷ [])
-unfolding unfit_name either
-unfit_second n other = rw (ne_eqb n broadcast other) (sym (either-none (eqb n unnamed)))
+  pub unfit_second : first ≡ false → {second : Bool} → second ≡ eqb n unnamed → second ≡ unfit_name (n ∷ [])
+  unfolding unfit_name either
+  unfit_second e {second} also = rw (← is, e, ← also) (sym (either-none second))
 
 pub one_unfit : (l : List ℕ) → length l ≡ 1 → {b : Bool} → b ≡ unfit_name (get_or l 0 0 ∷ []) → b ≡ true → 15 ≡ start_ground l
 one_unfit [] one is e = absurd (omega arith)

@@ -22,31 +22,19 @@ fn wrote(at: Standing) -> RunPosition
     ensures { Wrote (position_of at.run) (position_of result) }
 {
     let run = at.run;
-    let place = run.place;
-    let counts = run.counts;
     if at.writing.part == HIGH {
         let halves = RunHalves {
             high: at.writing.value / HALF,
-            low: run.halves.low,
+            ..run.halves
         };
-        return RunPosition {
-            end: run.end,
-            place,
-            counts,
-            halves,
-        };
+        return RunPosition { halves, ..run };
     }
     if at.writing.part == LOW {
         let halves = RunHalves {
-            high: run.halves.high,
             low: at.writing.value % HALF,
+            ..run.halves
         };
-        return RunPosition {
-            end: run.end,
-            place,
-            counts,
-            halves,
-        };
+        return RunPosition { halves, ..run };
     }
     run
 }
@@ -60,7 +48,7 @@ fn written(at: Standing) -> RunPosition
     let next = go_on(run, run.place.value, 0);
     let writing = Writing {
         part: at.writing.part + 1,
-        value: at.writing.value,
+        ..at.writing
     };
     let needless = needless_writes(next, writing);
     passed_over(next, needless)

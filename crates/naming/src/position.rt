@@ -106,21 +106,17 @@ pub fn go_on(run: RunPosition, value: u64, more: u64) -> RunPosition
     requires { FitCounts (position_of run) × (more ≤ 1) }
     ensures { position_of result ≡ onward (position_of run) value more }
 {
-    let place = RunPlace {
-        index: run.place.index,
-        step: run.place.step + 1,
-        value,
-    };
-    let counts = RunCounts {
-        rounds: run.counts.rounds + 1,
-        comparisons: run.counts.comparisons + more,
-    };
-    let halves = run.halves;
     RunPosition {
-        end: run.end,
-        place,
-        counts,
-        halves,
+        place: RunPlace {
+            step: run.place.step + 1,
+            value,
+            ..run.place
+        },
+        counts: RunCounts {
+            rounds: run.counts.rounds + 1,
+            comparisons: run.counts.comparisons + more,
+        },
+        ..run
     }
 }
 
@@ -129,17 +125,12 @@ pub fn count_raised(run: RunPosition) -> RunPosition
     requires { FitCounts (position_of run) }
     ensures { position_of result ≡ count_raised (position_of run) }
 {
-    let place = run.place;
-    let counts = RunCounts {
-        rounds: run.counts.rounds + 1,
-        comparisons: run.counts.comparisons,
-    };
-    let halves = run.halves;
     RunPosition {
-        end: run.end,
-        place,
-        counts,
-        halves,
+        counts: RunCounts {
+            rounds: run.counts.rounds + 1,
+            ..run.counts
+        },
+        ..run
     }
 }
 
@@ -148,22 +139,19 @@ pub fn next_name(run: RunPosition, count: u64) -> RunPosition
     requires { GoesOn count (position_of run) }
     ensures { position_of result ≡ next_name count (position_of run) }
 {
-    let end = end_at(count, run.place.index + 1);
-    let place = RunPlace {
-        index: run.place.index + 1,
-        step: POLL,
-        value: run.place.value,
-    };
-    let counts = RunCounts {
-        rounds: run.counts.rounds + 1,
-        comparisons: run.counts.comparisons,
-    };
-    let halves = run.halves;
+    let index = run.place.index + 1;
     RunPosition {
-        end,
-        place,
-        counts,
-        halves,
+        end: end_at(count, index),
+        place: RunPlace {
+            index,
+            step: POLL,
+            ..run.place
+        },
+        counts: RunCounts {
+            rounds: run.counts.rounds + 1,
+            ..run.counts
+        },
+        ..run
     }
 }
 
@@ -171,16 +159,12 @@ pub fn all_named(run: RunPosition) -> RunPosition
     requires { FitCounts (position_of run) }
     ensures { position_of result ≡ end_all_named (position_of run) }
 {
-    let place = run.place;
-    let counts = RunCounts {
-        rounds: run.counts.rounds + 1,
-        comparisons: run.counts.comparisons + 1,
-    };
-    let halves = run.halves;
     RunPosition {
         end: ALL_NAMED,
-        place,
-        counts,
-        halves,
+        counts: RunCounts {
+            rounds: run.counts.rounds + 1,
+            comparisons: run.counts.comparisons + 1,
+        },
+        ..run
     }
 }

@@ -5,7 +5,7 @@ ghost use Rattle.file.specs.Rules.Layout.{record_size};
 ghost use Rattle.file.specs.Rules.Results.{done};
 ghost use Rattle.file.specs.Rules.Cluster.{write_operation, execute_operation};
 ghost use Rattle.file.specs.Inner.Typed.{record_in, name_in_lem};
-ghost use Rattle.naming.specs.Rules.RunRounds.{half, poll, write_high, write_low, sent, at_unnamed};
+ghost use Rattle.naming.specs.Rules.RunRounds.{half, poll, sent, at_unnamed};
 ghost use Rattle.naming.specs.Rules.Pass.{place_of, reply, last_step};
 ghost use Rattle.naming.specs.Rules.Run.{round_at};
 ghost use Rattle.naming.specs.Rules.Step.{is_reply};
@@ -65,18 +65,6 @@ fn half_round(record: RecordNumber, value: u64) -> MasterSlaveRound
     write_round(record, b0, b1, b2, b3)
 }
 
-fn high_round(value: u64) -> MasterSlaveRound
-    ensures { Sends result (sent (write_high (value / half))) }
-{
-    half_round(RecordNumber::COMPARISON_HIGH, value / HALF)
-}
-
-fn low_round(value: u64) -> MasterSlaveRound
-    ensures { Sends result (sent (write_low (value % half))) }
-{
-    half_round(RecordNumber::COMPARISON_LOW, value % HALF)
-}
-
 // An execute of a record of 0x08 of the unnamed slaves.
 fn execute_round(record: RecordNumber) -> MasterSlaveRound
     ensures { Sends result (at_unnamed execute_operation (record_in «record») []) }
@@ -116,10 +104,10 @@ pub fn round_at(at: Standing, name: LogicalName) -> MasterSlaveRound
     ensures { Sends result (sent (round_at (place_of at.run.place.step) (name_in_lem name) at.run.place.value)) }
 {
     if at.writing.part == HIGH {
-        return high_round(at.writing.value);
+        return half_round(RecordNumber::COMPARISON_HIGH, at.writing.value / HALF);
     }
     if at.writing.part == LOW {
-        return low_round(at.writing.value);
+        return half_round(RecordNumber::COMPARISON_LOW, at.writing.value % HALF);
     }
     other_round(at.run.place.step, name)
 }

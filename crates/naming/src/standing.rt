@@ -38,18 +38,12 @@ pub fn passed_over(run: RunPosition, steps: u64) -> RunPosition
     requires { run.place.step + steps ≤ last_step }
     ensures { position_of result ≡ at_step (run.place.step + steps) (position_of run) }
 {
-    let place = RunPlace {
-        index: run.place.index,
-        step: run.place.step + steps,
-        value: run.place.value,
-    };
-    let counts = run.counts;
-    let halves = run.halves;
     RunPosition {
-        end: run.end,
-        place,
-        counts,
-        halves,
+        place: RunPlace {
+            step: run.place.step + steps,
+            ..run.place
+        },
+        ..run
     }
 }
 
@@ -70,7 +64,7 @@ pub fn standing_at(run: RunPosition) -> Standing
         run: passed_over(run, needless),
         writing: Writing {
             part: writing.part + needless,
-            value: writing.value,
+            ..writing
         },
     }
 }

@@ -6,4 +6,4 @@ use Rattle.naming.proofs.position.next_name.Goals as goal
 
 pub returns : goal.returns
 unfolding next_name
-returns c = simp (c.end_at-end.ensures, add-one)
+returns c = simp (c.end_at.ensures, add-one)

@@ -2,7 +2,7 @@
 -- the start.
 -- Assumes nothing.
 use Prim.Native.Nat.{◌^◌, ◌<◌}
-use mathlib.Core.Path.{◌∙◌}
+use mathlib.Core.Path.{◌≡◌, ◌∙◌}
 use Rattle.std.proofs.Common.{arith}
 use Rattle.std.proofs.Common.{rules}
 use Rattle.file.proofs.SurveyLaws.{bytes-known}
@@ -40,4 +40,6 @@ loop-steps-preserved c =
 
 pub returns : goal.returns
 returns c =
-    record { is = stepping-done c.loop-steps.invariant.0 c.loop-steps-test.false; placed = c.loop-steps.invariant.0.placed }
+    let inv = c.loop-steps.invariant.0 in
+    let all : c.loop-steps.steps ≡ c.args.most = omega (arith, inv.few, c.loop-steps-test.false) in
+    record { is = rw all at (stepping-done inv c.loop-steps-test.false); placed = inv.placed }

@@ -12,6 +12,3 @@ abbrev pub invariant-loop-steps : goal.invariant-loop-steps
 invariant-loop-steps l =
     Stepping l.names l.until l.most l.places (begun l.initial.file (position_of l.initial.run) l.initial.answer) (record { made = l.steps; senders = l.senders; run = position_of l.run; buffer = l.answer; file = l.file }) ×
     (length l.file ≡ length l.initial.file) × (length l.answer ≡ length l.initial.answer) × (l.run.place.value < 2 ^ bits)
-
-abbrev pub decreases-loop-steps : goal.decreases-loop-steps
-decreases-loop-steps l = l.most - l.steps
