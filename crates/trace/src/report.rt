@@ -27,10 +27,8 @@ fn one_refused(report: Report) -> Report
     ensures { report_in result ≡ one_refused (report_in report) }
 {
     Report {
-        msa: report.msa,
-        msd: report.msd,
-        multipartner: report.multipartner,
         refused: report.refused + 1,
+        ..report
     }
 }
 
@@ -43,21 +41,15 @@ fn one_carried(report: Report, firework: Firework) -> Report
         Firework::None => one_refused(report),
         Firework::Address => Report {
             msa: report.msa + 1,
-            msd: report.msd,
-            multipartner: report.multipartner,
-            refused: report.refused,
+            ..report
         },
         Firework::Data => Report {
-            msa: report.msa,
             msd: report.msd + 1,
-            multipartner: report.multipartner,
-            refused: report.refused,
+            ..report
         },
         Firework::Multipartner(_) => Report {
-            msa: report.msa,
-            msd: report.msd,
             multipartner: report.multipartner + 1,
-            refused: report.refused,
+            ..report
         },
     }
 }

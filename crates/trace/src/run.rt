@@ -61,13 +61,11 @@ fn run_frames(file: &mut [u8], places: &SlavePlaces, trace: &[u8]) -> Report
         report: NO_FRAMES,
         sleepers: true,
     };
-    let mut row = HEADER_SIZE;
     let mut start = data_place;
-    while row < data_place {
+    for row in (HEADER_SIZE..data_place).step_by(ROW_SIZE) {
         let end = start + byte_at(trace, row + LENGTH_PLACE);
         progress = run_frame(file, places, &trace[start..end], &mut buffer, progress);
         start = end;
-        row = row + ROW_SIZE;
     }
     progress.report
 }
