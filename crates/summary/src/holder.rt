@@ -20,12 +20,10 @@ pub fn find_holder(held: &[u8], count: usize, name: LogicalName) -> Holder
     if held.len() < count {
         return Holder::Refused(Refusal::SUMMARY);
     }
-    let mut place = 0;
-    while place < count {
-        if held[place] == name.0 {
+    for place in 0..count {
+        if LogicalName(held[place]) == name {
             return Holder::At(place);
         }
-        place = place + 1;
     }
     Holder::Nobody
 }
