@@ -3,11 +3,10 @@
 use Prim.Native.Nat.{ℕ}
 use mathlib.Core.Path.{◌≡◌, refl, sym, ◌∙◌, ap}
 use mathlib.Core.Bool.{Bool, true, false}
+use Rattle.std.proofs.Common.{Option, None, Some}
 use Rattle.file.specs.Rules.Results.{Result, refused, done}
 use Rattle.file.proofs.Order.{clash}
 use Rattle.cluster.specs.Rules.Round.{Answer}
-use Rattle.screens.specs.declared.state.DueScreen.{DueScreen}
-use Rattle.screens.specs.declared.state.DueScreen.TheVariants as dues
 use Rattle.screens.specs.declared.post.Posted.{Posted}
 use Rattle.screens.specs.declared.post.Posted.TheVariants as posts
 use Rattle.screens.specs.declared.turn.Turned.{Turned}
@@ -16,14 +15,14 @@ use Rattle.screens.specs.Rules.Screens.{Due, nobody, screen}
 use Rattle.screens.specs.Rules.Turn.{Turn, idle, served, served_by}
 use Rattle.screens.specs.Inner.ScreenAnswers.{due_of, posted_of, turned_of}
 
-looking : Due → DueScreen
-looking nobody = dues.Nobody
-looking (screen i) = dues.Screen i
+looking : Due → Option ℕ
+looking nobody = None
+looking (screen i) = Some i
 
-looking_back : (a : DueScreen) → looking (due_of a) ≡ a
+looking_back : (a : Option ℕ) → looking (due_of a) ≡ a
 unfolding looking due_of
-looking_back dues.Nobody = refl
-looking_back (dues.Screen i) = refl
+looking_back None = refl
+looking_back (Some i) = refl
 
 posting : Result (Unit {0}) → Posted
 posting (refused n) = posts.Refused (record { 0 = n })
@@ -45,7 +44,7 @@ turning_back (turns.Refused why) = refl
 turning_back turns.Idle = refl
 turning_back (turns.Served i mask) = refl
 
-pub dues_distinct : (a b : DueScreen) → due_of a ≡ due_of b → a ≡ b
+pub dues_distinct : (a b : Option ℕ) → due_of a ≡ due_of b → a ≡ b
 dues_distinct a b h = sym (looking_back a) ∙ (ap looking h ∙ looking_back b)
 
 pub posts_distinct : (a b : Posted) → posted_of a ≡ posted_of b → a ≡ b

@@ -4,6 +4,7 @@ use Prim.Native.Nat.{ℕ, ◌≤◌, ◌<◌}
 use mathlib.Core.Path.{◌≡◌, refl, sym, ◌∙◌}
 use mathlib.Core.List.{List}
 use native.Mathlib.Omega.{arith}
+use Rattle.std.proofs.Common.{Option, None, Some}
 use lib.ListN.{length, get_or}
 use borrow.Author.Tests.{ne_eqb}
 use Rattle.file.specs.Rules.Bytes.{Byte}
@@ -20,8 +21,6 @@ use Rattle.master_slave.specs.Rules.Bus.{slots}
 use Rattle.cluster.specs.Rules.MasterSlave.{Sent, round_sent}
 use Rattle.cluster.specs.Inner.Sending.{MaySend, of_other}
 use Rattle.master_slave.specs.declared.types.RecordAddress.{RecordAddress}
-use Rattle.screens.specs.declared.state.DueScreen.{DueScreen}
-use Rattle.screens.specs.declared.state.DueScreen.TheVariants as dues
 use Rattle.screens.specs.Rules.Screens.{screens, last_served, Read, nobody, screen, due, read_grounds}
 use Rattle.screens.specs.Rules.Turn.{Turn, idle, served, served_by, read_sent, after_serving, state_grounds, turn_ground, turn_made, turn_on}
 use Rattle.screens.specs.Inner.ScreenAnswers.{due_of}
@@ -43,36 +42,36 @@ may_read {r} name record' may =
       content = of_other refl;
     }
 
-module _ (state : List ℕ) {d : DueScreen} (is : due_of d ≡ due state) where
-  due-nobody : d ≡ dues.Nobody → due state ≡ nobody
+module _ (state : List ℕ) {d : Option ℕ} (is : due_of d ≡ due state) where
+  due-nobody : d ≡ None → due state ≡ nobody
   unfolding due_of
   due-nobody e = sym (rw e at is)
 
-  due-one : {i : ℕ} → d ≡ dues.Screen i → due state ≡ screen i
+  due-one : {i : ℕ} → d ≡ Some i → due state ≡ screen i
   unfolding due_of
   due-one e = sym (rw e at is)
 
   -- ---- the grounds of the read that is due
 
   module _ (last : last_served state < screens) where
-    pub due-few : {i : ℕ} → d ≡ dues.Screen i → i < screens
+    pub due-few : {i : ℕ} → d ≡ Some i → i < screens
     due-few {i} e = (((due-is-next state last).next i).0 (due-one e)).few
 
-    pub ground_nobody : d ≡ dues.Nobody → 0 ≡ first_of (state_grounds state)
+    pub ground_nobody : d ≡ None → 0 ≡ first_of (state_grounds state)
     ground_nobody e = sym (by_nobody state (omega arith) (due-nobody e))
 
     pub ground-read :
-        {i : ℕ} {a : RecordAddress} {g : ℕ} → d ≡ dues.Screen i → PostedRead state i a → g ≡ first_of (read_grounds (read_in a)) →
+        {i : ℕ} {a : RecordAddress} {g : ℕ} → d ≡ Some i → PostedRead state i a → g ≡ first_of (read_grounds (read_in a)) →
         g ≡ first_of (state_grounds state)
     ground-read {i} e posts reason = reason ∙ rw posts.is (sym (by_read state i (omega arith) (due-one e)))
 
   -- ---- a turn that no ground refuses
 
-  pub serve-idle : (f buffer : List ℕ) → d ≡ dues.Nobody → (done idle, state, buffer, f) ≡ turn_made (due state) state f buffer
+  pub serve-idle : (f buffer : List ℕ) → d ≡ None → (done idle, state, buffer, f) ≡ turn_made (due state) state f buffer
   unfolding turn_made
   serve-idle f buffer e = rw (due-nobody e)
 
-  module _ (none : first_of (state_grounds state) ≡ 0) {i : ℕ} (e : d ≡ dues.Screen i) where
+  module _ (none : first_of (state_grounds state) ≡ 0) {i : ℕ} (e : d ≡ Some i) where
     pub serve-few : i < screens
     serve-few = due-few (state_last state none) e
 

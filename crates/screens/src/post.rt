@@ -19,10 +19,10 @@ pub enum Posted {
 pub fn read_ground(read: RecordAddress) -> u8
     ensures { result ≡ first_of (read_grounds (read_in read)) }
 {
-    if FileNumber::LAST.0 < read.number.0 {
+    if FileNumber::LAST < read.number {
         return Refusal::FILE_NUMBER.0;
     }
-    if read.name.0 == LogicalName::BROADCAST.0 {
+    if read.name == LogicalName::BROADCAST {
         return Refusal::BROADCAST_READ.0;
     }
     0

@@ -27,12 +27,6 @@ const IDLE: u8 = 0;
 
 pub type ScreenState = [u8; STATE_SIZE];
 
-#[derive(Clone, Copy)]
-pub enum DueScreen {
-    Nobody,
-    Screen(u8),
-}
-
 // "from screen 0 at the start": the one last served is the last.
 pub fn fresh_state() -> ScreenState
     ensures { result ≡ fresh }
@@ -64,22 +58,19 @@ fn next_screen(screen: u8) -> u8
     (screen + 1) % SCREENS
 }
 
-// "the next waiting screen after the one last served, in cyclic order": that one itself is asked last.
-pub fn due_screen(state: &ScreenState) -> DueScreen
+// "the next waiting screen after the one last served, in cyclic order": that one itself is asked last. None where nobody waits.
+pub fn due_screen(state: &ScreenState) -> Option<u8>
     requires { last_served state.now < screens }
     ensures { due_of result ≡ due state.now }
 {
-    let last = state[LAST_SERVED];
-    let mut screen = last;
-    'screens: loop {
+    let mut screen = state[LAST_SERVED];
+    'screens: for asked in 0..SCREENS {
         screen = next_screen(screen);
         if is_waiting(state, screen) {
-            return DueScreen::Screen(screen);
-        }
-        if screen == last {
-            return DueScreen::Nobody;
+            return Some(screen);
         }
     }
+    None
 }
 
 // The read in a screen's four bytes. Of a slice, since the elements of a lent array are not known to be bytes.

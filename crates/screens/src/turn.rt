@@ -10,9 +10,7 @@ ghost use Rattle.screens.specs.Inner.ScreenAnswers.{due_of, turned_of};
 ghost use Rattle.screens.specs.Inner.Parts.{read_in};
 
 use crate::post::read_ground;
-use crate::state::{
-    DueScreen, LAST_SCREEN, LAST_SERVED, ScreenState, due_screen, mark_served, posted_read,
-};
+use crate::state::{LAST_SCREEN, LAST_SERVED, ScreenState, due_screen, mark_served, posted_read};
 use cluster::sending::send;
 use file::survey::{FileAnswer, survey};
 use file::types::{Operation, PLACES, Refusal, SlavePlaces};
@@ -47,13 +45,13 @@ fn read_round(read: RecordAddress) -> MasterSlaveRound
 }
 
 // 18 and 14 on the read that is due, of a state that 27 does not refuse; 0 where neither holds, or nobody waits.
-fn due_ground(state: &ScreenState, next: DueScreen) -> u8
+fn due_ground(state: &ScreenState, next: Option<u8>) -> u8
     requires { (last_served state.now < screens) × (due_of next ≡ due state.now) }
     ensures { result ≡ first_of (state_grounds state.now) }
 {
     match next {
-        DueScreen::Nobody => 0,
-        DueScreen::Screen(screen) => {
+        None => 0,
+        Some(screen) => {
             let read = posted_read(state, screen);
             read_ground(read)
         }
@@ -65,15 +63,15 @@ fn serve(
     file: &mut [u8],
     places: &SlavePlaces,
     state: &mut ScreenState,
-    next: DueScreen,
+    next: Option<u8>,
     buffer: &mut [u8],
 ) -> Turned
     requires { (due_of next ≡ due state.old) × (first_of (state_grounds state.old) ≡ 0) × Placed file.old places.now × (slots ≤ length buffer.old) }
     ensures { (turned_of result, state.new, buffer.new, file.new) ≡ turn_made (due state.old) state.old file.old buffer.old }
 {
     match next {
-        DueScreen::Nobody => Turned::Idle,
-        DueScreen::Screen(screen) => {
+        None => Turned::Idle,
+        Some(screen) => {
             let read = posted_read(state, screen);
             let senders = send(file, places, read_round(read), buffer);
             mark_served(state, screen);

@@ -1,7 +1,6 @@
 -- The code's answers in the terms of the rules. No two of one type are taken to the same.
 use Rattle.file.specs.Rules.Results.{Result, refused, done}
-use Rattle.screens.specs.declared.state.DueScreen.{DueScreen}
-use Rattle.screens.specs.declared.state.DueScreen.TheVariants as dues
+use Rattle.std.specs.Prelude.{ℕ, Option, None, Some}
 use Rattle.screens.specs.declared.post.Posted.{Posted}
 use Rattle.screens.specs.declared.post.Posted.TheVariants as posts
 use Rattle.screens.specs.declared.turn.Turned.{Turned}
@@ -9,9 +8,9 @@ use Rattle.screens.specs.declared.turn.Turned.TheVariants as turns
 use Rattle.screens.specs.Rules.Screens.{Due, nobody, screen}
 use Rattle.screens.specs.Rules.Turn.{Turn, idle, served}
 
-unfoldable pub due_of : DueScreen → Due
-due_of dues.Nobody = nobody
-due_of (dues.Screen i) = screen i
+unfoldable pub due_of : Option ℕ → Due
+due_of None = nobody
+due_of (Some i) = screen i
 
 unfoldable pub posted_of : Posted → Result (Unit {0})
 posted_of (posts.Refused why) = refused why.0

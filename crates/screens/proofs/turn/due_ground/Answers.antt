@@ -6,8 +6,8 @@ use Rattle.screens.proofs.turn.due_ground.Goals as goal
 pub posted_read-read-requires : goal.posted_read-read-requires
 posted_read-read-requires c = search due-few
 
-pub returns-in-Nobody : goal.returns-in-Nobody
-returns-in-Nobody c = search ground_nobody
+pub returns-in-None : goal.returns-in-None
+returns-in-None c = search ground_nobody
 
-pub returns-in-Screen : goal.returns-in-Screen
-returns-in-Screen c = search ground-read
+pub returns-in-Some : goal.returns-in-Some
+returns-in-Some c = search ground-read

@@ -13,10 +13,10 @@ send-senders-requires c = search may-serve
 pub mark_served-requires : goal.mark_served-requires
 mark_served-requires c = search serve-few
 
-pub returns-in-Nobody : goal.returns-in-Nobody
+pub returns-in-None : goal.returns-in-None
 unfolding turned_of
-returns-in-Nobody c = search serve-idle
+returns-in-None c = search serve-idle
 
-pub returns-in-Screen : goal.returns-in-Screen
+pub returns-in-Some : goal.returns-in-Some
 unfolding turned_of
-returns-in-Screen c = search serve-done
+returns-in-Some c = search serve-done
