@@ -305,10 +305,9 @@ module _
 
 -- ---- the names
 
-pub record Naming (names : List ℕ) (name i : ℕ) : Type 0 where
+pub record Naming (names : List ℕ) (i : ℕ) : Type 0 where
   pub room : length names ≡ name_count
   pub within : i ≤ name_count
-  pub next : name ≡ i + 0x01
   pub first : take i names ≡ names_from i 0x01
 
 from_snoc : (n a : ℕ) → names_from (suc n) a ≡ names_from n a ++ ((a + n) ∷ [])
@@ -318,21 +317,18 @@ from_snoc (suc n) a =
     let e : a + suc n ≡ suc a + n = omega arith in
     rw e (ap (λ (l : List ℕ). a ∷ l) (from_snoc n (suc a)))
 
-pub naming_start : Naming (replicate name_count 0) 0x01 0
+pub naming_start : Naming (replicate name_count 0) 0
 unfolding names_from
-naming_start = record { room = length-replicate {A = ℕ} name_count 0; within = omega arith; next = refl; first = refl }
+naming_start = record { room = length-replicate {A = ℕ} name_count 0; within = omega arith; first = refl }
 
-module _ {names : List ℕ} {name i : ℕ} (h : Naming names name i) where
-  pub naming_next : i < name_count → Naming (set names i name) (name + 1) (i + 1)
+module _ {names : List ℕ} {i : ℕ} (h : Naming names i) where
+  pub naming_next : i < name_count → Naming (set names i (0x01 + i)) (i + 1)
   naming_next more =
-      let n = h.next in
       let one : i + 1 ≡ suc i = omega arith in
-      let is : 0x01 + i ≡ name = omega arith in
       record {
-        room = length-set names i name ∙ h.room;
+        room = length-set names i (0x01 + i) ∙ h.room;
         within = omega arith;
-        next = omega arith;
-        first = rw (one, take-suc-set names i name (rw h.room more), h.first, from_snoc i 0x01, is);
+        first = rw (one, take-suc-set names i (0x01 + i) (rw h.room more), h.first, from_snoc i 0x01);
       }
 
   pub naming_end : name_count ≤ i → names ≡ all_names

@@ -50,12 +50,9 @@ fn put_bytes(text: &mut [u8], at: usize, bytes: &[u8]) -> usize
     requires { at + length bytes.now ≤ length text.old }
     ensures { Puts bytes.now text.old at text.new result }
 {
-    let mut i = 0;
-    while i < bytes.len() {
-        text[at + i] = bytes[i];
-        i = i + 1;
-    }
-    at + i
+    let end = at + bytes.len();
+    text[at..end].copy_from_slice(bytes);
+    end
 }
 
 // The last digits of a number.
@@ -64,9 +61,7 @@ fn put_hex(text: &mut [u8], at: usize, digits: u64, value: u64) -> usize
     ensures { PutsAtMost digits (hex digits value) text.old at text.new result }
 {
     let mut place = at;
-    let mut left = digits;
-    while 0 < left {
-        left = left - 1;
+    for left in (0..digits).rev() {
         text[place] = digit((value >> (HEX_BITS * left)) % HEX_BASE);
         place = place + 1;
     }
