@@ -1,17 +1,10 @@
 -- The state's functions: who is due, the read in a screen's bytes, and a screen served.
 -- Assumes nothing.
-use Prim.Native.Nat.{ℕ, suc, ◌+◌, ◌-◌, ◌%◌, ◌≤◌, ◌<◌}
-use mathlib.Core.Path.{◌≡◌, refl, sym, ◌∙◌}
-use mathlib.Core.List.{List}
-use mathlib.Core.Bool.{Bool, true, false, not}
-use native.Mathlib.Omega.{arith}
-use lib.ListN.{get_or, set}
-use lib.Dec.{eqb}
+use Rattle.std.proofs.Common.{ℕ, suc, ◌+◌, ◌-◌, ◌%◌, ◌≤◌, ◌<◌, ◌≡◌, refl, sym, ◌∙◌, List, Bool, true, false, arith, get_or}
 use Rattle.file.specs.declared.types.LogicalName.{LogicalName}
 use Rattle.file.specs.Inner.Typed.{name_in_lem}
 use Rattle.master_slave.specs.declared.types.RecordAddress.{RecordAddress}
 use Rattle.screens.specs.Rules.Screens.{screens, last_served, place_of, is_waiting, read_of, nobody, screen, next_screen, due_from, due}
-use Rattle.screens.specs.Rules.Turn.{after_serving}
 use Rattle.screens.specs.Claims.Turns.{away}
 use Rattle.screens.specs.Inner.Parts.{ReadAt, PostedRead}
 
@@ -28,10 +21,6 @@ pub next-away : (last x j : ℕ) → last < 8 → j < 8 → x ≡ (last + 1) % 8
 next-away last x j h k e n = omega (arith, e)
 
 -- ---- who is due
-
-pub waiting-is : (state : List ℕ) (i : ℕ) {place : ℕ} → place ≡ place_of i → not (eqb (get_or state place 0) 0) ≡ is_waiting state i
-unfolding is_waiting
-waiting-is state i e = rw e
 
 -- what is still to be asked: the screens after the i-th, in cyclic order, those that are left of the eight
 pub record Asking (state : List ℕ) (asked i : ℕ) : Type 0 where
@@ -82,7 +71,3 @@ pub posted-there :
     (state : List ℕ) (i : ℕ) {place : ℕ} {a : RecordAddress} → place ≡ place_of i → ReadAt state place a → PostedRead state i a
 unfolding read_of
 posted-there state i at r = record { is = r.is ∙ rw at; name = r.name; «record» = r.«record» }
-
-pub served_state : (state : List ℕ) (i : ℕ) {place : ℕ} → place ≡ place_of i → set (set state 0 i) place 0 ≡ after_serving state i
-unfolding after_serving
-served_state state i at = rw at

@@ -28,6 +28,7 @@ const IDLE: u8 = 0;
 pub type ScreenState = [u8; STATE_SIZE];
 
 // "from screen 0 at the start": the one last served is the last.
+#[tactic(auto, unfolding(crate::specs::Rules::Screens::fresh))]
 pub fn fresh_state() -> ScreenState
     ensures { result ≡ fresh }
 {
@@ -36,6 +37,7 @@ pub fn fresh_state() -> ScreenState
     state
 }
 
+#[tactic(auto, unfolding(crate::specs::Rules::Screens::place_of))]
 pub fn place_of(screen: u8) -> usize
     requires { screen < screens }
     ensures { (result ≡ place_of screen) × (result + 3 < 33) }
@@ -43,6 +45,7 @@ pub fn place_of(screen: u8) -> usize
     READS + READ_SIZE * (screen as usize)
 }
 
+#[tactic(auto, unfolding(crate::specs::Rules::Screens::is_waiting))]
 pub fn is_waiting(state: &ScreenState, screen: u8) -> bool
     requires { screen < screens }
     ensures { result ≡ is_waiting state.now screen }
@@ -51,6 +54,7 @@ pub fn is_waiting(state: &ScreenState, screen: u8) -> bool
     state[place] != IDLE
 }
 
+#[tactic(auto, unfolding(crate::specs::Rules::Screens::next_screen))]
 fn next_screen(screen: u8) -> u8
     requires { screen < screens }
     ensures { result ≡ next_screen screen }
@@ -97,6 +101,7 @@ pub fn posted_read(state: &ScreenState, screen: u8) -> RecordAddress
 }
 
 // A screen that is served is the one last served, and waits no more.
+#[tactic(auto, unfolding(crate::specs::Rules::Turn::after_serving))]
 pub fn mark_served(state: &mut ScreenState, screen: u8)
     requires { screen < screens }
     ensures { state.new ≡ after_serving state.old screen }

@@ -26,17 +26,15 @@ pub enum Turned {
 }
 
 // A read, as a complete round.
+#[tactic(auto, unfolding(crate::specs::Rules::Turn::read_sent))]
 fn read_round(read: RecordAddress) -> MasterSlaveRound
     ensures { sent_for result ≡ read_sent (read_in read) }
 {
-    let name = read.name;
-    let number = read.number;
-    let record = read.record;
     MasterSlaveRound {
-        name,
-        number,
+        name: read.name,
+        number: read.number,
         operation: Operation::READ,
-        record,
+        record: read.record,
         b0: 0,
         b1: 0,
         b2: 0,
