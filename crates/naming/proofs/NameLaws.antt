@@ -1,14 +1,8 @@
 -- The tests of a list of names, name by name.
 -- Assumes nothing.
-use Prim.Native.Nat.{ℕ, suc, ◌-◌, ◌≤◌, ◌<◌}
-use mathlib.Core.Path.{◌≡◌, refl, sym, ◌∙◌}
-use mathlib.Core.List.{List, [], ◌∷◌}
-use mathlib.Core.Bool.{Bool, true, false, cond}
-use native.Mathlib.Omega.{arith}
-use borrow.Author.Tests.{eq-eqb, eqb-true, ne_eqb}
-use lib.ListN.{length, get_or, drop, set, replicate, length-set, length-replicate}
-use lib.Seq.{drop-cons, drop-length}
-use lib.Dec.{eqb}
+use Rattle.std.proofs.Common.{ℕ, suc, ◌-◌, ◌≤◌, ◌<◌, ◌≡◌, refl, sym, ◌∙◌, List, [], ◌∷◌, Bool, true, false, cond, arith, eq-eqb, eqb-true, ne_eqb, length, get_or, drop, set, replicate, length-set, drop-cons, eqb}
+use lib.ListN.{length-replicate}
+use Rattle.std.proofs.Math.Seq.{drop-length}
 use Rattle.file.specs.Rules.Order.{first_of, either}
 use Rattle.file.specs.Rules.Results.{refused, done, result_of}
 use Rattle.file.specs.Rules.Cluster.{unnamed, broadcast}

@@ -47,6 +47,7 @@ const NAMES_USED_UP: u64 = 2;
 // "either count 1,000,000 or more".
 const COUNT_LIMIT: u64 = 1000000;
 
+#[tactic(auto, unfolding(crate::specs::Rules::Position::end_at))]
 fn end_at(count: u64, index: u64) -> u64
     ensures { result ≡ end_at count index }
 {
@@ -57,6 +58,7 @@ fn end_at(count: u64, index: u64) -> u64
 }
 
 // A fresh run over a list of so many names.
+#[tactic(auto, unfolding(crate::specs::Rules::Position::fresh))]
 pub fn first_position(names: &[u8]) -> RunPosition
     ensures { position_of result ≡ fresh names.now }
 {
@@ -102,6 +104,7 @@ pub fn is_unfit(names: &[u8], run: RunPosition) -> bool
 }
 
 // To the pass's next round, with a value and so many more comparisons made.
+#[tactic(auto, unfolding(crate::specs::Rules::Run::onward))]
 pub fn go_on(run: RunPosition, value: u64, more: u64) -> RunPosition
     requires { FitCounts (position_of run) × (more ≤ 1) }
     ensures { position_of result ≡ onward (position_of run) value more }
@@ -121,6 +124,7 @@ pub fn go_on(run: RunPosition, value: u64, more: u64) -> RunPosition
 }
 
 // The extra read is made.
+#[tactic(auto, unfolding(crate::specs::Rules::Run::count_raised))]
 pub fn count_raised(run: RunPosition) -> RunPosition
     requires { FitCounts (position_of run) }
     ensures { position_of result ≡ count_raised (position_of run) }
@@ -135,6 +139,7 @@ pub fn count_raised(run: RunPosition) -> RunPosition
 }
 
 // The name is done.
+#[tactic(auto, unfolding(crate::specs::Rules::Run::next_name))]
 pub fn next_name(run: RunPosition, count: u64) -> RunPosition
     requires { GoesOn count (position_of run) }
     ensures { position_of result ≡ next_name count (position_of run) }
@@ -155,6 +160,7 @@ pub fn next_name(run: RunPosition, count: u64) -> RunPosition
     }
 }
 
+#[tactic(auto, unfolding(crate::specs::Rules::Run::end_all_named))]
 pub fn all_named(run: RunPosition) -> RunPosition
     requires { FitCounts (position_of run) }
     ensures { position_of result ≡ end_all_named (position_of run) }

@@ -22,6 +22,7 @@ use master_slave::types::MasterSlaveRound;
 const REPLY_SLOT: u64 = FIRST_SLOT as u64;
 
 // The read that finds out whether a name is taken; at the first name also the extra one that a run begins with.
+#[tactic(auto, unfolding(crate::specs::Rules::RunRounds::sent, crate::specs::Rules::RunRounds::at_unnamed))]
 pub fn poll_round(name: LogicalName) -> MasterSlaveRound
     ensures { Sends result (sent (poll (name_in_lem name))) }
 {
@@ -38,6 +39,7 @@ pub fn poll_round(name: LogicalName) -> MasterSlaveRound
 }
 
 // A write to a record of 0x08 of the unnamed slaves.
+#[tactic(auto, unfolding(crate::specs::Rules::RunRounds::sent, crate::specs::Rules::RunRounds::at_unnamed))]
 fn write_round(record: RecordNumber, b0: u8, b1: u8, b2: u8, b3: u8) -> MasterSlaveRound
     ensures { Sends result (at_unnamed write_operation (record_in «record») (b0 ∷ b1 ∷ b2 ∷ b3 ∷ [])) }
 {
@@ -66,6 +68,7 @@ fn half_round(record: RecordNumber, value: u64) -> MasterSlaveRound
 }
 
 // An execute of a record of 0x08 of the unnamed slaves.
+#[tactic(auto, unfolding(crate::specs::Rules::RunRounds::sent, crate::specs::Rules::RunRounds::at_unnamed))]
 fn execute_round(record: RecordNumber) -> MasterSlaveRound
     ensures { Sends result (at_unnamed execute_operation (record_in «record») []) }
 {

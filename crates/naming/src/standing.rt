@@ -34,6 +34,7 @@ pub fn needless_writes(run: RunPosition, writing: Writing) -> u64
 }
 
 // So many steps on.
+#[tactic(auto, unfolding(crate::specs::Rules::Run::at_step))]
 pub fn passed_over(run: RunPosition, steps: u64) -> RunPosition
     requires { run.place.step + steps ≤ last_step }
     ensures { position_of result ≡ at_step (run.place.step + steps) (position_of run) }

@@ -22,6 +22,7 @@ pub const NO_FRAMES: Report = Report {
     refused: 0,
 };
 
+#[tactic(auto, unfolding(crate::specs::Rules::TraceRun::one_refused))]
 fn one_refused(report: Report) -> Report
     requires { FewFrames (report_in report) }
     ensures { report_in result ≡ one_refused (report_in report) }

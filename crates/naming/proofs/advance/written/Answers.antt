@@ -1,10 +1,9 @@
 -- `naming::advance::written` meets its contract: the next step is about the same value.
 -- Assumes nothing.
-use Prim.Native.Nat.{◌+◌, ◌≤◌}
+use Rattle.std.proofs.Common.{◌+◌, ◌≤◌, rules}
 use Rattle.naming.specs.Rules.Pass.{last_step}
 use Rattle.naming.specs.Inner.StepAnswers.{WritesAt}
 use Rattle.naming.proofs.WritingLaws.{fits-wrote, written-within, written_next, passes_within, settles-at, written-settled}
-use Rattle.std.proofs.Common.{rules}
 use Rattle.naming.proofs.advance.written.Goals as goal
 use Rattle.naming.proofs.advance.written.Goals.{After-go_on-next}
 

@@ -1,6 +1,6 @@
 -- `naming::advance::wrote` meets its contract: one law for each way.
 -- Assumes nothing.
-use mathlib.Core.Path.{refl}
+use Rattle.std.proofs.Common.{refl}
 use Rattle.naming.specs.Rules.Run.{wrote}
 use Rattle.naming.proofs.PositionLaws.{wrote-high, wrote-low, wrote_none}
 use Rattle.naming.proofs.advance.wrote.Goals as goal

@@ -1,7 +1,5 @@
 -- `naming::steps::make_steps` meets its contract. The invariant is `Stepping`: those that are left, of the steps so far, are all of them from
-use Prim.Native.Nat.{◌-◌, ◌^◌, ◌<◌}
-use mathlib.Core.Path.{◌≡◌}
-use lib.ListN.{length}
+use Rattle.std.proofs.Common.{◌^◌, ◌<◌, ◌≡◌, length}
 use Rattle.naming.specs.Rules.Pass.{bits}
 use Rattle.naming.specs.Rules.Steps.{begun}
 use Rattle.naming.specs.Inner.StepAnswers.{position_of}

@@ -1,9 +1,7 @@
 -- `trace::run::run_frames` meets its contract. The invariant is `Running`: the frames that are left, counted into this report on this
 -- file, give the report and the file of all frames on the first file.
 -- Assumes nothing.
-use mathlib.Core.Path.{◌∙◌}
-use Rattle.std.proofs.Common.{arith}
-use Rattle.std.proofs.Common.{rules}
+use Rattle.std.proofs.Common.{◌∙◌, arith, rules}
 use Rattle.file.specs.Rules.Bytes.{part}
 use Rattle.trace.proofs.Facts.{trace_facts}
 use Rattle.trace.proofs.RunLaws.{running-start, row_within, frame-within, few-frames, running-next, running-done, anyone-may}
