@@ -1,16 +1,9 @@
 -- Bytes, digits and lines put into a text, turn by turn.
 -- Assumes nothing.
-use Prim.Native.Nat.{ℕ, zero, suc, ◌+◌, ◌-◌, ◌*◌, ◌/◌, ◌%◌, ◌^◌, ◌≤◌, ◌<◌}
-use mathlib.Core.Path.{◌≡◌, refl, sym, ap, ◌∙◌}
-use mathlib.Core.List.{List, [], ◌∷◌, ◌++◌}
-use native.Mathlib.Omega.{arith}
-use native.Mathlib.Nat.{pow-suc}
-use borrow.Author.Tests.{lt-ltb, le-ltb, ltb-true, ltb-false}
-use lib.ListN.{length, take, set, length-set, length-append}
-use lib.Seq.{sets, sets-eq, length-sets, take_all}
+use Rattle.std.proofs.Common.{ℕ, zero, suc, ◌+◌, ◌-◌, ◌*◌, ◌/◌, ◌%◌, ◌^◌, ◌≤◌, ◌<◌, ◌≡◌, refl, sym, ap, ◌∙◌, List, [], ◌∷◌, ◌++◌, arith, pow-suc, lt-ltb, le-ltb, ltb-true, ltb-false, length, take, set, length-set, length-append, take_all, ltb}
+use Rattle.std.proofs.Math.Seq.{sets, sets-eq, length-sets}
 use borrow.Rule.Slice.PartMut.{put_mid}
 use Rattle.std.proofs.lemmas.Slice.{put_mid-paste}
-use lib.Dec.{ltb}
 use Rattle.file.proofs.Order.{by_case}
 use Rattle.listing_text.specs.Rules.Text.{letters, space, newline, digit, hex, decimal_in, decimal, field, name_line, totals_line, refused_line}
 use Rattle.listing_text.specs.Inner.Puts.{Puts, PutsAtMost}
@@ -140,7 +133,7 @@ puts-digit {n} h e p = let small : n < 2 ^ 64 = omega arith in at_most small (rw
 -- the digits but the last leave room for the last
 pub tenth-room :
     {n : ℕ} {old mid : List ℕ} {at next : ℕ} → n < 2 ^ 64 → at + most_digits ≤ length old →
-    PutsAtMost most_digits (decimal (n / 10)) old at mid next → next < length mid
+    PutsAtMost most_digits (decimal (n / 10)) old at mid next → next + 1 ≤ length mid
 tenth-room {n} small fits p = let few = tenth_fits n small in omega (arith, p.puts.place, p.puts.room)
 
 pub puts-decimal :

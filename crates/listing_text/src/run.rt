@@ -69,6 +69,7 @@ fn after_step(names: &[u8], state: ListProgress, next: RunPosition, text: &mut [
 }
 
 // The run after steps that gave no name.
+#[tactic(auto, unfolding(crate::specs::Inner::ListRuns::moved_to))]
 fn moved_to(state: ListProgress, run: RunPosition) -> ListProgress
     ensures { result ≡ moved_to state run }
 {
