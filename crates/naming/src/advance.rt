@@ -3,7 +3,7 @@ ghost use Rattle.std.specs.Prelude.{◌≡◌, ℕ, ◌≤◌, ◌<◌};
 ghost use Rattle.naming.specs.Rules.Pass.{poll, place_of};
 ghost use Rattle.naming.specs.Rules.Run.{move_on};
 ghost use Rattle.naming.specs.Rules.RunRounds.{comparison_rounds};
-ghost use Rattle.naming.specs.Inner.StepAnswers.{position_of, heard, FitCounts, GoesOn, WritesAt, Wrote, Asks, Advances, Writes};
+ghost use Rattle.naming.specs.Inner.StepAnswers.{position_of, heard, FitCounts, GoesOn, Wrote, Asks, Advances, Writes};
 
 use crate::pass::{FIRST_REPLY, GIVE_NAME, HALF, HIGH, LAST_STEP, LOW, POLL, REPLY, Writing};
 use crate::position::{RunHalves, RunPosition, all_named, go_on, next_name};
@@ -18,7 +18,6 @@ pub enum Reply {
 
 // With the half that its round wrote.
 fn wrote(at: Standing) -> RunPosition
-    requires { WritesAt at.run.place.step at.run.place.value at.writing.part at.writing.value }
     ensures { Wrote (position_of at.run) (position_of result) }
 {
     let run = at.run;
@@ -41,7 +40,7 @@ fn wrote(at: Standing) -> RunPosition
 
 // After a round that writes a half, at the next round really made: the next step is about the same value.
 fn written(at: Standing) -> RunPosition
-    requires { FitCounts (position_of at.run) × WritesAt at.run.place.step at.run.place.value at.writing.part at.writing.value × (at.writing.part < 2) }
+    requires { FitCounts (position_of at.run) × (at.writing.part < 2) }
     ensures { Writes (position_of at.run) (position_of result) }
 {
     let run = wrote(at);
@@ -92,7 +91,7 @@ fn compared(run: RunPosition, value: u64, answer: Reply) -> RunPosition
 
 // After a round that writes no half, by the answer.
 fn moved(at: Standing, count: u64, answer: Reply) -> RunPosition
-    requires { GoesOn count (position_of at.run) × WritesAt at.run.place.step at.run.place.value at.writing.part at.writing.value × (2 ≤ at.writing.part) }
+    requires { GoesOn count (position_of at.run) × (2 ≤ at.writing.part) }
     ensures { position_of result ≡ move_on (place_of at.run.place.step) count (position_of at.run) (heard answer) }
 {
     let run = at.run;
@@ -110,7 +109,7 @@ fn moved(at: Standing, count: u64, answer: Reply) -> RunPosition
 
 // From its round really made to the next one, by the answer.
 pub fn advanced(at: Standing, count: u64, answer: Reply) -> RunPosition
-    requires { GoesOn count (position_of at.run) × WritesAt at.run.place.step at.run.place.value at.writing.part at.writing.value }
+    requires { GoesOn count (position_of at.run) }
     ensures { Advances count (position_of at.run) (heard answer) (position_of result) }
 {
     if at.writing.part < REPLY {

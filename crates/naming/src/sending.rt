@@ -9,7 +9,7 @@ ghost use Rattle.naming.specs.Rules.RunRounds.{half, poll, sent, at_unnamed};
 ghost use Rattle.naming.specs.Rules.Pass.{place_of, reply, last_step};
 ghost use Rattle.naming.specs.Rules.Run.{round_at};
 ghost use Rattle.naming.specs.Rules.Step.{is_reply};
-ghost use Rattle.naming.specs.Inner.StepAnswers.{heard, Sends, part_at, WritesAt};
+ghost use Rattle.naming.specs.Inner.StepAnswers.{heard, Sends, part_at};
 
 use crate::advance::Reply;
 use crate::pass::{BYTE, GIVE_NAME, HALF, HIGH, LAST_STEP, LOW, POLL};
@@ -103,7 +103,6 @@ fn other_round(step: u64, name: LogicalName) -> MasterSlaveRound
 
 // The round at a position that stands there, for a name.
 pub fn round_at(at: Standing, name: LogicalName) -> MasterSlaveRound
-    requires { (at.run.place.step ≤ last_step) × WritesAt at.run.place.step at.run.place.value at.writing.part at.writing.value }
     ensures { Sends result (sent (round_at (place_of at.run.place.step) (name_in_lem name) at.run.place.value)) }
 {
     if at.writing.part == HIGH {

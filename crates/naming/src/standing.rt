@@ -48,11 +48,13 @@ pub fn passed_over(run: RunPosition, steps: u64) -> RunPosition
     }
 }
 
-// A position at the next round really made, and what that round writes.
+// A position at the next round really made, at a step of a pass, and what that round writes.
 #[derive(Clone, Copy)]
 pub struct Standing {
     pub run: RunPosition,
     pub writing: Writing,
+    pub ghost place: { run.place.step ≤ last_step },
+    pub ghost writes: { WritesAt run.place.step run.place.value writing.part writing.value },
 }
 
 pub fn standing_at(run: RunPosition) -> Standing

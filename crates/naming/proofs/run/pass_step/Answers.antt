@@ -20,9 +20,6 @@ standing_at-at-requires c = (runs c.requires.1.accepted c.requires.1.runs).goes.
 pub bounds-names-index : goal.bounds-names-index
 bounds-names-index c = (stands (goal.at.bounds-names-index c).After-standing_at-at).within
 
-pub round_at-next-requires : goal.round_at-next-requires
-round_at-next-requires c = (c.standing_at-at.ensures.place, c.standing_at-at.ensures.writes)
-
 pub send-senders-requires : goal.send-senders-requires
 send-senders-requires c =
     let at = (goal.at.send-senders-requires c).After-standing_at-at in
@@ -34,7 +31,7 @@ send-senders-requires c =
     )
 
 pub advanced-run-requires : goal.advanced-run-requires
-advanced-run-requires c = (stands (goal.at.advanced-run-requires c).After-standing_at-at, c.standing_at-at.ensures.writes)
+advanced-run-requires c = stands (goal.at.advanced-run-requires c).After-standing_at-at
 
 pub returns : goal.returns
 returns c =
