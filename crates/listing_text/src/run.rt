@@ -110,7 +110,8 @@ fn one_step(
     }
 }
 
-// The whole run from a state on: it ends within so many steps. All steps up to the next one that gives a name are made at once.
+// The whole run from a state on: it ends within so many steps. All steps up to the next one that gives a name are made at once, so that `left`
+// falls by as many as were made, and no `for` counts it. File and places stay two arguments, as `naming::run` says.
 fn all_steps(
     file: &mut [u8],
     places: &SlavePlaces,

@@ -89,7 +89,8 @@ fn compared(run: RunPosition, value: u64, answer: Reply) -> RunPosition
     }
 }
 
-// After a round that writes no half, by the answer.
+// After a round that writes no half, by the answer. The step is tested, not looked up in a table of functions: of 200 steps four kinds are told
+// apart, and what is done at each takes other arguments.
 fn moved(at: Standing, count: u64, answer: Reply) -> RunPosition
     requires { GoesOn count (position_of at.run) × (2 ≤ at.writing.part) }
     ensures { position_of result ≡ move_on (place_of at.run.place.step) count (position_of at.run) (heard answer) }

@@ -29,7 +29,9 @@ pub struct RunHalves {
     pub low: u64,
 }
 
-// The caller keeps it between steps, and may hand in any content.
+// The caller keeps it between steps, and may hand in any content: the C interface has these words, so that end and step are numbers, of which
+// ground 17 (`unfit_position`) tells the unfit ones. That its parts fit (FitCounts, GoesOn) is asked function by function: a round more may
+// bring a count to its limit, and a type of positions that fit would be left by each function that takes it.
 #[derive(Clone, Copy)]
 pub struct RunPosition {
     pub end: u64,

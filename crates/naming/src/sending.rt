@@ -67,7 +67,8 @@ fn half_round(record: RecordNumber, value: u64) -> MasterSlaveRound
     write_round(record, b0, b1, b2, b3)
 }
 
-// An execute of a record of 0x08 of the unnamed slaves.
+// An execute of a record of 0x08 of the unnamed slaves. Not one function with the write: a write's content is its four bytes, that of an execute
+// is none, and the promise would have to tell them apart by the operation.
 #[tactic(auto, unfolding(crate::specs::Rules::RunRounds::sent, crate::specs::Rules::RunRounds::at_unnamed))]
 fn execute_round(record: RecordNumber) -> MasterSlaveRound
     ensures { Sends result (at_unnamed execute_operation (record_in «record») []) }

@@ -12,7 +12,8 @@ const SCREENS: u8 = 8;
 
 pub const LAST_SCREEN: u8 = 7;
 
-// Byte 0 is the screen last served; then four bytes for each screen: whether it waits, and its read.
+// Byte 0 is the screen last served; then four bytes for each screen: whether it waits, and its read. An array of bytes and no struct: the caller
+// keeps it, and hands in 33 bytes of any content (the C interface).
 pub const STATE_SIZE: usize = 33;
 
 pub const LAST_SERVED: usize = 0;

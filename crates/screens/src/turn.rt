@@ -56,7 +56,8 @@ fn due_ground(state: &ScreenState, next: Option<u8>) -> u8
     }
 }
 
-// The turn, where no ground refuses it: nothing, or the round of the read that is due.
+// The turn, where no ground refuses it: nothing, or the round of the read that is due. File and places stay two arguments, as `naming::run`
+// says.
 fn serve(
     file: &mut [u8],
     places: &SlavePlaces,

@@ -6,7 +6,7 @@ ghost use Rattle.summary.specs.Inner.SummaryAnswers.{holder_of};
 
 use file::types::{LogicalName, Refusal};
 
-// The place in the slave table of the first slave that holds the name, or that nobody does.
+// The place in the slave table of the first slave that holds the name, or that nobody does. The C interface hands in slice and count apart.
 #[derive(Clone, Copy)]
 pub enum Holder {
     Refused(Refusal),

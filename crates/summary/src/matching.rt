@@ -8,7 +8,8 @@ ghost use Rattle.cluster.specs.Rules.Summary.{kept, wrong_summary};
 use file::readers::{logical_name, slave_count};
 use file::types::{LogicalName, SlavePlaces};
 
-// Whether the count is not that of the file's slaves, or the slice does not begin with their names.
+// Whether the count is not that of the file's slaves, or the slice does not begin with their names. The C interface hands in slice and count
+// apart, here and in the calls, and 24 speaks of a count above the slice's length too. File and places stay two arguments, as `naming::run` says.
 pub fn is_wrong(file: &[u8], places: &SlavePlaces, held: &[u8], count: usize) -> bool
     requires { Placed file.now places.now }
     ensures { result ≡ wrong_summary (kept count held.now) (logical_names (decode file.now)) }

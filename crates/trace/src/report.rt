@@ -55,7 +55,8 @@ fn one_carried(report: Report, firework: Firework) -> Report
     }
 }
 
-// One frame more: "a refused frame counting as refused only".
+// One frame more: "a refused frame counting as refused only". Two arguments and no Option: a refused frame has its firework too, and an Option would
+// be made of the two at the one call.
 pub fn counted(report: Report, carried: bool, firework: Firework) -> Report
     requires { FewFrames (report_in report) }
     ensures { report_in result ≡ cond carried (one_carried (firework_round firework) (report_in report)) (one_refused (report_in report)) }

@@ -29,7 +29,8 @@ pub struct Progress {
     pub sleepers: bool,
 }
 
-// One frame sent and counted. Nobody hears its answer: the buffer is one for all frames.
+// One frame sent and counted. Nobody hears its answer: the buffer is one for all frames. File and places stay two arguments, as `naming::run`
+// says.
 fn run_frame(
     file: &mut [u8],
     places: &SlavePlaces,
