@@ -8,6 +8,8 @@ use native.Mathlib.Omega.{arith}
 use lib.ListN.{length, get_or}
 use lib.Dec.{eqb}
 use borrow.Author.Tests.{lt-ltb, le-ltb, eq-eqb, ne_eqb, eqb-true, leb-false, lt-leb, not-false}
+use Rattle.std.specs.Ordering.{is_lt, nat_cmp}
+use Rattle.std.proofs.lemmas.Bool.Decides.{nat_tests}
 use Rattle.file.proofs.Order.{either_left, either-next, either_false, either_false_right}
 use Rattle.frame.specs.Rules.Frames.{frame_size, between}
 use Rattle.frame.specs.Rules.Fireworks.{address_firework}
@@ -91,3 +93,11 @@ module _ (file : ℕ) where
   pub file-fits : file ≤ 63 → no_file_number file ≡ false
   unfolding no_file_number
   file-fits h = le-ltb _ _ h
+
+-- the code's comparison of a file number with the last one
+module _ {t : Bool} (file : ℕ) (is : t ≡ is_lt (nat_cmp 63 file)) where
+  pub past-last : t ≡ true → 63 < file
+  past-last h = grind (arith, nat_tests)
+
+  pub upto-last : t ≡ false → file ≤ 63
+  upto-last h = grind (arith, nat_tests)

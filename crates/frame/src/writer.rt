@@ -48,7 +48,7 @@ pub fn write_address(
     if is_broadcast_read(operation, name) {
         return FrameWriting::Refused(Refusal::BROADCAST_READ);
     }
-    if FileNumber::LAST.0 < file.0 {
+    if FileNumber::LAST < file {
         return FrameWriting::Refused(Refusal::FILE_NUMBER);
     }
     let pb2 = pb2_of(file, operation);
