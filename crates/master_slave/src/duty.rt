@@ -23,11 +23,8 @@ fn read_round(file: &[u8], places: &SlavePlaces, address: RecordAddress, buffer:
 {
     silence(buffer, MSD);
     let mut last = 0u64;
-    let count = slave_count(file);
-    let mut slave = 0;
-    while slave < count {
+    for slave in 0..slave_count(file) {
         last = read_slave(file, places, slave, address, buffer, last);
-        slave = slave + 1;
     }
     last
 }
@@ -39,14 +36,11 @@ fn compare_round(file: &[u8], places: &SlavePlaces, name: LogicalName, buffer: &
 {
     silence(buffer, MSD);
     let mut last = 0u64;
-    let count = slave_count(file);
-    let mut slave = 0;
-    while slave < count {
+    for slave in 0..slave_count(file) {
         last = compare_slave(file, places, slave, name, buffer, last);
         if last == COMPARE_SLOT {
             return COMPARE_SLOT;
         }
-        slave = slave + 1;
     }
     last
 }
@@ -55,13 +49,14 @@ fn compare_round(file: &[u8], places: &SlavePlaces, name: LogicalName, buffer: &
 const HEADER_RECORD: RecordNumber = RecordNumber(0x00);
 
 // Whether a write may change the record.
+#[tactic(auto, unfolding(crate::specs::Rules::Slaves::may_write, file::specs::Rules::Order::both))]
 fn may_write(number: FileNumber, record: RecordNumber) -> bool
     ensures { result ≡ may_write (file_in number) (record_in «record») }
 {
-    if number.0 == FileNumber::DOCUMENTATION.0 {
+    if number == FileNumber::DOCUMENTATION {
         return false;
     }
-    record.0 != HEADER_RECORD.0
+    record != HEADER_RECORD
 }
 
 fn write_round(file: &mut [u8], places: &SlavePlaces, address: RecordAddress, bytes: DataBytes)
@@ -71,11 +66,8 @@ fn write_round(file: &mut [u8], places: &SlavePlaces, address: RecordAddress, by
     if !may_write(address.number, address.record) {
         return;
     }
-    let count = slave_count(file);
-    let mut slave = 0;
-    while slave < count {
+    for slave in 0..slave_count(file) {
         write_slave(file, places, slave, address, bytes);
-        slave = slave + 1;
     }
 }
 
@@ -83,11 +75,8 @@ fn baptize_round(file: &mut [u8], places: &SlavePlaces, name: LogicalName)
     requires { Placed file.old places.now }
     ensures { Becomes file.new (slaves_after (baptizing (name_in_lem name)) [] (decode file.old)) }
 {
-    let count = slave_count(file);
-    let mut slave = 0;
-    while slave < count {
+    for slave in 0..slave_count(file) {
         baptize_slave(file, places, slave, name);
-        slave = slave + 1;
     }
 }
 

@@ -22,36 +22,39 @@ use file::types::{FileNumber, LogicalName, RecordNumber, SlavePlaces};
 use file::writers::{set_sleep, store_record, take_new_name};
 
 // Whether a slave with its own logical name is addressed.
+#[tactic(auto, unfolding(crate::specs::Rules::Slaves::addresses))]
 fn is_addressed(name: LogicalName, own: LogicalName) -> bool
     ensures { result ≡ addresses (name_in_lem name) (name_in_lem own) }
 {
-    if name.0 == LogicalName::UNNAMED.0 {
-        return own.0 == LogicalName::UNNAMED.0;
+    if name == LogicalName::UNNAMED {
+        return own == LogicalName::UNNAMED;
     }
-    if name.0 == LogicalName::BROADCAST.0 {
-        return own.0 != LogicalName::UNNAMED.0;
+    if name == LogicalName::BROADCAST {
+        return own != LogicalName::UNNAMED;
     }
-    own.0 == name.0
+    own == name
 }
 
 // The same for a read: never an unnamed slave.
+#[tactic(auto, unfolding(crate::specs::Rules::Slaves::addresses, file::specs::Rules::Order::both))]
 fn is_read(name: LogicalName, own: LogicalName) -> bool
     ensures { result ≡ both (addresses (name_in_lem name) (name_in_lem own)) (not (eqb (name_in_lem own) unnamed)) }
 {
-    if own.0 == name.0 {
-        return own.0 != LogicalName::UNNAMED.0;
+    if own == name {
+        return own != LogicalName::UNNAMED;
     }
-    if name.0 == LogicalName::BROADCAST.0 {
-        return own.0 != LogicalName::UNNAMED.0;
+    if name == LogicalName::BROADCAST {
+        return own != LogicalName::UNNAMED;
     }
     false
 }
 
 // The same for a compare: none at broadcast.
+#[tactic(auto, unfolding(file::specs::Rules::Order::both))]
 fn is_compared(name: LogicalName, own: LogicalName) -> bool
     ensures { result ≡ both (not (eqb (name_in_lem name) broadcast)) (addresses (name_in_lem name) (name_in_lem own)) }
 {
-    if name.0 == LogicalName::BROADCAST.0 {
+    if name == LogicalName::BROADCAST {
         return false;
     }
     is_addressed(name, own)
@@ -119,13 +122,14 @@ pub fn compare_slave(
 }
 
 // Whether a record is the one that holds the logical name.
+#[tactic(auto, unfolding(crate::specs::Rules::Slaves::is_name_record, file::specs::Rules::Order::both))]
 fn is_name_record(number: FileNumber, record: RecordNumber) -> bool
     ensures { result ≡ is_name_record (file_in number) (record_in «record») }
 {
-    if number.0 != FileNumber::CONFIGURATION.0 {
+    if number != FileNumber::CONFIGURATION {
         return false;
     }
-    record.0 == RecordNumber::NAMES.0
+    record == RecordNumber::NAMES
 }
 
 // The place of the logical name in the record that holds it.

@@ -19,11 +19,8 @@ pub fn wake_slaves(file: &mut [u8])
     requires { AcceptedFile file.old }
     ensures { Becomes file.new (rested nothing (decode file.old)) }
 {
-    let count = slave_count(file);
-    let mut slave = 0;
-    while slave < count {
+    for slave in 0..slave_count(file) {
         set_sleep(file, slave, AWAKE);
-        slave = slave + 1;
     }
 }
 
@@ -31,11 +28,8 @@ fn sleep_round(file: &mut [u8], places: &SlavePlaces, name: LogicalName)
     requires { Placed file.old places.now }
     ensures { Becomes file.new (rested (sleeping (name_in_lem name)) (decode file.old)) }
 {
-    let count = slave_count(file);
-    let mut slave = 0;
-    while slave < count {
+    for slave in 0..slave_count(file) {
         sleep_slave(file, places, slave, name);
-        slave = slave + 1;
     }
 }
 
@@ -43,14 +37,7 @@ fn sleep_round(file: &mut [u8], places: &SlavePlaces, name: LogicalName)
 pub fn puts_to_sleep(duty: Duty) -> bool
     ensures { result ≡ puts_to_sleep duty }
 {
-    match duty {
-        Duty::Nothing => false,
-        Duty::Read => false,
-        Duty::Write => false,
-        Duty::Compare => false,
-        Duty::Baptize => false,
-        Duty::Sleep => true,
-    }
+    matches!(duty, Duty::Sleep)
 }
 
 // Who is awake after a round with that duty: all but those that it puts to sleep.
@@ -69,12 +56,5 @@ pub fn rest_slaves(file: &mut [u8], places: &SlavePlaces, duty: Duty, address: R
 pub fn leaves_slaves(duty: Duty) -> bool
     ensures { result ≡ leaves_slaves duty }
 {
-    match duty {
-        Duty::Nothing => true,
-        Duty::Read => true,
-        Duty::Write => false,
-        Duty::Compare => true,
-        Duty::Baptize => false,
-        Duty::Sleep => false,
-    }
+    matches!(duty, Duty::Nothing | Duty::Read | Duty::Compare)
 }

@@ -47,10 +47,8 @@ pub fn mask_to(last: u64) -> u64
     ensures { result ≡ sender_mask (senders_to last) }
 {
     let mut mask = NOBODY;
-    let mut slot = FIRST_SLOT as u64;
-    while slot <= last {
+    for slot in FIRST_SLOT as u64..last + 1 {
         mask = with_sender(mask, slot);
-        slot = slot + 1;
     }
     mask
 }
@@ -61,10 +59,8 @@ pub fn silence(buffer: &mut [u8], firework: u8)
     ensures { buffer.new ≡ answer_in buffer.old (answer_bytes firework nobody) }
 {
     buffer[FIREWORK_SLOT] = firework;
-    let mut slot = FIRST_SLOT;
-    while slot < SLOTS {
+    for slot in FIRST_SLOT..SLOTS {
         buffer[slot] = SILENT_BYTE;
-        slot = slot + 1;
     }
 }
 

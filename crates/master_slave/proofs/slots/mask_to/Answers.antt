@@ -11,7 +11,7 @@ pub with_sender-mask-requires : goal.with_sender-mask-requires
 with_sender-mask-requires c = (omega arith, mask_fits c.loop-slot.invariant)
 
 pub loop-slot-preserved : goal.loop-slot-preserved
-loop-slot-preserved c = counting_next c.loop-slot.invariant c.loop-slot-test.true c.with_sender-mask.ensures
+loop-slot-preserved c = counting_next c.loop-slot.invariant (omega arith) c.with_sender-mask.ensures
 
 pub returns : goal.returns
-returns c = counting_done c.loop-slot.invariant c.loop-slot-test.false c.requires
+returns c = counting_done c.loop-slot.invariant (omega arith) c.requires
