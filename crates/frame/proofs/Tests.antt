@@ -43,10 +43,6 @@ module _ (frame : List ℕ) where
   unfolding no_address
   address h e = either_false (ne_eqb _ _ h) (agrees e)
 
-  pub first_tells : (length frame ≡ 0 → ⊥) → not (eqb (get_or frame 0 0) address_firework) ≡ no_address frame
-  unfolding no_address
-  first_tells h = sym (either-next _ (ne_eqb _ _ h))
-
   pub address-first : no_address frame ≡ false → get_or frame 0 0 ≡ address_firework
   unfolding no_address
   address-first p = agree _ _ (either_false_right _ _ p)
@@ -68,10 +64,6 @@ module _ (frame : List ℕ) where
     pub right_check : get_or frame 5 0 ≡ check → wrong_check f frame ≡ false
     unfolding wrong_check
     right_check same = agrees (same ∙ made)
-
-  pub check_tells : (f : List ℕ → ℕ) {check : ℕ} → check ≡ f (between frame) → not (eqb (get_or frame 5 0) check) ≡ wrong_check f frame
-  unfolding wrong_check
-  check_tells f made = rw made
 
   pub check-is : (f : List ℕ → ℕ) → wrong_check f frame ≡ false → get_or frame 5 0 ≡ f (between frame)
   unfolding wrong_check

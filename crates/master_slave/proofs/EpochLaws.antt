@@ -15,14 +15,6 @@ use Rattle.master_slave.proofs.Kept.{kept_raised}
 
 -- ---- the epoch
 
-pub epoch-last : {e : ℕ} → e ≡ 255 → 0 ≡ next_epoch e
-unfolding next_epoch
-epoch-last last = omega arith
-
-pub epoch-next : {e : ℕ} → Byte e → (e ≡ 255 → ⊥) → e + 1 ≡ next_epoch e
-unfolding next_epoch
-epoch-next byte other = omega arith
-
 pub raised : {f : List ℕ} (c : Cluster) {e n : ℕ} → e ≡ c.epoch → n ≡ next_epoch e → Becomes f (with_epoch c n) → Becomes f (epoch_raised c)
 unfolding epoch_raised
 raised {f} c is next h = subst (λ (n : ℕ). Becomes f (with_epoch c n)) (next ∙ ap next_epoch is) h

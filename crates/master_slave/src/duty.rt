@@ -17,6 +17,8 @@ use file::readers::slave_count;
 use file::types::{FileNumber, LogicalName, RecordNumber, SlavePlaces};
 use frame::firework::MSD;
 
+// The loop stands in each round: what a slave's step is lent differs (the file read or written, buffer and last slot or data), and a closure that
+// takes them is no form of the portable C file.
 fn read_round(file: &[u8], places: &SlavePlaces, address: RecordAddress, buffer: &mut [u8]) -> u64
     requires { Placed file.now places.now × (slots ≤ length buffer.old) }
     ensures { Heard (sent_to (reading_at address) (decode file.now).slaves) data_firework buffer.old buffer.new result }
@@ -59,6 +61,7 @@ fn may_write(number: FileNumber, record: RecordNumber) -> bool
     record != HEADER_RECORD
 }
 
+#[tactic(auto, using(crate::proofs::Changing::changes, crate::proofs::DataLaws::writes), unfolding(crate::specs::Rules::Slaves::slaves_after))]
 fn write_round(file: &mut [u8], places: &SlavePlaces, address: RecordAddress, bytes: DataBytes)
     requires { Placed file.old places.now }
     ensures { Becomes file.new (slaves_after (writing_at address) (data_in bytes) (decode file.old)) }
@@ -71,6 +74,7 @@ fn write_round(file: &mut [u8], places: &SlavePlaces, address: RecordAddress, by
     }
 }
 
+#[tactic(auto, using(crate::proofs::Changing::changes, crate::proofs::Kept::changed_bytes), unfolding(crate::specs::Rules::Slaves::slaves_after))]
 fn baptize_round(file: &mut [u8], places: &SlavePlaces, name: LogicalName)
     requires { Placed file.old places.now }
     ensures { Becomes file.new (slaves_after (baptizing (name_in_lem name)) [] (decode file.old)) }

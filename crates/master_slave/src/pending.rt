@@ -15,6 +15,7 @@ use file::types::{FileNumber, LogicalName, Operation, RecordNumber};
 use file::writers::{set_epoch, set_pending};
 
 // "An accepted MSA sets the epoch to PB0 and becomes pending until the next one".
+#[tactic(auto, using(crate::proofs::AddressLaws::becoming))]
 pub fn become_pending(
     file: &mut [u8],
     epoch: u8,
@@ -84,6 +85,7 @@ fn duty_of(operation: Operation, address: RecordAddress) -> Duty
     execution_of(address)
 }
 
+#[tactic(auto, using(crate::proofs::DataLaws::pending_ways), unfolding(crate::specs::Inner::Duties::duty_at))]
 pub fn pending_duty(file: &[u8]) -> PendingDuty
     requires { AcceptedFile file.now }
     ensures { duty_at result.duty result.address ≡ pending_duty (decode file.now) }

@@ -147,6 +147,7 @@ fn last_byte(file: &[u8], place: usize, address: RecordAddress, byte: u8) -> u8
 }
 
 // The data put into the record at a place.
+#[tactic(auto, using(crate::proofs::SlaveLaws::putting))]
 fn put_data(file: &mut [u8], place: usize, address: RecordAddress, bytes: DataBytes)
     requires { place + record_size ≤ length file.old }
     ensures { DataPut file.old file.new place (written (file_in address.number) (record_in address.«record») (data_in bytes)) }
@@ -181,6 +182,7 @@ pub fn write_slave(
 }
 
 // Execute of record 1: an addressed slave whose physical name is the comparison value takes its new logical name.
+#[tactic(auto, using(crate::proofs::SlaveLaws::baptize_ways))]
 pub fn baptize_slave(file: &mut [u8], places: &SlavePlaces, slave: usize, name: LogicalName)
     requires { Placed file.old places.now × (slave < slave_count file.old) }
     ensures { Becomes file.new (with_slave (decode file.old) slave (slave_after (baptizing (name_in_lem name)) [] (slave_of (decode file.old) slave))) }
@@ -219,6 +221,7 @@ fn falls_asleep(file: &[u8], places: &SlavePlaces, slave: usize, name: LogicalNa
 }
 
 // The same slave after that round: asleep, or awake.
+#[tactic(auto, using(crate::proofs::SlaveLaws::rest_ways))]
 pub fn sleep_slave(file: &mut [u8], places: &SlavePlaces, slave: usize, name: LogicalName)
     requires { Placed file.old places.now × (slave < slave_count file.old) }
     ensures { Becomes file.new (with_slave (decode file.old) slave (rests_after (sleeping (name_in_lem name)) (slave_of (decode file.old) slave))) }

@@ -14,7 +14,8 @@ use file::readers::slave_count;
 use file::types::{LogicalName, SlavePlaces};
 use file::writers::set_sleep;
 
-// After any other round than a sleep everyone is awake.
+// After any other round than a sleep everyone is awake. The loop stands here and in `sleep_round`, as in `duty`'s rounds.
+#[tactic(auto, using(crate::proofs::Changing::changes, crate::proofs::Kept::rests_kept, crate::proofs::SlaveLaws::rests_woken), unfolding(crate::specs::Rules::Slaves::rested))]
 pub fn wake_slaves(file: &mut [u8])
     requires { AcceptedFile file.old }
     ensures { Becomes file.new (rested nothing (decode file.old)) }
@@ -24,6 +25,7 @@ pub fn wake_slaves(file: &mut [u8])
     }
 }
 
+#[tactic(auto, using(crate::proofs::Changing::changes, crate::proofs::Kept::rests_kept), unfolding(crate::specs::Rules::Slaves::rested))]
 fn sleep_round(file: &mut [u8], places: &SlavePlaces, name: LogicalName)
     requires { Placed file.old places.now }
     ensures { Becomes file.new (rested (sleeping (name_in_lem name)) (decode file.old)) }
@@ -41,6 +43,7 @@ pub fn puts_to_sleep(duty: Duty) -> bool
 }
 
 // Who is awake after a round with that duty: all but those that it puts to sleep.
+#[tactic(auto, using(crate::proofs::DataLaws::duty_rests, crate::proofs::DataLaws::duty_wakes))]
 pub fn rest_slaves(file: &mut [u8], places: &SlavePlaces, duty: Duty, address: RecordAddress)
     requires { Placed file.old places.now }
     ensures { Becomes file.new (rested (duty_at duty address) (decode file.old)) }

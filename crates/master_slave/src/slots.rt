@@ -34,6 +34,7 @@ pub const SILENT_BYTE: u8 = 0xFF;
 pub const NOBODY: u64 = 0;
 
 // The mask with one more slot in which someone sent, above all others.
+#[tactic(auto, using(crate::proofs::Bus::or_above))]
 pub fn with_sender(mask: u64, slot: u64) -> u64
     requires { (slot < slots) × (mask < 2 ^ slot) }
     ensures { result ≡ 2 ^ slot + mask }
@@ -42,6 +43,7 @@ pub fn with_sender(mask: u64, slot: u64) -> u64
 }
 
 // The mask of the slots 1 to last.
+#[tactic(auto, using(crate::proofs::Bus::counts))]
 pub fn mask_to(last: u64) -> u64
     requires { last < slots }
     ensures { result ≡ sender_mask (senders_to last) }
@@ -54,6 +56,7 @@ pub fn mask_to(last: u64) -> u64
 }
 
 // The buffer of a round in which nobody sends.
+#[tactic(auto, using(crate::proofs::Bus::fills))]
 pub fn silence(buffer: &mut [u8], firework: u8)
     requires { slots ≤ length buffer.old }
     ensures { buffer.new ≡ answer_in buffer.old (answer_bytes firework nobody) }
@@ -65,6 +68,7 @@ pub fn silence(buffer: &mut [u8], firework: u8)
 }
 
 // One more sender, which sends a byte in slot 1.
+#[tactic(auto, unfolding(crate::specs::Inner::Carried::said))]
 pub fn send_byte(buffer: &mut [u8], byte: u8)
     requires { slots ≤ length buffer.old }
     ensures { buffer.new ≡ said buffer.old 1 (byte ∷ []) }
@@ -73,6 +77,7 @@ pub fn send_byte(buffer: &mut [u8], byte: u8)
 }
 
 // One more sender, which sends the record at a place and its check in slots 1 to 5.
+#[tactic(auto, using(crate::proofs::Bus::record_said), unfolding(crate::specs::Inner::Carried::said))]
 pub fn send_record(buffer: &mut [u8], file: &[u8], place: usize)
     requires { (slots ≤ length buffer.old) × (place + record_size ≤ length file.now) }
     ensures { buffer.new ≡ said buffer.old 1 (read_reply (part file.now place record_size)) }
