@@ -10,7 +10,7 @@ use lib.Dec.{eqb}
 use borrow.Author.Tests.{lt-ltb, le-ltb, eq-eqb, ne_eqb, eqb-true, leb-false, lt-leb, not-false}
 use Rattle.std.specs.Ordering.{is_lt, nat_cmp}
 use Rattle.std.proofs.lemmas.Bool.Decides.{nat_tests}
-use Rattle.file.proofs.Order.{either_left, either-next, either_false, either_false_right}
+use Rattle.file.proofs.Order.{either_left, either_false, either_false_right}
 use Rattle.frame.specs.Rules.Frames.{frame_size, between}
 use Rattle.frame.specs.Rules.Fireworks.{address_firework}
 use Rattle.frame.specs.Rules.FrameGrounds.{short_frame_buffer, no_address, wrong_frame_length, wrong_check, no_operation, no_file_number}
