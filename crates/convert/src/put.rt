@@ -51,10 +51,8 @@ pub fn put_zeros(out: &mut [u8], at: usize, count: usize)
     requires { at + count ≤ length out.old }
     ensures { Put out.old at (replicate count 0) out.new }
 {
-    let mut done = 0;
-    while done < count {
+    for done in 0..count {
         out[at + done] = 0;
-        done = done + 1;
     }
 }
 

@@ -56,8 +56,7 @@ pub fn put_slaves(out: &mut [u8], width: usize, at: usize, place: usize, file: &
     let mut entry = at;
     let mut start = HEADER_BYTES + HEADER_OFFSETS * own + ENTRY_OFFSETS * own * count;
     let mut to = place;
-    let mut slave = 0;
-    while slave < count {
+    for slave in 0..count {
         let files = file_count(file, own, slave) as u8;
         let asleep = listed_sleep(file, own, slave, kept);
         let ends = put_slave(out, width, to, file, own, slave, start);
@@ -65,7 +64,6 @@ pub fn put_slaves(out: &mut [u8], width: usize, at: usize, place: usize, file: &
         entry = entry + ENTRY_OFFSETS * width;
         start = ends.file;
         to = ends.out;
-        slave = slave + 1;
     }
 }
 
@@ -78,15 +76,13 @@ fn put_moved_at(out: &mut [u8], width: usize, at: usize, place: usize, file: &[u
     let mut entry = at;
     let mut start = HEADER_BYTES + HEADER_OFFSETS * width + ENTRY_OFFSETS * width * count;
     let mut to = place;
-    let mut slave = 0;
-    while slave < count {
+    for slave in 0..count {
         let files = file_count(file, width, slave) as u8;
         let end = put_directory(out, width, to, file, width, slave, start);
         put_table_entry(out, width, entry, to, files, AWAKE);
         entry = entry + ENTRY_OFFSETS * width;
         start = start + (end - to);
         to = end;
-        slave = slave + 1;
     }
 }
 
