@@ -86,7 +86,7 @@ fn known_size(file: &[u8], slave: usize, number: FileNumber, plan: SlavePlan) ->
     requires { AcceptedFile file.now × (slave < slave_count file.now) × (file_in number < file_numbers) × Kept (slave_of (decode file.now) slave) (file_in plan.number) plan.size }
     ensures { result ≡ length (bytes_in (slave_of (decode file.now) slave) (file_in number)) }
 {
-    if plan.number.0 == number.0 {
+    if plan.number == number {
         return plan.size;
     }
     file_size(file, slave, number)

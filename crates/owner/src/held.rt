@@ -51,10 +51,7 @@ pub fn all_held(file: &[u8], held: &mut [u8])
     ensures { AllHold (decode file.now) held.new }
 {
     let width = width_of(file);
-    let count = slave_count(file);
-    let mut slave = 0;
-    while slave < count {
+    for slave in 0..slave_count(file) {
         held[slave] = rounds_held(file, width, slave);
-        slave = slave + 1;
     }
 }

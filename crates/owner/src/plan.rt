@@ -113,12 +113,10 @@ pub fn plan_round(
         multiplexed: false,
     };
     row[FIREWORK_SLOT] = master.0;
-    let mut slave = 0;
-    while slave < count {
+    for slave in 0..count {
         if (held[slave] >> round.0) % 2 == 1 {
             plan = add_slave(file, places, slave, round, plan, row);
         }
-        slave = slave + 1;
     }
     plan
 }

@@ -135,11 +135,9 @@ pub fn write_rounds(
         clash: false,
         multiplexed: false,
     };
-    let mut round = 0;
-    while round < ROUNDS {
+    for round in 0..ROUNDS {
         head[RECORD_SIZE + round] = index_byte(round, written.length);
         written = write_round(file, places, master, round, &held, written, rows);
-        round = round + 1;
     }
     written
 }
