@@ -5,4 +5,4 @@ use Rattle.owner.proofs.rounds.write_rounds.Given as goal
 
 abbrev pub invariant-loop-round : goal.invariant-loop-round
 invariant-loop-round l =
-    RoundsWritten (decode l.file).slaves l.master.0 l.round l.head l.rows l.written.length l.written.clash l.written.multiplexed
+    RoundsWritten (decode l.file).slaves l.fn.master.0 l.round l.head l.rows l.written.length l.written.clash l.written.multiplexed
