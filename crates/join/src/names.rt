@@ -28,7 +28,8 @@ pub fn mark_names(file: &[u8], places: &SlavePlaces, held: &mut NameMarks)
     }
 }
 
-// Marks the remainders of their physical names.
+// Marks the remainders of their physical names. The two functions differ in the reader that they call: one for both would take a closure, and be
+// longer than either.
 fn mark_remainders(file: &[u8], places: &SlavePlaces, seen: &mut RemainderMarks)
     requires { Placed file.now places.now × MarksOf 256 seen.old [] }
     ensures { MarksOf 256 seen.new (map remainder_of (decode file.now).slaves) }

@@ -15,7 +15,7 @@ const NUMBERS: usize = 64;
 
 const ROUND_MARKS: u64 = 256;
 
-// The numbers below 8 of a directory's files, a bit each.
+// The numbers below 8 of a directory's files, a bit each. A `while`: `step_by` compares twice for each entry, seven instructions in place of five.
 fn mark_rounds(file: &[u8], width: usize, directory: usize, count: usize) -> u8
     requires { EntriesFit width file.now directory count }
     ensures { DirectoryMarked width file.now directory count result }

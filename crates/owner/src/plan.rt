@@ -19,7 +19,7 @@ use master_slave::slots::FIREWORK_SLOT;
 use multipartner::entry::{KIND_PLACE, NO_FILE};
 use multipartner::round_files::planned_file;
 
-// A name put into a row at every slot of a mask.
+// A name put into a row at every slot of a mask: a turn for each bit that is set, where a `for` over the slots has 64.
 fn put_name(row: &mut [u8], mask: u64, name: LogicalName)
     requires { length row.old ≡ slots }
     ensures { OwnerPut row.old row.new mask (name_in_lem name) }
@@ -53,7 +53,8 @@ pub struct Planner<'a> {
 
 impl Planner<'_> {
     // Its entries are read once, first to last: a slot that an earlier one covers is hidden from a later one, so the entry that finds its
-    // slot free is the one that acts there. An entry that is passed over hides no slot.
+    // slot free is the one that acts there. An entry that is passed over hides no slot. A `while`: `step_by` compares twice for each entry, with
+    // four instructions more.
     fn plan_slave(&self, slave: usize, round: FileNumber) -> SlavePlan
         requires { slave < slave_count self.now.file.now }
         ensures { SlavePlanned (file_in round) (slave_of (decode self.now.file.now) slave) result.sends result.multiplexed }

@@ -36,13 +36,11 @@ pub const ROWS_ROOM: usize = ROUNDS * SLOTS;
 fn is_owned(round: usize) -> bool
     ensures { result ≡ is_owned round }
 {
-    if round == DATA_ROUND {
-        return false;
-    }
-    round != ADDRESS_ROUND
+    round != DATA_ROUND && round != ADDRESS_ROUND
 }
 
-// What is written so far: how many bytes of rows, whether two slaves send in one slot, and whether a slave has a multiplexed send.
+// What is written so far: how many bytes of rows, whether two slaves send in one slot, and whether a slave has a multiplexed send. No `Result`
+// of the length: a multiplexed send in a later round is told before a clash in an earlier one, so all rounds are gone through.
 #[derive(Clone, Copy)]
 pub struct Rows {
     pub length: usize,
