@@ -1,14 +1,18 @@
--- `owner::plan::plan_slave` meets its contract. The invariant is `Working`.
+-- `owner::plan::Planner::plan_slave` meets its contract. The invariant is `Working`.
 -- Assumes nothing.
 use Rattle.std.proofs.Common.{arith}
 use Rattle.std.proofs.Common.{rules}
 use Rattle.owner.proofs.EntryMasks.{single_there}
+use Rattle.owner.proofs.PlannerLaws.{planned-file, planned-placed}
 use Rattle.owner.proofs.SlavePlan.{working_start, working_done, working_within, working_low, working_entry, working_end, working_single, working_other}
-use Rattle.owner.proofs.plan.plan_slave.Goals as goal
-use Rattle.owner.proofs.plan.plan_slave.Goals.{then-is_single, else-is_single+else-is_end}
+use Rattle.owner.proofs.plan.Planner.plan_slave.Goals as goal
+use Rattle.owner.proofs.plan.Planner.plan_slave.Goals.{then-is_single, else-is_single+else-is_end}
+
+pub planned_file-found-requires : goal.planned_file-found-requires
+planned_file-found-requires c = (planned-placed c.args.self.now.known, c.requires)
 
 pub loop-at-init : goal.loop-at-init
-loop-at-init c = working_start _ _ _ _ c.requires.0.file (omega arith)
+loop-at-init c = working_start _ _ _ _ (planned-file c.args.self.now.known) (omega arith)
 
 pub overflow_add-kind : goal.overflow_add-kind
 overflow_add-kind c = omega (arith, working_low c.loop-at.invariant c.planned_file-found.ensures c.loop-at-test.true)
@@ -18,13 +22,15 @@ bounds-file-at c =
     omega (arith, working_within c.loop-at.invariant c.planned_file-found.ensures c.loop-at-test.true)
 
 pub with_slot-plan-requires : goal.with_slot-plan-requires
-with_slot-plan-requires c = (search (rules, working_entry), search (rules, single_there))
+with_slot-plan-requires c =
+    (working_entry c.loop-at.invariant c.planned_file-found.ensures c.loop-at-test.true (planned-file c.args.self.now.known) c.requires, search (rules, single_there))
 
 pub returns-then-is_end : goal.returns-then-is_end
 returns-then-is_end c = search (rules, working_end)
 
 pub with_slots-plan-requires : goal.with_slots-plan-requires
-with_slots-plan-requires c = search (rules, working_entry)
+with_slots-plan-requires c =
+    working_entry c.loop-at.invariant c.planned_file-found.ensures c.loop-at-test.true (planned-file c.args.self.now.known) c.requires
 
 pub overflow_add-at : goal.overflow_add-at
 overflow_add-at c =

@@ -1,8 +1,8 @@
--- `owner::rounds::write_row` meets its contract: the row of a planned round.
+-- `owner::plan::Planner::write_row` meets its contract: the row of a planned round.
 -- Assumes nothing.
 use Rattle.std.proofs.Common.{arith}
 use Rattle.owner.proofs.RowLaws.{row_written}
-use Rattle.owner.proofs.rounds.write_row.Goals as goal
+use Rattle.owner.proofs.plan.Planner.write_row.Goals as goal
 
 pub returns : goal.returns
 returns c =
