@@ -118,7 +118,7 @@ pub fn place_of_record(
     requires { Placed file.now places.now × (slave < slave_count file.now) }
     ensures { found_record result ≡ find_record (decode file.now) slave (file_in number) (record_in «record») }
 {
-    if number.0 == FileNumber::CONFIGURATION.0 {
+    if number == FileNumber::CONFIGURATION {
         if record.0 <= NEEDED_CONFIGURATION {
             let place = places[PLACES_EACH * slave] as usize;
             return RecordPlace::At(place + RECORD_SIZE * (record.0 as usize));
@@ -128,10 +128,11 @@ pub fn place_of_record(
 }
 
 // Whether a record is one of 0x3D that every slave has: one test, which a loop along the slaves makes once.
+#[tactic(auto, unfolding(crate::specs::Inner::Accepted::is_documented, crate::specs::Rules::Order::both))]
 fn is_documented(number: FileNumber, record: RecordNumber) -> bool
     ensures { result ≡ is_documented (file_in number) (record_in «record») }
 {
-    if number.0 != FileNumber::DOCUMENTATION.0 {
+    if number != FileNumber::DOCUMENTATION {
         return false;
     }
     record.0 <= NEEDED_DOCUMENTATION

@@ -26,12 +26,10 @@ fn is_missing(places: &[u16]) -> bool
     ensures { result ≡ is_among 0 places.now }
 {
     let mut missing = false;
-    let mut at = 0;
-    while at < places.len() {
-        if places[at] == 0 {
+    for place in places {
+        if *place == 0 {
             missing = true;
         }
-        at = at + 1;
     }
     missing
 }

@@ -1,7 +1,7 @@
 -- `file::walk::walk_directory` meets its contract. The invariant is `Walking`: the walk from here, where all fits so far, is the walk from the start.
 -- Assumes nothing.
 use Rattle.std.proofs.Common.{rules}
-use borrow.Author.Tests.{not-true, not-false}
+use borrow.Author.Tests.{not-true}
 use Rattle.file.proofs.WalkLaws.{walking_none, first_entry, first-number, first_records, first_stop, first_fits, first_next, walking_fits}
 use Rattle.file.proofs.WalkLaws.{walking_entry, walking_stop, walking_next, walking_done}
 use Rattle.file.proofs.walk.walk_directory.Goals as goal
