@@ -16,7 +16,7 @@ use Rattle.file.specs.Rules.FileGrounds.{to, walk_directory}
 use Rattle.file.specs.Inner.Checked.{EntriesFit, states, stated_place, Arrives}
 use Rattle.file.proofs.Order.{both_left, both-next, both_false_left}
 use Rattle.file.proofs.Arrivals.{Step, walk_took}
-use Rattle.file.proofs.WalkLaws.{stated-step, stated-last, more_left, none_left, entry-fits, walking_first}
+use Rattle.file.proofs.WalkLaws.{stated-step, stated-last, more_left, none_left, entry-fits, entries_rise, walking_first}
 use Rattle.file.proofs.Stated.{walk_skips}
 use Rattle.file.proofs.Width.{place-fits, wide_enough}
 
@@ -196,13 +196,8 @@ module _ {w : ℕ} {f : List ℕ} {d k n least entry : ℕ} (fit : EntriesFit w 
     there : d + 2 * w * (h.count - 1) ≡ entry - 2 * w
     there = omega (arith, last-at)
 
-    rise : (a b : ℕ) → a ≤ b → 2 * w * a ≤ 2 * w * b
-    rise zero b l = omega arith
-    rise (suc a) zero l = absurd (omega arith)
-    rise (suc a) (suc b) l = omega (arith, rise a b (omega arith))
-
     pub back-entry : EntriesFit w f (entry - 2 * w) 1
-    back-entry = record { width = fit.width; within = omega (arith, last-at, h.at, fit.within, rise h.count k h.most); short = fit.short }
+    back-entry = record { width = fit.width; within = omega (arith, last-at, h.at, fit.within, entries_rise w h.count k h.most); short = fit.short }
 
     pub back-two : entry - 2 * w + 2 ≤ length f
     back-two = omega (arith, back-entry.within, fit.width.least)

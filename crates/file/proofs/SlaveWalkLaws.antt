@@ -18,9 +18,12 @@ use Rattle.file.specs.Rules.Cluster.{configuration, documentation}
 use Rattle.file.specs.Rules.Decode.{offset_at}
 use Rattle.file.specs.Rules.FileGrounds.{broken, to, and_then, good_table_entry, walk_directory, walk_slave, walk_slaves}
 use Rattle.file.specs.Inner.Places.{places_each}
-use Rattle.file.specs.Inner.Checked.{EntriesFit, stated_place, stated_in, stated_places, walk_of, DirectoryWalked, EntryWalked, Arrives, SlaveWalked, SlavesWalked}
+use Rattle.file.specs.Inner.Checked.{EntriesFit, stated_place, stated_in, stated_places, walk_of, DirectoryWalked, EntryWalked, Arrives, SlaveStated, SlaveWalked, SlavesWalked}
+use Rattle.file.specs.declared.walk.SlaveFound.{SlaveFound}
+use Rattle.std.specs.Prelude.{Option, Some, None}
 use Rattle.file.proofs.Order.{clash}
 use Rattle.file.proofs.Arrivals.{SlaveStep, slave_took}
+use Rattle.file.proofs.WalkLaws.{entries_rise}
 use Rattle.file.proofs.Facts.{false_unless, TableEntryFacts, table-entry_facts, table-entry_yes}
 
 -- ---- one slave
@@ -34,37 +37,37 @@ pub slave-step : (w : ℕ) (f : List ℕ) (t place : ℕ) → good_table_entry w
 unfolding walk_slave
 slave-step w f t place e = rw e
 
-refused : {w : ℕ} {f : List ℕ} {t place : ℕ} → (TableEntryFacts w f t place → ⊥) → EntryWalked w f t place false 0
+refused : {w : ℕ} {f : List ℕ} {t place : ℕ} → (TableEntryFacts w f t place → ⊥) → EntryWalked w f t place None
 unfolding walk_of
 refused {w} {f} {t} {place} not_so =
     record {
       walk = sym (slave_stop w f t place (false_unless (λ e. not_so (table-entry_facts w f t place e))));
-      within = λ e. clash e refl;
+      within = tt;
     }
 
-pub slave-elsewhere : {w : ℕ} {f : List ℕ} {t place n : ℕ} → NumberAt f t w n → (n ≡ place → ⊥) → EntryWalked w f t place false 0
+pub slave-elsewhere : {w : ℕ} {f : List ℕ} {t place n : ℕ} → NumberAt f t w n → (n ≡ place → ⊥) → EntryWalked w f t place None
 unfolding offset_at
 slave-elsewhere k h = refused (λ g. h (k.is ∙ g.offset))
 
-pub slave_sleep : {w : ℕ} {f : List ℕ} {t : ℕ} (place : ℕ) {n : ℕ} → ByteAt f (t + w + 1) n → 1 < n → EntryWalked w f t place false 0
+pub slave_sleep : {w : ℕ} {f : List ℕ} {t : ℕ} (place : ℕ) {n : ℕ} → ByteAt f (t + w + 1) n → 1 < n → EntryWalked w f t place None
 slave_sleep place k h = refused (λ g. omega (arith, g.sleeps, k.is))
 
-pub slave_unfilled : {w : ℕ} {f : List ℕ} {t : ℕ} (place : ℕ) {filled : Bool} → filled ≡ all_zero (part f (t + w + 2) (w - 2)) → filled ≡ false → EntryWalked w f t place false 0
+pub slave_unfilled : {w : ℕ} {f : List ℕ} {t : ℕ} (place : ℕ) {filled : Bool} → filled ≡ all_zero (part f (t + w + 2) (w - 2)) → filled ≡ false → EntryWalked w f t place None
 slave_unfilled place is e = refused (λ g. clash g.zeros (sym is ∙ e))
 
-pub slave_past : {w : ℕ} {f : List ℕ} {t place n : ℕ} → ByteAt f (t + w) n → length f < place + 2 * w * n → EntryWalked w f t place false 0
+pub slave_past : {w : ℕ} {f : List ℕ} {t place n : ℕ} → ByteAt f (t + w) n → length f < place + 2 * w * n → EntryWalked w f t place None
 slave_past {w} {f} {t} {place} {n} k h =
     let past : length f < place + 2 * w * get_or f (t + w) 0 = rw (← k.is) h in
     refused (λ g. omega (arith, g.within, past))
 
-module _ {w : ℕ} {f : List ℕ} {t place n offset asleep : ℕ} {filled good : Bool} {end : ℕ} (count : ByteAt f (t + w) n) (o : NumberAt f t w offset) (here : offset ≡ place)
+module _ {w : ℕ} {f : List ℕ} {t place n offset asleep : ℕ} {filled : Bool} {end : Option ℕ} (count : ByteAt f (t + w) n) (o : NumberAt f t w offset) (here : offset ≡ place)
     (z : ByteAt f (t + w + 1) asleep) (few : asleep ≤ 1) (is : filled ≡ all_zero (part f (t + w + 2) (w - 2))) (all : filled ≡ true)
-    (fits : place + 2 * w * n ≤ length f) (h : DirectoryWalked w f place n good end) where
+    (fits : place + 2 * w * n ≤ length f) (h : DirectoryWalked w f place n end) where
   offset-there : offset_at w f t ≡ place
   unfolding offset_at
   offset-there = sym o.is ∙ here
 
-  pub slave_walked : EntryWalked w f t place good end
+  pub slave_walked : EntryWalked w f t place end
   slave_walked =
       let within : place + 2 * w * get_or f (t + w) 0 ≤ length f = rw (← count.is) fits in
       let facts : TableEntryFacts w f t place = record {
@@ -80,20 +83,11 @@ module _ {w : ℕ} {f : List ℕ} {t place n offset asleep : ℕ} {filled good :
 
 -- ---- its places
 
-pub slave-broken : {w : ℕ} {f : List ℕ} {t place : ℕ} {good : Bool} {end : ℕ} → EntryWalked w f t place good end → good ≡ false → SlaveWalked w f t place false 0 0 0
+pub slave-broken : {w : ℕ} {f : List ℕ} {t place : ℕ} → EntryWalked w f t place None → broken ≡ walk_slave w f t place
 unfolding walk_of
-slave-broken h e =
-    record {
-      walk = rw e at h.walk;
-      config = λ q. clash q refl;
-      document = λ q. clash q refl;
-      within = λ q. clash q refl;
-    }
+slave-broken h = h.walk
 
-pub slave_good : {w : ℕ} {f : List ℕ} {t place : ℕ} {good : Bool} {end : ℕ} → EntryWalked w f t place good end → good ≡ true → EntryWalked w f t place true end
-slave_good h e = rw e at h
-
-module _ {w : ℕ} {f : List ℕ} {t place end : ℕ} (fit : EntriesFit w f t 1) (h : EntryWalked w f t place true end) {n : ℕ} (count : ByteAt f (t + w) n) where
+module _ {w : ℕ} {f : List ℕ} {t place end : ℕ} (fit : EntriesFit w f t 1) (h : EntryWalked w f t place (Some end)) {n : ℕ} (count : ByteAt f (t + w) n) where
   took : SlaveStep w f t place end
   unfolding walk_of
   took = slave_took w f t place end (sym h.walk)
@@ -104,14 +98,15 @@ module _ {w : ℕ} {f : List ℕ} {t place end : ℕ} (fit : EntriesFit w f t 1)
   pub slave_arrives : Arrives w f place n
   slave_arrives = record { end = end; walk = rw count.is took.files }
 
-  pub slave-stated : {conf doc : ℕ} → conf ≡ stated_place w f configuration 3 0 place n → doc ≡ stated_place w f documentation 2 0 place n → SlaveWalked w f t place true end conf doc
-  unfolding stated_in
-  slave-stated conf-is doc-is =
+  pub slave-stated : {found : SlaveFound} → found.end ≡ end → found.configuration ≡ stated_place w f configuration 3 0 place n → found.documentation ≡ stated_place w f documentation 2 0 place n
+      → SlaveStated w f t place found
+  unfolding stated_in walk_of
+  slave-stated end-is conf-is doc-is =
       record {
-        walk = h.walk;
-        config = λ _. rw (took.facts.offset, ← count.is) conf-is;
-        document = λ _. rw (took.facts.offset, ← count.is) doc-is;
-        within = h.within;
+        walk = rw end-is h.walk;
+        config = rw (took.facts.offset, ← count.is) conf-is;
+        document = rw (took.facts.offset, ← count.is) doc-is;
+        within = rw end-is h.within;
       }
 
 -- the width as a literal: it is 2, or 4
@@ -131,12 +126,12 @@ module _ {w : ℕ} {f : List ℕ} {d k : ℕ} (fit : EntriesFit w f d k) where
   pub wide_place : {place : ℕ} → place ≤ 16384 * w → place ≤ 16384 * 4
   wide_place h = omega (arith, fit.width.most)
 
-  module _ {place : ℕ} {good : Bool} {end conf doc : ℕ} where
-    pub narrow_walked : w ≡ 2 → SlaveWalked 2 f d place good end conf doc → SlaveWalked w f d place good end conf doc
-    narrow_walked two h = subst (λ (v : ℕ). SlaveWalked v f d place good end conf doc) (sym two) h
+  module _ (place : ℕ) (found : Option SlaveFound) where
+    pub narrow_walked : w ≡ 2 → SlaveWalked 2 f d place found → SlaveWalked w f d place found
+    narrow_walked two h = subst (λ (v : ℕ). SlaveWalked v f d place found) (sym two) h
 
-    pub wide_walked : (w ≡ 2 → ⊥) → SlaveWalked 4 f d place good end conf doc → SlaveWalked w f d place good end conf doc
-    wide_walked other h = subst (λ (v : ℕ). SlaveWalked v f d place good end conf doc) (sym (other-is other)) h
+    pub wide_walked : (w ≡ 2 → ⊥) → SlaveWalked 4 f d place found → SlaveWalked w f d place found
+    wide_walked other h = subst (λ (v : ℕ). SlaveWalked v f d place found) (sym (other-is other)) h
 
 -- the entries of a slave's directory fit
 pub directory-fits : {w : ℕ} {f : List ℕ} {t : ℕ} (place n : ℕ) → EntriesFit w f t 1 → place + 2 * w * n ≤ length f → EntriesFit w f place n
@@ -222,11 +217,6 @@ surveying_start {w} {f} {count} h room =
       same = refl;
     }
 
-entries_rise : (w a b : ℕ) → a ≤ b → 2 * w * a ≤ 2 * w * b
-entries_rise w zero b l = omega arith
-entries_rise w (suc a) zero l = absurd (omega arith)
-entries_rise w (suc a) (suc b) l = omega (arith, entries_rise w a b (omega arith))
-
 module _ {w : ℕ} {f : List ℕ} {count size slave entry place : ℕ} {places : List ℕ} (h : Surveying w f count size slave entry place places) where
   -- the table entry of a turn lies within the bytes
   pub surveying_entry : EntriesFit w f (header_size w) count → slave < count → EntriesFit w f entry 1
@@ -237,36 +227,30 @@ module _ {w : ℕ} {f : List ℕ} {count size slave entry place : ℕ} {places :
   pub surveying_place : EntriesFit w f (header_size w) count → place ≤ 16384 * w
   surveying_place fit = omega (arith, h.within, fit.short)
 
-  pub surveying_stop : {good : Bool} {end conf doc : ℕ} → slave < count → SlaveWalked w f entry place good end conf doc → good ≡ false → SlavesWalked w f count false 0 places
+  pub surveying_stop : slave < count → broken ≡ walk_slave w f entry place → SlavesWalked w f count None places
   unfolding walk_of
-  surveying_stop {good} {end} more s e =
-      let stopped : broken ≡ walk_slave w f entry place = rw e at s.walk in
-      record {
-        walk = sym (slaves_stop w f entry place (count - slave) (omega arith) (sym stopped)) ∙ h.walk;
-        stated = λ t. clash t refl;
-      }
+  surveying_stop more stopped =
+      record { walk = sym (slaves_stop w f entry place (count - slave) (omega arith) (sym stopped)) ∙ h.walk; stated = tt }
 
-  pub surveying_next : {good : Bool} {end conf doc : ℕ} → slave < count → SlaveWalked w f entry place good end conf doc → good ≡ true →
-      Surveying w f count size (slave + 1) (entry + 2 * w) end (set (set places (2 * slave) conf) (2 * slave + 1) doc)
-  unfolding walk_of
-  surveying_next {good} {end} {conf} {doc} more s e =
-      let here : to end ≡ walk_slave w f entry place = rw e at s.walk in
+  pub surveying_next : {found : SlaveFound} → slave < count → SlaveStated w f entry place found →
+      Surveying w f count size (slave + 1) (entry + 2 * w) found.end (set (set places (2 * slave) found.configuration) (2 * slave + 1) found.documentation)
+  surveying_next {found} more s =
       let less : count - (slave + 1) ≡ count - slave - 1 = omega arith in
       record {
         at = omega (arith, h.at);
         most = omega arith;
-        within = s.within e;
-        walk = rw (less, ← (slaves-step w f entry place (count - slave) end (omega arith) (sym here))) h.walk;
-        written = written_next h.written more (s.config e) (s.document e);
+        within = s.within;
+        walk = rw (less, ← (slaves-step w f entry place (count - slave) found.end (omega arith) (sym s.walk))) h.walk;
+        written = written_next h.written more s.config s.document;
         same = simp length-set h.same;
       }
 
-  pub surveying_done : count ≤ slave → SlavesWalked w f count true place places
+  pub surveying_done : count ≤ slave → SlavesWalked w f count (Some place) places
   unfolding walk_of walk_slaves stated_places
   surveying_done none =
       let z : count - slave ≡ 0 = omega arith in
       let same : slave ≡ count = omega (arith, h.most) in
       record {
         walk = rw z at h.walk;
-        stated = λ _. rw (z, append-nil, same) at h.written.all;
+        stated = rw (z, append-nil, same) at h.written.all;
       }

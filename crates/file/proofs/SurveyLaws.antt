@@ -9,6 +9,7 @@ use borrow.Author.Tests.{le-leb, lt-leb, eqb-true, eqb-false}
 use lib.Dec.{leb, eqb}
 use lib.ListN.{length, get_or, take}
 use lib.Seq.{get_or-take}
+use Rattle.std.specs.Prelude.{Option, Some, None}
 use Rattle.file.specs.Rules.Order.{first_of}
 use Rattle.file.specs.Rules.Layout.{width_in, OffsetWidth, edition_of, header_size, entry_size_lem, max_slaves, max_length}
 use Rattle.file.specs.Rules.Bytes.{All, Bytes}
@@ -91,27 +92,27 @@ body_short {w} {f} {n} places k h =
     }
 
 module _
-    {w : ℕ} {f : List ℕ} {n : ℕ} {good : Bool} {end : ℕ} {places : List ℕ}
-    (k : ByteAt f 3 n) (fits : header_size w + entry_size_lem w * n ≤ length f) (walked : SlavesWalked w f n good end places) where
-  whole_is : walk_file w f ≡ walk_of good end
+    {w : ℕ} {f : List ℕ} {n : ℕ} {end : Option ℕ} {places : List ℕ}
+    (k : ByteAt f 3 n) (fits : header_size w + entry_size_lem w * n ≤ length f) (walked : SlavesWalked w f n end places) where
+  whole_is : walk_file w f ≡ walk_of end
   whole_is =
       let count = k.is in
       let there : header_size w + entry_size_lem w * get_or f 3 0 ≤ length f = rw (← count) fits in
       walk-file w f there ∙ rw (← count) (sym walked.walk)
 
-  pub body_broken : good ≡ false → BodyWalked w f false places
+  pub body_broken : end ≡ None → BodyWalked w f false places
   unfolding walk_of
   body_broken e = record { broke = λ _. layout-broken w f (λ q. broken_arrives (rw (whole_is, e) at q)); whole = λ t. clash t refl }
 
-  pub body_walked : {t : Bool} → GoodHeader w f → good ≡ true → t ≡ eqb end (length f) → BodyWalked w f t places
+  pub body_walked : {place : ℕ} {t : Bool} → GoodHeader w f → end ≡ Some place → t ≡ eqb place (length f) → BodyWalked w f t places
   unfolding walk_of
-  body_walked header e same =
+  body_walked {place} header e same =
       record {
-        broke = λ t. layout-broken w f (λ q. eqb-false end (length f) (sym same ∙ t) (arrived (rw (whole_is, e) at q)));
+        broke = λ t. layout-broken w f (λ q. eqb-false place (length f) (sym same ∙ t) (arrived (rw (whole_is, e) at q)));
         whole = λ t. record {
           header = header;
-          walk = whole_is ∙ rw (e, eqb-true end (length f) (sym same ∙ t));
-          stated = rw (← k.is) (walked.stated e);
+          walk = whole_is ∙ rw (e, eqb-true place (length f) (sym same ∙ t));
+          stated = rw (← k.is) (rw e at walked.stated);
         };
       }
 

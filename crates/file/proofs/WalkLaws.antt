@@ -2,6 +2,7 @@
 -- Assumes nothing.
 use Prim.Native.Nat.{ℕ, zero, suc, ◌+◌, ◌*◌, ◌-◌, ◌≤◌, ◌<◌}
 use mathlib.Core.Path.{◌≡◌, refl, sym, ◌∙◌}
+use Rattle.std.specs.Prelude.{Some, None}
 use mathlib.Core.List.{List}
 use mathlib.Core.Bool.{Bool, true, false, cond}
 use native.Mathlib.Omega.{arith}
@@ -134,6 +135,11 @@ entries-few w (suc k) h = omega (arith, entries-few w k h)
 pub fit-few : {w : ℕ} {f : List ℕ} {d k : ℕ} → EntriesFit w f d k → k ≤ 16384
 fit-few {w} {f} {d} {k} fit = omega (arith, fit.within, fit.short, fit.width.most, entries-few w k fit.width.least)
 
+pub entries_rise : (w a b : ℕ) → a ≤ b → 2 * w * a ≤ 2 * w * b
+entries_rise w zero b l = omega arith
+entries_rise w (suc a) zero l = absurd (omega arith)
+entries_rise w (suc a) (suc b) l = omega (arith, entries_rise w a b (omega arith))
+
 pub more_left : (w a b left : ℕ) → a + 2 * w * left ≡ b → a < b → (l : ℕ) × (left ≡ suc l)
 more_left w a b zero e h = absurd (omega arith)
 more_left w a b (suc l) e h = (l, refl)
@@ -164,11 +170,11 @@ walking_start {w} {f} {d} {k} fit =
     record { left = k; at = refl; small = omega (arith, h, fit.short, fit.width.most); walk = rw all }
 
 -- a directory without entries
-pub walking_none : {w : ℕ} {f : List ℕ} {d k : ℕ} → EntriesFit w f d k → k ≡ 0 → DirectoryWalked w f d k true d
+pub walking_none : {w : ℕ} {f : List ℕ} {d k : ℕ} → EntriesFit w f d k → k ≡ 0 → DirectoryWalked w f d k (Some d)
 unfolding walk_of walk_directory
 walking_none {w} {f} {d} {k} fit none =
     let here : d + 2 * w * 0 ≡ d = omega arith in
-    record { walk = rw (none, here); within = λ _. omega (arith, fit.within) }
+    record { walk = rw (none, here); within = omega (arith, fit.within) }
 
 -- the first entry of one that has some
 pub walking_first : (w d k : ℕ) → 2 ≤ w → (k ≡ 0 → ⊥) → d < d + 2 * w * k
@@ -187,29 +193,32 @@ module _ {w : ℕ} {f : List ℕ} {d k entry low place : ℕ} (fit : EntriesFit 
   some_left : entry < d + 2 * w * k → 0 < h.left
   some_left more = let m = more_left w entry (d + 2 * w * k) h.left h.at more in omega (arith, m.1)
 
-  pub walking_stop : {t : Bool} → entry < d + 2 * w * k → t ≡ next_entry w f entry low place → t ≡ false → DirectoryWalked w f d k false 0
+  pub walking_stop : {t : Bool} → entry < d + 2 * w * k → t ≡ next_entry w f entry low place → t ≡ false → DirectoryWalked w f d k None
   unfolding walk_of
   walking_stop more is e =
       let stopped = walk_stop w f entry low place h.left (some_left more) (good_other w f entry low place (sym is ∙ e)) in
       record {
         walk = sym (held-broken f low place) ∙ (rw stopped at h.walk);
-        within = λ t. clash t refl;
+        within = tt;
       }
 
-  pub walking_done : {t : Bool} → d + 2 * w * k ≤ entry → t ≡ fits_so_far f low place → DirectoryWalked w f d k t place
-  unfolding walk_of walk_directory held fits_so_far
-  walking_done {t} none is =
+  walking_ended : d + 2 * w * k ≤ entry → held f low place (to place) ≡ walk_directory w f d 0 (d + 2 * w * k) k
+  unfolding walk_directory
+  walking_ended none =
       let z : h.left ≡ 0 = none_left w entry (d + 2 * w * k) h.left fit.width.least h.at none in
-      let ended : cond (fits_so_far f low place) (to place) broken ≡ walk_directory w f d 0 (d + 2 * w * k) k = rw z at h.walk in
-      by_case t
-      (λ e. record {
-        walk = rw e (rw (sym is ∙ e) at ended);
-        within = λ _. leb-true place (length f) (both_right _ _ (sym is ∙ e));
-      })
-      (λ e. record {
-        walk = rw e (rw (sym is ∙ e) at ended);
-        within = λ q. clash q e;
-      })
+      rw z at h.walk
+
+  pub walking_past : {t : Bool} → d + 2 * w * k ≤ entry → t ≡ fits_so_far f low place → t ≡ false → DirectoryWalked w f d k None
+  unfolding walk_of held
+  walking_past none is e = record { walk = rw (sym is ∙ e) at (walking_ended none); within = tt }
+
+  pub walking_done : {t : Bool} → d + 2 * w * k ≤ entry → t ≡ fits_so_far f low place → t ≡ true → DirectoryWalked w f d k (Some place)
+  unfolding walk_of held
+  walking_done none is e =
+      record {
+        walk = rw (sym is ∙ e) at (walking_ended none);
+        within = unfold fits_so_far in leb-true place (length f) (both_right _ _ (sym is ∙ e));
+      }
 
   pub walking_next : {t : Bool} {number last : ℕ} → entry < d + 2 * w * k → t ≡ next_entry w f entry low place → t ≡ true →
       ByteAt f entry number → ByteAt f (entry + 1) last → Walking w f d k (entry + 2 * w) (number + 1) (place + 4 * (last + 1))
@@ -243,7 +252,7 @@ module _ {w : ℕ} {f : List ℕ} {d k : ℕ} (fit : EntriesFit w f d k) (some :
   pub first_records : d + 1 < length f
   first_records = omega (arith, first_entry.within, fit.width.least)
 
-  pub first_stop : {t : Bool} → t ≡ next_entry w f d 0 (d + 2 * w * k) → t ≡ false → DirectoryWalked w f d k false 0
+  pub first_stop : {t : Bool} → t ≡ next_entry w f d 0 (d + 2 * w * k) → t ≡ false → DirectoryWalked w f d k None
   first_stop is e = walking_stop fit (walking_start fit) one-there is e
 
   pub first_fits : {at last : ℕ} → ByteAt f at last → Fits w64 (d + 2 * w * k + 4 * (last + 1))

@@ -60,28 +60,28 @@ fn search_directory(
     FilePlace::NoFile
 }
 
-// Where a slave keeps a file, or that it has none, at the file's width.
-fn find_file_at(file: &[u8], width: usize, slave: usize, number: FileNumber) -> FilePlace
-    requires { AcceptedFile file.now × WidthOf file.now width × (slave < slave_count file.now) }
+// Where a slave keeps a file, or that it has none, in an edition: the compiler writes the search once for each width, with its numbers, since
+// a round asks it of every slave.
+fn find_file_at<const WIDTH: usize>(file: &[u8], slave: usize, number: FileNumber) -> FilePlace
+    requires { AcceptedFile file.now × WidthOf file.now WIDTH × (slave < slave_count file.now) }
     ensures { found_file result ≡ find_file (decode file.now) slave (file_in number) }
 {
-    let table = HEADER_BYTES + HEADER_OFFSETS * width;
-    let size = ENTRY_OFFSETS * width;
+    let table = HEADER_BYTES + HEADER_OFFSETS * WIDTH;
+    let size = ENTRY_OFFSETS * WIDTH;
     let entry = table + size * slave;
-    let directory = offset_at(file, width, entry);
-    let count = byte_at(file, entry + width);
-    search_directory(file, width, directory, count, number.0 as usize)
+    let directory = offset_at(file, WIDTH, entry);
+    let count = byte_at(file, entry + WIDTH);
+    search_directory(file, WIDTH, directory, count, number.0 as usize)
 }
 
-// The same, each width as a literal, since a round asks it of every slave.
 pub fn find_file(file: &[u8], slave: usize, number: FileNumber) -> FilePlace
     requires { AcceptedFile file.now × (slave < slave_count file.now) }
     ensures { found_file result ≡ find_file (decode file.now) slave (file_in number) }
 {
     if file[EDITION_PLACE] == WIDE_EDITION {
-        return find_file_at(file, WIDE_OFFSET_WIDTH, slave, number);
+        return find_file_at::<WIDE_OFFSET_WIDTH>(file, slave, number);
     }
-    find_file_at(file, OFFSET_WIDTH, slave, number)
+    find_file_at::<OFFSET_WIDTH>(file, slave, number)
 }
 
 // Where a slave keeps a record of a file, or that it has none.

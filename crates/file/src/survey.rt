@@ -45,11 +45,10 @@ fn walk_body(file: &[u8], width: usize, places: &mut [u16]) -> bool
     if file.len() < header + size * count {
         return false;
     }
-    let walk = walk_slaves(file, width, count, places);
-    if !walk.good {
+    let Some(end) = walk_slaves(file, width, count, places) else {
         return false;
-    }
-    walk.end == file.len()
+    };
+    end == file.len()
 }
 
 // Grounds 7 and 8, by the places that the directories of all slaves state.

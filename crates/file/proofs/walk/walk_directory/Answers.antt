@@ -1,9 +1,8 @@
 -- `file::walk::walk_directory` meets its contract. The invariant is `Walking`: the walk from here, where all fits so far, is the walk from the start.
 -- Assumes nothing.
 use Rattle.std.proofs.Common.{rules}
-use borrow.Author.Tests.{not-true}
 use Rattle.file.proofs.WalkLaws.{walking_none, first_entry, first-number, first_records, first_stop, first_fits, first_next, walking_fits}
-use Rattle.file.proofs.WalkLaws.{walking_entry, walking_stop, walking_next, walking_done}
+use Rattle.file.proofs.WalkLaws.{walking_entry, walking_stop, walking_next, walking_past, walking_done}
 use Rattle.file.proofs.walk.walk_directory.Goals as goal
 
 pub returns-then-count-eq0 : goal.returns-then-count-eq0
@@ -19,7 +18,7 @@ pub is_next-requires : goal.is_next-requires
 is_next-requires c = search (rules, first_entry)
 
 pub returns-then-not-is_next : goal.returns-then-not-is_next
-returns-then-not-is_next c = search (rules, first_stop, not-true)
+returns-then-not-is_next c = search (rules, first_stop)
 
 pub overflow_add-place-2 : goal.overflow_add-place-2
 overflow_add-place-2 c = search (rules, first_fits)
@@ -32,7 +31,7 @@ pub is_next-requires-in-loop-entry : goal.is_next-requires-in-loop-entry
 is_next-requires-in-loop-entry c = search (rules, walking_entry)
 
 pub returns-then-not-is_next-2 : goal.returns-then-not-is_next-2
-returns-then-not-is_next-2 c = search (rules, walking_stop, not-true)
+returns-then-not-is_next-2 c = search (rules, walking_stop)
 
 pub overflow_add-place-in-loop-entry-2 : goal.overflow_add-place-in-loop-entry-2
 overflow_add-place-in-loop-entry-2 c = search (rules, walking_fits)
@@ -40,6 +39,9 @@ overflow_add-place-in-loop-entry-2 c = search (rules, walking_fits)
 pub loop-entry-preserved : goal.loop-entry-preserved
 loop-entry-preserved c =
     walking_next c.requires c.loop-entry.invariant c.loop-entry-test.true c.is_next-in-loop-entry.ensures c.if-not-is_next-2.false c.byte_at-number.ensures c.byte_at-last.ensures
+
+pub returns-then-not-fits_so_far : goal.returns-then-not-fits_so_far
+returns-then-not-fits_so_far c = search (rules, walking_past)
 
 pub returns : goal.returns
 returns c = search (rules, walking_done)

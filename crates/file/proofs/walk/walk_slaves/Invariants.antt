@@ -6,6 +6,3 @@ use Rattle.file.proofs.walk.walk_slaves.Given as goal
 
 abbrev pub invariant-loop-slave : goal.invariant-loop-slave
 invariant-loop-slave l = Surveying l.width l.file l.count (length l.initial.places) l.slave l.entry l.place l.places
-
-abbrev pub decreases-loop-slave : goal.decreases-loop-slave
-decreases-loop-slave l = l.count - l.slave
