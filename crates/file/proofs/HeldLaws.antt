@@ -1,14 +1,9 @@
 -- Names that are held, 0xFF aside: a search for one that a list has twice, from the last to the first.
 -- Assumes nothing.
-use Prim.Native.Nat.{ℕ, zero, suc, ◌-◌, ◌≤◌, ◌<◌}
-use mathlib.Core.Path.{◌≡◌, refl, sym, ap, ◌∙◌}
-use mathlib.Core.List.{List, [], ◌∷◌}
-use mathlib.Core.Bool.{Bool, true, false, not}
-use native.Mathlib.Omega.{arith}
-use borrow.Author.Tests.{eq-eqb, eqb-true, ne_eqb}
-use lib.ListN.{length, get_or, drop, set, replicate, length-set, length-replicate}
-use lib.Seq.{drop-cons, drop-length, set-get_or}
-use lib.Dec.{eqb}
+use Rattle.std.proofs.Common.{ℕ, zero, suc, ◌-◌, ◌≤◌, ◌<◌, ◌≡◌, refl, sym, ap, ◌∙◌, List, [], ◌∷◌, Bool, true, false, not, arith, eq-eqb, eqb-true}
+use Rattle.std.proofs.Common.{ne_eqb, length, get_or, drop, set, replicate, length-set, drop-cons, eqb}
+use lib.ListN.{length-replicate}
+use lib.Seq.{drop-length, set-get_or}
 use Rattle.file.specs.Rules.Cluster.{Cluster, unnamed, logical_name, logical_names}
 use Rattle.file.specs.Rules.FileGrounds.{is_among, has_repeat, held_names}
 use Rattle.file.proofs.Order.{by_case, clash, either_left, either_right, either_false}

@@ -1,12 +1,9 @@
 -- The slaves' logical names, read one after the other into the front of a list.
 -- Assumes nothing.
-use Prim.Native.Nat.{ℕ, suc, ◌+◌, ◌≤◌, ◌<◌}
-use native.Mathlib.Omega.{arith}
-use native.Mathlib.Numerals.{add-one}
-use mathlib.Core.Path.{◌≡◌, refl, sym, ◌∙◌}
-use mathlib.Core.List.{List, [], ◌∷◌, ◌++◌, append_assoc}
-use lib.ListN.{length, get_or, take, drop, set, length-set, length-map, get_or-map}
-use lib.Seq.{take-suc, take_all, drop-cons, length-take-le, set_at}
+use Rattle.std.proofs.Common.{ℕ, suc, ◌+◌, ◌≤◌, ◌<◌, arith, add-one, ◌≡◌, refl, sym, ◌∙◌, List, [], ◌∷◌, ◌++◌, append_assoc, length, get_or, take}
+use Rattle.std.proofs.Common.{drop, set, length-set, take-suc, take_all, drop-cons, length-take-le}
+use lib.ListN.{length-map, get_or-map}
+use lib.Seq.{set_at}
 use Rattle.file.specs.Rules.Cluster.{Cluster, logical_name, logical_names}
 use Rattle.file.specs.Inner.Places.{no_slave_lem, slave_of}
 

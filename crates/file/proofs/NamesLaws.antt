@@ -1,15 +1,9 @@
 -- The physical names of the slaves, compared from the last to the first.
 -- Assumes nothing.
-use Prim.Native.Nat.{ℕ, zero, suc, ◌+◌, ◌-◌, ◌/◌, ◌≤◌, ◌<◌}
-use mathlib.Core.Path.{◌≡◌, refl, sym, ap, ◌∙◌}
-use mathlib.Core.List.{List, [], ◌∷◌, map}
-use mathlib.Core.Bool.{Bool, true, false}
-use native.Mathlib.Omega.{arith}
-use lib.ListN.{length, get_or, drop, set, replicate, length-set, length-replicate}
-use lib.Seq.{drop-cons, drop-length}
-use lib.Dec.{eqb}
-use mir.Syntax.{w16, w64}
-use mir.Val.{Fits}
+use Rattle.std.proofs.Common.{ℕ, zero, suc, ◌+◌, ◌-◌, ◌/◌, ◌≤◌, ◌<◌, ◌≡◌, refl, sym, ap, ◌∙◌, List, [], ◌∷◌, map, Bool, true, false, arith, length}
+use Rattle.std.proofs.Common.{get_or, drop, set, replicate, length-set, drop-cons, eqb, w16, w64, Fits}
+use lib.ListN.{length-replicate}
+use lib.Seq.{drop-length}
 use Rattle.file.specs.Inner.Numbers.{ByteAt}
 use Rattle.file.specs.Rules.FileGrounds.{is_among, has_repeat}
 use Rattle.file.specs.Inner.Layout.{physical_name_place, long_width}

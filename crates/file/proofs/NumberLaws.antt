@@ -1,18 +1,12 @@
 -- Numbers of several bytes at a place of a list: one law joins two of them, whatever their widths.
 -- Assumes nothing.
-use Prim.Native.Nat.{ℕ, zero, suc, ◌+◌, ◌*◌, ◌-◌, ◌%◌, ◌^◌, ◌≤◌, ◌<◌}
-use mathlib.Core.Path.{◌≡◌, refl, sym, ◌∙◌, subst}
-use mathlib.Core.Bool.{Bool, true, false}
+use Rattle.std.proofs.Common.{ℕ, zero, suc, ◌+◌, ◌*◌, ◌-◌, ◌%◌, ◌^◌, ◌≤◌, ◌<◌, ◌≡◌, refl, sym, ◌∙◌, subst, Bool, true, false, eqb, eqb-true, List, []}
+use Rattle.std.proofs.Common.{◌∷◌, ◌++◌, arith, bit_or, pow-add, shl_exact, shl_lt, length, get_or, drop, length-append, length-take, length-drop}
+use Rattle.std.proofs.Common.{take-add, drop-drop, drop-cons}
 use native.Mathlib.Nat.{one-le-pow}
-use lib.Dec.{eqb}
-use borrow.Author.Tests.{eqb-true, eqb-false}
-use mathlib.Core.List.{List, [], ◌∷◌, ◌++◌}
-use native.Mathlib.Omega.{arith}
+use borrow.Author.Tests.{eqb-false}
 use lib.Arith.{digits_lt}
-use lib.Bits.{bit_or, or_shifted}
-use lib.Pow.{pow-add, shl_exact, shl_lt}
-use lib.ListN.{length, get_or, drop, length-append, length-take, length-drop}
-use lib.Seq.{take-add, drop-drop, drop-cons}
+use lib.Bits.{or_shifted}
 use Rattle.file.specs.Rules.Layout.{OffsetWidth}
 use Rattle.file.specs.Rules.Bytes.{number_of, part, all_zero}
 use Rattle.file.specs.Inner.Numbers.{ByteAt, NumberAt}

@@ -1,14 +1,8 @@
 -- Laws of tests that are joined, and of the first ground that holds. A test's facts are read and made through these, so that no
 -- proof opens `both`, `either` or `first_of`.
 -- Assumes nothing.
-use Prim.Native.Nat.{ℕ, suc, ◌≤◌}
-use native.Mathlib.Omega.{arith}
-use native.Mathlib.Nat.{suc-ne-zero}
-use mathlib.Core.Path.{◌≡◌, refl, sym, ◌∙◌}
-use mathlib.Core.List.{List, [], ◌∷◌, ◌++◌}
-use mathlib.Core.Bool.{Bool, true, false, cond, not}
-use lib.Dec.{eqb}
-use borrow.Author.Tests.{eqb-true, eq-eqb, ne_eqb}
+use Rattle.std.proofs.Common.{ℕ, suc, ◌≤◌, arith, suc-ne-zero, ◌≡◌, refl, sym, ◌∙◌, List, [], ◌∷◌, ◌++◌, Bool, true, false, cond, not, eqb, eqb-true}
+use Rattle.std.proofs.Common.{eq-eqb, ne_eqb}
 use Rattle.file.specs.Rules.Bytes.{All, all_empty, all_next}
 use Rattle.file.specs.Rules.Order.{Ground, first_of, both, either}
 

@@ -1,12 +1,7 @@
 -- The two places of a slave in an accepted file: each is a number of the machine, and so is a place in the records that every slave has,
 -- which lies within the bytes. What the readers by places ask, for a search to find.
 -- Assumes nothing.
-use Prim.Native.Nat.{ℕ, ◌+◌, ◌*◌, ◌≤◌, ◌<◌}
-use native.Mathlib.Omega.{arith}
-use mathlib.Core.List.{List}
-use lib.ListN.{length, get_or}
-use mir.Syntax.{w64}
-use mir.Val.{Fits}
+use Rattle.std.proofs.Common.{ℕ, ◌+◌, ◌*◌, ◌≤◌, ◌<◌, arith, List, length, get_or, w64, Fits}
 use Rattle.file.specs.Rules.Layout.{record_size}
 use Rattle.file.specs.Inner.Layout.{needed_configuration, needed_documentation, long_width}
 use Rattle.file.specs.Inner.Places.{configuration_index, documentation_index}

@@ -1,15 +1,7 @@
 -- The search for the place that a directory states for a file, from its front and from its back.
 -- Assumes nothing.
-use Prim.Native.Nat.{ℕ, zero, suc, ◌+◌, ◌*◌, ◌-◌, ◌≤◌, ◌<◌}
-use mathlib.Core.Path.{◌≡◌, refl, sym, ◌∙◌}
-use mathlib.Core.List.{List}
-use mathlib.Core.Bool.{Bool, true, false, cond}
-use native.Mathlib.Omega.{arith}
-use borrow.Author.Tests.{eqb-true, eq-eqb, ne_eqb}
-use lib.ListN.{length, get_or}
-use lib.Dec.{leb}
-use mir.Syntax.{w64}
-use mir.Val.{Fits}
+use Rattle.std.proofs.Common.{ℕ, zero, suc, ◌+◌, ◌*◌, ◌-◌, ◌≤◌, ◌<◌, ◌≡◌, refl, sym, ◌∙◌, List, Bool, true, false, cond, arith, eqb-true, eq-eqb}
+use Rattle.std.proofs.Common.{ne_eqb, length, get_or, leb, w64, Fits}
 use Rattle.file.specs.Inner.Numbers.{NumberAt}
 use Rattle.file.specs.Rules.Decode.{offset_at, file_size}
 use Rattle.file.specs.Rules.FileGrounds.{to, walk_directory}

@@ -1,16 +1,10 @@
 -- The walk of the slaves, step by step: what a loop along the table keeps, and one law for each way through a turn.
 -- Assumes nothing.
-use Prim.Native.Nat.{ℕ, zero, suc, ◌+◌, ◌*◌, ◌-◌, ◌≤◌, ◌<◌}
-use mathlib.Core.Path.{◌≡◌, refl, sym, ◌∙◌, subst}
-use mathlib.Core.List.{List, [], ◌∷◌, ◌++◌, append-nil, append_assoc}
-use mathlib.Core.Bool.{Bool, true, false}
-use native.Mathlib.Omega.{arith}
-use native.Mathlib.Numerals.{add-one}
-use lib.ListN.{length, get_or, take, set, length-set}
-use lib.Seq.{take-suc-set, append_snoc}
+use Rattle.std.proofs.Common.{ℕ, zero, suc, ◌+◌, ◌*◌, ◌-◌, ◌≤◌, ◌<◌, ◌≡◌, refl, sym, ◌∙◌, subst, List, [], ◌∷◌, ◌++◌, append-nil, append_assoc, Bool}
+use Rattle.std.proofs.Common.{true, false, arith, add-one, length, get_or, take, set, length-set, take-suc-set, w64, Fits, leb-true, Option, Some}
+use Rattle.std.proofs.Common.{None}
+use lib.Seq.{append_snoc}
 use Rattle.file.specs.Rules.Bytes.{part, all_zero}
-use mir.Syntax.{w64}
-use mir.Val.{Fits}
 use Rattle.file.specs.Inner.Numbers.{ByteAt, NumberAt}
 use Rattle.file.specs.Rules.Layout.{header_size, entry_size_lem}
 use Rattle.file.specs.Inner.Layout.{needed_configuration, needed_documentation}
@@ -18,10 +12,10 @@ use Rattle.file.specs.Rules.Cluster.{configuration, documentation}
 use Rattle.file.specs.Rules.Decode.{offset_at}
 use Rattle.file.specs.Rules.FileGrounds.{broken, to, and_then, good_table_entry, walk_directory, walk_slave, walk_slaves}
 use Rattle.file.specs.Inner.Places.{places_each}
-use Rattle.file.specs.Inner.Checked.{EntriesFit, stated_place, stated_in, stated_places, walk_of, DirectoryWalked, EntryWalked, Arrives, SlaveStated, SlaveWalked, SlavesWalked}
+use Rattle.file.specs.Inner.Checked.{EntriesFit, stated_place, stated_in, stated_places, walk_of, fits_so_far, ended, DirectoryWalked, EntryWalked, EntryEnds, Arrives, SlaveStated, SlaveWalked, SlavesWalked}
+use Rattle.file.specs.declared.walk.DirectoryEnd.{DirectoryEnd}
 use Rattle.file.specs.declared.walk.SlaveFound.{SlaveFound}
-use Rattle.std.specs.Prelude.{Option, Some, None}
-use Rattle.file.proofs.Order.{clash}
+use Rattle.file.proofs.Order.{clash, both_right}
 use Rattle.file.proofs.Arrivals.{SlaveStep, slave_took}
 use Rattle.file.proofs.WalkLaws.{entries_rise}
 use Rattle.file.proofs.Facts.{false_unless, TableEntryFacts, table-entry_facts, table-entry_yes}
@@ -38,12 +32,8 @@ unfolding walk_slave
 slave-step w f t place e = rw e
 
 refused : {w : ℕ} {f : List ℕ} {t place : ℕ} → (TableEntryFacts w f t place → ⊥) → EntryWalked w f t place None
-unfolding walk_of
-refused {w} {f} {t} {place} not_so =
-    record {
-      walk = sym (slave_stop w f t place (false_unless (λ e. not_so (table-entry_facts w f t place e))));
-      within = tt;
-    }
+unfolding ended
+refused {w} {f} {t} {place} not_so = record { walk = sym (slave_stop w f t place (false_unless (λ e. not_so (table-entry_facts w f t place e)))) }
 
 pub slave-elsewhere : {w : ℕ} {f : List ℕ} {t place n : ℕ} → NumberAt f t w n → (n ≡ place → ⊥) → EntryWalked w f t place None
 unfolding offset_at
@@ -60,7 +50,7 @@ slave_past {w} {f} {t} {place} {n} k h =
     let past : length f < place + 2 * w * get_or f (t + w) 0 = rw (← k.is) h in
     refused (λ g. omega (arith, g.within, past))
 
-module _ {w : ℕ} {f : List ℕ} {t place n offset asleep : ℕ} {filled : Bool} {end : Option ℕ} (count : ByteAt f (t + w) n) (o : NumberAt f t w offset) (here : offset ≡ place)
+module _ {w : ℕ} {f : List ℕ} {t place n offset asleep : ℕ} {filled : Bool} {end : Option DirectoryEnd} (count : ByteAt f (t + w) n) (o : NumberAt f t w offset) (here : offset ≡ place)
     (z : ByteAt f (t + w + 1) asleep) (few : asleep ≤ 1) (is : filled ≡ all_zero (part f (t + w + 2) (w - 2))) (all : filled ≡ true)
     (fits : place + 2 * w * n ≤ length f) (h : DirectoryWalked w f place n end) where
   offset-there : offset_at w f t ≡ place
@@ -76,20 +66,25 @@ module _ {w : ℕ} {f : List ℕ} {t place n offset asleep : ℕ} {filled : Bool
         zeros = sym is ∙ all;
         within = within;
       } in
-      record {
-        walk = sym (slave-step w f t place (table-entry_yes w f t place facts) ∙ rw (← count.is) (sym h.walk));
-        within = h.within;
-      }
+      record { walk = sym (slave-step w f t place (table-entry_yes w f t place facts) ∙ rw (← count.is) (sym h.walk)) }
 
 -- ---- its places
 
 pub slave-broken : {w : ℕ} {f : List ℕ} {t place : ℕ} → EntryWalked w f t place None → broken ≡ walk_slave w f t place
-unfolding walk_of
+unfolding ended
 slave-broken h = h.walk
 
-module _ {w : ℕ} {f : List ℕ} {t place end : ℕ} (fit : EntriesFit w f t 1) (h : EntryWalked w f t place (Some end)) {n : ℕ} (count : ByteAt f (t + w) n) where
+module _ {w : ℕ} {f : List ℕ} {t place : ℕ} {end : DirectoryEnd} (h : EntryWalked w f t place (Some end)) {fits : Bool} (is : fits ≡ fits_so_far f end.low end.place) where
+  pub slave-past-end : fits ≡ false → broken ≡ walk_slave w f t place
+  unfolding ended
+  slave-past-end e = rw (sym is ∙ e) at h.walk
+
+  pub slave-ends : fits ≡ true → EntryEnds w f t place end.place
+  unfolding ended
+  slave-ends e = record { walk = rw (sym is ∙ e) at h.walk; within = unfold fits_so_far in leb-true end.place (length f) (both_right _ _ (sym is ∙ e)) }
+
+module _ {w : ℕ} {f : List ℕ} {t place end : ℕ} (fit : EntriesFit w f t 1) (h : EntryEnds w f t place end) {n : ℕ} (count : ByteAt f (t + w) n) where
   took : SlaveStep w f t place end
-  unfolding walk_of
   took = slave_took w f t place end (sym h.walk)
 
   pub slave-entries : EntriesFit w f place n
@@ -100,7 +95,7 @@ module _ {w : ℕ} {f : List ℕ} {t place end : ℕ} (fit : EntriesFit w f t 1)
 
   pub slave-stated : {found : SlaveFound} → found.end ≡ end → found.configuration ≡ stated_place w f configuration 3 0 place n → found.documentation ≡ stated_place w f documentation 2 0 place n
       → SlaveStated w f t place found
-  unfolding stated_in walk_of
+  unfolding stated_in
   slave-stated end-is conf-is doc-is =
       record {
         walk = rw end-is h.walk;

@@ -1,11 +1,6 @@
 -- The sleep byte in an accepted file: where it stands, what it says, and what the file becomes where it is stored.
 -- Assumes nothing.
-use Prim.Native.Nat.{ℕ, ◌+◌, ◌*◌, ◌≤◌, ◌<◌}
-use native.Mathlib.Omega.{arith}
-use mathlib.Core.Path.{◌≡◌, refl, sym, ap, subst, ◌∙◌}
-use mathlib.Core.List.{List}
-use lib.Dec.{eqb}
-use lib.ListN.{length, get_or, set}
+use Rattle.std.proofs.Common.{ℕ, ◌+◌, ◌*◌, ◌≤◌, ◌<◌, arith, ◌≡◌, refl, sym, ap, subst, ◌∙◌, List, eqb, length, get_or, set}
 use Rattle.file.specs.Rules.Layout.{width_in, header_size}
 use Rattle.file.specs.Rules.Cluster.{is_awake}
 use Rattle.file.specs.Rules.Decode.{decode}

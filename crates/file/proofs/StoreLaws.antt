@@ -1,16 +1,8 @@
 -- Stores in an accepted file: what it becomes. One law for each store, from the laws of encodings and of legality.
 -- Assumes nothing.
-use Prim.Native.Nat.{ℕ, ◌+◌, ◌*◌, ◌≤◌, ◌<◌}
-use native.Mathlib.Omega.{arith}
-use mathlib.Core.Path.{◌≡◌, ap, ◌∙◌}
-use mathlib.Core.Logic.{◌≢◌}
-use mathlib.Core.Bool.{true}
-use mathlib.Core.List.{List}
-use lib.ListN.{length, get_or, set}
+use Rattle.std.proofs.Common.{ℕ, ◌+◌, ◌*◌, ◌≤◌, ◌<◌, arith, ◌≡◌, ap, ◌∙◌, ◌≢◌, true, List, length, get_or, set, w64, Fits}
 use lib.Seq.{sets}
 use Rattle.file.specs.Rules.Bytes.{Byte, Bytes}
-use mir.Syntax.{w64}
-use mir.Val.{Fits}
 use Rattle.file.specs.Rules.Layout.{width_in, record_size}
 use Rattle.file.specs.Rules.Layout.{epoch_place, flag_place, pending_name_place, pending_pb2_place, pending_pb3_place}
 use Rattle.file.specs.Inner.Layout.{logical_name_place}

@@ -47,6 +47,7 @@ fn search_directory(
 {
     let entry_size = ENTRY_OFFSETS * width;
     let end = directory + entry_size * count;
+    // By `for index in 0..count` the search at 32 slaves costs 623 instructions in place of 462.
     let mut entry = directory;
     while entry < end {
         if byte_at(file, entry) == number {
@@ -118,6 +119,7 @@ pub fn place_of_record(
     requires { Placed file.now places.now × (slave < slave_count file.now) }
     ensures { found_record result ≡ find_record (decode file.now) slave (file_in number) (record_in «record») }
 {
+    // The least r that a slave has is a count of records, so a record's number is compared with it as a number, here and below.
     if number == FileNumber::CONFIGURATION {
         if record.0 <= NEEDED_CONFIGURATION {
             let place = places[PLACES_EACH * slave] as usize;

@@ -1,5 +1,5 @@
 // Ground 6: the walk along table and directories. An offset is followed only after it was compared with the running place.
-ghost use Rattle.std.specs.Prelude.{◌≡◌, Some, ◌+◌, ◌*◌, ◌-◌, ◌≤◌, length};
+ghost use Rattle.std.specs.Prelude.{◌≡◌, ◌+◌, ◌*◌, ◌-◌, ◌≤◌, length};
 ghost use Rattle.file.specs.Inner.Numbers.{ByteAt};
 ghost use Rattle.file.specs.Rules.Bytes.{part, all_zero};
 ghost use Rattle.file.specs.Rules.Layout.{OffsetWidth, header_size, max_length};
@@ -7,7 +7,7 @@ ghost use Rattle.file.specs.Rules.Cluster.{configuration};
 ghost use Rattle.file.specs.Inner.Layout.{needed_configuration};
 ghost use Rattle.file.specs.Inner.Typed.{file_in};
 ghost use Rattle.file.specs.Inner.Places.{places_each};
-ghost use Rattle.file.specs.Inner.Checked.{EntriesFit, next_entry, fits_so_far, states, stated_place, Arrives, DirectoryWalked, EntryWalked, SlaveStated, SlaveWalked, SlavesWalked};
+ghost use Rattle.file.specs.Inner.Checked.{EntriesFit, next_entry, fits_so_far, states, stated_place, Arrives, DirectoryWalked, EntryWalked, EntryEnds, SlaveStated, SlaveWalked, SlavesWalked};
 
 use crate::layout::{
     ENTRY_OFFSETS, FILE_NUMBERS, FILL_PLACE, HEADER_BYTES, HEADER_OFFSETS, LEAST_RECORD,
@@ -65,14 +65,24 @@ fn fits_so_far(file: &[u8], low: usize, place: usize) -> bool
     place <= file.len()
 }
 
-// Where the files of the directory at a place that the running place has come to end, of count entries; none where it is broken. The first
-// entry follows no file number.
-fn walk_directory(file: &[u8], width: usize, directory: usize, count: usize) -> Option<usize>
+// Where the files of a directory end that fits so far, and the least number that may follow its last one.
+#[derive(Drop)]
+pub struct DirectoryEnd {
+    pub low: usize,
+    pub place: usize,
+}
+
+// The directory at a place that the running place has come to, of count entries, but whether it fits; none where it is broken. The first entry
+// follows no file number.
+fn walk_directory(file: &[u8], width: usize, directory: usize, count: usize) -> Option<DirectoryEnd>
     requires { EntriesFit width file.now directory count }
     ensures { DirectoryWalked width file.now directory count result }
 {
     if count == 0 {
-        return Some(directory);
+        return Some(DirectoryEnd {
+            low: 0,
+            place: directory,
+        });
     }
     let size = ENTRY_OFFSETS * width;
     let end = directory + size * count;
@@ -81,6 +91,8 @@ fn walk_directory(file: &[u8], width: usize, directory: usize, count: usize) -> 
     if !is_next(file, width, directory, first, records, 0, end) {
         return None;
     }
+    // The loops along a directory count places and not entries: by `for index in 1..count`, and so in the two searches below, the check of 32
+    // slaves of 64 files costs 41,209 instructions in place of 36,793, of two files 3,545 in place of 3,225.
     let mut entry = directory + size;
     let mut low = first + 1;
     let mut place = end + RECORD_SIZE * (records + 1);
@@ -94,10 +106,7 @@ fn walk_directory(file: &[u8], width: usize, directory: usize, count: usize) -> 
         place = place + RECORD_SIZE * (last + 1);
         entry = entry + size;
     }
-    if !fits_so_far(file, low, place) {
-        return None;
-    }
-    Some(place)
+    Some(DirectoryEnd { low, place })
 }
 
 // Whether a directory entry states the wanted file with enough records.
@@ -111,7 +120,8 @@ fn is_stated(file: &[u8], entry: usize, wanted: FileNumber, least: u8) -> bool
     least <= file[entry + RECORD_COUNT_PLACE]
 }
 
-// Where a walked directory states the wanted file to lie, 0 where it does not: found from the front, for a low file number.
+// Where a walked directory states the wanted file to lie, 0 where it does not: found from the front, for a low file number. It and the next
+// stay two functions: they differ in each line of the loop, so one would choose between both loops.
 fn stated_from_front(
     file: &[u8],
     width: usize,
@@ -182,8 +192,8 @@ pub struct SlaveFound {
     pub documentation: u16,
 }
 
-// Where the files of the slave of a table entry end, its directory at the running place; none where it is broken.
-fn walk_entry(file: &[u8], width: usize, entry: usize, place: usize) -> Option<usize>
+// The slave of a table entry, its directory at the running place, but whether its files fit; none where it is broken.
+fn walk_entry(file: &[u8], width: usize, entry: usize, place: usize) -> Option<DirectoryEnd>
     requires { EntriesFit width file.now entry 1 × (place ≤ max_length width) }
     ensures { EntryWalked width file.now entry place result }
 {
@@ -207,7 +217,7 @@ fn walk_entry(file: &[u8], width: usize, entry: usize, place: usize) -> Option<u
 
 // The same with where its directory states 0x08 and 0x3D, of a walked slave.
 fn with_places(file: &[u8], width: usize, entry: usize, place: usize, end: usize) -> SlaveFound
-    requires { EntriesFit width file.now entry 1 × EntryWalked width file.now entry place (Some end) }
+    requires { EntriesFit width file.now entry 1 × EntryEnds width file.now entry place end }
     ensures { SlaveStated width file.now entry place result }
 {
     let count = byte_at(file, entry + width);
@@ -232,7 +242,10 @@ fn walk_edition<const WIDTH: usize>(file: &[u8], entry: usize, place: usize) -> 
     ensures { SlaveWalked WIDTH file.now entry place result }
 {
     let end = walk_entry(file, WIDTH, entry, place)?;
-    Some(with_places(file, WIDTH, entry, place, end))
+    if !fits_so_far(file, end.low, end.place) {
+        return None;
+    }
+    Some(with_places(file, WIDTH, entry, place, end.place))
 }
 
 fn walk_slave(file: &[u8], width: usize, entry: usize, place: usize) -> Option<SlaveFound>

@@ -10,6 +10,7 @@ use Rattle.file.specs.Rules.Decode.{offset_at, file_size}
 use Rattle.file.specs.Inner.Places.{places_each, documentation_index}
 use Rattle.file.specs.Inner.Accepted.{FoundFile, file_found}
 use Rattle.file.specs.Inner.Marked.{remainder}
+use Rattle.file.specs.declared.walk.DirectoryEnd.{DirectoryEnd}
 use Rattle.file.specs.declared.walk.SlaveFound.{SlaveFound}
 use Rattle.file.specs.Rules.FileGrounds.{wrong_size, wrong_mark, wrong_edition, wrong_length, wrong_header, file_ground_at}
 use Rattle.file.specs.Rules.FileGrounds.{Walk, broken, to, walk_directory, walk_slave, walk_slaves, walk_file, broken_layout, lacks_needed, equal_physical_names, is_among}
@@ -67,10 +68,14 @@ next_entry w f d low place =
 unfoldable pub fits_so_far : List ℕ → ℕ → ℕ → Bool
 fits_so_far f low place = both (leb low (suc 63)) (leb place (length f))
 
+-- a walk of which that is still to be asked
+unfoldable pub ended : List ℕ → Option DirectoryEnd → Walk
+ended f (Some end) = cond (fits_so_far f end.low end.place) (to end.place) broken
+ended f None = broken
+
 -- the walk of the k entries of the directory at d
-pub record DirectoryWalked (w : ℕ) (f : List ℕ) (d k : ℕ) (end : Option ℕ) : Type 0 where
-  pub walk : walk_of end ≡ walk_directory w f d 0 (d + entry_size_lem w * k) k
-  pub within : IfSome end (λ place. place ≤ length f)
+pub record DirectoryWalked (w : ℕ) (f : List ℕ) (d k : ℕ) (end : Option DirectoryEnd) : Type 0 where
+  pub walk : ended f end ≡ walk_directory w f d 0 (d + entry_size_lem w * k) k
 
 -- it comes to an end
 pub record Arrives (w : ℕ) (f : List ℕ) (d k : ℕ) : Type 0 where
@@ -94,9 +99,13 @@ documentation_places (c ∷ []) = []
 documentation_places (c ∷ d ∷ places) = d ∷ documentation_places places
 
 -- the walk of the slave of the table entry at t, its directory at the place
-pub record EntryWalked (w : ℕ) (f : List ℕ) (t place : ℕ) (end : Option ℕ) : Type 0 where
-  pub walk : walk_of end ≡ walk_slave w f t place
-  pub within : IfSome end (λ next. next ≤ length f)
+pub record EntryWalked (w : ℕ) (f : List ℕ) (t place : ℕ) (end : Option DirectoryEnd) : Type 0 where
+  pub walk : ended f end ≡ walk_slave w f t place
+
+-- it comes to an end
+pub record EntryEnds (w : ℕ) (f : List ℕ) (t place end : ℕ) : Type 0 where
+  pub walk : to end ≡ walk_slave w f t place
+  pub within : end ≤ length f
 
 -- what is found of a good one: where its files end, and where 0x08 and 0x3D lie in the needed size, 0 where they are not there
 pub record SlaveStated (w : ℕ) (f : List ℕ) (t place : ℕ) (found : SlaveFound) : Type 0 where

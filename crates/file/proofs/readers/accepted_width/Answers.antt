@@ -1,7 +1,6 @@
 -- `file::readers::accepted_width` meets its contract: the third byte is the edition.
 -- Assumes nothing.
-use Rattle.std.proofs.Common.{arith}
-use Rattle.std.proofs.Common.{rules}
+use Rattle.std.proofs.Common.{arith, rules}
 use Rattle.file.proofs.AtWidth.{accepted-width}
 use Rattle.file.proofs.SleepLaws.{edition-there}
 use Rattle.file.proofs.readers.accepted_width.Goals as goal

@@ -1,8 +1,7 @@
 -- `file::readers::sleep_place` meets its contract: the sleep byte stands behind the offset and the file count of a table entry.
 -- Assumes nothing.
 use Rattle.file.proofs.SleepLaws.{slave-fits, sleep_fits, sleep_there}
-use Rattle.std.proofs.Common.{rules}
-use Rattle.std.proofs.Common.{arith}
+use Rattle.std.proofs.Common.{rules, arith}
 use Rattle.file.proofs.readers.sleep_place.Goals as goal
 
 pub overflow_mul-offsets : goal.overflow_mul-offsets

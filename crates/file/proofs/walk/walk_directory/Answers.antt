@@ -2,7 +2,7 @@
 -- Assumes nothing.
 use Rattle.std.proofs.Common.{rules}
 use Rattle.file.proofs.WalkLaws.{walking_none, first_entry, first-number, first_records, first_stop, first_fits, first_next, walking_fits}
-use Rattle.file.proofs.WalkLaws.{walking_entry, walking_stop, walking_next, walking_past, walking_done}
+use Rattle.file.proofs.WalkLaws.{walking_entry, walking_stop, walking_next, walking_done}
 use Rattle.file.proofs.walk.walk_directory.Goals as goal
 
 pub returns-then-count-eq0 : goal.returns-then-count-eq0
@@ -39,9 +39,6 @@ overflow_add-place-in-loop-entry-2 c = search (rules, walking_fits)
 pub loop-entry-preserved : goal.loop-entry-preserved
 loop-entry-preserved c =
     walking_next c.requires c.loop-entry.invariant c.loop-entry-test.true c.is_next-in-loop-entry.ensures c.if-not-is_next-2.false c.byte_at-number.ensures c.byte_at-last.ensures
-
-pub returns-then-not-fits_so_far : goal.returns-then-not-fits_so_far
-returns-then-not-fits_so_far c = search (rules, walking_past)
 
 pub returns : goal.returns
 returns c = search (rules, walking_done)

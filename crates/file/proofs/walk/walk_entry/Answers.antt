@@ -1,6 +1,6 @@
 -- `file::walk::walk_entry` meets its contract: a law for each way.
 -- Assumes nothing.
-use borrow.Author.Tests.{not-true, not-false}
+use borrow.Author.Tests.{not-true}
 use Rattle.file.proofs.SlaveWalkLaws.{slave-elsewhere, slave_sleep, slave_unfilled, slave_past, slave_walked, directory-fits, directory-size-fits, directory-end-fits}
 use Rattle.std.proofs.Common.{rules}
 use Rattle.file.proofs.walk.walk_entry.Goals as goal
@@ -27,4 +27,4 @@ pub walk_directory-requires : goal.walk_directory-requires
 walk_directory-requires c = search (rules, directory-fits)
 
 pub returns : goal.returns
-returns c = search (rules, slave_walked, not-false)
+returns c = search (rules, slave_walked)

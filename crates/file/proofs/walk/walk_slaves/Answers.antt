@@ -1,9 +1,7 @@
 -- `file::walk::walk_slaves` meets its contract. The invariant is `Surveying`: the walk from here is the walk from the start, and the places written so far stand in front of those to come.
 -- Assumes nothing.
-use Rattle.std.proofs.Common.{arith}
-use lib.ListN.{length-set}
+use Rattle.std.proofs.Common.{arith, length-set, rules}
 use Rattle.file.proofs.SlaveWalkLaws.{surveying_start, surveying_entry, surveying_place, surveying_stop, surveying_next, surveying_done}
-use Rattle.std.proofs.Common.{rules}
 use Rattle.file.proofs.walk.walk_slaves.Goals as goal
 
 pub loop-slave-init : goal.loop-slave-init

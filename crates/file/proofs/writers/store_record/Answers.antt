@@ -1,8 +1,7 @@
 -- `file::writers::store_record` meets its contract: four stores, one after the other.
 -- Assumes nothing.
-use lib.ListN.{length-set}
-use native.Mathlib.Numerals.{add-one, add-two, add-three}
-use Rattle.std.proofs.Common.{arith}
+use Rattle.std.proofs.Common.{length-set, add-one, arith}
+use native.Mathlib.Numerals.{add-two, add-three}
 use Rattle.file.proofs.writers.store_record.Goals as goal
 
 pub bounds-file-place-2 : goal.bounds-file-place-2
