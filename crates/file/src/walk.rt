@@ -114,7 +114,7 @@ fn is_stated(file: &[u8], entry: usize, wanted: FileNumber, least: u8) -> bool
     requires { entry + 2 ≤ length file.now }
     ensures { result ≡ states file.now (file_in wanted) least entry }
 {
-    if file[entry] != wanted.0 {
+    if FileNumber(file[entry]) != wanted {
         return false;
     }
     least <= file[entry + RECORD_COUNT_PLACE]
