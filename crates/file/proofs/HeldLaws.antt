@@ -120,11 +120,6 @@ module _ {l : List ℕ} {seen : List Bool} {i : ℕ} (h : NamesSeen l seen i) (m
         single = rw more' (unfold has_repeat in either_false (sym (h.marks.are name fits) ∙ e) h.single);
       }))
 
-pub seen_end : {l : List ℕ} {seen : List Bool} {i : ℕ} → NamesSeen l seen i → i ≤ 0 → false ≡ has_repeat (held_names l)
-seen_end {l} {i = i} h past =
-    let z : i ≡ 0 = omega arith in
-    sym (rw z at h.single)
-
 -- ---- the same of the slaves of a cluster
 
 -- an element that is there, whatever stands for one that is not
@@ -154,9 +149,6 @@ module _ (c : Cluster) {seen : List Bool} {i : ℕ} (h : NamesSeen (logical_name
 
     pub slaves-next : get_or seen name false ≡ false → NamesSeen (logical_names c) (set seen name (not (eqb name unnamed))) (i - 1)
     slaves-next e = seen_next h more name-first byte e
-
-pub slaves-end : (c : Cluster) {seen : List Bool} {i : ℕ} → NamesSeen (logical_names c) seen i → i ≤ 0 → false ≡ has_repeat (held_names (logical_names c))
-slaves-end c h past = seen_end h past
 
 pub few-slaves : (c : Cluster) {n : ℕ} → n ≡ length c.slaves → n < 2 → false ≡ has_repeat (held_names (logical_names c))
 few-slaves c count few = few-held (logical_names c) (rw (names-count c, ← count) few)

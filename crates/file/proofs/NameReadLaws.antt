@@ -1,6 +1,6 @@
 -- The slaves' logical names, read one after the other into the front of a list.
 -- Assumes nothing.
-use Rattle.std.proofs.Common.{ℕ, suc, ◌+◌, ◌≤◌, ◌<◌, arith, add-one, ◌≡◌, refl, sym, ◌∙◌, List, [], ◌∷◌, ◌++◌, append_assoc, length, get_or, take}
+use Rattle.std.proofs.Common.{ℕ, suc, ◌+◌, ◌≤◌, ◌<◌, arith, add-one, ◌≡◌, sym, ◌∙◌, List, [], ◌∷◌, ◌++◌, append_assoc, length, get_or, take}
 use Rattle.std.proofs.Common.{drop, set, length-set, take-suc, take_all, drop-cons, length-take-le}
 use lib.ListN.{length-map, get_or-map}
 use lib.Seq.{set_at}
@@ -21,9 +21,6 @@ pub record NamesPut (c : Cluster) (old new : List ℕ) (i : ℕ) : Type 0 where
   pub room : length new ≡ length old
   pub within : i ≤ length c.slaves
   pub are : new ≡ take i (logical_names c) ++ drop i old
-
-pub put-start : (c : Cluster) (old : List ℕ) → NamesPut c old old 0
-put-start c old = record { room = refl; within = omega arith; are = refl }
 
 module _ {c : Cluster} {old new : List ℕ} {i : ℕ} (h : NamesPut c old new i) where
   pub put_next : {n : ℕ} → n ≡ length c.slaves → i < n → length c.slaves ≤ length old → {name : ℕ} → name ≡ logical_name (slave_of c i) → NamesPut c old (set new i name) (i + 1)

@@ -93,11 +93,6 @@ module _ {l : List ℕ} {seen : List Bool} {i : ℕ} (h : Comparing l seen i) (m
         single = rw before (either_false e h.single);
       }
 
-pub comparing-end : {l : List ℕ} {seen : List Bool} {i : ℕ} → Comparing l seen i → i ≤ 0 → false ≡ has_repeat l
-comparing-end {l} {i = i} h past =
-    let z : i ≡ 0 = omega arith in
-    sym (rw z at h.single)
-
 -- ---- the same, of the slaves' places
 
 -- the places of 0x3D among those of both files
@@ -206,9 +201,6 @@ compared-start f places e =
       names = comparing-start (names_at f places) (e ∙ sym (length-names-at f places));
     }
 
-pub compared-end : {f places : List ℕ} {seen : List Bool} {i : ℕ} → Compared f places seen i → i ≤ 0 → false ≡ has_repeat (names_at f places)
-compared-end h past = comparing-end h.names past
-
 module _ {f places : List ℕ} {seen : List Bool} {i : ℕ} (h : Compared f places seen i) (more : 0 < i) where
   abbrev name : ℕ
   name = name_at f (get_or places (documentation_index (i - 1)) 0)
@@ -227,9 +219,6 @@ module _ {f places : List ℕ} {seen : List Bool} {i : ℕ} (h : Compared f plac
   among = let back : i - 1 + 1 ≡ i = omega arith in rw back
 
   module _ {r : ℕ} (is : RemainderAt f (get_or places (documentation_index (i - 1)) 0) r) where
-    pub remainder-fits : r < 256
-    remainder-fits = omega (arith, is.is)
-
     pub equal_new : get_or seen r false ≡ false → repeats_name f places (i - 1) ≡ false
     equal_new e = among ∙ comparing-new h.names more in_order (rw (← is.is) e)
 

@@ -7,7 +7,7 @@ use Rattle.file.specs.Rules.Bytes.{all_zero, part}
 use Rattle.file.specs.Inner.Numbers.{ByteAt, NumberAt}
 use Rattle.file.specs.Rules.Layout.{entry_size_lem}
 use Rattle.file.specs.Rules.Decode.{offset_at, file_size}
-use Rattle.file.specs.Rules.FileGrounds.{Walk, broken, to, good_entry, walk_directory}
+use Rattle.file.specs.Rules.FileGrounds.{Walk, broken, good_entry, walk_directory}
 use Rattle.file.specs.Inner.Checked.{EntriesFit, states, stated_place, next_entry, fits_so_far, ended, DirectoryWalked}
 use Rattle.file.specs.declared.walk.DirectoryEnd.{DirectoryEnd}
 use Rattle.file.proofs.Order.{by_case, clash, both_left, both_right, both_true, both-next, both_false_left, both_false_right}

@@ -1,17 +1,11 @@
 -- `file::survey::walk_body` meets its contract: a law for each way.
 -- Assumes nothing.
-use Rattle.file.proofs.SurveyLaws.{count-within, count_fits, table-size-fits, table-end-fits, table_fits, body_short, body_broken, body_walked}
+use Rattle.file.proofs.SurveyLaws.{count-within, count_fits, table_fits, body_short, body_broken, body_walked}
 use Rattle.std.proofs.Common.{rules}
 use Rattle.file.proofs.survey.walk_body.Goals as goal
 
 pub byte_at-count-requires : goal.byte_at-count-requires
 byte_at-count-requires c = search (rules, count-within)
-
-pub overflow_mul-size-2 : goal.overflow_mul-size-2
-overflow_mul-size-2 c = search (rules, table-size-fits)
-
-pub overflow_add-header-2 : goal.overflow_add-header-2
-overflow_add-header-2 c = search (rules, table-end-fits)
 
 pub returns-then-file-header : goal.returns-then-file-header
 returns-then-file-header c = search (rules, body_short)
