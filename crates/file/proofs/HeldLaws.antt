@@ -147,8 +147,8 @@ module _ (c : Cluster) {seen : List Bool} {i : ℕ} (h : NamesSeen (logical_name
     pub slaves-here : get_or seen name false ≡ true → true ≡ has_repeat (held_names (logical_names c))
     slaves-here e = seen_here h more name-first byte e
 
-    pub slaves-next : get_or seen name false ≡ false → NamesSeen (logical_names c) (set seen name (not (eqb name unnamed))) (i - 1)
-    slaves-next e = seen_next h more name-first byte e
+    pub slaves-next : {t : Bool} → t ≡ not (eqb name unnamed) → get_or seen name false ≡ false → NamesSeen (logical_names c) (set seen name t) (i - 1)
+    slaves-next held e = rw held (seen_next h more name-first byte e)
 
 pub few-slaves : (c : Cluster) {n : ℕ} → n ≡ length c.slaves → n < 2 → false ≡ has_repeat (held_names (logical_names c))
 few-slaves c count few = few-held (logical_names c) (rw (names-count c, ← count) few)
@@ -164,7 +164,7 @@ module _ (c : Cluster) {n : ℕ} (count : n ≡ length c.slaves) (some : 2 ≤ n
     pub two-slaves-unnamed : first ≡ unnamed → false ≡ has_repeat (held_names (logical_names c))
     two-slaves-unnamed e = two-unnamed (logical_names c) both-there (name-there 0 (omega arith) ∙ sym is ∙ e)
 
-    pub two-slaves : (first ≡ unnamed → ⊥) → {second : ℕ} → second ≡ logical_name (slave_of c 1) → eqb first second ≡ has_repeat (held_names (logical_names c))
-    two-slaves other is₂ =
-        rw (is, is₂, ← name-there 0 (omega arith), ← name-there 1 (omega arith))
+    pub two-slaves : (first ≡ unnamed → ⊥) → {second : ℕ} → second ≡ logical_name (slave_of c 1) → {t : Bool} → t ≡ eqb first second → t ≡ has_repeat (held_names (logical_names c))
+    two-slaves other is₂ same =
+        rw (same, is, is₂, ← name-there 0 (omega arith), ← name-there 1 (omega arith))
         (two-held (logical_names c) both-there (λ e. other (is ∙ sym (name-there 0 (omega arith)) ∙ e)))

@@ -178,9 +178,6 @@ module _ (f places : List ℕ) {name from i : ℕ} (h : Looking name (names_at f
 pub unseen : {b : Bool} (name : ℕ) (l : List ℕ) → (b ≡ false → is_among name l ≡ false) → b ≡ false → false ≡ is_among name l
 unseen name l none e = sym (none e)
 
-pub unrepeated : {b : Bool} (f places : List ℕ) (s : ℕ) → (b ≡ false → repeats_name f places s ≡ false) → b ≡ false → false ≡ repeats_name f places s
-unrepeated f places s none e = sym (none e)
-
 pub repeats-search :
     (f places : List ℕ) (s : ℕ) {name : ℕ} → name ≡ name_at f (get_or places (documentation_index s) 0) → {t : Bool} →
     t ≡ is_among name (drop (s + 1) (names_at f places)) → t ≡ repeats_name f places s

@@ -114,9 +114,6 @@ eight-bytes {l} {at} h p₀ p₁ p₂ p₃ p₄ p₅ p₆ p₇ =
 
 -- ---- an offset, of either width
 
-pub offset_narrow : {l : List ℕ} {at w r : ℕ} → w ≡ 2 → NumberAt l at 2 r → NumberAt l at w r
-offset_narrow {l} {at} {w} {r} e n = subst (λ (k : ℕ). NumberAt l at k r) (sym e) n
-
 offset-joined : {l : List ℕ} {at w a b : ℕ} → Which w → (w ≡ 2 → ⊥) → at + w ≤ length l → NumberAt l at 2 a → NumberAt l (at + 2) 2 b → NumberAt l at w (bit_or ((a * 2 ^ 16) % 2 ^ 64) b)
 offset-joined narrow other h p q = absurd (other refl)
 offset-joined wide other h p q = number_or 2 16 refl (omega arith) (omega arith) p q

@@ -30,8 +30,5 @@ module _ {f places : List ℕ} (h : Placed f places) (s : ℕ) (l : s < slave_co
   pub documentation-record-fits : (r : ℕ) → r ≤ needed_documentation → Fits w64 (get_or places (documentation_index s) 0 + record_size * r)
   documentation-record-fits r few = record { fits = omega (arith, documentation-within h s l, length_limit h.file) }
 
-  pub documentation-byte-fits : (k : ℕ) → k < 12 → Fits w64 (get_or places (documentation_index s) 0 + k)
-  documentation-byte-fits k few = record { fits = omega (arith, documentation-within h s l, length_limit h.file) }
-
   pub documentation-long : (k : ℕ) → k + long_width ≤ 12 → get_or places (documentation_index s) 0 + k + long_width ≤ length f
   documentation-long k few = omega (arith, documentation-within h s l)

@@ -1,7 +1,7 @@
 -- The walk of the slaves, step by step: what a loop along the table keeps, and one law for each way through a turn.
 -- Assumes nothing.
-use Rattle.std.proofs.Common.{ℕ, zero, suc, ◌+◌, ◌*◌, ◌-◌, ◌≤◌, ◌<◌, ◌≡◌, refl, sym, ◌∙◌, subst, List, [], ◌∷◌, ◌++◌, append-nil, append_assoc, Bool}
-use Rattle.std.proofs.Common.{true, false, arith, add-one, length, get_or, take, set, length-set, take-suc-set, w64, Fits, leb-true, Option, Some}
+use Rattle.std.proofs.Common.{ℕ, zero, suc, ◌+◌, ◌*◌, ◌-◌, ◌≤◌, ◌<◌, ◌≡◌, sym, ◌∙◌, subst, List, [], ◌∷◌, ◌++◌, append-nil, append_assoc, Bool}
+use Rattle.std.proofs.Common.{true, false, arith, add-one, length, get_or, take, set, length-set, take-suc-set, leb-true, Option, Some}
 use Rattle.std.proofs.Common.{None}
 use lib.Seq.{append_snoc}
 use Rattle.file.specs.Rules.Bytes.{part, all_zero}
@@ -12,12 +12,11 @@ use Rattle.file.specs.Rules.Cluster.{configuration, documentation}
 use Rattle.file.specs.Rules.Decode.{offset_at}
 use Rattle.file.specs.Rules.FileGrounds.{broken, to, and_then, good_table_entry, walk_directory, walk_slave, walk_slaves}
 use Rattle.file.specs.Inner.Places.{places_each}
-use Rattle.file.specs.Inner.Checked.{EntriesFit, stated_place, stated_in, stated_places, walk_of, fits_so_far, ended, DirectoryWalked, EntryWalked, EntryEnds, Arrives, SlaveStated, SlaveWalked, SlavesWalked}
+use Rattle.file.specs.Inner.Checked.{EntriesFit, stated_place, stated_in, stated_places, walk_of, fits_so_far, ended, DirectoryWalked, EntryWalked, EntryEnds, Arrives, SlaveStated, SlavesWalked}
 use Rattle.file.specs.declared.walk.DirectoryEnd.{DirectoryEnd}
 use Rattle.file.specs.declared.walk.SlaveFound.{SlaveFound}
 use Rattle.file.proofs.Order.{clash, both_right}
 use Rattle.file.proofs.Arrivals.{SlaveStep, slave_took}
-use Rattle.file.proofs.WalkLaws.{entries_rise}
 use Rattle.file.proofs.Facts.{false_unless, TableEntryFacts, table-entry_facts, table-entry_yes}
 
 -- ---- one slave
@@ -112,21 +111,8 @@ module _ {w : ℕ} {f : List ℕ} {d k : ℕ} (fit : EntriesFit w f d k) where
   pub narrow_fits : w ≡ 2 → EntriesFit 2 f d k
   narrow_fits two = subst (λ (v : ℕ). EntriesFit v f d k) two fit
 
-  pub narrow_place : {place : ℕ} → w ≡ 2 → place ≤ 16384 * w → place ≤ 16384 * 2
-  narrow_place two h = omega arith
-
   pub wide_fits : (w ≡ 2 → ⊥) → EntriesFit 4 f d k
   wide_fits other = subst (λ (v : ℕ). EntriesFit v f d k) (other-is other) fit
-
-  pub wide_place : {place : ℕ} → place ≤ 16384 * w → place ≤ 16384 * 4
-  wide_place h = omega (arith, fit.width.most)
-
-  module _ (place : ℕ) (found : Option SlaveFound) where
-    pub narrow_walked : w ≡ 2 → SlaveWalked 2 f d place found → SlaveWalked w f d place found
-    narrow_walked two h = subst (λ (v : ℕ). SlaveWalked v f d place found) (sym two) h
-
-    pub wide_walked : (w ≡ 2 → ⊥) → SlaveWalked 4 f d place found → SlaveWalked w f d place found
-    wide_walked other h = subst (λ (v : ℕ). SlaveWalked v f d place found) (sym (other-is other)) h
 
 -- the entries of a slave's directory fit
 pub directory-fits : {w : ℕ} {f : List ℕ} {t : ℕ} (place n : ℕ) → EntriesFit w f t 1 → place + 2 * w * n ≤ length f → EntriesFit w f place n
@@ -136,12 +122,6 @@ directory-fits place n fit h = record { width = fit.width; within = h; short = f
 pub entries_many : (w n : ℕ) → w ≤ 4 → 2 * w * n ≤ 8 * n
 entries_many w zero h = omega arith
 entries_many w (suc n) h = omega (arith, entries_many w n h)
-
-pub directory-size-fits : {w : ℕ} {f : List ℕ} {t at n : ℕ} → EntriesFit w f t 1 → ByteAt f at n → Fits w64 (2 * w * n)
-directory-size-fits {w} {n = n} fit b = record { fits = omega (arith, entries_many w n fit.width.most, b.byte) }
-
-pub directory-end-fits : {w : ℕ} {f : List ℕ} {t at place n : ℕ} → EntriesFit w f t 1 → ByteAt f at n → place ≤ 16384 * w → Fits w64 (place + 2 * w * n)
-directory-end-fits {w} {n = n} fit b h = record { fits = omega (arith, entries_many w n fit.width.most, b.byte, h, fit.width.most) }
 
 -- ---- all slaves
 
@@ -199,29 +179,7 @@ pub record Surveying (w : ℕ) (f : List ℕ) (count size slave entry place : �
   pub written : Written w f count slave entry places
   pub same : length places ≡ size
 
-pub surveying_start : {w : ℕ} {f : List ℕ} {count : ℕ} {places : List ℕ} → EntriesFit w f (header_size w) count → 2 * count ≤ length places →
-    Surveying w f count (length places) 0 (header_size w) (header_size w + 2 * w * count) places
-surveying_start {w} {f} {count} h room =
-    let same : count - 0 ≡ count = omega arith in
-    record {
-      at = omega arith;
-      most = omega arith;
-      within = h.within;
-      walk = rw same;
-      written = record { room = room; all = rw same };
-      same = refl;
-    }
-
 module _ {w : ℕ} {f : List ℕ} {count size slave entry place : ℕ} {places : List ℕ} (h : Surveying w f count size slave entry place places) where
-  -- the table entry of a turn lies within the bytes
-  pub surveying_entry : EntriesFit w f (header_size w) count → slave < count → EntriesFit w f entry 1
-  surveying_entry fit more =
-      let rise : 2 * w * suc slave ≤ 2 * w * count = entries_rise w (suc slave) count more in
-      record { width = fit.width; within = omega (arith, h.at, rise, fit.within); short = fit.short }
-
-  pub surveying_place : EntriesFit w f (header_size w) count → place ≤ 16384 * w
-  surveying_place fit = omega (arith, h.within, fit.short)
-
   pub surveying_stop : slave < count → broken ≡ walk_slave w f entry place → SlavesWalked w f count None places
   unfolding walk_of
   surveying_stop more stopped =

@@ -37,18 +37,12 @@ module _ {f : List ℕ} (h : AcceptedFile f) where
   pub edition-there : 2 < length f
   edition-there = omega (arith, header-room-at (at-edition h))
 
-  pub slave-fits : (s : ℕ) → s < slave_count f → s < slaves_room
-  slave-fits s l = omega (arith, few-slaves (decode f) h.legal, l)
-
 module _ {f : List ℕ} {s at : ℕ} (h : AcceptedFile f) (l : s < slave_count f) (p : SleepAt f s at) where
   abbrev w : ℕ
   w = width_in (decode f).edition
 
   here : BecomesAt w f (decode f)
   here = becomes_in refl h
-
-  pub sleep_byte : at < length f
-  sleep_byte = p.within
 
   pub awake-there : eqb (get_or f at 0) 0 ≡ is_awake (slave_of (decode f) s)
   unfolding is_awake

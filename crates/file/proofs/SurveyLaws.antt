@@ -13,8 +13,6 @@ use Rattle.std.specs.Prelude.{Option, Some, None}
 use Rattle.file.specs.Rules.Order.{first_of}
 use Rattle.file.specs.Rules.Layout.{width_in, OffsetWidth, edition_of, header_size, entry_size_lem, max_slaves, max_length}
 use Rattle.file.specs.Rules.Bytes.{All, Bytes}
-use mir.Syntax.{w64}
-use mir.Val.{Fits}
 use Rattle.file.specs.Inner.Numbers.{ByteAt}
 use Rattle.file.specs.Rules.Cluster.{physical_name}
 use Rattle.file.specs.Rules.Decode.{slaves_at, decode_at}
@@ -32,7 +30,6 @@ use Rattle.file.proofs.Results.{result_done, result_refused}
 use Rattle.file.proofs.AcceptedFacts.{layout-whole}
 use Rattle.file.proofs.Arrivals.{broken_arrives, length-slaves_at}
 use Rattle.file.proofs.StatedSlaves.{needed-places, stated-names, stated-config, stated-document}
-use Rattle.file.proofs.SlaveWalkLaws.{entries_many}
 use Rattle.file.proofs.HeaderLaws.{after-header}
 use Rattle.file.proofs.Accepted.{accepted-becomes}
 use Rattle.file.proofs.AtWidth.{ground_at, decode-at}
@@ -61,13 +58,6 @@ count_fits {w} {f} {places} {n} h fit k = omega (arith, header-sizes w f h, k.is
 
 pub file-fits : {w : ℕ} {f : List ℕ} → GoodHeader w f → length f ≤ max_length w
 file-fits {w} {f} h = omega (arith, header-sizes w f h)
-
--- the table's size and its end are numbers of the machine
-pub table-size-fits : {w : ℕ} {f : List ℕ} {at n : ℕ} → OffsetWidth w → ByteAt f at n → Fits w64 (2 * w * n)
-table-size-fits {w} {n = n} width b = record { fits = omega (arith, entries_many w n width.most, b.byte) }
-
-pub table-end-fits : {w : ℕ} {f : List ℕ} {at n : ℕ} → OffsetWidth w → ByteAt f at n → Fits w64 (8 + 4 * w + 2 * w * n)
-table-end-fits {w} {n = n} width b = record { fits = omega (arith, entries_many w n width.most, b.byte, width.most) }
 
 pub table_fits : {w : ℕ} {f : List ℕ} {n : ℕ} → OffsetWidth w → GoodHeader w f → 8 + 4 * w + 2 * w * n ≤ length f → EntriesFit w f (header_size w) n
 table_fits width h fits = record { width = width; within = fits; short = file-fits h }

@@ -1,7 +1,7 @@
 -- The walk of a directory, step by step: what a loop along its entries keeps, and one law for each way through a turn.
 -- Assumes nothing.
 use Rattle.std.proofs.Common.{ℕ, zero, suc, ◌+◌, ◌*◌, ◌-◌, ◌≤◌, ◌<◌, ◌≡◌, refl, sym, ◌∙◌, Some, None, List, Bool, true, false, cond, arith, add-one}
-use Rattle.std.proofs.Common.{eq-eqb, ne_eqb, le-leb, leb-true, eqb-true, length, get_or, leb, eqb, w64, Fits}
+use Rattle.std.proofs.Common.{eq-eqb, ne_eqb, le-leb, leb-true, eqb-true, length, get_or, leb, eqb}
 use borrow.Author.Tests.{lt-leb}
 use Rattle.file.specs.Rules.Bytes.{all_zero, part}
 use Rattle.file.specs.Inner.Numbers.{ByteAt, NumberAt}
@@ -124,9 +124,6 @@ entries-few : (w k : ℕ) → 2 ≤ w → 4 * k ≤ 2 * w * k
 entries-few w zero h = omega arith
 entries-few w (suc k) h = omega (arith, entries-few w k h)
 
-pub fit-few : {w : ℕ} {f : List ℕ} {d k : ℕ} → EntriesFit w f d k → k ≤ 16384
-fit-few {w} {f} {d} {k} fit = omega (arith, fit.within, fit.short, fit.width.most, entries-few w k fit.width.least)
-
 pub entries_rise : (w a b : ℕ) → a ≤ b → 2 * w * a ≤ 2 * w * b
 entries_rise w zero b l = omega arith
 entries_rise w (suc a) zero l = absurd (omega arith)
@@ -179,10 +176,6 @@ module _ {w : ℕ} {f : List ℕ} {d k entry low place : ℕ} (fit : EntriesFit 
   pub walking_entry : entry < d + 2 * w * k → EntriesFit w f entry 1
   walking_entry more = entry-fits fit entry h.left h.at more
 
-  -- the place of the next turn is a number of the machine
-  pub walking_fits : {at last : ℕ} → ByteAt f at last → Fits w64 (place + 4 * (last + 1))
-  walking_fits b = record { fits = omega (arith, h.small, fit-few fit, b.byte) }
-
   some_left : entry < d + 2 * w * k → 0 < h.left
   some_left more = let m = more_left w entry (d + 2 * w * k) h.left h.at more in omega (arith, m.1)
 
@@ -227,14 +220,8 @@ module _ {w : ℕ} {f : List ℕ} {d k : ℕ} (fit : EntriesFit w f d k) (some :
   pub first-number : d < length f
   first-number = omega (arith, first_entry.within, fit.width.least)
 
-  pub first_records : d + 1 < length f
-  first_records = omega (arith, first_entry.within, fit.width.least)
-
   pub first_stop : {t : Bool} → t ≡ next_entry w f d 0 (d + 2 * w * k) → t ≡ false → DirectoryWalked w f d k None
   first_stop is e = walking_stop fit (walking_start fit) one-there is e
-
-  pub first_fits : {at last : ℕ} → ByteAt f at last → Fits w64 (d + 2 * w * k + 4 * (last + 1))
-  first_fits b = walking_fits fit (walking_start fit) b
 
   pub first_next : {t : Bool} {number last : ℕ} → t ≡ next_entry w f d 0 (d + 2 * w * k) → t ≡ true →
       ByteAt f d number → ByteAt f (d + 1) last → Walking w f d k (d + 2 * w) (number + 1) (d + 2 * w * k + 4 * (last + 1))

@@ -1,6 +1,6 @@
 -- `file::header::wrong_header` meets its contract: a law for each way.
 -- Assumes nothing.
-use borrow.Author.Tests.{not-true, not-false}
+use borrow.Author.Tests.{not-true}
 use Rattle.file.proofs.HeaderLaws.{header-count, header-table, header_zero, header_more, header-last}
 use Rattle.std.proofs.Common.{rules}
 use Rattle.file.proofs.header.wrong_header.Goals as goal

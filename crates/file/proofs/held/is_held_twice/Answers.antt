@@ -12,4 +12,4 @@ pub returns-then-eq : goal.returns-then-eq
 returns-then-eq c = search (rules, two-slaves-unnamed, same_if_eq)
 
 pub returns : goal.returns
-returns c = rw c.eq-2.ensures (search (rules, two-slaves, other_if_eq))
+returns c = search (rules, two-slaves, other_if_eq)

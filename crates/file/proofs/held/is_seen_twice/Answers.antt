@@ -11,4 +11,4 @@ pub returns-then-seen-mark : goal.returns-then-seen-mark
 returns-then-seen-mark c = search (rules, slaves-here)
 
 pub loop-slave-preserved : goal.loop-slave-preserved
-loop-slave-preserved c = rw c.ne.ensures (search (rules, slaves-next))
+loop-slave-preserved c = search (rules, slaves-next)
