@@ -1,6 +1,6 @@
 -- No two answers of one type are taken to the same: each map of `specs/Inner/FileAnswers.antt` can be undone.
 -- Assumes nothing.
-use mathlib.Core.Path.{◌≡◌, refl, sym, ◌∙◌, ap}
+use Rattle.std.proofs.Common.{◌≡◌, refl, sym, ◌∙◌, ap}
 use Rattle.file.specs.Inner.Accepted.{FoundFile, file_found, FoundRecord, record_at}
 use Rattle.file.specs.Rules.Results.{Result, refused, done}
 use Rattle.file.specs.Inner.FileAnswers.{checked_of, found_file, found_record}
