@@ -34,7 +34,7 @@ fn is_write_pending(file: &[u8]) -> bool
     if pending.flag != PENDING {
         return false;
     }
-    pending.operation.0 == Operation::WRITE.0
+    pending.operation == Operation::WRITE
 }
 
 // A data frame is refused, or has these bytes.

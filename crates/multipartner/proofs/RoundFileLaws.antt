@@ -51,13 +51,14 @@ no_entries : {c : Cluster} {round s many : ℕ} → many ≡ 0 → EntriesLie c 
 no_entries e = record { begins = rw e; span = rw e }
 
 module _ (c : Cluster) (round s : ℕ) where
-  pub round-unnamed : {name : ℕ} → name ≡ logical_name (slave_of c s) → name ≡ unnamed → PlannedFileIs c round s 0 0
-  unfolding planned_entries is_unnamed
-  round-unnamed own is = no_entries (rw (eq-eqb (logical_name (slave_of c s)) unnamed (sym own ∙ is)))
+  module _ {name : ℕ} {t : Bool} (own : name ≡ logical_name (slave_of c s)) (tests : t ≡ eqb name unnamed) where
+    pub round-unnamed : t ≡ true → PlannedFileIs c round s 0 0
+    unfolding planned_entries is_unnamed
+    round-unnamed yes' = no_entries (rw (← own, ← tests, yes'))
 
-  named-runs : {name : ℕ} → name ≡ logical_name (slave_of c s) → (name ≡ unnamed → ⊥) → planned_entries round (slave_of c s) ≡ last_record (bytes_in (slave_of c s) round)
-  unfolding planned_entries is_unnamed
-  named-runs own named = rw (ne_eqb (logical_name (slave_of c s)) unnamed (λ e. named (own ∙ e)))
+    named-runs : t ≡ false → planned_entries round (slave_of c s) ≡ last_record (bytes_in (slave_of c s) round)
+    unfolding planned_entries is_unnamed
+    named-runs no' = rw (← own, ← tests, no')
 
   -- a sleeping slave runs none of them, one that is awake all
   module _ {t : Bool} (is : t ≡ is_awake (slave_of c s)) where
@@ -99,11 +100,11 @@ module _ (c : Cluster) (round s : ℕ) where
               let records = round_records in
               omega (arith, records.some, records.whole, round_facts.has, round-within, length_limit (becomes-decoded h))
 
-          pub round_found : {name : ℕ} → name ≡ logical_name (slave_of c s) → (name ≡ unnamed → ⊥) → PlannedFileIs c round s (b.place + record_size) (b.place + b.size)
-          round_found own named =
+          pub round_found : {name : ℕ} {t : Bool} → name ≡ logical_name (slave_of c s) → t ≡ eqb name unnamed → t ≡ false → PlannedFileIs c round s (b.place + record_size) (b.place + b.size)
+          round_found own tests no' =
               let fact = round_facts in
               let records = round_records in
-              let runs = named-runs own named in
+              let runs = named-runs own tests no' in
               let some : eqb (planned_entries round (slave_of c s)) 0 ≡ false = ne_eqb (planned_entries round (slave_of c s)) 0 (λ e. omega (arith, records.some)) in
               record {
                 begins = rw some (ap (λ (x : ℕ). x + record_size) fact.lies);

@@ -6,7 +6,7 @@ use native.Mathlib.Numerals.{add-one}
 use mathlib.Core.Path.{◌≡◌, refl, sym, ap, ◌∙◌}
 use mathlib.Core.List.{List, [], ◌∷◌}
 use mathlib.Core.Bool.{Bool, true, false, not}
-use lib.ListN.{length, get_or, set, replicate}
+use lib.ListN.{length, get_or, set, take, replicate}
 use lib.Seq.{get_or-set_same}
 use lib.Dec.{ltb}
 use borrow.Author.Tests.{not-false}
@@ -35,10 +35,10 @@ use Rattle.master_slave.proofs.Bus.{bus_byte-byte, mask_below, mask_next, mask_s
 use Rattle.multipartner.proofs.StoresKept.{kept_received}
 use Rattle.master_slave.proofs.Untouched.{files_of-slave}
 use Rattle.multipartner.proofs.Unstored.{received_other, received_awake, awake-slave}
-use Rattle.multipartner.proofs.StoreLaws.{stored-length, stored_by, aim, received_by, received-all, stored-becomes}
+use Rattle.multipartner.proofs.StoreLaws.{stored-length, stored-first, stored_by, aim, received_by, received-all, stored-becomes}
 use Rattle.multipartner.proofs.OpenLaws.{actor, Rest, OpenAt, OpenAll, open_start, open_within, open_after, open_set, open_later}
 use Rattle.multipartner.proofs.SearchLaws.{RoundActIs, round_act, round_rests, Searching, searching_start, searching_done, searching_end, searching_wait, searching_here, searching_over}
-use Rattle.multipartner.proofs.HearLaws.{someone, someone_yes, someone_no, act_within, SlotHearing, slot_hearing_start, slot_hearing_next, heard-byte, heard_any, heard-stored, heard-within}
+use Rattle.multipartner.proofs.HearLaws.{someone, someone_yes, someone_no, act_within, SlotHearing, slot_hearing_start, slot_hearing_next, heard-byte, heard_any, heard-stored, stored-few, heard-within}
 
 -- ---- the round files stay where and what they are
 
@@ -177,9 +177,13 @@ module _ {passed : Entry → Bool} {f : List ℕ} {round count slot n bus : ℕ}
     unfolding act_sends is_sender put_store joined
     heard_rests none opened = heard-acts (round_rests none) refl (sym (either-none heard)) refl opened h.ready.kept
 
-  -- what `store` asks
-  pub stores-within : count ≤ n → StoresWithin f stores stored
-  stores-within over = heard-within h.hearing (omega (arith, h.ready.all)) h.ready.becomes
+  -- the places to store at are within their array, and what `store` asks of them
+  module _ (over : count ≤ n) where
+    pub stores_room : stored ≤ length stores
+    stores_room = stored-few h.hearing (omega (arith, h.ready.all)) h.ready.becomes
+
+    pub stores-within : StoresWithin f (take stored stores)
+    stores-within = heard-within h.hearing (omega (arith, h.ready.all)) h.ready.becomes
 
 -- ---- the search for a slave's entry
 
@@ -380,9 +384,10 @@ module _ {passed : Entry → Bool} {f₀ : List ℕ} {round firework count : ℕ
         }
 
     -- someone sent, and the receivers stored
-    pub running-heard : {mask' : ℕ} {file' : List ℕ} → heard ≡ true → mask' ≡ 2 ^ slot + mask → file' ≡ stored_at file stores bus stored
+    pub running-heard : {mask' : ℕ} {file' : List ℕ} → heard ≡ true → mask' ≡ 2 ^ slot + mask → file' ≡ stored_at file (take stored stores) bus (length (take stored stores))
         → Running passed f₀ round firework count after ends stores numbers places sizes old (slot + 1) mask' (set buffer slot bus) file'
-    running-heard {mask'} {file'} some masked stored' =
+    running-heard {mask'} {file'} some masked puts =
+        let stored' : file' ≡ stored_at file stores bus stored = puts ∙ stored-first file stores bus stored (stores_room heard_all over) in
         let all : List ℕ = sent_by passed round slot (decode file).slaves in
         let loud : someone all ≡ true = sym (heard_any q left) ∙ some in
         let one : anyone (sent_during passed round (decode f₀) slot) ≡ 1 = rw now_sent (someone_yes all loud) in

@@ -65,17 +65,15 @@ fn run_slots(
     let mut stores = [0u32; SLAVES_ROOM];
     let mut mask = NOBODY;
     buffer[FIREWORK_SLOT] = firework;
-    let mut slot = FIRST_SLOT;
-    'slots: while slot < SLOTS {
+    'slots: for slot in FIRST_SLOT..SLOTS {
         let mut bus = SILENT_BYTE;
         let mut heard = false;
         let mut stored = 0;
-        let mut slave = 0;
-        'slaves: while slave < count {
+        'slaves: for slave in 0..count {
             let end = ends[slave] as usize;
-            let mut at = starts[slave] as usize;
-            let mut next = at;
-            'entries: while at < end {
+            let start = starts[slave] as usize;
+            let mut next = start;
+            'entries: for at in (start..end).step_by(RECORD_SIZE) {
                 if ends_at(file, at) {
                     break 'entries;
                 }
@@ -98,17 +96,14 @@ fn run_slots(
                     }
                     next = next_past(next, at);
                 }
-                at = at + RECORD_SIZE;
             }
             starts[slave] = next as u32;
-            slave = slave + 1;
         }
         if heard {
             mask = with_sender(mask, slot as u64);
-            store(file, &stores, stored, bus);
+            store(file, &stores[..stored], bus);
         }
         buffer[slot] = bus;
-        slot = slot + 1;
     }
     mask
 }

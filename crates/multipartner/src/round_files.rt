@@ -26,7 +26,7 @@ pub fn planned_file(file: &[u8], places: &SlavePlaces, slave: usize, round: File
     ensures { PlannedFileIs (decode file.now) (file_in round) slave result.start result.end }
 {
     let name = logical_name(file, places, slave);
-    if name.0 == LogicalName::UNNAMED.0 {
+    if name == LogicalName::UNNAMED {
         return NO_ROUND_FILE;
     }
     let found = find_file(file, slave, round);
@@ -62,11 +62,9 @@ pub fn round_files(
     ensures { RoundFilesAre (decode file.now) (file_in round) starts.new ends.new }
 {
     let count = slave_count(file);
-    let mut slave = 0;
-    while slave < count {
+    for slave in 0..count {
         let found = round_file(file, places, slave, round);
         starts[slave] = found.start as u32;
         ends[slave] = found.end as u32;
-        slave = slave + 1;
     }
 }

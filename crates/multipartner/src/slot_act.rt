@@ -23,10 +23,10 @@ fn may_store(entry: Entry, slot: usize) -> bool
     requires { Reaches entry slot }
     ensures { result ≡ may_store (entry_from entry) slot }
 {
-    if entry.address.file.0 < FIRST_STORED.0 {
+    if entry.address.file < FIRST_STORED {
         return false;
     }
-    if LAST_STORED.0 < entry.address.file.0 {
+    if LAST_STORED < entry.address.file {
         return false;
     }
     RECORD_SIZE <= byte_place(entry, slot)

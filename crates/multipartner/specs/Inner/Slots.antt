@@ -141,7 +141,6 @@ stored_at f places b zero = f
 stored_at f places b (suc n) = set (stored_at f places b n) (get_or places n 0) b
 
 -- every place lies in the file
-pub record StoresWithin (f places : List ℕ) (count : ℕ) : Type 0 where
-  pub few : count ≤ slaves_room
-  pub within : (i : ℕ) → i < count → get_or places i 0 < length f
+pub record StoresWithin (f places : List ℕ) : Type 0 where
+  pub within : (i : ℕ) → i < length places → get_or places i 0 < length f
   pub low : length f < 2 ^ 32
