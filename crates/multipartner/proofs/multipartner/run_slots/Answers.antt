@@ -13,7 +13,7 @@ use Rattle.multipartner.proofs.SlotLaws.{looking_start, looking_done, looking_en
 use Rattle.multipartner.proofs.SlotLaws.{looking_acts, heard-same, next_low, running-start, mask-small, slot_fits, running_silent, running-heard, running-done}
 use Rattle.multipartner.proofs.multipartner.run_slots.Goals as goal
 use Rattle.multipartner.proofs.multipartner.run_slots.Goals.{then-not-waits_at+else-acts_at, else-not-waits_at, then-heard, else-heard}
-use Rattle.multipartner.proofs.multipartner.run_slots.Goals.{else-entries-test, then-entries-test+then-ends_at, then-entries-test+else-ends_at+else-end-at-gt4, then-entries-test+else-ends_at+then-not-waits_at+then-acts_at}
+use Rattle.multipartner.proofs.multipartner.run_slots.Goals.{else-entries-test, then-entries-test+then-ends_at, then-entries-test+else-ends_at+then-not-waits_at+then-acts_at}
 
 pub slots-init : goal.slots-init
 slots-init c = search (rules, running-start)
@@ -24,8 +24,8 @@ slaves-init c = search (rules, heard-none)
 pub overflow_cast-end : goal.overflow_cast-end
 overflow_cast-end c = omega (arith, ends_low c.slaves.invariant c.slaves-test.true)
 
-pub overflow_cast-start : goal.overflow_cast-start
-overflow_cast-start c = omega (arith, starts-low c.slaves.invariant c.slaves-test.true)
+pub overflow_cast-at : goal.overflow_cast-at
+overflow_cast-at c = omega (arith, starts-low c.slaves.invariant c.slaves-test.true)
 
 pub entries-init : goal.entries-init
 entries-init c = looking_start c.slaves.invariant c.slaves-test.true
@@ -67,6 +67,9 @@ next_after-next-requires c =
 pub next_past-next-requires : goal.next_past-next-requires
 next_past-next-requires c = entry-low c.entries.invariant.search c.entries-test.true
 
+pub overflow_add-at : goal.overflow_add-at
+overflow_add-at c = omega (arith, entry-low c.entries.invariant.search c.entries-test.true)
+
 pub entries-preserved : goal.entries-preserved
 entries-preserved c =
     let looking = c.entries.invariant in
@@ -89,15 +92,6 @@ slaves-preserved c =
       | then-entries-test+then-ends_at w ↦
           heard-same looking w.numbers-is w.froms-is w.sizes-is w.stores-is w.bus-is w.heard-is w.stored-is w.next-is
           (looking_end looking w.entries-test.true w.ends_at.ensures w.if-ends_at.true)
-      | then-entries-test+else-ends_at+else-end-at-gt4 w ↦
-          heard-same looking w.numbers-is w.froms-is w.sizes-is w.stores-is w.bus-is w.heard-is w.stored-is w.next-is
-          (looking_done (elim w.if-not-waits_at.branch [
-            | then-not-waits_at+else-acts_at v ↦
-                looking_over looking w.entries-test.true w.ends_at.ensures w.if-ends_at.false (begun w.waits_at.ensures v.if-not-waits_at.true)
-                v.acts_at.ensures v.if-acts_at.false (v.next-is ∙ v.next_past-next.ensures)
-            | else-not-waits_at v ↦
-                looking_wait looking w.entries-test.true w.ends_at.ensures w.if-ends_at.false w.waits_at.ensures v.if-not-waits_at.false v.next-is
-          ]) (omega arith))
       | then-entries-test+else-ends_at+then-not-waits_at+then-acts_at w ↦
           heard-same looking w.numbers-is w.froms-is w.sizes-is w.stores-is w.bus-is w.heard-is w.stored-is w.next-is
           (looking_acts looking w.entries-test.true w.ends_at.ensures w.if-ends_at.false (begun w.waits_at.ensures w.if-not-waits_at.true)
