@@ -8,8 +8,9 @@ ghost use Rattle.master_slave.specs.Inner.Carried.{Carried};
 ghost use Rattle.multipartner.specs.Rules.Entries.{entry_there, out_of_turn};
 ghost use Rattle.multipartner.specs.Inner.Slots.{multipartner_effect, slots_effect, next_past, next_after};
 
-use crate::entry::{NO_FILE, acts_at, ends_at, is_last, waits_at};
-use crate::round_files::round_files;
+use crate::entry::{acts_at, ends_at, is_last, waits_at};
+use crate::kept_files::KeptFile;
+use crate::round_files::{OpenEntries, round_files};
 use crate::slot_act::{act_at, bus_with, heard_with};
 use crate::stores::{put_store, store};
 use file::layout::RECORD_SIZE;
@@ -42,8 +43,8 @@ fn next_after(file: &[u8], next: usize, at: usize, slot: usize) -> usize
 }
 
 // Slots 1 to 63 of a multipartner round. Where each slave's entries lie is found once, before the first slot: no receive stores
-// in a round file or in 0x08. From slot to slot `starts` leaves out the entries in front that cannot act again: those that cover no
-// later slot, and multiplexed ones out of turn, which go by the round's epoch. Places and sizes are kept in four bytes each, for the stack.
+// in a round file or in 0x08. From slot to slot `lists` leaves out the entries in front that cannot act again: those that cover no
+// later slot, and multiplexed ones out of turn, which go by the round's epoch.
 fn run_slots(
     file: &mut [u8],
     places: &SlavePlaces,
@@ -56,12 +57,9 @@ fn run_slots(
     ensures { Carried (slots_effect (out_of_turn epoch) (decode file.old) round) firework buffer.old buffer.new result file.new }
 {
     let count = slave_count(file);
-    let mut starts = [0u32; SLAVES_ROOM];
-    let mut ends = [0u32; SLAVES_ROOM];
-    round_files(file, places, FileNumber(round), &mut starts, &mut ends);
-    let mut numbers = [NO_FILE; SLAVES_ROOM];
-    let mut froms = [0u32; SLAVES_ROOM];
-    let mut sizes = [0u32; SLAVES_ROOM];
+    let mut lists = [OpenEntries::NONE; SLAVES_ROOM];
+    round_files(file, places, FileNumber(round), &mut lists);
+    let mut kept = [KeptFile::NONE; SLAVES_ROOM];
     let mut stores = [0u32; SLAVES_ROOM];
     let mut mask = NOBODY;
     buffer[FIREWORK_SLOT] = firework;
@@ -70,8 +68,8 @@ fn run_slots(
         let mut heard = false;
         let mut stored = 0;
         'slaves: for slave in 0..count {
-            let end = ends[slave] as usize;
-            let mut at = starts[slave] as usize;
+            let end = lists[slave].end as usize;
+            let mut at = lists[slave].start as usize;
             let mut next = at;
             // Not `for at in (at..end).step_by(RECORD_SIZE)`, which is slower: a round of 32 slaves of 220 entries each took 261,205
             // instructions by it, and takes 244,309.
@@ -81,15 +79,7 @@ fn run_slots(
                 }
                 if !waits_at(file, at, slot) {
                     if acts_at(file, at, slot, epoch) {
-                        let act = act_at(
-                            file,
-                            slave,
-                            at,
-                            slot,
-                            &mut numbers,
-                            &mut froms,
-                            &mut sizes,
-                        );
+                        let act = act_at(file, slave, at, slot, &mut kept);
                         bus = bus_with(bus, act);
                         heard = heard_with(heard, act);
                         stored = put_store(&mut stores, stored, act);
@@ -100,7 +90,7 @@ fn run_slots(
                 }
                 at = at + RECORD_SIZE;
             }
-            starts[slave] = next as u32;
+            lists[slave].start = next as u32;
         }
         if heard {
             mask = with_sender(mask, slot as u64);

@@ -50,21 +50,33 @@ fn round_file(file: &[u8], places: &SlavePlaces, slave: usize, round: FileNumber
     planned_file(file, places, slave, round)
 }
 
-// The same of every slave, put in front of whatever else the lent arrays hold.
+// Where the entries begin that a slave still has to look at, and where they end, in four bytes each, for the stack.
+#[derive(Clone, Copy)]
+pub struct OpenEntries {
+    pub start: u32,
+    pub end: u32,
+}
+
+impl OpenEntries {
+    pub const NONE: OpenEntries = OpenEntries { start: 0, end: 0 };
+}
+
+// All that it runs, of every slave, put in front of whatever else the lent array holds.
 pub fn round_files(
     file: &[u8],
     places: &SlavePlaces,
     round: FileNumber,
-    starts: &mut [u32; SLAVES_ROOM],
-    ends: &mut [u32; SLAVES_ROOM],
+    lists: &mut [OpenEntries; SLAVES_ROOM],
 )
-    requires { Placed file.now places.now × (length starts.old ≡ slaves_room) × (length ends.old ≡ slaves_room) }
-    ensures { RoundFilesAre (decode file.now) (file_in round) starts.new ends.new }
+    requires { Placed file.now places.now × (length lists.old ≡ slaves_room) }
+    ensures { RoundFilesAre (decode file.now) (file_in round) lists.new }
 {
     let count = slave_count(file);
     for slave in 0..count {
         let found = round_file(file, places, slave, round);
-        starts[slave] = found.start as u32;
-        ends[slave] = found.end as u32;
+        lists[slave] = OpenEntries {
+            start: found.start as u32,
+            end: found.end as u32,
+        };
     }
 }

@@ -10,7 +10,7 @@ ghost use Rattle.multipartner.specs.Inner.EntryForm.{entry_from, Reaches};
 ghost use Rattle.multipartner.specs.Inner.Slots.{FilesKept, EntryActIs, ActedAt, act_sends, is_sender};
 
 use crate::entry::{Entry, EntryAction, action_of, byte_place, entry_at};
-use crate::kept_files::keep_file;
+use crate::kept_files::{KeptFile, keep_file};
 use file::layout::RECORD_SIZE;
 use file::types::{FileNumber, SLAVES_ROOM};
 
@@ -75,21 +75,20 @@ pub fn act_at(
     slave: usize,
     at: usize,
     slot: usize,
-    numbers: &mut [u8; SLAVES_ROOM],
-    froms: &mut [u32; SLAVES_ROOM],
-    sizes: &mut [u32; SLAVES_ROOM],
+    kept: &mut [KeptFile; SLAVES_ROOM],
 ) -> SlotAct
-    requires { AcceptedFile file.now × (slave < slave_count file.now) × (at + record_size ≤ length file.now) × ((entry_there file.now at).start ≤ slot) × (slot < slots) × FilesKept file.now numbers.old froms.old sizes.old }
-    ensures { ActedAt file.now slave at slot result numbers.new froms.new sizes.new }
+    requires { AcceptedFile file.now × (slave < slave_count file.now) × (at + record_size ≤ length file.now) × ((entry_there file.now at).start ≤ slot) × (slot < slots) × FilesKept file.now kept.old }
+    ensures { ActedAt file.now slave at slot result kept.new }
 {
     let entry = entry_at(file, at);
-    keep_file(file, slave, entry.address.file, numbers, froms, sizes);
+    keep_file(file, slave, entry.address.file, kept);
+    let named = kept[slave];
     slot_act(
         file,
         entry,
         slot,
-        froms[slave] as usize,
-        sizes[slave] as usize,
+        named.place as usize,
+        named.size as usize,
     )
 }
 

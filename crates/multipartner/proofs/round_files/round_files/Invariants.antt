@@ -5,4 +5,4 @@ use Rattle.multipartner.proofs.round_files.round_files.Given as goal
 
 abbrev pub invariant-loop-slave : goal.invariant-loop-slave
 invariant-loop-slave l =
-    Finding l.file (file_in l.round) l.starts l.ends l.slave
+    Finding l.file (file_in l.round) l.lists l.slave
