@@ -121,9 +121,9 @@ module _ {f : List ℕ} {s : ℕ} {known : List KeptFile} (there : s < slave_cou
       record { kept = k; named = rw is at (k.file s there (rw is few)) }
 
   pub keep_new : (number : FileNumber) {place size : ℕ} → AcceptedFile f → FileIs f s number.0 place size
-      → KeptFor f s number.0 (set known s (record { number = number; place = place; size = size }))
+      → KeptFor f s number.0 (set known s (record { place = place; size = size; number = number }))
   keep_new number {place} {size} h is =
-      let new : KeptFile = record { number = number; place = place; size = size } in
+      let new : KeptFile = record { place = place; size = size; number = number } in
       let few : s < slaves_room = omega (arith, h.legal.count) in
       let put : get_or (set known s new) s no_file ≡ new = get_or-set_same known s new no_file (omega (arith, k.room)) in
       record {

@@ -294,9 +294,9 @@ start-after passed round c h = h
 
 -- no file is kept yet
 abbrev none_known : List KeptFile
-none_known = replicate slaves_room (record { number = record { 0 = 255 }; place = 0; size = 0 })
+none_known = replicate slaves_room (record { place = 0; size = 0; number = record { 0 = 255 } })
 
-no_number : (s m : ℕ) → s < m → (get_or (replicate {A = KeptFile} m (record { number = record { 0 = 255 }; place = 0; size = 0 })) s no_file).number.0 ≡ 255
+no_number : (s m : ℕ) → s < m → (get_or (replicate {A = KeptFile} m (record { place = 0; size = 0; number = record { 0 = 255 } })) s no_file).number.0 ≡ 255
 no_number zero (suc m) l = refl
 no_number (suc s) (suc m) l = no_number s m (omega arith)
 no_number s zero l = absurd (omega arith)

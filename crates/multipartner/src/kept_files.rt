@@ -9,19 +9,20 @@ use crate::entry::NO_FILE;
 use file::records::{FileBytes, FilePlace, find_file};
 use file::types::{FileNumber, SLAVES_ROOM};
 
-// A file by its number, and where it lies with how many bytes. No file has more than 1,024: place and size take six bytes, for the stack.
+// Where a file lies and how many bytes it has, at most 1,024, with its number: eight bytes in this order, for the stack and for the step
+// from slave to slave.
 #[derive(Clone, Copy)]
 pub struct KeptFile {
-    pub number: FileNumber,
     pub place: u32,
     pub size: u16,
+    pub number: FileNumber,
 }
 
 impl KeptFile {
     pub const NONE: KeptFile = KeptFile {
-        number: FileNumber(NO_FILE),
         place: 0,
         size: 0,
+        number: FileNumber(NO_FILE),
     };
 }
 
@@ -53,8 +54,8 @@ pub fn keep_file(
     }
     let bytes = bytes_of(file, slave, number);
     kept[slave] = KeptFile {
-        number,
         place: bytes.place as u32,
         size: bytes.size as u16,
+        number,
     };
 }

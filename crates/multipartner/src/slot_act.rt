@@ -82,13 +82,12 @@ pub fn act_at(
 {
     let entry = entry_at(file, at);
     keep_file(file, slave, entry.address.file, kept);
-    let named = kept[slave];
     slot_act(
         file,
         entry,
         slot,
-        named.place as usize,
-        named.size as usize,
+        kept[slave].place as usize,
+        kept[slave].size as usize,
     )
 }
 

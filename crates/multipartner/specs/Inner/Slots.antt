@@ -42,7 +42,7 @@ abbrev pub no_entries : OpenEntries
 no_entries = record { start = 0; end = 0 }
 
 abbrev pub no_file : KeptFile
-no_file = record { number = record { 0 = 0 }; place = 0; size = 0 }
+no_file = record { place = 0; size = 0; number = record { 0 = 0 } }
 
 -- where so many entries of the slave at index s begin and where they end: after record 0x00, both 0 where there are none
 pub record EntriesLie (c : Cluster) (round s many start end : ℕ) : Type 0 where
