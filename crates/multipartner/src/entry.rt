@@ -80,6 +80,7 @@ const RECEIVE_MUX_8_HIGH: u8 = 14;
 pub const FIRST_MULTIPLEXED: u8 = RECEIVE_MUX_4;
 
 // The one code that is left is 15, SendMux8High.
+#[tactic(auto, unfolding(crate::specs::Inner::EntryForm::code_of, crate::specs::Inner::EntryForm::multiplex_of, crate::specs::Inner::EntryForm::multiplex_in))]
 fn entry_operation(code: u8, multiplex: u8) -> EntryOperation
     requires { code < operation_codes }
     ensures { OperationIs result code multiplex }
@@ -139,6 +140,7 @@ pub fn entry_of(b0: u8, b1: u8, b2: u8, b3: u8) -> Entry
 }
 
 // The entry at a place of the file.
+#[tactic(auto, unfolding(crate::specs::Rules::Entries::entry_there))]
 pub fn entry_at(file: &[u8], at: usize) -> Entry
     requires { at + record_size ≤ length file.now }
     ensures { entry_from result ≡ evaluated (entry_there file.now at) }
@@ -161,6 +163,7 @@ pub enum EntryAction {
     Rests,
 }
 
+#[tactic(auto, unfolding(crate::specs::Inner::EntryForm::code_of, crate::specs::Inner::EntryForm::action_by, crate::specs::Inner::EntryForm::action_from, crate::specs::Rules::Entries::is_multiplexed, crate::specs::Rules::Entries::receives, crate::specs::Rules::Entries::sends, crate::specs::Rules::Entries::ends, file::specs::Rules::Order::both, file::specs::Rules::Order::either))]
 pub fn action_of(operation: EntryOperation) -> EntryAction
     ensures { action_from result ≡ action_by (code_of operation) }
 {
@@ -202,6 +205,7 @@ pub fn ends_at(file: &[u8], at: usize) -> bool
 }
 
 // Whether its first slot is yet to come.
+#[tactic(auto, unfolding(crate::specs::Rules::Entries::entry_there, crate::specs::Rules::Entries::entry_of))]
 pub fn waits_at(file: &[u8], at: usize, slot: usize) -> bool
     requires { at + record_size ≤ length file.now }
     ensures { result ≡ ltb slot (entry_there file.now at).start }
@@ -262,6 +266,7 @@ pub fn is_last(file: &[u8], at: usize, slot: usize) -> bool
 }
 
 // The byte of the entry's file that a slot is about.
+#[tactic(auto, unfolding(crate::specs::Rules::Entries::byte_place, crate::specs::Inner::EntryForm::entry_from))]
 pub fn byte_place(entry: Entry, slot: usize) -> usize
     requires { Reaches entry slot }
     ensures { result ≡ byte_place (entry_from entry) slot }

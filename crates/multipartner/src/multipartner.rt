@@ -21,6 +21,7 @@ use master_slave::sleep::wake_slaves;
 use master_slave::slots::{FIREWORK_SLOT, FIRST_SLOT, NOBODY, SILENT_BYTE, SLOTS, with_sender};
 
 // Where the search of the next slot begins, with one more entry over: past it, if the search began there.
+#[tactic(auto, unfolding(crate::specs::Inner::Slots::next_past))]
 fn next_past(next: usize, at: usize) -> usize
     requires { at < 2 ^ 32 }
     ensures { result ≡ next_past next at }
@@ -32,6 +33,7 @@ fn next_past(next: usize, at: usize) -> usize
 }
 
 // The same after a slot in which the entry acts: it is over if that slot is its last.
+#[tactic(auto, unfolding(crate::specs::Inner::Slots::next_after))]
 fn next_after(file: &[u8], next: usize, at: usize, slot: usize) -> usize
     requires { (at < 2 ^ 32) × (at + record_size ≤ length file.now) × ((entry_there file.now at).start ≤ slot) }
     ensures { result ≡ next_after (entry_there file.now at) next at slot }

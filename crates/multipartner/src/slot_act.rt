@@ -92,6 +92,7 @@ pub fn act_at(
 }
 
 // The bus byte with what a slave sends.
+#[tactic(auto, unfolding(crate::specs::Inner::Slots::act_sends, master_slave::specs::Rules::Bus::joined))]
 pub fn bus_with(bus: u8, act: SlotAct) -> u8
     ensures { result ≡ joined bus (act_sends act) }
 {
@@ -103,6 +104,7 @@ pub fn bus_with(bus: u8, act: SlotAct) -> u8
 }
 
 // Whether someone sent, with what a slave does.
+#[tactic(auto, unfolding(crate::specs::Inner::Slots::is_sender, file::specs::Rules::Order::either))]
 pub fn heard_with(heard: bool, act: SlotAct) -> bool
     ensures { result ≡ either heard (is_sender act) }
 {

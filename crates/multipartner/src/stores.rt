@@ -7,6 +7,7 @@ use crate::slot_act::SlotAct;
 use file::types::SLAVES_ROOM;
 
 // The places that the slot's byte is stored at, with what a slave does, and how many they are.
+#[tactic(auto, unfolding(crate::specs::Inner::Slots::put_store))]
 pub fn put_store(stores: &mut [u32; SLAVES_ROOM], stored: usize, act: SlotAct) -> usize
     requires { (stored < slaves_room) × StoresLow act }
     ensures { (stores.new, result) ≡ put_store stores.old stored act }
