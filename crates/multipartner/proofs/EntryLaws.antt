@@ -17,16 +17,9 @@ use Rattle.multipartner.specs.declared.entry.EntryOperation.{EntryOperation}
 
 -- ---- the operation of a code
 
-pub operation-is : (r : EntryOperation) {n m : ℕ} → n ≡ code_of r → multiplex_of r ≡ multiplex_in (code_of r) m → OperationIs r n m
-operation-is r {n} {m} is field = record { code = sym is; field = rw is field }
-
 -- a number that is not k, and not below it, is above it
 pub above : (k : ℕ) {n : ℕ} → k ≤ n → (n ≡ k → ⊥) → suc k ≤ n
 above k {n} low other = by_case (ltb k n) (λ e. ltb-true k n e) (λ e. absurd (other (omega (arith, ltb-false k n e))))
-
--- and four such numbers in a row
-pub above_four : (k : ℕ) {n : ℕ} → k ≤ n → (n ≡ k → ⊥) → (n ≡ k + 1 → ⊥) → (n ≡ k + 2 → ⊥) → (n ≡ k + 3 → ⊥) → k + 4 ≤ n
-above_four k low a b c d = omega arith
 
 -- an entry made of an operation and of numbers is the entry of its bytes
 pub entry-is : {o : EntryOperation} (b₀ b₁ b₂ b₃ : ℕ) → OperationIs o (entry_of b₀ b₁ b₂ b₃).operation (entry_of b₀ b₁ b₂ b₃).multiplex →
@@ -55,10 +48,6 @@ is_receiving ending = false
 is_receiving sending = false
 is_receiving receiving = true
 is_receiving resting = false
-
--- an operation acts as the one that a match found it to be
-pub acts_as : {o : EntryOperation} {a : Action} (v : EntryOperation) → o ≡ v → a ≡ action_by (code_of v) → a ≡ action_by (code_of o)
-acts_as v q is = is ∙ ap (λ (x : EntryOperation). action_by (code_of x)) (sym q)
 
 -- ---- whose turn it is
 

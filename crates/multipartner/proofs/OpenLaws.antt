@@ -161,26 +161,6 @@ module _ {f : List ℕ} {c : Cluster} {round s start end : ℕ} (h : Becomes f c
   pub start-low : Fits w32 start
   start-low = omega (arith, within-file.rising, within-file.within, length_limit (becomes-decoded h))
 
--- ---- where the search of the next slot begins
-
-module _ (next at : ℕ) where
-  pub next-other : (next ≡ at → ⊥) → next ≡ next_past next at
-  unfolding next_past
-  next-other other = rw (ne_eqb next at other)
-
-  pub next_here : next ≡ at → at + 4 ≡ next_past next at
-  unfolding next_past
-  next_here same = rw (eq-eqb next at same)
-
-  module _ (e : Entry) (slot : ℕ) {t : Bool} (last : t ≡ eqb (slot - e.start + 1) e.length) where
-    pub after-not-last : not t ≡ true → next ≡ next_after e next at slot
-    unfolding next_after
-    after-not-last no' = rw (sym last ∙ not-true t no')
-
-    pub after_last : not t ≡ false → {r : ℕ} → r ≡ next_past next at → r ≡ next_after e next at slot
-    unfolding next_after
-    after_last yes' is = rw (sym last ∙ not-false t yes') is
-
 -- ---- what the slave's entries that are left say of the slots to come
 
 -- from the slot on the entry that acts is among those that lie from at to end

@@ -287,51 +287,9 @@ module _ (f : List ℕ) (at : ℕ) (e : Code.Entry) (is : entry_from e ≡ evalu
       let named : FileIs f s (entry_from e).file (get_or known s no_file).place (get_or known s no_file).size = unfold entry_from in k.named in
       record { does = act_evaluated is (entry-acts slot h (entry_from e) named act); kept = k.kept }
 
--- ---- what an act is, to the bus and to the file
-
-pub bus_sends : {act : SlotAct} {b : ℕ} (bus : ℕ) → act ≡ Acts.Sends b → bit_and bus b ≡ joined bus (act_sends act)
-unfolding act_sends joined
-bus_sends bus q = rw q
-
-pub bus_stores : {act : SlotAct} {p : ℕ} (bus : ℕ) → act ≡ Acts.Stores p → bus ≡ joined bus (act_sends act)
-unfolding act_sends joined
-bus_stores bus q = rw q
-
-pub bus_rests : {act : SlotAct} (bus : ℕ) → act ≡ Acts.Rests → bus ≡ joined bus (act_sends act)
-unfolding act_sends joined
-bus_rests bus q = rw q
+-- ---- nobody else heard
 
 pub either-none : (b : Bool) → either b false ≡ b
 unfolding either
 either-none true = refl
 either-none false = refl
-
-pub heard-sends : {act : SlotAct} {b : ℕ} (heard : Bool) → act ≡ Acts.Sends b → true ≡ either heard (is_sender act)
-unfolding is_sender
-heard-sends heard q = rw q (sym (either_right heard refl))
-
-pub heard-stores : {act : SlotAct} {p : ℕ} (heard : Bool) → act ≡ Acts.Stores p → heard ≡ either heard (is_sender act)
-unfolding is_sender
-heard-stores heard q = rw q (sym (either-none heard))
-
-pub heard_rests : {act : SlotAct} (heard : Bool) → act ≡ Acts.Rests → heard ≡ either heard (is_sender act)
-unfolding is_sender
-heard_rests heard q = rw q (sym (either-none heard))
-
--- ---- the places that are stored at, with one act more
-
-pub stores-fit : {act : SlotAct} {p : ℕ} → StoresLow act → act ≡ Acts.Stores p → Fits w32 p
-stores-fit {p = p} h q = omega (arith, h.low p q)
-
-module _ (places : List ℕ) (n : ℕ) {act : SlotAct} where
-  pub put-sends : {b : ℕ} → act ≡ Acts.Sends b → ◌≡◌ {A = List ℕ × ℕ} (places, n) (put_store places n act)
-  unfolding put_store
-  put-sends q = rw q
-
-  pub put-stores : {p : ℕ} → act ≡ Acts.Stores p → ◌≡◌ {A = List ℕ × ℕ} (set places n p, n + 1) (put_store places n act)
-  unfolding put_store
-  put-stores q = rw q
-
-  pub put_rests : act ≡ Acts.Rests → ◌≡◌ {A = List ℕ × ℕ} (places, n) (put_store places n act)
-  unfolding put_store
-  put_rests q = rw q

@@ -124,6 +124,7 @@ pub const START_VALUES: u8 = 64;
 pub const NO_FILE: u8 = 0xFF;
 
 // The entry of a record's four bytes.
+#[tactic(auto, unfolding(crate::specs::Inner::EntryForm::entry_from, crate::specs::Rules::Entries::entry_of, crate::specs::Inner::EntryForm::evaluated))]
 pub fn entry_of(b0: u8, b1: u8, b2: u8, b3: u8) -> Entry
     ensures { entry_from result ≡ evaluated (entry_of b0 b1 b2 b3) }
 {
@@ -193,6 +194,7 @@ const FIRST_END_KIND: u8 = END_OF_ROUND * LENGTH_VALUES;
 const FIRST_MULTIPLEXED_KIND: u8 = FIRST_MULTIPLEXED * LENGTH_VALUES;
 
 // Whether the entry at a place ends the round.
+#[tactic(auto, unfolding(crate::specs::Rules::Entries::entry_there, crate::specs::Rules::Entries::entry_of, crate::specs::Rules::Entries::ends, file::specs::Rules::Order::either))]
 pub fn ends_at(file: &[u8], at: usize) -> bool
     requires { at + record_size ≤ length file.now }
     ensures { result ≡ ends (entry_there file.now at).operation }
@@ -239,6 +241,7 @@ fn is_in_turn(kind: u8, start: u8, epoch: u8) -> bool
 }
 
 // Whether the entry at a place acts in a slot if none before it does: it covers the slot and is in turn.
+#[tactic(auto, unfolding(crate::specs::Rules::Entries::entry_there, crate::specs::Rules::Entries::entry_of, crate::specs::Rules::Entries::eligible, crate::specs::Rules::Entries::covers, crate::specs::Rules::Entries::out_of_turn, file::specs::Rules::Order::both))]
 pub fn acts_at(file: &[u8], at: usize, slot: usize, epoch: u8) -> bool
     requires { at + record_size ≤ length file.now }
     ensures { result ≡ eligible (out_of_turn epoch) (entry_there file.now at) slot }
@@ -256,6 +259,7 @@ pub fn acts_at(file: &[u8], at: usize, slot: usize, epoch: u8) -> bool
 }
 
 // Whether a slot is its last, for an entry that has begun.
+#[tactic(auto, unfolding(crate::specs::Rules::Entries::entry_there, crate::specs::Rules::Entries::entry_of))]
 pub fn is_last(file: &[u8], at: usize, slot: usize) -> bool
     requires { (at + record_size ≤ length file.now) × ((entry_there file.now at).start ≤ slot) }
     ensures { result ≡ eqb (slot - (entry_there file.now at).start + 1) (entry_there file.now at).length }

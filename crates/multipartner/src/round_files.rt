@@ -40,6 +40,7 @@ pub fn planned_file(file: &[u8], places: &SlavePlaces, slave: usize, round: File
 }
 
 // Those that it runs.
+#[tactic(auto, unfolding(crate::specs::Inner::Slots::entries_in))]
 fn round_file(file: &[u8], places: &SlavePlaces, slave: usize, round: FileNumber) -> RoundFile
     requires { Placed file.now places.now × (slave < slave_count file.now) }
     ensures { RoundFileIs (decode file.now) (file_in round) slave result.start result.end }

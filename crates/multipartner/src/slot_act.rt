@@ -19,6 +19,7 @@ const FIRST_STORED: FileNumber = FileNumber(0x10);
 
 const LAST_STORED: FileNumber = FileNumber(0x3C);
 
+#[tactic(auto, unfolding(crate::specs::Rules::Multipartner::may_store, crate::specs::Inner::EntryForm::entry_from, file::specs::Rules::Order::both))]
 fn may_store(entry: Entry, slot: usize) -> bool
     requires { Reaches entry slot }
     ensures { result ≡ may_store (entry_from entry) slot }
