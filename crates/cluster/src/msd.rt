@@ -114,7 +114,7 @@ fn carry_unheard(
     puts_to_sleep(duty)
 }
 
-// A data frame that nobody hears.
+// A data frame that nobody hears. No twin of `take_data`: it carries out less (`carry_unheard`) and answers who may be asleep, and no mask.
 pub fn take_unheard(
     file: &mut [u8],
     places: &SlavePlaces,

@@ -2,16 +2,16 @@
 -- Assumes nothing.
 use Prim.Native.Nat.{ℕ, ◌+◌, ◌*◌, ◌≤◌, ◌<◌}
 use native.Mathlib.Omega.{arith}
-use mathlib.Core.Path.{◌≡◌, sym, ap, ◌∙◌}
+use mathlib.Core.Path.{◌≡◌, ap, ◌∙◌}
 use mathlib.Core.List.{List}
-use mathlib.Core.Bool.{Bool, true, false, not}
+use mathlib.Core.Bool.{Bool, true, false}
 use lib.ListN.{length, get_or, set, length-set}
 use lib.Seq.{get_or-set_same, get_or-set_other}
 use lib.Dec.{eqb}
-use borrow.Author.Tests.{eq-eqb, ne_eqb, eqb-true, eqb-false, not-true, not-false}
+use borrow.Author.Tests.{ne_eqb, eqb-true, eqb-false}
 use Rattle.file.specs.Rules.Bytes.{All, all_empty, all_next}
 use Rattle.file.specs.Rules.Layout.{record_size}
-use Rattle.file.specs.Rules.Cluster.{File, Cluster, is_awake, bytes_among, bytes_in, last_record, logical_name, unnamed}
+use Rattle.file.specs.Rules.Cluster.{File, Cluster, bytes_among, bytes_in, last_record, logical_name, unnamed}
 use Rattle.file.specs.Rules.Legal.{LegalFile}
 use Rattle.file.specs.Inner.Places.{slaves_room, slave_of}
 use Rattle.file.specs.Rules.Decode.{decode}
@@ -25,7 +25,7 @@ use Rattle.file.specs.declared.records.FilePlace.TheVariants.{Bytes, NoFile}
 use Rattle.file.proofs.Order.{by_case}
 use Rattle.file.proofs.ReaderLaws.{slave-legal, length_limit, place-within, becomes-decoded}
 use Rattle.master_slave.specs.Rules.Slaves.{is_unnamed}
-use Rattle.multipartner.specs.Inner.Slots.{no_entries, planned_entries, entries_in, EntriesLie, PlannedFileIs, RoundFileIs, RoundFilesAre}
+use Rattle.multipartner.specs.Inner.Slots.{no_entries, planned_entries, EntriesLie, PlannedFileIs, RoundFileIs, RoundFilesAre}
 use Rattle.multipartner.specs.declared.round_files.OpenEntries.{OpenEntries}
 use Rattle.multipartner.proofs.SlotActLaws.{Found, found_facts, missing_empty}
 
@@ -60,16 +60,6 @@ module _ (c : Cluster) (round s : ℕ) where
     named-runs : t ≡ false → planned_entries round (slave_of c s) ≡ last_record (bytes_in (slave_of c s) round)
     unfolding planned_entries is_unnamed
     named-runs no' = rw (← own, ← tests, no')
-
-  -- a sleeping slave runs none of them, one that is awake all
-  module _ {t : Bool} (is : t ≡ is_awake (slave_of c s)) where
-    pub round-asleep : not t ≡ true → RoundFileIs c round s 0 0
-    unfolding entries_in
-    round-asleep no' = none_lie (rw (sym is ∙ not-true t no'))
-
-    pub round-awake : {start end : ℕ} → not t ≡ false → PlannedFileIs c round s start end → RoundFileIs c round s start end
-    unfolding entries_in
-    round-awake yes' lie = rw (sym is ∙ not-false t yes') lie
 
   module _ {r : FilePlace} (is : found_file r ≡ find_file c s round) where
     pub round_missing : r ≡ NoFile → PlannedFileIs c round s 0 0

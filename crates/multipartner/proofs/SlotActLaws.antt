@@ -7,9 +7,8 @@ use mathlib.Core.List.{List}
 use mathlib.Core.Bool.{Bool, true, false, not}
 use lib.ListN.{length, get_or, set, length-set}
 use lib.Seq.{get_or-set_same, get_or-set_other}
-use lib.Dec.{leb, ltb, eqb}
-use lib.Bits.{bit_and}
-use borrow.Author.Tests.{lt-ltb, le-ltb, le-leb, lt-leb, ltb-true, eqb-true, eqb-false, not-true, not-false}
+use lib.Dec.{ltb, eqb}
+use borrow.Author.Tests.{lt-ltb, le-ltb, ltb-true, eqb-true, eqb-false, not-true, not-false}
 use Rattle.file.specs.Rules.Order.{both, either}
 use Rattle.file.specs.Rules.Bytes.{All, all_empty, all_next}
 use Rattle.file.specs.Rules.Cluster.{File, Cluster, bytes_among, bytes_in}
@@ -24,15 +23,15 @@ use Rattle.file.specs.declared.types.FileNumber.{FileNumber}
 use Rattle.file.specs.declared.records.FileBytes.{FileBytes}
 use Rattle.file.specs.declared.records.FilePlace.{FilePlace}
 use Rattle.file.specs.declared.records.FilePlace.TheVariants.{Bytes, NoFile}
-use Rattle.file.proofs.Order.{by_case, both_right, both_true, both_false_left, both_false_right, both-next, either_right}
+use Rattle.file.proofs.Order.{by_case, both_right, both_true, both_false_left, both_false_right}
 use Rattle.file.proofs.Shape.{shape_count, shape_bytes-length}
 use Rattle.file.proofs.AtWidth.{shape_file_place}
 use Rattle.file.proofs.ReaderLaws.{slave-legal, byte-there, place-within, length_limit}
-use Rattle.master_slave.specs.Rules.Bus.{slots, joined}
+use Rattle.master_slave.specs.Rules.Bus.{slots}
 use Rattle.multipartner.specs.Rules.Entries.{Entry, entry_of, entry_there, acts, byte_place, receives, sends}
 use Rattle.multipartner.specs.Rules.Multipartner.{within, may_store, send_place, store_place, byte_there}
 use Rattle.multipartner.specs.Inner.EntryForm.{file_numbers, entry_from, evaluated, Reaches, code_of, action_by, action_from, Action, ending, sending, receiving, resting}
-use Rattle.multipartner.specs.Inner.Slots.{no_file, FileIs, FilesKept, KeptFor, place_in, act_sends, act_stores, is_sender, SlotActIs, EntryActIs, ActedAt, StoresLow, put_store}
+use Rattle.multipartner.specs.Inner.Slots.{no_file, FileIs, FilesKept, KeptFor, place_in, act_sends, act_stores, SlotActIs, EntryActIs, ActedAt}
 use Rattle.multipartner.specs.declared.entry.Entry as Code
 use Rattle.multipartner.specs.declared.entry.EntryAction.{EntryAction}
 use Rattle.multipartner.specs.declared.entry.EntryAction.TheVariants as Action
@@ -153,18 +152,6 @@ kept_stay {f} {g} edition same long k =
     }
 
 -- ---- where a receive may store
-
-pub store_low : (e : Code.Entry) (slot : ℕ) → e.address.file.0 < 0x10 → false ≡ may_store (entry_from e) slot
-unfolding may_store entry_from
-store_low e slot h = sym (both_false_left _ (lt-leb _ _ h))
-
-pub store-high : (e : Code.Entry) (slot : ℕ) → 0x3C < e.address.file.0 → false ≡ may_store (entry_from e) slot
-unfolding may_store entry_from
-store-high e slot h = sym (both_false_right _ (both_false_left _ (lt-leb _ _ h)))
-
-pub store-place : (e : Code.Entry) (slot : ℕ) {b : ℕ} → 0x10 ≤ e.address.file.0 → e.address.file.0 ≤ 0x3C → b ≡ byte_place (entry_from e) slot → leb 4 b ≡ may_store (entry_from e) slot
-unfolding may_store entry_from
-store-place e slot low high at = rw at (sym (both-next _ (le-leb _ _ low) ∙ both-next _ (le-leb _ _ high)))
 
 -- ---- what an entry makes a slave do
 

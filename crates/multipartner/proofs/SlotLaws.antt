@@ -7,9 +7,7 @@ use mathlib.Core.Path.{◌≡◌, refl, sym, ap, ◌∙◌}
 use mathlib.Core.List.{List, [], ◌∷◌}
 use mathlib.Core.Bool.{Bool, true, false, not}
 use lib.ListN.{length, get_or, set, take, replicate}
-use lib.Seq.{get_or-set_same}
 use lib.Dec.{ltb}
-use borrow.Author.Tests.{not-false}
 use Rattle.file.specs.Rules.Order.{either}
 use Rattle.file.specs.Rules.Cluster.{Cluster, is_awake, bytes_in, logical_name, configuration}
 use Rattle.file.specs.Rules.Decode.{decode}

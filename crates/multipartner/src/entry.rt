@@ -45,7 +45,8 @@ pub struct Entry {
     pub slot: usize,
 }
 
-// The codes of 002, table 4.
+// The codes of 002, table 4. They stay numbers beside the enum: the searches here and those of owner test the kind's byte, once for each entry,
+// and make no operation of it.
 const RECEIVE: u8 = 0;
 
 pub const SEND: u8 = 1;
@@ -123,7 +124,7 @@ pub const START_VALUES: u8 = 64;
 // No file has this number: that of the file named last, where no entry has named one yet.
 pub const NO_FILE: u8 = 0xFF;
 
-// The entry of a record's four bytes.
+// The entry of a record's four bytes. Not of an array: a contract would have to name each byte by its index, as the one caller does.
 #[tactic(auto, unfolding(crate::specs::Inner::EntryForm::entry_from, crate::specs::Rules::Entries::entry_of, crate::specs::Inner::EntryForm::evaluated))]
 pub fn entry_of(b0: u8, b1: u8, b2: u8, b3: u8) -> Entry
     ensures { entry_from result ≡ evaluated (entry_of b0 b1 b2 b3) }
@@ -164,6 +165,7 @@ pub enum EntryAction {
     Rests,
 }
 
+// One arm for each code, as in the table: patterns joined by `|` stand in as many lines.
 #[tactic(auto, unfolding(crate::specs::Inner::EntryForm::code_of, crate::specs::Inner::EntryForm::action_by, crate::specs::Inner::EntryForm::action_from, crate::specs::Rules::Entries::is_multiplexed, crate::specs::Rules::Entries::receives, crate::specs::Rules::Entries::sends, crate::specs::Rules::Entries::ends, file::specs::Rules::Order::both, file::specs::Rules::Order::either))]
 pub fn action_of(operation: EntryOperation) -> EntryAction
     ensures { action_from result ≡ action_by (code_of operation) }

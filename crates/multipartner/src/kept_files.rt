@@ -40,12 +40,7 @@ fn bytes_of(file: &[u8], slave: usize, number: FileNumber) -> FileBytes
 
 // Neighbouring entries often name one file: of each slave the file named last is kept, by its number, place and size. Looked for is
 // another one only. No round moves or resizes a file.
-pub fn keep_file(
-    file: &[u8],
-    slave: usize,
-    number: FileNumber,
-    kept: &mut [KeptFile; SLAVES_ROOM],
-)
+pub fn keep_file(file: &[u8], slave: usize, number: FileNumber, kept: &mut [KeptFile; SLAVES_ROOM])
     requires { AcceptedFile file.now × (slave < slave_count file.now) × (file_in number < file_numbers) × FilesKept file.now kept.old }
     ensures { KeptFor file.now slave (file_in number) kept.new }
 {

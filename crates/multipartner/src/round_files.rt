@@ -11,7 +11,8 @@ use file::readers::{is_awake, logical_name, slave_count};
 use file::records::{FilePlace, find_file};
 use file::types::{FileNumber, LogicalName, SLAVES_ROOM, SlavePlaces};
 
-// Where a slave's entries of a round begin, and where they end.
+// Where a slave's entries of a round begin, and where they end: both 0 where there are none, as `planned_file` promises, so that a loop over
+// them needs no test, as it would of an Option. A Range is not Copy.
 #[derive(Clone, Copy)]
 pub struct RoundFile {
     pub start: usize,

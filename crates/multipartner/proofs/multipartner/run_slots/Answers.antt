@@ -106,8 +106,12 @@ overflow_cast-lists c =
       | else-entries-test w ↦ omega (arith, w.next-is, next_low looking)
       | then-entries-test+then-ends_at w ↦ omega (arith, w.next-is, next_low looking)
       | then-entries-test+else-ends_at+then-not-waits_at+then-acts_at w ↦
-          omega (arith, w.next-is, after-low looking w.entries-test.true w.ends_at.ensures w.if-ends_at.false
-          (begun w.waits_at.ensures w.if-not-waits_at.true) w.acts_at.ensures w.next_after-next.ensures)
+          omega (
+            arith,
+            w.next-is,
+            after-low looking w.entries-test.true w.ends_at.ensures w.if-ends_at.false
+                (begun w.waits_at.ensures w.if-not-waits_at.true) w.acts_at.ensures w.next_after-next.ensures,
+          )
     ]
 
 pub with_sender-mask-requires : goal.with_sender-mask-requires

@@ -1,7 +1,7 @@
 -- `multipartner::stores::store` meets its contract. The invariant is `Storing`: the file with the places passed stored.
 -- Assumes nothing.
-use Rattle.multipartner.proofs.StoreLaws.{storing_start, storing_length, storing_next, storing_done}
-use Rattle.std.proofs.Common.{rules, arith}
+use Rattle.multipartner.proofs.StoreLaws.{storing_start, storing_next}
+use Rattle.std.proofs.Common.{rules}
 use Rattle.multipartner.proofs.stores.store.Goals as goal
 
 pub loop-place-init : goal.loop-place-init
