@@ -34,7 +34,7 @@ fn is_write_pending(file: &[u8]) -> bool
     if pending.flag != PENDING {
         return false;
     }
-    pending.operation.0 == Operation::WRITE.0
+    pending.operation == Operation::WRITE
 }
 
 // A data frame is refused, or has these bytes.
@@ -114,7 +114,7 @@ fn carry_unheard(
     puts_to_sleep(duty)
 }
 
-// A data frame that nobody hears.
+// A data frame that nobody hears. No twin of `take_data`: it carries out less (`carry_unheard`) and answers who may be asleep, and no mask.
 pub fn take_unheard(
     file: &mut [u8],
     places: &SlavePlaces,
