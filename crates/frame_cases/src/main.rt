@@ -8,7 +8,8 @@
 // of a firework its round: a number, MSD, MSA, or - for none.
 #![tactic(auto)]
 
-use case_input::fields::{after, byte_at, bytes_at, input_buffer, is, line, read_full};
+use case_input::fields::{byte_at, bytes_at, is};
+use case_input::lines::each_line;
 use case_input::show;
 use case_input::show::text;
 use file::types::{FileNumber, LogicalName, Operation, RecordNumber};
@@ -79,33 +80,31 @@ fn data(out: &impl Print, case: &[u8], buffer: &mut [u8]) -> io::Result<()> {
 }
 
 fn firework(out: &impl Print, byte: &[u8]) -> io::Result<()> {
-    if byte.len() == 0 {
+    let Some(byte) = byte.first() else {
         return Ok(());
-    }
-    let round = firework_of(byte[0]);
+    };
+    let round = firework_of(*byte);
     match round {
         Firework::Multipartner(r) => show::number(out, r as u64),
-        Firework::Data => text(out, b" MSD"),
-        Firework::Address => text(out, b" MSA"),
-        Firework::None => text(out, b" -"),
+        Firework::Data => print!(out; " MSD"),
+        Firework::Address => print!(out; " MSA"),
+        Firework::None => print!(out; " -"),
     }
 }
 
 // The first field of each kind is bytes.
 fn answer(out: &impl Print, case: &[u8], bytes: &mut [u8]) -> io::Result<()> {
     if is(case, b"read") {
-        return read(out, bytes);
+        read(out, bytes)
+    } else if is(case, b"write") {
+        write(out, case, bytes)
+    } else if is(case, b"data") {
+        data(out, case, bytes)
+    } else if is(case, b"firework") {
+        firework(out, bytes)
+    } else {
+        Ok(())
     }
-    if is(case, b"write") {
-        return write(out, case, bytes);
-    }
-    if is(case, b"data") {
-        return data(out, case, bytes);
-    }
-    if is(case, b"firework") {
-        firework(out, bytes)?;
-    }
-    Ok(())
 }
 
 fn run(out: &impl Print, case: &[u8]) -> io::Result<()> {
@@ -113,23 +112,12 @@ fn run(out: &impl Print, case: &[u8]) -> io::Result<()> {
     let size = bytes_at(case, 1, &mut bytes);
     text(out, case)?;
     if !is(case, b"#") {
-        text(out, b" =")?;
+        print!(out; " =")?;
         answer(out, case, &mut bytes[..size])?;
     }
-    text(out, b"\n")
-}
-
-fn cases(out: &impl Print, input: &[u8]) -> io::Result<()> {
-    let mut at = 0;
-    while at < input.len() {
-        run(out, line(input, at))?;
-        at = after(input, at);
-    }
-    Ok(())
+    println!(out)
 }
 
 fn main(rt: HostRuntime) -> io::Result<()> {
-    let mut input = input_buffer();
-    let n = read_full(&mut rt.stdin(), &mut input)?;
-    cases(&rt, &input[..n])
+    each_line(rt.alloc(), rt.stdin(), |case| run(&rt, case))
 }
