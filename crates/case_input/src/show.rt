@@ -1,8 +1,23 @@
 // What is written of an answer: after a space a number, or bytes as the input has them.
-ghost use Rattle.std.specs.Prelude.{◌<◌};
+use std::{fmt, io};
 
-use std::io;
+// Bytes as the input has them: two hexadecimal digits each, - where there are none.
+#[derive(Drop)]
+struct Hex<'a>(&'a [u8]);
 
+impl<'a> fmt::Display for Hex<'a> {
+    fn fmt<W: fmt::Write>(&self, f: &mut fmt::Formatter<W>) -> fmt::Result {
+        if self.0.is_empty() {
+            return write!(f, "-");
+        }
+        for byte in self.0 {
+            write!(f, "{byte:02X}")?;
+        }
+        Ok(())
+    }
+}
+
+// Bytes as they are, such as a line of the input, which need not be text.
 pub fn text(out: &impl Print, s: &[u8]) -> io::Result<()> {
     out.write_all(s)
 }
@@ -12,57 +27,14 @@ pub fn decimal(out: &impl Print, n: u64) -> io::Result<()> {
 }
 
 pub fn number(out: &impl Print, n: u64) -> io::Result<()> {
-    text(out, b" ")?;
-    decimal(out, n)
-}
-
-fn digit(n: u8) -> u8
-    requires { n < 16 }
-{
-    if n < 10 {
-        return b'0' + n;
-    }
-    b'A' + (n - 10)
-}
-
-fn byte(out: &impl Print, n: u8) -> io::Result<()> {
-    text(out, &[digit(n / 16), digit(n % 16)])
-}
-
-fn digits(out: &impl Print, s: &[u8]) -> io::Result<()> {
-    let mut i = 0;
-    while i < s.len() {
-        byte(out, s[i])?;
-        i += 1;
-    }
-    Ok(())
+    print!(out; " {n}")
 }
 
 pub fn bytes(out: &impl Print, s: &[u8]) -> io::Result<()> {
-    text(out, b" ")?;
-    if s.len() == 0 {
-        text(out, b"-")?;
-    }
-    digits(out, s)
-}
-
-fn low(n: u64) -> u8 {
-    (n % 256) as u8
+    print!(out; " {}", Hex(s))
 }
 
 // A 64-bit number as its eight bytes, the most significant first.
 pub fn word(out: &impl Print, n: u64) -> io::Result<()> {
-    bytes(
-        out,
-        &[
-            low(n / 0x100000000000000),
-            low(n / 0x1000000000000),
-            low(n / 0x10000000000),
-            low(n / 0x100000000),
-            low(n / 0x1000000),
-            low(n / 0x10000),
-            low(n / 0x100),
-            low(n),
-        ],
-    )
+    print!(out; " {n:016X}")
 }

@@ -48,6 +48,7 @@ use Rattle.cluster.specs.Inner.RoundAnswers.{data_read}
 use Rattle.cluster.proofs.Rounds.{Fits, fits_facts, address-pending}
 use Rattle.file.specs.Inner.Refusals.{Answered, refusal_number, outcome_of}
 use Rattle.std.specs.Prelude.{Ok, Err}
+use Rattle.frame.specs.declared.types.AddressFrame.{AddressFrame}
 
 -- ---- answer and file of one frame, and its buffer
 
@@ -279,16 +280,16 @@ address-refused c frame {x = x} {why} h is_address e is =
     let reason = that_ground (parts_of frame) (refusal_number why) (read_ground frame) (rw is at e) in
     taken_refused c frame h (reason.0 ∙ sym (address_ground c frame is_address)) reason.1
 
-module _ (c : Cluster) (frame : List ℕ) {x : Answered AddressFrame} {epoch : ℕ} {name : LogicalName} {number : FileNumber} {operation : Operation}
-    {record' : RecordNumber} (is_address : round_by_lem frame ≡ msa) (e : reading_of x ≡ read_address frame) (is : x ≡ OkAddress epoch name number operation record') where
-  taken : PartsAre frame epoch (name_in_lem name) (file_in number) (operation_in operation) (record_in record')
+module _ (c : Cluster) (frame : List ℕ) {x : Answered AddressFrame} {read : AddressFrame} (is_address : round_by_lem frame ≡ msa) (e : reading_of x ≡ read_address frame)
+    (is : x ≡ Ok read) where
+  taken : PartsAre frame read.epoch (name_in_lem read.name) (file_in read.file) (operation_in read.operation) (record_in read.«record»)
   unfolding reading_of
   taken = parts_facts frame (rw is at e)
 
   fits : frame_ground c frame ≡ 0
   fits = address_ground c frame is_address ∙ taken.reason
 
-  pub address-legal : ((i : ℕ) → FitsIn w8 (get_or frame i 0)) → LegalPending (with_address c epoch (name_in_lem name) (pb2_of (file_in number) (operation_in operation)) (record_in record'))
+  pub address-legal : ((i : ℕ) → FitsIn w8 (get_or frame i 0)) → LegalPending (with_address c read.epoch (name_in_lem read.name) (pb2_of (file_in read.file) (operation_in read.operation)) (record_in read.«record»))
   unfolding frame_ground no_operation_on broadcast_read_on with_address
   address-legal fit =
       let byte : (i : ℕ) → Byte (get_or frame i 0) = λ i. omega (arith, fit i) in
@@ -297,7 +298,7 @@ module _ (c : Cluster) (frame : List ℕ) {x : Answered AddressFrame} {epoch : �
       rw (taken.pb0, taken.pb1, taken.pb2, taken.pb3)
       (address-pending c (get_or frame 1 0) (get_or frame 2 0) (get_or frame 3 0) (get_or frame 4 0) (byte 1) (byte 2) (byte 3) (byte 4) facts'.operation facts'.broadcast_read)
 
-  pub address-taken : {f : List ℕ} → Becomes f (with_address c epoch (name_in_lem name) (pb2_of (file_in number) (operation_in operation)) (record_in record')) → Taken c frame (done 0) f
+  pub address-taken : {f : List ℕ} → Becomes f (with_address c read.epoch (name_in_lem read.name) (pb2_of (file_in read.file) (operation_in read.operation)) (record_in read.«record»)) → Taken c frame (done 0) f
   unfolding frame_on effect_of
   address-taken {f} h =
       let effect : frame_on c frame ≡ address_effect c frame = rw is_address in

@@ -12,7 +12,8 @@ pub fn is_carried(answer: Result<u64, Refusal>) -> bool
     answer.is_ok()
 }
 
-// What came of a frame that nobody hears: whether it was carried out, and whether someone may be asleep afterwards.
+// What came of a frame that nobody hears: whether it was carried out, and whether someone may be asleep afterwards. Neither is a value that
+// the other tells of, as in an Option: of a refused frame both are told (`take_unheard`, LeftUnheard).
 #[derive(Clone, Copy)]
 pub struct Unheard {
     pub carried: bool,

@@ -35,7 +35,7 @@ fn is_write_pending(file: &[u8]) -> bool
     if pending.flag != PENDING {
         return false;
     }
-    pending.operation.0 == Operation::WRITE.0
+    pending.operation == Operation::WRITE
 }
 
 // "MSD is 6 bytes .. if a write is pending, otherwise 1. A multipartner frame is 1 byte.": the firework alone.
@@ -103,7 +103,7 @@ fn carry_unheard(
     puts_to_sleep(duty)
 }
 
-// A data frame that nobody hears.
+// A data frame that nobody hears. No twin of `take_data`: it carries out less (`carry_unheard`) and answers who may be asleep, and no mask.
 pub fn take_unheard(
     file: &mut [u8],
     places: &SlavePlaces,

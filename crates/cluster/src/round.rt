@@ -60,7 +60,8 @@ pub fn one_frame(
     }
 }
 
-// The same of a frame that nobody hears, by the round that it opens. Whether someone may be asleep before it, and afterwards.
+// The same of a frame that nobody hears, by the round that it opens. Whether someone may be asleep before it, and afterwards. Each of its four
+// arms calls another function than that of `one_frame` or answers otherwise: the two differ in more than a type or a constant.
 pub fn one_unheard(
     file: &mut [u8],
     places: &SlavePlaces,

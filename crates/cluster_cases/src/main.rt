@@ -3,10 +3,10 @@
 // out, the mask, the file and the buffer afterwards.
 #![tactic(auto)]
 
-use case_input::fields::{after, bytes_at, count_at, input_buffer, is, line, read_full};
+use case_input::fields::{bytes_at, count_at, is};
+use case_input::lines::each_line;
 use case_input::show;
 use case_input::show::text;
-use cluster::answer::RoundAnswer;
 use cluster::round::round;
 use std::io;
 
@@ -18,15 +18,12 @@ const FRAME: usize = 64;
 const BUFFER: usize = 168;
 
 fn answered(out: &impl Print, number: u8, mask: u64) -> io::Result<()> {
-    text(out, b" =")?;
-    show::number(out, number as u64)?;
-    show::word(out, mask)
+    print!(out; " = {number} {mask:016X}")
 }
 
 fn carry(out: &impl Print, file: &mut [u8], frame: &[u8], buffer: &mut [u8]) -> io::Result<()> {
-    let answer = round(file, frame, buffer);
-    match answer {
-        Err(why) => answered(out, why.0, 0)?,
+    match round(file, frame, buffer) {
+        Err(why) => answered(out, why.number(), 0)?,
         Ok(mask) => answered(out, 0, mask)?,
     }
     show::bytes(out, file)?;
@@ -53,20 +50,9 @@ fn run(out: &impl Print, case: &[u8]) -> io::Result<()> {
     if is(case, b"round") {
         round_case(out, case)?;
     }
-    text(out, b"\n")
-}
-
-fn cases(out: &impl Print, input: &[u8]) -> io::Result<()> {
-    let mut at = 0;
-    while at < input.len() {
-        run(out, line(input, at))?;
-        at = after(input, at);
-    }
-    Ok(())
+    println!(out)
 }
 
 fn main(rt: HostRuntime) -> io::Result<()> {
-    let mut input = input_buffer();
-    let n = read_full(&mut rt.stdin(), &mut input)?;
-    cases(&rt, &input[..n])
+    each_line(rt.alloc(), rt.stdin(), |case| run(&rt, case))
 }

@@ -1,20 +1,20 @@
 -- The bytes that a buffer has room for, what the search for a file tells of its bytes, and the call by its answers.
 -- Assumes nothing.
-use Prim.Native.Nat.{ℕ, zero, suc, ◌+◌, ◌-◌, ◌≤◌, ◌<◌, min}
+use Prim.Native.Nat.{ℕ, zero, suc, ◌+◌, ◌-◌, ◌≤◌, min}
 use native.Mathlib.Omega.{arith}
 use mathlib.Core.Path.{◌≡◌, refl, sym, ap, ◌∙◌}
 use mathlib.Core.List.{List, [], ◌∷◌, ◌++◌}
 use lib.ListN.{length, take, drop, get_or, length-drop}
 use lib.Seq.{take_all, take-length, take-nil, take-take, length-take-le}
 use lib.Dec.{eqb, leb}
-use borrow.Author.Tests.{eq-eqb, ne_eqb, eqb-true, eqb-false, leb-true, leb-false}
+use borrow.Author.Tests.{eq-eqb, ne_eqb, eqb-true, leb-true, leb-false}
 use Rattle.file.specs.Rules.Bytes.{part}
 use Rattle.file.specs.Rules.Results.{refused, done, written_in}
 use Rattle.file.specs.Rules.Cluster.{Slave, no_slave_lem, Cluster, bytes_among, bytes_in}
 use Rattle.file.specs.Rules.Decode.{decode}
 use Rattle.file.specs.Rules.FileGrounds.{file_ground}
 use Rattle.file.specs.Inner.Places.{slave_of, file_place}
-use Rattle.file.specs.Inner.Accepted.{AcceptedFile, FoundFile, file_found, find_file, slave_count}
+use Rattle.file.specs.Inner.Accepted.{FoundFile, file_found, find_file, slave_count}
 use Rattle.file.specs.Inner.FileAnswers.{found_file}
 use Rattle.file.specs.Inner.Surveyed.{Surveyed}
 use Rattle.file.specs.declared.records.FileBytes.{FileBytes}

@@ -1,19 +1,17 @@
 -- What the call tells and leaves.
 -- Assumes nothing.
-use Prim.Native.Nat.{ℕ, zero, suc, ◌+◌, ◌-◌, ◌*◌, ◌≤◌, ◌<◌, min}
+use Prim.Native.Nat.{ℕ, zero, suc, ◌+◌, ◌-◌, ◌≤◌, ◌<◌, min}
 use native.Mathlib.Omega.{arith}
 use mathlib.Core.Path.{◌≡◌, refl, sym, ap, ◌∙◌, subst}
-use mathlib.Core.Logic.{◌≢◌, ◌⊎◌, inl, inr}
+use mathlib.Core.Logic.{◌≢◌}
 use mathlib.Core.List.{List, [], ◌∷◌, ◌++◌}
-use mathlib.Core.Bool.{true, false}
 use lib.ListN.{length, take, drop, get_or, length-take, get_or-append}
 use lib.Seq.{length-take-le, length_front, get_or-take, get_or-drop, get_or-append-add}
 use lib.Dec.{eqb, leb}
 use borrow.Author.Tests.{eq-eqb, ne_eqb, eqb-true, eqb-false, leb-true, leb-false}
 use Rattle.file.specs.Rules.Bytes.{Bytes, All, all_empty, all_next}
-use Rattle.file.specs.Rules.Layout.{record_size}
 use Rattle.file.specs.Rules.Results.{Result, refused, done, written_in}
-use Rattle.file.specs.Rules.Cluster.{File, Slave, no_slave_lem, last_record, bytes_among, bytes_in}
+use Rattle.file.specs.Rules.Cluster.{File, no_slave_lem, bytes_among, bytes_in}
 use Rattle.file.specs.Rules.Decode.{decode}
 use Rattle.file.specs.Rules.Legal.{LegalFile, Rising, LegalSlave}
 use Rattle.file.specs.Rules.FileGrounds.{file_ground}

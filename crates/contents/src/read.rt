@@ -1,5 +1,5 @@
 // A slave's file, read into a buffer.
-ghost use Rattle.std.specs.Prelude.{◌≡◌, ◌+◌, ◌≤◌, min, length, take};
+ghost use Rattle.std.specs.Prelude.{◌≡◌, ◌+◌, ◌≤◌, length, take};
 ghost use Rattle.file.specs.Rules.Bytes.{part};
 ghost use Rattle.file.specs.Rules.Results.{written_in};
 ghost use Rattle.file.specs.Inner.Typed.{file_in};
@@ -12,21 +12,12 @@ use file::records::find_file;
 use file::survey::survey;
 use file::types::{FileNumber, PLACES, Refusal};
 
-fn lesser(a: usize, b: usize) -> usize
-    ensures { result ≡ min a b }
-{
-    if a < b {
-        return a;
-    }
-    b
-}
-
 // The first bytes of a part of the file, as many as the buffer has room for, put in front of whatever else it holds.
 fn put_front(file: &[u8], place: usize, size: usize, buffer: &mut [u8])
     requires { place + size ≤ length file.now }
     ensures { buffer.new ≡ written_in buffer.old (take (length buffer.old) (part file.now place size)) }
 {
-    let end = place + lesser(size, buffer.len());
+    let end = place + size.min(buffer.len());
     copy(&file[place..end], buffer);
 }
 

@@ -15,7 +15,7 @@ use crate::header::put_header;
 use crate::put::put_run;
 use crate::sizes::length_in;
 use crate::slaves::put_slaves;
-use crate::table::SLEEP_KEPT;
+use crate::table::SleepBytes;
 use file::layout::{
     ENTRY_OFFSETS, HEADER_BYTES, HEADER_OFFSETS, LONGEST_BY_WIDTH, MOST_SLAVES_BY_WIDTH,
 };
@@ -28,10 +28,7 @@ pub fn is_over(width: usize, count: usize, size: usize) -> bool
     requires { OffsetWidth width }
     ensures { result ≡ is_over width count size }
 {
-    if MOST_SLAVES_BY_WIDTH * width < count {
-        return true;
-    }
-    LONGEST_BY_WIDTH * width < size
+    MOST_SLAVES_BY_WIDTH * width < count || LONGEST_BY_WIDTH * width < size
 }
 
 // A file's form at a width other than its own, of that length: the header, then each slave and its table entry.
@@ -42,7 +39,7 @@ fn put_form(out: &mut [u8], width: usize, size: usize, file: &[u8])
     let table = HEADER_BYTES + HEADER_OFFSETS * width;
     let place = table + ENTRY_OFFSETS * width * slave_count(file);
     put_header(out, width, size, file);
-    put_slaves(out, width, table, place, file, SLEEP_KEPT);
+    put_slaves(out, width, table, place, file, SleepBytes::Kept);
 }
 
 // A file's form at a width, of that length: "Converting to the edition a file already has copies it."

@@ -42,14 +42,12 @@ pub fn put_directory(
     let mut entry = start;
     let mut to = at;
     let mut place = at + size * count;
-    let mut done = 0;
-    while done < count {
+    for _done in 0..count {
         let last = file[entry + RECORD_COUNT_PLACE];
         put_directory_entry(out, width, to, place, file[entry], last);
         place = place + RECORD_SIZE * (last as usize + 1);
         entry = entry + from;
         to = to + size;
-        done = done + 1;
     }
     place
 }

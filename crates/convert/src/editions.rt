@@ -11,7 +11,8 @@ pub enum Edition {
     Two,
 }
 
-// The bytes of an offset in an edition: "In edition 2 offsets and length have 4 bytes".
+// The bytes of an offset in an edition: "In edition 2 offsets and length have 4 bytes". A number and no enum: each size and place is a product
+// with it.
 pub fn width_in(edition: Edition) -> usize
     ensures { result ≡ width_in (edition_in edition) }
 {

@@ -1,4 +1,5 @@
-// Bytes put into a buffer from a place on: numbers, zeros, and a run of a file's bytes.
+// Bytes put into a buffer from a place on: numbers, zeros, and a run of a file's bytes. The place stands beside the buffer: it is the number
+// that the offsets in the file state, and a slice or a writer that begins there would be handed on with that number all the same.
 ghost use Rattle.std.specs.Prelude.{◌+◌, ◌-◌, ◌≤◌, ◌<◌, length, replicate};
 ghost use Rattle.file.specs.Rules.Bytes.{bytes_of, part};
 ghost use Rattle.file.specs.Rules.Layout.{OffsetWidth};
@@ -51,10 +52,8 @@ pub fn put_zeros(out: &mut [u8], at: usize, count: usize)
     requires { at + count ≤ length out.old }
     ensures { Put out.old at (replicate count 0) out.new }
 {
-    let mut done = 0;
-    while done < count {
+    for done in 0..count {
         out[at + done] = 0;
-        done = done + 1;
     }
 }
 

@@ -11,7 +11,8 @@ use file::layout::{ENTRY_OFFSETS, HEADER_BYTES, HEADER_OFFSETS};
 use file::numbers::byte_at;
 use file::readers::{slave_count, width_of};
 
-// How many files a slave of a file has, whose offsets have that width.
+// How many files a slave of a file has, whose offsets have that width. File, width and slave stay three parameters: the loops over the slaves
+// have the first two once and the third anew in each turn.
 pub fn file_count(file: &[u8], own: usize, slave: usize) -> usize
     requires { AcceptedFile file.now × WidthOf file.now own × (slave < slave_count file.now) }
     ensures { result ≡ length (slave_of (decode file.now) slave).files }
@@ -21,7 +22,8 @@ pub fn file_count(file: &[u8], own: usize, slave: usize) -> usize
 }
 
 // How many files all its slaves have. The loop goes from file count to file count in the table: the compiler unrolls one that counts the
-// slaves, and not this one, whose step is known at run time only.
+// slaves, and not this one, whose step is known at run time only. A `while`: `step_by` compares twice for each slave, eight instructions in
+// place of five.
 fn files_in(file: &[u8], own: usize) -> usize
     requires { AcceptedFile file.now × WidthOf file.now own }
     ensures { result ≡ files_in (decode file.now).slaves }

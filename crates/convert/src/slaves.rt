@@ -3,12 +3,13 @@ ghost use Rattle.std.specs.Prelude.{false};
 ghost use Rattle.file.specs.Rules.Decode.{decode};
 ghost use Rattle.file.specs.Inner.Places.{slave_of};
 ghost use Rattle.file.specs.Inner.Accepted.{AcceptedFile, WidthOf};
+ghost use Rattle.convert.specs.Inner.ListedSleep.{is_kept};
 ghost use Rattle.convert.specs.Inner.Slaves.{SlaveRead, SlaveFits, SlaveDone, BodyFits, BodyDone, MovedDone};
 
 use crate::directory::put_directory;
 use crate::put::put_run;
 use crate::sizes::file_count;
-use crate::table::{listed_sleep, put_table_entry};
+use crate::table::{SleepBytes, listed_sleep, put_table_entry};
 use file::layout::{
     AWAKE, ENTRY_OFFSETS, HEADER_BYTES, HEADER_OFFSETS, OFFSET_WIDTH, WIDE_OFFSET_WIDTH,
 };
@@ -47,52 +48,54 @@ fn put_slave(
 }
 
 // The table of a file's slaves from one place on, and the slaves from another on, one behind the other.
-pub fn put_slaves(out: &mut [u8], width: usize, at: usize, place: usize, file: &[u8], kept: bool)
+pub fn put_slaves(
+    out: &mut [u8],
+    width: usize,
+    at: usize,
+    place: usize,
+    file: &[u8],
+    sleep: SleepBytes,
+)
     requires { AcceptedFile file.now × BodyFits width out.old at place (decode file.now).slaves }
-    ensures { BodyDone kept width at place (decode file.now).slaves out.old out.new }
+    ensures { BodyDone (is_kept sleep) width at place (decode file.now).slaves out.old out.new }
 {
     let own = width_of(file);
     let count = slave_count(file);
     let mut entry = at;
     let mut start = HEADER_BYTES + HEADER_OFFSETS * own + ENTRY_OFFSETS * own * count;
     let mut to = place;
-    let mut slave = 0;
-    while slave < count {
+    for slave in 0..count {
         let files = file_count(file, own, slave) as u8;
-        let asleep = listed_sleep(file, own, slave, kept);
+        let asleep = listed_sleep(file, own, slave, sleep);
         let ends = put_slave(out, width, to, file, own, slave, start);
         put_table_entry(out, width, entry, to, files, asleep);
         entry = entry + ENTRY_OFFSETS * width;
         start = ends.file;
         to = ends.out;
-        slave = slave + 1;
     }
 }
 
 // The table of a file's slaves at its own width, all awake, and their directories, over those of slaves that were copied to a place.
-fn put_moved_at(out: &mut [u8], width: usize, at: usize, place: usize, file: &[u8])
-    requires { AcceptedFile file.now × WidthOf file.now width × BodyFits width out.old at place (decode file.now).slaves }
-    ensures { MovedDone width at place (decode file.now).slaves out.old out.new }
+fn put_moved_at<const WIDTH: usize>(out: &mut [u8], at: usize, place: usize, file: &[u8])
+    requires { AcceptedFile file.now × WidthOf file.now WIDTH × BodyFits WIDTH out.old at place (decode file.now).slaves }
+    ensures { MovedDone WIDTH at place (decode file.now).slaves out.old out.new }
 {
     let count = slave_count(file);
     let mut entry = at;
-    let mut start = HEADER_BYTES + HEADER_OFFSETS * width + ENTRY_OFFSETS * width * count;
+    let mut start = HEADER_BYTES + HEADER_OFFSETS * WIDTH + ENTRY_OFFSETS * WIDTH * count;
     let mut to = place;
-    let mut slave = 0;
-    while slave < count {
-        let files = file_count(file, width, slave) as u8;
-        let end = put_directory(out, width, to, file, width, slave, start);
-        put_table_entry(out, width, entry, to, files, AWAKE);
-        entry = entry + ENTRY_OFFSETS * width;
+    for slave in 0..count {
+        let files = file_count(file, WIDTH, slave) as u8;
+        let end = put_directory(out, WIDTH, to, file, WIDTH, slave, start);
+        put_table_entry(out, WIDTH, entry, to, files, AWAKE);
+        entry = entry + ENTRY_OFFSETS * WIDTH;
         start = start + (end - to);
         to = end;
-        slave = slave + 1;
     }
 }
 
 // The table and the slaves at the file's own width, all awake: the slaves are copied at once, then their directories are put over the copied
-// ones. The width is a literal in each call: the compiler then writes that loop once for each edition, with its numbers; the copy stands
-// before the choice, where it is compiled once.
+// ones. That loop is written once for each edition, with its numbers; the copy stands before the choice, where it is compiled once.
 pub fn put_moved(out: &mut [u8], width: usize, at: usize, place: usize, file: &[u8])
     requires { AcceptedFile file.now × WidthOf file.now width × BodyFits width out.old at place (decode file.now).slaves }
     ensures { BodyDone false width at place (decode file.now).slaves out.old out.new }
@@ -100,8 +103,8 @@ pub fn put_moved(out: &mut [u8], width: usize, at: usize, place: usize, file: &[
     let body = HEADER_BYTES + HEADER_OFFSETS * width + ENTRY_OFFSETS * width * slave_count(file);
     put_run(out, place, file, body, file.len());
     if width == OFFSET_WIDTH {
-        put_moved_at(out, OFFSET_WIDTH, at, place, file);
+        put_moved_at::<OFFSET_WIDTH>(out, at, place, file);
         return;
     }
-    put_moved_at(out, WIDE_OFFSET_WIDTH, at, place, file);
+    put_moved_at::<WIDE_OFFSET_WIDTH>(out, at, place, file);
 }

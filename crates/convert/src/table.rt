@@ -5,6 +5,7 @@ ghost use Rattle.file.specs.Rules.Decode.{decode};
 ghost use Rattle.file.specs.Inner.Places.{slave_of};
 ghost use Rattle.file.specs.Inner.Accepted.{AcceptedFile, WidthOf, slave_count};
 ghost use Rattle.convert.specs.Inner.Putting.{Put, OffsetFits, table_entry_of};
+ghost use Rattle.convert.specs.Inner.ListedSleep.{is_kept};
 ghost use Rattle.convert.specs.Inner.Slaves.{listed_as};
 
 use crate::put::{put_fill, put_offset};
@@ -13,9 +14,11 @@ use file::layout::{
 };
 
 // Whether a table keeps the sleep bytes of the file that it lists, or lists all slaves awake.
-pub const SLEEP_KEPT: bool = true;
-
-pub const ALL_AWAKE: bool = false;
+#[derive(Clone, Copy)]
+pub enum SleepBytes {
+    Kept,
+    AllAwake,
+}
 
 // A table entry: "directory offset", "file count", "sleep byte", and the zeros that fill it up.
 pub fn put_table_entry(out: &mut [u8], width: usize, at: usize, place: usize, count: u8, asleep: u8)
@@ -30,13 +33,15 @@ pub fn put_table_entry(out: &mut [u8], width: usize, at: usize, place: usize, co
 }
 
 // The sleep byte that a slave of a file is listed with, whose offsets have that width.
-pub fn listed_sleep(file: &[u8], own: usize, slave: usize, kept: bool) -> u8
+pub fn listed_sleep(file: &[u8], own: usize, slave: usize, sleep: SleepBytes) -> u8
     requires { AcceptedFile file.now × WidthOf file.now own × (slave < slave_count file.now) }
-    ensures { result ≡ (listed_as kept (slave_of (decode file.now) slave)).asleep }
+    ensures { result ≡ (listed_as (is_kept sleep) (slave_of (decode file.now) slave)).asleep }
 {
-    if !kept {
-        return AWAKE;
+    match sleep {
+        SleepBytes::AllAwake => AWAKE,
+        SleepBytes::Kept => {
+            let table = HEADER_BYTES + HEADER_OFFSETS * own;
+            file[table + ENTRY_OFFSETS * own * slave + own + SLEEP_FIELD]
+        }
     }
-    let table = HEADER_BYTES + HEADER_OFFSETS * own;
-    file[table + ENTRY_OFFSETS * own * slave + own + SLEEP_FIELD]
 }

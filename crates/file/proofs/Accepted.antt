@@ -1,15 +1,9 @@
 -- What the cluster file's checker accepts, in either edition: exactly the encodings of legal clusters. Encoding and decoding are inverse
 -- to each other between legal clusters and accepted files.
 -- Assumes nothing.
-use Prim.Native.Nat.{ℕ}
-use native.Mathlib.Omega.{arith}
-use mathlib.Core.Path.{◌≡◌, refl, sym, ◌∙◌, subst}
-use mathlib.Core.Logic.{◌↔◌}
-use mathlib.Core.Bool.{false}
-use borrow.Author.Tests.{eqb-true, eqb-false}
-use lib.Dec.{eqb}
+use Rattle.std.proofs.Common.{ℕ, arith, ◌≡◌, refl, sym, ◌∙◌, subst, ◌↔◌, false, eqb-true, eqb, List}
+use borrow.Author.Tests.{eqb-false}
 use Rattle.file.specs.Rules.Layout.{width_in, width_of}
-use mathlib.Core.List.{List}
 use Rattle.file.specs.Rules.Bytes.{Bytes}
 use Rattle.file.specs.Rules.Cluster.{Cluster, logical_names}
 use Rattle.file.specs.Rules.Encode.{encode_at, encode}

@@ -1,15 +1,9 @@
 -- A file is accepted exactly where the facts of its bytes and of its slaves hold that the grounds ask: the facts of the pending
 -- operation, the layout, the needed files and the physical names, each both ways, and all of them together.
 -- Assumes nothing.
-use Prim.Native.Nat.{ℕ, ◌≤◌}
-use mathlib.Core.Path.{◌≡◌, refl, ap, ◌∙◌}
-use mathlib.Core.Logic.{◌↔◌}
-use mathlib.Core.List.{List, [], ◌∷◌, map}
-use mathlib.Core.Bool.{true, false}
-use lib.ListN.{length, get_or}
-use lib.Dec.{eqb}
-use native.Mathlib.Omega.{arith}
-use borrow.Author.Tests.{leb-true, le-leb, ltb-false, le-ltb, eqb-true, eqb-false, eq-eqb, ne_eqb, not-false}
+use Rattle.std.proofs.Common.{ℕ, ◌≤◌, ◌≡◌, refl, ap, ◌∙◌, ◌↔◌, List, [], ◌∷◌, map, true, false, length, get_or, eqb, arith, leb-true, le-leb}
+use Rattle.std.proofs.Common.{ltb-false, le-ltb, eqb-true, eq-eqb, ne_eqb}
+use borrow.Author.Tests.{eqb-false, not-false}
 use Rattle.file.specs.Rules.Bytes.{All}
 use Rattle.file.specs.Rules.Order.{both, either}
 use Rattle.file.specs.Rules.Layout.{edition_of, length_place}

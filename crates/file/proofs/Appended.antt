@@ -1,13 +1,8 @@
 -- The parts of an encoding over lists that are joined: those of the first list, then those of the second from where the first ends. A
 -- conversion writes slave by slave, a join the slaves of one file behind those of another; both go by these laws.
 -- Assumes nothing.
-use Prim.Native.Nat.{ℕ, suc, ◌+◌, ◌*◌, ◌<◌}
-use native.Mathlib.Omega.{arith}
-use native.Mathlib.Nat.{add-zero}
-use mathlib.Core.Path.{◌≡◌, refl, sym}
-use mathlib.Core.List.{List, [], ◌∷◌, ◌++◌, append_assoc, append-nil}
-use lib.ListN.{length, length-append, get_or, take}
-use lib.Seq.{take-suc}
+use Rattle.std.proofs.Common.{ℕ, suc, ◌+◌, ◌*◌, ◌<◌, arith, add-zero, ◌≡◌, refl, sym, List, [], ◌∷◌, ◌++◌, append_assoc, append-nil, length}
+use Rattle.std.proofs.Common.{length-append, get_or, take, take-suc}
 use Rattle.file.specs.Rules.Layout.{entry_size_lem}
 use Rattle.file.specs.Rules.Cluster.{File, Slave}
 use Rattle.file.specs.Rules.Encode.{directory_entry, directory, contents, slave_size, slave_bytes, slaves_bytes, slaves_size, table_entry, table, slaves_place, file_length}

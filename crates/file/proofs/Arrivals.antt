@@ -1,13 +1,7 @@
 -- A walk that arrives: it broke nowhere, took each step, and came upon as many entries as it walked. Whoever goes by a walk of the
 -- file cites these laws.
 -- Assumes nothing.
-use Prim.Native.Nat.{ℕ, zero, suc, ◌+◌, ◌*◌, ◌<◌}
-use mathlib.Core.Path.{◌≡◌, refl, ap}
-use mathlib.Core.List.{List}
-use mathlib.Core.Bool.{Bool, true, false, cond}
-use native.Mathlib.Omega.{arith}
-use lib.ListN.{length, get_or}
-use lib.Dec.{leb}
+use Rattle.std.proofs.Common.{ℕ, zero, suc, ◌+◌, ◌*◌, ◌<◌, ◌≡◌, refl, ap, List, Bool, true, false, cond, arith, length, get_or, leb}
 use Rattle.file.specs.Rules.Layout.{header_size, entry_size_lem}
 use Rattle.file.specs.Rules.Decode.{file_size, files_at, slaves_at}
 use Rattle.file.specs.Rules.FileGrounds.{Walk, and_then, good_entry, walk_directory, good_table_entry, walk_slave, walk_slaves, table_end, walk_file}

@@ -1,11 +1,7 @@
 -- An accepted file at the offset width of its edition: what the laws over a width take, and what they give back.
 -- Assumes nothing.
-use Prim.Native.Nat.{ℕ, ◌*◌, ◌≤◌}
-use native.Mathlib.Omega.{arith}
-use mathlib.Core.Path.{◌≡◌, sym, ◌∙◌, ap, subst}
-use mathlib.Core.Logic.{◌≢◌}
-use mathlib.Core.List.{List}
-use lib.ListN.{length, get_or, get_or-eq_default}
+use Rattle.std.proofs.Common.{ℕ, ◌*◌, ◌≤◌, arith, ◌≡◌, sym, ◌∙◌, ap, subst, ◌≢◌, List, length, get_or}
+use lib.ListN.{get_or-eq_default}
 use Rattle.file.specs.Rules.Layout.{width_in, width_of, epoch_place, header_size, max_length}
 use Rattle.file.specs.Inner.Numbers.{ByteAt}
 use Rattle.file.specs.Rules.Cluster.{Cluster}

@@ -1,17 +1,10 @@
 -- Laws of lists of bytes: of a property that every element has, of the numbers that bytes spell and the bytes that spell a number, of
 -- a part of a list, and of zeros. No proof above this file opens `number_of`, `bytes_of`, `part` or `all_zero`.
 -- Assumes nothing.
-use Prim.Native.Nat.{ℕ, zero, suc, ◌+◌, ◌*◌, ◌%◌, ◌^◌, ◌<◌}
-use native.Mathlib.Nat.{mod-lt, one-le-pow, pow-succ', pow-zero, div-add-mod', div-lt_iff_lt-mul}
-use native.Mathlib.Omega.{arith}
-use mathlib.Core.Path.{◌≡◌, refl, ap₂}
-use mathlib.Core.List.{List, [], ◌∷◌, ◌++◌}
-use mathlib.Core.Bool.{true, false}
-use lib.ListN.{length, take, drop, get_or, replicate}
-use lib.Seq.{get_or-take, get_or-drop}
+use Rattle.std.proofs.Common.{ℕ, zero, suc, ◌+◌, ◌*◌, ◌%◌, ◌^◌, ◌<◌, mod-lt, div-add-mod', div-lt_iff_lt-mul, arith, ◌≡◌, refl, ap₂, List, [], ◌∷◌}
+use Rattle.std.proofs.Common.{◌++◌, true, false, length, take, drop, get_or, replicate, get_or-take, get_or-drop, eqb, eqb-true}
+use native.Mathlib.Nat.{one-le-pow, pow-succ', pow-zero}
 use lib.Arith.{digits_lt, digits_div, digits_mod}
-use lib.Dec.{eqb}
-use borrow.Author.Tests.{eqb-true}
 use Rattle.file.specs.Rules.Bytes.{All, Byte, Bytes, number_of, bytes_of, part, all_zero}
 use Rattle.file.proofs.Order.{by_case, clash}
 use Rattle.file.proofs.Sizes.{bytes_of-length}

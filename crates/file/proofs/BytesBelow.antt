@@ -1,11 +1,6 @@
 -- A list written out is one of bytes, by a test.
 -- Assumes nothing.
-use Prim.Native.Nat.{ℕ}
-use mathlib.Core.Path.{◌≡◌}
-use mathlib.Core.List.{List, [], ◌∷◌}
-use mathlib.Core.Bool.{Bool, true}
-use lib.Dec.{ltb}
-use borrow.Author.Tests.{ltb-true}
+use Rattle.std.proofs.Common.{ℕ, ◌≡◌, List, [], ◌∷◌, Bool, true, ltb, ltb-true}
 use Rattle.file.specs.Rules.Order.{both}
 use Rattle.file.specs.Rules.Bytes.{Bytes, All.all_empty, All.all_next as also}
 use Rattle.file.proofs.Order.{both_left, both_right}

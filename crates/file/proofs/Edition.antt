@@ -1,15 +1,7 @@
 -- A file of an unknown edition is refused before anything behind its first three bytes is looked at: its length and those bytes alone
 -- decide the ground.
 -- Assumes nothing.
-use Prim.Native.Nat.{ℕ, ◌<◌}
-use native.Mathlib.Omega.{arith}
-use mathlib.Core.Path.{◌≡◌, sym, ap, ◌∙◌}
-use mathlib.Core.List.{List}
-use mathlib.Core.Bool.{true, not, cond}
-use lib.ListN.{length, get_or, take}
-use lib.Seq.{get_or-take}
-use lib.Dec.{eqb}
-use borrow.Author.Tests.{eqb-true, ne_eqb}
+use Rattle.std.proofs.Common.{ℕ, ◌<◌, arith, ◌≡◌, sym, ap, ◌∙◌, List, true, not, cond, length, get_or, take, get_or-take, eqb, eqb-true, ne_eqb}
 use Rattle.file.specs.Rules.Order.{either}
 use Rattle.file.specs.Rules.Layout.{width_of, edition_of}
 use Rattle.file.specs.Rules.FileGrounds.{wrong_size, wrong_mark, wrong_edition, file_grounds_at, file_ground_at, file_ground, load_verdict}

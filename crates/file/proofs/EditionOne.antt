@@ -1,10 +1,6 @@
 -- The numbers of the layout in edition 1, as document 01 has them.
 -- Assumes nothing.
-use Prim.Native.Nat.{ℕ, ◌+◌, ◌*◌}
-use native.Mathlib.Omega.{arith}
-use mathlib.Core.Path.{◌≡◌, refl, sym}
-use mathlib.Core.List.{List}
-use lib.ListN.{get_or}
+use Rattle.std.proofs.Common.{ℕ, ◌+◌, ◌*◌, arith, ◌≡◌, refl, sym, List, get_or}
 use Rattle.file.specs.Rules.Bytes.{bytes_of}
 use Rattle.file.specs.Rules.Layout.{width_of}
 use Rattle.file.specs.Rules.Cluster.{physical_name, new_logical_name, logical_name, comparison_value}

@@ -1,14 +1,7 @@
 -- A file in its other edition: only the slave count and the length decide whether there is room for it, it comes back, and edition 2 has
 -- room for every file of edition 1. And what a tester that knows edition 1 alone answers to a file of edition 2.
 -- Assumes nothing.
-use Prim.Native.Nat.{ℕ, ◌+◌, ◌*◌, ◌≤◌}
-use native.Mathlib.Omega.{arith}
-use mathlib.Core.Path.{◌≡◌, refl, sym, ap, ◌∙◌, subst}
-use mathlib.Core.List.{List, [], ◌∷◌}
-use mathlib.Core.Bool.{false, cond}
-use lib.ListN.{length}
-use lib.Dec.{ltb}
-use borrow.Author.Tests.{le-ltb, ltb-false}
+use Rattle.std.proofs.Common.{ℕ, ◌+◌, ◌*◌, ◌≤◌, arith, ◌≡◌, refl, sym, ap, ◌∙◌, subst, List, [], ◌∷◌, false, cond, length, ltb, le-ltb, ltb-false}
 use Rattle.file.specs.Rules.Bytes.{All}
 use Rattle.file.specs.Rules.Order.{first_of, either}
 use Rattle.file.specs.Rules.Layout.{OffsetWidth, width_in, max_slaves, max_length}

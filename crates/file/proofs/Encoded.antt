@@ -2,14 +2,8 @@
 -- are the encoding of what they decode to, which is legal; the encoding of a legal cluster is accepted and decodes to it. Over the
 -- offset width w.
 -- Assumes nothing.
-use Prim.Native.Nat.{ℕ, ◌+◌, ◌*◌, ◌^◌, ◌≤◌, ◌<◌}
-use native.Mathlib.Nat.{zero-add}
-use native.Mathlib.Omega.{arith}
-use mathlib.Core.Path.{◌≡◌, refl, sym, ap, ◌∙◌, subst}
-use mathlib.Core.List.{List, ◌++◌}
-use lib.ListN.{length, get_or}
-use lib.Dec.{leb}
-use borrow.Author.Tests.{leb-true, le-leb}
+use Rattle.std.proofs.Common.{ℕ, ◌+◌, ◌*◌, ◌^◌, ◌≤◌, ◌<◌, zero-add, arith, ◌≡◌, refl, sym, ap, ◌∙◌, subst, List, ◌++◌, length, get_or, leb, leb-true}
+use Rattle.std.proofs.Common.{le-leb}
 use Rattle.file.specs.Rules.Bytes.{All, Bytes}
 use Rattle.file.specs.Rules.Layout.{OffsetWidth, edition_of, zeros_length, header_size, entry_size_lem, max_slaves, max_length}
 use Rattle.file.specs.Rules.Layout.{epoch_place, flag_place, pending_name_place, pending_pb2_place, pending_pb3_place}

@@ -1,10 +1,6 @@
 -- The encoding of a legal cluster is bytes: every number in it is below 256. Over the offset width w.
 -- Assumes nothing.
-use Prim.Native.Nat.{ℕ, suc, ◌+◌, ◌*◌, ◌^◌, ◌≤◌, ◌<◌}
-use native.Mathlib.Omega.{arith}
-use mathlib.Core.Path.{◌≡◌}
-use mathlib.Core.List.{List, ◌++◌}
-use lib.ListN.{length, replicate, length-append}
+use Rattle.std.proofs.Common.{ℕ, suc, ◌+◌, ◌*◌, ◌^◌, ◌≤◌, ◌<◌, arith, ◌≡◌, List, ◌++◌, length, replicate, length-append}
 use Rattle.file.specs.Rules.Bytes.{All, Byte, Bytes}
 use Rattle.file.specs.Rules.Layout.{fill_length, zeros_length, entry_size_lem}
 use Rattle.file.specs.Rules.Cluster.{File, Slave, Cluster, last_record}

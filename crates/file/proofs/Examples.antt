@@ -1,10 +1,7 @@
 -- A file of one slave in each edition: its ground, computed, by its sleep byte in edition 1 and by a zero of each kind in edition 2; and
 -- the laws of conversion and of a tester that knows edition 1 alone, applied to it.
 -- Assumes nothing.
-use Prim.Native.Nat.{ℕ}
-use mathlib.Core.Path.{◌≡◌, refl}
-use mathlib.Core.List.{List, [], ◌∷◌, ◌++◌, map}
-use mathlib.Core.Bool.{true, false}
+use Rattle.std.proofs.Common.{ℕ, ◌≡◌, refl, List, [], ◌∷◌, ◌++◌, map, true, false}
 use Rattle.file.specs.Rules.Layout.{width_of}
 use Rattle.file.specs.Rules.Order.{first_of, both, either}
 use Rattle.file.specs.Rules.Bytes.{Bytes, number_of, part, all_zero}

@@ -1,14 +1,8 @@
 -- What each test of the grounds says of the bytes, both ways: a test that passes gives its facts, and its facts make it pass.
 -- Assumes nothing.
-use Prim.Native.Nat.{ℕ, suc, ◌+◌, ◌*◌, ◌≤◌, ◌<◌}
-use mathlib.Core.Path.{◌≡◌, refl, sym, ◌∙◌}
-use mathlib.Core.List.{List, ◌∷◌}
-use mathlib.Core.Bool.{Bool, true, false, not}
-use borrow.Author.Tests.{ltb-false, le-ltb, eqb-true, eq-eqb, not-false, leb-true, le-leb, lt-leb}
-use native.Mathlib.Omega.{arith}
-use lib.ListN.{length, get_or}
-use lib.Seq.{drop-cons}
-use lib.Dec.{eqb}
+use Rattle.std.proofs.Common.{ℕ, suc, ◌+◌, ◌*◌, ◌≤◌, ◌<◌, ◌≡◌, refl, sym, ◌∙◌, List, ◌∷◌, Bool, true, false, not, ltb-false, le-ltb, eqb-true, eq-eqb}
+use Rattle.std.proofs.Common.{leb-true, le-leb, arith, length, get_or, drop-cons, eqb}
+use borrow.Author.Tests.{not-false, lt-leb}
 use Rattle.file.specs.Rules.Order.{both}
 use Rattle.file.specs.Rules.Bytes.{part, all_zero}
 use Rattle.file.specs.Rules.Layout.{edition_of, length_place, flag_place, pending_name_place, pending_pb2_place, zeros_place}

@@ -1,13 +1,10 @@
 -- A directory and its files in a list of bytes: the walk over the directory arrives exactly where legal files stand as their encoding,
 -- and reading the directory gives them back. First one entry with its file, then k of them.
 -- Assumes nothing.
-use Prim.Native.Nat.{ℕ, zero, suc, ◌+◌, ◌*◌, ◌^◌, ◌≤◌, ◌<◌}
-use native.Mathlib.Nat.{add-zero, mul-div_cancel_left}
-use native.Mathlib.Omega.{arith}
-use mathlib.Core.Path.{◌≡◌, refl, sym, ap, ap₂, ◌∙◌, subst}
-use mathlib.Core.List.{List, [], ◌∷◌, ◌++◌}
-use mathlib.Core.Bool.{true}
-use lib.ListN.{length, get_or, replicate, length-append, length-replicate}
+use Rattle.std.proofs.Common.{ℕ, zero, suc, ◌+◌, ◌*◌, ◌^◌, ◌≤◌, ◌<◌, add-zero, arith, ◌≡◌, refl, sym, ap, ap₂, ◌∙◌, subst, List, [], ◌∷◌, ◌++◌, true}
+use Rattle.std.proofs.Common.{length, get_or, replicate, length-append}
+use native.Mathlib.Nat.{mul-div_cancel_left}
+use lib.ListN.{length-replicate}
 use Rattle.file.specs.Rules.Bytes.{All, Bytes, bytes_of, part}
 use Rattle.file.specs.Rules.Layout.{entry_size_lem, fill_length, record_size}
 use Rattle.file.specs.Rules.Cluster.{File, last_record}

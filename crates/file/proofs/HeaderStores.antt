@@ -1,12 +1,8 @@
 -- Reading and storing the header's fields in an encoding: the slave count, the epoch, and the pending flag, logical name, PB2 and
 -- PB3. Each stands at its place, and a field stored there gives the encoding of the cluster with that field.
 -- Assumes nothing.
-use Prim.Native.Nat.{ℕ, ◌+◌}
-use native.Mathlib.Omega.{arith}
-use mathlib.Core.Path.{◌≡◌, refl}
-use mathlib.Core.List.{List, [], ◌∷◌, ◌++◌, append_assoc}
-use lib.ListN.{length, get_or, set, replicate, length-append}
-use lib.Seq.{get_or-append-add}
+use Rattle.std.proofs.Common.{ℕ, ◌+◌, arith, ◌≡◌, refl, List, [], ◌∷◌, ◌++◌, append_assoc, length, get_or, set, replicate, length-append}
+use Rattle.std.proofs.Common.{get_or-append-add}
 use Rattle.file.specs.Rules.Bytes.{bytes_of}
 use Rattle.file.specs.Rules.Layout.{edition_of, header_size, zeros_length}
 use Rattle.file.specs.Rules.Layout.{epoch_place, flag_place, pending_name_place, pending_pb2_place, pending_pb3_place}

@@ -1,14 +1,9 @@
 -- Names that are held, 0xFF aside: a search for one that a list has twice, from the last to the first.
 -- Assumes nothing.
-use Prim.Native.Nat.{ℕ, zero, suc, ◌-◌, ◌≤◌, ◌<◌}
-use mathlib.Core.Path.{◌≡◌, refl, sym, ap, ◌∙◌}
-use mathlib.Core.List.{List, [], ◌∷◌}
-use mathlib.Core.Bool.{Bool, true, false, not}
-use native.Mathlib.Omega.{arith}
-use borrow.Author.Tests.{eq-eqb, eqb-true, ne_eqb}
-use lib.ListN.{length, get_or, drop, set, replicate, length-set, length-replicate}
-use lib.Seq.{drop-cons, drop-length, set-get_or}
-use lib.Dec.{eqb}
+use Rattle.std.proofs.Common.{ℕ, zero, suc, ◌-◌, ◌≤◌, ◌<◌, ◌≡◌, refl, sym, ap, ◌∙◌, List, [], ◌∷◌, Bool, true, false, not, arith, eq-eqb, eqb-true}
+use Rattle.std.proofs.Common.{ne_eqb, length, get_or, drop, set, replicate, length-set, drop-cons, eqb}
+use lib.ListN.{length-replicate}
+use lib.Seq.{drop-length, set-get_or}
 use Rattle.file.specs.Rules.Cluster.{Cluster, unnamed, logical_name, logical_names}
 use Rattle.file.specs.Rules.FileGrounds.{is_among, has_repeat, held_names}
 use Rattle.file.proofs.Order.{by_case, clash, either_left, either_right, either_false}
@@ -125,11 +120,6 @@ module _ {l : List ℕ} {seen : List Bool} {i : ℕ} (h : NamesSeen l seen i) (m
         single = rw more' (unfold has_repeat in either_false (sym (h.marks.are name fits) ∙ e) h.single);
       }))
 
-pub seen_end : {l : List ℕ} {seen : List Bool} {i : ℕ} → NamesSeen l seen i → i ≤ 0 → false ≡ has_repeat (held_names l)
-seen_end {l} {i = i} h past =
-    let z : i ≡ 0 = omega arith in
-    sym (rw z at h.single)
-
 -- ---- the same of the slaves of a cluster
 
 -- an element that is there, whatever stands for one that is not
@@ -157,11 +147,8 @@ module _ (c : Cluster) {seen : List Bool} {i : ℕ} (h : NamesSeen (logical_name
     pub slaves-here : get_or seen name false ≡ true → true ≡ has_repeat (held_names (logical_names c))
     slaves-here e = seen_here h more name-first byte e
 
-    pub slaves-next : get_or seen name false ≡ false → NamesSeen (logical_names c) (set seen name (not (eqb name unnamed))) (i - 1)
-    slaves-next e = seen_next h more name-first byte e
-
-pub slaves-end : (c : Cluster) {seen : List Bool} {i : ℕ} → NamesSeen (logical_names c) seen i → i ≤ 0 → false ≡ has_repeat (held_names (logical_names c))
-slaves-end c h past = seen_end h past
+    pub slaves-next : {t : Bool} → t ≡ not (eqb name unnamed) → get_or seen name false ≡ false → NamesSeen (logical_names c) (set seen name t) (i - 1)
+    slaves-next held e = rw held (seen_next h more name-first byte e)
 
 pub few-slaves : (c : Cluster) {n : ℕ} → n ≡ length c.slaves → n < 2 → false ≡ has_repeat (held_names (logical_names c))
 few-slaves c count few = few-held (logical_names c) (rw (names-count c, ← count) few)
@@ -177,7 +164,7 @@ module _ (c : Cluster) {n : ℕ} (count : n ≡ length c.slaves) (some : 2 ≤ n
     pub two-slaves-unnamed : first ≡ unnamed → false ≡ has_repeat (held_names (logical_names c))
     two-slaves-unnamed e = two-unnamed (logical_names c) both-there (name-there 0 (omega arith) ∙ sym is ∙ e)
 
-    pub two-slaves : (first ≡ unnamed → ⊥) → {second : ℕ} → second ≡ logical_name (slave_of c 1) → eqb first second ≡ has_repeat (held_names (logical_names c))
-    two-slaves other is₂ =
-        rw (is, is₂, ← name-there 0 (omega arith), ← name-there 1 (omega arith))
+    pub two-slaves : (first ≡ unnamed → ⊥) → {second : ℕ} → second ≡ logical_name (slave_of c 1) → {t : Bool} → t ≡ eqb first second → t ≡ has_repeat (held_names (logical_names c))
+    two-slaves other is₂ same =
+        rw (same, is, is₂, ← name-there 0 (omega arith), ← name-there 1 (omega arith))
         (two-held (logical_names c) both-there (λ e. other (is ∙ sym (name-there 0 (omega arith)) ∙ e)))

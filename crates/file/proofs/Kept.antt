@@ -1,11 +1,6 @@
 -- A legal cluster stays legal where bytes of a file outside the documentation, the epoch, or a legal pending operation are put.
 -- Assumes nothing.
-use Prim.Native.Nat.{ℕ, zero, suc}
-use mathlib.Core.Path.{◌≡◌}
-use mathlib.Core.Logic.{◌≢◌}
-use mathlib.Core.List.{List}
-use lib.ListN.{length, get_or, set, length-set}
-use lib.Dec.{eqb}
+use Rattle.std.proofs.Common.{ℕ, zero, suc, ◌≡◌, ◌≢◌, List, length, get_or, set, length-set, eqb}
 use Rattle.file.specs.Rules.Bytes.{Byte, Bytes, All, all_empty, all_next}
 use Rattle.file.specs.Rules.Cluster.{File, Slave, Cluster, last_record, bytes_among, bytes_in, configuration, documentation}
 use Rattle.file.specs.Rules.Legal.{LegalFile, Rising, end, next, LegalSlave, LegalPending, LegalAt}

@@ -2,11 +2,7 @@
 -- bytes in its files. A layer above proves these of what it changes, and need not look at the layout again. Over the offset width w,
 -- then in the cluster's edition.
 -- Assumes nothing.
-use Prim.Native.Nat.{ℕ, ◌≤◌}
-use native.Mathlib.Omega.{arith}
-use mathlib.Core.Path.{◌≡◌, sym, ◌∙◌, subst}
-use mathlib.Core.List.{List, map}
-use lib.ListN.{length}
+use Rattle.std.proofs.Common.{ℕ, ◌≤◌, arith, ◌≡◌, sym, ◌∙◌, subst, List, map, length}
 use Rattle.file.specs.Rules.Bytes.{All, Bytes}
 use Rattle.file.specs.Rules.Layout.{width_in, max_slaves, max_length}
 use Rattle.file.specs.Rules.Cluster.{File, Slave, Cluster, last_record, bytes_in, configuration, documentation, physical_name}

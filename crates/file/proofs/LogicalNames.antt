@@ -1,12 +1,6 @@
 -- Other logical names in an accepted file: the cluster stays legal, and holds them.
 -- Assumes nothing.
-use Prim.Native.Nat.{ℕ, ◌<◌}
-use native.Mathlib.Omega.{arith}
-use mathlib.Core.Path.{◌≡◌, refl, ap, ◌∙◌}
-use mathlib.Core.List.{List, [], ◌∷◌, map}
-use mathlib.Core.Bool.{cond}
-use lib.ListN.{length}
-use lib.Seq.{get_or-set_same}
+use Rattle.std.proofs.Common.{ℕ, ◌<◌, arith, ◌≡◌, refl, ap, ◌∙◌, List, [], ◌∷◌, map, cond, length, get_or-set_same}
 use Rattle.file.specs.Rules.Bytes.{Bytes, All, all_empty, all_next}
 use Rattle.file.specs.Inner.Layout.{logical_name_place}
 use Rattle.file.specs.Rules.Cluster.{Slave, Cluster, bytes_in, last_record, configuration, physical_name, logical_name, logical_names}

@@ -1,15 +1,7 @@
 -- A search along a list of numbers, element by element.
 -- Assumes nothing.
-use Prim.Native.Nat.{ℕ, zero, suc, ◌+◌, ◌≤◌, ◌<◌}
-use mathlib.Core.Path.{◌≡◌, refl, sym}
-use mathlib.Core.List.{List, [], ◌∷◌}
-use mathlib.Core.Bool.{Bool, true, false}
-use native.Mathlib.Omega.{arith}
-use native.Mathlib.Numerals.{add-one}
-use borrow.Author.Tests.{eq-eqb, ne_eqb}
-use lib.ListN.{length, get_or, drop, drop_of_length-le}
-use lib.Seq.{drop-cons}
-use lib.Dec.{eqb}
+use Rattle.std.proofs.Common.{ℕ, zero, suc, ◌+◌, ◌≤◌, ◌<◌, ◌≡◌, refl, sym, List, [], ◌∷◌, Bool, true, false, arith, add-one, eq-eqb, ne_eqb, length}
+use Rattle.std.proofs.Common.{get_or, drop, drop_of_length-le, drop-cons, eqb}
 use Rattle.file.specs.Rules.Order.{either}
 use Rattle.file.specs.Rules.FileGrounds.{is_among, has_repeat}
 use Rattle.file.proofs.Order.{either_right}

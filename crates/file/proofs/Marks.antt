@@ -1,13 +1,9 @@
 -- Marks for what was seen, a test for each mark: which marks are among those of a list. And the elements of a list under a mark.
 -- Assumes nothing.
-use Prim.Native.Nat.{ℕ, ◌<◌}
-use mathlib.Core.Path.{◌≡◌, ap, ◌∙◌}
-use mathlib.Core.List.{List, [], ◌∷◌, map}
-use mathlib.Core.Bool.{Bool, true, false}
-use borrow.Author.Tests.{eq-eqb, eqb-true, eqb-false}
-use lib.ListN.{length, get_or, set, replicate, length-set, length-replicate, get_or-replicate}
-use lib.Seq.{get_or-set_same, get_or-set_other}
-use lib.Dec.{eqb}
+use Rattle.std.proofs.Common.{ℕ, ◌<◌, ◌≡◌, ap, ◌∙◌, List, [], ◌∷◌, map, Bool, true, false, eq-eqb, eqb-true, length, get_or, set, replicate}
+use Rattle.std.proofs.Common.{length-set, get_or-set_same, get_or-set_other, eqb}
+use borrow.Author.Tests.{eqb-false}
+use lib.ListN.{length-replicate, get_or-replicate}
 use Rattle.file.specs.Rules.FileGrounds.{is_among}
 use Rattle.file.specs.Inner.Marked.{Marked}
 use Rattle.file.proofs.Order.{by_case, clash, either_left, either_right, either-next}

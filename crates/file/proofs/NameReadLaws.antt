@@ -1,12 +1,9 @@
 -- The slaves' logical names, read one after the other into the front of a list.
 -- Assumes nothing.
-use Prim.Native.Nat.{ℕ, suc, ◌+◌, ◌≤◌, ◌<◌}
-use native.Mathlib.Omega.{arith}
-use native.Mathlib.Numerals.{add-one}
-use mathlib.Core.Path.{◌≡◌, refl, sym, ◌∙◌}
-use mathlib.Core.List.{List, [], ◌∷◌, ◌++◌, append_assoc}
-use lib.ListN.{length, get_or, take, drop, set, length-set, length-map, get_or-map}
-use lib.Seq.{take-suc, take_all, drop-cons, length-take-le, set_at}
+use Rattle.std.proofs.Common.{ℕ, suc, ◌+◌, ◌≤◌, ◌<◌, arith, add-one, ◌≡◌, sym, ◌∙◌, List, [], ◌∷◌, ◌++◌, append_assoc, length, get_or, take}
+use Rattle.std.proofs.Common.{drop, set, length-set, take-suc, take_all, drop-cons, length-take-le}
+use lib.ListN.{length-map, get_or-map}
+use lib.Seq.{set_at}
 use Rattle.file.specs.Rules.Cluster.{Cluster, logical_name, logical_names}
 use Rattle.file.specs.Inner.Places.{no_slave_lem, slave_of}
 
@@ -24,9 +21,6 @@ pub record NamesPut (c : Cluster) (old new : List ℕ) (i : ℕ) : Type 0 where
   pub room : length new ≡ length old
   pub within : i ≤ length c.slaves
   pub are : new ≡ take i (logical_names c) ++ drop i old
-
-pub put-start : (c : Cluster) (old : List ℕ) → NamesPut c old old 0
-put-start c old = record { room = refl; within = omega arith; are = refl }
 
 module _ {c : Cluster} {old new : List ℕ} {i : ℕ} (h : NamesPut c old new i) where
   pub put_next : {n : ℕ} → n ≡ length c.slaves → i < n → length c.slaves ≤ length old → {name : ℕ} → name ≡ logical_name (slave_of c i) → NamesPut c old (set new i name) (i + 1)

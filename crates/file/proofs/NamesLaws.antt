@@ -1,15 +1,9 @@
 -- The physical names of the slaves, compared from the last to the first.
 -- Assumes nothing.
-use Prim.Native.Nat.{ℕ, zero, suc, ◌+◌, ◌-◌, ◌/◌, ◌≤◌, ◌<◌}
-use mathlib.Core.Path.{◌≡◌, refl, sym, ap, ◌∙◌}
-use mathlib.Core.List.{List, [], ◌∷◌, map}
-use mathlib.Core.Bool.{Bool, true, false}
-use native.Mathlib.Omega.{arith}
-use lib.ListN.{length, get_or, drop, set, replicate, length-set, length-replicate}
-use lib.Seq.{drop-cons, drop-length}
-use lib.Dec.{eqb}
-use mir.Syntax.{w16, w64}
-use mir.Val.{Fits}
+use Rattle.std.proofs.Common.{ℕ, zero, suc, ◌+◌, ◌-◌, ◌/◌, ◌≤◌, ◌<◌, ◌≡◌, refl, sym, ap, ◌∙◌, List, [], ◌∷◌, map, Bool, true, false, arith, length}
+use Rattle.std.proofs.Common.{get_or, drop, set, replicate, length-set, drop-cons, eqb, w16, w64, Fits}
+use lib.ListN.{length-replicate}
+use lib.Seq.{drop-length}
 use Rattle.file.specs.Inner.Numbers.{ByteAt}
 use Rattle.file.specs.Rules.FileGrounds.{is_among, has_repeat}
 use Rattle.file.specs.Inner.Layout.{physical_name_place, long_width}
@@ -99,11 +93,6 @@ module _ {l : List ℕ} {seen : List Bool} {i : ℕ} (h : Comparing l seen i) (m
         single = rw before (either_false e h.single);
       }
 
-pub comparing-end : {l : List ℕ} {seen : List Bool} {i : ℕ} → Comparing l seen i → i ≤ 0 → false ≡ has_repeat l
-comparing-end {l} {i = i} h past =
-    let z : i ≡ 0 = omega arith in
-    sym (rw z at h.single)
-
 -- ---- the same, of the slaves' places
 
 -- the places of 0x3D among those of both files
@@ -189,9 +178,6 @@ module _ (f places : List ℕ) {name from i : ℕ} (h : Looking name (names_at f
 pub unseen : {b : Bool} (name : ℕ) (l : List ℕ) → (b ≡ false → is_among name l ≡ false) → b ≡ false → false ≡ is_among name l
 unseen name l none e = sym (none e)
 
-pub unrepeated : {b : Bool} (f places : List ℕ) (s : ℕ) → (b ≡ false → repeats_name f places s ≡ false) → b ≡ false → false ≡ repeats_name f places s
-unrepeated f places s none e = sym (none e)
-
 pub repeats-search :
     (f places : List ℕ) (s : ℕ) {name : ℕ} → name ≡ name_at f (get_or places (documentation_index s) 0) → {t : Bool} →
     t ≡ is_among name (drop (s + 1) (names_at f places)) → t ≡ repeats_name f places s
@@ -212,9 +198,6 @@ compared-start f places e =
       names = comparing-start (names_at f places) (e ∙ sym (length-names-at f places));
     }
 
-pub compared-end : {f places : List ℕ} {seen : List Bool} {i : ℕ} → Compared f places seen i → i ≤ 0 → false ≡ has_repeat (names_at f places)
-compared-end h past = comparing-end h.names past
-
 module _ {f places : List ℕ} {seen : List Bool} {i : ℕ} (h : Compared f places seen i) (more : 0 < i) where
   abbrev name : ℕ
   name = name_at f (get_or places (documentation_index (i - 1)) 0)
@@ -233,9 +216,6 @@ module _ {f places : List ℕ} {seen : List Bool} {i : ℕ} (h : Compared f plac
   among = let back : i - 1 + 1 ≡ i = omega arith in rw back
 
   module _ {r : ℕ} (is : RemainderAt f (get_or places (documentation_index (i - 1)) 0) r) where
-    pub remainder-fits : r < 256
-    remainder-fits = omega (arith, is.is)
-
     pub equal_new : get_or seen r false ≡ false → repeats_name f places (i - 1) ≡ false
     equal_new e = among ∙ comparing-new h.names more in_order (rw (← is.is) e)
 

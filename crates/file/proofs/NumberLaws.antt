@@ -1,18 +1,12 @@
 -- Numbers of several bytes at a place of a list: one law joins two of them, whatever their widths.
 -- Assumes nothing.
-use Prim.Native.Nat.{ℕ, zero, suc, ◌+◌, ◌*◌, ◌-◌, ◌%◌, ◌^◌, ◌≤◌, ◌<◌}
-use mathlib.Core.Path.{◌≡◌, refl, sym, ◌∙◌, subst}
-use mathlib.Core.Bool.{Bool, true, false}
+use Rattle.std.proofs.Common.{ℕ, zero, suc, ◌+◌, ◌*◌, ◌-◌, ◌%◌, ◌^◌, ◌≤◌, ◌<◌, ◌≡◌, refl, sym, ◌∙◌, subst, Bool, true, false, eqb, eqb-true, List, []}
+use Rattle.std.proofs.Common.{◌∷◌, ◌++◌, arith, bit_or, pow-add, shl_exact, shl_lt, length, get_or, drop, length-append, length-take, length-drop}
+use Rattle.std.proofs.Common.{take-add, drop-drop, drop-cons}
 use native.Mathlib.Nat.{one-le-pow}
-use lib.Dec.{eqb}
-use borrow.Author.Tests.{eqb-true, eqb-false}
-use mathlib.Core.List.{List, [], ◌∷◌, ◌++◌}
-use native.Mathlib.Omega.{arith}
+use borrow.Author.Tests.{eqb-false}
 use lib.Arith.{digits_lt}
-use lib.Bits.{bit_or, or_shifted}
-use lib.Pow.{pow-add, shl_exact, shl_lt}
-use lib.ListN.{length, get_or, drop, length-append, length-take, length-drop}
-use lib.Seq.{take-add, drop-drop, drop-cons}
+use lib.Bits.{or_shifted}
 use Rattle.file.specs.Rules.Layout.{OffsetWidth}
 use Rattle.file.specs.Rules.Bytes.{number_of, part, all_zero}
 use Rattle.file.specs.Inner.Numbers.{ByteAt, NumberAt}
@@ -119,9 +113,6 @@ eight-bytes {l} {at} h p₀ p₁ p₂ p₃ p₄ p₅ p₆ p₇ =
     shifted_last {l = l} {at = at} {m = 7} (omega arith) s₇ p₇
 
 -- ---- an offset, of either width
-
-pub offset_narrow : {l : List ℕ} {at w r : ℕ} → w ≡ 2 → NumberAt l at 2 r → NumberAt l at w r
-offset_narrow {l} {at} {w} {r} e n = subst (λ (k : ℕ). NumberAt l at k r) (sym e) n
 
 offset-joined : {l : List ℕ} {at w a b : ℕ} → Which w → (w ≡ 2 → ⊥) → at + w ≤ length l → NumberAt l at 2 a → NumberAt l (at + 2) 2 b → NumberAt l at w (bit_or ((a * 2 ^ 16) % 2 ^ 64) b)
 offset-joined narrow other h p q = absurd (other refl)

@@ -1,14 +1,8 @@
 -- Laws of tests that are joined, and of the first ground that holds. A test's facts are read and made through these, so that no
 -- proof opens `both`, `either` or `first_of`.
 -- Assumes nothing.
-use Prim.Native.Nat.{ℕ, suc, ◌≤◌}
-use native.Mathlib.Omega.{arith}
-use native.Mathlib.Nat.{suc-ne-zero}
-use mathlib.Core.Path.{◌≡◌, refl, sym, ◌∙◌}
-use mathlib.Core.List.{List, [], ◌∷◌, ◌++◌}
-use mathlib.Core.Bool.{Bool, true, false, cond}
-use lib.Dec.{eqb}
-use borrow.Author.Tests.{eqb-true, eq-eqb, ne_eqb}
+use Rattle.std.proofs.Common.{ℕ, suc, ◌≤◌, arith, suc-ne-zero, ◌≡◌, refl, sym, ◌∙◌, List, [], ◌∷◌, ◌++◌, Bool, true, false, cond, not, eqb, eqb-true}
+use Rattle.std.proofs.Common.{eq-eqb, ne_eqb}
 use Rattle.file.specs.Rules.Bytes.{All, all_empty, all_next}
 use Rattle.file.specs.Rules.Order.{Ground, first_of, both, either}
 
@@ -20,6 +14,19 @@ by_case false t f = f refl
 -- true is not false
 pub clash : {P : Type 0} {b : Bool} → b ≡ true → b ≡ false → P
 clash {b = b} p q = let z : ◌≡◌ {A = Bool} true false = sym p ∙ q in absurd (mathlib.Core.Bool.true≢false z)
+
+-- what the answer of a derived `==`, or `!=`, says of two numbers
+pub same_if_eq : {a b : ℕ} {t : Bool} → t ≡ eqb a b → t ≡ true → a ≡ b
+same_if_eq {a} {b} is e = eqb-true a b (sym is ∙ e)
+
+pub other_if_eq : {a b : ℕ} {t : Bool} → t ≡ eqb a b → t ≡ false → a ≡ b → ⊥
+other_if_eq {a} {b} is e same = clash (eq-eqb a b same) (sym is ∙ e)
+
+pub other_if_ne : {a b : ℕ} {t : Bool} → t ≡ not (eqb a b) → t ≡ true → a ≡ b → ⊥
+other_if_ne {a} {b} is e same = clash e (is ∙ rw (eq-eqb a b same))
+
+pub same_if_ne : {a b : ℕ} {t : Bool} → t ≡ not (eqb a b) → t ≡ false → a ≡ b
+same_if_ne {a} {b} is e = by_case (eqb a b) (eqb-true a b) (λ f. clash (is ∙ rw f) e)
 
 pub both_left : (a b : Bool) → both a b ≡ true → a ≡ true
 unfolding both

@@ -1,12 +1,7 @@
 -- The two places of a slave in an accepted file: each is a number of the machine, and so is a place in the records that every slave has,
 -- which lies within the bytes. What the readers by places ask, for a search to find.
 -- Assumes nothing.
-use Prim.Native.Nat.{ℕ, ◌+◌, ◌*◌, ◌≤◌, ◌<◌}
-use native.Mathlib.Omega.{arith}
-use mathlib.Core.List.{List}
-use lib.ListN.{length, get_or}
-use mir.Syntax.{w64}
-use mir.Val.{Fits}
+use Rattle.std.proofs.Common.{ℕ, ◌+◌, ◌*◌, ◌≤◌, ◌<◌, arith, List, length, get_or, w64, Fits}
 use Rattle.file.specs.Rules.Layout.{record_size}
 use Rattle.file.specs.Inner.Layout.{needed_configuration, needed_documentation, long_width}
 use Rattle.file.specs.Inner.Places.{configuration_index, documentation_index}
@@ -34,9 +29,6 @@ module _ {f places : List ℕ} (h : Placed f places) (s : ℕ) (l : s < slave_co
 
   pub documentation-record-fits : (r : ℕ) → r ≤ needed_documentation → Fits w64 (get_or places (documentation_index s) 0 + record_size * r)
   documentation-record-fits r few = record { fits = omega (arith, documentation-within h s l, length_limit h.file) }
-
-  pub documentation-byte-fits : (k : ℕ) → k < 12 → Fits w64 (get_or places (documentation_index s) 0 + k)
-  documentation-byte-fits k few = record { fits = omega (arith, documentation-within h s l, length_limit h.file) }
 
   pub documentation-long : (k : ℕ) → k + long_width ≤ 12 → get_or places (documentation_index s) 0 + k + long_width ≤ length f
   documentation-long k few = omega (arith, documentation-within h s l)

@@ -1,15 +1,9 @@
 -- Stores in a list of bytes; and a byte put in a file: what the slave then holds, and what of the cluster stays as it was.
 -- Assumes nothing.
-use Prim.Native.Nat.{ℕ, suc, ◌+◌, ◌*◌, ◌-◌, ◌≤◌, ◌<◌}
-use native.Mathlib.Omega.{arith}
-use mathlib.Core.Path.{◌≡◌, refl, sym, ◌∙◌}
-use mathlib.Core.Logic.{◌≢◌}
-use mathlib.Core.List.{List, [], ◌∷◌, ◌++◌, map, append_assoc}
-use mathlib.Core.Bool.{true, false}
-use lib.ListN.{length, get_or, set, take, drop}
-use lib.Seq.{get_or-set_same, get_or-set_other, drop-set-lt, drop-set-add, take-set-le, map-set_same, sets, sets-eq, set-get_or, length-take-le, drop_at, take-append_seam}
-use lib.Dec.{eqb, ltb}
-use borrow.Author.Tests.{eqb-true, ne_eqb, ltb-true, ltb-false, leb-true}
+use Rattle.std.proofs.Common.{ℕ, suc, ◌+◌, ◌*◌, ◌-◌, ◌≤◌, ◌<◌, arith, ◌≡◌, refl, sym, ◌∙◌, ◌≢◌, List, [], ◌∷◌, ◌++◌, map, append_assoc, true, false}
+use Rattle.std.proofs.Common.{length, get_or, set, take, drop, get_or-set_same, get_or-set_other, drop-set-lt, length-take-le, drop_at, eqb, ltb}
+use Rattle.std.proofs.Common.{eqb-true, ne_eqb, ltb-true, ltb-false, leb-true}
+use lib.Seq.{drop-set-add, take-set-le, map-set_same, sets, sets-eq, set-get_or, take-append_seam}
 use Rattle.file.specs.Rules.Bytes.{part}
 use Rattle.file.specs.Rules.Layout.{record_size}
 use Rattle.file.specs.Rules.Cluster.{File, Slave, Cluster, bytes_among, bytes_in, documentation, physical_name, has_record}

@@ -3,11 +3,10 @@
 -- Assumes nothing.
 use Prim.Native.Nat.{ℕ, suc, ◌+◌, ◌*◌, ◌≤◌, ◌<◌}
 use mathlib.Core.Path.{◌≡◌, sym, ◌∙◌}
-use mathlib.Core.Bool.{Bool, true, false}
+use mathlib.Core.Bool.{Bool, true}
 use mathlib.Core.List.{List}
 use native.Mathlib.Omega.{arith}
-use borrow.Author.Tests.{le-leb, leb-true, eqb-true, eq-eqb, ne_eqb}
-use lib.Dec.{leb}
+use borrow.Author.Tests.{le-leb, leb-true, eqb-true}
 use lib.ListN.{length, get_or}
 use mir.Syntax.{w64}
 use mir.Val.{Fits}
@@ -19,9 +18,10 @@ use Rattle.file.specs.Inner.Places.{slave_of, file_place, configuration_index, d
 use Rattle.file.specs.Inner.Accepted.{Becomes, AcceptedFile, slave_count, Placed, file_found, find_file, find_record, is_documented}
 use Rattle.file.specs.Inner.FileAnswers.{found_file, found_record}
 use Rattle.file.specs.declared.records.FileBytes.{FileBytes}
-use Rattle.file.proofs.Order.{both_left, both_right, both-next, both_false_left}
+use Rattle.file.proofs.Order.{both_left, both_right}
 use Rattle.file.proofs.PlaceLaws.{documentation-record-fits}
 use Rattle.file.proofs.ReaderLaws.{length_limit, configuration-room, documentation-room, record_missing, record_past, record_found, found_within}
+use Rattle.std.specs.Prelude.{Option, Some, None}
 use Rattle.std.specs.Prelude.{Option, Some, None}
 
 module _ (c : Cluster) (s n : ℕ) {r : Option FileBytes} (is : found_file r ≡ find_file c s n) where
@@ -77,11 +77,3 @@ module _ {f places : List ℕ} (p : Placed f places) {s : ℕ} (n r : ℕ) (ther
 
   pub documented-fits : Fits w64 (get_or places (documentation_index s) 0 + record_size * r)
   documented-fits = documentation-record-fits p s there r few
-
-pub not-documented : {n : ℕ} (r : ℕ) → (n ≡ documentation → ⊥) → false ≡ is_documented n r
-unfolding is_documented
-not-documented {n} r other = sym (both_false_left (leb r needed_documentation) (ne_eqb n documentation other))
-
-pub documented_by : {n : ℕ} (r : ℕ) → n ≡ documentation → leb r needed_documentation ≡ is_documented n r
-unfolding is_documented
-documented_by {n} r same = sym (both-next (leb r needed_documentation) (eq-eqb n documentation same))

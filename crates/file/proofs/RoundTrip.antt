@@ -1,9 +1,6 @@
 -- Encoding and decoding, and what is accepted, over the offset width w: `Accepted` states these laws at the width of an edition.
 -- Assumes nothing.
-use Prim.Native.Nat.{ℕ, ◌^◌, ◌<◌}
-use mathlib.Core.Path.{◌≡◌, refl}
-use mathlib.Core.List.{List}
-use lib.ListN.{length}
+use Rattle.std.proofs.Common.{ℕ, ◌^◌, ◌<◌, ◌≡◌, refl, List, length}
 use Rattle.file.specs.Rules.Bytes.{Bytes}
 use Rattle.file.specs.Rules.Layout.{OffsetWidth, width_of}
 use Rattle.file.specs.Rules.Cluster.{Cluster}

@@ -1,22 +1,14 @@
 -- The search for the place that a directory states for a file, from its front and from its back.
 -- Assumes nothing.
-use Prim.Native.Nat.{ℕ, zero, suc, ◌+◌, ◌*◌, ◌-◌, ◌≤◌, ◌<◌}
-use mathlib.Core.Path.{◌≡◌, refl, sym, ◌∙◌}
-use mathlib.Core.List.{List}
-use mathlib.Core.Bool.{Bool, true, false, cond}
-use native.Mathlib.Omega.{arith}
-use borrow.Author.Tests.{eqb-true, eq-eqb, ne_eqb}
-use lib.ListN.{length, get_or}
-use lib.Dec.{leb}
-use mir.Syntax.{w64}
-use mir.Val.{Fits}
+use Rattle.std.proofs.Common.{ℕ, zero, suc, ◌+◌, ◌*◌, ◌-◌, ◌≤◌, ◌<◌, ◌≡◌, refl, sym, ◌∙◌, List, Bool, true, false, cond, arith, eqb-true, eq-eqb}
+use Rattle.std.proofs.Common.{ne_eqb, length, get_or, leb}
 use Rattle.file.specs.Inner.Numbers.{NumberAt}
 use Rattle.file.specs.Rules.Decode.{offset_at, file_size}
 use Rattle.file.specs.Rules.FileGrounds.{to, walk_directory}
 use Rattle.file.specs.Inner.Checked.{EntriesFit, states, stated_place, Arrives}
 use Rattle.file.proofs.Order.{both_left, both-next, both_false_left}
 use Rattle.file.proofs.Arrivals.{Step, walk_took}
-use Rattle.file.proofs.WalkLaws.{stated-step, stated-last, more_left, none_left, entry-fits, walking_first}
+use Rattle.file.proofs.WalkLaws.{stated-step, stated-last, more_left, none_left, walking_first}
 use Rattle.file.proofs.Stated.{walk_skips}
 use Rattle.file.proofs.Width.{place-fits, wide_enough}
 
@@ -63,19 +55,6 @@ module _ {w : ℕ} {f : List ℕ} {d k n least entry : ℕ} (fit : EntriesFit w 
       rw z at h.same
 
   module _ (more : entry < d + 2 * w * k) where
-    -- the entry of a turn lies within the bytes
-    pub seeking_entry : EntriesFit w f entry 1
-    seeking_entry = entry-fits fit entry h.left h.at more
-
-    pub seeking_two : entry + 2 ≤ length f
-    seeking_two = omega (arith, seeking_entry.within, fit.width.least)
-
-    pub seeking_offset : entry + w + w ≤ length f
-    seeking_offset = omega (arith, seeking_entry.within)
-
-    pub seeking_offset-fits : Fits w64 (entry + w)
-    seeking_offset-fits = record { fits = omega (arith, seeking_entry.within, fit.short, fit.width.most) }
-
     some : suc (h.left - 1) ≡ h.left
     some = let m = more_left w entry (d + 2 * w * k) h.left h.at more in omega (arith, m.1)
 
@@ -123,9 +102,6 @@ module _ {w : ℕ} {f : List ℕ} {d k : ℕ} (fit : EntriesFit w f d k) (h : Ar
   first-there : d < d + 2 * w * k
   first-there = walking_first w d k fit.width.least some
 
-  pub first_two : d + 2 ≤ length f
-  first_two = seeking_two fit (seeking_start 0 0 h) first-there
-
   first-behind : offset_at w f (d + w) ≡ d + 2 * w * k
   first-behind =
       let m : suc (k - 1) ≡ k = omega arith in
@@ -152,9 +128,6 @@ pub record SeekingBack (w : ℕ) (f : List ℕ) (d k n least entry : ℕ) : Type
   pub at : entry ≡ d + 2 * w * count
   pub most : count ≤ k
   pub same : stated_place w f n least 0 d count ≡ stated_place w f n least 0 d k
-
-pub back_start : {w : ℕ} {f : List ℕ} {d k : ℕ} (n least : ℕ) → SeekingBack w f d k n least (d + 2 * w * k)
-back_start {k = k} n least = record { count = k; at = refl; most = omega arith; same = refl }
 
 -- a walk that arrives has every entry in its way
 entry-there : (w : ℕ) (f : List ℕ) (d low place e k j : ℕ) → j < k → walk_directory w f d low place k ≡ to e → offset_at w f (d + 2 * w * j + w) + 8 ≤ length f
@@ -190,28 +163,8 @@ module _ {w : ℕ} {f : List ℕ} {d k n least entry : ℕ} (fit : EntriesFit w 
         let one : 2 * w * suc (h.count - 1) ≡ 2 * w * h.count = rw some_back in
         omega (arith, one, h.at)
 
-    pub back-size : 2 * w ≤ entry
-    back-size = omega (arith, last-at)
-
     there : d + 2 * w * (h.count - 1) ≡ entry - 2 * w
     there = omega (arith, last-at)
-
-    rise : (a b : ℕ) → a ≤ b → 2 * w * a ≤ 2 * w * b
-    rise zero b l = omega arith
-    rise (suc a) zero l = absurd (omega arith)
-    rise (suc a) (suc b) l = omega (arith, rise a b (omega arith))
-
-    pub back-entry : EntriesFit w f (entry - 2 * w) 1
-    back-entry = record { width = fit.width; within = omega (arith, last-at, h.at, fit.within, rise h.count k h.most); short = fit.short }
-
-    pub back-two : entry - 2 * w + 2 ≤ length f
-    back-two = omega (arith, back-entry.within, fit.width.least)
-
-    pub back-offset : entry - 2 * w + w + w ≤ length f
-    back-offset = omega (arith, back-entry.within)
-
-    pub back-offset-fits : Fits w64 (entry - 2 * w + w)
-    back-offset-fits = record { fits = omega (arith, back-entry.within, fit.short, fit.width.most) }
 
     pub back-short : {place : ℕ} → Arrives w f d k → NumberAt f (entry - 2 * w + w) w place → place < 65536
     unfolding offset_at

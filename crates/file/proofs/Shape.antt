@@ -1,11 +1,7 @@
 -- Clusters of the same shape: a cluster has its own, putting a byte keeps it, and everything that the encoding says of
 -- places and sizes is equal under it. A layer above that changes only bytes of files cites these laws and opens no walk.
 -- Assumes nothing.
-use Prim.Native.Nat.{ℕ, zero, suc, ◌+◌, ◌*◌}
-use mathlib.Core.Path.{◌≡◌, refl, sym, ap, ◌∙◌}
-use mathlib.Core.List.{List, [], ◌∷◌}
-use lib.ListN.{length, get_or, set, length-append, length-set}
-use lib.Dec.{eqb}
+use Rattle.std.proofs.Common.{ℕ, zero, suc, ◌+◌, ◌*◌, ◌≡◌, refl, sym, ap, ◌∙◌, List, [], ◌∷◌, length, get_or, set, length-append, length-set, eqb}
 use Rattle.file.specs.Rules.Layout.{entry_size_lem}
 use Rattle.file.specs.Rules.Cluster.{File, Slave, Cluster, last_record, bytes_among, bytes_in}
 use Rattle.file.specs.Rules.Encode.{directory_entry, directory, contents, slave_size, slaves_size, table_entry, table, slaves_place, file_length}

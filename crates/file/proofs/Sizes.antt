@@ -1,12 +1,8 @@
 -- The lengths of an encoding's parts: each is the size that the layout states. Above them only these laws are cited, so that no
 -- proof opens a part to count its bytes. An entry is long enough for its two bytes and an offset where an offset has 2 bytes or more.
 -- Assumes nothing.
-use Prim.Native.Nat.{ℕ, zero, suc, ◌+◌, ◌*◌, ◌%◌, ◌^◌, ◌≤◌}
-use native.Mathlib.Omega.{arith}
-use native.Mathlib.Nat.{mul-zero}
-use mathlib.Core.Path.{◌≡◌, refl, sym, ap}
-use mathlib.Core.List.{List, [], ◌∷◌}
-use lib.ListN.{length, length-append, length-replicate}
+use Rattle.std.proofs.Common.{ℕ, zero, suc, ◌+◌, ◌*◌, ◌%◌, ◌^◌, ◌≤◌, arith, mul-zero, ◌≡◌, refl, sym, ap, List, [], ◌∷◌, length, length-append}
+use lib.ListN.{length-replicate}
 use Rattle.file.specs.Rules.Bytes.{bytes_of}
 use Rattle.file.specs.Rules.Layout.{header_size, entry_size_lem}
 use Rattle.file.specs.Rules.Cluster.{File, Slave, Cluster}

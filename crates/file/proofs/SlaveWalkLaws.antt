@@ -1,16 +1,10 @@
 -- The walk of the slaves, step by step: what a loop along the table keeps, and one law for each way through a turn.
 -- Assumes nothing.
-use Prim.Native.Nat.{ℕ, zero, suc, ◌+◌, ◌*◌, ◌-◌, ◌≤◌, ◌<◌}
-use mathlib.Core.Path.{◌≡◌, refl, sym, ◌∙◌, subst}
-use mathlib.Core.List.{List, [], ◌∷◌, ◌++◌, append-nil, append_assoc}
-use mathlib.Core.Bool.{Bool, true, false}
-use native.Mathlib.Omega.{arith}
-use native.Mathlib.Numerals.{add-one}
-use lib.ListN.{length, get_or, take, set, length-set}
-use lib.Seq.{take-suc-set, append_snoc}
+use Rattle.std.proofs.Common.{ℕ, zero, suc, ◌+◌, ◌*◌, ◌-◌, ◌≤◌, ◌<◌, ◌≡◌, sym, ◌∙◌, subst, List, [], ◌∷◌, ◌++◌, append-nil, append_assoc, Bool}
+use Rattle.std.proofs.Common.{true, false, arith, add-one, length, get_or, take, set, length-set, take-suc-set, leb-true, Option, Some}
+use Rattle.std.proofs.Common.{None}
+use lib.Seq.{append_snoc}
 use Rattle.file.specs.Rules.Bytes.{part, all_zero}
-use mir.Syntax.{w64}
-use mir.Val.{Fits}
 use Rattle.file.specs.Inner.Numbers.{ByteAt, NumberAt}
 use Rattle.file.specs.Rules.Layout.{header_size, entry_size_lem}
 use Rattle.file.specs.Inner.Layout.{needed_configuration, needed_documentation}
@@ -18,8 +12,10 @@ use Rattle.file.specs.Rules.Cluster.{configuration, documentation}
 use Rattle.file.specs.Rules.Decode.{offset_at}
 use Rattle.file.specs.Rules.FileGrounds.{broken, to, and_then, good_table_entry, walk_directory, walk_slave, walk_slaves}
 use Rattle.file.specs.Inner.Places.{places_each}
-use Rattle.file.specs.Inner.Checked.{EntriesFit, stated_place, stated_in, stated_places, walk_of, DirectoryWalked, EntryWalked, Arrives, SlaveWalked, SlavesWalked}
-use Rattle.file.proofs.Order.{clash}
+use Rattle.file.specs.Inner.Checked.{EntriesFit, stated_place, stated_in, stated_places, walk_of, fits_so_far, ended, DirectoryWalked, EntryWalked, EntryEnds, Arrives, SlaveStated, SlavesWalked}
+use Rattle.file.specs.declared.walk.DirectoryEnd.{DirectoryEnd}
+use Rattle.file.specs.declared.walk.SlaveFound.{SlaveFound}
+use Rattle.file.proofs.Order.{clash, both_right}
 use Rattle.file.proofs.Arrivals.{SlaveStep, slave_took}
 use Rattle.file.proofs.Facts.{false_unless, TableEntryFacts, table-entry_facts, table-entry_yes}
 
@@ -34,37 +30,33 @@ pub slave-step : (w : ℕ) (f : List ℕ) (t place : ℕ) → good_table_entry w
 unfolding walk_slave
 slave-step w f t place e = rw e
 
-refused : {w : ℕ} {f : List ℕ} {t place : ℕ} → (TableEntryFacts w f t place → ⊥) → EntryWalked w f t place false 0
-unfolding walk_of
-refused {w} {f} {t} {place} not_so =
-    record {
-      walk = sym (slave_stop w f t place (false_unless (λ e. not_so (table-entry_facts w f t place e))));
-      within = λ e. clash e refl;
-    }
+refused : {w : ℕ} {f : List ℕ} {t place : ℕ} → (TableEntryFacts w f t place → ⊥) → EntryWalked w f t place None
+unfolding ended
+refused {w} {f} {t} {place} not_so = record { walk = sym (slave_stop w f t place (false_unless (λ e. not_so (table-entry_facts w f t place e)))) }
 
-pub slave-elsewhere : {w : ℕ} {f : List ℕ} {t place n : ℕ} → NumberAt f t w n → (n ≡ place → ⊥) → EntryWalked w f t place false 0
+pub slave-elsewhere : {w : ℕ} {f : List ℕ} {t place n : ℕ} → NumberAt f t w n → (n ≡ place → ⊥) → EntryWalked w f t place None
 unfolding offset_at
 slave-elsewhere k h = refused (λ g. h (k.is ∙ g.offset))
 
-pub slave_sleep : {w : ℕ} {f : List ℕ} {t : ℕ} (place : ℕ) {n : ℕ} → ByteAt f (t + w + 1) n → 1 < n → EntryWalked w f t place false 0
+pub slave_sleep : {w : ℕ} {f : List ℕ} {t : ℕ} (place : ℕ) {n : ℕ} → ByteAt f (t + w + 1) n → 1 < n → EntryWalked w f t place None
 slave_sleep place k h = refused (λ g. omega (arith, g.sleeps, k.is))
 
-pub slave_unfilled : {w : ℕ} {f : List ℕ} {t : ℕ} (place : ℕ) {filled : Bool} → filled ≡ all_zero (part f (t + w + 2) (w - 2)) → filled ≡ false → EntryWalked w f t place false 0
+pub slave_unfilled : {w : ℕ} {f : List ℕ} {t : ℕ} (place : ℕ) {filled : Bool} → filled ≡ all_zero (part f (t + w + 2) (w - 2)) → filled ≡ false → EntryWalked w f t place None
 slave_unfilled place is e = refused (λ g. clash g.zeros (sym is ∙ e))
 
-pub slave_past : {w : ℕ} {f : List ℕ} {t place n : ℕ} → ByteAt f (t + w) n → length f < place + 2 * w * n → EntryWalked w f t place false 0
+pub slave_past : {w : ℕ} {f : List ℕ} {t place n : ℕ} → ByteAt f (t + w) n → length f < place + 2 * w * n → EntryWalked w f t place None
 slave_past {w} {f} {t} {place} {n} k h =
     let past : length f < place + 2 * w * get_or f (t + w) 0 = rw (← k.is) h in
     refused (λ g. omega (arith, g.within, past))
 
-module _ {w : ℕ} {f : List ℕ} {t place n offset asleep : ℕ} {filled good : Bool} {end : ℕ} (count : ByteAt f (t + w) n) (o : NumberAt f t w offset) (here : offset ≡ place)
+module _ {w : ℕ} {f : List ℕ} {t place n offset asleep : ℕ} {filled : Bool} {end : Option DirectoryEnd} (count : ByteAt f (t + w) n) (o : NumberAt f t w offset) (here : offset ≡ place)
     (z : ByteAt f (t + w + 1) asleep) (few : asleep ≤ 1) (is : filled ≡ all_zero (part f (t + w + 2) (w - 2))) (all : filled ≡ true)
-    (fits : place + 2 * w * n ≤ length f) (h : DirectoryWalked w f place n good end) where
+    (fits : place + 2 * w * n ≤ length f) (h : DirectoryWalked w f place n end) where
   offset-there : offset_at w f t ≡ place
   unfolding offset_at
   offset-there = sym o.is ∙ here
 
-  pub slave_walked : EntryWalked w f t place good end
+  pub slave_walked : EntryWalked w f t place end
   slave_walked =
       let within : place + 2 * w * get_or f (t + w) 0 ≤ length f = rw (← count.is) fits in
       let facts : TableEntryFacts w f t place = record {
@@ -73,29 +65,25 @@ module _ {w : ℕ} {f : List ℕ} {t place n offset asleep : ℕ} {filled good :
         zeros = sym is ∙ all;
         within = within;
       } in
-      record {
-        walk = sym (slave-step w f t place (table-entry_yes w f t place facts) ∙ rw (← count.is) (sym h.walk));
-        within = h.within;
-      }
+      record { walk = sym (slave-step w f t place (table-entry_yes w f t place facts) ∙ rw (← count.is) (sym h.walk)) }
 
 -- ---- its places
 
-pub slave-broken : {w : ℕ} {f : List ℕ} {t place : ℕ} {good : Bool} {end : ℕ} → EntryWalked w f t place good end → good ≡ false → SlaveWalked w f t place false 0 0 0
-unfolding walk_of
-slave-broken h e =
-    record {
-      walk = rw e at h.walk;
-      config = λ q. clash q refl;
-      document = λ q. clash q refl;
-      within = λ q. clash q refl;
-    }
+pub slave-broken : {w : ℕ} {f : List ℕ} {t place : ℕ} → EntryWalked w f t place None → broken ≡ walk_slave w f t place
+unfolding ended
+slave-broken h = h.walk
 
-pub slave_good : {w : ℕ} {f : List ℕ} {t place : ℕ} {good : Bool} {end : ℕ} → EntryWalked w f t place good end → good ≡ true → EntryWalked w f t place true end
-slave_good h e = rw e at h
+module _ {w : ℕ} {f : List ℕ} {t place : ℕ} {end : DirectoryEnd} (h : EntryWalked w f t place (Some end)) {fits : Bool} (is : fits ≡ fits_so_far f end.low end.place) where
+  pub slave-past-end : fits ≡ false → broken ≡ walk_slave w f t place
+  unfolding ended
+  slave-past-end e = rw (sym is ∙ e) at h.walk
 
-module _ {w : ℕ} {f : List ℕ} {t place end : ℕ} (fit : EntriesFit w f t 1) (h : EntryWalked w f t place true end) {n : ℕ} (count : ByteAt f (t + w) n) where
+  pub slave-ends : fits ≡ true → EntryEnds w f t place end.place
+  unfolding ended
+  slave-ends e = record { walk = rw (sym is ∙ e) at h.walk; within = unfold fits_so_far in leb-true end.place (length f) (both_right _ _ (sym is ∙ e)) }
+
+module _ {w : ℕ} {f : List ℕ} {t place end : ℕ} (fit : EntriesFit w f t 1) (h : EntryEnds w f t place end) {n : ℕ} (count : ByteAt f (t + w) n) where
   took : SlaveStep w f t place end
-  unfolding walk_of
   took = slave_took w f t place end (sym h.walk)
 
   pub slave-entries : EntriesFit w f place n
@@ -104,14 +92,15 @@ module _ {w : ℕ} {f : List ℕ} {t place end : ℕ} (fit : EntriesFit w f t 1)
   pub slave_arrives : Arrives w f place n
   slave_arrives = record { end = end; walk = rw count.is took.files }
 
-  pub slave-stated : {conf doc : ℕ} → conf ≡ stated_place w f configuration 3 0 place n → doc ≡ stated_place w f documentation 2 0 place n → SlaveWalked w f t place true end conf doc
+  pub slave-stated : {found : SlaveFound} → found.end ≡ end → found.configuration ≡ stated_place w f configuration 3 0 place n → found.documentation ≡ stated_place w f documentation 2 0 place n
+      → SlaveStated w f t place found
   unfolding stated_in
-  slave-stated conf-is doc-is =
+  slave-stated end-is conf-is doc-is =
       record {
-        walk = h.walk;
-        config = λ _. rw (took.facts.offset, ← count.is) conf-is;
-        document = λ _. rw (took.facts.offset, ← count.is) doc-is;
-        within = h.within;
+        walk = rw end-is h.walk;
+        config = rw (took.facts.offset, ← count.is) conf-is;
+        document = rw (took.facts.offset, ← count.is) doc-is;
+        within = rw end-is h.within;
       }
 
 -- the width as a literal: it is 2, or 4
@@ -122,21 +111,8 @@ module _ {w : ℕ} {f : List ℕ} {d k : ℕ} (fit : EntriesFit w f d k) where
   pub narrow_fits : w ≡ 2 → EntriesFit 2 f d k
   narrow_fits two = subst (λ (v : ℕ). EntriesFit v f d k) two fit
 
-  pub narrow_place : {place : ℕ} → w ≡ 2 → place ≤ 16384 * w → place ≤ 16384 * 2
-  narrow_place two h = omega arith
-
   pub wide_fits : (w ≡ 2 → ⊥) → EntriesFit 4 f d k
   wide_fits other = subst (λ (v : ℕ). EntriesFit v f d k) (other-is other) fit
-
-  pub wide_place : {place : ℕ} → place ≤ 16384 * w → place ≤ 16384 * 4
-  wide_place h = omega (arith, fit.width.most)
-
-  module _ {place : ℕ} {good : Bool} {end conf doc : ℕ} where
-    pub narrow_walked : w ≡ 2 → SlaveWalked 2 f d place good end conf doc → SlaveWalked w f d place good end conf doc
-    narrow_walked two h = subst (λ (v : ℕ). SlaveWalked v f d place good end conf doc) (sym two) h
-
-    pub wide_walked : (w ≡ 2 → ⊥) → SlaveWalked 4 f d place good end conf doc → SlaveWalked w f d place good end conf doc
-    wide_walked other h = subst (λ (v : ℕ). SlaveWalked v f d place good end conf doc) (sym (other-is other)) h
 
 -- the entries of a slave's directory fit
 pub directory-fits : {w : ℕ} {f : List ℕ} {t : ℕ} (place n : ℕ) → EntriesFit w f t 1 → place + 2 * w * n ≤ length f → EntriesFit w f place n
@@ -146,12 +122,6 @@ directory-fits place n fit h = record { width = fit.width; within = h; short = f
 pub entries_many : (w n : ℕ) → w ≤ 4 → 2 * w * n ≤ 8 * n
 entries_many w zero h = omega arith
 entries_many w (suc n) h = omega (arith, entries_many w n h)
-
-pub directory-size-fits : {w : ℕ} {f : List ℕ} {t at n : ℕ} → EntriesFit w f t 1 → ByteAt f at n → Fits w64 (2 * w * n)
-directory-size-fits {w} {n = n} fit b = record { fits = omega (arith, entries_many w n fit.width.most, b.byte) }
-
-pub directory-end-fits : {w : ℕ} {f : List ℕ} {t at place n : ℕ} → EntriesFit w f t 1 → ByteAt f at n → place ≤ 16384 * w → Fits w64 (place + 2 * w * n)
-directory-end-fits {w} {n = n} fit b h = record { fits = omega (arith, entries_many w n fit.width.most, b.byte, h, fit.width.most) }
 
 -- ---- all slaves
 
@@ -209,64 +179,31 @@ pub record Surveying (w : ℕ) (f : List ℕ) (count size slave entry place : �
   pub written : Written w f count slave entry places
   pub same : length places ≡ size
 
-pub surveying_start : {w : ℕ} {f : List ℕ} {count : ℕ} {places : List ℕ} → EntriesFit w f (header_size w) count → 2 * count ≤ length places →
-    Surveying w f count (length places) 0 (header_size w) (header_size w + 2 * w * count) places
-surveying_start {w} {f} {count} h room =
-    let same : count - 0 ≡ count = omega arith in
-    record {
-      at = omega arith;
-      most = omega arith;
-      within = h.within;
-      walk = rw same;
-      written = record { room = room; all = rw same };
-      same = refl;
-    }
-
-entries_rise : (w a b : ℕ) → a ≤ b → 2 * w * a ≤ 2 * w * b
-entries_rise w zero b l = omega arith
-entries_rise w (suc a) zero l = absurd (omega arith)
-entries_rise w (suc a) (suc b) l = omega (arith, entries_rise w a b (omega arith))
-
 module _ {w : ℕ} {f : List ℕ} {count size slave entry place : ℕ} {places : List ℕ} (h : Surveying w f count size slave entry place places) where
-  -- the table entry of a turn lies within the bytes
-  pub surveying_entry : EntriesFit w f (header_size w) count → slave < count → EntriesFit w f entry 1
-  surveying_entry fit more =
-      let rise : 2 * w * suc slave ≤ 2 * w * count = entries_rise w (suc slave) count more in
-      record { width = fit.width; within = omega (arith, h.at, rise, fit.within); short = fit.short }
-
-  pub surveying_place : EntriesFit w f (header_size w) count → place ≤ 16384 * w
-  surveying_place fit = omega (arith, h.within, fit.short)
-
-  pub surveying_stop : {good : Bool} {end conf doc : ℕ} → slave < count → SlaveWalked w f entry place good end conf doc → good ≡ false → SlavesWalked w f count false 0 places
+  pub surveying_stop : slave < count → broken ≡ walk_slave w f entry place → SlavesWalked w f count None places
   unfolding walk_of
-  surveying_stop {good} {end} more s e =
-      let stopped : broken ≡ walk_slave w f entry place = rw e at s.walk in
-      record {
-        walk = sym (slaves_stop w f entry place (count - slave) (omega arith) (sym stopped)) ∙ h.walk;
-        stated = λ t. clash t refl;
-      }
+  surveying_stop more stopped =
+      record { walk = sym (slaves_stop w f entry place (count - slave) (omega arith) (sym stopped)) ∙ h.walk; stated = tt }
 
-  pub surveying_next : {good : Bool} {end conf doc : ℕ} → slave < count → SlaveWalked w f entry place good end conf doc → good ≡ true →
-      Surveying w f count size (slave + 1) (entry + 2 * w) end (set (set places (2 * slave) conf) (2 * slave + 1) doc)
-  unfolding walk_of
-  surveying_next {good} {end} {conf} {doc} more s e =
-      let here : to end ≡ walk_slave w f entry place = rw e at s.walk in
+  pub surveying_next : {found : SlaveFound} → slave < count → SlaveStated w f entry place found →
+      Surveying w f count size (slave + 1) (entry + 2 * w) found.end (set (set places (2 * slave) found.configuration) (2 * slave + 1) found.documentation)
+  surveying_next {found} more s =
       let less : count - (slave + 1) ≡ count - slave - 1 = omega arith in
       record {
         at = omega (arith, h.at);
         most = omega arith;
-        within = s.within e;
-        walk = rw (less, ← (slaves-step w f entry place (count - slave) end (omega arith) (sym here))) h.walk;
-        written = written_next h.written more (s.config e) (s.document e);
+        within = s.within;
+        walk = rw (less, ← (slaves-step w f entry place (count - slave) found.end (omega arith) (sym s.walk))) h.walk;
+        written = written_next h.written more s.config s.document;
         same = simp length-set h.same;
       }
 
-  pub surveying_done : count ≤ slave → SlavesWalked w f count true place places
+  pub surveying_done : count ≤ slave → SlavesWalked w f count (Some place) places
   unfolding walk_of walk_slaves stated_places
   surveying_done none =
       let z : count - slave ≡ 0 = omega arith in
       let same : slave ≡ count = omega (arith, h.most) in
       record {
         walk = rw z at h.walk;
-        stated = λ _. rw (z, append-nil, same) at h.written.all;
+        stated = rw (z, append-nil, same) at h.written.all;
       }

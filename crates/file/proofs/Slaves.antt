@@ -1,12 +1,8 @@
 -- The slave table and the slaves in a list of bytes: the walk over the table arrives exactly where slaves with legal files stand as
 -- their encoding, and reading the table gives them back. First one slave, then n of them.
 -- Assumes nothing.
-use Prim.Native.Nat.{ℕ, zero, suc, ◌+◌, ◌*◌, ◌^◌, ◌≤◌, ◌<◌}
-use native.Mathlib.Nat.{add-zero}
-use native.Mathlib.Omega.{arith}
-use mathlib.Core.Path.{◌≡◌, refl, sym, ap, ap₂, ◌∙◌, subst}
-use mathlib.Core.List.{List, [], ◌∷◌}
-use lib.ListN.{length, get_or, replicate}
+use Rattle.std.proofs.Common.{ℕ, zero, suc, ◌+◌, ◌*◌, ◌^◌, ◌≤◌, ◌<◌, add-zero, arith, ◌≡◌, refl, sym, ap, ap₂, ◌∙◌, subst, List, [], ◌∷◌, length}
+use Rattle.std.proofs.Common.{get_or, replicate}
 use Rattle.file.specs.Rules.Bytes.{All, Bytes, bytes_of}
 use Rattle.file.specs.Rules.Layout.{entry_size_lem, fill_length}
 use Rattle.file.specs.Rules.Cluster.{File, Slave}

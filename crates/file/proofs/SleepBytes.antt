@@ -1,11 +1,6 @@
 -- Where a file keeps the sleep bytes of its slaves, over the offset width of the file.
 -- Assumes nothing.
-use Prim.Native.Nat.{ℕ, zero, suc, ◌+◌, ◌*◌, ◌≤◌, ◌<◌}
-use native.Mathlib.Omega.{arith}
-use mathlib.Core.Path.{◌≡◌, ap, ◌∙◌}
-use mathlib.Core.List.{List}
-use mathlib.Core.Bool.{true}
-use lib.ListN.{length, get_or}
+use Rattle.std.proofs.Common.{ℕ, zero, suc, ◌+◌, ◌*◌, ◌≤◌, ◌<◌, arith, ◌≡◌, ap, ◌∙◌, List, true, length, get_or}
 use Rattle.file.specs.Rules.Layout.{width_of, header_size, entry_size_lem}
 use Rattle.file.specs.Rules.Cluster.{no_slave_lem}
 use Rattle.file.specs.Rules.Decode.{slave_at, slaves_at, decode_at, decode}

@@ -1,11 +1,6 @@
 -- The sleep byte in an accepted file: where it stands, what it says, and what the file becomes where it is stored.
 -- Assumes nothing.
-use Prim.Native.Nat.{ℕ, ◌+◌, ◌*◌, ◌≤◌, ◌<◌}
-use native.Mathlib.Omega.{arith}
-use mathlib.Core.Path.{◌≡◌, refl, sym, ap, subst, ◌∙◌}
-use mathlib.Core.List.{List}
-use lib.Dec.{eqb}
-use lib.ListN.{length, get_or, set}
+use Rattle.std.proofs.Common.{ℕ, ◌+◌, ◌*◌, ◌≤◌, ◌<◌, arith, ◌≡◌, refl, sym, ap, subst, ◌∙◌, List, eqb, length, get_or, set}
 use Rattle.file.specs.Rules.Layout.{width_in, header_size}
 use Rattle.file.specs.Rules.Cluster.{is_awake}
 use Rattle.file.specs.Rules.Decode.{decode}
@@ -42,18 +37,12 @@ module _ {f : List ℕ} (h : AcceptedFile f) where
   pub edition-there : 2 < length f
   edition-there = omega (arith, header-room-at (at-edition h))
 
-  pub slave-fits : (s : ℕ) → s < slave_count f → s < slaves_room
-  slave-fits s l = omega (arith, few-slaves (decode f) h.legal, l)
-
 module _ {f : List ℕ} {s at : ℕ} (h : AcceptedFile f) (l : s < slave_count f) (p : SleepAt f s at) where
   abbrev w : ℕ
   w = width_in (decode f).edition
 
   here : BecomesAt w f (decode f)
   here = becomes_in refl h
-
-  pub sleep_byte : at < length f
-  sleep_byte = p.within
 
   pub awake-there : eqb (get_or f at 0) 0 ≡ is_awake (slave_of (decode f) s)
   unfolding is_awake

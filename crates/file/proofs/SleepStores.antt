@@ -1,12 +1,8 @@
 -- The sleep bytes in an encoding: each stands in its slave's table entry, and one stored there gives the encoding of the cluster with
 -- that slave awake or asleep. Nobody's files move by it. Over the offset width w.
 -- Assumes nothing.
-use Prim.Native.Nat.{ℕ, zero, suc, ◌+◌, ◌*◌, ◌≤◌, ◌<◌}
-use native.Mathlib.Nat.{add-zero}
-use native.Mathlib.Omega.{arith}
-use mathlib.Core.Path.{◌≡◌, refl, sym, ap, ◌∙◌}
-use mathlib.Core.List.{List, [], ◌∷◌, map}
-use lib.ListN.{length, get_or, set, replicate}
+use Rattle.std.proofs.Common.{ℕ, zero, suc, ◌+◌, ◌*◌, ◌≤◌, ◌<◌, add-zero, arith, ◌≡◌, refl, sym, ap, ◌∙◌, List, [], ◌∷◌, map, length, get_or, set}
+use Rattle.std.proofs.Common.{replicate}
 use Rattle.file.specs.Rules.Bytes.{bytes_of}
 use Rattle.file.specs.Rules.Layout.{entry_size_lem, fill_length}
 use Rattle.file.specs.Rules.Cluster.{Slave, Cluster, bytes_in, physical_name}

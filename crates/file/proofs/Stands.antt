@@ -1,16 +1,9 @@
 -- A list of bytes that stands in another at a place, with laws for joined lists, single bytes, zeros and numbers. The laws of encoding
 -- and decoding are inductions along the running place through these.
 -- Assumes nothing.
-use Prim.Native.Nat.{ℕ, zero, suc, ◌+◌, ◌-◌, ◌^◌, ◌≤◌, ◌<◌}
-use native.Mathlib.Nat.{add-zero, zero-add}
-use native.Mathlib.Omega.{arith}
-use mathlib.Core.Path.{◌≡◌, sym, ap, ◌∙◌, subst}
-use mathlib.Core.List.{List, [], ◌∷◌, ◌++◌}
-use mathlib.Core.Bool.{true}
-use lib.ListN.{length, get_or, replicate, length-append, length-replicate, get_or-append}
-use lib.Seq.{ext_get_or, get_or-append-add}
-use lib.Dec.{ltb}
-use borrow.Author.Tests.{ltb-true, ltb-false}
+use Rattle.std.proofs.Common.{ℕ, zero, suc, ◌+◌, ◌-◌, ◌^◌, ◌≤◌, ◌<◌, add-zero, zero-add, arith, ◌≡◌, sym, ap, ◌∙◌, subst, List, [], ◌∷◌, ◌++◌, true}
+use Rattle.std.proofs.Common.{length, get_or, replicate, length-append, ext_get_or, get_or-append-add, ltb, ltb-true, ltb-false}
+use lib.ListN.{length-replicate, get_or-append}
 use Rattle.file.specs.Rules.Bytes.{Bytes, number_of, bytes_of, part, all_zero}
 use Rattle.file.proofs.Order.{by_case}
 use Rattle.file.proofs.NumberLaws.{part_length}

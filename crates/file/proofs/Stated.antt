@@ -1,13 +1,8 @@
 -- The places that a walked directory states for a file, said of the files it holds.
 -- Assumes nothing.
-use Prim.Native.Nat.{ℕ, zero, suc, ◌+◌, ◌≤◌, ◌<◌}
-use mathlib.Core.Path.{◌≡◌, refl, sym, ◌∙◌}
-use mathlib.Core.List.{List, [], ◌∷◌}
-use mathlib.Core.Bool.{cond}
-use native.Mathlib.Omega.{arith}
-use borrow.Author.Tests.{eq-eqb, ne_eqb, eqb-true, eqb-false, leb-true, leb-false}
-use lib.ListN.{length, get_or, length-append}
-use lib.Dec.{leb, eqb}
+use Rattle.std.proofs.Common.{ℕ, zero, suc, ◌+◌, ◌≤◌, ◌<◌, ◌≡◌, refl, sym, ◌∙◌, List, [], ◌∷◌, cond, arith, eq-eqb, ne_eqb, eqb-true, leb-true}
+use Rattle.std.proofs.Common.{leb-false, length, get_or, length-append, leb, eqb}
+use borrow.Author.Tests.{eqb-false}
 use Rattle.file.specs.Rules.Bytes.{part}
 use Rattle.file.specs.Rules.Layout.{entry_size_lem}
 use Rattle.file.specs.Rules.Cluster.{File, last_record, bytes_among}

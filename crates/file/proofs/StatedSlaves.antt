@@ -1,14 +1,8 @@
 -- The places that a walked table and its directories state for 0x08 and 0x3D: what they say of the slaves that the file holds.
 -- Assumes nothing.
-use Prim.Native.Nat.{ℕ, zero, suc, ◌+◌, ◌*◌, ◌-◌, ◌≤◌, ◌<◌}
-use mathlib.Core.Path.{◌≡◌, refl, sym, ap, ap₂, subst}
-use mathlib.Core.List.{List, ◌∷◌, ◌++◌, map}
-use mathlib.Core.Bool.{Bool, true, false, not}
-use native.Mathlib.Omega.{arith}
-use borrow.Author.Tests.{eq-eqb, ne_eqb, eqb-false, le-leb, lt-leb}
-use lib.ListN.{length, get_or}
-use lib.Seq.{drop_at, take_at}
-use lib.Dec.{leb, eqb}
+use Rattle.std.proofs.Common.{ℕ, zero, suc, ◌+◌, ◌*◌, ◌-◌, ◌≤◌, ◌<◌, ◌≡◌, refl, sym, ap, ap₂, subst, List, ◌∷◌, ◌++◌, map, Bool, true, false, not}
+use Rattle.std.proofs.Common.{arith, eq-eqb, ne_eqb, le-leb, length, get_or, drop_at, take_at, leb, eqb}
+use borrow.Author.Tests.{eqb-false, lt-leb}
 use Rattle.file.specs.Rules.Order.{both, either}
 use Rattle.file.specs.Rules.Bytes.{All, all_empty, number_of, part}
 use Rattle.file.specs.Rules.Bytes

@@ -1,16 +1,8 @@
 -- Stores in an accepted file: what it becomes. One law for each store, from the laws of encodings and of legality.
 -- Assumes nothing.
-use Prim.Native.Nat.{ℕ, ◌+◌, ◌*◌, ◌≤◌, ◌<◌}
-use native.Mathlib.Omega.{arith}
-use mathlib.Core.Path.{◌≡◌, ap, ◌∙◌}
-use mathlib.Core.Logic.{◌≢◌}
-use mathlib.Core.Bool.{true}
-use mathlib.Core.List.{List}
-use lib.ListN.{length, get_or, set}
+use Rattle.std.proofs.Common.{ℕ, ◌+◌, ◌*◌, ◌≤◌, ◌<◌, arith, ◌≡◌, ap, ◌∙◌, ◌≢◌, true, List, length, get_or, set}
 use lib.Seq.{sets}
 use Rattle.file.specs.Rules.Bytes.{Byte, Bytes}
-use mir.Syntax.{w64}
-use mir.Val.{Fits}
 use Rattle.file.specs.Rules.Layout.{width_in, record_size}
 use Rattle.file.specs.Rules.Layout.{epoch_place, flag_place, pending_name_place, pending_pb2_place, pending_pb3_place}
 use Rattle.file.specs.Inner.Layout.{logical_name_place}
@@ -38,17 +30,6 @@ unfolding with_pending
 pending-byte c flag name pb2 pb3 p = p.pb2
 
 -- ---- the header: the epoch and, behind it, the pending operation
-
-module _ {f : List ℕ} {at : ℕ} (e : EpochAt f at) where
-  -- each of its bytes is within the file
-  pub header-byte : (k : ℕ) → k < 8 → at + k < length f
-  header-byte k inside = omega (arith, e.room)
-
-  pub epoch-byte : at < length f
-  epoch-byte = omega (arith, e.room)
-
-  pub header-byte-fits : (k : ℕ) → k < 8 → Fits w64 (at + k)
-  header-byte-fits k inside = record { fits = omega (arith, e.low) }
 
 module _ {f : List ℕ} {at : ℕ} (h : AcceptedFile f) (e : EpochAt f at) where
   abbrev w : ℕ

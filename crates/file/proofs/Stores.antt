@@ -2,14 +2,10 @@
 -- of the cluster with that byte put. One induction, over files and over slaves, finds the file in the encoding before and after
 -- the store at once; reading and storing are laws of lists from there.
 -- Assumes nothing.
-use Prim.Native.Nat.{ℕ, zero, suc, ◌+◌, ◌*◌, ◌≤◌, ◌<◌}
-use native.Mathlib.Omega.{arith}
-use native.Mathlib.Nat.{zero-add, suc-add, add-zero}
-use mathlib.Core.Path.{◌≡◌, refl, ap, ◌∙◌}
-use mathlib.Core.List.{List, [], ◌∷◌, ◌++◌, append_assoc}
-use lib.ListN.{length, get_or, set, drop, length-drop, length-append, get_or-append}
-use lib.Seq.{get_or-append-add, drop-append-add, drop-append-le, take-append-le, set-append_left, sets}
-use lib.Dec.{eqb}
+use Rattle.std.proofs.Common.{ℕ, zero, suc, ◌+◌, ◌*◌, ◌≤◌, ◌<◌, arith, zero-add, suc-add, add-zero, ◌≡◌, refl, ap, ◌∙◌, List, [], ◌∷◌, ◌++◌}
+use Rattle.std.proofs.Common.{append_assoc, length, get_or, set, drop, length-drop, length-append, get_or-append-add, eqb}
+use lib.ListN.{get_or-append}
+use lib.Seq.{drop-append-add, drop-append-le, take-append-le, set-append_left, sets}
 use Rattle.file.specs.Rules.Bytes.{part}
 use Rattle.file.specs.Rules.Layout.{entry_size_lem}
 use Rattle.file.specs.Rules.Cluster.{File, Slave, Cluster, bytes_among, bytes_in}

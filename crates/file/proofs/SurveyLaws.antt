@@ -9,11 +9,10 @@ use borrow.Author.Tests.{le-leb, lt-leb, eqb-true, eqb-false}
 use lib.Dec.{leb, eqb}
 use lib.ListN.{length, get_or, take}
 use lib.Seq.{get_or-take}
+use Rattle.std.specs.Prelude.{Option, Some, None}
 use Rattle.file.specs.Rules.Order.{first_of}
 use Rattle.file.specs.Rules.Layout.{width_in, OffsetWidth, edition_of, header_size, entry_size_lem, max_slaves, max_length}
 use Rattle.file.specs.Rules.Bytes.{All, Bytes}
-use mir.Syntax.{w64}
-use mir.Val.{Fits}
 use Rattle.file.specs.Inner.Numbers.{ByteAt}
 use Rattle.file.specs.Rules.Cluster.{physical_name}
 use Rattle.file.specs.Rules.Decode.{slaves_at, decode_at}
@@ -35,7 +34,6 @@ use Rattle.file.proofs.RefusalLaws.{refusal_some}
 use Rattle.file.proofs.AcceptedFacts.{layout-whole}
 use Rattle.file.proofs.Arrivals.{broken_arrives, length-slaves_at}
 use Rattle.file.proofs.StatedSlaves.{needed-places, stated-names, stated-config, stated-document}
-use Rattle.file.proofs.SlaveWalkLaws.{entries_many}
 use Rattle.file.proofs.HeaderLaws.{after-header}
 use Rattle.file.proofs.Accepted.{accepted-becomes}
 use Rattle.file.proofs.AtWidth.{ground_at, decode-at}
@@ -66,13 +64,6 @@ count_fits {w} {f} {places} {n} h fit k = omega (arith, header-sizes w f h, k.is
 pub file-fits : {w : ℕ} {f : List ℕ} → GoodHeader w f → length f ≤ max_length w
 file-fits {w} {f} h = omega (arith, header-sizes w f h)
 
--- the table's size and its end are numbers of the machine
-pub table-size-fits : {w : ℕ} {f : List ℕ} {at n : ℕ} → OffsetWidth w → ByteAt f at n → Fits w64 (2 * w * n)
-table-size-fits {w} {n = n} width b = record { fits = omega (arith, entries_many w n width.most, b.byte) }
-
-pub table-end-fits : {w : ℕ} {f : List ℕ} {at n : ℕ} → OffsetWidth w → ByteAt f at n → Fits w64 (8 + 4 * w + 2 * w * n)
-table-end-fits {w} {n = n} width b = record { fits = omega (arith, entries_many w n width.most, b.byte, width.most) }
-
 pub table_fits : {w : ℕ} {f : List ℕ} {n : ℕ} → OffsetWidth w → GoodHeader w f → 8 + 4 * w + 2 * w * n ≤ length f → EntriesFit w f (header_size w) n
 table_fits width h fits = record { width = width; within = fits; short = file-fits h }
 
@@ -96,27 +87,27 @@ body_short {w} {f} {n} places k h =
     }
 
 module _
-    {w : ℕ} {f : List ℕ} {n : ℕ} {good : Bool} {end : ℕ} {places : List ℕ}
-    (k : ByteAt f 3 n) (fits : header_size w + entry_size_lem w * n ≤ length f) (walked : SlavesWalked w f n good end places) where
-  whole_is : walk_file w f ≡ walk_of good end
+    {w : ℕ} {f : List ℕ} {n : ℕ} {end : Option ℕ} {places : List ℕ}
+    (k : ByteAt f 3 n) (fits : header_size w + entry_size_lem w * n ≤ length f) (walked : SlavesWalked w f n end places) where
+  whole_is : walk_file w f ≡ walk_of end
   whole_is =
       let count = k.is in
       let there : header_size w + entry_size_lem w * get_or f 3 0 ≤ length f = rw (← count) fits in
       walk-file w f there ∙ rw (← count) (sym walked.walk)
 
-  pub body_broken : good ≡ false → BodyWalked w f false places
+  pub body_broken : end ≡ None → BodyWalked w f false places
   unfolding walk_of
   body_broken e = record { broke = λ _. layout-broken w f (λ q. broken_arrives (rw (whole_is, e) at q)); whole = λ t. clash t refl }
 
-  pub body_walked : {t : Bool} → GoodHeader w f → good ≡ true → t ≡ eqb end (length f) → BodyWalked w f t places
+  pub body_walked : {place : ℕ} {t : Bool} → GoodHeader w f → end ≡ Some place → t ≡ eqb place (length f) → BodyWalked w f t places
   unfolding walk_of
-  body_walked header e same =
+  body_walked {place} header e same =
       record {
-        broke = λ t. layout-broken w f (λ q. eqb-false end (length f) (sym same ∙ t) (arrived (rw (whole_is, e) at q)));
+        broke = λ t. layout-broken w f (λ q. eqb-false place (length f) (sym same ∙ t) (arrived (rw (whole_is, e) at q)));
         whole = λ t. record {
           header = header;
-          walk = whole_is ∙ rw (e, eqb-true end (length f) (sym same ∙ t));
-          stated = rw (← k.is) (walked.stated e);
+          walk = whole_is ∙ rw (e, eqb-true place (length f) (sym same ∙ t));
+          stated = rw (← k.is) (rw e at walked.stated);
         };
       }
 

@@ -1,22 +1,15 @@
 -- The walk of a directory, step by step: what a loop along its entries keeps, and one law for each way through a turn.
 -- Assumes nothing.
-use Prim.Native.Nat.{ℕ, zero, suc, ◌+◌, ◌*◌, ◌-◌, ◌≤◌, ◌<◌}
-use mathlib.Core.Path.{◌≡◌, refl, sym, ◌∙◌}
-use mathlib.Core.List.{List}
-use mathlib.Core.Bool.{Bool, true, false, cond}
-use native.Mathlib.Omega.{arith}
-use native.Mathlib.Numerals.{add-one}
-use borrow.Author.Tests.{eq-eqb, ne_eqb, le-leb, lt-leb, leb-true, eqb-true}
-use lib.ListN.{length, get_or}
-use lib.Dec.{leb, eqb}
+use Rattle.std.proofs.Common.{ℕ, zero, suc, ◌+◌, ◌*◌, ◌-◌, ◌≤◌, ◌<◌, ◌≡◌, refl, sym, ◌∙◌, Some, None, List, Bool, true, false, cond, arith, add-one}
+use Rattle.std.proofs.Common.{eq-eqb, ne_eqb, le-leb, leb-true, eqb-true, length, get_or, leb, eqb}
+use borrow.Author.Tests.{lt-leb}
 use Rattle.file.specs.Rules.Bytes.{all_zero, part}
-use mir.Syntax.{w64}
-use mir.Val.{Fits}
 use Rattle.file.specs.Inner.Numbers.{ByteAt, NumberAt}
 use Rattle.file.specs.Rules.Layout.{entry_size_lem}
 use Rattle.file.specs.Rules.Decode.{offset_at, file_size}
-use Rattle.file.specs.Rules.FileGrounds.{Walk, broken, to, good_entry, walk_directory}
-use Rattle.file.specs.Inner.Checked.{EntriesFit, states, stated_place, next_entry, fits_so_far, walk_of, DirectoryWalked}
+use Rattle.file.specs.Rules.FileGrounds.{Walk, broken, good_entry, walk_directory}
+use Rattle.file.specs.Inner.Checked.{EntriesFit, states, stated_place, next_entry, fits_so_far, ended, DirectoryWalked}
+use Rattle.file.specs.declared.walk.DirectoryEnd.{DirectoryEnd}
 use Rattle.file.proofs.Order.{by_case, clash, both_left, both_right, both_true, both-next, both_false_left, both_false_right}
 use Rattle.file.proofs.Facts.{false_unless, EntryFacts, entry_facts, entry_yes}
 
@@ -131,8 +124,10 @@ entries-few : (w k : ℕ) → 2 ≤ w → 4 * k ≤ 2 * w * k
 entries-few w zero h = omega arith
 entries-few w (suc k) h = omega (arith, entries-few w k h)
 
-pub fit-few : {w : ℕ} {f : List ℕ} {d k : ℕ} → EntriesFit w f d k → k ≤ 16384
-fit-few {w} {f} {d} {k} fit = omega (arith, fit.within, fit.short, fit.width.most, entries-few w k fit.width.least)
+pub entries_rise : (w a b : ℕ) → a ≤ b → 2 * w * a ≤ 2 * w * b
+entries_rise w zero b l = omega arith
+entries_rise w (suc a) zero l = absurd (omega arith)
+entries_rise w (suc a) (suc b) l = omega (arith, entries_rise w a b (omega arith))
 
 pub more_left : (w a b left : ℕ) → a + 2 * w * left ≡ b → a < b → (l : ℕ) × (left ≡ suc l)
 more_left w a b zero e h = absurd (omega arith)
@@ -164,11 +159,12 @@ walking_start {w} {f} {d} {k} fit =
     record { left = k; at = refl; small = omega (arith, h, fit.short, fit.width.most); walk = rw all }
 
 -- a directory without entries
-pub walking_none : {w : ℕ} {f : List ℕ} {d k : ℕ} → EntriesFit w f d k → k ≡ 0 → DirectoryWalked w f d k true d
-unfolding walk_of walk_directory
-walking_none {w} {f} {d} {k} fit none =
+pub walking_none : {w : ℕ} {f : List ℕ} {d k : ℕ} {end : DirectoryEnd} → EntriesFit w f d k → k ≡ 0 → end.low ≡ 0 → end.place ≡ d → DirectoryWalked w f d k (Some end)
+unfolding ended walk_directory fits_so_far
+walking_none {w} {f} {d} {k} fit none low place =
     let here : d + 2 * w * 0 ≡ d = omega arith in
-    record { walk = rw (none, here); within = λ _. omega (arith, fit.within) }
+    let all : fits_so_far f 0 d ≡ true = both_true (le-leb 0 64 (omega arith)) (le-leb d (length f) (omega (arith, fit.within))) in
+    record { walk = rw (low, place, none, here, all) }
 
 -- the first entry of one that has some
 pub walking_first : (w d k : ℕ) → 2 ≤ w → (k ≡ 0 → ⊥) → d < d + 2 * w * k
@@ -180,36 +176,20 @@ module _ {w : ℕ} {f : List ℕ} {d k entry low place : ℕ} (fit : EntriesFit 
   pub walking_entry : entry < d + 2 * w * k → EntriesFit w f entry 1
   walking_entry more = entry-fits fit entry h.left h.at more
 
-  -- the place of the next turn is a number of the machine
-  pub walking_fits : {at last : ℕ} → ByteAt f at last → Fits w64 (place + 4 * (last + 1))
-  walking_fits b = record { fits = omega (arith, h.small, fit-few fit, b.byte) }
-
   some_left : entry < d + 2 * w * k → 0 < h.left
   some_left more = let m = more_left w entry (d + 2 * w * k) h.left h.at more in omega (arith, m.1)
 
-  pub walking_stop : {t : Bool} → entry < d + 2 * w * k → t ≡ next_entry w f entry low place → t ≡ false → DirectoryWalked w f d k false 0
-  unfolding walk_of
+  pub walking_stop : {t : Bool} → entry < d + 2 * w * k → t ≡ next_entry w f entry low place → t ≡ false → DirectoryWalked w f d k None
+  unfolding ended
   walking_stop more is e =
       let stopped = walk_stop w f entry low place h.left (some_left more) (good_other w f entry low place (sym is ∙ e)) in
-      record {
-        walk = sym (held-broken f low place) ∙ (rw stopped at h.walk);
-        within = λ t. clash t refl;
-      }
+      record { walk = sym (held-broken f low place) ∙ (rw stopped at h.walk) }
 
-  pub walking_done : {t : Bool} → d + 2 * w * k ≤ entry → t ≡ fits_so_far f low place → DirectoryWalked w f d k t place
-  unfolding walk_of walk_directory held fits_so_far
-  walking_done {t} none is =
+  pub walking_done : {end : DirectoryEnd} → d + 2 * w * k ≤ entry → end.low ≡ low → end.place ≡ place → DirectoryWalked w f d k (Some end)
+  unfolding ended held walk_directory
+  walking_done none is at =
       let z : h.left ≡ 0 = none_left w entry (d + 2 * w * k) h.left fit.width.least h.at none in
-      let ended : cond (fits_so_far f low place) (to place) broken ≡ walk_directory w f d 0 (d + 2 * w * k) k = rw z at h.walk in
-      by_case t
-      (λ e. record {
-        walk = rw e (rw (sym is ∙ e) at ended);
-        within = λ _. leb-true place (length f) (both_right _ _ (sym is ∙ e));
-      })
-      (λ e. record {
-        walk = rw e (rw (sym is ∙ e) at ended);
-        within = λ q. clash q e;
-      })
+      record { walk = rw (is, at) (rw z at h.walk) }
 
   pub walking_next : {t : Bool} {number last : ℕ} → entry < d + 2 * w * k → t ≡ next_entry w f entry low place → t ≡ true →
       ByteAt f entry number → ByteAt f (entry + 1) last → Walking w f d k (entry + 2 * w) (number + 1) (place + 4 * (last + 1))
@@ -240,14 +220,8 @@ module _ {w : ℕ} {f : List ℕ} {d k : ℕ} (fit : EntriesFit w f d k) (some :
   pub first-number : d < length f
   first-number = omega (arith, first_entry.within, fit.width.least)
 
-  pub first_records : d + 1 < length f
-  first_records = omega (arith, first_entry.within, fit.width.least)
-
-  pub first_stop : {t : Bool} → t ≡ next_entry w f d 0 (d + 2 * w * k) → t ≡ false → DirectoryWalked w f d k false 0
+  pub first_stop : {t : Bool} → t ≡ next_entry w f d 0 (d + 2 * w * k) → t ≡ false → DirectoryWalked w f d k None
   first_stop is e = walking_stop fit (walking_start fit) one-there is e
-
-  pub first_fits : {at last : ℕ} → ByteAt f at last → Fits w64 (d + 2 * w * k + 4 * (last + 1))
-  first_fits b = walking_fits fit (walking_start fit) b
 
   pub first_next : {t : Bool} {number last : ℕ} → t ≡ next_entry w f d 0 (d + 2 * w * k) → t ≡ true →
       ByteAt f d number → ByteAt f (d + 1) last → Walking w f d k (d + 2 * w) (number + 1) (d + 2 * w * k + 4 * (last + 1))

@@ -8,10 +8,8 @@ pub fn copy(part: &[u8], buffer: &mut [u8]) -> usize
     ensures count { result ≡ length part.now }
     ensures copied { buffer.new ≡ take (length part.now) part.now ++ drop (length part.now) buffer.old }
 {
-    let mut done = 0;
-    while done < part.len() {
+    for done in 0..part.len() {
         buffer[done] = part[done];
-        done = done + 1;
     }
-    done
+    part.len()
 }

@@ -17,15 +17,13 @@ fn is_seen_twice(file: &[u8], places: &SlavePlaces) -> bool
     ensures { result ≡ has_repeat (held_names (logical_names (decode file.now))) }
 {
     let mut seen = [false; NAME_VALUES];
-    let mut slave = slave_count(file);
-    while 0 < slave {
-        slave = slave - 1;
+    for slave in (0..slave_count(file)).rev() {
         let name = logical_name(file, places, slave);
         let mark = name.0 as usize;
         if seen[mark] {
             return true;
         }
-        seen[mark] = name.0 != LogicalName::UNNAMED.0;
+        seen[mark] = name != LogicalName::UNNAMED;
     }
     false
 }
@@ -43,9 +41,9 @@ pub fn is_held_twice(file: &[u8], places: &SlavePlaces) -> bool
         return is_seen_twice(file, places);
     }
     let first = logical_name(file, places, 0);
-    if first.0 == LogicalName::UNNAMED.0 {
+    if first == LogicalName::UNNAMED {
         return false;
     }
     let second = logical_name(file, places, 1);
-    first.0 == second.0
+    first == second
 }

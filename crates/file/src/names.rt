@@ -37,12 +37,10 @@ fn is_named_from(file: &[u8], places: &[u16], from: usize, name: u64) -> bool
     requires { NamesStand file.now places.now × (from ≤ length places.now / places_each) }
     ensures { result ≡ is_among name (drop from (names_at file.now places.now)) }
 {
-    let mut slave = from;
-    while slave < places.len() / PLACES_EACH {
+    for slave in from..places.len() / PLACES_EACH {
         if name_at(file, places, slave) == name {
             return true;
         }
-        slave = slave + 1;
     }
     false
 }
@@ -76,16 +74,15 @@ pub fn equal_names(file: &[u8], places: &[u16]) -> bool
     requires { NamesStand file.now places.now }
     ensures { result ≡ has_repeat (names_at file.now places.now) }
 {
-    let mut slave = places.len() / PLACES_EACH;
-    if slave < 2 {
+    let count = places.len() / PLACES_EACH;
+    if count < 2 {
         return false;
     }
-    if slave == 2 {
+    if count == 2 {
         return name_at(file, places, 0) == name_at(file, places, 1);
     }
     let mut seen = [false; REMAINDERS as usize];
-    while 0 < slave {
-        slave = slave - 1;
+    for slave in (0..count).rev() {
         let remainder = remainder_at(file, places, slave);
         if is_repeated(file, places, slave, seen[remainder]) {
             return true;

@@ -37,7 +37,8 @@ pub fn offset_at(file: &[u8], width: usize, at: usize) -> usize
     (high << 16) | low
 }
 
-// The eight-byte number at a place. Eight shifted bytes joined in one row are compiled to one load; two halves of four are not.
+// The eight-byte number at a place. Eight shifted bytes joined in one row are compiled to one load; two halves of four are not. Each shift stands
+// here, and in `u16_at`, and is not left to `from_be_bytes`: the edits u64_second_byte_by_47_bits and u16_high_byte_by_7_bits change one of them.
 pub fn u64_at(file: &[u8], at: usize) -> u64
     requires { at + long_width ≤ length file.now }
     ensures { NumberAt file.now at long_width result }

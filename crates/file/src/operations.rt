@@ -20,6 +20,7 @@ pub fn operation_of(pb2: u8) -> Operation
     Operation(pb2 % OPERATION_VALUES)
 }
 
+#[tactic(auto, unfolding(crate::specs::Rules::Cluster::pb2_of))]
 pub fn pb2_of(file: FileNumber, operation: Operation) -> u8
     requires { Byte (pb2_of (file_in file) (operation_in operation)) }
     ensures { result ≡ pb2_of (file_in file) (operation_in operation) }
@@ -27,15 +28,17 @@ pub fn pb2_of(file: FileNumber, operation: Operation) -> u8
     OPERATION_VALUES * file.0 + operation.0
 }
 
-// Operation 3, or any above it.
+// Operation 3, or any above it: the bytes are compared, since an operation has no order of its own.
+#[tactic(auto, unfolding(crate::specs::Rules::Cluster::no_operation))]
 pub fn is_no_operation(operation: Operation) -> bool
     ensures { result ≡ no_operation (operation_in operation) }
 {
     Operation::EXECUTE.0 < operation.0
 }
 
+#[tactic(auto, unfolding(crate::specs::Rules::Cluster::broadcast_read, crate::specs::Rules::Order::both))]
 pub fn is_broadcast_read(operation: Operation, name: LogicalName) -> bool
     ensures { result ≡ broadcast_read (operation_in operation) (name_in_lem name) }
 {
-    operation.0 == Operation::READ.0 && name.0 == LogicalName::BROADCAST.0
+    operation == Operation::READ && name == LogicalName::BROADCAST
 }

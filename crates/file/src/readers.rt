@@ -120,11 +120,9 @@ pub fn logical_names(file: &[u8], places: &SlavePlaces, names: &mut [u8])
     ensures { names.new ≡ logical_names (decode file.now) ++ drop (slave_count file.now) names.old }
 {
     let count = slave_count(file);
-    let mut slave = 0;
-    while slave < count {
+    for slave in 0..count {
         let name = logical_name(file, places, slave);
         names[slave] = name.0;
-        slave = slave + 1;
     }
 }
 

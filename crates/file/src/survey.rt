@@ -21,12 +21,10 @@ fn is_missing(places: &[u16]) -> bool
     ensures { result ≡ is_among 0 places.now }
 {
     let mut missing = false;
-    let mut at = 0;
-    while at < places.len() {
-        if places[at] == 0 {
+    for place in places {
+        if *place == 0 {
             missing = true;
         }
-        at = at + 1;
     }
     missing
 }
@@ -42,11 +40,10 @@ fn walk_body(file: &[u8], width: usize, places: &mut [u16]) -> bool
     if file.len() < header + size * count {
         return false;
     }
-    let walk = walk_slaves(file, width, count, places);
-    if !walk.good {
+    let Some(end) = walk_slaves(file, width, count, places) else {
         return false;
-    }
-    walk.end == file.len()
+    };
+    end == file.len()
 }
 
 // Grounds 7 and 8, by the places that the directories of all slaves state.

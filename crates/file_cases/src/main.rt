@@ -6,32 +6,32 @@
 
 mod describe;
 
-use case_input::fields::{after, filled, input_buffer, is, line, read_full};
+use case_input::fields::{filled, is};
+use case_input::lines::each_line;
 use case_input::show::{number, text};
 use describe::describe;
-use file::survey::{FileAnswer, check};
+use file::survey::check;
 use std::io;
 
 // One byte more than the longest file of either edition.
 const FILE: usize = 65537;
 
 fn checked(out: &impl Print, file: &[u8]) -> io::Result<()> {
-    let answer = check(file);
-    match answer {
+    match check(file) {
         Ok(()) => number(out, 0),
-        Err(why) => number(out, why.0 as u64),
+        Err(why) => number(out, why.number() as u64),
     }
 }
 
 fn answer(out: &impl Print, case: &[u8], file: &[u8]) -> io::Result<()> {
-    text(out, b" =")?;
+    print!(out; " =")?;
     if is(case, b"check") {
-        checked(out, file)?;
+        checked(out, file)
+    } else if is(case, b"readers") {
+        describe(out, file)
+    } else {
+        Ok(())
     }
-    if is(case, b"readers") {
-        describe(out, file)?;
-    }
-    Ok(())
 }
 
 fn run(out: &impl Print, case: &[u8]) -> io::Result<()> {
@@ -41,20 +41,9 @@ fn run(out: &impl Print, case: &[u8]) -> io::Result<()> {
     if !is(case, b"#") {
         answer(out, case, &file[..size])?;
     }
-    text(out, b"\n")
-}
-
-fn cases(out: &impl Print, input: &[u8]) -> io::Result<()> {
-    let mut at = 0;
-    while at < input.len() {
-        run(out, line(input, at))?;
-        at = after(input, at);
-    }
-    Ok(())
+    println!(out)
 }
 
 fn main(rt: HostRuntime) -> io::Result<()> {
-    let mut input = input_buffer();
-    let n = read_full(&mut rt.stdin(), &mut input)?;
-    cases(&rt, &input[..n])
+    each_line(rt.alloc(), rt.stdin(), |case| run(&rt, case))
 }

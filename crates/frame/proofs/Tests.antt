@@ -8,7 +8,9 @@ use native.Mathlib.Omega.{arith}
 use lib.ListN.{length, get_or}
 use lib.Dec.{eqb}
 use borrow.Author.Tests.{lt-ltb, le-ltb, eq-eqb, ne_eqb, eqb-true, leb-false, lt-leb, not-false}
-use Rattle.file.proofs.Order.{either_left, either-next, either_false, either_false_right}
+use Rattle.std.specs.Ordering.{is_lt, nat_cmp}
+use Rattle.std.proofs.lemmas.Bool.Decides.{nat_tests}
+use Rattle.file.proofs.Order.{either_left, either_false, either_false_right}
 use Rattle.frame.specs.Rules.Frames.{frame_size, between}
 use Rattle.frame.specs.Rules.Fireworks.{address_firework}
 use Rattle.frame.specs.Rules.FrameGrounds.{short_frame_buffer, no_address, wrong_frame_length, wrong_check, no_operation, no_file_number}
@@ -41,10 +43,6 @@ module _ (frame : List ℕ) where
   unfolding no_address
   address h e = either_false (ne_eqb _ _ h) (agrees e)
 
-  pub first_tells : (length frame ≡ 0 → ⊥) → not (eqb (get_or frame 0 0) address_firework) ≡ no_address frame
-  unfolding no_address
-  first_tells h = sym (either-next _ (ne_eqb _ _ h))
-
   pub address-first : no_address frame ≡ false → get_or frame 0 0 ≡ address_firework
   unfolding no_address
   address-first p = agree _ _ (either_false_right _ _ p)
@@ -67,10 +65,6 @@ module _ (frame : List ℕ) where
     unfolding wrong_check
     right_check same = agrees (same ∙ made)
 
-  pub check_tells : (f : List ℕ → ℕ) {check : ℕ} → check ≡ f (between frame) → not (eqb (get_or frame 5 0) check) ≡ wrong_check f frame
-  unfolding wrong_check
-  check_tells f made = rw made
-
   pub check-is : (f : List ℕ → ℕ) → wrong_check f frame ≡ false → get_or frame 5 0 ≡ f (between frame)
   unfolding wrong_check
   check-is f p = agree _ _ p
@@ -91,3 +85,11 @@ module _ (file : ℕ) where
   pub file-fits : file ≤ 63 → no_file_number file ≡ false
   unfolding no_file_number
   file-fits h = le-ltb _ _ h
+
+-- the code's comparison of a file number with the last one
+module _ {t : Bool} (file : ℕ) (is : t ≡ is_lt (nat_cmp 63 file)) where
+  pub past-last : t ≡ true → 63 < file
+  past-last h = grind (arith, nat_tests)
+
+  pub upto-last : t ≡ false → file ≤ 63
+  upto-last h = grind (arith, nat_tests)

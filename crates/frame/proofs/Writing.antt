@@ -4,7 +4,7 @@ use Prim.Native.Nat.{ℕ, ◌≤◌}
 use mathlib.Core.Path.{◌≡◌, refl}
 use mathlib.Core.List.{List, [], ◌∷◌, ◌++◌}
 use mathlib.Core.Bool.{Bool, true, false}
-use lib.ListN.{length, drop, set}
+use lib.ListN.{length, get_or, drop, set}
 use lib.Seq.{sets-eq}
 use lib.Dec.{eqb}
 use native.Mathlib.Omega.{arith}
@@ -25,6 +25,17 @@ pub stored : (buffer : List ℕ) (firework b0 b1 b2 b3 check : ℕ) → frame_si
     ≡ frame_of firework (b0 ∷ b1 ∷ b2 ∷ b3 ∷ []) check ++ drop frame_size buffer
 unfolding frame_of
 stored buffer f a b c d e h = sets-eq (f ∷ a ∷ b ∷ c ∷ d ∷ e ∷ []) buffer 0 h
+
+-- the same of four bytes that are an array
+pub bytes_stored : (buffer : List ℕ) (firework : ℕ) (bytes : List ℕ) (check : ℕ) → length bytes ≡ 4 → frame_size ≤ length buffer
+    → set (set (set (set (set (set buffer 0 firework) 1 (get_or bytes 0 0)) 2 (get_or bytes 1 0)) 3 (get_or bytes 2 0)) 4 (get_or bytes 3 0)) 5 check
+    ≡ frame_of firework bytes check ++ drop frame_size buffer
+bytes_stored buffer f (a ∷ b ∷ c ∷ d ∷ []) e size h = stored buffer f a b c d e h
+bytes_stored buffer f [] e size h = absurd (omega arith)
+bytes_stored buffer f (a ∷ []) e size h = absurd (omega arith)
+bytes_stored buffer f (a ∷ b ∷ []) e size h = absurd (omega arith)
+bytes_stored buffer f (a ∷ b ∷ c ∷ []) e size h = absurd (omega arith)
+bytes_stored buffer f (a ∷ b ∷ c ∷ d ∷ x ∷ l) e size h = absurd (omega arith)
 
 -- file number and operation join to a byte
 pub joined-byte : (file operation : ℕ) {t : Bool} → file ≤ 63 → t ≡ no_operation operation → t ≡ false → Byte (pb2_of file operation)

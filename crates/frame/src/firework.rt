@@ -20,6 +20,7 @@ pub enum Firework {
 
 // A byte is a firework exactly if its bits 7 to 3 are those that its bits 2 to 0, the round's number, ask for: 01111 in round 0; each bit
 // set in the number turns two of them over: its bit 0 turns over bits 5 and 4 of the byte, bit 1 bits 7 and 6, bit 2 bits 4 and 3.
+#[tactic(auto, unfolding(crate::specs::Inner::FireworkBits::high_bits))]
 fn high_bits(round: u8) -> u8
     ensures { result ≡ high_bits round }
 {

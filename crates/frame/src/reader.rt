@@ -15,6 +15,7 @@ use crate::types::AddressFrame;
 use file::operations::{file_number_of, is_broadcast_read, is_no_operation, operation_of};
 use file::types::{LogicalName, RecordNumber, Refusal};
 
+#[tactic(auto, unfolding(crate::specs::Rules::FrameGrounds::no_address, file::specs::Rules::Order::either))]
 fn is_no_address(frame: &[u8]) -> bool
     ensures { result ≡ no_address frame.now }
 {
@@ -24,6 +25,7 @@ fn is_no_address(frame: &[u8]) -> bool
     frame[FIREWORK_PLACE] != MSA
 }
 
+#[tactic(auto, unfolding(crate::specs::Rules::FrameGrounds::wrong_check))]
 fn is_wrong_check(frame: &[u8]) -> bool
     requires { length frame.now ≡ frame_size }
     ensures { result ≡ wrong_check address_check frame.now }

@@ -14,16 +14,16 @@ use file::operations::{is_broadcast_read, is_no_operation, pb2_of};
 use file::types::{FileNumber, LogicalName, Operation, RecordNumber, Refusal};
 
 // "MSD is 6 bytes (0x49, four data bytes, check)": at the same places.
-fn put_frame(buf: &mut [u8], firework: u8, b0: u8, b1: u8, b2: u8, b3: u8, check: u8)
+#[tactic(auto, using(crate::proofs::Writing::bytes_stored))]
+fn put_frame(buf: &mut [u8], firework: u8, bytes: &[u8; 4], check: u8)
     requires { frame_size ≤ length buf.old }
-    ensures { buf.new
-        ≡ frame_of firework (b0 ∷ b1 ∷ b2 ∷ b3 ∷ []) check ++ drop frame_size buf.old }
+    ensures { buf.new ≡ frame_of firework bytes.now check ++ drop frame_size buf.old }
 {
     buf[FIREWORK_PLACE] = firework;
-    buf[PB0_PLACE] = b0;
-    buf[PB1_PLACE] = b1;
-    buf[PB2_PLACE] = b2;
-    buf[PB3_PLACE] = b3;
+    buf[PB0_PLACE] = bytes[0];
+    buf[PB1_PLACE] = bytes[1];
+    buf[PB2_PLACE] = bytes[2];
+    buf[PB3_PLACE] = bytes[3];
     buf[CHECK_PLACE] = check;
 }
 
@@ -47,12 +47,12 @@ pub fn write_address(
     if is_broadcast_read(operation, name) {
         return Err(Refusal::BroadcastRead);
     }
-    if FileNumber::LAST.0 < file.0 {
+    if FileNumber::LAST < file {
         return Err(Refusal::FileNumber);
     }
     let pb2 = pb2_of(file, operation);
     let check = address_check(epoch, name.0, pb2, record.0);
-    put_frame(buf, MSA, epoch, name.0, pb2, record.0, check);
+    put_frame(buf, MSA, &[epoch, name.0, pb2, record.0], check);
     Ok(())
 }
 
@@ -63,6 +63,6 @@ pub fn write_data(buf: &mut [u8], b0: u8, b1: u8, b2: u8, b3: u8) -> Result<(), 
         return Err(Refusal::Buffer);
     }
     let check = data_check(b0, b1, b2, b3);
-    put_frame(buf, MSD, b0, b1, b2, b3, check);
+    put_frame(buf, MSD, &[b0, b1, b2, b3], check);
     Ok(())
 }

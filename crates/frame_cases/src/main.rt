@@ -8,13 +8,13 @@
 // of a firework its round: a number, MSD, MSA, or - for none.
 #![tactic(auto)]
 
-use case_input::fields::{after, byte_at, bytes_at, input_buffer, is, line, read_full};
+use case_input::fields::{byte_at, bytes_at, is};
+use case_input::lines::each_line;
 use case_input::show;
 use case_input::show::text;
-use file::types::{FileNumber, LogicalName, Operation, RecordNumber};
+use file::types::{FileNumber, LogicalName, Operation, RecordNumber, Refusal};
 use frame::firework::{Firework, firework_of};
 use frame::reader::read_address;
-use frame::types::{AddressReading, FrameWriting};
 use frame::writer::{write_address, write_data};
 use std::io;
 
@@ -26,29 +26,22 @@ fn number(out: &impl Print, n: u8) -> io::Result<()> {
 }
 
 fn read(out: &impl Print, frame: &[u8]) -> io::Result<()> {
-    let answer = read_address(frame);
-    match answer {
-        Err(why) => number(out, why.0),
-        AddressReading::Address {
-            epoch,
-            name,
-            file,
-            operation,
-            record,
-        } => {
+    match read_address(frame) {
+        Err(why) => number(out, why.number()),
+        Ok(read) => {
             number(out, 0)?;
-            number(out, epoch)?;
-            number(out, name.0)?;
-            number(out, file.0)?;
-            number(out, operation.0)?;
-            number(out, record.0)
+            number(out, read.epoch)?;
+            number(out, read.name.0)?;
+            number(out, read.file.0)?;
+            number(out, read.operation.0)?;
+            number(out, read.record.0)
         }
     }
 }
 
 fn written(out: &impl Print, answer: Result<(), Refusal>) -> io::Result<()> {
     match answer {
-        Err(why) => number(out, why.0),
+        Err(why) => number(out, why.number()),
         Ok(()) => number(out, 0),
     }
 }
@@ -79,33 +72,30 @@ fn data(out: &impl Print, case: &[u8], buffer: &mut [u8]) -> io::Result<()> {
 }
 
 fn firework(out: &impl Print, byte: &[u8]) -> io::Result<()> {
-    if byte.len() == 0 {
+    let Some(byte) = byte.first() else {
         return Ok(());
-    }
-    let round = firework_of(byte[0]);
-    match round {
-        Firework::Multipartner(r) => show::number(out, r as u64),
-        Firework::Data => text(out, b" MSD"),
-        Firework::Address => text(out, b" MSA"),
-        None => text(out, b" -"),
+    };
+    match firework_of(*byte) {
+        Some(Firework::Multipartner(r)) => show::number(out, r as u64),
+        Some(Firework::Data) => print!(out; " MSD"),
+        Some(Firework::Address) => print!(out; " MSA"),
+        None => print!(out; " -"),
     }
 }
 
 // The first field of each kind is bytes.
 fn answer(out: &impl Print, case: &[u8], bytes: &mut [u8]) -> io::Result<()> {
     if is(case, b"read") {
-        return read(out, bytes);
+        read(out, bytes)
+    } else if is(case, b"write") {
+        write(out, case, bytes)
+    } else if is(case, b"data") {
+        data(out, case, bytes)
+    } else if is(case, b"firework") {
+        firework(out, bytes)
+    } else {
+        Ok(())
     }
-    if is(case, b"write") {
-        return write(out, case, bytes);
-    }
-    if is(case, b"data") {
-        return data(out, case, bytes);
-    }
-    if is(case, b"firework") {
-        firework(out, bytes)?;
-    }
-    Ok(())
 }
 
 fn run(out: &impl Print, case: &[u8]) -> io::Result<()> {
@@ -113,23 +103,12 @@ fn run(out: &impl Print, case: &[u8]) -> io::Result<()> {
     let size = bytes_at(case, 1, &mut bytes);
     text(out, case)?;
     if !is(case, b"#") {
-        text(out, b" =")?;
+        print!(out; " =")?;
         answer(out, case, &mut bytes[..size])?;
     }
-    text(out, b"\n")
-}
-
-fn cases(out: &impl Print, input: &[u8]) -> io::Result<()> {
-    let mut at = 0;
-    while at < input.len() {
-        run(out, line(input, at))?;
-        at = after(input, at);
-    }
-    Ok(())
+    println!(out)
 }
 
 fn main(rt: HostRuntime) -> io::Result<()> {
-    let mut input = input_buffer();
-    let n = read_full(&mut rt.stdin(), &mut input)?;
-    cases(&rt, &input[..n])
+    each_line(rt.alloc(), rt.stdin(), |case| run(&rt, case))
 }

@@ -24,7 +24,7 @@ use Rattle.file.proofs.Appended.{file_length-append}
 use Rattle.file.proofs.Shape.{shape_file_length}
 use Rattle.convert.proofs.Numbered.{slaves_below, count-below, size_below, long-below, cluster_of, file_of, Fits, file-accepted, file-decoded, file-count}
 use Rattle.convert.proofs.Numbered.{file-edition, file_series, narrow_fits, wide_fits}
-use Rattle.join.specs.Rules.Joined.{turned, joined, joined_file}
+use Rattle.join.specs.Rules.Joined.{joined, joined_file}
 use Rattle.join.specs.Rules.Join.{join_ground, join_on}
 use Rattle.join.specs.Claims.JoinGrounds.{count_in, slave_in, SharedName, TooLarge}
 use Rattle.join.specs.Claims.Result.{Writable, HeldIn, Turned, JoinOf, Written}

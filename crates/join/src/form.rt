@@ -15,7 +15,7 @@ use crate::slaves::turn_names;
 use convert::header::put_front;
 use convert::put::put_zeros;
 use convert::slaves::{put_moved, put_slaves};
-use convert::table::ALL_AWAKE;
+use convert::table::SleepBytes;
 use file::held::NAME_VALUES;
 use file::layout::{
     ENTRY_OFFSETS, EPOCH_OFFSETS, HEADER_BYTES, HEADER_OFFSETS, TABLE_PLACE, ZERO_FIELD_0,
@@ -42,7 +42,7 @@ fn put_second(out: &mut [u8], width: usize, at: usize, place: usize, second: &[u
         put_moved(out, width, at, place, second);
         return;
     }
-    put_slaves(out, width, at, place, second, ALL_AWAKE);
+    put_slaves(out, width, at, place, second, SleepBytes::AllAwake);
 }
 
 // The table of both files' slaves, all awake, and the slaves of both as they are. The first's form alone has `alone` bytes: the second's

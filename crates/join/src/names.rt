@@ -22,22 +22,19 @@ pub fn mark_names(file: &[u8], places: &SlavePlaces, held: &mut NameMarks)
     requires { Placed file.now places.now × MarksOf 256 held.old [] }
     ensures { MarksOf 256 held.new (logical_names (decode file.now)) }
 {
-    let mut slave = slave_count(file);
-    while 0 < slave {
-        slave = slave - 1;
+    for slave in (0..slave_count(file)).rev() {
         let name = logical_name(file, places, slave);
         held[name.0 as usize] = true;
     }
 }
 
-// Marks the remainders of their physical names.
+// Marks the remainders of their physical names. The two functions differ in the reader that they call: one for both would take a closure, and be
+// longer than either.
 fn mark_remainders(file: &[u8], places: &SlavePlaces, seen: &mut RemainderMarks)
     requires { Placed file.now places.now × MarksOf 256 seen.old [] }
     ensures { MarksOf 256 seen.new (map remainder_of (decode file.now).slaves) }
 {
-    let mut slave = slave_count(file);
-    while 0 < slave {
-        slave = slave - 1;
+    for slave in (0..slave_count(file)).rev() {
         let name = physical_name(file, places, slave);
         seen[(name % REMAINDERS) as usize] = true;
     }
@@ -57,15 +54,12 @@ fn is_any_named(
     ensures { result ≡ shares_name (decode first.now) (decode second.now) }
 {
     let stated = &first_places[..PLACES_EACH * slave_count(first)];
-    let count = slave_count(second);
-    let mut slave = 0;
-    while slave < count {
+    for slave in 0..slave_count(second) {
         let name = physical_name(second, second_places, slave);
         let remainder = (name % REMAINDERS) as usize;
         if is_named_again(first, stated, name, seen[remainder]) {
             return true;
         }
-        slave = slave + 1;
     }
     false
 }

@@ -41,8 +41,7 @@ pub fn turn_names(
     let count = slave_count(file);
     let mut lost = HEADER_BYTES + HEADER_OFFSETS * own + ENTRY_OFFSETS * own * count;
     let mut gained = at;
-    let mut slave = 0;
-    while slave < count {
+    for slave in 0..count {
         let files = file_count(file, own, slave);
         lost = lost + ENTRY_OFFSETS * own * files;
         gained = gained + ENTRY_OFFSETS * width * files;
@@ -50,6 +49,5 @@ pub fn turn_names(
         let place = places[PLACES_EACH * slave] as usize;
         let to = place + LOGICAL_NAME_PLACE - lost + gained;
         turn_name(out, to, held[name.0 as usize]);
-        slave = slave + 1;
     }
 }

@@ -2,7 +2,8 @@
 // listing is written after it.
 #![tactic(auto)]
 
-use case_input::fields::{after, counted, filled, input_buffer, is, line, read_full};
+use case_input::fields::{counted, filled, is};
+use case_input::lines::each_line;
 use case_input::show::text;
 use listing_text::run::list;
 use std::io;
@@ -18,24 +19,13 @@ fn listing(out: &impl Print, case: &[u8]) -> io::Result<()> {
 
 fn run(out: &impl Print, case: &[u8]) -> io::Result<()> {
     text(out, case)?;
-    text(out, b"\n")?;
+    println!(out)?;
     if is(case, b"list") {
         listing(out, case)?;
     }
     Ok(())
 }
 
-fn cases(out: &impl Print, input: &[u8]) -> io::Result<()> {
-    let mut at = 0;
-    while at < input.len() {
-        run(out, line(input, at))?;
-        at = after(input, at);
-    }
-    Ok(())
-}
-
 fn main(rt: HostRuntime) -> io::Result<()> {
-    let mut input = input_buffer();
-    let n = read_full(&mut rt.stdin(), &mut input)?;
-    cases(&rt, &input[..n])
+    each_line(rt.alloc(), rt.stdin(), |case| run(&rt, case))
 }

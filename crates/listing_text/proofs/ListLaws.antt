@@ -47,6 +47,8 @@ use Rattle.listing_text.specs.Rules.Listing.{text_size}
 use Rattle.listing_text.specs.declared.run.ListProgress.{ListProgress}
 use Rattle.file.specs.Inner.Refusals.{Answered, refusal_number, outcome_of}
 use Rattle.std.specs.Prelude.{Ok, Err, Option, None}
+use Rattle.naming.specs.declared.run.MadeStep.{MadeStep}
+use Rattle.std.specs.Prelude.{Some}
 
 -- ---- what a step that made its round leaves of a position
 
@@ -273,12 +275,12 @@ one-step-idle f answer text n e r =
 -- by what the code's step answers
 module _
     (f answer : List ℕ) (p : Position) {names new file : List ℕ} {r : Answered (Option MadeStep)} (all : names ≡ all_names)
-    (e : (stepped_of r, run_after p r, new, file) ≡ step_on f p names answer) {senders : ℕ} {next : RunPosition} (is : r ≡ OkMade senders next) where
-  made_by : (done (made senders), position_of next, new, file) ≡ step_on f p all_names answer
+    (e : (stepped_of r, run_after p r, new, file) ≡ step_on f p names answer) {next : MadeStep} (is : r ≡ Ok (Some next)) where
+  made_by : (done (made next.senders), position_of next.run, new, file) ≡ step_on f p all_names answer
   unfolding stepped_of run_after
   made_by = rw (is, all) at e
 
-  pub made_moves : (p.counts.rounds ≡ 0 → p.place.step ≡ 0) → Moves p (position_of next)
+  pub made_moves : (p.counts.rounds ≡ 0 → p.place.step ≡ 0) → Moves p (position_of next.run)
   made_moves begins = moves f answer p begins made_by
 
 module _
@@ -294,18 +296,17 @@ module _
   unfolding stepped_of run_after
   one-step-ended is room = one-step-idle f answer text idle_ended (rw (is, all) at e) room
 
-  pub one-step-made : {senders : ℕ} {next : RunPosition} {after : ListProgress} {text' : List ℕ} → r ≡ OkMade senders next →
-      StepListed state (position_of next) text after text' →
+  pub one-step-made : {next : MadeStep} {after : ListProgress} {text' : List ℕ} → r ≡ Ok (Some next) →
+      StepListed state (position_of next.run) text after text' →
       StateIs (list_step (state_of state f answer text)) text state.at after file new text'
   unfolding list_step gives_name is_made_lem both
-  one-step-made {senders} is t = rw (← made_by f answer (position_of state.run) all e is) (t.reached (done (made senders)) f answer file new)
+  one-step-made {next} is t = rw (← made_by f answer (position_of state.run) all e is) (t.reached (done (made next.senders)) f answer file new)
 
 -- ---- the names
 
-pub record Naming (names : List ℕ) (name i : ℕ) : Type 0 where
+pub record Naming (names : List ℕ) (i : ℕ) : Type 0 where
   pub room : length names ≡ name_count
   pub within : i ≤ name_count
-  pub next : name ≡ i + 0x01
   pub first : take i names ≡ names_from i 0x01
 
 from_snoc : (n a : ℕ) → names_from (suc n) a ≡ names_from n a ++ ((a + n) ∷ [])
@@ -315,21 +316,18 @@ from_snoc (suc n) a =
     let e : a + suc n ≡ suc a + n = omega arith in
     rw e (ap (λ (l : List ℕ). a ∷ l) (from_snoc n (suc a)))
 
-pub naming_start : Naming (replicate name_count 0) 0x01 0
+pub naming_start : Naming (replicate name_count 0) 0
 unfolding names_from
-naming_start = record { room = length-replicate {A = ℕ} name_count 0; within = omega arith; next = refl; first = refl }
+naming_start = record { room = length-replicate {A = ℕ} name_count 0; within = omega arith; first = refl }
 
-module _ {names : List ℕ} {name i : ℕ} (h : Naming names name i) where
-  pub naming_next : i < name_count → Naming (set names i name) (name + 1) (i + 1)
+module _ {names : List ℕ} {i : ℕ} (h : Naming names i) where
+  pub naming_next : i < name_count → Naming (set names i (0x01 + i)) (i + 1)
   naming_next more =
-      let n = h.next in
       let one : i + 1 ≡ suc i = omega arith in
-      let is : 0x01 + i ≡ name = omega arith in
       record {
-        room = length-set names i name ∙ h.room;
+        room = length-set names i (0x01 + i) ∙ h.room;
         within = omega arith;
-        next = omega arith;
-        first = rw (one, take-suc-set names i name (rw h.room more), h.first, from_snoc i 0x01, is);
+        first = rw (one, take-suc-set names i (0x01 + i) (rw h.room more), h.first, from_snoc i 0x01);
       }
 
   pub naming_end : name_count ≤ i → names ≡ all_names

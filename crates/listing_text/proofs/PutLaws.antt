@@ -1,14 +1,9 @@
 -- Bytes, digits and lines put into a text, turn by turn.
 -- Assumes nothing.
-use Prim.Native.Nat.{ℕ, zero, suc, ◌+◌, ◌-◌, ◌*◌, ◌/◌, ◌%◌, ◌^◌, ◌≤◌, ◌<◌}
-use mathlib.Core.Path.{◌≡◌, refl, sym, ap, ◌∙◌}
-use mathlib.Core.List.{List, [], ◌∷◌, ◌++◌}
-use native.Mathlib.Omega.{arith}
-use native.Mathlib.Nat.{pow-suc}
-use borrow.Author.Tests.{lt-ltb, le-ltb, ltb-true, ltb-false}
-use lib.ListN.{length, get_or, set, drop, length-set, length-append, drop_of_length-le}
-use lib.Seq.{drop-cons, sets}
-use lib.Dec.{ltb}
+use Rattle.std.proofs.Common.{ℕ, zero, suc, ◌+◌, ◌-◌, ◌*◌, ◌/◌, ◌%◌, ◌^◌, ◌≤◌, ◌<◌, ◌≡◌, refl, sym, ap, ◌∙◌, List, [], ◌∷◌, ◌++◌, arith, pow-suc, lt-ltb, le-ltb, ltb-true, ltb-false, length, take, set, length-set, length-append, take_all, ltb}
+use Rattle.std.proofs.Math.Seq.{sets, sets-eq, length-sets}
+use borrow.Rule.Slice.PartMut.{put_mid}
+use Rattle.std.proofs.lemmas.Slice.{put_mid-paste}
 use Rattle.file.proofs.Order.{by_case}
 use Rattle.listing_text.specs.Rules.Text.{letters, space, newline, digit, hex, decimal_in, decimal, field, name_line, totals_line, refused_line}
 use Rattle.listing_text.specs.Inner.Puts.{Puts, PutsAtMost}
@@ -33,26 +28,14 @@ puts_then {a} {b} {old} {at = at} p q =
 
 -- ---- bytes
 
-pub record Copying (bytes old : List ℕ) (at : ℕ) (text : List ℕ) (i : ℕ) : Type 0 where
-  pub within : i ≤ length bytes
-  pub room : length text ≡ length old
-  pub rest : sets text (at + i) (drop i bytes) ≡ sets old at bytes
-
-pub copying_start : (bytes old : List ℕ) (at : ℕ) → Copying bytes old at old 0
-copying_start bytes old at = let z : at + 0 ≡ at = omega arith in record { within = omega arith; room = refl; rest = rw z }
-
-module _ {bytes old text : List ℕ} {at i : ℕ} (h : Copying bytes old at text i) where
-  pub copying_next : i < length bytes → Copying bytes old at (set text (at + i) (get_or bytes i 0)) (i + 1)
-  copying_next more =
-      let here : sets text (at + i) (get_or bytes i 0 ∷ drop (suc i) bytes) ≡ sets old at bytes = rw (drop-cons bytes i 0 more) at h.rest in
-      let one : i + 1 ≡ suc i = omega arith in
-      let e : at + suc i ≡ suc (at + i) = omega arith in
-      record { within = omega arith; room = length-set text (at + i) (get_or bytes i 0) ∙ h.room; rest = rw (one, e) here }
-
-  pub copying_end : at + length bytes ≤ length old → length bytes ≤ i → Puts bytes old at text (at + i)
-  copying_end fits past =
-      let w = h.within in
-      record { text = rw (drop_of_length-le bytes past) at h.rest; place = omega arith; room = h.room; fits = fits }
+-- a copy of them
+pub puts-copy :
+    (bytes old : List ℕ) (at : ℕ) {copy : List ℕ} → at + length bytes ≤ length old → copy ≡ bytes →
+    Puts bytes old at (put_mid at (at + length bytes - at) old copy) (at + length bytes)
+puts-copy bytes old at {copy} fits is =
+    let whole : take (length bytes) bytes ≡ bytes = take_all (length bytes) bytes (omega arith) in
+    let same = put_mid-paste at (at + length bytes - at) old copy bytes (length bytes) is (omega arith) refl ∙ rw whole (sym (sets-eq bytes old at fits)) in
+    record { text = same; place = refl; room = ap length same ∙ length-sets old at bytes; fits = fits }
 
 -- ---- hexadecimal digits
 
@@ -150,7 +133,7 @@ puts-digit {n} h e p = let small : n < 2 ^ 64 = omega arith in at_most small (rw
 -- the digits but the last leave room for the last
 pub tenth-room :
     {n : ℕ} {old mid : List ℕ} {at next : ℕ} → n < 2 ^ 64 → at + most_digits ≤ length old →
-    PutsAtMost most_digits (decimal (n / 10)) old at mid next → next < length mid
+    PutsAtMost most_digits (decimal (n / 10)) old at mid next → next + 1 ≤ length mid
 tenth-room {n} small fits p = let few = tenth_fits n small in omega (arith, p.puts.place, p.puts.room)
 
 pub puts-decimal :

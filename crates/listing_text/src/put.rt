@@ -1,5 +1,5 @@
 // Bytes, digits and lines put into a text.
-ghost use Rattle.std.specs.Prelude.{◌≡◌, [], ◌∷◌, ◌+◌, ◌≤◌, ◌<◌, length};
+ghost use Rattle.std.specs.Prelude.{◌≡◌, ◌+◌, ◌≤◌, ◌<◌, length};
 ghost use Rattle.listing_text.specs.Rules.Text.{hex, decimal, field, name_line, totals_line, refused_line};
 ghost use Rattle.listing_text.specs.Inner.Puts.{Puts, PutsAtMost};
 ghost use Rattle.listing_text.specs.Rules.Text.{most_digits, line_size, totals_size};
@@ -28,6 +28,7 @@ pub const LINE_SIZE: usize = (NAME_DIGITS as usize) + (PHYSICAL_DIGITS as usize)
 pub const TOTALS_SIZE: usize = 6 + 10 + 8 + 3 * MOST_DIGITS + 1;
 
 // In capitals.
+#[tactic(auto, unfolding(crate::specs::Rules::Text::digit))]
 fn digit(d: u64) -> u8
     requires { d < 16 }
     ensures { result ≡ Text·digit d }
@@ -38,24 +39,15 @@ fn digit(d: u64) -> u8
     b'A' + (d - DECIMAL_BASE) as u8
 }
 
-fn put_byte(text: &mut [u8], at: usize, byte: u8) -> usize
-    requires { at < length text.old }
-    ensures { Puts (byte ∷ []) text.old at text.new result }
-{
-    text[at] = byte;
-    at + 1
-}
-
+// The text and the place that is reached in it stay two arguments: of a struct that holds the lent text, each method has to promise besides
+// that it holds the same text still.
 fn put_bytes(text: &mut [u8], at: usize, bytes: &[u8]) -> usize
     requires { at + length bytes.now ≤ length text.old }
     ensures { Puts bytes.now text.old at text.new result }
 {
-    let mut i = 0;
-    while i < bytes.len() {
-        text[at + i] = bytes[i];
-        i = i + 1;
-    }
-    at + i
+    let end = at + bytes.len();
+    text[at..end].copy_from_slice(bytes);
+    end
 }
 
 // The last digits of a number.
@@ -64,9 +56,7 @@ fn put_hex(text: &mut [u8], at: usize, digits: u64, value: u64) -> usize
     ensures { PutsAtMost digits (hex digits value) text.old at text.new result }
 {
     let mut place = at;
-    let mut left = digits;
-    while 0 < left {
-        left = left - 1;
+    for left in (0..digits).rev() {
         text[place] = digit((value >> (HEX_BITS * left)) % HEX_BASE);
         place = place + 1;
     }
@@ -79,10 +69,10 @@ fn put_decimal(text: &mut [u8], at: usize, value: u64) -> usize
     ensures { PutsAtMost most_digits (decimal value) text.old at text.new result }
 {
     if value < DECIMAL_BASE {
-        return put_byte(text, at, digit(value));
+        return put_bytes(text, at, &[digit(value)]);
     }
     let next = put_decimal(text, at, value / DECIMAL_BASE);
-    put_byte(text, next, digit(value % DECIMAL_BASE))
+    put_bytes(text, next, &[digit(value % DECIMAL_BASE)])
 }
 
 // A number in decimal after a word.
@@ -100,10 +90,10 @@ pub fn put_name(text: &mut [u8], at: usize, name: u8, physical: u64, comparisons
     ensures { PutsAtMost line_size (name_line name physical comparisons) text.old at text.new result }
 {
     let name_end = put_hex(text, at, NAME_DIGITS, name as u64);
-    let physical_start = put_byte(text, name_end, b' ');
+    let physical_start = put_bytes(text, name_end, b" ");
     let physical_end = put_hex(text, physical_start, PHYSICAL_DIGITS, physical);
     let comparisons_end = put_field(text, physical_end, b" ", comparisons);
-    put_byte(text, comparisons_end, b'\n')
+    put_bytes(text, comparisons_end, b"\n")
 }
 
 // The line of totals.
@@ -114,7 +104,7 @@ pub fn put_totals(text: &mut [u8], at: usize, given: u64, comparisons: u64, roun
     let given_end = put_field(text, at, b"named ", given);
     let comparisons_end = put_field(text, given_end, b" compares ", comparisons);
     let rounds_end = put_field(text, comparisons_end, b" rounds ", rounds);
-    put_byte(text, rounds_end, b'\n')
+    put_bytes(text, rounds_end, b"\n")
 }
 
 // The line of a refused file.
@@ -123,5 +113,5 @@ pub fn put_refused(text: &mut [u8], at: usize, reason: u8) -> usize
     ensures { Puts (refused_line reason) text.old at text.new result }
 {
     let ground_end = put_field(text, at, b"refused ", reason as u64);
-    put_byte(text, ground_end, b'\n')
+    put_bytes(text, ground_end, b"\n")
 }

@@ -42,12 +42,8 @@ fn all_names() -> [u8; NAME_COUNT]
     ensures { result ≡ all_names }
 {
     let mut names = [0u8; NAME_COUNT];
-    let mut name = FIRST_NAME;
-    let mut i = 0;
-    while i < NAME_COUNT {
-        names[i] = name;
-        name = name + 1;
-        i = i + 1;
+    for i in 0..NAME_COUNT {
+        names[i] = FIRST_NAME + i as u8;
     }
     names
 }
@@ -59,12 +55,7 @@ fn after_step(names: &[u8], state: ListProgress, next: RunPosition, text: &mut [
 {
     let run = state.run;
     if run.place.step != LAST_STEP {
-        return ListProgress {
-            run: next,
-            begun: state.begun,
-            given: state.given,
-            at: state.at,
-        };
+        return ListProgress { run: next, ..state };
     }
     let index = run.place.index as usize;
     let comparisons = next.counts.comparisons - state.begun;
@@ -78,15 +69,11 @@ fn after_step(names: &[u8], state: ListProgress, next: RunPosition, text: &mut [
 }
 
 // The run after steps that gave no name.
+#[tactic(auto, unfolding(crate::specs::Inner::ListRuns::moved_to))]
 fn moved_to(state: ListProgress, run: RunPosition) -> ListProgress
     ensures { result ≡ moved_to state run }
 {
-    ListProgress {
-        run,
-        begun: state.begun,
-        given: state.given,
-        at: state.at,
-    }
+    ListProgress { run, ..state }
 }
 
 // Whether no step is left, or the next one gives no name: the run has then ended, or goes no further.
@@ -118,7 +105,8 @@ fn one_step(
     }
 }
 
-// The whole run from a state on: it ends within so many steps. All steps up to the next one that gives a name are made at once.
+// The whole run from a state on: it ends within so many steps. All steps up to the next one that gives a name are made at once, so that `left`
+// falls by as many as were made, and no `for` counts it. File and places stay two arguments, as `naming::run` says.
 fn all_steps(
     file: &mut [u8],
     places: &SlavePlaces,

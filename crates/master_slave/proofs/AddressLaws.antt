@@ -11,6 +11,7 @@ use Rattle.file.specs.Rules.Changes.{with_epoch, with_pending}
 use Rattle.file.specs.Inner.Accepted.{Becomes, Placed}
 use Rattle.file.proofs.Shape.{shape_refl}
 use Rattle.file.proofs.Surveyed.{placed-kept}
+use Rattle.file.proofs.ReaderLaws.{becomes-decoded}
 use Rattle.frame.specs.Rules.Fireworks.{data_firework}
 use Rattle.master_slave.specs.Rules.Slaves.{with_address}
 use Rattle.master_slave.specs.Inner.Duties.{data_effect}
@@ -39,3 +40,7 @@ module _ (f : List ℕ) {g : List ℕ} (epoch name pb2 pb3 : ℕ) (h : Becomes g
       Carried (data_effect (with_address (decode f) epoch name pb2 pb3) bytes) data_firework old new mask file
   address_carried bytes {old} {new} {file} {mask} k =
       subst (λ (d : Cluster). Carried (data_effect d bytes) data_firework old new mask file) h.decoded k
+
+pub ruleset becoming = (becomes-decoded, pending-legal, becomes-pending)
+
+pub ruleset rounds = (address-placed, address_carried)

@@ -324,3 +324,9 @@ nobody_quiet s = refl
 pub mask-nobody : 0 ≡ sender_mask nobody
 unfolding sender_mask
 mask-nobody = counting_done (counting_start 0) (omega arith) (omega arith) ∙ mask-alike (senders_to 0) nobody slots (λ s. senders_to_no 0 s (λ h. omega arith) ∙ nobody_quiet s)
+
+pub ruleset counts = (counting_start, counting_next, counting_done, mask_fits)
+
+pub ruleset fills = (filled-start, filled-length, filled_next, filled-done, nobody-byte)
+
+pub ruleset record_said = (record-said)

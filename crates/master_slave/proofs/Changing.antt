@@ -107,3 +107,5 @@ module _ {g : Slave → Slave} {f₀ : List ℕ} {i : ℕ} {file : List ℕ} (h 
         let same : i ≡ length (decode f₀).slaves = omega (arith, h.most) in
         let whole : first_changed g i (decode f₀).slaves ≡ map g (decode f₀).slaves = rw same (changed_all g (decode f₀).slaves) in
         subst (λ (l : List Slave). Becomes file (with_slaves (decode f₀) l)) whole h.becomes
+
+pub ruleset changes = (changing_start, changing_placed, changing_accepted, changing_there, changing_next, changing_done)

@@ -5,50 +5,30 @@ use native.Mathlib.Omega.{arith}
 use mathlib.Core.Path.{◌≡◌, refl, sym, ap, ◌∙◌, subst}
 use mathlib.Core.List.{List, [], ◌∷◌, map}
 use mathlib.Core.Bool.{Bool, true, false, not}
-use lib.Dec.{eqb}
 use borrow.Author.Tests.{eq-eqb, ne_eqb, not-true, not-false}
-use Rattle.file.specs.Rules.Order.{both}
 use Rattle.file.specs.Rules.Layout.{pending_flag}
-use Rattle.file.specs.Rules.Cluster.{Slave, Cluster, configuration, documentation, read_operation, write_operation, execute_operation}
+use Rattle.file.specs.Rules.Cluster.{Slave, Cluster}
 use Rattle.file.specs.Rules.Decode.{decode}
 use Rattle.file.specs.Rules.Changes.{with_slaves, with_epoch}
 use Rattle.file.specs.Inner.Typed.{file_in, record_in, name_in_lem}
 use Rattle.file.specs.Inner.Accepted.{Becomes, Placed, PendingIs}
-use Rattle.file.proofs.Order.{clash, both_false_left, both_false_right}
+use Rattle.file.proofs.Order.{clash, both_false_right}
 use Rattle.file.proofs.Surveyed.{placed-kept}
 use Rattle.frame.specs.Rules.Fireworks.{data_firework}
 use Rattle.master_slave.specs.declared.types.RecordAddress.{RecordAddress}
 use Rattle.master_slave.specs.declared.pending.Duty.{Duty as CodeDuty}
 use Rattle.master_slave.specs.declared.pending.Duty.TheVariants as duties
 use Rattle.master_slave.specs.Rules.Bus.{sender_mask, answer_bytes, answer_in, nobody}
-use Rattle.master_slave.specs.Rules.Slaves.{Duty, nothing, writing, comparing, baptizing, sleeping, sleep_record, execution_of, duty_by, pending_duty}
+use Rattle.master_slave.specs.Rules.Slaves.{Duty, nothing, writing, comparing, baptizing, sleeping, duty_by, pending_duty}
 use Rattle.master_slave.specs.Rules.Slaves.{epoch_raised, may_write, takes_write, reply_to, sent_to, slave_after, slaves_after, falls_asleep, rests_after, rested}
-use Rattle.master_slave.specs.Inner.Duties.{data_effect, reading_at, writing_at, execution_at, duty_at, duty_for, duty_effect, puts_to_sleep}
+use Rattle.master_slave.specs.Inner.Duties.{data_effect, reading_at, writing_at, duty_at, duty_for, duty_effect, puts_to_sleep}
 use Rattle.master_slave.specs.Inner.Carried.{senders_to, Heard, Carried}
 use Rattle.master_slave.proofs.Bus.{counting_start, counting_done}
 use Rattle.master_slave.proofs.Hearing.{heard-nobody, heard-mask, in_slot_nil}
-use Rattle.master_slave.proofs.Kept.{after_shape}
+use Rattle.master_slave.proofs.Kept.{after_shape, slave_after-kept}
+use Rattle.master_slave.proofs.SlaveLaws.{data-bytes}
 
 -- ---- the duty: one law for each way
-
-module _ {operation : ℕ} (a : RecordAddress) where
-  pub duty_read : operation ≡ read_operation → reading_at a ≡ duty_for operation a
-  unfolding duty_for
-  duty_read e = rw (eq-eqb operation read_operation e)
-
-  module _ (unread : operation ≡ read_operation → ⊥) where
-    pub duty_write : operation ≡ write_operation → writing_at a ≡ duty_for operation a
-    unfolding duty_for
-    duty_write e = rw (ne_eqb operation read_operation unread, eq-eqb operation write_operation e)
-
-    module _ (unwritten : operation ≡ write_operation → ⊥) where
-      pub duty_none : (operation ≡ execute_operation → ⊥) → nothing ≡ duty_for operation a
-      unfolding duty_for
-      duty_none h = rw (ne_eqb operation read_operation unread, ne_eqb operation write_operation unwritten, ne_eqb operation execute_operation h)
-
-      pub duty_execution : {o : Duty} → operation ≡ execute_operation → o ≡ execution_at a → o ≡ duty_for operation a
-      unfolding duty_for
-      duty_execution h e = e ∙ rw (ne_eqb operation read_operation unread, ne_eqb operation write_operation unwritten, eq-eqb operation execute_operation h)
 
 pub pending-nothing : (c : Cluster) {flag name n operation r : ℕ} → PendingIs c flag name n operation r → (flag ≡ pending_flag → ⊥) → nothing ≡ pending_duty c
 unfolding pending_duty
@@ -61,37 +41,7 @@ pub pending-for :
 unfolding pending_duty duty_by duty_for
 pending-for c a p waits e = e ∙ rw (eq-eqb c.flag pending_flag (sym p.flag_is ∙ waits), p.name_is, p.file_is, p.operation_is, p.record_is)
 
-module _ (name : ℕ) {n : ℕ} (r : ℕ) where
-  pub execution_elsewhere : (n ≡ configuration → ⊥) → nothing ≡ execution_of name n r
-  unfolding execution_of
-  execution_elsewhere h = rw (ne_eqb n configuration h)
-
-  module _ (here : n ≡ configuration) where
-    pub execution_compare : r ≡ 2 → comparing name ≡ execution_of name n r
-    unfolding execution_of
-    execution_compare e = rw (eq-eqb n configuration here, eq-eqb r 2 e)
-
-    pub execution_baptize : (r ≡ 2 → ⊥) → r ≡ 1 → baptizing name ≡ execution_of name n r
-    unfolding execution_of
-    execution_baptize two e = rw (eq-eqb n configuration here, ne_eqb r 2 two, eq-eqb r 1 e)
-
-    pub execution_sleep : (r ≡ 2 → ⊥) → (r ≡ 1 → ⊥) → r ≡ sleep_record → sleeping name ≡ execution_of name n r
-    unfolding execution_of
-    execution_sleep two one e = rw (eq-eqb n configuration here, ne_eqb r 2 two, ne_eqb r 1 one, eq-eqb r sleep_record e)
-
-    pub execution_other : (r ≡ 2 → ⊥) → (r ≡ 1 → ⊥) → (r ≡ sleep_record → ⊥) → nothing ≡ execution_of name n r
-    unfolding execution_of
-    execution_other two one four = rw (eq-eqb n configuration here, ne_eqb r 2 two, ne_eqb r 1 one, ne_eqb r sleep_record four)
-
 -- ---- what may be written
-
-pub no_documentation : {n : ℕ} (r : ℕ) → n ≡ documentation → false ≡ may_write n r
-unfolding may_write
-no_documentation {n} r e = sym (both_false_left (not (eqb r 0x00)) (ap not (eq-eqb n documentation e)))
-
-pub no_header : {n : ℕ} (r : ℕ) → (n ≡ documentation → ⊥) → not (eqb r 0x00) ≡ may_write n r
-unfolding may_write both
-no_header {n} r h = rw (ne_eqb n documentation h)
 
 pub may_true : (n r : ℕ) {t : Bool} → t ≡ may_write n r → not t ≡ false → may_write n r ≡ true
 may_true n r {t = t} e y = sym e ∙ not-false t y
@@ -251,3 +201,7 @@ unfolding duty_effect epoch_raised with_epoch
 raised-done c bytes is h k rests =
     let there = rw (is, h.decoded) at k in
     record { senders = there.senders; buffer = there.buffer; becomes = rw (is, there.becomes.decoded) at rests }
+
+pub ruleset pending_ways = (pending-nothing, pending-for)
+
+pub ruleset writes = (write_forbidden, may_true, slave_after-kept, data-bytes)

@@ -1,10 +1,8 @@
 -- The epoch: one more, 255 going to 0, and the file with it raised.
 -- Assumes nothing.
-use Prim.Native.Nat.{ℕ, ◌+◌}
-use native.Mathlib.Omega.{arith}
+use Prim.Native.Nat.{ℕ}
 use mathlib.Core.Path.{◌≡◌, ap, ◌∙◌, subst}
 use mathlib.Core.List.{List}
-use Rattle.file.specs.Rules.Bytes.{Byte}
 use Rattle.file.specs.Rules.Cluster.{Cluster}
 use Rattle.file.specs.Rules.Decode.{decode}
 use Rattle.file.specs.Rules.Changes.{with_epoch}
@@ -14,14 +12,6 @@ use Rattle.master_slave.specs.Rules.Slaves.{next_epoch, epoch_raised}
 use Rattle.master_slave.proofs.Kept.{kept_raised}
 
 -- ---- the epoch
-
-pub epoch-last : {e : ℕ} → e ≡ 255 → 0 ≡ next_epoch e
-unfolding next_epoch
-epoch-last last = omega arith
-
-pub epoch-next : {e : ℕ} → Byte e → (e ≡ 255 → ⊥) → e + 1 ≡ next_epoch e
-unfolding next_epoch
-epoch-next byte other = omega arith
 
 pub raised : {f : List ℕ} (c : Cluster) {e n : ℕ} → e ≡ c.epoch → n ≡ next_epoch e → Becomes f (with_epoch c n) → Becomes f (epoch_raised c)
 unfolding epoch_raised

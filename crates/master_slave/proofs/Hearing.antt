@@ -183,9 +183,6 @@ hearing-start o c {firework} old {new} some long e =
     }
 
 module _ {o : Duty} {c : Cluster} {firework : ℕ} {old new : List ℕ} {i last : ℕ} (h : Hearing o c firework old new i last) where
-  pub hearing_room : slots ≤ length new
-  hearing_room = rw h.heard.buffer (rw (answer-length old firework (sent_to o (take i c.slaves)) h.long) h.long)
-
   pub hearing-next :
       {count : ℕ} → count ≡ length c.slaves → i < count → {new' : List ℕ} {next : ℕ} → Replied (reply_to o (slave_of c i)) new new' last next →
       Hearing o c firework old new' (i + 1) next
@@ -238,10 +235,3 @@ module _ {o : Duty} {c : Cluster} {firework : ℕ} {old new : List ℕ} {i last 
 pub heard-mask : {r : Senders} {firework : ℕ} {old new : List ℕ} {last mask : ℕ} → Heard r firework old new last → mask ≡ sender_mask (senders_to last) → mask ≡ sender_mask r
 unfolding sender_mask
 heard-mask {r} {last = last} h e = e ∙ mask-alike (senders_to last) r slots (λ s. sym (h.reach s))
-
--- the buffer keeps its length
-pub hearing-length :
-    {o : Duty} {c : Cluster} {firework : ℕ} {old new : List ℕ} {i last : ℕ} → Hearing o c firework old new i last → (entry : List ℕ) → slots ≤ length entry →
-    old ≡ answer_in entry (answer_bytes firework nobody) → length new ≡ length entry
-hearing-length {o} {c} {firework} {old} {new} {i} h entry long e =
-    ap length h.heard.buffer ∙ answer-length old firework (sent_to o (take i c.slaves)) h.long ∙ ap length e ∙ answer-length entry firework nobody long

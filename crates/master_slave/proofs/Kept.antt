@@ -232,3 +232,5 @@ after_shape o bs c = shape_map (slave_after o bs) (after-files o bs) c.slaves
 pub kept-rested : (o : Duty) (c : Cluster) → ClusterKept c (rested o c)
 unfolding rested
 kept-rested o c = kept_map (rests_after o) (rests_kept o) c
+
+pub ruleset changed_bytes = (slave_after-kept, all_empty)

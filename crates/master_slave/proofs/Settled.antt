@@ -14,7 +14,7 @@ use Rattle.file.proofs.Order.{by_case}
 use Rattle.master_slave.specs.Rules.Bus.{slots, answer_bytes, answer_in, nobody}
 use Rattle.master_slave.specs.Rules.Slaves.{Duty, comparing, answers_compare, reply_to, sent_to}
 use Rattle.master_slave.specs.Inner.Carried.{said, Heard, reach_of, Replied}
-use Rattle.master_slave.proofs.Hearing.{Hearing, hearing-start, hearing_room, hearing-next, hearing_done, hearing-length, size_of}
+use Rattle.master_slave.proofs.Hearing.{Hearing, hearing-start, hearing-next, hearing_done, size_of}
 use Rattle.master_slave.proofs.SlaveLaws.{reply_quiet}
 
 -- slaves that change neither buffer nor last slot need not be heard
@@ -64,9 +64,6 @@ unfolding size_of
 unanswered-start name c old long e = record { hearing = hearing-start (comparing name) c old (omega arith) long e; silent = refl }
 
 module _ {name : ℕ} {c : Cluster} {firework : ℕ} {old new : List ℕ} {i last : ℕ} (h : Unanswered name c firework old new i last) where
-  pub unanswered_room : slots ≤ length new
-  unanswered_room = hearing_room h.hearing
-
   module _ {count : ℕ} (all : count ≡ length c.slaves) where
     module _ (more : i < count) {new' : List ℕ} {next : ℕ} (t : Replied (reply_to (comparing name) (slave_of c i)) new new' last next) where
       pub unanswered_next : (next ≡ 1 → ⊥) → Unanswered name c firework old new' (i + 1) next
@@ -81,10 +78,3 @@ module _ {name : ℕ} {c : Cluster} {firework : ℕ} {old new : List ℕ} {i las
 
     pub unanswered_done : count ≤ i → (entry : List ℕ) → old ≡ answer_in entry (answer_bytes firework nobody) → Heard (sent_to (comparing name) c.slaves) firework entry new last
     unanswered_done over entry e = hearing_done h.hearing entry e all over
-
-  module _ (entry : List ℕ) (long : slots ≤ length entry) (e : old ≡ answer_in entry (answer_bytes firework nobody)) where
-    pub unanswered_length : length new ≡ length entry
-    unanswered_length = hearing-length h.hearing entry long e
-
-    pub answered-length : (after : List ℕ) → length after ≡ length new → length after ≡ length entry
-    answered-length after same = same ∙ unanswered_length

@@ -9,7 +9,7 @@ use mathlib.Core.Bool.{Bool, true, false, cond, not}
 use lib.ListN.{length, get_or, set, length-append}
 use lib.Seq.{set-get_or, set-set, sets}
 use lib.Dec.{eqb, leb}
-use borrow.Author.Tests.{eqb-true, eq-eqb, ne_eqb, le-leb, lt-leb, not-true, not-false}
+use borrow.Author.Tests.{eq-eqb, ne_eqb, le-leb, lt-leb, not-true, not-false}
 use mir.Val.{Fits}
 use mir.Syntax.{w8}
 use Rattle.file.specs.Rules.Bytes.{Bytes, all_empty, all_next, part}
@@ -36,48 +36,6 @@ use Rattle.master_slave.specs.Inner.Carried.{said, reach_of, Replied, with_slave
 use Rattle.master_slave.specs.Inner.Duties.{data_in, DataPut}
 use Rattle.master_slave.specs.declared.types.DataBytes.{DataBytes}
 use Rattle.std.specs.Prelude.{Option, Some, None}
-
--- ---- who is addressed
-
-pub at-unnamed : {name : ℕ} (own : ℕ) → name ≡ unnamed → eqb own unnamed ≡ addresses name own
-unfolding addresses
-at-unnamed {name} own e = rw (eq-eqb name unnamed e)
-
-pub at-broadcast : {name : ℕ} (own : ℕ) → (name ≡ unnamed → ⊥) → name ≡ broadcast → not (eqb own unnamed) ≡ addresses name own
-unfolding addresses
-at-broadcast {name} own n e = rw (ne_eqb name unnamed n, eq-eqb name broadcast e)
-
-pub at_name : {name : ℕ} (own : ℕ) → (name ≡ unnamed → ⊥) → (name ≡ broadcast → ⊥) → eqb own name ≡ addresses name own
-unfolding addresses
-at_name {name} own n e = rw (ne_eqb name unnamed n, ne_eqb name broadcast e)
-
--- a compare at broadcast, and at any other name
-pub at-broadcast-none : {name : ℕ} (b : Bool) → name ≡ broadcast → false ≡ both (not (eqb name broadcast)) b
-at-broadcast-none {name} b e = sym (both_false_left b (ap not (eq-eqb name broadcast e)))
-
-pub not-broadcast : {name : ℕ} {r b : Bool} → r ≡ b → (name ≡ broadcast → ⊥) → r ≡ both (not (eqb name broadcast)) b
-not-broadcast {name} {r} {b} e n = e ∙ sym (both-next b (ap not (ne_eqb name broadcast n)))
-
--- a read at the slave's own name, at broadcast, and at any other name
-pub read_own : {name : ℕ} (own : ℕ) → own ≡ name → not (eqb own unnamed) ≡ both (addresses name own) (not (eqb own unnamed))
-unfolding addresses both
-read_own own same =
-    rw (← same)
-    (by_case (eqb own unnamed)
-    (λ e. rw e)
-    (λ e. rw e (by_case (eqb own broadcast) (λ t. rw t) (λ t. rw (t, eq-eqb own own refl)))))
-
-pub read-broadcast : {name : ℕ} (own : ℕ) → name ≡ broadcast → not (eqb own unnamed) ≡ both (addresses name own) (not (eqb own unnamed))
-unfolding addresses both
-read-broadcast own at = rw at (by_case (eqb own unnamed) (λ e. rw e) (λ e. rw e))
-
-pub read-other : {name own : ℕ} → (own ≡ name → ⊥) → (name ≡ broadcast → ⊥) → false ≡ both (addresses name own) (not (eqb own unnamed))
-unfolding addresses
-read-other {name} {own} other at =
-    sym (both_false_left (not (eqb own unnamed))
-    (by_case (eqb name unnamed)
-    (λ e. rw e (ne_eqb own unnamed (λ q. other (q ∙ sym (eqb-true name unnamed e)))))
-    (λ e. rw (e, ne_eqb name broadcast at) (ne_eqb own name other))))
 
 -- ---- a record that was looked for
 
@@ -270,22 +228,6 @@ pub data-bytes : (d : DataBytes) → Fits w8 d.b0 → Fits w8 d.b1 → Fits w8 d
 data-bytes d f₀ f₁ f₂ f₃ =
     all_next {a = d.b0} (omega arith) (all_next {a = d.b1} (omega arith) (all_next {a = d.b2} (omega arith) (all_next {a = d.b3} (omega arith) all_empty)))
 
--- a record that holds the logical name, by its two numbers
-pub other-file : (n r : ℕ) → (n ≡ configuration → ⊥) → false ≡ is_name_record n r
-unfolding is_name_record
-other-file n r differ = sym (both_false_left (eqb r 1) (ne_eqb n configuration differ))
-
-pub name-record : (n r : ℕ) → n ≡ configuration → eqb r 1 ≡ is_name_record n r
-unfolding is_name_record
-name-record n r same = sym (both-next (eqb r 1) (eq-eqb n configuration same))
-
--- the byte kept, and the byte given
-pub byte-kept : {t : Bool} (old byte : ℕ) {b : Bool} → t ≡ b → t ≡ true → old ≡ cond b old byte
-byte-kept old byte is e = rw (← is, e)
-
-pub byte-given : {t : Bool} (old byte : ℕ) {b : Bool} → t ≡ b → t ≡ false → byte ≡ cond b old byte
-byte-given old byte is e = rw (← is, e)
-
 -- four bytes with the last as it was are three
 pub data-stored : (f : List ℕ) (place n r : ℕ) (d : DataBytes) {last : ℕ} {new : List ℕ} → last ≡ cond (is_name_record n r) (get_or f (place + 3) 0) d.b3 →
     new ≡ sets f place (d.b0 ∷ d.b1 ∷ d.b2 ∷ last ∷ []) → new ≡ sets f place (written n r (data_in d))
@@ -437,3 +379,9 @@ rests-awake {f} c s o is no' h = subst (λ (d : Cluster). Becomes f d) (put-rest
 
 pub rests_woken : {f : List ℕ} (c : Cluster) (s : ℕ) → Becomes f (put_sleep c s 0) → Becomes f (with_slave c s (rests_after nothing (slave_of c s)))
 rests_woken c s h = rests-awake c s nothing {t = false} (unfold falls_asleep in refl) refl h
+
+pub ruleset putting = (data-stored, data-written)
+
+pub ruleset baptize_ways = (after-asleep, baptize_unaddressed, baptize-other, baptize-takes)
+
+pub ruleset rest_ways = (rests-asleep, rests-awake)

@@ -17,17 +17,16 @@ use file::readers::slave_count;
 use file::types::{FileNumber, LogicalName, RecordNumber, SlavePlaces};
 use frame::firework::MSD;
 
+// The loop stands in each round: what a slave's step is lent differs (the file read or written, buffer and last slot or data), and a closure that
+// takes them is no form of the portable C file.
 fn read_round(file: &[u8], places: &SlavePlaces, address: RecordAddress, buffer: &mut [u8]) -> u64
     requires { Placed file.now places.now × (slots ≤ length buffer.old) }
     ensures { Heard (sent_to (reading_at address) (decode file.now).slaves) data_firework buffer.old buffer.new result }
 {
     silence(buffer, MSD);
     let mut last = 0u64;
-    let count = slave_count(file);
-    let mut slave = 0;
-    while slave < count {
+    for slave in 0..slave_count(file) {
         last = read_slave(file, places, slave, address, buffer, last);
-        slave = slave + 1;
     }
     last
 }
@@ -39,14 +38,11 @@ fn compare_round(file: &[u8], places: &SlavePlaces, name: LogicalName, buffer: &
 {
     silence(buffer, MSD);
     let mut last = 0u64;
-    let count = slave_count(file);
-    let mut slave = 0;
-    while slave < count {
+    for slave in 0..slave_count(file) {
         last = compare_slave(file, places, slave, name, buffer, last);
         if last == COMPARE_SLOT {
             return COMPARE_SLOT;
         }
-        slave = slave + 1;
     }
     last
 }
@@ -55,15 +51,17 @@ fn compare_round(file: &[u8], places: &SlavePlaces, name: LogicalName, buffer: &
 const HEADER_RECORD: RecordNumber = RecordNumber(0x00);
 
 // Whether a write may change the record.
+#[tactic(auto, unfolding(crate::specs::Rules::Slaves::may_write, file::specs::Rules::Order::both))]
 fn may_write(number: FileNumber, record: RecordNumber) -> bool
     ensures { result ≡ may_write (file_in number) (record_in «record») }
 {
-    if number.0 == FileNumber::DOCUMENTATION.0 {
+    if number == FileNumber::DOCUMENTATION {
         return false;
     }
-    record.0 != HEADER_RECORD.0
+    record != HEADER_RECORD
 }
 
+#[tactic(auto, using(crate::proofs::Changing::changes, crate::proofs::DataLaws::writes), unfolding(crate::specs::Rules::Slaves::slaves_after))]
 fn write_round(file: &mut [u8], places: &SlavePlaces, address: RecordAddress, bytes: DataBytes)
     requires { Placed file.old places.now }
     ensures { Becomes file.new (slaves_after (writing_at address) (data_in bytes) (decode file.old)) }
@@ -71,23 +69,18 @@ fn write_round(file: &mut [u8], places: &SlavePlaces, address: RecordAddress, by
     if !may_write(address.number, address.record) {
         return;
     }
-    let count = slave_count(file);
-    let mut slave = 0;
-    while slave < count {
+    for slave in 0..slave_count(file) {
         write_slave(file, places, slave, address, bytes);
-        slave = slave + 1;
     }
 }
 
+#[tactic(auto, using(crate::proofs::Changing::changes, crate::proofs::Kept::changed_bytes), unfolding(crate::specs::Rules::Slaves::slaves_after))]
 fn baptize_round(file: &mut [u8], places: &SlavePlaces, name: LogicalName)
     requires { Placed file.old places.now }
     ensures { Becomes file.new (slaves_after (baptizing (name_in_lem name)) [] (decode file.old)) }
 {
-    let count = slave_count(file);
-    let mut slave = 0;
-    while slave < count {
+    for slave in 0..slave_count(file) {
         baptize_slave(file, places, slave, name);
-        slave = slave + 1;
     }
 }
 

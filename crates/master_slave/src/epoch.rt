@@ -10,6 +10,7 @@ use file::writers::set_epoch;
 const LAST_EPOCH: u8 = 255;
 
 // One more, "255 going to 0".
+#[tactic(auto, unfolding(crate::specs::Rules::Slaves::next_epoch))]
 pub fn next_epoch(epoch: u8) -> u8
     ensures { result ≡ next_epoch epoch }
 {
@@ -20,6 +21,7 @@ pub fn next_epoch(epoch: u8) -> u8
 }
 
 // "Any other round first adds 1 to the epoch".
+#[tactic(auto, using(crate::proofs::EpochLaws::raised))]
 pub fn raise_epoch(file: &mut [u8])
     requires { AcceptedFile file.old }
     ensures { Becomes file.new (epoch_raised (decode file.old)) }

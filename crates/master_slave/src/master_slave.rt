@@ -31,6 +31,7 @@ pub fn carry_data(file: &mut [u8], places: &SlavePlaces, bytes: DataBytes, buffe
 }
 
 // The operation becomes pending and is carried out. The mask of the data part.
+#[tactic(auto, using(crate::proofs::AddressLaws::rounds), unfolding(crate::specs::Inner::Duties::after_address))]
 pub fn master_slave(
     file: &mut [u8],
     places: &SlavePlaces,

@@ -15,6 +15,7 @@ use file::types::{FileNumber, LogicalName, Operation, RecordNumber};
 use file::writers::{set_epoch, set_pending};
 
 // "An accepted MSA sets the epoch to PB0 and becomes pending until the next one".
+#[tactic(auto, using(crate::proofs::AddressLaws::becoming))]
 pub fn become_pending(
     file: &mut [u8],
     epoch: u8,
@@ -48,40 +49,43 @@ pub struct PendingDuty {
 }
 
 // "Execute 0x08 record 2", "Record 1", "an execute of record 4 of 0x08", "Any other: nothing."
+#[tactic(auto, unfolding(crate::specs::Rules::Slaves::execution_of, crate::specs::Inner::Duties::duty_at))]
 fn execution_of(address: RecordAddress) -> Duty
     ensures { duty_at result address ≡ execution_at address }
 {
-    if address.number.0 != FileNumber::CONFIGURATION.0 {
+    if address.number != FileNumber::CONFIGURATION {
         return Duty::Nothing;
     }
-    if address.record.0 == RecordNumber::COMPARISON_HIGH.0 {
+    if address.record == RecordNumber::COMPARISON_HIGH {
         return Duty::Compare;
     }
-    if address.record.0 == RecordNumber::NAMES.0 {
+    if address.record == RecordNumber::NAMES {
         return Duty::Baptize;
     }
-    if address.record.0 == RecordNumber::SLEEP.0 {
+    if address.record == RecordNumber::SLEEP {
         return Duty::Sleep;
     }
     Duty::Nothing
 }
 
 // The duty of a pending operation, by its number.
+#[tactic(auto, unfolding(crate::specs::Inner::Duties::duty_for, crate::specs::Inner::Duties::duty_at))]
 fn duty_of(operation: Operation, address: RecordAddress) -> Duty
     ensures { duty_at result address ≡ duty_for (operation_in operation) address }
 {
-    if operation.0 == Operation::READ.0 {
+    if operation == Operation::READ {
         return Duty::Read;
     }
-    if operation.0 == Operation::WRITE.0 {
+    if operation == Operation::WRITE {
         return Duty::Write;
     }
-    if operation.0 != Operation::EXECUTE.0 {
+    if operation != Operation::EXECUTE {
         return Duty::Nothing;
     }
     execution_of(address)
 }
 
+#[tactic(auto, using(crate::proofs::DataLaws::pending_ways), unfolding(crate::specs::Inner::Duties::duty_at))]
 pub fn pending_duty(file: &[u8]) -> PendingDuty
     requires { AcceptedFile file.now }
     ensures { duty_at result.duty result.address ≡ pending_duty (decode file.now) }

@@ -22,36 +22,39 @@ use file::types::{FileNumber, LogicalName, RecordNumber, SlavePlaces};
 use file::writers::{set_sleep, store_record, take_new_name};
 
 // Whether a slave with its own logical name is addressed.
+#[tactic(auto, unfolding(crate::specs::Rules::Slaves::addresses))]
 fn is_addressed(name: LogicalName, own: LogicalName) -> bool
     ensures { result ≡ addresses (name_in_lem name) (name_in_lem own) }
 {
-    if name.0 == LogicalName::UNNAMED.0 {
-        return own.0 == LogicalName::UNNAMED.0;
+    if name == LogicalName::UNNAMED {
+        return own == LogicalName::UNNAMED;
     }
-    if name.0 == LogicalName::BROADCAST.0 {
-        return own.0 != LogicalName::UNNAMED.0;
+    if name == LogicalName::BROADCAST {
+        return own != LogicalName::UNNAMED;
     }
-    own.0 == name.0
+    own == name
 }
 
 // The same for a read: never an unnamed slave.
+#[tactic(auto, unfolding(crate::specs::Rules::Slaves::addresses, file::specs::Rules::Order::both))]
 fn is_read(name: LogicalName, own: LogicalName) -> bool
     ensures { result ≡ both (addresses (name_in_lem name) (name_in_lem own)) (not (eqb (name_in_lem own) unnamed)) }
 {
-    if own.0 == name.0 {
-        return own.0 != LogicalName::UNNAMED.0;
+    if own == name {
+        return own != LogicalName::UNNAMED;
     }
-    if name.0 == LogicalName::BROADCAST.0 {
-        return own.0 != LogicalName::UNNAMED.0;
+    if name == LogicalName::BROADCAST {
+        return own != LogicalName::UNNAMED;
     }
     false
 }
 
 // The same for a compare: none at broadcast.
+#[tactic(auto, unfolding(file::specs::Rules::Order::both))]
 fn is_compared(name: LogicalName, own: LogicalName) -> bool
     ensures { result ≡ both (not (eqb (name_in_lem name) broadcast)) (addresses (name_in_lem name) (name_in_lem own)) }
 {
-    if name.0 == LogicalName::BROADCAST.0 {
+    if name == LogicalName::BROADCAST {
         return false;
     }
     is_addressed(name, own)
@@ -119,13 +122,14 @@ pub fn compare_slave(
 }
 
 // Whether a record is the one that holds the logical name.
+#[tactic(auto, unfolding(crate::specs::Rules::Slaves::is_name_record, file::specs::Rules::Order::both))]
 fn is_name_record(number: FileNumber, record: RecordNumber) -> bool
     ensures { result ≡ is_name_record (file_in number) (record_in «record») }
 {
-    if number.0 != FileNumber::CONFIGURATION.0 {
+    if number != FileNumber::CONFIGURATION {
         return false;
     }
-    record.0 == RecordNumber::NAMES.0
+    record == RecordNumber::NAMES
 }
 
 // The place of the logical name in the record that holds it.
@@ -143,6 +147,7 @@ fn last_byte(file: &[u8], place: usize, address: RecordAddress, byte: u8) -> u8
 }
 
 // The data put into the record at a place.
+#[tactic(auto, using(crate::proofs::SlaveLaws::putting))]
 fn put_data(file: &mut [u8], place: usize, address: RecordAddress, bytes: DataBytes)
     requires { place + record_size ≤ length file.old }
     ensures { DataPut file.old file.new place (written (file_in address.number) (record_in address.«record») (data_in bytes)) }
@@ -177,6 +182,7 @@ pub fn write_slave(
 }
 
 // Execute of record 1: an addressed slave whose physical name is the comparison value takes its new logical name.
+#[tactic(auto, using(crate::proofs::SlaveLaws::baptize_ways))]
 pub fn baptize_slave(file: &mut [u8], places: &SlavePlaces, slave: usize, name: LogicalName)
     requires { Placed file.old places.now × (slave < slave_count file.old) }
     ensures { Becomes file.new (with_slave (decode file.old) slave (slave_after (baptizing (name_in_lem name)) [] (slave_of (decode file.old) slave))) }
@@ -212,6 +218,7 @@ fn falls_asleep(file: &[u8], places: &SlavePlaces, slave: usize, name: LogicalNa
 }
 
 // The same slave after that round: asleep, or awake.
+#[tactic(auto, using(crate::proofs::SlaveLaws::rest_ways))]
 pub fn sleep_slave(file: &mut [u8], places: &SlavePlaces, slave: usize, name: LogicalName)
     requires { Placed file.old places.now × (slave < slave_count file.old) }
     ensures { Becomes file.new (with_slave (decode file.old) slave (rests_after (sleeping (name_in_lem name)) (slave_of (decode file.old) slave))) }

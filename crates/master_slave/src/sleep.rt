@@ -14,28 +14,24 @@ use file::readers::slave_count;
 use file::types::{LogicalName, SlavePlaces};
 use file::writers::set_sleep;
 
-// After any other round than a sleep everyone is awake.
+// After any other round than a sleep everyone is awake. The loop stands here and in `sleep_round`, as in `duty`'s rounds.
+#[tactic(auto, using(crate::proofs::Changing::changes, crate::proofs::Kept::rests_kept, crate::proofs::SlaveLaws::rests_woken), unfolding(crate::specs::Rules::Slaves::rested))]
 pub fn wake_slaves(file: &mut [u8])
     requires { AcceptedFile file.old }
     ensures { Becomes file.new (rested nothing (decode file.old)) }
 {
-    let count = slave_count(file);
-    let mut slave = 0;
-    while slave < count {
+    for slave in 0..slave_count(file) {
         set_sleep(file, slave, AWAKE);
-        slave = slave + 1;
     }
 }
 
+#[tactic(auto, using(crate::proofs::Changing::changes, crate::proofs::Kept::rests_kept), unfolding(crate::specs::Rules::Slaves::rested))]
 fn sleep_round(file: &mut [u8], places: &SlavePlaces, name: LogicalName)
     requires { Placed file.old places.now }
     ensures { Becomes file.new (rested (sleeping (name_in_lem name)) (decode file.old)) }
 {
-    let count = slave_count(file);
-    let mut slave = 0;
-    while slave < count {
+    for slave in 0..slave_count(file) {
         sleep_slave(file, places, slave, name);
-        slave = slave + 1;
     }
 }
 
@@ -43,17 +39,11 @@ fn sleep_round(file: &mut [u8], places: &SlavePlaces, name: LogicalName)
 pub fn puts_to_sleep(duty: Duty) -> bool
     ensures { result ≡ puts_to_sleep duty }
 {
-    match duty {
-        Duty::Nothing => false,
-        Duty::Read => false,
-        Duty::Write => false,
-        Duty::Compare => false,
-        Duty::Baptize => false,
-        Duty::Sleep => true,
-    }
+    matches!(duty, Duty::Sleep)
 }
 
 // Who is awake after a round with that duty: all but those that it puts to sleep.
+#[tactic(auto, using(crate::proofs::DataLaws::duty_rests, crate::proofs::DataLaws::duty_wakes))]
 pub fn rest_slaves(file: &mut [u8], places: &SlavePlaces, duty: Duty, address: RecordAddress)
     requires { Placed file.old places.now }
     ensures { Becomes file.new (rested (duty_at duty address) (decode file.old)) }
@@ -69,12 +59,5 @@ pub fn rest_slaves(file: &mut [u8], places: &SlavePlaces, duty: Duty, address: R
 pub fn leaves_slaves(duty: Duty) -> bool
     ensures { result ≡ leaves_slaves duty }
 {
-    match duty {
-        Duty::Nothing => true,
-        Duty::Read => true,
-        Duty::Write => false,
-        Duty::Compare => true,
-        Duty::Baptize => false,
-        Duty::Sleep => false,
-    }
+    matches!(duty, Duty::Nothing | Duty::Read | Duty::Compare)
 }

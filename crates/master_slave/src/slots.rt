@@ -34,6 +34,7 @@ pub const SILENT_BYTE: u8 = 0xFF;
 pub const NOBODY: u64 = 0;
 
 // The mask with one more slot in which someone sent, above all others.
+#[tactic(auto, using(crate::proofs::Bus::or_above))]
 pub fn with_sender(mask: u64, slot: u64) -> u64
     requires { (slot < slots) × (mask < 2 ^ slot) }
     ensures { result ≡ 2 ^ slot + mask }
@@ -42,33 +43,32 @@ pub fn with_sender(mask: u64, slot: u64) -> u64
 }
 
 // The mask of the slots 1 to last.
+#[tactic(auto, using(crate::proofs::Bus::counts))]
 pub fn mask_to(last: u64) -> u64
     requires { last < slots }
     ensures { result ≡ sender_mask (senders_to last) }
 {
     let mut mask = NOBODY;
-    let mut slot = FIRST_SLOT as u64;
-    while slot <= last {
+    for slot in FIRST_SLOT as u64..last + 1 {
         mask = with_sender(mask, slot);
-        slot = slot + 1;
     }
     mask
 }
 
 // The buffer of a round in which nobody sends.
+#[tactic(auto, using(crate::proofs::Bus::fills))]
 pub fn silence(buffer: &mut [u8], firework: u8)
     requires { slots ≤ length buffer.old }
     ensures { buffer.new ≡ answer_in buffer.old (answer_bytes firework nobody) }
 {
     buffer[FIREWORK_SLOT] = firework;
-    let mut slot = FIRST_SLOT;
-    while slot < SLOTS {
+    for slot in FIRST_SLOT..SLOTS {
         buffer[slot] = SILENT_BYTE;
-        slot = slot + 1;
     }
 }
 
 // One more sender, which sends a byte in slot 1.
+#[tactic(auto, unfolding(crate::specs::Inner::Carried::said))]
 pub fn send_byte(buffer: &mut [u8], byte: u8)
     requires { slots ≤ length buffer.old }
     ensures { buffer.new ≡ said buffer.old 1 (byte ∷ []) }
@@ -77,6 +77,7 @@ pub fn send_byte(buffer: &mut [u8], byte: u8)
 }
 
 // One more sender, which sends the record at a place and its check in slots 1 to 5.
+#[tactic(auto, using(crate::proofs::Bus::record_said), unfolding(crate::specs::Inner::Carried::said))]
 pub fn send_record(buffer: &mut [u8], file: &[u8], place: usize)
     requires { (slots ≤ length buffer.old) × (place + record_size ≤ length file.now) }
     ensures { buffer.new ≡ said buffer.old 1 (read_reply (part file.now place record_size)) }

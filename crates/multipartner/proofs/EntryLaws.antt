@@ -3,44 +3,20 @@
 use Prim.Native.Nat.{ℕ, suc, ◌+◌, ◌*◌, ◌-◌, ◌/◌, ◌%◌, ◌≤◌, ◌<◌}
 use native.Mathlib.Omega.{arith}
 use mathlib.Core.Path.{◌≡◌, refl, sym, ap, ◌∙◌}
-use mathlib.Core.List.{List}
 use mathlib.Core.Bool.{Bool, true, false, not}
-use lib.ListN.{get_or}
 use lib.Dec.{ltb, eqb}
-use borrow.Author.Tests.{lt-ltb, le-ltb, le-leb, lt-leb, leb-false, ltb-true, ltb-false, eqb-true, eqb-false, eq-eqb, ne_eqb}
+use borrow.Author.Tests.{le-ltb, le-leb, lt-leb, leb-false, ltb-true, ltb-false, eqb-true, eqb-false, eq-eqb, ne_eqb}
 use Rattle.file.specs.Rules.Order.{both, either}
 use Rattle.file.proofs.Order.{by_case, clash, both_right, both_true, both_false_left, both_false_right, both-next, either_right, either_false}
-use Rattle.multipartner.specs.Rules.Entries.{Entry, entry_of, entry_there, is_multiplexed, receives, sends, ends, covers, in_turn, out_of_turn, eligible}
-use Rattle.multipartner.specs.Inner.EntryForm.{code_of, multiplex_of, multiplex_in, OperationIs, entry_from, evaluated, Action, ending, sending, receiving, resting, action_by}
+use Rattle.multipartner.specs.Rules.Entries.{Entry, is_multiplexed, receives, sends, ends, covers, in_turn, eligible}
+use Rattle.multipartner.specs.Inner.EntryForm.{code_of, entry_from, Action, ending, sending, receiving, resting, action_by}
 use Rattle.multipartner.specs.declared.entry.Entry as Code
-use Rattle.multipartner.specs.declared.entry.EntryOperation.{EntryOperation}
 
 -- ---- the operation of a code
-
-pub operation-is : (r : EntryOperation) {n m : ℕ} → n ≡ code_of r → multiplex_of r ≡ multiplex_in (code_of r) m → OperationIs r n m
-operation-is r {n} {m} is field = record { code = sym is; field = rw is field }
 
 -- a number that is not k, and not below it, is above it
 pub above : (k : ℕ) {n : ℕ} → k ≤ n → (n ≡ k → ⊥) → suc k ≤ n
 above k {n} low other = by_case (ltb k n) (λ e. ltb-true k n e) (λ e. absurd (other (omega (arith, ltb-false k n e))))
-
--- and four such numbers in a row
-pub above_four : (k : ℕ) {n : ℕ} → k ≤ n → (n ≡ k → ⊥) → (n ≡ k + 1 → ⊥) → (n ≡ k + 2 → ⊥) → (n ≡ k + 3 → ⊥) → k + 4 ≤ n
-above_four k low a b c d = omega arith
-
--- an entry made of an operation and of numbers is the entry of its bytes
-pub entry-is : {o : EntryOperation} (b₀ b₁ b₂ b₃ : ℕ) → OperationIs o (entry_of b₀ b₁ b₂ b₃).operation (entry_of b₀ b₁ b₂ b₃).multiplex →
-    record {
-      file = (entry_of b₀ b₁ b₂ b₃).file;
-      align = (entry_of b₀ b₁ b₂ b₃).align;
-      «record» = (entry_of b₀ b₁ b₂ b₃).«record»;
-      operation = code_of o;
-      length = (entry_of b₀ b₁ b₂ b₃).length;
-      multiplex = multiplex_of o;
-      start = (entry_of b₀ b₁ b₂ b₃).start;
-    } ≡ evaluated (entry_of b₀ b₁ b₂ b₃)
-unfolding evaluated entry_of
-entry-is b₀ b₁ b₂ b₃ is = rw (is.code, is.field)
 
 -- ---- what an operation makes a slave do
 
@@ -55,10 +31,6 @@ is_receiving ending = false
 is_receiving sending = false
 is_receiving receiving = true
 is_receiving resting = false
-
--- an operation acts as the one that a match found it to be
-pub acts_as : {o : EntryOperation} {a : Action} (v : EntryOperation) → o ≡ v → a ≡ action_by (code_of v) → a ≡ action_by (code_of o)
-acts_as v q is = is ∙ ap (λ (x : EntryOperation). action_by (code_of x)) (sym q)
 
 -- ---- whose turn it is
 
@@ -153,57 +125,6 @@ module _ (epoch k m : ℕ) (high : 128 ≤ k) (byte : k < 256) (field : m < 4) w
 pub eligible-covers : (passed : Entry → Bool) (e : Entry) (slot : ℕ) → covers e slot ≡ false → eligible passed e slot ≡ false
 unfolding eligible
 eligible-covers passed e slot out = both_false_left _ out
-
--- ---- an entry by its bytes, where they lie
-
--- an end by its kind
-module _ (f : List ℕ) (at : ℕ) where
-  pub ends_low : get_or f (at + 2) 0 < 96 → false ≡ ends (entry_there f at).operation
-  unfolding ends entry_there entry_of
-  ends_low low =
-      let k : ℕ = get_or f (at + 2) 0 in
-      sym (either_false (ne_eqb (k / 16) 6 (λ e. omega arith)) (ne_eqb (k / 16) 7 (λ e. omega arith)))
-
-  pub ends-from : 96 ≤ get_or f (at + 2) 0 → ltb (get_or f (at + 2) 0) 128 ≡ ends (entry_there f at).operation
-  unfolding ends entry_there entry_of
-  ends-from from =
-      let k : ℕ = get_or f (at + 2) 0 in
-      by_case (ltb k 128)
-      (λ t. rw t (by_case (eqb (k / 16) 6)
-      (λ e. rw e (unfold either in refl))
-      (λ e. sym (either_right _ (eq-eqb (k / 16) 7 (omega (arith, ltb-true k 128 t, eqb-false (k / 16) 6 e)))))))
-      (λ t. rw t (sym (either_false (ne_eqb (k / 16) 6 (λ e. omega (arith, ltb-false k 128 t))) (ne_eqb (k / 16) 7 (λ e. omega (arith, ltb-false k 128 t))))))
-
-  pub begun-there : {slot : ℕ} → (entry_there f at).start ≤ slot → get_or f (at + 3) 0 % 64 ≤ slot
-  unfolding entry_there entry_of
-  begun-there begun = begun
-
-  -- in a slot before its first, past its last, and in one that it covers
-  module _ (epoch : ℕ) (slot : ℕ) where
-    pub acts_early : slot < get_or f (at + 3) 0 % 64 → false ≡ eligible (out_of_turn epoch) (entry_there f at) slot
-    acts_early early = sym (eligible-covers (out_of_turn epoch) (entry_there f at) slot (unfold covers entry_there entry_of in both_false_left _ (lt-leb (get_or f (at + 3) 0 % 64) slot early)))
-
-    module _ (begun : get_or f (at + 3) 0 % 64 ≤ slot) where
-      pub acts_late : get_or f (at + 2) 0 % 16 < slot - get_or f (at + 3) 0 % 64 → false ≡ eligible (out_of_turn epoch) (entry_there f at) slot
-      acts_late late = sym (eligible-covers (out_of_turn epoch) (entry_there f at) slot uncovered)
-        where
-          uncovered : covers (entry_there f at) slot ≡ false
-          uncovered = unfold covers entry_there entry_of in both_false_right _ (le-ltb slot (get_or f (at + 3) 0 % 64 + (get_or f (at + 2) 0 % 16 + 1)) (omega arith))
-
-      pub acts-turn : slot - get_or f (at + 3) 0 % 64 ≤ get_or f (at + 2) 0 % 16 → {t : Bool} → t ≡ in_turn epoch (get_or f (at + 2) 0 / 16) (get_or f (at + 3) 0 / 64)
-          → t ≡ eligible (out_of_turn epoch) (entry_there f at) slot
-      unfolding eligible covers out_of_turn entry_there entry_of
-      acts-turn inside turn =
-          let cover = both_true (le-leb (get_or f (at + 3) 0 % 64) slot begun) (lt-ltb slot (get_or f (at + 3) 0 % 64 + (get_or f (at + 2) 0 % 16 + 1)) (omega arith)) in
-          turn ∙ sym (both-next _ cover ∙ not-twice _)
-        where
-          not-twice : (b : Bool) → not (not b) ≡ b
-          not-twice true = refl
-          not-twice false = refl
-
-      pub last_slot : eqb (slot - get_or f (at + 3) 0 % 64) (get_or f (at + 2) 0 % 16) ≡ eqb (slot - (entry_there f at).start + 1) (entry_there f at).length
-      unfolding entry_there entry_of
-      last_slot = eqb_same (slot - get_or f (at + 3) 0 % 64) (get_or f (at + 2) 0 % 16) (slot - get_or f (at + 3) 0 % 64 + 1) (get_or f (at + 2) 0 % 16 + 1) (λ e. omega arith) (λ e. omega arith)
 
 -- ---- the entries that no slot to come needs
 

@@ -10,6 +10,7 @@ use lib.ListN.{length, get_or, set, take, length-set}
 use lib.Seq.{take_all, get_or-set_same, get_or-set_other}
 use lib.Dec.{eqb}
 use lib.Bits.{bit_and}
+use Rattle.std.proofs.lemmas.List.{get_or-take, length-take-le}
 use borrow.Author.Tests.{eqb-true, eqb-false}
 use Rattle.file.specs.Rules.Order.{either}
 use Rattle.file.specs.Rules.Cluster.{Slave, Cluster}
@@ -178,7 +179,16 @@ module _ {passed : Entry → Bool} {f : List ℕ} {round slot n bus : ℕ} {hear
     pub heard-stored : (b : ℕ) → stored_at f stores b stored ≡ stored_by f (aim passed (decode f) round slot) b (length (decode f).slaves)
     heard-stored b = let all : n ≡ length (decode f).slaves = omega (arith, h.most) in h.aimed.aims f b ∙ rw all
 
-    -- what `store` asks
-    pub heard-within : AcceptedFile f → StoresWithin f stores stored
+    -- those places are within the array, and what `store` asks of them
+    pub stored-few : AcceptedFile f → stored ≤ length stores
+    stored-few accepted = omega (arith, h.aimed.few, h.aimed.room, h.most, accepted.legal.count)
+
+    pub heard-within : AcceptedFile f → StoresWithin f (take stored stores)
     heard-within accepted =
-        record { few = omega (arith, h.aimed.few, h.most, accepted.legal.count); within = h.aimed.within; low = omega (arith, length_limit accepted) }
+        let long : length (take stored stores) ≡ stored = length-take-le stored stores (stored-few accepted) in
+        record {
+          within = λ i l.
+              let low : i < stored = omega (arith, long) in
+              rw (get_or-take stored stores i 0 low) (h.aimed.within i low);
+          low = omega (arith, length_limit accepted);
+        }

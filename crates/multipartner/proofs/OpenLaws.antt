@@ -4,11 +4,11 @@ use Prim.Native.Nat.{ℕ, zero, suc, ◌+◌, ◌*◌, ◌-◌, ◌≤◌, ◌<�
 use native.Mathlib.Omega.{arith}
 use mathlib.Core.Path.{◌≡◌, refl, sym, ◌∙◌}
 use mathlib.Core.List.{List}
-use mathlib.Core.Bool.{Bool, true, false, not}
+use mathlib.Core.Bool.{Bool, true, false}
 use lib.ListN.{length, get_or, set, length-set}
 use lib.Seq.{get_or-set_same, get_or-set_other}
 use lib.Dec.{eqb}
-use borrow.Author.Tests.{eq-eqb, ne_eqb, eqb-true, eqb-false, not-true, not-false}
+use borrow.Author.Tests.{eq-eqb, ne_eqb, eqb-true, eqb-false}
 use mir.Val.{Fits}
 use mir.Syntax.{w32}
 use Rattle.file.specs.Rules.Layout.{record_size}
@@ -19,7 +19,8 @@ use Rattle.file.proofs.Order.{by_case}
 use Rattle.file.proofs.ReaderLaws.{byte-there, place-within, length_limit, becomes-decoded}
 use Rattle.master_slave.specs.Rules.Slaves.{is_unnamed}
 use Rattle.multipartner.specs.Rules.Entries.{Entry, entry_there, entry_at, ends, eligible, Acting, no_entry, acts, acting_from}
-use Rattle.multipartner.specs.Inner.Slots.{planned_entries, entries_in, EntriesLie, RoundFileIs, RoundFilesAre, EntriesWithin, next_past, next_after}
+use Rattle.multipartner.specs.Inner.Slots.{no_entries, planned_entries, entries_in, EntriesLie, RoundFileIs, RoundFilesAre, EntriesWithin, next_past, next_after}
+use Rattle.multipartner.specs.declared.round_files.OpenEntries.{OpenEntries}
 use Rattle.multipartner.proofs.EntryLaws.{past_last}
 
 -- ---- the first entry before the end that is eligible in the slot, record by record
@@ -160,26 +161,6 @@ module _ {f : List ℕ} {c : Cluster} {round s start end : ℕ} (h : Becomes f c
   pub start-low : Fits w32 start
   start-low = omega (arith, within-file.rising, within-file.within, length_limit (becomes-decoded h))
 
--- ---- where the search of the next slot begins
-
-module _ (next at : ℕ) where
-  pub next-other : (next ≡ at → ⊥) → next ≡ next_past next at
-  unfolding next_past
-  next-other other = rw (ne_eqb next at other)
-
-  pub next_here : next ≡ at → at + 4 ≡ next_past next at
-  unfolding next_past
-  next_here same = rw (eq-eqb next at same)
-
-  module _ (e : Entry) (slot : ℕ) {t : Bool} (last : t ≡ eqb (slot - e.start + 1) e.length) where
-    pub after-not-last : not t ≡ true → next ≡ next_after e next at slot
-    unfolding next_after
-    after-not-last no' = rw (sym last ∙ not-true t no')
-
-    pub after_last : not t ≡ false → {r : ℕ} → r ≡ next_past next at → r ≡ next_after e next at slot
-    unfolding next_after
-    after_last yes' is = rw (sym last ∙ not-false t yes') is
-
 -- ---- what the slave's entries that are left say of the slots to come
 
 -- from the slot on the entry that acts is among those that lie from at to end
@@ -229,19 +210,21 @@ module _ {passed : Entry → Bool} {f : List ℕ} {c : Cluster} {round s at next
       (λ t. rw t (open_past (past_last passed e slot begun (eqb-true (slot - e.start + 1) e.length t))))
       (λ t. rw t o)
 
--- the same of every slave; in a slot the first n are through with it
-pub record OpenAll (passed : Entry → Bool) (c : Cluster) (round slot n : ℕ) (starts ends : List ℕ) : Type 0 where
-  pub starts_room : length starts ≡ slaves_room
-  pub ends_room : length ends ≡ slaves_room
-  pub through : (s : ℕ) → s < n → s < length c.slaves → OpenAt passed c round (slot + 1) s (get_or starts s 0) (get_or ends s 0)
-  pub ahead : (s : ℕ) → n ≤ s → s < length c.slaves → OpenAt passed c round slot s (get_or starts s 0) (get_or ends s 0)
+-- a slave's entries begin elsewhere
+abbrev pub moved : List OpenEntries → ℕ → ℕ → List OpenEntries
+moved lists n at = set lists n (record { start = at; end = (get_or lists n no_entries).end })
 
-pub open_start : {passed : Entry → Bool} {c : Cluster} {round : ℕ} (slot : ℕ) {starts ends : List ℕ} → RoundFilesAre c round starts ends → OpenAll passed c round slot 0 starts ends
+-- the same of every slave; in a slot the first n are through with it
+pub record OpenAll (passed : Entry → Bool) (c : Cluster) (round slot n : ℕ) (lists : List OpenEntries) : Type 0 where
+  pub room : length lists ≡ slaves_room
+  pub through : (s : ℕ) → s < n → s < length c.slaves → OpenAt passed c round (slot + 1) s (get_or lists s no_entries).start (get_or lists s no_entries).end
+  pub ahead : (s : ℕ) → n ≤ s → s < length c.slaves → OpenAt passed c round slot s (get_or lists s no_entries).start (get_or lists s no_entries).end
+
+pub open_start : {passed : Entry → Bool} {c : Cluster} {round : ℕ} (slot : ℕ) {lists : List OpenEntries} → RoundFilesAre c round lists → OpenAll passed c round slot 0 lists
 unfolding actor
 open_start {c} {round} slot are =
     record {
-      starts_room = are.starts_room;
-      ends_room = are.ends_room;
+      room = are.room;
       through = λ s m l. absurd (omega arith);
       ahead = λ s m l.
           record {
@@ -252,17 +235,17 @@ open_start {c} {round} slot are =
           };
     }
 
-module _ {passed : Entry → Bool} {c : Cluster} {round slot n : ℕ} {starts ends : List ℕ} (o : OpenAll passed c round slot n starts ends) where
+module _ {passed : Entry → Bool} {c : Cluster} {round slot n : ℕ} {lists : List OpenEntries} (o : OpenAll passed c round slot n lists) where
   -- one more slave is through
-  pub open_set : {at : ℕ} → n < slaves_room → OpenAt passed c round (slot + 1) n at (get_or ends n 0) → OpenAll passed c round slot (n + 1) (set starts n at) ends
+  pub open_set : {at : ℕ} → n < slaves_room → OpenAt passed c round (slot + 1) n at (get_or lists n no_entries).end → OpenAll passed c round slot (n + 1) (moved lists n at)
   open_set {at} few now =
+      let new : OpenEntries = record { start = at; end = (get_or lists n no_entries).end } in
       record {
-        starts_room = length-set starts n at ∙ o.starts_room;
-        ends_room = o.ends_room;
+        room = length-set lists n new ∙ o.room;
         through = λ s m l. by_case (eqb s n)
-            (λ e. let same : s ≡ n = eqb-true s n e in rw (same, get_or-set_same starts n at 0 (omega (arith, o.starts_room))) now)
-            (λ e. let other = eqb-false s n e in rw (get_or-set_other starts n s at 0 other) (o.through s (below s m other) l));
-        ahead = λ s m l. rw (get_or-set_other starts n s at 0 (above s m)) (o.ahead s (omega arith) l);
+            (λ e. let same : s ≡ n = eqb-true s n e in rw (same, get_or-set_same lists n new no_entries (omega (arith, o.room))) now)
+            (λ e. let other = eqb-false s n e in rw (get_or-set_other lists n s new no_entries other) (o.through s (below s m other) l));
+        ahead = λ s m l. rw (get_or-set_other lists n s new no_entries (above s m)) (o.ahead s (omega arith) l);
       }
     where
       below : (s : ℕ) → s < n + 1 → (s ≡ n → ⊥) → s < n
@@ -272,11 +255,10 @@ module _ {passed : Entry → Bool} {c : Cluster} {round slot n : ℕ} {starts en
       above s l e = omega arith
 
   -- all are
-  pub open_later : length c.slaves ≤ n → OpenAll passed c round (slot + 1) 0 starts ends
+  pub open_later : length c.slaves ≤ n → OpenAll passed c round (slot + 1) 0 lists
   open_later over =
       record {
-        starts_room = o.starts_room;
-        ends_room = o.ends_room;
+        room = o.room;
         through = λ s m l. absurd (omega arith);
         ahead = λ s m l. o.through s (omega arith) l;
       }

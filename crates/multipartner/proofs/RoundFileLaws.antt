@@ -2,16 +2,16 @@
 -- Assumes nothing.
 use Prim.Native.Nat.{ℕ, ◌+◌, ◌*◌, ◌≤◌, ◌<◌}
 use native.Mathlib.Omega.{arith}
-use mathlib.Core.Path.{◌≡◌, sym, ap, ◌∙◌}
+use mathlib.Core.Path.{◌≡◌, ap, ◌∙◌}
 use mathlib.Core.List.{List}
-use mathlib.Core.Bool.{Bool, true, false, not}
+use mathlib.Core.Bool.{Bool, true, false}
 use lib.ListN.{length, get_or, set, length-set}
 use lib.Seq.{get_or-set_same, get_or-set_other}
 use lib.Dec.{eqb}
-use borrow.Author.Tests.{eq-eqb, ne_eqb, eqb-true, eqb-false, not-true, not-false}
+use borrow.Author.Tests.{ne_eqb, eqb-true, eqb-false}
 use Rattle.file.specs.Rules.Bytes.{All, all_empty, all_next}
 use Rattle.file.specs.Rules.Layout.{record_size}
-use Rattle.file.specs.Rules.Cluster.{File, Cluster, is_awake, bytes_among, bytes_in, last_record, logical_name, unnamed}
+use Rattle.file.specs.Rules.Cluster.{File, Cluster, bytes_among, bytes_in, last_record, logical_name, unnamed}
 use Rattle.file.specs.Rules.Legal.{LegalFile}
 use Rattle.file.specs.Inner.Places.{slaves_room, slave_of}
 use Rattle.file.specs.Rules.Decode.{decode}
@@ -23,7 +23,8 @@ use Rattle.file.specs.declared.records.FileBytes.{FileBytes}
 use Rattle.file.proofs.Order.{by_case}
 use Rattle.file.proofs.ReaderLaws.{slave-legal, length_limit, place-within, becomes-decoded}
 use Rattle.master_slave.specs.Rules.Slaves.{is_unnamed}
-use Rattle.multipartner.specs.Inner.Slots.{planned_entries, entries_in, EntriesLie, PlannedFileIs, RoundFileIs, RoundFilesAre}
+use Rattle.multipartner.specs.Inner.Slots.{no_entries, planned_entries, EntriesLie, PlannedFileIs, RoundFileIs, RoundFilesAre}
+use Rattle.multipartner.specs.declared.round_files.OpenEntries.{OpenEntries}
 use Rattle.multipartner.proofs.SlotActLaws.{Found, found_facts, missing_empty}
 use Rattle.std.specs.Prelude.{Option, Some, None}
 
@@ -46,34 +47,25 @@ file_records : {f : List ℕ} {c : Cluster} (s n : ℕ) → Becomes f c → s < 
 unfolding bytes_in
 file_records s n h l some = among_records n (slave-legal h s l).files some
 
-no_entries : {c : Cluster} {round s many : ℕ} → many ≡ 0 → EntriesLie c round s many 0 0
-no_entries e = record { begins = rw e; span = rw e }
+none_lie : {c : Cluster} {round s many : ℕ} → many ≡ 0 → EntriesLie c round s many 0 0
+none_lie e = record { begins = rw e; span = rw e }
 
 module _ (c : Cluster) (round s : ℕ) where
-  pub round-unnamed : {name : ℕ} → name ≡ logical_name (slave_of c s) → name ≡ unnamed → PlannedFileIs c round s 0 0
-  unfolding planned_entries is_unnamed
-  round-unnamed own is = no_entries (rw (eq-eqb (logical_name (slave_of c s)) unnamed (sym own ∙ is)))
+  module _ {name : ℕ} {t : Bool} (own : name ≡ logical_name (slave_of c s)) (tests : t ≡ eqb name unnamed) where
+    pub round-unnamed : t ≡ true → PlannedFileIs c round s 0 0
+    unfolding planned_entries is_unnamed
+    round-unnamed yes' = none_lie (rw (← own, ← tests, yes'))
 
-  named-runs : {name : ℕ} → name ≡ logical_name (slave_of c s) → (name ≡ unnamed → ⊥) → planned_entries round (slave_of c s) ≡ last_record (bytes_in (slave_of c s) round)
-  unfolding planned_entries is_unnamed
-  named-runs own named = rw (ne_eqb (logical_name (slave_of c s)) unnamed (λ e. named (own ∙ e)))
-
-  -- a sleeping slave runs none of them, one that is awake all
-  module _ {t : Bool} (is : t ≡ is_awake (slave_of c s)) where
-    pub round-asleep : not t ≡ true → RoundFileIs c round s 0 0
-    unfolding entries_in
-    round-asleep no' = no_entries (rw (sym is ∙ not-true t no'))
-
-    pub round-awake : {start end : ℕ} → not t ≡ false → PlannedFileIs c round s start end → RoundFileIs c round s start end
-    unfolding entries_in
-    round-awake yes' lie = rw (sym is ∙ not-false t yes') lie
+    named-runs : t ≡ false → planned_entries round (slave_of c s) ≡ last_record (bytes_in (slave_of c s) round)
+    unfolding planned_entries is_unnamed
+    named-runs no' = rw (← own, ← tests, no')
 
   module _ {r : Option FileBytes} (is : found_file r ≡ find_file c s round) where
     pub round_missing : r ≡ None → PlannedFileIs c round s 0 0
     unfolding found_file planned_entries last_record
     round_missing q =
         let empty = missing_empty c s round (rw q at is) in
-        no_entries (by_case (is_unnamed (slave_of c s)) (λ t. rw t) (λ t. rw (t, empty)))
+        none_lie (by_case (is_unnamed (slave_of c s)) (λ t. rw t) (λ t. rw (t, empty)))
 
     module _ {b : FileBytes} (q : r ≡ Some b) where
       round_facts : Found c s round b.place b.size
@@ -98,11 +90,11 @@ module _ (c : Cluster) (round s : ℕ) where
               let records = round_records in
               omega (arith, records.some, records.whole, round_facts.has, round-within, length_limit (becomes-decoded h))
 
-          pub round_found : {name : ℕ} → name ≡ logical_name (slave_of c s) → (name ≡ unnamed → ⊥) → PlannedFileIs c round s (b.place + record_size) (b.place + b.size)
-          round_found own named =
+          pub round_found : {name : ℕ} {t : Bool} → name ≡ logical_name (slave_of c s) → t ≡ eqb name unnamed → t ≡ false → PlannedFileIs c round s (b.place + record_size) (b.place + b.size)
+          round_found own tests no' =
               let fact = round_facts in
               let records = round_records in
-              let runs = named-runs own named in
+              let runs = named-runs own tests no' in
               let some : eqb (planned_entries round (slave_of c s)) 0 ≡ false = ne_eqb (planned_entries round (slave_of c s)) 0 (λ e. omega (arith, records.some)) in
               record {
                 begins = rw some (ap (λ (x : ℕ). x + record_size) fact.lies);
@@ -112,42 +104,32 @@ module _ (c : Cluster) (round s : ℕ) where
 -- ---- every slave
 
 -- what the loop over the slaves keeps
-pub record Finding (f : List ℕ) (round : ℕ) (starts ends : List ℕ) (n : ℕ) : Type 0 where
+pub record Finding (f : List ℕ) (round : ℕ) (lists : List OpenEntries) (n : ℕ) : Type 0 where
   pub becomes : AcceptedFile f
   pub most : n ≤ slave_count f
-  pub starts_room : length starts ≡ slaves_room
-  pub ends_room : length ends ≡ slaves_room
-  pub file : (s : ℕ) → s < n → RoundFileIs (decode f) round s (get_or starts s 0) (get_or ends s 0)
+  pub room : length lists ≡ slaves_room
+  pub file : (s : ℕ) → s < n → RoundFileIs (decode f) round s (get_or lists s no_entries).start (get_or lists s no_entries).end
 
-pub finding_start : {f : List ℕ} (round : ℕ) {starts ends : List ℕ} → AcceptedFile f → length starts ≡ slaves_room → length ends ≡ slaves_room → Finding f round starts ends 0
-finding_start round h p e =
-    record { becomes = h; most = omega arith; starts_room = p; ends_room = e; file = λ s l. absurd (omega arith) }
+pub finding_start : {f : List ℕ} (round : ℕ) {lists : List OpenEntries} → AcceptedFile f → length lists ≡ slaves_room → Finding f round lists 0
+finding_start round h room =
+    record { becomes = h; most = omega arith; room = room; file = λ s l. absurd (omega arith) }
 
-module _ {f : List ℕ} {round : ℕ} {starts ends : List ℕ} {n : ℕ} (h : Finding f round starts ends n) {count : ℕ} (all : count ≡ slave_count f) where
-  pub finding_next : {start end : ℕ} → n < count → RoundFileIs (decode f) round n start end → Finding f round (set starts n start) (set ends n end) (n + 1)
+module _ {f : List ℕ} {round : ℕ} {lists : List OpenEntries} {n : ℕ} (h : Finding f round lists n) {count : ℕ} (all : count ≡ slave_count f) where
+  pub finding_next : {start end : ℕ} → n < count → RoundFileIs (decode f) round n start end → Finding f round (set lists n (record { start = start; end = end })) (n + 1)
   finding_next {start} {end} more is =
+      let new : OpenEntries = record { start = start; end = end } in
       let few : n < slaves_room = omega (arith, h.becomes.legal.count) in
       record {
         becomes = h.becomes;
         most = omega arith;
-        starts_room = length-set starts n start ∙ h.starts_room;
-        ends_room = length-set ends n end ∙ h.ends_room;
+        room = length-set lists n new ∙ h.room;
         file = λ s l. by_case (eqb s n)
-            (λ e.
-            let same : s ≡ n = eqb-true s n e in
-            rw (same, get_or-set_same starts n start 0 (omega (arith, h.starts_room)), get_or-set_same ends n end 0 (omega (arith, h.ends_room))) is)
-            (λ e.
-            let other = eqb-false s n e in
-            rw (get_or-set_other starts n s start 0 other, get_or-set_other ends n s end 0 other) (h.file s (below s l other)));
+            (λ e. let same : s ≡ n = eqb-true s n e in rw (same, get_or-set_same lists n new no_entries (omega (arith, h.room))) is)
+            (λ e. let other = eqb-false s n e in rw (get_or-set_other lists n s new no_entries other) (h.file s (below s l other)));
       }
     where
       below : (s : ℕ) → s < n + 1 → (s ≡ n → ⊥) → s < n
       below s l other = omega arith
 
-  pub finding_done : count ≤ n → RoundFilesAre (decode f) round starts ends
-  finding_done over =
-      record {
-        starts_room = h.starts_room;
-        ends_room = h.ends_room;
-        file = λ s l. h.file s (omega arith);
-      }
+  pub finding_done : count ≤ n → RoundFilesAre (decode f) round lists
+  finding_done over = record { room = h.room; file = λ s l. h.file s (omega arith) }

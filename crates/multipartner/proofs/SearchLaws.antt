@@ -4,10 +4,10 @@ use Prim.Native.Nat.{ℕ, suc, ◌+◌, ◌-◌, ◌^◌, ◌≤◌, ◌<◌}
 use native.Mathlib.Omega.{arith}
 use mathlib.Core.Path.{◌≡◌, refl, sym, ap, ◌∙◌}
 use mathlib.Core.List.{List}
-use mathlib.Core.Bool.{Bool, true, false, not}
+use mathlib.Core.Bool.{Bool, true, false}
 use lib.ListN.{length}
 use lib.Dec.{ltb}
-use borrow.Author.Tests.{lt-leb, ltb-true, ltb-false, not-true}
+use borrow.Author.Tests.{lt-leb, ltb-true, ltb-false}
 use Rattle.file.specs.Rules.Layout.{record_size}
 use Rattle.file.specs.Rules.Cluster.{Slave, Cluster, is_awake, bytes_in}
 use Rattle.file.specs.Rules.Decode.{decode}

@@ -7,33 +7,37 @@ use mathlib.Core.List.{List}
 use mathlib.Core.Bool.{Bool, true, false, not}
 use lib.ListN.{length, get_or, set, length-set}
 use lib.Seq.{get_or-set_same, get_or-set_other}
-use lib.Dec.{leb, ltb, eqb}
-use lib.Bits.{bit_and}
-use borrow.Author.Tests.{lt-ltb, le-ltb, le-leb, lt-leb, ltb-true, eqb-true, eqb-false, not-true, not-false}
+use lib.Dec.{ltb, eqb}
+use borrow.Author.Tests.{lt-ltb, le-ltb, ltb-true, eqb-true, eqb-false, not-true, not-false}
 use Rattle.file.specs.Rules.Order.{both, either}
-use Rattle.file.specs.Rules.Cluster.{Cluster, bytes_in}
+use Rattle.file.specs.Rules.Bytes.{All, all_empty, all_next}
+use Rattle.file.specs.Rules.Cluster.{File, Cluster, bytes_among, bytes_in}
+use Rattle.file.specs.Rules.Legal.{LegalFile}
 use Rattle.file.specs.Rules.Decode.{decode}
 use Rattle.file.specs.Inner.Places.{slaves_room, slave_of, file_place, SameShape}
 use Rattle.file.specs.Inner.Accepted.{AcceptedFile, slave_count, FoundFile, file_found, find_file}
 use Rattle.file.specs.Inner.FileAnswers.{found_file}
 use mir.Val.{Fits}
-use mir.Syntax.{w32}
+use mir.Syntax.{w16, w32}
+use Rattle.file.specs.declared.types.FileNumber.{FileNumber}
 use Rattle.file.specs.declared.records.FileBytes.{FileBytes}
-use Rattle.file.proofs.Order.{by_case, both_right, both_true, both_false_left, both_false_right, both-next, either_right}
+use Rattle.file.proofs.Order.{by_case, both_right, both_true, both_false_left, both_false_right}
 use Rattle.file.proofs.Shape.{shape_count, shape_bytes-length}
 use Rattle.file.proofs.AtWidth.{shape_file_place}
-use Rattle.file.proofs.ReaderLaws.{byte-there, place-within, length_limit}
-use Rattle.master_slave.specs.Rules.Bus.{slots, joined}
+use Rattle.file.proofs.ReaderLaws.{slave-legal, byte-there, place-within, length_limit}
+use Rattle.master_slave.specs.Rules.Bus.{slots}
 use Rattle.multipartner.specs.Rules.Entries.{Entry, entry_of, entry_there, acts, byte_place, receives, sends}
 use Rattle.multipartner.specs.Rules.Multipartner.{within, may_store, send_place, store_place, byte_there}
 use Rattle.multipartner.specs.Inner.EntryForm.{file_numbers, entry_from, evaluated, Reaches, code_of, action_by, action_from, Action, ending, sending, receiving, resting}
-use Rattle.multipartner.specs.Inner.Slots.{FileIs, FilesKept, KeptFor, place_in, act_sends, act_stores, is_sender, SlotActIs, EntryActIs, ActedAt, StoresLow, put_store}
+use Rattle.multipartner.specs.Inner.Slots.{no_file, FileIs, FilesKept, KeptFor, place_in, act_sends, act_stores, SlotActIs, EntryActIs, ActedAt}
 use Rattle.multipartner.specs.declared.entry.Entry as Code
 use Rattle.multipartner.specs.declared.entry.EntryAction.{EntryAction}
 use Rattle.multipartner.specs.declared.entry.EntryAction.TheVariants as Action
+use Rattle.multipartner.specs.declared.kept_files.KeptFile.{KeptFile}
 use Rattle.multipartner.specs.declared.slot_act.SlotAct.{SlotAct}
 use Rattle.multipartner.specs.declared.slot_act.SlotAct.TheVariants as Acts
 use Rattle.multipartner.proofs.EntryLaws.{Does, does, is_sending, is_receiving}
+use Rattle.std.specs.Prelude.{Option, Some, None}
 use Rattle.std.specs.Prelude.{Option, Some, None}
 
 -- ---- a file that was found, or not
@@ -89,49 +93,55 @@ module _ {f : List ℕ} {s n : ℕ} {r : Option FileBytes} (is : found_file r �
         inside = omega (arith, fact.lies, fact.has, place-within h s n (omega (arith, fact.has, fact.some)));
       }
 
+-- no file has more than 256 records
+among_short : {xs : List File} (n : ℕ) → All LegalFile xs → length (bytes_among xs n) ≤ 1024
+unfolding bytes_among
+among_short n all_empty = omega arith
+among_short n (all_next {a = x} p r) = by_case (eqb x.number n) (λ e. rw e (omega (arith, p.most, p.whole))) (λ e. rw e (among_short n r))
+
+file_short : {f : List ℕ} (s n : ℕ) → AcceptedFile f → s < slave_count f → length (bytes_in (slave_of (decode f) s) n) ≤ 1024
+unfolding bytes_in
+file_short s n h there = among_short n (slave-legal h s there).files
+
 module _ {f : List ℕ} {s n place size : ℕ} (h : AcceptedFile f) (is : FileIs f s n place size) where
   pub place-low : Fits w32 place
   place-low = omega (arith, is.inside, length_limit h)
 
-  pub size_low : Fits w32 size
-  size_low = omega (arith, is.inside, length_limit h)
+  pub size_low : s < slave_count f → Fits w16 size
+  size_low there = omega (arith, is.has, file_short s n h there)
 
 pub accepted-low : {f : List ℕ} → AcceptedFile f → length f < 2 ^ 32
 accepted-low h = omega (arith, length_limit h)
 
-module _ {f : List ℕ} {s n : ℕ} {numbers places sizes : List ℕ} (there : s < slave_count f) (k : FilesKept f numbers places sizes) where
-  pub keep_same : n < file_numbers → get_or numbers s 0 ≡ n → KeptFor f s n numbers places sizes
-  keep_same few is = record { kept = k; named = rw is at (k.file s there (rw is few)) }
+module _ {f : List ℕ} {s : ℕ} {known : List KeptFile} (there : s < slave_count f) (k : FilesKept f known) where
+  pub keep_same : {n : ℕ} → n < file_numbers → {t : Bool} → t ≡ eqb (get_or known s no_file).number.0 n → t ≡ true → KeptFor f s n known
+  keep_same {n} few tests yes' =
+      let is : (get_or known s no_file).number.0 ≡ n = eqb-true _ n (sym tests ∙ yes') in
+      record { kept = k; named = rw is at (k.file s there (rw is few)) }
 
-  pub keep_new : {place size : ℕ} → AcceptedFile f → FileIs f s n place size → KeptFor f s n (set numbers s n) (set places s place) (set sizes s size)
-  keep_new {place} {size} h is =
+  pub keep_new : (number : FileNumber) {place size : ℕ} → AcceptedFile f → FileIs f s number.0 place size
+      → KeptFor f s number.0 (set known s (record { place = place; size = size; number = number }))
+  keep_new number {place} {size} h is =
+      let new : KeptFile = record { place = place; size = size; number = number } in
       let few : s < slaves_room = omega (arith, h.legal.count) in
-      let number = get_or-set_same numbers s n 0 (omega (arith, k.numbers_room)) in
-      let lies = get_or-set_same places s place 0 (omega (arith, k.places_room)) in
-      let has = get_or-set_same sizes s size 0 (omega (arith, k.sizes_room)) in
+      let put : get_or (set known s new) s no_file ≡ new = get_or-set_same known s new no_file (omega (arith, k.room)) in
       record {
         kept =
             record {
-              numbers_room = length-set numbers s n ∙ k.numbers_room;
-              places_room = length-set places s place ∙ k.places_room;
-              sizes_room = length-set sizes s size ∙ k.sizes_room;
+              room = length-set known s new ∙ k.room;
               file = λ t l. by_case (eqb t s)
-                  (λ e. let same : t ≡ s = eqb-true t s e in rw (same, number, lies, has) (λ m. is))
-                  (λ e.
-                  let other = eqb-false t s e in
-                  rw (get_or-set_other numbers s t n 0 other, get_or-set_other places s t place 0 other, get_or-set_other sizes s t size 0 other) (k.file t l));
+                  (λ e. let same : t ≡ s = eqb-true t s e in rw (same, put) (λ m. is))
+                  (λ e. let other = eqb-false t s e in rw (get_or-set_other known s t new no_file other) (k.file t l));
             };
-        named = rw (lies, has) is;
+        named = rw put is;
       }
 
 -- a round moves no file and resizes none
-pub kept_stay : {f g numbers places sizes : List ℕ} → (decode g).edition ≡ (decode f).edition → SameShape (decode f).slaves (decode g).slaves → length g ≡ length f
-    → FilesKept f numbers places sizes → FilesKept g numbers places sizes
+pub kept_stay : {f g : List ℕ} {known : List KeptFile} → (decode g).edition ≡ (decode f).edition → SameShape (decode f).slaves (decode g).slaves → length g ≡ length f
+    → FilesKept f known → FilesKept g known
 kept_stay {f} {g} edition same long k =
     record {
-      numbers_room = k.numbers_room;
-      places_room = k.places_room;
-      sizes_room = k.sizes_room;
+      room = k.room;
       file = λ s l m.
           let is = k.file s (omega (arith, shape_count same)) m in
           record {
@@ -142,18 +152,6 @@ kept_stay {f} {g} edition same long k =
     }
 
 -- ---- where a receive may store
-
-pub store_low : (e : Code.Entry) (slot : ℕ) → e.address.file.0 < 0x10 → false ≡ may_store (entry_from e) slot
-unfolding may_store entry_from
-store_low e slot h = sym (both_false_left _ (lt-leb _ _ h))
-
-pub store-high : (e : Code.Entry) (slot : ℕ) → 0x3C < e.address.file.0 → false ≡ may_store (entry_from e) slot
-unfolding may_store entry_from
-store-high e slot h = sym (both_false_right _ (both_false_left _ (lt-leb _ _ h)))
-
-pub store-place : (e : Code.Entry) (slot : ℕ) {b : ℕ} → 0x10 ≤ e.address.file.0 → e.address.file.0 ≤ 0x3C → b ≡ byte_place (entry_from e) slot → leb 4 b ≡ may_store (entry_from e) slot
-unfolding may_store entry_from
-store-place e slot low high at = rw at (sym (both-next _ (le-leb _ _ low) ∙ both-next _ (le-leb _ _ high)))
 
 -- ---- what an entry makes a slave do
 
@@ -270,57 +268,15 @@ module _ (f : List ℕ) (at : ℕ) (e : Code.Entry) (is : entry_from e ≡ evalu
       let file : e.address.file.0 ≡ get_or f at 0 / 4 = ap (λ (x : Entry). x.file) is in
       omega (arith, file)
 
-  pub entry_acted : {s : ℕ} (slot : ℕ) {act : SlotAct} {numbers places sizes : List ℕ} → AcceptedFile f → KeptFor f s e.address.file.0 numbers places sizes
-      → EntryActIs f (entry_from e) slot (get_or places s 0) (get_or sizes s 0) act → ActedAt f s at slot act numbers places sizes
-  entry_acted {s} slot {places = places} {sizes} h k act =
-      let named : FileIs f s (entry_from e).file (get_or places s 0) (get_or sizes s 0) = unfold entry_from in k.named in
+  pub entry_acted : {s : ℕ} (slot : ℕ) {act : SlotAct} {known : List KeptFile} → AcceptedFile f → KeptFor f s e.address.file.0 known
+      → EntryActIs f (entry_from e) slot (get_or known s no_file).place (get_or known s no_file).size act → ActedAt f s at slot act known
+  entry_acted {s} slot {known = known} h k act =
+      let named : FileIs f s (entry_from e).file (get_or known s no_file).place (get_or known s no_file).size = unfold entry_from in k.named in
       record { does = act_evaluated is (entry-acts slot h (entry_from e) named act); kept = k.kept }
 
--- ---- what an act is, to the bus and to the file
-
-pub bus_sends : {act : SlotAct} {b : ℕ} (bus : ℕ) → act ≡ Acts.Sends b → bit_and bus b ≡ joined bus (act_sends act)
-unfolding act_sends joined
-bus_sends bus q = rw q
-
-pub bus_stores : {act : SlotAct} {p : ℕ} (bus : ℕ) → act ≡ Acts.Stores p → bus ≡ joined bus (act_sends act)
-unfolding act_sends joined
-bus_stores bus q = rw q
-
-pub bus_rests : {act : SlotAct} (bus : ℕ) → act ≡ Acts.Rests → bus ≡ joined bus (act_sends act)
-unfolding act_sends joined
-bus_rests bus q = rw q
+-- ---- nobody else heard
 
 pub either-none : (b : Bool) → either b false ≡ b
 unfolding either
 either-none true = refl
 either-none false = refl
-
-pub heard-sends : {act : SlotAct} {b : ℕ} (heard : Bool) → act ≡ Acts.Sends b → true ≡ either heard (is_sender act)
-unfolding is_sender
-heard-sends heard q = rw q (sym (either_right heard refl))
-
-pub heard-stores : {act : SlotAct} {p : ℕ} (heard : Bool) → act ≡ Acts.Stores p → heard ≡ either heard (is_sender act)
-unfolding is_sender
-heard-stores heard q = rw q (sym (either-none heard))
-
-pub heard_rests : {act : SlotAct} (heard : Bool) → act ≡ Acts.Rests → heard ≡ either heard (is_sender act)
-unfolding is_sender
-heard_rests heard q = rw q (sym (either-none heard))
-
--- ---- the places that are stored at, with one act more
-
-pub stores-fit : {act : SlotAct} {p : ℕ} → StoresLow act → act ≡ Acts.Stores p → Fits w32 p
-stores-fit {p = p} h q = omega (arith, h.low p q)
-
-module _ (places : List ℕ) (n : ℕ) {act : SlotAct} where
-  pub put-sends : {b : ℕ} → act ≡ Acts.Sends b → ◌≡◌ {A = List ℕ × ℕ} (places, n) (put_store places n act)
-  unfolding put_store
-  put-sends q = rw q
-
-  pub put-stores : {p : ℕ} → act ≡ Acts.Stores p → ◌≡◌ {A = List ℕ × ℕ} (set places n p, n + 1) (put_store places n act)
-  unfolding put_store
-  put-stores q = rw q
-
-  pub put_rests : act ≡ Acts.Rests → ◌≡◌ {A = List ℕ × ℕ} (places, n) (put_store places n act)
-  unfolding put_store
-  put_rests q = rw q

@@ -6,10 +6,8 @@ use native.Mathlib.Numerals.{add-one}
 use mathlib.Core.Path.{◌≡◌, refl, sym, ap, ◌∙◌}
 use mathlib.Core.List.{List, [], ◌∷◌}
 use mathlib.Core.Bool.{Bool, true, false, not}
-use lib.ListN.{length, get_or, set, replicate}
-use lib.Seq.{get_or-set_same}
+use lib.ListN.{length, get_or, set, take, replicate}
 use lib.Dec.{ltb}
-use borrow.Author.Tests.{not-false}
 use Rattle.file.specs.Rules.Order.{either}
 use Rattle.file.specs.Rules.Cluster.{Cluster, is_awake, bytes_in, logical_name, configuration}
 use Rattle.file.specs.Rules.Decode.{decode}
@@ -27,18 +25,20 @@ use Rattle.master_slave.specs.Rules.Effect.{Effect}
 use Rattle.multipartner.specs.Rules.Multipartner.{passed_over_lem}
 use Rattle.multipartner.specs.Inner.Slots.{multipartner_effect}
 use Rattle.master_slave.specs.Inner.Carried.{Carried}
-use Rattle.multipartner.specs.Inner.Slots.{slots_effect, planned_entries, entries_in, RoundFilesAre, next_past, next_after, FilesKept, act_sends}
+use Rattle.multipartner.specs.Inner.Slots.{no_entries, no_file, slots_effect, planned_entries, entries_in, RoundFilesAre, next_past, next_after, FilesKept, act_sends}
 use Rattle.multipartner.specs.Inner.Slots.{is_sender, SlotActIs, ActedAt, StoresLow, put_store, stored_at, StoresWithin}
+use Rattle.multipartner.specs.declared.kept_files.KeptFile.{KeptFile}
+use Rattle.multipartner.specs.declared.round_files.OpenEntries.{OpenEntries}
 use Rattle.multipartner.specs.declared.slot_act.SlotAct.{SlotAct}
 use Rattle.multipartner.proofs.SlotActLaws.{either-none, kept_stay}
 use Rattle.master_slave.proofs.Bus.{bus_byte-byte, mask_below, mask_next, mask_silent, Filled, filled-length, filled-start, filled_next, filled-done}
 use Rattle.multipartner.proofs.StoresKept.{kept_received}
 use Rattle.master_slave.proofs.Untouched.{files_of-slave}
 use Rattle.multipartner.proofs.Unstored.{received_other, received_awake, awake-slave}
-use Rattle.multipartner.proofs.StoreLaws.{stored-length, stored_by, aim, received_by, received-all, stored-becomes}
-use Rattle.multipartner.proofs.OpenLaws.{actor, Rest, OpenAt, OpenAll, open_start, open_within, open_after, open_set, open_later}
+use Rattle.multipartner.proofs.StoreLaws.{stored-length, stored-first, stored_by, aim, received_by, received-all, stored-becomes}
+use Rattle.multipartner.proofs.OpenLaws.{actor, Rest, OpenAt, OpenAll, moved, open_start, open_within, open_after, open_set, open_later}
 use Rattle.multipartner.proofs.SearchLaws.{RoundActIs, round_act, round_rests, Searching, searching_start, searching_done, searching_end, searching_wait, searching_here, searching_over}
-use Rattle.multipartner.proofs.HearLaws.{someone, someone_yes, someone_no, act_within, SlotHearing, slot_hearing_start, slot_hearing_next, heard-byte, heard_any, heard-stored, heard-within}
+use Rattle.multipartner.proofs.HearLaws.{someone, someone_yes, someone_no, act_within, SlotHearing, slot_hearing_start, slot_hearing_next, heard-byte, heard_any, heard-stored, stored-few, heard-within}
 
 -- ---- the round files stay where and what they are
 
@@ -78,35 +78,34 @@ module _ (c d : Cluster) (edition : d.edition ≡ c.edition) (same : SameShape c
           same = λ later l. rw (kept.files, entries-kept) (o.same later l);
         }
 
-  files-kept : {passed : Entry → Bool} {slot n : ℕ} {starts ends : List ℕ} → ((s : ℕ) → PartKept c d round s)
-      → OpenAll passed c round slot n starts ends → OpenAll passed d round slot n starts ends
+  files-kept : {passed : Entry → Bool} {slot n : ℕ} {lists : List OpenEntries} → ((s : ℕ) → PartKept c d round s)
+      → OpenAll passed c round slot n lists → OpenAll passed d round slot n lists
   files-kept kept are =
       record {
-        starts_room = are.starts_room;
-        ends_room = are.ends_room;
+        room = are.room;
         through = λ s m l. open_kept s (kept s) (are.through s m (omega (arith, shape_count same)));
         ahead = λ s m l. open_kept s (kept s) (are.ahead s m (omega (arith, shape_count same)));
       }
 
 -- the file, the number of its slaves, the entries that they still have to look at, the first n being through with the slot, and the
 -- files that are kept
-pub record Ready (passed : Entry → Bool) (f : List ℕ) (round count slot n : ℕ) (starts ends numbers places sizes : List ℕ) : Type 0 where
+pub record Ready (passed : Entry → Bool) (f : List ℕ) (round count slot n : ℕ) (lists : List OpenEntries) (known : List KeptFile) : Type 0 where
   pub becomes : Becomes f (decode f)
   pub low : round < 0x10
   pub all : count ≡ length (decode f).slaves
-  pub files : OpenAll passed (decode f) round slot n starts ends
-  pub kept : FilesKept f numbers places sizes
+  pub files : OpenAll passed (decode f) round slot n lists
+  pub kept : FilesKept f known
 
 -- in the next slot, with nothing stored, and with what the slaves stored
-module _ {passed : Entry → Bool} {f : List ℕ} {round count slot n : ℕ} {starts ends numbers places sizes : List ℕ} (r : Ready passed f round count slot n starts ends numbers places sizes)
+module _ {passed : Entry → Bool} {f : List ℕ} {round count slot n : ℕ} {lists : List OpenEntries} {known : List KeptFile} (r : Ready passed f round count slot n lists known)
     (over : count ≤ n) where
-  later : OpenAll passed (decode f) round (slot + 1) 0 starts ends
+  later : OpenAll passed (decode f) round (slot + 1) 0 lists
   later = open_later r.files (omega (arith, r.all))
 
-  ready_same : Ready passed f round count (slot + 1) 0 starts ends numbers places sizes
+  ready_same : Ready passed f round count (slot + 1) 0 lists known
   ready_same = record { becomes = r.becomes; low = r.low; all = r.all; files = later; kept = r.kept }
 
-  ready_next : {g : List ℕ} (sent : List ℕ) → Becomes g (received_in passed round slot (decode f) sent) → Ready passed g round count (slot + 1) 0 starts ends numbers places sizes
+  ready_next : {g : List ℕ} (sent : List ℕ) → Becomes g (received_in passed round slot (decode f) sent) → Ready passed g round count (slot + 1) 0 lists known
   ready_next {g} sent h =
       let c : Cluster = decode f in
       let d : Cluster = received_in passed round slot c sent in
@@ -115,7 +114,7 @@ module _ {passed : Entry → Bool} {f : List ℕ} {round count slot n : ℕ} {st
       let files = files_of-slave round c d (received_other passed round slot c sent round (λ l. absurd (above r.low l))) in
       let names = files_of-slave configuration c d (received_other passed round slot c sent configuration (λ l. omega (arith, l))) in
       let awake = awake-slave c d (received_awake passed round slot c sent) in
-      let are : OpenAll passed d round (slot + 1) 0 starts ends = files-kept c d edition shape round (λ s. record { files = files s; names = names s; awake = awake s }) later in
+      let are : OpenAll passed d round (slot + 1) 0 lists = files-kept c d edition shape round (λ s. record { files = files s; names = names s; awake = awake s }) later in
       record {
         becomes = becomes-decoded h;
         low = r.low;
@@ -130,114 +129,124 @@ module _ {passed : Entry → Bool} {f : List ℕ} {round count slot n : ℕ} {st
 -- ---- the loop over a slot's slaves
 
 -- the first n slaves are heard, and the entries that each still has to look at are known
-pub record SlotHeard (passed : Entry → Bool) (f : List ℕ) (round count slot n bus : ℕ) (heard : Bool) (starts ends stores : List ℕ) (stored : ℕ) (numbers places sizes : List ℕ) : Type 0 where
-  pub ready : Ready passed f round count slot n starts ends numbers places sizes
+pub record SlotHeard (passed : Entry → Bool) (f : List ℕ) (round count slot n bus : ℕ) (heard : Bool) (lists : List OpenEntries) (stores : List ℕ) (stored : ℕ) (known : List KeptFile) : Type 0 where
+  pub ready : Ready passed f round count slot n lists known
   pub hearing : SlotHearing passed f round slot n bus heard stores stored
 
-pub heard-none : {passed : Entry → Bool} {f : List ℕ} {round count slot : ℕ} {starts ends stores numbers places sizes : List ℕ}
-    → Ready passed f round count slot 0 starts ends numbers places sizes → length stores ≡ slaves_room
-    → SlotHeard passed f round count slot 0 255 false starts ends stores 0 numbers places sizes
+pub heard-none : {passed : Entry → Bool} {f : List ℕ} {round count slot : ℕ} {lists : List OpenEntries} {stores : List ℕ} {known : List KeptFile}
+    → Ready passed f round count slot 0 lists known → length stores ≡ slaves_room
+    → SlotHeard passed f round count slot 0 255 false lists stores 0 known
 heard-none {passed} {f} {round} {slot = slot} r room = record { ready = r; hearing = slot_hearing_start passed f round slot room }
 
-module _ {passed : Entry → Bool} {f : List ℕ} {round count slot n bus : ℕ} {heard : Bool} {starts ends stores : List ℕ} {stored : ℕ} {numbers places sizes : List ℕ}
-    (h : SlotHeard passed f round count slot n bus heard starts ends stores stored numbers places sizes) where
+module _ {passed : Entry → Bool} {f : List ℕ} {round count slot n bus : ℕ} {heard : Bool} {lists : List OpenEntries} {stores : List ℕ} {stored : ℕ} {known : List KeptFile}
+    (h : SlotHeard passed f round count slot n bus heard lists stores stored known) where
   module _ (more : n < count) where
     there : n < length (decode f).slaves
     there = omega (arith, h.ready.all)
 
-    open_there : OpenAt passed (decode f) round slot n (get_or starts n 0) (get_or ends n 0)
+    open_there : OpenAt passed (decode f) round slot n (get_or lists n no_entries).start (get_or lists n no_entries).end
     open_there = h.ready.files.ahead n (omega arith) there
 
     -- where its entries begin and end
-    pub ends_low : get_or ends n 0 ≤ 65536
+    pub ends_low : (get_or lists n no_entries).end ≤ 65536
     ends_low = omega (arith, (open_within open_there h.ready.becomes).within, length_limit h.ready.becomes)
 
-    pub starts-low : get_or starts n 0 ≤ 65536
+    pub starts-low : (get_or lists n no_entries).start ≤ 65536
     starts-low = omega (arith, ends_low, (open_within open_there h.ready.becomes).rising)
 
-    pub slave_search : Searching passed f round slot n (get_or starts n 0) (get_or starts n 0) (get_or ends n 0)
+    pub slave_search : Searching passed f round slot n (get_or lists n no_entries).start (get_or lists n no_entries).start (get_or lists n no_entries).end
     slave_search = searching_start h.ready.becomes there open_there
 
-    next_ready : {next : ℕ} {numbers' places' sizes' : List ℕ} → OpenAt passed (decode f) round (slot + 1) n next (get_or ends n 0) → FilesKept f numbers' places' sizes'
-        → Ready passed f round count slot (n + 1) (set starts n next) ends numbers' places' sizes'
+    next_ready : {next : ℕ} {known' : List KeptFile} → OpenAt passed (decode f) round (slot + 1) n next (get_or lists n no_entries).end → FilesKept f known'
+        → Ready passed f round count slot (n + 1) (moved lists n next) known'
     next_ready opened kept =
         let r = h.ready in
         record { becomes = r.becomes; low = r.low; all = r.all; files = open_set r.files (omega (arith, there, r.becomes.legal.count)) opened; kept = kept }
 
     -- one more slave, of whom an entry acts, or none
-    pub heard-acts : {act : SlotAct} {bus' stored' next : ℕ} {heard' : Bool} {stores' numbers' places' sizes' : List ℕ} → RoundActIs passed (decode f) round slot n act
+    pub heard-acts : {act : SlotAct} {bus' stored' next : ℕ} {heard' : Bool} {stores' : List ℕ} {known' : List KeptFile} → RoundActIs passed (decode f) round slot n act
         → bus' ≡ joined bus (act_sends act) → heard' ≡ either heard (is_sender act)
-        → (stores', stored') ≡ put_store stores stored act → OpenAt passed (decode f) round (slot + 1) n next (get_or ends n 0) → FilesKept f numbers' places' sizes'
-        → SlotHeard passed f round count slot (n + 1) bus' heard' (set starts n next) ends stores' stored' numbers' places' sizes'
+        → (stores', stored') ≡ put_store stores stored act → OpenAt passed (decode f) round (slot + 1) n next (get_or lists n no_entries).end → FilesKept f known'
+        → SlotHeard passed f round count slot (n + 1) bus' heard' (moved lists n next) stores' stored' known'
     heard-acts does byte any put opened kept =
         record { ready = next_ready opened kept; hearing = slot_hearing_next h.hearing there does h.ready.becomes byte any put }
 
-    pub heard_rests : {next : ℕ} → actor passed round slot (slave_of (decode f) n) ≡ no_entry → OpenAt passed (decode f) round (slot + 1) n next (get_or ends n 0)
-        → SlotHeard passed f round count slot (n + 1) bus heard (set starts n next) ends stores stored numbers places sizes
+    pub heard_rests : {next : ℕ} → actor passed round slot (slave_of (decode f) n) ≡ no_entry → OpenAt passed (decode f) round (slot + 1) n next (get_or lists n no_entries).end
+        → SlotHeard passed f round count slot (n + 1) bus heard (moved lists n next) stores stored known
     unfolding act_sends is_sender put_store joined
     heard_rests none opened = heard-acts (round_rests none) refl (sym (either-none heard)) refl opened h.ready.kept
 
-  -- what `store` asks
-  pub stores-within : count ≤ n → StoresWithin f stores stored
-  stores-within over = heard-within h.hearing (omega (arith, h.ready.all)) h.ready.becomes
+  -- the places to store at are within their array, and what `store` asks of them
+  module _ (over : count ≤ n) where
+    pub stores_room : stored ≤ length stores
+    stores_room = stored-few h.hearing (omega (arith, h.ready.all)) h.ready.becomes
+
+    pub stores-within : StoresWithin f (take stored stores)
+    stores-within = heard-within h.hearing (omega (arith, h.ready.all)) h.ready.becomes
 
 -- ---- the search for a slave's entry
 
 -- the slaves before it are heard, and its entry is yet to come
-pub record Looking (passed : Entry → Bool) (f : List ℕ) (round count slot n bus : ℕ) (heard : Bool) (starts ends stores : List ℕ) (stored : ℕ) (numbers places sizes : List ℕ)
+pub record Looking (passed : Entry → Bool) (f : List ℕ) (round count slot n bus : ℕ) (heard : Bool) (lists : List OpenEntries) (stores : List ℕ) (stored : ℕ) (known : List KeptFile)
     (at next end : ℕ) : Type 0 where
   pub search : Searching passed f round slot n at next end
-  pub before : SlotHeard passed f round count slot n bus heard starts ends stores stored numbers places sizes
+  pub before : SlotHeard passed f round count slot n bus heard lists stores stored known
   pub more : n < count
-  pub last : end ≡ get_or ends n 0
+  pub last : end ≡ (get_or lists n no_entries).end
 
-pub looking_start : {passed : Entry → Bool} {f : List ℕ} {round count slot n bus : ℕ} {heard : Bool} {starts ends stores : List ℕ} {stored : ℕ} {numbers places sizes : List ℕ}
-    → SlotHeard passed f round count slot n bus heard starts ends stores stored numbers places sizes → n < count
-    → Looking passed f round count slot n bus heard starts ends stores stored numbers places sizes (get_or starts n 0) (get_or starts n 0) (get_or ends n 0)
+pub looking_start : {passed : Entry → Bool} {f : List ℕ} {round count slot n bus : ℕ} {heard : Bool} {lists : List OpenEntries} {stores : List ℕ} {stored : ℕ} {known : List KeptFile}
+    → SlotHeard passed f round count slot n bus heard lists stores stored known → n < count
+    → Looking passed f round count slot n bus heard lists stores stored known (get_or lists n no_entries).start (get_or lists n no_entries).start (get_or lists n no_entries).end
 looking_start h more = record { search = slave_search h more; before = h; more = more; last = refl }
 
-module _ {passed : Entry → Bool} {f : List ℕ} {round count slot n bus : ℕ} {heard : Bool} {starts ends stores : List ℕ} {stored : ℕ} {numbers places sizes : List ℕ} {at next end : ℕ}
-    (l : Looking passed f round count slot n bus heard starts ends stores stored numbers places sizes at next end) where
-  opened : OpenAt passed (decode f) round (slot + 1) n next (get_or ends n 0)
+module _ {passed : Entry → Bool} {f : List ℕ} {round count slot n bus : ℕ} {heard : Bool} {lists : List OpenEntries} {stores : List ℕ} {stored : ℕ} {known : List KeptFile} {at next end : ℕ}
+    (l : Looking passed f round count slot n bus heard lists stores stored known at next end) where
+  opened : OpenAt passed (decode f) round (slot + 1) n next (get_or lists n no_entries).end
   opened = rw l.last at l.search.later
 
   -- the ways out meet in what they left
-  pub heard-same : {numbers₁ numbers₂ places₁ places₂ sizes₁ sizes₂ stores₁ stores₂ : List ℕ} {bus₁ bus₂ stored₁ stored₂ next₁ next₂ : ℕ} {heard₁ heard₂ : Bool}
-      → numbers₂ ≡ numbers₁ → places₂ ≡ places₁ → sizes₂ ≡ sizes₁ → stores₂ ≡ stores₁ → bus₂ ≡ bus₁ → heard₂ ≡ heard₁ → stored₂ ≡ stored₁ → next₂ ≡ next₁
-      → SlotHeard passed f round count slot (n + 1) bus₁ heard₁ (set starts n next₁) ends stores₁ stored₁ numbers₁ places₁ sizes₁
-      → SlotHeard passed f round count slot (n + 1) bus₂ heard₂ (set starts n next₂) ends stores₂ stored₂ numbers₂ places₂ sizes₂
-  heard-same e₁ e₂ e₃ e₄ e₅ e₆ e₇ e₈ h = rw (e₁, e₂, e₃, e₄, e₅, e₆, e₇, e₈) h
+  pub heard-same : {known₁ known₂ : List KeptFile} {stores₁ stores₂ : List ℕ} {bus₁ bus₂ stored₁ stored₂ next₁ next₂ : ℕ} {heard₁ heard₂ : Bool}
+      → known₂ ≡ known₁ → stores₂ ≡ stores₁ → bus₂ ≡ bus₁ → heard₂ ≡ heard₁ → stored₂ ≡ stored₁ → next₂ ≡ next₁
+      → SlotHeard passed f round count slot (n + 1) bus₁ heard₁ (moved lists n next₁) stores₁ stored₁ known₁
+      → SlotHeard passed f round count slot (n + 1) bus₂ heard₂ (moved lists n next₂) stores₂ stored₂ known₂
+  heard-same e₁ e₂ e₃ e₄ e₅ e₆ h = rw (e₁, e₂, e₃, e₄, e₅, e₆) h
 
   -- where the slave's next search begins is no large number
-  pub next_low : {numbers₁ places₁ sizes₁ stores₁ : List ℕ} {bus₁ stored₁ : ℕ} {heard₁ : Bool} (next₁ : ℕ)
-      → SlotHeard passed f round count slot (n + 1) bus₁ heard₁ (set starts n next₁) ends stores₁ stored₁ numbers₁ places₁ sizes₁ → next₁ < 2 ^ 32
-  next_low next₁ h =
-      let r = h.ready in
-      let within = open_within (r.files.through n (omega arith) l.search.slave) r.becomes in
-      let put : get_or (set starts n next₁) n 0 ≡ next₁ = get_or-set_same starts n next₁ 0 (omega (arith, l.before.ready.files.starts_room, l.search.slave, r.becomes.legal.count)) in
-      omega (arith, put, within.rising, within.within, length_limit r.becomes)
+  pub next_low : next < 2 ^ 32
+  next_low =
+      let within = open_within l.search.later l.search.becomes in
+      omega (arith, within.rising, within.within, length_limit l.search.becomes)
 
   -- the way out past the last entry
-  pub looking_done : end ≤ at → SlotHeard passed f round count slot (n + 1) bus heard (set starts n next) ends stores stored numbers places sizes
+  pub looking_done : end ≤ at → SlotHeard passed f round count slot (n + 1) bus heard (moved lists n next) stores stored known
   looking_done over = heard_rests l.before l.more (searching_done l.search over) opened
 
   module _ (inside : at < end) {t : Bool} (stops : t ≡ Entries.ends (entry_there f at).operation) where
     -- the way out at the end entry
-    pub looking_end : t ≡ true → SlotHeard passed f round count slot (n + 1) bus heard (set starts n next) ends stores stored numbers places sizes
+    pub looking_end : t ≡ true → SlotHeard passed f round count slot (n + 1) bus heard (moved lists n next) stores stored known
     looking_end stop = heard_rests l.before l.more (searching_end l.search inside stops stop) opened
 
     module _ (goes : t ≡ false) where
       -- past an entry that waits
       pub looking_wait : {v : Bool} → v ≡ ltb slot (entry_there f at).start → v ≡ true → {next' : ℕ} → next' ≡ next
-          → Looking passed f round count slot n bus heard starts ends stores stored numbers places sizes (at + 4) next' end
+          → Looking passed f round count slot n bus heard lists stores stored known (at + 4) next' end
       looking_wait waits yes' is =
           record { search = rw is (searching_wait l.search inside stops goes waits yes'); before = l.before; more = l.more; last = l.last }
 
       module _ (start : (entry_there f at).start ≤ slot) {u : Bool} (able : u ≡ eligible passed (entry_there f at) slot) where
         -- past one that is over
-        pub looking_over : u ≡ false → {next' : ℕ} → next' ≡ next_past next at → Looking passed f round count slot n bus heard starts ends stores stored numbers places sizes (at + 4) next' end
+        pub looking_over : u ≡ false → {next' : ℕ} → next' ≡ next_past next at → Looking passed f round count slot n bus heard lists stores stored known (at + 4) next' end
         looking_over no' is =
             record { search = rw is (searching_over l.search inside stops goes start able no'); before = l.before; more = l.more; last = l.last }
+
+        -- where the next search begins then
+        pub after-low : {next' : ℕ} → next' ≡ next_after (entry_there f at) next at slot → next' < 2 ^ 32
+        after-low {next'} is =
+            let o : OpenAt passed (decode f) round (slot + 1) n next' end =
+            rw is (open_after slot l.search.becomes l.search.later inside (sym stops ∙ goes) start)
+            in
+            let within = open_within o l.search.becomes in
+            omega (arith, within.rising, within.within, length_limit l.search.becomes)
 
         -- what the acting entry makes the slave do
         pub looking_act : u ≡ true → {act : SlotAct} → SlotActIs (decode f) n slot (acts (entry_there f at)) act → RoundActIs passed (decode f) round slot n act
@@ -254,10 +263,10 @@ module _ {passed : Entry → Bool} {f : List ℕ} {round count slot n bus : ℕ}
             )
 
         -- the way out at the acting entry
-        pub looking_acts : u ≡ true → {act : SlotAct} {bus' stored' next' : ℕ} {heard' : Bool} {stores' numbers' places' sizes' : List ℕ}
-            → ActedAt f n at slot act numbers' places' sizes' → bus' ≡ joined bus (act_sends act)
+        pub looking_acts : u ≡ true → {act : SlotAct} {bus' stored' next' : ℕ} {heard' : Bool} {stores' : List ℕ} {known' : List KeptFile}
+            → ActedAt f n at slot act known' → bus' ≡ joined bus (act_sends act)
             → heard' ≡ either heard (is_sender act) → (stores', stored') ≡ put_store stores stored act → next' ≡ next_after (entry_there f at) next at slot
-            → SlotHeard passed f round count slot (n + 1) bus' heard' (set starts n next') ends stores' stored' numbers' places' sizes'
+            → SlotHeard passed f round count slot (n + 1) bus' heard' (moved lists n next') stores' stored' known'
         looking_acts yes' acted byte any put after =
             heard-acts l.before l.more (looking_act yes' acted.does) byte any put
             (rw (after, ← l.last) (open_after slot l.search.becomes l.search.later inside (sym stops ∙ goes) start)) acted.kept
@@ -265,11 +274,11 @@ module _ {passed : Entry → Bool} {f : List ℕ} {round count slot n bus : ℕ}
 -- ---- the loop over the slots
 
 -- f₀ is the file at the start, old the buffer with the firework stored
-pub record Running (passed : Entry → Bool) (f₀ : List ℕ) (round firework count : ℕ) (starts ends stores numbers places sizes old : List ℕ) (slot mask : ℕ) (buffer file : List ℕ) : Type 0 where
+pub record Running (passed : Entry → Bool) (f₀ : List ℕ) (round firework count : ℕ) (lists : List OpenEntries) (stores : List ℕ) (known : List KeptFile) (old : List ℕ) (slot mask : ℕ) (buffer file : List ℕ) : Type 0 where
   pub filled : Filled (sent_during passed round (decode f₀)) firework old slot buffer
   pub counted : mask ≡ mask_below_lem (sent_during passed round (decode f₀)) slot
   pub after : Becomes file (cluster_below passed round (decode f₀) slot)
-  pub ready : Ready passed file round count slot 0 starts ends numbers places sizes
+  pub ready : Ready passed file round count slot 0 lists known
   pub size : length file ≡ length f₀
   pub room : length stores ≡ slaves_room
 
@@ -282,31 +291,29 @@ unfolding cluster_below received_in sent_in
 start-after passed round c h = h
 
 -- no file is kept yet
-no_number : (s m : ℕ) → s < m → get_or (replicate {A = ℕ} m 255) s 0 ≡ 255
+abbrev none_known : List KeptFile
+none_known = replicate slaves_room (record { place = 0; size = 0; number = record { 0 = 255 } })
+
+no_number : (s m : ℕ) → s < m → (get_or (replicate {A = KeptFile} m (record { place = 0; size = 0; number = record { 0 = 255 } })) s no_file).number.0 ≡ 255
 no_number zero (suc m) l = refl
 no_number (suc s) (suc m) l = no_number s m (omega arith)
 no_number s zero l = absurd (omega arith)
 
-kept-none : {f places sizes : List ℕ} → AcceptedFile f → length places ≡ slaves_room → length sizes ≡ slaves_room → FilesKept f (replicate slaves_room 255) places sizes
-kept-none h p q =
-    record {
-      numbers_room = refl;
-      places_room = p;
-      sizes_room = q;
-      file = λ s l m. absurd (omega (arith, no_number s slaves_room (omega (arith, h.legal.count))));
-    }
+kept-none : {f : List ℕ} → AcceptedFile f → FilesKept f none_known
+kept-none h =
+    record { room = refl; file = λ s l m. absurd (omega (arith, no_number s slaves_room (omega (arith, h.legal.count)))) }
 
-pub running-start : {passed : Entry → Bool} {f : List ℕ} {round count : ℕ} {starts ends stores places sizes : List ℕ} (firework : ℕ) (old : List ℕ) → Becomes f (decode f)
+pub running-start : {passed : Entry → Bool} {f : List ℕ} {round count : ℕ} {lists : List OpenEntries} {stores : List ℕ} (firework : ℕ) (old : List ℕ) → Becomes f (decode f)
     → round < 0x10 → count ≡ length (decode f).slaves
-    → RoundFilesAre (decode f) round starts ends → slots ≤ length old → length stores ≡ slaves_room → length places ≡ slaves_room → length sizes ≡ slaves_room
-    → Running passed f round firework count starts ends stores (replicate slaves_room 255) places sizes (set old 0 firework) 1 0 (set old 0 firework) f
+    → RoundFilesAre (decode f) round lists → slots ≤ length old → length stores ≡ slaves_room
+    → Running passed f round firework count lists stores none_known (set old 0 firework) 1 0 (set old 0 firework) f
 unfolding sent_during sent_in anyone
-running-start {passed} {f} {round} firework old h low all files long room places_room sizes_room =
+running-start {passed} {f} {round} firework old h low all files long room =
     record {
       filled = filled-start (sent_during passed round (decode f)) firework old long;
       counted = start-mask (sent_during passed round (decode f)) refl;
       after = start-after passed round (decode f) h;
-      ready = record { becomes = h; low = low; all = all; files = open_start 1 files; kept = kept-none h places_room sizes_room };
+      ready = record { becomes = h; low = low; all = all; files = open_start 1 files; kept = kept-none h };
       size = refl;
       room = room;
     }
@@ -333,8 +340,8 @@ below_next :
 unfolding cluster_below sent_during
 below_next passed round c slot = rw add-one
 
-module _ {passed : Entry → Bool} {f₀ : List ℕ} {round firework count : ℕ} {starts ends stores₀ numbers₀ places₀ sizes₀ old : List ℕ} {slot mask : ℕ} {buffer file : List ℕ}
-    (h : Running passed f₀ round firework count starts ends stores₀ numbers₀ places₀ sizes₀ old slot mask buffer file) where
+module _ {passed : Entry → Bool} {f₀ : List ℕ} {round firework count : ℕ} {lists : List OpenEntries} {stores₀ : List ℕ} {known₀ : List KeptFile} {old : List ℕ} {slot mask : ℕ} {buffer file : List ℕ}
+    (h : Running passed f₀ round firework count lists stores₀ known₀ old slot mask buffer file) where
   pub mask-small : mask < 2 ^ slot
   mask-small = rw h.counted (mask_below (sent_during passed round (decode f₀)) slot)
 
@@ -350,8 +357,8 @@ module _ {passed : Entry → Bool} {f₀ : List ℕ} {round firework count : ℕ
   next-cluster : cluster_below passed round (decode f₀) (slot + 1) ≡ received_in passed round slot (decode file) (sent_by passed round slot (decode file).slaves)
   next-cluster = below_next passed round (decode f₀) slot ∙ rw (← h.after.decoded, now_sent)
 
-  module _ {n bus stored : ℕ} {heard : Bool} {stores after numbers places sizes : List ℕ} (more : slot < slots)
-      (heard_all : SlotHeard passed file round count slot n bus heard after ends stores stored numbers places sizes) (over : count ≤ n) where
+  module _ {n bus stored : ℕ} {heard : Bool} {stores : List ℕ} {after : List OpenEntries} {known : List KeptFile} (more : slot < slots)
+      (heard_all : SlotHeard passed file round count slot n bus heard after stores stored known) (over : count ≤ n) where
     q : SlotHearing passed file round slot n bus heard stores stored
     q = heard_all.hearing
 
@@ -363,7 +370,7 @@ module _ {passed : Entry → Bool} {f₀ : List ℕ} {round firework count : ℕ
 
     -- nobody sent
     pub running_silent : {mask' : ℕ} {file' : List ℕ} → heard ≡ false → mask' ≡ mask → file' ≡ file
-        → Running passed f₀ round firework count after ends stores numbers places sizes old (slot + 1) mask' (set buffer slot bus) file'
+        → Running passed f₀ round firework count after stores known old (slot + 1) mask' (set buffer slot bus) file'
     unfolding anyone
     running_silent {mask'} {file'} silent masked stays =
         let none : sent_by passed round slot (decode file).slaves ≡ [] = someone_no (sent_by passed round slot (decode file).slaves) (sym (heard_any q left) ∙ silent) in
@@ -380,9 +387,10 @@ module _ {passed : Entry → Bool} {f₀ : List ℕ} {round firework count : ℕ
         }
 
     -- someone sent, and the receivers stored
-    pub running-heard : {mask' : ℕ} {file' : List ℕ} → heard ≡ true → mask' ≡ 2 ^ slot + mask → file' ≡ stored_at file stores bus stored
-        → Running passed f₀ round firework count after ends stores numbers places sizes old (slot + 1) mask' (set buffer slot bus) file'
-    running-heard {mask'} {file'} some masked stored' =
+    pub running-heard : {mask' : ℕ} {file' : List ℕ} → heard ≡ true → mask' ≡ 2 ^ slot + mask → file' ≡ stored_at file (take stored stores) bus (length (take stored stores))
+        → Running passed f₀ round firework count after stores known old (slot + 1) mask' (set buffer slot bus) file'
+    running-heard {mask'} {file'} some masked puts =
+        let stored' : file' ≡ stored_at file stores bus stored = puts ∙ stored-first file stores bus stored (stores_room heard_all over) in
         let all : List ℕ = sent_by passed round slot (decode file).slaves in
         let loud : someone all ≡ true = sym (heard_any q left) ∙ some in
         let one : anyone (sent_during passed round (decode f₀) slot) ≡ 1 = rw now_sent (someone_yes all loud) in
@@ -402,8 +410,8 @@ module _ {passed : Entry → Bool} {f₀ : List ℕ} {round firework count : ℕ
           room = q.aimed.room;
         }
 
-pub running-done : {passed : Entry → Bool} {f₀ : List ℕ} {round firework count : ℕ} {starts ends stores numbers places sizes : List ℕ} (old : List ℕ) {slot mask : ℕ} {buffer file : List ℕ}
-    → Running passed f₀ round firework count starts ends stores numbers places sizes (set old 0 firework) slot mask buffer file → slots ≤ slot
+pub running-done : {passed : Entry → Bool} {f₀ : List ℕ} {round firework count : ℕ} {lists : List OpenEntries} {stores : List ℕ} {known : List KeptFile} (old : List ℕ) {slot mask : ℕ} {buffer file : List ℕ}
+    → Running passed f₀ round firework count lists stores known (set old 0 firework) slot mask buffer file → slots ≤ slot
     → Carried (slots_effect passed (decode f₀) round) firework old buffer mask file
 unfolding slots_effect sender_mask
 running-done old {slot} h left =

@@ -7,8 +7,9 @@ use mathlib.Core.Path.{◌≡◌, refl, sym, ap, ◌∙◌}
 use mathlib.Core.Logic.{◌≢◌}
 use mathlib.Core.List.{List, [], ◌∷◌, map}
 use mathlib.Core.Bool.{Bool, true}
-use lib.ListN.{length, get_or, set, length-set}
+use lib.ListN.{length, get_or, set, take, length-set}
 use lib.Seq.{get_or-set_other}
+use Rattle.std.proofs.lemmas.List.{get_or-take, length-take-le}
 use borrow.Author.Tests.{ltb-true}
 use Rattle.file.specs.Rules.Bytes.{Byte}
 use Rattle.file.specs.Rules.Order as Order
@@ -35,24 +36,33 @@ unfolding stored_at
 stored-length f places b zero = refl
 stored-length f places b (suc n) = length-set (stored_at f places b n) (get_or places n 0) b ∙ stored-length f places b n
 
-pub record Storing (f places : List ℕ) (b count n : ℕ) (g : List ℕ) : Type 0 where
-  pub most : n ≤ count
+pub record Storing (f places : List ℕ) (b n : ℕ) (g : List ℕ) : Type 0 where
+  pub most : n ≤ length places
   pub stored : g ≡ stored_at f places b n
 
-pub storing_start : (f places : List ℕ) (b count : ℕ) → Storing f places b count 0 f
+pub storing_start : (f places : List ℕ) (b : ℕ) → Storing f places b 0 f
 unfolding stored_at
-storing_start f places b count = record { most = omega arith; stored = refl }
+storing_start f places b = record { most = omega arith; stored = refl }
 
-module _ {f places : List ℕ} {b count n : ℕ} {g : List ℕ} (h : Storing f places b count n g) where
+module _ {f places : List ℕ} {b n : ℕ} {g : List ℕ} (h : Storing f places b n g) where
   pub storing_length : length g ≡ length f
   storing_length = ap length h.stored ∙ stored-length f places b n
 
-  pub storing_next : n < count → Storing f places b count (n + 1) (set g (get_or places n 0) b)
+  pub storing_next : n < length places → Storing f places b (n + 1) (set g (get_or places n 0) b)
   unfolding stored_at
   storing_next more = record { most = omega arith; stored = rw (add-one, h.stored) }
 
-  pub storing_done : count ≤ n → g ≡ stored_at f places b count
-  storing_done left = let e : n ≡ count = omega (arith, h.most) in rw e at h.stored
+  pub storing_done : length places ≤ n → g ≡ stored_at f places b (length places)
+  storing_done left = let e : n ≡ length places = omega (arith, h.most) in rw e at h.stored
+
+-- the first m places alone store the same
+stored-front : (f places : List ℕ) (b n m : ℕ) → n ≤ m → stored_at f (take m places) b n ≡ stored_at f places b n
+unfolding stored_at
+stored-front f places b zero m l = refl
+stored-front f places b (suc n) m l = rw (get_or-take m places n 0 (omega arith), stored-front f places b n m (omega arith))
+
+pub stored-first : (f places : List ℕ) (b n : ℕ) → n ≤ length places → stored_at f (take n places) b (length (take n places)) ≡ stored_at f places b n
+stored-first f places b n l = rw (length-take-le n places l) (stored-front f places b n n (omega arith))
 
 -- a place put behind the first n changes nothing of what they store
 pub stored-before : (f places : List ℕ) (b p n m : ℕ) → n ≤ m → stored_at f (set places m p) b n ≡ stored_at f places b n

@@ -45,7 +45,8 @@ pub struct Entry {
     pub slot: usize,
 }
 
-// The codes of 002, table 4.
+// The codes of 002, table 4. They stay numbers beside the enum: the searches here and those of owner test the kind's byte, once for each entry,
+// and make no operation of it.
 const RECEIVE: u8 = 0;
 
 pub const SEND: u8 = 1;
@@ -80,6 +81,7 @@ const RECEIVE_MUX_8_HIGH: u8 = 14;
 pub const FIRST_MULTIPLEXED: u8 = RECEIVE_MUX_4;
 
 // The one code that is left is 15, SendMux8High.
+#[tactic(auto, unfolding(crate::specs::Inner::EntryForm::code_of, crate::specs::Inner::EntryForm::multiplex_of, crate::specs::Inner::EntryForm::multiplex_in))]
 fn entry_operation(code: u8, multiplex: u8) -> EntryOperation
     requires { code < operation_codes }
     ensures { OperationIs result code multiplex }
@@ -122,7 +124,8 @@ pub const START_VALUES: u8 = 64;
 // No file has this number: that of the file named last, where no entry has named one yet.
 pub const NO_FILE: u8 = 0xFF;
 
-// The entry of a record's four bytes.
+// The entry of a record's four bytes. Not of an array: a contract would have to name each byte by its index, as the one caller does.
+#[tactic(auto, unfolding(crate::specs::Inner::EntryForm::entry_from, crate::specs::Rules::Entries::entry_of, crate::specs::Inner::EntryForm::evaluated))]
 pub fn entry_of(b0: u8, b1: u8, b2: u8, b3: u8) -> Entry
     ensures { entry_from result ≡ evaluated (entry_of b0 b1 b2 b3) }
 {
@@ -139,6 +142,7 @@ pub fn entry_of(b0: u8, b1: u8, b2: u8, b3: u8) -> Entry
 }
 
 // The entry at a place of the file.
+#[tactic(auto, unfolding(crate::specs::Rules::Entries::entry_there))]
 pub fn entry_at(file: &[u8], at: usize) -> Entry
     requires { at + record_size ≤ length file.now }
     ensures { entry_from result ≡ evaluated (entry_there file.now at) }
@@ -161,6 +165,8 @@ pub enum EntryAction {
     Rests,
 }
 
+// One arm for each code, as in the table: patterns joined by `|` stand in as many lines.
+#[tactic(auto, unfolding(crate::specs::Inner::EntryForm::code_of, crate::specs::Inner::EntryForm::action_by, crate::specs::Inner::EntryForm::action_from, crate::specs::Rules::Entries::is_multiplexed, crate::specs::Rules::Entries::receives, crate::specs::Rules::Entries::sends, crate::specs::Rules::Entries::ends, file::specs::Rules::Order::both, file::specs::Rules::Order::either))]
 pub fn action_of(operation: EntryOperation) -> EntryAction
     ensures { action_from result ≡ action_by (code_of operation) }
 {
@@ -190,6 +196,7 @@ const FIRST_END_KIND: u8 = END_OF_ROUND * LENGTH_VALUES;
 const FIRST_MULTIPLEXED_KIND: u8 = FIRST_MULTIPLEXED * LENGTH_VALUES;
 
 // Whether the entry at a place ends the round.
+#[tactic(auto, unfolding(crate::specs::Rules::Entries::entry_there, crate::specs::Rules::Entries::entry_of, crate::specs::Rules::Entries::ends, file::specs::Rules::Order::either))]
 pub fn ends_at(file: &[u8], at: usize) -> bool
     requires { at + record_size ≤ length file.now }
     ensures { result ≡ ends (entry_there file.now at).operation }
@@ -202,6 +209,7 @@ pub fn ends_at(file: &[u8], at: usize) -> bool
 }
 
 // Whether its first slot is yet to come.
+#[tactic(auto, unfolding(crate::specs::Rules::Entries::entry_there, crate::specs::Rules::Entries::entry_of))]
 pub fn waits_at(file: &[u8], at: usize, slot: usize) -> bool
     requires { at + record_size ≤ length file.now }
     ensures { result ≡ ltb slot (entry_there file.now at).start }
@@ -235,6 +243,7 @@ fn is_in_turn(kind: u8, start: u8, epoch: u8) -> bool
 }
 
 // Whether the entry at a place acts in a slot if none before it does: it covers the slot and is in turn.
+#[tactic(auto, unfolding(crate::specs::Rules::Entries::entry_there, crate::specs::Rules::Entries::entry_of, crate::specs::Rules::Entries::eligible, crate::specs::Rules::Entries::covers, crate::specs::Rules::Entries::out_of_turn, file::specs::Rules::Order::both))]
 pub fn acts_at(file: &[u8], at: usize, slot: usize, epoch: u8) -> bool
     requires { at + record_size ≤ length file.now }
     ensures { result ≡ eligible (out_of_turn epoch) (entry_there file.now at) slot }
@@ -252,6 +261,7 @@ pub fn acts_at(file: &[u8], at: usize, slot: usize, epoch: u8) -> bool
 }
 
 // Whether a slot is its last, for an entry that has begun.
+#[tactic(auto, unfolding(crate::specs::Rules::Entries::entry_there, crate::specs::Rules::Entries::entry_of))]
 pub fn is_last(file: &[u8], at: usize, slot: usize) -> bool
     requires { (at + record_size ≤ length file.now) × ((entry_there file.now at).start ≤ slot) }
     ensures { result ≡ eqb (slot - (entry_there file.now at).start + 1) (entry_there file.now at).length }
@@ -262,6 +272,7 @@ pub fn is_last(file: &[u8], at: usize, slot: usize) -> bool
 }
 
 // The byte of the entry's file that a slot is about.
+#[tactic(auto, unfolding(crate::specs::Rules::Entries::byte_place, crate::specs::Inner::EntryForm::entry_from))]
 pub fn byte_place(entry: Entry, slot: usize) -> usize
     requires { Reaches entry slot }
     ensures { result ≡ byte_place (entry_from entry) slot }

@@ -5,8 +5,26 @@ ghost use Rattle.file.specs.Inner.Accepted.{AcceptedFile, slave_count};
 ghost use Rattle.multipartner.specs.Inner.EntryForm.{file_numbers};
 ghost use Rattle.multipartner.specs.Inner.Slots.{FileIs, FilesKept, KeptFor};
 
+use crate::entry::NO_FILE;
 use file::records::{FileBytes, find_file};
 use file::types::{FileNumber, SLAVES_ROOM};
+
+// Where a file lies and how many bytes it has, at most 1,024, with its number: eight bytes in this order, for the stack and for the step
+// from slave to slave.
+#[derive(Clone, Copy)]
+pub struct KeptFile {
+    pub place: u32,
+    pub size: u16,
+    pub number: FileNumber,
+}
+
+impl KeptFile {
+    pub const NONE: KeptFile = KeptFile {
+        place: 0,
+        size: 0,
+        number: FileNumber(NO_FILE),
+    };
+}
 
 // Where a slave keeps a file, and how many bytes it has: none where it is not there.
 fn bytes_of(file: &[u8], slave: usize, number: FileNumber) -> FileBytes
@@ -21,24 +39,17 @@ fn bytes_of(file: &[u8], slave: usize, number: FileNumber) -> FileBytes
 
 // Neighbouring entries often name one file: of each slave the file named last is kept, by its number, place and size. Looked for is
 // another one only. No round moves or resizes a file.
-pub fn keep_file(
-    file: &[u8],
-    slave: usize,
-    number: FileNumber,
-    numbers: &mut [u8; SLAVES_ROOM],
-    froms: &mut [u32; SLAVES_ROOM],
-    sizes: &mut [u32; SLAVES_ROOM],
-)
-    requires { AcceptedFile file.now × (slave < slave_count file.now) × (file_in number < file_numbers) × FilesKept file.now numbers.old froms.old sizes.old }
-    ensures { KeptFor file.now slave (file_in number) numbers.new froms.new sizes.new }
+pub fn keep_file(file: &[u8], slave: usize, number: FileNumber, kept: &mut [KeptFile; SLAVES_ROOM])
+    requires { AcceptedFile file.now × (slave < slave_count file.now) × (file_in number < file_numbers) × FilesKept file.now kept.old }
+    ensures { KeptFor file.now slave (file_in number) kept.new }
 {
-    if numbers[slave] == number.0 {
+    if kept[slave].number == number {
         return;
     }
     let bytes = bytes_of(file, slave, number);
-    let place = bytes.place as u32;
-    let size = bytes.size as u32;
-    numbers[slave] = number.0;
-    froms[slave] = place;
-    sizes[slave] = size;
+    kept[slave] = KeptFile {
+        place: bytes.place as u32,
+        size: bytes.size as u16,
+        number,
+    };
 }

@@ -8,8 +8,9 @@ ghost use Rattle.master_slave.specs.Inner.Carried.{Carried};
 ghost use Rattle.multipartner.specs.Rules.Entries.{entry_there, out_of_turn};
 ghost use Rattle.multipartner.specs.Inner.Slots.{multipartner_effect, slots_effect, next_past, next_after};
 
-use crate::entry::{NO_FILE, acts_at, ends_at, is_last, waits_at};
-use crate::round_files::round_files;
+use crate::entry::{acts_at, ends_at, is_last, waits_at};
+use crate::kept_files::KeptFile;
+use crate::round_files::{OpenEntries, round_files};
 use crate::slot_act::{act_at, bus_with, heard_with};
 use crate::stores::{put_store, store};
 use file::layout::RECORD_SIZE;
@@ -20,6 +21,7 @@ use master_slave::sleep::wake_slaves;
 use master_slave::slots::{FIREWORK_SLOT, FIRST_SLOT, NOBODY, SILENT_BYTE, SLOTS, with_sender};
 
 // Where the search of the next slot begins, with one more entry over: past it, if the search began there.
+#[tactic(auto, unfolding(crate::specs::Inner::Slots::next_past))]
 fn next_past(next: usize, at: usize) -> usize
     requires { at < 2 ^ 32 }
     ensures { result ≡ next_past next at }
@@ -31,6 +33,7 @@ fn next_past(next: usize, at: usize) -> usize
 }
 
 // The same after a slot in which the entry acts: it is over if that slot is its last.
+#[tactic(auto, unfolding(crate::specs::Inner::Slots::next_after))]
 fn next_after(file: &[u8], next: usize, at: usize, slot: usize) -> usize
     requires { (at < 2 ^ 32) × (at + record_size ≤ length file.now) × ((entry_there file.now at).start ≤ slot) }
     ensures { result ≡ next_after (entry_there file.now at) next at slot }
@@ -42,8 +45,8 @@ fn next_after(file: &[u8], next: usize, at: usize, slot: usize) -> usize
 }
 
 // Slots 1 to 63 of a multipartner round. Where each slave's entries lie is found once, before the first slot: no receive stores
-// in a round file or in 0x08. From slot to slot `starts` leaves out the entries in front that cannot act again: those that cover no
-// later slot, and multiplexed ones out of turn, which go by the round's epoch. Places and sizes are kept in four bytes each, for the stack.
+// in a round file or in 0x08. From slot to slot `lists` leaves out the entries in front that cannot act again: those that cover no
+// later slot, and multiplexed ones out of turn, which go by the round's epoch.
 fn run_slots(
     file: &mut [u8],
     places: &SlavePlaces,
@@ -56,40 +59,29 @@ fn run_slots(
     ensures { Carried (slots_effect (out_of_turn epoch) (decode file.old) round) firework buffer.old buffer.new result file.new }
 {
     let count = slave_count(file);
-    let mut starts = [0u32; SLAVES_ROOM];
-    let mut ends = [0u32; SLAVES_ROOM];
-    round_files(file, places, FileNumber(round), &mut starts, &mut ends);
-    let mut numbers = [NO_FILE; SLAVES_ROOM];
-    let mut froms = [0u32; SLAVES_ROOM];
-    let mut sizes = [0u32; SLAVES_ROOM];
+    let mut lists = [OpenEntries::NONE; SLAVES_ROOM];
+    round_files(file, places, FileNumber(round), &mut lists);
+    let mut kept = [KeptFile::NONE; SLAVES_ROOM];
     let mut stores = [0u32; SLAVES_ROOM];
     let mut mask = NOBODY;
     buffer[FIREWORK_SLOT] = firework;
-    let mut slot = FIRST_SLOT;
-    'slots: while slot < SLOTS {
+    'slots: for slot in FIRST_SLOT..SLOTS {
         let mut bus = SILENT_BYTE;
         let mut heard = false;
         let mut stored = 0;
-        let mut slave = 0;
-        'slaves: while slave < count {
-            let end = ends[slave] as usize;
-            let mut at = starts[slave] as usize;
+        'slaves: for slave in 0..count {
+            let end = lists[slave].end as usize;
+            let mut at = lists[slave].start as usize;
             let mut next = at;
+            // Not `for at in (at..end).step_by(RECORD_SIZE)`, which is slower: a round of 32 slaves of 220 entries each took 261,205
+            // instructions by it, and takes 244,309.
             'entries: while at < end {
                 if ends_at(file, at) {
                     break 'entries;
                 }
                 if !waits_at(file, at, slot) {
                     if acts_at(file, at, slot, epoch) {
-                        let act = act_at(
-                            file,
-                            slave,
-                            at,
-                            slot,
-                            &mut numbers,
-                            &mut froms,
-                            &mut sizes,
-                        );
+                        let act = act_at(file, slave, at, slot, &mut kept);
                         bus = bus_with(bus, act);
                         heard = heard_with(heard, act);
                         stored = put_store(&mut stores, stored, act);
@@ -100,15 +92,13 @@ fn run_slots(
                 }
                 at = at + RECORD_SIZE;
             }
-            starts[slave] = next as u32;
-            slave = slave + 1;
+            lists[slave].start = next as u32;
         }
         if heard {
             mask = with_sender(mask, slot as u64);
-            store(file, &stores, stored, bus);
+            store(file, &stores[..stored], bus);
         }
         buffer[slot] = bus;
-        slot = slot + 1;
     }
     mask
 }

@@ -11,7 +11,8 @@ use file::readers::{is_awake, logical_name, slave_count};
 use file::records::find_file;
 use file::types::{FileNumber, LogicalName, SLAVES_ROOM, SlavePlaces};
 
-// Where a slave's entries of a round begin, and where they end.
+// Where a slave's entries of a round begin, and where they end: both 0 where there are none, as `planned_file` promises, so that a loop over
+// them needs no test, as it would of an Option. A Range is not Copy.
 #[derive(Clone, Copy)]
 pub struct RoundFile {
     pub start: usize,
@@ -26,7 +27,7 @@ pub fn planned_file(file: &[u8], places: &SlavePlaces, slave: usize, round: File
     ensures { PlannedFileIs (decode file.now) (file_in round) slave result.start result.end }
 {
     let name = logical_name(file, places, slave);
-    if name.0 == LogicalName::UNNAMED.0 {
+    if name == LogicalName::UNNAMED {
         return NO_ROUND_FILE;
     }
     let found = find_file(file, slave, round);
@@ -40,6 +41,7 @@ pub fn planned_file(file: &[u8], places: &SlavePlaces, slave: usize, round: File
 }
 
 // Those that it runs.
+#[tactic(auto, unfolding(crate::specs::Inner::Slots::entries_in))]
 fn round_file(file: &[u8], places: &SlavePlaces, slave: usize, round: FileNumber) -> RoundFile
     requires { Placed file.now places.now × (slave < slave_count file.now) }
     ensures { RoundFileIs (decode file.now) (file_in round) slave result.start result.end }
@@ -50,23 +52,33 @@ fn round_file(file: &[u8], places: &SlavePlaces, slave: usize, round: FileNumber
     planned_file(file, places, slave, round)
 }
 
-// The same of every slave, put in front of whatever else the lent arrays hold.
+// Where the entries begin that a slave still has to look at, and where they end, in four bytes each, for the stack.
+#[derive(Clone, Copy)]
+pub struct OpenEntries {
+    pub start: u32,
+    pub end: u32,
+}
+
+impl OpenEntries {
+    pub const NONE: OpenEntries = OpenEntries { start: 0, end: 0 };
+}
+
+// All that it runs, of every slave, put in front of whatever else the lent array holds.
 pub fn round_files(
     file: &[u8],
     places: &SlavePlaces,
     round: FileNumber,
-    starts: &mut [u32; SLAVES_ROOM],
-    ends: &mut [u32; SLAVES_ROOM],
+    lists: &mut [OpenEntries; SLAVES_ROOM],
 )
-    requires { Placed file.now places.now × (length starts.old ≡ slaves_room) × (length ends.old ≡ slaves_room) }
-    ensures { RoundFilesAre (decode file.now) (file_in round) starts.new ends.new }
+    requires { Placed file.now places.now × (length lists.old ≡ slaves_room) }
+    ensures { RoundFilesAre (decode file.now) (file_in round) lists.new }
 {
     let count = slave_count(file);
-    let mut slave = 0;
-    while slave < count {
+    for slave in 0..count {
         let found = round_file(file, places, slave, round);
-        starts[slave] = found.start as u32;
-        ends[slave] = found.end as u32;
-        slave = slave + 1;
+        lists[slave] = OpenEntries {
+            start: found.start as u32,
+            end: found.end as u32,
+        };
     }
 }

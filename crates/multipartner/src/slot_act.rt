@@ -10,7 +10,7 @@ ghost use Rattle.multipartner.specs.Inner.EntryForm.{entry_from, Reaches};
 ghost use Rattle.multipartner.specs.Inner.Slots.{FilesKept, EntryActIs, ActedAt, act_sends, is_sender};
 
 use crate::entry::{Entry, EntryAction, action_of, byte_place, entry_at};
-use crate::kept_files::keep_file;
+use crate::kept_files::{KeptFile, keep_file};
 use file::layout::RECORD_SIZE;
 use file::types::{FileNumber, SLAVES_ROOM};
 
@@ -19,14 +19,15 @@ const FIRST_STORED: FileNumber = FileNumber(0x10);
 
 const LAST_STORED: FileNumber = FileNumber(0x3C);
 
+#[tactic(auto, unfolding(crate::specs::Rules::Multipartner::may_store, crate::specs::Inner::EntryForm::entry_from, file::specs::Rules::Order::both))]
 fn may_store(entry: Entry, slot: usize) -> bool
     requires { Reaches entry slot }
     ensures { result ≡ may_store (entry_from entry) slot }
 {
-    if entry.address.file.0 < FIRST_STORED.0 {
+    if entry.address.file < FIRST_STORED {
         return false;
     }
-    if LAST_STORED.0 < entry.address.file.0 {
+    if LAST_STORED < entry.address.file {
         return false;
     }
     RECORD_SIZE <= byte_place(entry, slot)
@@ -75,25 +76,24 @@ pub fn act_at(
     slave: usize,
     at: usize,
     slot: usize,
-    numbers: &mut [u8; SLAVES_ROOM],
-    froms: &mut [u32; SLAVES_ROOM],
-    sizes: &mut [u32; SLAVES_ROOM],
+    kept: &mut [KeptFile; SLAVES_ROOM],
 ) -> SlotAct
-    requires { AcceptedFile file.now × (slave < slave_count file.now) × (at + record_size ≤ length file.now) × ((entry_there file.now at).start ≤ slot) × (slot < slots) × FilesKept file.now numbers.old froms.old sizes.old }
-    ensures { ActedAt file.now slave at slot result numbers.new froms.new sizes.new }
+    requires { AcceptedFile file.now × (slave < slave_count file.now) × (at + record_size ≤ length file.now) × ((entry_there file.now at).start ≤ slot) × (slot < slots) × FilesKept file.now kept.old }
+    ensures { ActedAt file.now slave at slot result kept.new }
 {
     let entry = entry_at(file, at);
-    keep_file(file, slave, entry.address.file, numbers, froms, sizes);
+    keep_file(file, slave, entry.address.file, kept);
     slot_act(
         file,
         entry,
         slot,
-        froms[slave] as usize,
-        sizes[slave] as usize,
+        kept[slave].place as usize,
+        kept[slave].size as usize,
     )
 }
 
 // The bus byte with what a slave sends.
+#[tactic(auto, unfolding(crate::specs::Inner::Slots::act_sends, master_slave::specs::Rules::Bus::joined))]
 pub fn bus_with(bus: u8, act: SlotAct) -> u8
     ensures { result ≡ joined bus (act_sends act) }
 {
@@ -105,6 +105,7 @@ pub fn bus_with(bus: u8, act: SlotAct) -> u8
 }
 
 // Whether someone sent, with what a slave does.
+#[tactic(auto, unfolding(crate::specs::Inner::Slots::is_sender, file::specs::Rules::Order::either))]
 pub fn heard_with(heard: bool, act: SlotAct) -> bool
     ensures { result ≡ either heard (is_sender act) }
 {

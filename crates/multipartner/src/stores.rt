@@ -1,5 +1,5 @@
 // The places that a slot's byte is stored at, and the storing.
-ghost use Rattle.std.specs.Prelude.{◌≡◌, ◌<◌};
+ghost use Rattle.std.specs.Prelude.{◌≡◌, ◌<◌, length};
 ghost use Rattle.file.specs.Inner.Places.{slaves_room};
 ghost use Rattle.multipartner.specs.Inner.Slots.{StoresLow, put_store, stored_at, StoresWithin};
 
@@ -7,6 +7,7 @@ use crate::slot_act::SlotAct;
 use file::types::SLAVES_ROOM;
 
 // The places that the slot's byte is stored at, with what a slave does, and how many they are.
+#[tactic(auto, unfolding(crate::specs::Inner::Slots::put_store))]
 pub fn put_store(stores: &mut [u32; SLAVES_ROOM], stored: usize, act: SlotAct) -> usize
     requires { (stored < slaves_room) × StoresLow act }
     ensures { (stores.new, result) ≡ put_store stores.old stored act }
@@ -22,14 +23,11 @@ pub fn put_store(stores: &mut [u32; SLAVES_ROOM], stored: usize, act: SlotAct) -
 }
 
 // The slot's byte stored at each of those places.
-pub fn store(file: &mut [u8], stores: &[u32; SLAVES_ROOM], count: usize, byte: u8)
-    requires { StoresWithin file.old stores.now count }
-    ensures { file.new ≡ stored_at file.old stores.now byte count }
+pub fn store(file: &mut [u8], places: &[u32], byte: u8)
+    requires { StoresWithin file.old places.now }
+    ensures { file.new ≡ stored_at file.old places.now byte (length places.now) }
 {
-    let mut i = 0;
-    while i < count {
-        let place = stores[i] as usize;
-        file[place] = byte;
-        i = i + 1;
+    for place in places {
+        file[*place as usize] = byte;
     }
 }

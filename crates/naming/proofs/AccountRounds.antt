@@ -1,12 +1,6 @@
 -- The plain account's rounds: within a pass, and the last of a pass of a taken name, of one that is given, and of the run.
 -- Assumes nothing.
-use Prim.Native.Nat.{ℕ, suc, ◌+◌, ◌<◌}
-use mathlib.Core.Path.{◌≡◌}
-use mathlib.Core.List.{List, [], ◌∷◌, map}
-use mathlib.Core.Bool.{true, false}
-use native.Mathlib.Omega.{arith}
-use lib.Dec.{eqb}
-use borrow.Author.Tests.{eq-eqb, ne_eqb}
+use Rattle.std.proofs.Common.{ℕ, suc, ◌+◌, ◌<◌, ◌≡◌, List, [], ◌∷◌, map, true, false, arith, eqb, eq-eqb, ne_eqb}
 use Rattle.file.specs.Rules.FileGrounds.{is_among}
 use Rattle.naming.specs.Rules.Account.{Named, Account, end_with, go_on_lem, pass_done, give, free_pass, pass, pass_on, naming_rounds, naming_comparisons, ending_rounds}
 

@@ -1,14 +1,8 @@
 -- What the rounds of a run do to the slaves' views and who answers them, by the plain account's lists; and what a round of
 -- others may do.
 -- Assumes nothing.
-use Prim.Native.Nat.{ℕ, ◌≤◌, ◌<◌}
-use mathlib.Core.Path.{◌≡◌, refl, sym, ap, ◌∙◌, subst}
-use mathlib.Core.List.{List, [], ◌∷◌, map}
-use mathlib.Core.Bool.{Bool, true, false, cond, not}
-use native.Mathlib.Omega.{arith}
-use native.Mathlib.Nat.{le_refl, le_of_lt}
-use lib.Dec.{eqb, leb}
-use borrow.Author.Tests.{eqb-true, eqb-false, eq-eqb, ne_eqb, lt-leb, leb-false}
+use Rattle.std.proofs.Common.{ℕ, ◌≤◌, ◌<◌, ◌≡◌, refl, sym, ap, ◌∙◌, subst, List, [], ◌∷◌, map, Bool, true, false, cond, not, arith, le_refl, le_of_lt, eqb, leb, eqb-true, eq-eqb, ne_eqb, leb-false}
+use borrow.Author.Tests.{eqb-false, lt-leb}
 use Rattle.file.specs.Rules.Bytes.{All, All.all_empty, All.all_next as also}
 use Rattle.file.specs.Rules.Order.{both}
 use Rattle.file.specs.Rules.Cluster.{unnamed}

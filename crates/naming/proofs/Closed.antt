@@ -1,14 +1,8 @@
 -- The rounds and comparisons that are due at the start, in closed form, and their bounds.
 -- Assumes nothing.
-use Prim.Native.Nat.{ℕ, zero, suc, ◌+◌, ◌*◌, min, ◌≤◌, ◌<◌}
-use mathlib.Core.Path.{◌≡◌, refl, sym, ap, ◌∙◌}
-use mathlib.Core.List.{List, [], ◌∷◌}
-use mathlib.Core.Bool.{true, false, cond}
-use native.Mathlib.Omega.{arith}
+use Rattle.std.proofs.Common.{ℕ, zero, suc, ◌+◌, ◌*◌, min, ◌≤◌, ◌<◌, ◌≡◌, refl, sym, ap, ◌∙◌, List, [], ◌∷◌, true, false, cond, arith, length, ltb, lt-ltb, le-ltb, ltb-false}
 use native.Mathlib.Nat.{suc-min-suc}
-use lib.ListN.{length}
-use lib.Dec.{ltb, leb-suc-suc}
-use borrow.Author.Tests.{lt-ltb, le-ltb, ltb-false}
+use lib.Dec.{leb-suc-suc}
 use Rattle.file.specs.Rules.FileGrounds.{is_among}
 use Rattle.file.proofs.Order.{by_case}
 use Rattle.naming.specs.Rules.Account.{bit_clear, naming_rounds, naming_comparisons, ending_rounds, ending_comparisons}

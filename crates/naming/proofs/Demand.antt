@@ -1,14 +1,8 @@
 -- Demand 3 over abstract laws, whole: from a fresh run, after every list of permitted calls, each slave's name, the end and both
 -- counts are the plain account's, ground 17 does not hold, and the closed figures say when the run has ended and what it has done.
 -- Assumes nothing.
-use Prim.Native.Nat.{ℕ, suc, ◌+◌, ◌*◌, min, ◌≤◌, ◌<◌}
-use mathlib.Core.Path.{◌≡◌, refl, sym, ap, ◌∙◌}
-use mathlib.Core.List.{List, [], ◌∷◌, map}
-use mathlib.Core.Bool.{false}
-use native.Mathlib.Omega.{arith}
-use native.Mathlib.Nat.{suc-min-suc, zero-add}
-use lib.ListN.{length}
-use lib.Dec.{eqb}
+use Rattle.std.proofs.Common.{ℕ, suc, ◌+◌, ◌*◌, min, ◌≤◌, ◌<◌, ◌≡◌, refl, sym, ap, ◌∙◌, List, [], ◌∷◌, map, false, arith, zero-add, length, eqb}
+use native.Mathlib.Nat.{suc-min-suc}
 use Rattle.file.specs.Rules.Cluster.{unnamed}
 use Rattle.file.proofs.AcceptedFacts.{no_repeat}
 use Rattle.file.proofs.Order.{by_case}

@@ -12,6 +12,9 @@ use Rattle.naming.specs.declared.position.RunPosition.{RunPosition}
 use Rattle.file.specs.Inner.Refusals.{Answered, refusal_number}
 use Rattle.std.specs.Prelude.{Ok, Err, Option, None}
 use Rattle.file.proofs.Distinct.{refusal_in, refusal_back}
+use Rattle.naming.specs.declared.run.MadeStep.{MadeStep}
+use Rattle.naming.specs.declared.steps.MadeSteps.{MadeSteps}
+use Rattle.std.specs.Prelude.{Some}
 
 run : Position → RunPosition
 run p =

@@ -1,11 +1,7 @@
 -- Conversions in mid-run on the file whose only slave sleeps: widened before the first step and narrowed before the second. What the claims
 -- ask of file, names and of the list is met, and the run counts the two rounds.
 -- Assumes nothing.
-use native.Mathlib.Omega.{arith}
-use mathlib.Core.Path.{◌≡◌, refl, ap, ◌∙◌, subst}
-use mathlib.Core.List.{List, [], ◌∷◌}
-use mathlib.Core.Bool.{true}
-use lib.ListN.{get_or}
+use Rattle.std.proofs.Common.{arith, ◌≡◌, refl, ap, ◌∙◌, subst, List, [], ◌∷◌, true, get_or}
 use Rattle.file.specs.Rules.Bytes.{All, all_empty, all_next}
 use Rattle.file.proofs.EditionOne.{edition-at}
 use Rattle.cluster.specs.Claims.RoundEditions.{Convertible}

@@ -1,10 +1,6 @@
 -- Small cases of the definitions, computed.
 -- Assumes nothing.
-use Prim.Native.Nat.{ℕ, zero, suc}
-use mathlib.Core.Path.{◌≡◌, refl, ap, ◌∙◌}
-use mathlib.Core.Bool.{true, false}
-use mathlib.Core.List.{List, [], ◌∷◌}
-use lib.ListN.{length, replicate}
+use Rattle.std.proofs.Common.{ℕ, zero, suc, ◌≡◌, refl, ap, ◌∙◌, true, false, List, [], ◌∷◌, length, replicate}
 use Rattle.file.specs.Rules.Layout.{width_of}
 use Rattle.file.specs.Rules.FileGrounds.{is_among, has_repeat, file_ground, file_ground_at, file_grounds_at, wrong_size, wrong_mark, wrong_edition, wrong_length}
 use Rattle.file.specs.Rules.FileGrounds.{wrong_header, wrong_pending, broken_layout, walk_file, table_end, walk_slaves, and_then, walk_slave, good_table_entry}

@@ -2,13 +2,7 @@
 -- slaves', the names left are fit and different, and each name left is held now if it was held at the start. A taken name that is
 -- dropped and a name that is given keep them.
 -- Assumes nothing.
-use Prim.Native.Nat.{ℕ, ◌^◌, ◌<◌}
-use mathlib.Core.Path.{◌≡◌, refl, sym, ap, ◌∙◌, subst}
-use mathlib.Core.List.{List, [], ◌∷◌, map}
-use mathlib.Core.Bool.{true, false, cond}
-use native.Mathlib.Omega.{arith}
-use lib.Dec.{eqb}
-use borrow.Author.Tests.{eqb-true, eq-eqb, ne_eqb}
+use Rattle.std.proofs.Common.{ℕ, ◌^◌, ◌<◌, ◌≡◌, refl, sym, ap, ◌∙◌, subst, List, [], ◌∷◌, map, true, false, cond, arith, eqb, eqb-true, eq-eqb, ne_eqb}
 use Rattle.file.specs.Rules.Bytes.{All, All.all_empty, All.all_next as also}
 use Rattle.file.specs.Rules.Legal.{Distinct, Distinct.next as apart}
 use Rattle.file.specs.Rules.Cluster.{unnamed, broadcast}

@@ -1,13 +1,9 @@
 -- What the cluster file gives the naming run: a legal cluster's physical names are different and have 64 bits, and its slaves are
 -- few enough for the counts of a run; an accepted list of names is what the theorem takes.
 -- Assumes nothing.
-use Prim.Native.Nat.{ℕ, ◌+◌, ◌*◌, ◌^◌, ◌≤◌, ◌<◌}
-use mathlib.Core.Path.{◌≡◌, refl, ap}
-use mathlib.Core.List.{List, [], ◌∷◌, map}
-use native.Mathlib.Omega.{arith}
-use native.Mathlib.Nat.{pow-le-pow_right, lt_of_lt_of_le, zero-lt-suc, min-le_left}
-use lib.ListN.{length, drop, length-take, length-map}
-use lib.Dec.{eqb}
+use Rattle.std.proofs.Common.{ℕ, ◌+◌, ◌*◌, ◌^◌, ◌≤◌, ◌<◌, ◌≡◌, refl, ap, List, [], ◌∷◌, map, arith, lt_of_lt_of_le, zero-lt-suc, length, drop, length-take, eqb}
+use native.Mathlib.Nat.{pow-le-pow_right, min-le_left}
+use lib.ListN.{length-map}
 use Rattle.file.specs.Rules.Bytes.{Bytes, All, All.all_empty, All.all_next as also, number_of, part}
 use Rattle.file.specs.Rules.Legal.{LegalFile, LegalSlave, Legal}
 use Rattle.file.specs.Rules.Cluster.{File, Slave, Cluster, bytes_among, bytes_in, physical_name}

@@ -1,14 +1,8 @@
 -- The tests of a list of names, name by name.
 -- Assumes nothing.
-use Prim.Native.Nat.{ℕ, suc, ◌-◌, ◌≤◌, ◌<◌}
-use mathlib.Core.Path.{◌≡◌, refl, sym, ◌∙◌}
-use mathlib.Core.List.{List, [], ◌∷◌}
-use mathlib.Core.Bool.{Bool, true, false, cond}
-use native.Mathlib.Omega.{arith}
-use borrow.Author.Tests.{eq-eqb, eqb-true, ne_eqb}
-use lib.ListN.{length, get_or, drop, set, replicate, length-set, length-replicate}
-use lib.Seq.{drop-cons, drop-length}
-use lib.Dec.{eqb}
+use Rattle.std.proofs.Common.{ℕ, suc, ◌-◌, ◌≤◌, ◌<◌, ◌≡◌, refl, sym, ◌∙◌, List, [], ◌∷◌, Bool, true, false, cond, arith, eq-eqb, eqb-true, ne_eqb, length, get_or, drop, set, replicate, length-set, drop-cons, eqb}
+use lib.ListN.{length-replicate}
+use Rattle.std.proofs.Math.Seq.{drop-length}
 use Rattle.file.specs.Rules.Order.{first_of, either}
 use Rattle.file.specs.Rules.Results.{refused, done, result_of}
 use Rattle.file.specs.Rules.Cluster.{unnamed, broadcast}
@@ -146,13 +140,14 @@ module _ {l : List ℕ} {seen : List Bool} {twice : Bool} {i : ℕ} (h : Listed 
 
 -- one name
 
-pub unfit_first : (n : ℕ) → n ≡ 0 → true ≡ unfit_name (n ∷ [])
-unfolding unfit_name either
-unfit_first n is = rw (eq-eqb n broadcast is)
+module _ (n : ℕ) {first : Bool} (is : first ≡ eqb n broadcast) where
+  pub unfit_first : first ≡ true → true ≡ unfit_name (n ∷ [])
+  unfolding unfit_name either
+  unfit_first e = rw (← is, e)
 
-pub unfit_second : (n : ℕ) → (n ≡ 0 → ⊥) → eqb n 0xFF ≡ unfit_name (n ∷ [])
-unfolding unfit_name either
-unfit_second n other = rw (ne_eqb n broadcast other) (sym (either-none (eqb n unnamed)))
+  pub unfit_second : first ≡ false → {second : Bool} → second ≡ eqb n unnamed → second ≡ unfit_name (n ∷ [])
+  unfolding unfit_name either
+  unfit_second e {second} also = rw (← is, e, ← also) (sym (either-none second))
 
 pub one_unfit : (l : List ℕ) → length l ≡ 1 → {b : Bool} → b ≡ unfit_name (get_or l 0 0 ∷ []) → b ≡ true → 15 ≡ start_ground l
 one_unfit [] one is e = absurd (omega arith)

@@ -1,10 +1,7 @@
 -- Demand 3 over bytes, whole: for every accepted file, every accepted list of names and every list of permitted calls, from a fresh
 -- run. And that it holds throughout such a list, after each of its calls: there too the file is accepted and no step meets ground 17.
 -- Assumes nothing.
-use Prim.Native.Nat.{ℕ}
-use mathlib.Core.Path.{◌≡◌, refl, sym, ap, ◌∙◌}
-use mathlib.Core.List.{List, [], ◌∷◌, ◌++◌, map, append-nil}
-use mathlib.Core.Bool.{true, false}
+use Rattle.std.proofs.Common.{ℕ, ◌≡◌, refl, sym, ap, ◌∙◌, List, [], ◌∷◌, ◌++◌, map, append-nil, true, false}
 use Rattle.file.specs.Rules.Bytes.{Bytes, All, all_empty, all_next}
 use Rattle.file.specs.Rules.Decode.{decode}
 use Rattle.file.specs.Rules.FileGrounds.{file_ground}

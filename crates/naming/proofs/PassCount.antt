@@ -1,10 +1,7 @@
 -- The comparisons after so many rounds of a pass, in closed form.
 -- Assumes nothing.
-use Prim.Native.Nat.{ℕ, zero, suc, ◌+◌, ◌*◌, ◌-◌, ◌/◌, min, ◌≤◌}
-use mathlib.Core.Path.{◌≡◌, refl, sym, ap, ◌∙◌}
-use mathlib.Core.List.{List, [], ◌∷◌, ◌++◌}
-use native.Mathlib.Omega.{arith}
-use lib.ListN.{length, take, replicate, length-replicate}
+use Rattle.std.proofs.Common.{ℕ, zero, suc, ◌+◌, ◌*◌, ◌-◌, ◌/◌, min, ◌≤◌, ◌≡◌, refl, sym, ap, ◌∙◌, List, [], ◌∷◌, ◌++◌, arith, length, take, replicate}
+use lib.ListN.{length-replicate}
 use Rattle.naming.specs.Rules.Account.{RoundKind, read_round, write_round, compare_round, name_round, one_half_each, search_rounds, giving_rounds}
 use Rattle.naming.specs.Rules.Account.{compares_in, comparisons_after}
 

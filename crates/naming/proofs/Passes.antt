@@ -1,12 +1,6 @@
 -- The plain account's pass is the one written out, and its figures are those of it.
 -- Assumes nothing.
-use Prim.Native.Nat.{ℕ, zero, suc, ◌+◌, ◌≤◌}
-use mathlib.Core.Path.{◌≡◌, refl, sym, ap, ◌∙◌}
-use mathlib.Core.List.{List, [], ◌∷◌, ◌++◌, map}
-use mathlib.Core.Bool.{Bool, true, false, cond}
-use native.Mathlib.Omega.{arith}
-use lib.ListN.{length, take}
-use lib.Dec.{eqb}
+use Rattle.std.proofs.Common.{ℕ, zero, suc, ◌+◌, ◌≤◌, ◌≡◌, refl, sym, ap, ◌∙◌, List, [], ◌∷◌, ◌++◌, map, Bool, true, false, cond, arith, length, take, eqb}
 use Rattle.naming.specs.Rules.Pass.{PassPlace, poll, ask, give_name, give_high, give_low, baptize, high, low, reply}
 use Rattle.naming.specs.Rules.Account.{bit_clear, naming_rounds, naming_comparisons, comparisons_after}
 use Rattle.naming.specs.Rules.Account.{RoundKind, one_half_each, search_rounds, giving_rounds, naming_pass, compares_in}

@@ -1,15 +1,8 @@
 -- The lists that demand 3 permits are exactly those that `Claims/Permitted` describes. One law goes from the list to its description,
 -- over calls that begin where no round of others is half done or where one is; another goes back.
 -- Assumes nothing.
-use Prim.Native.Nat.{ℕ, ◌<◌}
-use mathlib.Core.Path.{◌≡◌, refl, sym, ◌∙◌}
-use mathlib.Core.Logic.{◌≢◌}
-use mathlib.Core.List.{List, [], ◌∷◌, ◌++◌}
-use mathlib.Core.Bool.{Bool, true, false, not}
-use native.Mathlib.Omega.{arith}
-use lib.ListN.{get_or}
-use lib.Dec.{eqb}
-use borrow.Author.Tests.{not-true, eqb-true, eqb-false, eq-eqb, ne_eqb}
+use Rattle.std.proofs.Common.{ℕ, ◌<◌, ◌≡◌, refl, sym, ◌∙◌, ◌≢◌, List, [], ◌∷◌, ◌++◌, Bool, true, false, not, arith, get_or, eqb, eqb-true, eq-eqb, ne_eqb}
+use borrow.Author.Tests.{not-true, eqb-false}
 use Rattle.file.specs.Rules.Bytes.{Bytes, All, all_empty, all_next}
 use Rattle.file.specs.Rules.Order.{both, either}
 use Rattle.file.specs.Rules.Results.{done}

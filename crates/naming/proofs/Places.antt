@@ -1,11 +1,6 @@
 -- Laws of the places of a pass: a place is that of its step, and the next place's step is one more.
 -- Assumes nothing.
-use Prim.Native.Nat.{ℕ, zero, suc, ◌+◌, ◌*◌, ◌-◌, ◌/◌, ◌%◌, ◌≤◌, ◌<◌}
-use mathlib.Core.Path.{◌≡◌, refl}
-use mathlib.Core.Bool.{true}
-use native.Mathlib.Omega.{arith}
-use lib.Dec.{ltb}
-use borrow.Author.Tests.{lt-ltb}
+use Rattle.std.proofs.Common.{ℕ, zero, suc, ◌+◌, ◌*◌, ◌-◌, ◌/◌, ◌%◌, ◌≤◌, ◌<◌, ◌≡◌, refl, true, arith, ltb, lt-ltb}
 use Rattle.naming.specs.Rules.Pass.{PassPlace, PassPlace.poll, PassPlace.ask, PassPlace.give_name, PassPlace.give_high, PassPlace.give_low}
 use Rattle.naming.specs.Rules.Pass.{PassPlace.baptize, Question, least, bit, Part, high, low, reply, question_of, part_of, give_of, ask_or_give, place_of}
 use Rattle.naming.specs.Rules.Pass.{bits, give_step, last_step}

@@ -1,17 +1,9 @@
 -- One law for each way through the functions on a run's position.
 -- Assumes nothing.
-use Prim.Native.Nat.{ℕ, zero, suc, ◌+◌, ◌-◌, ◌*◌, ◌/◌, ◌%◌, ◌^◌, ◌≤◌, ◌<◌}
-use mathlib.Core.Path.{◌≡◌, refl, sym, ◌∙◌}
-use mathlib.Core.Logic.{◌⊎◌, inl, inr}
-use mathlib.Core.Bool.{Bool, true, false, cond, not}
-use native.Mathlib.Omega.{arith}
-use borrow.Author.Tests.{lt-ltb, le-ltb, ltb-true, ltb-false, eq-eqb, ne_eqb, le-leb, lt-leb}
+use Rattle.std.proofs.Common.{ℕ, zero, suc, ◌+◌, ◌-◌, ◌*◌, ◌/◌, ◌%◌, ◌^◌, ◌≤◌, ◌<◌, ◌≡◌, refl, sym, ◌∙◌, ◌⊎◌, inl, inr, Bool, true, false, cond, not, arith, lt-ltb, le-ltb, ltb-true, ltb-false, eq-eqb, ne_eqb, le-leb, shl_exact, length, get_or, leb, ltb, eqb, List}
+use borrow.Author.Tests.{lt-leb}
 use Rattle.file.proofs.Order.{by_case, clash}
 use lib.Bits.{bit_or}
-use lib.Pow.{shl_exact}
-use lib.ListN.{length, get_or}
-use lib.Dec.{leb, ltb, eqb}
-use mathlib.Core.List.{List}
 use Rattle.file.specs.Rules.Order.{both, either}
 use Rattle.naming.specs.Inner.StepAnswers.{FitCounts, GoesOn, part_at, value_at, Wrote}
 use Rattle.naming.specs.Rules.Position.{Position}

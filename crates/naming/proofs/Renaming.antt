@@ -1,11 +1,8 @@
 -- Who is renamed by a naming step: by its execute of record 1 those that the rule says, by any other nobody.
 -- Assumes nothing.
-use Prim.Native.Nat.{ℕ, ◌^◌, ◌<◌}
-use mathlib.Core.Path.{◌≡◌, refl, sym, ap, ◌∙◌}
-use mathlib.Core.List.{List, [], ◌∷◌, map}
-use lib.Dec.{eqb}
-use lib.ListN.{length, length-map}
-use borrow.Author.Tests.{eqb-true, eqb-false, le-ltb}
+use Rattle.std.proofs.Common.{ℕ, ◌^◌, ◌<◌, ◌≡◌, refl, sym, ap, ◌∙◌, List, [], ◌∷◌, map, eqb, length, eqb-true, le-ltb}
+use lib.ListN.{length-map}
+use borrow.Author.Tests.{eqb-false}
 use Rattle.file.specs.Rules.Bytes.{Bytes, All, all_empty, all_next}
 use Rattle.file.specs.Rules.Cluster.{Slave, configuration, logical_name, logical_names, unnamed}
 use Rattle.file.specs.Rules.Decode.{decode}

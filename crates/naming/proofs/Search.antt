@@ -1,15 +1,10 @@
 -- The search for the greatest physical name, as arithmetic: the value so far before bit b is the name with its low b + 1 bits
 -- cleared, and a comparison with that bit set tells the bit.
 -- Assumes nothing.
-use Prim.Native.Nat.{ℕ, zero, suc, ◌+◌, ◌*◌, ◌/◌, ◌%◌, ◌^◌, ◌≤◌, ◌<◌}
-use mathlib.Core.Path.{◌≡◌, refl, ap, ◌∙◌}
-use mathlib.Core.Bool.{Bool, true, false, cond}
-use native.Mathlib.Omega.{arith}
-use native.Mathlib.Nat.{div-add-mod', mod-lt, div-div-eq-div-mul, pow-suc, div-eq_of_lt, div-one, mul-one}
-use lib.Dec.{leb}
+use Rattle.std.proofs.Common.{ℕ, zero, suc, ◌+◌, ◌*◌, ◌/◌, ◌%◌, ◌^◌, ◌≤◌, ◌<◌, ◌≡◌, refl, ap, ◌∙◌, Bool, true, false, cond, arith, div-add-mod', mod-lt, pow-suc, div-one, mul-one, leb, pow_pos, leb-true, leb-false}
+use native.Mathlib.Nat.{div-div-eq-div-mul, div-eq_of_lt}
 use lib.Bits.{or_shifted, or_lt}
-use lib.Pow.{pow_pos, pow-lt}
-use borrow.Author.Tests.{leb-true, leb-false}
+use lib.Pow.{pow-lt}
 use Rattle.naming.specs.Rules.Pass.{Question, bit, bits}
 use Rattle.naming.specs.Rules.Run.{tried}
 use Rattle.naming.specs.Rules.RunRounds.{half}

@@ -1,15 +1,8 @@
 -- What the cluster's rules make of a slave in a round of the naming run, by its view: it changes as the view does, and sends
 -- in slot 1 where the view says so.
 -- Assumes nothing.
-use Prim.Native.Nat.{ℕ, ◌+◌, ◌*◌, ◌≤◌}
-use mathlib.Core.Path.{◌≡◌, refl, sym, ap, ◌∙◌}
-use mathlib.Core.List.{List, [], ◌∷◌, ◌++◌, map}
-use mathlib.Core.Bool.{Bool, true, false, cond, not}
-use native.Mathlib.Omega.{arith}
-use lib.ListN.{length, get_or}
-use lib.Seq.{sets}
-use lib.Dec.{eqb, leb}
-use borrow.Author.Tests.{ne_eqb, le-leb}
+use Rattle.std.proofs.Common.{ℕ, ◌+◌, ◌*◌, ◌≤◌, ◌≡◌, refl, sym, ap, ◌∙◌, List, [], ◌∷◌, ◌++◌, map, Bool, true, false, cond, not, arith, length, get_or, eqb, leb, ne_eqb, le-leb}
+use Rattle.std.proofs.Math.Seq.{sets}
 use Rattle.file.specs.Rules.Bytes.{All, all_empty, all_next, bytes_of}
 use Rattle.file.specs.Rules.Order.{both, either}
 use Rattle.file.specs.Rules.Layout.{record_size}

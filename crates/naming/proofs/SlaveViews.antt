@@ -1,12 +1,8 @@
 -- The view of a slave by the bytes of its files 0x08 and 0x3D: a slave with the same bytes there has the same view, and what a write
 -- of record 1, 2 or 3 of 0x08 and a new logical name make of it.
 -- Assumes nothing.
-use Prim.Native.Nat.{ℕ, ◌+◌, ◌≤◌, ◌<◌}
-use mathlib.Core.Path.{◌≡◌, refl}
-use mathlib.Core.List.{List, [], ◌∷◌}
-use native.Mathlib.Omega.{arith}
-use lib.ListN.{length, get_or, set, take, drop, length-set, length-drop}
-use lib.Seq.{sets, length-take-le, take-add, drop-drop, get_or-set_same, get_or-set_other}
+use Rattle.std.proofs.Common.{ℕ, ◌+◌, ◌≤◌, ◌<◌, ◌≡◌, refl, List, [], ◌∷◌, arith, length, get_or, set, take, drop, length-set, length-drop, length-take-le, take-add, drop-drop, get_or-set_same, get_or-set_other}
+use Rattle.std.proofs.Math.Seq.{sets}
 use Rattle.file.specs.Rules.Bytes.{number_of, bytes_of, part}
 use Rattle.file.specs.Rules.Cluster.{Slave, bytes_in, configuration, documentation, physical_name, logical_name, new_logical_name, record_of}
 use Rattle.file.proofs.Bytes.{number_of-bytes_of}

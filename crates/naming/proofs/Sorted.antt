@@ -1,15 +1,8 @@
 -- Laws of a list in falling order: the same elements, the same length, strictly falling where no element repeats; and a list of
 -- different numbers below m has at most m of them.
 -- Assumes nothing.
-use Prim.Native.Nat.{ℕ, suc, ◌≤◌, ◌<◌}
-use mathlib.Core.Path.{◌≡◌, refl, ap, ◌∙◌}
-use mathlib.Core.List.{List, [], ◌∷◌}
-use mathlib.Core.Bool.{Bool, true, false}
-use native.Mathlib.Omega.{arith}
-use native.Mathlib.Nat.{lt_trans}
-use lib.ListN.{length}
-use lib.Dec.{eqb, ltb}
-use borrow.Author.Tests.{eqb-false, ltb-true, ltb-false}
+use Rattle.std.proofs.Common.{ℕ, suc, ◌≤◌, ◌<◌, ◌≡◌, refl, ap, ◌∙◌, List, [], ◌∷◌, Bool, true, false, arith, lt_trans, length, eqb, ltb, ltb-true, ltb-false}
+use borrow.Author.Tests.{eqb-false}
 use Rattle.file.specs.Rules.Bytes.{All, All.all_empty, All.all_next as also}
 use Rattle.file.specs.Rules.Legal.{Distinct, Distinct.end as alone, Distinct.next as apart}
 use Rattle.file.specs.Rules.FileGrounds.{is_among}

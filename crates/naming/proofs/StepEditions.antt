@@ -1,12 +1,7 @@
 -- Naming on a file and on its converted form: a step, a list of calls, and a list with conversions between the calls.
 -- Assumes nothing.
-use Prim.Native.Nat.{ℕ, ◌^◌, ◌<◌}
-use mathlib.Core.Path.{◌≡◌, refl, sym, ap, ◌∙◌}
-use mathlib.Core.List.{List, [], ◌∷◌}
-use mathlib.Core.Bool.{true}
-use native.Mathlib.Omega.{arith}
-use lib.Dec.{eqb}
-use borrow.Author.Tests.{eqb-true, eqb-false}
+use Rattle.std.proofs.Common.{ℕ, ◌^◌, ◌<◌, ◌≡◌, refl, sym, ap, ◌∙◌, List, [], ◌∷◌, true, arith, eqb, eqb-true}
+use borrow.Author.Tests.{eqb-false}
 use Rattle.file.specs.Rules.Bytes.{Bytes, All, all_empty, all_next}
 use Rattle.file.specs.Rules.Decode.{decode}
 use Rattle.file.specs.Rules.FileGrounds.{file_ground}

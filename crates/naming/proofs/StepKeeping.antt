@@ -1,11 +1,6 @@
 -- Laws of a step given the summary: its grounds, a refused one leaves all as it was, and one that is not refused is the step.
 -- Assumes nothing.
-use Prim.Native.Nat.{ℕ}
-use mathlib.Core.Path.{◌≡◌, sym, ◌∙◌}
-use mathlib.Core.Logic.{◌≢◌}
-use mathlib.Core.List.{List, ◌∷◌}
-use mathlib.Core.Bool.{Bool}
-use borrow.Author.Tests.{ne_eqb}
+use Rattle.std.proofs.Common.{ℕ, ◌≡◌, sym, ◌∙◌, ◌≢◌, List, ◌∷◌, Bool, ne_eqb}
 use Rattle.file.specs.Rules.Order.{Ground}
 use Rattle.file.specs.Rules.Results.{refused}
 use Rattle.file.specs.Rules.FileGrounds.{file_ground}

@@ -2,11 +2,7 @@
 -- round leaves the file of its two frames, and the answer to a file of unknown edition depends on its length and first three bytes
 -- alone.
 -- Assumes nothing.
-use Prim.Native.Nat.{ℕ}
-use mathlib.Core.Path.{◌≡◌, sym, ◌∙◌}
-use mathlib.Core.Logic.{◌≢◌}
-use mathlib.Core.List.{List}
-use borrow.Author.Tests.{eq-eqb, ne_eqb}
+use Rattle.std.proofs.Common.{ℕ, ◌≡◌, sym, ◌∙◌, ◌≢◌, List, eq-eqb, ne_eqb}
 use Rattle.file.specs.Rules.FileGrounds.{file_ground}
 use Rattle.file.specs.Rules.Results.{refused, done}
 use Rattle.file.proofs.Edition.{unknown_edition, refused-edition}

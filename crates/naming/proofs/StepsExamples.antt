@@ -1,12 +1,7 @@
 -- Up to so many steps, case by case, computed: refused at once, none asked for, a run that has ended, as many as were asked for, fewer
 -- because the run ends, and because 17 comes up in mid-run. On the file whose only slave sleeps, and on those of M6 and M8.
 -- Assumes nothing.
-use Prim.Native.Nat.{ℕ, ◌≤◌}
-use mathlib.Core.Path.{◌≡◌, refl}
-use mathlib.Core.List.{List, [], ◌∷◌}
-use mathlib.Core.Logic.{◌⊎◌, inl}
-use native.Mathlib.Omega.{arith}
-use lib.ListN.{replicate}
+use Rattle.std.proofs.Common.{ℕ, ◌≤◌, ◌≡◌, refl, List, [], ◌∷◌, ◌⊎◌, inl, arith, replicate}
 use Rattle.file.specs.Rules.Layout.{width_of}
 use Rattle.file.specs.Rules.Order.{first_of, both, either}
 use Rattle.file.specs.Rules.Results.{Result, refused, done}

@@ -1,13 +1,7 @@
 -- The summary over naming steps, and over lists of steps and rounds.
 -- Assumes nothing.
-use Prim.Native.Nat.{ℕ, ◌^◌, ◌≤◌, ◌<◌}
-use native.Mathlib.Omega.{arith}
-use mathlib.Core.Path.{◌≡◌, refl, sym, ◌∙◌}
-use mathlib.Core.Logic.{◌≢◌}
-use mathlib.Core.List.{List, [], ◌∷◌}
-use lib.ListN.{length}
-use lib.Dec.{eqb}
-use borrow.Author.Tests.{eqb-true, eqb-false}
+use Rattle.std.proofs.Common.{ℕ, ◌^◌, ◌≤◌, ◌<◌, arith, ◌≡◌, refl, sym, ◌∙◌, ◌≢◌, List, [], ◌∷◌, length, eqb, eqb-true}
+use borrow.Author.Tests.{eqb-false}
 use Rattle.file.specs.Rules.Bytes.{Bytes, All, all_empty}
 use Rattle.file.specs.Rules.Order.{Ground, first_of}
 use Rattle.file.specs.Rules.Decode.{decode}

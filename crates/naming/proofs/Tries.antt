@@ -2,14 +2,8 @@
 -- the next. While bits 63 to 32 are asked for it is the high half alone, after that the low half alone, and at bit 31 the high one
 -- again exactly if bit 32 of p is 0. The value itself differs from the last one in the low half exactly if bit 0 is 0.
 -- Assumes nothing.
-use Prim.Native.Nat.{ℕ, zero, suc, ◌+◌, ◌*◌, ◌-◌, ◌/◌, ◌%◌, ◌^◌, ◌≤◌, ◌<◌}
-use mathlib.Core.Path.{◌≡◌, refl, sym, ap, ◌∙◌}
-use mathlib.Core.Bool.{cond}
-use native.Mathlib.Omega.{arith}
-use native.Mathlib.Nat.{pow-suc}
-use lib.Dec.{ltb}
-use lib.Pow.{pow_pos, pow-lt, pow-add, shl-shr, shr-shr, high}
-use borrow.Author.Tests.{lt-ltb, ltb-true, ltb-false}
+use Rattle.std.proofs.Common.{ℕ, zero, suc, ◌+◌, ◌*◌, ◌-◌, ◌/◌, ◌%◌, ◌^◌, ◌≤◌, ◌<◌, ◌≡◌, refl, sym, ap, ◌∙◌, cond, arith, pow-suc, ltb, pow_pos, pow-add, shr-shr, lt-ltb, ltb-true, ltb-false}
+use lib.Pow.{pow-lt, shl-shr, high}
 use Rattle.file.proofs.Order.{by_case}
 use Rattle.naming.specs.Rules.Pass.{bits}
 use Rattle.naming.specs.Rules.RunRounds.{half}

@@ -1,13 +1,7 @@
 -- A run over A and then one over B leave the names of one run over A followed by B; and every run ends.
 -- Assumes nothing.
-use Prim.Native.Nat.{ℕ, zero, suc, ◌+◌, ◌≤◌, ◌<◌}
-use mathlib.Core.Path.{◌≡◌, refl, sym, ap, ap₂, ◌∙◌}
-use mathlib.Core.List.{List, [], ◌∷◌, ◌++◌, map, append_assoc}
-use mathlib.Core.Bool.{Bool, true, false, cond}
-use native.Mathlib.Omega.{arith}
-use lib.ListN.{length, replicate, length-replicate, drop}
-use lib.Dec.{eqb}
-use borrow.Author.Tests.{eqb-true, ne_eqb, le-ltb}
+use Rattle.std.proofs.Common.{ℕ, zero, suc, ◌+◌, ◌≤◌, ◌<◌, ◌≡◌, refl, sym, ap, ap₂, ◌∙◌, List, [], ◌∷◌, ◌++◌, map, append_assoc, Bool, true, false, cond, arith, length, replicate, drop, eqb, eqb-true, ne_eqb, le-ltb}
+use lib.ListN.{length-replicate}
 use Rattle.file.specs.Rules.Bytes.{Bytes, All, All.all_empty, All.all_next as also}
 use Rattle.file.specs.Rules.Order.{first_of, both, either}
 use Rattle.file.specs.Rules.Cluster.{unnamed}

@@ -1,12 +1,8 @@
 -- A pass on its way: the rounds really made and the comparisons made when it comes to a place, by what is known of the two writes that
 -- depend on the physical name; and the writes that are made or passed over on the way.
 -- Assumes nothing.
-use Prim.Native.Nat.{ℕ, zero, suc, ◌+◌, ◌*◌, ◌-◌, ◌/◌, ◌%◌, min, ◌≤◌, ◌<◌}
-use mathlib.Core.Path.{◌≡◌, refl, ◌∙◌}
-use mathlib.Core.List.{List, [], ◌∷◌}
-use native.Mathlib.Omega.{arith}
-use lib.Dec.{eqb, ltb}
-use borrow.Author.Tests.{eqb-true, eqb-false, ltb-true, ltb-false}
+use Rattle.std.proofs.Common.{ℕ, zero, suc, ◌+◌, ◌*◌, ◌-◌, ◌/◌, ◌%◌, min, ◌≤◌, ◌<◌, ◌≡◌, refl, ◌∙◌, List, [], ◌∷◌, arith, eqb, ltb, eqb-true, ltb-true, ltb-false}
+use borrow.Author.Tests.{eqb-false}
 use Rattle.file.proofs.Order.{by_case}
 use Rattle.naming.specs.Rules.Pass.{PassPlace, poll, ask, give_name, give_high, give_low, baptize, least, bit, high, low, reply, bits}
 use Rattle.naming.specs.Rules.RunRounds.{half}

@@ -1,12 +1,7 @@
 -- The files of the cases M6 to M9: each meets what its case's law asks of a file, and the law gives the round on it. And demand 3 on a file
 -- whose only slave sleeps: what it asks of file, names and calls is met, and the slave is awake after the first step.
 -- Assumes nothing.
-use Prim.Native.Nat.{ℕ}
-use native.Mathlib.Omega.{arith}
-use mathlib.Core.Path.{◌≡◌, refl, ◌∙◌}
-use mathlib.Core.List.{List, [], ◌∷◌}
-use mathlib.Core.Bool.{true}
-use lib.ListN.{replicate, get_or}
+use Rattle.std.proofs.Common.{ℕ, arith, ◌≡◌, refl, ◌∙◌, List, [], ◌∷◌, true, replicate, get_or}
 use Rattle.file.specs.Rules.Layout.{width_of}
 use Rattle.file.specs.Rules.Order.{first_of, both, either}
 use Rattle.file.specs.Rules.Results.{done}

@@ -1,12 +1,7 @@
 -- Frames and files that meet what the claims of `cluster` about frames sent and records written ask: M1 on the file of M10; M3 and a write
 -- of record 2 on files with that write pending at 0xFF; the data frame without data on that of M6.
 -- Assumes nothing.
-use Prim.Native.Nat.{ℕ}
-use native.Mathlib.Omega.{arith}
-use mathlib.Core.Path.{◌≡◌, refl, ap}
-use mathlib.Core.List.{List, [], ◌∷◌}
-use mathlib.Core.Bool.{false}
-use lib.ListN.{take}
+use Rattle.std.proofs.Common.{ℕ, arith, ◌≡◌, refl, ap, List, [], ◌∷◌, false, take}
 use Rattle.file.specs.Rules.Layout.{width_of}
 use Rattle.file.specs.Rules.Order.{first_of, both, either}
 use Rattle.file.specs.Rules.Results.{Result, done}

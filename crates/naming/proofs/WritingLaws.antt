@@ -1,15 +1,8 @@
 -- What the round at a step writes, how many needless writes follow one another there, and how a position moves on from its round: one law
 -- for each way through the functions on these.
 -- Assumes nothing.
-use Prim.Native.Nat.{ℕ, zero, suc, ◌+◌, ◌-◌, ◌/◌, ◌%◌, ◌≤◌, ◌<◌}
-use mathlib.Core.Path.{◌≡◌, refl, sym, ap, ◌∙◌}
-use mathlib.Core.List.{List}
-use mathlib.Core.Bool.{Bool, true, false}
-use native.Mathlib.Omega.{arith}
-use native.Mathlib.Numerals.{add-one}
-use borrow.Author.Tests.{eq-eqb, ne_eqb, ltb-true, ltb-false, eqb-true, eqb-false}
-use lib.Dec.{ltb, eqb}
-use lib.ListN.{get_or}
+use Rattle.std.proofs.Common.{ℕ, zero, suc, ◌+◌, ◌-◌, ◌/◌, ◌%◌, ◌≤◌, ◌<◌, ◌≡◌, refl, sym, ap, ◌∙◌, List, Bool, true, false, arith, add-one, eq-eqb, ne_eqb, ltb-true, ltb-false, eqb-true, ltb, eqb, get_or}
+use borrow.Author.Tests.{eqb-false}
 use Rattle.file.proofs.Order.{by_case}
 use Rattle.naming.specs.Rules.RunRounds.{half, comparison_rounds}
 use Rattle.naming.specs.Rules.Position.{Position}

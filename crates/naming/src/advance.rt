@@ -3,7 +3,7 @@ ghost use Rattle.std.specs.Prelude.{◌≡◌, ℕ, ◌≤◌, ◌<◌};
 ghost use Rattle.naming.specs.Rules.Pass.{poll, place_of};
 ghost use Rattle.naming.specs.Rules.Run.{move_on};
 ghost use Rattle.naming.specs.Rules.RunRounds.{comparison_rounds};
-ghost use Rattle.naming.specs.Inner.StepAnswers.{position_of, heard, FitCounts, GoesOn, WritesAt, Wrote, Asks, Advances, Writes};
+ghost use Rattle.naming.specs.Inner.StepAnswers.{position_of, heard, FitCounts, GoesOn, Wrote, Asks, Advances, Writes};
 
 use crate::pass::{FIRST_REPLY, GIVE_NAME, HALF, HIGH, LAST_STEP, LOW, POLL, REPLY, Writing};
 use crate::position::{RunHalves, RunPosition, all_named, go_on, next_name};
@@ -18,49 +18,36 @@ pub enum Reply {
 
 // With the half that its round wrote.
 fn wrote(at: Standing) -> RunPosition
-    requires { WritesAt at.run.place.step at.run.place.value at.writing.part at.writing.value }
     ensures { Wrote (position_of at.run) (position_of result) }
 {
     let run = at.run;
-    let place = run.place;
-    let counts = run.counts;
     if at.writing.part == HIGH {
         let halves = RunHalves {
             high: at.writing.value / HALF,
-            low: run.halves.low,
+            ..run.halves
         };
-        return RunPosition {
-            end: run.end,
-            place,
-            counts,
-            halves,
-        };
+        return RunPosition { halves, ..run };
     }
     if at.writing.part == LOW {
         let halves = RunHalves {
-            high: run.halves.high,
             low: at.writing.value % HALF,
+            ..run.halves
         };
-        return RunPosition {
-            end: run.end,
-            place,
-            counts,
-            halves,
-        };
+        return RunPosition { halves, ..run };
     }
     run
 }
 
 // After a round that writes a half, at the next round really made: the next step is about the same value.
 fn written(at: Standing) -> RunPosition
-    requires { FitCounts (position_of at.run) × WritesAt at.run.place.step at.run.place.value at.writing.part at.writing.value × (at.writing.part < 2) }
+    requires { FitCounts (position_of at.run) × (at.writing.part < 2) }
     ensures { Writes (position_of at.run) (position_of result) }
 {
     let run = wrote(at);
     let next = go_on(run, run.place.value, 0);
     let writing = Writing {
         part: at.writing.part + 1,
-        value: at.writing.value,
+        ..at.writing
     };
     let needless = needless_writes(next, writing);
     passed_over(next, needless)
@@ -102,9 +89,10 @@ fn compared(run: RunPosition, value: u64, answer: Reply) -> RunPosition
     }
 }
 
-// After a round that writes no half, by the answer.
+// After a round that writes no half, by the answer. The step is tested, not looked up in a table of functions: of 200 steps four kinds are told
+// apart, and what is done at each takes other arguments.
 fn moved(at: Standing, count: u64, answer: Reply) -> RunPosition
-    requires { GoesOn count (position_of at.run) × WritesAt at.run.place.step at.run.place.value at.writing.part at.writing.value × (2 ≤ at.writing.part) }
+    requires { GoesOn count (position_of at.run) × (2 ≤ at.writing.part) }
     ensures { position_of result ≡ move_on (place_of at.run.place.step) count (position_of at.run) (heard answer) }
 {
     let run = at.run;
@@ -122,7 +110,7 @@ fn moved(at: Standing, count: u64, answer: Reply) -> RunPosition
 
 // From its round really made to the next one, by the answer.
 pub fn advanced(at: Standing, count: u64, answer: Reply) -> RunPosition
-    requires { GoesOn count (position_of at.run) × WritesAt at.run.place.step at.run.place.value at.writing.part at.writing.value }
+    requires { GoesOn count (position_of at.run) }
     ensures { Advances count (position_of at.run) (heard answer) (position_of result) }
 {
     if at.writing.part < REPLY {

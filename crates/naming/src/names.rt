@@ -1,6 +1,7 @@
 // Grounds 15 and 16, of a list of names.
 ghost use Rattle.std.specs.Prelude.{◌≡◌, [], ◌∷◌};
 ghost use Rattle.file.specs.Rules.Results.{number_in};
+ghost use Rattle.file.specs.Inner.Typed.{name_in_lem};
 ghost use Rattle.file.specs.Inner.Refusals.{outcome_of};
 ghost use Rattle.naming.specs.Rules.RunGrounds.{unfit_name, start_ground};
 
@@ -8,13 +9,10 @@ use file::held::NAME_VALUES;
 use file::types::{LogicalName, Refusal};
 
 // Ground 15, of one name.
-fn is_unfit_name(name: u8) -> bool
-    ensures { result ≡ unfit_name (name ∷ []) }
+fn is_unfit_name(name: LogicalName) -> bool
+    ensures { result ≡ unfit_name (name_in_lem name ∷ []) }
 {
-    if name == LogicalName::BROADCAST.0 {
-        return true;
-    }
-    name == LogicalName::UNNAMED.0
+    name == LogicalName::BROADCAST || name == LogicalName::UNNAMED
 }
 
 // Both grounds in one loop without an exit, from the last name to the first: which names there are, and whether one is there twice.
@@ -23,9 +21,7 @@ fn marked_ground(names: &[u8]) -> Result<(), Refusal>
 {
     let mut seen = [false; NAME_VALUES];
     let mut twice = false;
-    let mut i = names.len();
-    while 0 < i {
-        i = i - 1;
+    for i in (0..names.len()).rev() {
         let mark = names[i] as usize;
         if seen[mark] {
             twice = true;
@@ -51,7 +47,7 @@ pub fn names_ground(names: &[u8]) -> Result<(), Refusal>
     if names.len() != 1 {
         return marked_ground(names);
     }
-    if is_unfit_name(names[0]) {
+    if is_unfit_name(LogicalName::new(names[0])) {
         return Err(Refusal::ListedName);
     }
     Ok(())

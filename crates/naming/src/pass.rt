@@ -10,6 +10,8 @@ const BITS: u64 = 64;
 // "A comparison is three rounds": the two halves of its value, and the execute that is answered.
 const COMPARISON_ROUNDS: u64 = 3;
 
+// The rounds of a comparison by their number, which is counted with: what is left of a step by 3, and one more for each needless write. An
+// enum would be made of such a number and turned into one wherever it is used.
 pub const HIGH: u64 = 0;
 
 pub const LOW: u64 = 1;

@@ -29,7 +29,9 @@ pub struct RunHalves {
     pub low: u64,
 }
 
-// The caller keeps it between steps, and may hand in any content.
+// The caller keeps it between steps, and may hand in any content: the C interface has these words, so that end and step are numbers, of which
+// ground 17 (`unfit_position`) tells the unfit ones. That its parts fit (FitCounts, GoesOn) is asked function by function: a round more may
+// bring a count to its limit, and a type of positions that fit would be left by each function that takes it.
 #[derive(Clone, Copy)]
 pub struct RunPosition {
     pub end: u64,
@@ -47,6 +49,7 @@ const NAMES_USED_UP: u64 = 2;
 // "either count 1,000,000 or more".
 const COUNT_LIMIT: u64 = 1000000;
 
+#[tactic(auto, unfolding(crate::specs::Rules::Position::end_at))]
 fn end_at(count: u64, index: u64) -> u64
     ensures { result ≡ end_at count index }
 {
@@ -57,6 +60,7 @@ fn end_at(count: u64, index: u64) -> u64
 }
 
 // A fresh run over a list of so many names.
+#[tactic(auto, unfolding(crate::specs::Rules::Position::fresh))]
 pub fn first_position(names: &[u8]) -> RunPosition
     ensures { position_of result ≡ fresh names.now }
 {
@@ -102,85 +106,73 @@ pub fn is_unfit(names: &[u8], run: RunPosition) -> bool
 }
 
 // To the pass's next round, with a value and so many more comparisons made.
+#[tactic(auto, unfolding(crate::specs::Rules::Run::onward))]
 pub fn go_on(run: RunPosition, value: u64, more: u64) -> RunPosition
     requires { FitCounts (position_of run) × (more ≤ 1) }
     ensures { position_of result ≡ onward (position_of run) value more }
 {
-    let place = RunPlace {
-        index: run.place.index,
-        step: run.place.step + 1,
-        value,
-    };
-    let counts = RunCounts {
-        rounds: run.counts.rounds + 1,
-        comparisons: run.counts.comparisons + more,
-    };
-    let halves = run.halves;
     RunPosition {
-        end: run.end,
-        place,
-        counts,
-        halves,
+        place: RunPlace {
+            step: run.place.step + 1,
+            value,
+            ..run.place
+        },
+        counts: RunCounts {
+            rounds: run.counts.rounds + 1,
+            comparisons: run.counts.comparisons + more,
+        },
+        ..run
     }
 }
 
 // The extra read is made.
+#[tactic(auto, unfolding(crate::specs::Rules::Run::count_raised))]
 pub fn count_raised(run: RunPosition) -> RunPosition
     requires { FitCounts (position_of run) }
     ensures { position_of result ≡ count_raised (position_of run) }
 {
-    let place = run.place;
-    let counts = RunCounts {
-        rounds: run.counts.rounds + 1,
-        comparisons: run.counts.comparisons,
-    };
-    let halves = run.halves;
     RunPosition {
-        end: run.end,
-        place,
-        counts,
-        halves,
+        counts: RunCounts {
+            rounds: run.counts.rounds + 1,
+            ..run.counts
+        },
+        ..run
     }
 }
 
 // The name is done.
+#[tactic(auto, unfolding(crate::specs::Rules::Run::next_name))]
 pub fn next_name(run: RunPosition, count: u64) -> RunPosition
     requires { GoesOn count (position_of run) }
     ensures { position_of result ≡ next_name count (position_of run) }
 {
-    let end = end_at(count, run.place.index + 1);
-    let place = RunPlace {
-        index: run.place.index + 1,
-        step: POLL,
-        value: run.place.value,
-    };
-    let counts = RunCounts {
-        rounds: run.counts.rounds + 1,
-        comparisons: run.counts.comparisons,
-    };
-    let halves = run.halves;
+    let index = run.place.index + 1;
     RunPosition {
-        end,
-        place,
-        counts,
-        halves,
+        end: end_at(count, index),
+        place: RunPlace {
+            index,
+            step: POLL,
+            ..run.place
+        },
+        counts: RunCounts {
+            rounds: run.counts.rounds + 1,
+            ..run.counts
+        },
+        ..run
     }
 }
 
+#[tactic(auto, unfolding(crate::specs::Rules::Run::end_all_named))]
 pub fn all_named(run: RunPosition) -> RunPosition
     requires { FitCounts (position_of run) }
     ensures { position_of result ≡ end_all_named (position_of run) }
 {
-    let place = run.place;
-    let counts = RunCounts {
-        rounds: run.counts.rounds + 1,
-        comparisons: run.counts.comparisons + 1,
-    };
-    let halves = run.halves;
     RunPosition {
         end: ALL_NAMED,
-        place,
-        counts,
-        halves,
+        counts: RunCounts {
+            rounds: run.counts.rounds + 1,
+            comparisons: run.counts.comparisons + 1,
+        },
+        ..run
     }
 }

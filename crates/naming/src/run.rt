@@ -46,6 +46,9 @@ pub struct MadeStep {
 }
 
 // The extra read that a run begins with, at its first name: its reply is ignored, and only the count of rounds changes.
+// File and places, here and in what calls this, stay two arguments with a clause on them (Placed): of a struct that holds the lent file, each
+// function has to promise besides that it holds the same file still. So do position and names: each step makes another position, and the
+// list stays.
 fn extra_step(
     file: &mut [u8],
     places: &SlavePlaces,

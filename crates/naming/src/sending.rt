@@ -5,11 +5,11 @@ ghost use Rattle.file.specs.Rules.Layout.{record_size};
 ghost use Rattle.file.specs.Rules.Results.{done};
 ghost use Rattle.file.specs.Rules.Cluster.{write_operation, execute_operation};
 ghost use Rattle.file.specs.Inner.Typed.{record_in, name_in_lem};
-ghost use Rattle.naming.specs.Rules.RunRounds.{half, poll, write_high, write_low, sent, at_unnamed};
+ghost use Rattle.naming.specs.Rules.RunRounds.{half, poll, sent, at_unnamed};
 ghost use Rattle.naming.specs.Rules.Pass.{place_of, reply, last_step};
 ghost use Rattle.naming.specs.Rules.Run.{round_at};
 ghost use Rattle.naming.specs.Rules.Step.{is_reply};
-ghost use Rattle.naming.specs.Inner.StepAnswers.{heard, Sends, part_at, WritesAt};
+ghost use Rattle.naming.specs.Inner.StepAnswers.{heard, Sends, part_at};
 
 use crate::advance::Reply;
 use crate::pass::{BYTE, GIVE_NAME, HALF, HIGH, LAST_STEP, LOW, POLL};
@@ -22,6 +22,7 @@ use master_slave::types::MasterSlaveRound;
 const REPLY_SLOT: u64 = FIRST_SLOT as u64;
 
 // The read that finds out whether a name is taken; at the first name also the extra one that a run begins with.
+#[tactic(auto, unfolding(crate::specs::Rules::RunRounds::sent, crate::specs::Rules::RunRounds::at_unnamed))]
 pub fn poll_round(name: LogicalName) -> MasterSlaveRound
     ensures { Sends result (sent (poll (name_in_lem name))) }
 {
@@ -38,6 +39,7 @@ pub fn poll_round(name: LogicalName) -> MasterSlaveRound
 }
 
 // A write to a record of 0x08 of the unnamed slaves.
+#[tactic(auto, unfolding(crate::specs::Rules::RunRounds::sent, crate::specs::Rules::RunRounds::at_unnamed))]
 fn write_round(record: RecordNumber, b0: u8, b1: u8, b2: u8, b3: u8) -> MasterSlaveRound
     ensures { Sends result (at_unnamed write_operation (record_in «record») (b0 ∷ b1 ∷ b2 ∷ b3 ∷ [])) }
 {
@@ -65,19 +67,9 @@ fn half_round(record: RecordNumber, value: u64) -> MasterSlaveRound
     write_round(record, b0, b1, b2, b3)
 }
 
-fn high_round(value: u64) -> MasterSlaveRound
-    ensures { Sends result (sent (write_high (value / half))) }
-{
-    half_round(RecordNumber::COMPARISON_HIGH, value / HALF)
-}
-
-fn low_round(value: u64) -> MasterSlaveRound
-    ensures { Sends result (sent (write_low (value % half))) }
-{
-    half_round(RecordNumber::COMPARISON_LOW, value % HALF)
-}
-
-// An execute of a record of 0x08 of the unnamed slaves.
+// An execute of a record of 0x08 of the unnamed slaves. Not one function with the write: a write's content is its four bytes, that of an execute
+// is none, and the promise would have to tell them apart by the operation.
+#[tactic(auto, unfolding(crate::specs::Rules::RunRounds::sent, crate::specs::Rules::RunRounds::at_unnamed))]
 fn execute_round(record: RecordNumber) -> MasterSlaveRound
     ensures { Sends result (at_unnamed execute_operation (record_in «record») []) }
 {
@@ -112,14 +104,13 @@ fn other_round(step: u64, name: LogicalName) -> MasterSlaveRound
 
 // The round at a position that stands there, for a name.
 pub fn round_at(at: Standing, name: LogicalName) -> MasterSlaveRound
-    requires { (at.run.place.step ≤ last_step) × WritesAt at.run.place.step at.run.place.value at.writing.part at.writing.value }
     ensures { Sends result (sent (round_at (place_of at.run.place.step) (name_in_lem name) at.run.place.value)) }
 {
     if at.writing.part == HIGH {
-        return high_round(at.writing.value);
+        return half_round(RecordNumber::COMPARISON_HIGH, at.writing.value / HALF);
     }
     if at.writing.part == LOW {
-        return low_round(at.writing.value);
+        return half_round(RecordNumber::COMPARISON_LOW, at.writing.value % HALF);
     }
     other_round(at.run.place.step, name)
 }

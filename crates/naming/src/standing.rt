@@ -34,30 +34,27 @@ pub fn needless_writes(run: RunPosition, writing: Writing) -> u64
 }
 
 // So many steps on.
+#[tactic(auto, unfolding(crate::specs::Rules::Run::at_step))]
 pub fn passed_over(run: RunPosition, steps: u64) -> RunPosition
     requires { run.place.step + steps ≤ last_step }
     ensures { position_of result ≡ at_step (run.place.step + steps) (position_of run) }
 {
-    let place = RunPlace {
-        index: run.place.index,
-        step: run.place.step + steps,
-        value: run.place.value,
-    };
-    let counts = run.counts;
-    let halves = run.halves;
     RunPosition {
-        end: run.end,
-        place,
-        counts,
-        halves,
+        place: RunPlace {
+            step: run.place.step + steps,
+            ..run.place
+        },
+        ..run
     }
 }
 
-// A position at the next round really made, and what that round writes.
+// A position at the next round really made, at a step of a pass, and what that round writes.
 #[derive(Clone, Copy)]
 pub struct Standing {
     pub run: RunPosition,
     pub writing: Writing,
+    pub ghost place: { run.place.step ≤ last_step },
+    pub ghost writes: { WritesAt run.place.step run.place.value writing.part writing.value },
 }
 
 pub fn standing_at(run: RunPosition) -> Standing
@@ -70,7 +67,7 @@ pub fn standing_at(run: RunPosition) -> Standing
         run: passed_over(run, needless),
         writing: Writing {
             part: writing.part + needless,
-            value: writing.value,
+            ..writing
         },
     }
 }

@@ -49,10 +49,9 @@ pub fn make_steps(
     requires { Placed file.old places.now × (slots ≤ length answer.old) × (start_ground names.now ≡ 0) }
     ensures { StepsMade names.now until most file.old places.now (position_of start) answer.old result answer.new file.new }
 {
-    let mut steps = 0;
     let mut senders = NOBODY;
     let mut run = start;
-    while steps < most {
+    for steps in 0..most {
         if is_over(names, run, until) {
             return MadeSteps {
                 steps,
@@ -63,10 +62,9 @@ pub fn make_steps(
         let made = make_step(file, places, run, names, answer);
         senders = made.senders;
         run = made.run;
-        steps = steps + 1;
     }
     MadeSteps {
-        steps,
+        steps: most,
         senders,
         run,
     }

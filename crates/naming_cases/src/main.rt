@@ -11,13 +11,15 @@
 // and the file at its end.
 #![tactic(auto)]
 
-use case_input::fields::{after, bytes_at, count_at, input_buffer, is, line, number_at, read_full};
+use case_input::fields::{bytes_at, count_at, is, number_at};
+use case_input::lines::each_line;
 use case_input::show;
 use case_input::show::text;
 use cluster::round::round;
+use file::types::Refusal;
 use naming::position::{RunCounts, RunHalves, RunPlace, RunPosition};
-use naming::run::{Started, Stepped, start, step};
-use naming::steps::{StepsAnswer, steps};
+use naming::run::{MadeStep, start, step};
+use naming::steps::{MadeSteps, steps};
 use std::io;
 
 // The most bytes that a file, a list of names, a frame and an answer buffer have here.
@@ -44,130 +46,48 @@ const FIRST_FRAME: usize = 4;
 
 const PAST_FRAMES: usize = 20;
 
-// What a start or a step answers: the number of the refusal, 0 where there is none, the mask, and the position afterwards.
-#[derive(Clone, Copy)]
-struct Answer {
-    number: u8,
-    mask: u64,
-    run: RunPosition,
-}
-
-fn started(names: &[u8]) -> Answer {
-    let answer = start(names);
-    match answer {
-        Err(why) => Answer {
-            number: why.0,
-            mask: 0,
-            run: position_at(b""),
-        },
-        Ok(run) => Answer {
-            number: 0,
-            mask: 0,
-            run,
-        },
+// No step: none sent, and the run stays.
+fn no_steps(run: RunPosition) -> MadeSteps {
+    MadeSteps {
+        steps: 0,
+        senders: 0,
+        run,
     }
 }
 
-fn stepped(file: &mut [u8], run: RunPosition, names: &[u8], buffer: &mut [u8]) -> Answer {
-    let answer = step(file, run, names, buffer);
-    match answer {
-        Err(why) => Answer {
-            number: why.0,
-            mask: 0,
-            run,
-        },
-        Ok(None) => Answer {
-            number: 0,
-            mask: 0,
-            run,
-        },
-        Stepped::Made {
-            senders,
-            run: moved,
-        } => Answer {
-            number: 0,
-            mask: senders,
-            run: moved,
-        },
-    }
-}
-
-// What several steps answer: the number, 0 where they are not refused at once, how many made their round, the mask of the last one,
-// and the position afterwards.
-#[derive(Clone, Copy)]
-struct SeveralSteps {
-    number: u8,
-    made: u64,
-    mask: u64,
-    run: RunPosition,
-}
-
-fn at_once(
-    file: &mut [u8],
-    run: RunPosition,
-    names: &[u8],
-    buffer: &mut [u8],
-    most: u64,
-) -> SeveralSteps {
-    let answer = steps(file, run, names, buffer, most);
-    match answer {
-        Err(why) => SeveralSteps {
-            number: why.0,
-            made: 0,
-            mask: 0,
-            run,
-        },
-        Ok(made) => {
-            let moved = made.run;
-            SeveralSteps {
-                number: 0,
-                made: made.steps,
-                mask: made.senders,
-                run: moved,
-            }
-        }
-    }
-}
-
-// Of a step that made no round: its number, unless another was made before it.
-fn number_of(made: u64, number: u8) -> u8 {
-    if made != 0 {
-        return 0;
-    }
-    number
-}
-
-// One call after another, up to the first that makes no round: it counts none.
+// One call after another, up to the first that makes no round: it counts none, and a refusal is answered where no other was made before.
 fn one_by_one(
     file: &mut [u8],
     start: RunPosition,
     names: &[u8],
     buffer: &mut [u8],
     most: u64,
-) -> SeveralSteps {
-    let mut made = 0;
-    let mut mask = 0;
-    let mut run = start;
-    while made < most {
-        let answer = stepped(file, run, names, buffer);
-        if answer.run.counts.rounds == run.counts.rounds {
-            return SeveralSteps {
-                number: number_of(made, answer.number),
-                made,
-                mask,
-                run,
-            };
+) -> Result<MadeSteps, Refusal> {
+    let mut made = no_steps(start);
+    for before in 0..most {
+        let answer = step(file, made.run, names, buffer);
+        if before == 0 {
+            answer?;
         }
-        mask = answer.mask;
-        run = answer.run;
-        made += 1;
+        let Ok(Some(step)) = answer else {
+            break;
+        };
+        made = MadeSteps {
+            steps: before + 1,
+            senders: step.senders,
+            run: step.run,
+        };
     }
-    SeveralSteps {
-        number: 0,
-        made,
-        mask,
-        run,
-    }
+    Ok(made)
+}
+
+// The number of a refusal, 0 where there is none.
+fn number<T>(out: &impl Print, answer: &Result<T, Refusal>) -> io::Result<()> {
+    let number = match answer {
+        Err(why) => why.number(),
+        Ok(_) => 0,
+    };
+    print!(out; " {number}")
 }
 
 // The position in the fields from 3 on, all 0 where there are none.
@@ -190,31 +110,27 @@ fn position_at(case: &[u8]) -> RunPosition {
     }
 }
 
-fn position(out: &impl Print, run: RunPosition, between: &[u8]) -> io::Result<()> {
-    text(out, b" ")?;
-    show::decimal(out, run.end)?;
-    text(out, between)?;
-    show::decimal(out, run.place.index)?;
-    text(out, between)?;
-    show::decimal(out, run.place.step)?;
-    text(out, between)?;
-    show::decimal(out, run.place.value)?;
-    text(out, between)?;
-    show::decimal(out, run.counts.rounds)?;
-    text(out, between)?;
-    show::decimal(out, run.counts.comparisons)?;
-    text(out, between)?;
-    show::decimal(out, run.halves.high)?;
-    text(out, between)?;
-    show::decimal(out, run.halves.low)
+fn position(out: &impl Print, run: RunPosition, between: &str) -> io::Result<()> {
+    print!(out; " {}", run.end)?;
+    for n in [
+        run.place.index,
+        run.place.step,
+        run.place.value,
+        run.counts.rounds,
+        run.counts.comparisons,
+        run.halves.high,
+        run.halves.low,
+    ] {
+        print!(out; "{between}{n}")?;
+    }
+    Ok(())
 }
 
 fn start_case(out: &impl Print, names: &[u8]) -> io::Result<()> {
-    let answer = started(names);
-    show::number(out, answer.number as u64)?;
-    if answer.number == 0 {
-        let run = answer.run;
-        position(out, run, b" ")?;
+    let answer = start(names);
+    number(out, &answer)?;
+    if let Ok(run) = answer {
+        position(out, run, " ")?;
     }
     Ok(())
 }
@@ -226,12 +142,15 @@ fn step_case(
     names: &[u8],
     buffer: &mut [u8],
 ) -> io::Result<()> {
-    let answer = stepped(file, run, names, buffer);
-    show::number(out, answer.number as u64)?;
-    show::word(out, answer.mask)?;
+    let answer = step(file, run, names, buffer);
+    number(out, &answer)?;
+    let made = answer
+        .ok()
+        .flatten()
+        .unwrap_or(MadeStep { senders: 0, run });
+    show::word(out, made.senders)?;
     show::bytes(out, file)?;
-    let moved = answer.run;
-    position(out, moved, b",")?;
+    position(out, made.run, ",")?;
     show::bytes(out, buffer)
 }
 
@@ -241,12 +160,13 @@ fn several(
     run: RunPosition,
     names: &[u8],
     buffer: &mut [u8],
-) -> SeveralSteps {
+) -> Result<MadeSteps, Refusal> {
     let most = number_at(case, 12);
     if is(case, b"single") {
-        return one_by_one(file, run, names, buffer, most);
+        one_by_one(file, run, names, buffer, most)
+    } else {
+        steps(file, run, names, buffer, most)
     }
-    at_once(file, run, names, buffer, most)
 }
 
 fn several_case(
@@ -256,13 +176,14 @@ fn several_case(
     names: &[u8],
     buffer: &mut [u8],
 ) -> io::Result<()> {
-    let answer = several(case, file, position_at(case), names, buffer);
-    show::number(out, answer.number as u64)?;
-    show::number(out, answer.made)?;
-    show::word(out, answer.mask)?;
+    let run = position_at(case);
+    let answer = several(case, file, run, names, buffer);
+    number(out, &answer)?;
+    let made = answer.unwrap_or(no_steps(run));
+    show::number(out, made.steps)?;
+    show::word(out, made.senders)?;
     show::bytes(out, file)?;
-    let moved = answer.run;
-    position(out, moved, b",")?;
+    position(out, made.run, ",")?;
     show::bytes(out, buffer)
 }
 
@@ -286,47 +207,38 @@ fn exchange(case: &[u8], field: usize, file: &mut [u8], run: RunPosition, names:
     let mut short = [0xEEu8; SHORT];
     let size = bytes_at(case, field, &mut frame);
     round(file, &frame[..size], &mut buffer);
-    stepped(file, run, names, &mut short);
+    let _ = step(file, run, names, &mut short);
 }
 
 // What happens between two steps of a run.
 fn others(case: &[u8], file: &mut [u8], run: RunPosition, names: &[u8]) {
-    let mut field = FIRST_FRAME;
-    while field < PAST_FRAMES {
+    for field in FIRST_FRAME..PAST_FRAMES {
         exchange(case, field, file, run, names);
-        field += 1;
     }
 }
 
+// The run after a step; it stays where the step made no round.
 fn moved(file: &mut [u8], run: RunPosition, names: &[u8]) -> RunPosition {
     let mut buffer = [0xEEu8; TAKEN];
-    let answer = stepped(file, run, names, &mut buffer);
-    answer.run
-}
-
-fn turn(case: &[u8], file: &mut [u8], run: RunPosition, names: &[u8], number: u64) -> RunPosition {
-    if number % EVERY != FOURTH {
-        return moved(file, run, names);
-    }
-    others(case, file, run, names);
-    moved(file, run, names)
+    let answer = step(file, run, names, &mut buffer);
+    answer.ok().flatten().map_or(run, |made| made.run)
 }
 
 fn ran(case: &[u8], file: &mut [u8], fresh: RunPosition, names: &[u8], steps: u64) -> RunPosition {
     let mut run = fresh;
-    let mut i = 0;
-    while i < steps {
-        run = turn(case, file, run, names, i);
-        i += 1;
+    for i in 0..steps {
+        if i % EVERY == FOURTH {
+            others(case, file, run, names);
+        }
+        run = moved(file, run, names);
     }
     run
 }
 
 fn run_case(out: &impl Print, case: &[u8], file: &mut [u8], names: &[u8]) -> io::Result<()> {
-    let answer = started(names);
-    let fresh = answer.run;
+    let fresh = start(names).unwrap_or(position_at(b""));
     let run = ran(case, file, fresh, names, number_at(case, 3));
-    position(out, run, b",")?;
+    position(out, run, ",")?;
     show::bytes(out, file)
 }
 
@@ -354,23 +266,12 @@ fn call(out: &impl Print, case: &[u8]) -> io::Result<()> {
 fn run(out: &impl Print, case: &[u8]) -> io::Result<()> {
     text(out, case)?;
     if !is(case, b"#") {
-        text(out, b" =")?;
+        print!(out; " =")?;
         call(out, case)?;
     }
-    text(out, b"\n")
-}
-
-fn cases(out: &impl Print, input: &[u8]) -> io::Result<()> {
-    let mut at = 0;
-    while at < input.len() {
-        run(out, line(input, at))?;
-        at = after(input, at);
-    }
-    Ok(())
+    println!(out)
 }
 
 fn main(rt: HostRuntime) -> io::Result<()> {
-    let mut input = input_buffer();
-    let n = read_full(&mut rt.stdin(), &mut input)?;
-    cases(&rt, &input[..n])
+    each_line(rt.alloc(), rt.stdin(), |case| run(&rt, case))
 }

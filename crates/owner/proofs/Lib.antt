@@ -7,6 +7,7 @@ pub mod Examples
 pub mod MaskLaws
 pub mod EntryMasks
 pub mod HeldLaws
+pub mod PlannerLaws
 -- one slave entry by entry; a round slave by slave; the rows round by round
 pub mod SlavePlan
 pub mod RoundLaws

@@ -22,7 +22,8 @@ use multipartner::entry::{
 };
 
 // The slots that a slave's entries hide from later ones, those in which it sends, whether it has a multiplexed send, and the file that
-// was looked for last, with its size.
+// was looked for last, with its size. No `Option` of the two: a number that no file has says that there was none, so that each send compares
+// numbers alone.
 #[derive(Clone, Copy)]
 pub struct SlavePlan {
     pub hidden: u64,
@@ -43,10 +44,7 @@ pub fn is_end(kind: u8) -> bool
     ensures { result ≡ ends (kind / longest_entry) }
 {
     let operation = kind / LENGTH_VALUES;
-    if operation == END_OF_ROUND {
-        return true;
-    }
-    operation == EXECUTE_AND_END
+    operation == END_OF_ROUND || operation == EXECUTE_AND_END
 }
 
 // Of the operations that are not multiplexed.
@@ -54,10 +52,7 @@ fn is_plain_send(operation: u8) -> bool
     requires { operation < first_multiplexed }
     ensures { result ≡ sends operation }
 {
-    if operation == SEND {
-        return true;
-    }
-    operation == SEND_SPEEDUP
+    operation == SEND || operation == SEND_SPEEDUP
 }
 
 fn is_send(operation: u8) -> bool
@@ -86,7 +81,7 @@ fn known_size(file: &[u8], slave: usize, number: FileNumber, plan: SlavePlan) ->
     requires { AcceptedFile file.now × (slave < slave_count file.now) × (file_in number < file_numbers) × Kept (slave_of (decode file.now) slave) (file_in plan.number) plan.size }
     ensures { result ≡ length (bytes_in (slave_of (decode file.now) slave) (file_in number)) }
 {
-    if plan.number.0 == number.0 {
+    if plan.number == number {
         return plan.size;
     }
     file_size(file, slave, number)

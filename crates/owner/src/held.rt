@@ -15,7 +15,7 @@ const NUMBERS: usize = 64;
 
 const ROUND_MARKS: u64 = 256;
 
-// The numbers below 8 of a directory's files, a bit each.
+// The numbers below 8 of a directory's files, a bit each. A `while`: `step_by` compares twice for each entry, seven instructions in place of five.
 fn mark_rounds(file: &[u8], width: usize, directory: usize, count: usize) -> u8
     requires { EntriesFit width file.now directory count }
     ensures { DirectoryMarked width file.now directory count result }
@@ -51,10 +51,7 @@ pub fn all_held(file: &[u8], held: &mut [u8])
     ensures { AllHold (decode file.now) held.new }
 {
     let width = width_of(file);
-    let count = slave_count(file);
-    let mut slave = 0;
-    while slave < count {
+    for slave in 0..slave_count(file) {
         held[slave] = rounds_held(file, width, slave);
-        slave = slave + 1;
     }
 }

@@ -6,12 +6,11 @@ ghost use Rattle.file.specs.Inner.Accepted.{Placed};
 ghost use Rattle.master_slave.specs.Rules.Bus.{slots};
 ghost use Rattle.owner.specs.Rules.Plan.{rounds, is_owned};
 ghost use Rattle.owner.specs.Rules.OwnerFile.{no_owner};
-ghost use Rattle.owner.specs.Inner.Held.{AllHold};
 ghost use Rattle.owner.specs.Inner.Planned.{RowWritten, head_room, rows_room, index_byte, RowsWritten, RoundsWritten};
 
 use crate::held::all_held;
 use crate::masks::{NO_SLOTS, last_slot};
-use crate::plan::plan_round;
+use crate::plan::Planner;
 use file::layout::RECORD_SIZE;
 use file::types::{FileNumber, LogicalName, SLAVES_ROOM, SlavePlaces};
 use master_slave::slots::SLOTS;
@@ -37,39 +36,16 @@ pub const ROWS_ROOM: usize = ROUNDS * SLOTS;
 fn is_owned(round: usize) -> bool
     ensures { result ≡ is_owned round }
 {
-    if round == DATA_ROUND {
-        return false;
-    }
-    round != ADDRESS_ROUND
+    round != DATA_ROUND && round != ADDRESS_ROUND
 }
 
-// What is written so far: how many bytes of rows, whether two slaves send in one slot, and whether a slave has a multiplexed send.
+// What is written so far: how many bytes of rows, whether two slaves send in one slot, and whether a slave has a multiplexed send. No `Result`
+// of the length: a multiplexed send in a later round is told before a clash in an earlier one, so all rounds are gone through.
 #[derive(Clone, Copy)]
 pub struct Rows {
     pub length: usize,
     pub clash: bool,
     pub multiplexed: bool,
-}
-
-// A round's row, padded, in front of zeros.
-fn write_row(
-    file: &[u8],
-    places: &SlavePlaces,
-    master: LogicalName,
-    round: FileNumber,
-    held: &[u8],
-    row: &mut [u8],
-) -> Rows
-    requires { Placed file.now places.now × AllHold (decode file.now) held.now × (file_in round < rounds) × (row.old ≡ replicate slots no_owner) }
-    ensures { RowWritten (decode file.now).slaves (name_in_lem master) (file_in round) row.new result.length result.clash result.multiplexed }
-{
-    let plan = plan_round(file, places, master, round, held, row);
-    let last = last_slot(plan.senders);
-    Rows {
-        length: RECORD_SIZE * (last / RECORD_SIZE + 1),
-        clash: plan.clashes != NO_SLOTS,
-        multiplexed: plan.multiplexed,
-    }
 }
 
 // A round's index byte, by how many bytes the rows before it have. That of rounds 1 and 5 is 0x00.
@@ -83,37 +59,38 @@ fn index_byte(round: usize, start: usize) -> u8
     (FIRST_ROW_RECORD + start / RECORD_SIZE) as u8
 }
 
-// One round's row more. Rounds 1 and 5 have none.
-fn write_round(
-    file: &[u8],
-    places: &SlavePlaces,
-    master: LogicalName,
-    round: usize,
-    held: &[u8],
-    before: Rows,
-    rows: &mut [u8],
-) -> Rows
-    requires { Placed file.now places.now × AllHold (decode file.now) held.now × (round < rounds)
-        × RowsWritten (decode file.now).slaves (name_in_lem master) round rows.old before.length before.clash before.multiplexed }
-    ensures { RowsWritten (decode file.now).slaves (name_in_lem master) (round + 1) rows.new result.length result.clash result.multiplexed }
-{
-    if !is_owned(round) {
-        return before;
+impl Planner<'_> {
+    // A round's row, padded, in front of zeros.
+    fn write_row(&self, round: FileNumber, row: &mut [u8]) -> Rows
+        requires { (file_in round < rounds) × (row.old ≡ replicate slots no_owner) }
+        ensures { RowWritten (decode self.now.file.now).slaves (name_in_lem self.now.master) (file_in round) row.new result.length result.clash result.multiplexed }
+    {
+        let plan = self.plan_round(round, row);
+        let last = last_slot(plan.senders);
+        Rows {
+            length: RECORD_SIZE * (last / RECORD_SIZE + 1),
+            clash: plan.clashes != NO_SLOTS,
+            multiplexed: plan.multiplexed,
+        }
     }
-    let start = before.length;
-    let end = start + SLOTS;
-    let row = write_row(
-        file,
-        places,
-        master,
-        FileNumber(round as u8),
-        held,
-        &mut rows[start..end],
-    );
-    Rows {
-        length: start + row.length,
-        clash: before.clash | row.clash,
-        multiplexed: before.multiplexed | row.multiplexed,
+
+    // One round's row more. Rounds 1 and 5 have none.
+    fn write_round(&self, round: usize, before: Rows, rows: &mut [u8]) -> Rows
+        requires { (round < rounds)
+            × RowsWritten (decode self.now.file.now).slaves (name_in_lem self.now.master) round rows.old before.length before.clash before.multiplexed }
+        ensures { RowsWritten (decode self.now.file.now).slaves (name_in_lem self.now.master) (round + 1) rows.new result.length result.clash result.multiplexed }
+    {
+        if !is_owned(round) {
+            return before;
+        }
+        let start = before.length;
+        let end = start + SLOTS;
+        let row = self.write_row(FileNumber(round as u8), &mut rows[start..end]);
+        Rows {
+            length: start + row.length,
+            clash: before.clash | row.clash,
+            multiplexed: before.multiplexed | row.multiplexed,
+        }
     }
 }
 
@@ -130,16 +107,20 @@ pub fn write_rounds(
 {
     let mut held = [0u8; SLAVES_ROOM];
     all_held(file, &mut held);
+    let planner = Planner {
+        file,
+        places,
+        master,
+        held: &held,
+    };
     let mut written = Rows {
         length: 0,
         clash: false,
         multiplexed: false,
     };
-    let mut round = 0;
-    while round < ROUNDS {
+    for round in 0..ROUNDS {
         head[RECORD_SIZE + round] = index_byte(round, written.length);
-        written = write_round(file, places, master, round, &held, written, rows);
-        round = round + 1;
+        written = planner.write_round(round, written, rows);
     }
     written
 }

@@ -3,6 +3,7 @@
 use Prim.Native.Nat.{ℕ}
 use mathlib.Core.Path.{◌≡◌, refl, sym, ◌∙◌, ap}
 use mathlib.Core.Bool.{Bool, true, false}
+use Rattle.std.proofs.Common.{Option, None, Some}
 use Rattle.file.specs.Rules.Results.{Result, refused, done}
 use Rattle.file.proofs.Order.{clash}
 use Rattle.cluster.specs.Rules.Round.{Answer}
@@ -12,8 +13,11 @@ use Rattle.screens.specs.Inner.ScreenAnswers.{due_of, turned_of}
 use Rattle.file.specs.Inner.Refusals.{Answered, refusal_number, outcome_of}
 use Rattle.std.specs.Prelude.{Ok, Err, Option, Some, None}
 use Rattle.file.proofs.Distinct.{refusal_in, refusal_back}
+use Rattle.file.specs.Inner.Refusals.{Answered, refusal_number}
+use Rattle.std.specs.Prelude.{Ok, Err, Option, Some, None}
+use Rattle.screens.specs.declared.turn.Served.{Served}
 
-looking : Due → (Option ℕ)
+looking : Due → Option ℕ
 looking nobody = None
 looking (screen i) = Some i
 

@@ -1,13 +1,8 @@
 -- Who is due is the next waiting screen after the one last served, nobody exactly where none waits.
 -- Assumes nothing.
-use Prim.Native.Nat.{ℕ, zero, suc, ◌+◌, ◌*◌, ◌%◌, ◌≤◌, ◌<◌}
-use mathlib.Core.Path.{◌≡◌, refl, ap, ◌∙◌, subst}
-use mathlib.Core.List.{List}
-use mathlib.Core.Bool.{true, false}
-use native.Mathlib.Omega.{arith}
-use lib.ListN.{get_or, get_or-replicate}
-use lib.Dec.{eqb, ltb}
-use borrow.Author.Tests.{eqb-true, eqb-false, ltb-true, ltb-false}
+use Rattle.std.proofs.Common.{ℕ, zero, suc, ◌+◌, ◌*◌, ◌%◌, ◌≤◌, ◌<◌, ◌≡◌, refl, ap, ◌∙◌, subst, List, true, false, arith, get_or, eqb, ltb, eqb-true, ltb-true, ltb-false}
+use lib.ListN.{get_or-replicate}
+use borrow.Author.Tests.{eqb-false}
 use Rattle.file.proofs.Order.{by_case, clash}
 use Rattle.screens.specs.Rules.Screens.{last_served, place_of, is_waiting, fresh, Due, nobody, screen, next_screen, due_from, due}
 use Rattle.screens.specs.Claims.Turns.{away, NextWaiting, NoneWaiting, DueIsNext, StartsAtZero}

@@ -1,14 +1,9 @@
 -- A posted read is served within eight accepted turns: each accepted turn serves a screen no farther after the one last served than the
 -- waiting one, so that the way to it becomes shorter; posts of others and refused calls leave both.
 -- Assumes nothing.
-use Prim.Native.Nat.{ℕ, zero, suc, ◌+◌, ◌-◌, ◌≤◌, ◌<◌}
-use mathlib.Core.Path.{◌≡◌, refl, sym, ap, ◌∙◌, subst}
-use mathlib.Core.List.{List, [], ◌∷◌}
-use mathlib.Core.Bool.{true}
-use native.Mathlib.Omega.{arith}
-use lib.ListN.{length, get_or-eq_default}
-use lib.Dec.{eqb, ltb}
-use borrow.Author.Tests.{eqb-true, eqb-false, ltb-true, ltb-false}
+use Rattle.std.proofs.Common.{ℕ, zero, suc, ◌+◌, ◌-◌, ◌≤◌, ◌<◌, ◌≡◌, refl, sym, ap, ◌∙◌, subst, List, [], ◌∷◌, true, arith, length, eqb, ltb, eqb-true, ltb-true, ltb-false}
+use lib.ListN.{get_or-eq_default}
+use borrow.Author.Tests.{eqb-false}
 use Rattle.file.specs.Rules.Results.{Result, refused, done}
 use Rattle.file.proofs.Order.{by_case, clash}
 use Rattle.screens.specs.Rules.Screens.{screens, last_served, place_of, is_waiting, Read, read_of, Due, screen, due, post_ground, posted}

@@ -1,12 +1,7 @@
 -- A turn renames nobody: its address frame is no MSD, and what its data frame carries out is a read.
 -- Assumes nothing.
-use Prim.Native.Nat.{ℕ, ◌*◌}
-use mathlib.Core.Path.{◌≡◌, refl, ap, ◌∙◌}
-use mathlib.Core.List.{List}
-use mathlib.Core.Bool.{Bool, true, false}
-use native.Mathlib.Omega.{arith}
-use lib.Dec.{eqb}
-use borrow.Author.Tests.{eqb-true, eqb-false}
+use Rattle.std.proofs.Common.{ℕ, ◌*◌, ◌≡◌, refl, ap, ◌∙◌, List, Bool, true, false, arith, eqb, eqb-true}
+use borrow.Author.Tests.{eqb-false}
 use Rattle.file.specs.Rules.Bytes.{Bytes}
 use Rattle.file.specs.Rules.Results.{Result}
 use Rattle.file.specs.Rules.Cluster.{Cluster, pb2_of}

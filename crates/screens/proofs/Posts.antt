@@ -1,15 +1,7 @@
 -- What a post does.
 -- Assumes nothing.
-use Prim.Native.Nat.{ℕ, ◌+◌, ◌*◌, ◌<◌}
-use mathlib.Core.Path.{◌≡◌, refl, sym, ap, ◌∙◌}
-use mathlib.Core.Logic.{◌≢◌}
-use mathlib.Core.List.{List}
-use mathlib.Core.Bool.{true, false}
-use native.Mathlib.Omega.{arith}
-use lib.ListN.{length, get_or, set, length-set}
-use lib.Seq.{get_or-set_same, get_or-set_other}
-use lib.Dec.{eqb}
-use borrow.Author.Tests.{eqb-true, eqb-false, eq-eqb, ne_eqb, ltb-false}
+use Rattle.std.proofs.Common.{ℕ, ◌+◌, ◌*◌, ◌<◌, ◌≡◌, refl, sym, ap, ◌∙◌, ◌≢◌, List, true, false, arith, length, get_or, set, length-set, get_or-set_same, get_or-set_other, eqb, eqb-true, eq-eqb, ne_eqb, ltb-false}
+use borrow.Author.Tests.{eqb-false}
 use Rattle.file.specs.Rules.Results.{Result, refused, done, result_of}
 use Rattle.file.proofs.Order.{clash, by_case, first-none, either_false_left, either_false_right}
 use Rattle.screens.specs.Rules.Screens.{screens, last_served, place_of, is_waiting, Read, read_of, no_screen, post_ground, posted, post_on}

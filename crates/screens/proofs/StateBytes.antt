@@ -1,13 +1,6 @@
 -- The bytes of the state after a post and after a screen is served: those of the other screens stay.
 -- Assumes nothing.
-use Prim.Native.Nat.{ℕ, ◌+◌, ◌<◌}
-use mathlib.Core.Path.{◌≡◌, ◌∙◌}
-use mathlib.Core.Logic.{◌≢◌}
-use mathlib.Core.List.{List}
-use mathlib.Core.Bool.{false}
-use native.Mathlib.Omega.{arith}
-use lib.ListN.{length, get_or, set, length-set}
-use lib.Seq.{get_or-set_same, get_or-set_other}
+use Rattle.std.proofs.Common.{ℕ, ◌+◌, ◌<◌, ◌≡◌, ◌∙◌, ◌≢◌, List, false, arith, length, get_or, set, length-set, get_or-set_same, get_or-set_other}
 use Rattle.screens.specs.Rules.Screens.{last_served, place_of, is_waiting, Read, read_of, posted}
 use Rattle.screens.specs.Rules.Turn.{after_serving}
 

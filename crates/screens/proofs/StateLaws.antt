@@ -1,17 +1,10 @@
 -- The state's functions: who is due, the read in a screen's bytes, and a screen served.
 -- Assumes nothing.
-use Prim.Native.Nat.{ℕ, suc, ◌+◌, ◌%◌, ◌<◌}
-use mathlib.Core.Path.{◌≡◌, refl, sym, ◌∙◌}
-use mathlib.Core.List.{List}
-use mathlib.Core.Bool.{Bool, true, false, not}
-use native.Mathlib.Omega.{arith}
-use lib.ListN.{get_or, set}
-use lib.Dec.{eqb}
+use Rattle.std.proofs.Common.{ℕ, suc, ◌+◌, ◌-◌, ◌%◌, ◌≤◌, ◌<◌, ◌≡◌, refl, sym, ◌∙◌, List, Bool, true, false, arith, get_or}
 use Rattle.file.specs.declared.types.LogicalName.{LogicalName}
 use Rattle.file.specs.Inner.Typed.{name_in_lem}
 use Rattle.master_slave.specs.declared.types.RecordAddress.{RecordAddress}
 use Rattle.screens.specs.Rules.Screens.{screens, last_served, place_of, is_waiting, read_of, nobody, screen, next_screen, due_from, due}
-use Rattle.screens.specs.Rules.Turn.{after_serving}
 use Rattle.screens.specs.Claims.Turns.{away}
 use Rattle.screens.specs.Inner.Parts.{ReadAt, PostedRead}
 
@@ -27,56 +20,44 @@ first-away last h = omega arith
 pub next-away : (last x j : ℕ) → last < 8 → j < 8 → x ≡ (last + 1) % 8 → (j ≡ x → ⊥) → away last j ≡ suc (away x j)
 next-away last x j h k e n = omega (arith, e)
 
-itself_away : (last : ℕ) → last < 8 → away last last ≡ 7
-itself_away last h = omega arith
-
 -- ---- who is due
 
-pub waiting-is : (state : List ℕ) (i : ℕ) {place : ℕ} → place ≡ place_of i → not (eqb (get_or state place 0) 0) ≡ is_waiting state i
-unfolding is_waiting
-waiting-is state i e = rw e
-
--- what is still to be asked: the screens after the i-th, in cyclic order, up to the one last served
-pub record Asking (state : List ℕ) (last i : ℕ) : Type 0 where
-  pub last-few : last < screens
+-- what is still to be asked: the screens after the i-th, in cyclic order, those that are left of the eight
+pub record Asking (state : List ℕ) (asked i : ℕ) : Type 0 where
   pub few : i < screens
-  pub same : due_from state i (suc (away i last)) ≡ due state
+  pub same : due_from state i (screens - asked) ≡ due state
 
-module _ {state : List ℕ} where
-  pub asking_start : last_served state < screens → Asking state (get_or state 0 0) (get_or state 0 0)
-  unfolding last_served due
-  asking_start h = record { last-few = h; few = h; same = rw (itself_away (get_or state 0 0) h) }
+pub asking_start : {state : List ℕ} → last_served state < screens → Asking state 0 (get_or state 0 0)
+unfolding last_served due
+asking_start h = record { few = h; same = refl }
 
-  pub asking_few : {last i : ℕ} → Asking state last i → i < screens
-  asking_few a = a.few
+module _ {state : List ℕ} {asked i : ℕ} (a : Asking state asked i) where
+  pub asking_few : i < screens
+  asking_few = a.few
 
-  module _ {last i : ℕ} (a : Asking state last i) {next : ℕ} (is : next ≡ next_screen i) where
+  pub asking_none : screens ≤ asked → nobody ≡ due state
+  unfolding due_from
+  asking_none all = let z : screens - asked ≡ 0 = omega arith in rw z at a.same
+
+  module _ {next : ℕ} (is : next ≡ next_screen i) where
     pub next-few : next < screens
     next-few = omega (arith, is, next-is i)
 
-    pub asking_found : {t : Bool} → t ≡ is_waiting state next → t ≡ true → screen next ≡ due state
-    unfolding due_from
-    asking_found w taken =
-        let x : is_waiting state (next_screen i) ≡ true = rw is at (sym w ∙ taken) in
-        rw (is, ← (rw x at a.same))
+    module _ (more : asked < screens) {t : Bool} (w : t ≡ is_waiting state next) where
+      left : screens - asked ≡ suc (screens - (asked + 1))
+      left = omega arith
 
-    farther : (next ≡ last → ⊥) → away i last ≡ suc (away next last)
-    farther n = next-away i next last a.few a.last-few (is ∙ next-is i) (λ e. n (sym e))
-
-    pub asking_less : (next ≡ last → ⊥) → away next last < away i last
-    asking_less n = omega (arith, farther n)
-
-    module _ {t : Bool} (w : t ≡ is_waiting state next) (idle : t ≡ false) where
-      rest : due_from state next (away i last) ≡ due state
+      pub asking_found : t ≡ true → screen next ≡ due state
       unfolding due_from
-      rest = let x : is_waiting state (next_screen i) ≡ false = rw is at (sym w ∙ idle) in rw is (rw x at a.same)
+      asking_found taken =
+          let x : is_waiting state (next_screen i) ≡ true = rw is at (sym w ∙ taken) in
+          rw (is, ← (rw x at (rw left at a.same)))
 
-      pub asking_none : next ≡ last → nobody ≡ due state
+      pub asking_on : t ≡ false → Asking state (asked + 1) next
       unfolding due_from
-      asking_none e = let z : away i last ≡ 0 = omega (arith, a.few, e, is, next-is i) in rw z at rest
-
-      pub asking_on : (next ≡ last → ⊥) → Asking state last next
-      asking_on n = record { last-few = a.last-few; few = next-few; same = rw (← (farther n)) rest }
+      asking_on idle =
+          let x : is_waiting state (next_screen i) ≡ false = rw is at (sym w ∙ idle) in
+          record { few = next-few; same = rw is (rw x at (rw left at a.same)) }
 
 -- ---- a screen's bytes
 
@@ -90,7 +71,3 @@ pub posted-there :
     (state : List ℕ) (i : ℕ) {place : ℕ} {a : RecordAddress} → place ≡ place_of i → ReadAt state place a → PostedRead state i a
 unfolding read_of
 posted-there state i at r = record { is = r.is ∙ rw at; name = r.name; «record» = r.«record» }
-
-pub served_state : (state : List ℕ) (i : ℕ) {place : ℕ} → place ≡ place_of i → set (set state 0 i) place 0 ≡ after_serving state i
-unfolding after_serving
-served_state state i at = rw at

@@ -14,10 +14,10 @@ use master_slave::types::RecordAddress;
 pub fn read_ground(read: RecordAddress) -> Result<(), Refusal>
     ensures { number_in (outcome_of result) ≡ first_of (read_grounds (read_in read)) }
 {
-    if FileNumber::LAST.0 < read.number.0 {
+    if FileNumber::LAST < read.number {
         return Err(Refusal::FileNumber);
     }
-    if read.name.0 == LogicalName::BROADCAST.0 {
+    if read.name == LogicalName::BROADCAST {
         return Err(Refusal::BroadcastRead);
     }
     Ok(())

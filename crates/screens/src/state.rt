@@ -12,7 +12,8 @@ const SCREENS: u8 = 8;
 
 pub const LAST_SCREEN: u8 = 7;
 
-// Byte 0 is the screen last served; then four bytes for each screen: whether it waits, and its read.
+// Byte 0 is the screen last served; then four bytes for each screen: whether it waits, and its read. An array of bytes and no struct: the caller
+// keeps it, and hands in 33 bytes of any content (the C interface).
 pub const STATE_SIZE: usize = 33;
 
 pub const LAST_SERVED: usize = 0;
@@ -28,6 +29,7 @@ const IDLE: u8 = 0;
 pub type ScreenState = [u8; STATE_SIZE];
 
 // "from screen 0 at the start": the one last served is the last.
+#[tactic(auto, unfolding(crate::specs::Rules::Screens::fresh))]
 pub fn fresh_state() -> ScreenState
     ensures { result ≡ fresh }
 {
@@ -36,6 +38,7 @@ pub fn fresh_state() -> ScreenState
     state
 }
 
+#[tactic(auto, unfolding(crate::specs::Rules::Screens::place_of))]
 pub fn place_of(screen: u8) -> usize
     requires { screen < screens }
     ensures { (result ≡ place_of screen) × (result + 3 < 33) }
@@ -43,6 +46,7 @@ pub fn place_of(screen: u8) -> usize
     READS + READ_SIZE * (screen as usize)
 }
 
+#[tactic(auto, unfolding(crate::specs::Rules::Screens::is_waiting))]
 pub fn is_waiting(state: &ScreenState, screen: u8) -> bool
     requires { screen < screens }
     ensures { result ≡ is_waiting state.now screen }
@@ -51,6 +55,7 @@ pub fn is_waiting(state: &ScreenState, screen: u8) -> bool
     state[place] != IDLE
 }
 
+#[tactic(auto, unfolding(crate::specs::Rules::Screens::next_screen))]
 fn next_screen(screen: u8) -> u8
     requires { screen < screens }
     ensures { result ≡ next_screen screen }
@@ -63,17 +68,14 @@ pub fn due_screen(state: &ScreenState) -> Option<u8>
     requires { last_served state.now < screens }
     ensures { due_of result ≡ due state.now }
 {
-    let last = state[LAST_SERVED];
-    let mut screen = last;
-    'screens: loop {
+    let mut screen = state[LAST_SERVED];
+    'screens: for asked in 0..SCREENS {
         screen = next_screen(screen);
         if is_waiting(state, screen) {
             return Some(screen);
         }
-        if screen == last {
-            return None;
-        }
     }
+    None
 }
 
 // The read in a screen's four bytes. Of a slice, since the elements of a lent array are not known to be bytes.
@@ -100,6 +102,7 @@ pub fn posted_read(state: &ScreenState, screen: u8) -> RecordAddress
 }
 
 // A screen that is served is the one last served, and waits no more.
+#[tactic(auto, unfolding(crate::specs::Rules::Turn::after_serving))]
 pub fn mark_served(state: &mut ScreenState, screen: u8)
     requires { screen < screens }
     ensures { state.new ≡ after_serving state.old screen }

@@ -13,9 +13,7 @@ ghost use Rattle.screens.specs.Inner.ScreenAnswers.{due_of, turned_of};
 ghost use Rattle.screens.specs.Inner.Parts.{read_in};
 
 use crate::post::read_ground;
-use crate::state::{
-    LAST_SCREEN, LAST_SERVED, ScreenState, due_screen, mark_served, posted_read,
-};
+use crate::state::{LAST_SCREEN, LAST_SERVED, ScreenState, due_screen, mark_served, posted_read};
 use cluster::sending::send;
 use file::survey::survey;
 use file::types::{Operation, PLACES, Refusal, SlavePlaces};
@@ -30,17 +28,15 @@ pub struct Served {
 }
 
 // A read, as a complete round.
+#[tactic(auto, unfolding(crate::specs::Rules::Turn::read_sent))]
 fn read_round(read: RecordAddress) -> MasterSlaveRound
     ensures { sent_for result ≡ read_sent (read_in read) }
 {
-    let name = read.name;
-    let number = read.number;
-    let record = read.record;
     MasterSlaveRound {
-        name,
-        number,
+        name: read.name,
+        number: read.number,
         operation: Operation::READ,
-        record,
+        record: read.record,
         b0: 0,
         b1: 0,
         b2: 0,
@@ -59,7 +55,8 @@ fn due_ground(state: &ScreenState, next: Option<u8>) -> Result<(), Refusal>
     }
 }
 
-// The turn, where no ground refuses it: nothing where nobody waits, or the round of the read that is due.
+// The turn, where no ground refuses it: nothing where nobody waits, or the round of the read that is due. File and places stay two arguments, as `naming::run`
+// says.
 fn serve(
     file: &mut [u8],
     places: &SlavePlaces,

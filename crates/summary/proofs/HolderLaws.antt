@@ -1,13 +1,7 @@
 -- The question: what the loop along the names keeps, and one law for each way.
 -- Assumes nothing.
-use Prim.Native.Nat.{ℕ, suc, ◌+◌, ◌≤◌, ◌<◌}
-use native.Mathlib.Omega.{arith}
-use native.Mathlib.Numerals.{add-one}
-use mathlib.Core.Path.{◌≡◌, refl, ap, ◌∙◌}
-use mathlib.Core.List.{List, [], ◌∷◌}
-use lib.ListN.{length, get_or, take, drop}
-use lib.Seq.{drop-cons, get_or-take, drop-length, length-take-le}
-use borrow.Author.Tests.{lt-ltb, le-ltb, eq-eqb, ne_eqb}
+use Rattle.std.proofs.Common.{ℕ, suc, ◌+◌, ◌≤◌, ◌<◌, arith, add-one, ◌≡◌, refl, ap, ◌∙◌, List, [], ◌∷◌, length, get_or, take, drop, drop-cons, get_or-take, length-take-le, lt-ltb, le-ltb, eq-eqb, ne_eqb}
+use Rattle.std.proofs.Math.Seq.{drop-length}
 use Rattle.file.specs.Rules.Results.{refused, done}
 use Rattle.cluster.specs.Rules.Summary.{Held, nobody, at, first_from, holder_in}
 

@@ -1,15 +1,8 @@
 -- Ground 24 name by name: what the loop along the slaves keeps, and one law for each way. And a summary that matches: its slice has room
 -- for the names, which stand in it already.
 -- Assumes nothing.
-use Prim.Native.Nat.{ℕ, suc, ◌+◌, ◌≤◌, ◌<◌}
-use native.Mathlib.Omega.{arith}
-use native.Mathlib.Numerals.{add-one}
-use mathlib.Core.Path.{◌≡◌, refl, sym, ap, ◌∙◌}
-use mathlib.Core.List.{List, [], ◌∷◌}
-use mathlib.Core.Bool.{Bool, true, false, not}
-use lib.ListN.{length, get_or, take, drop}
-use lib.Seq.{drop-cons, get_or-take, drop-length, length-take-le}
-use borrow.Author.Tests.{eq-eqb, ne_eqb, lt-ltb, le-ltb}
+use Rattle.std.proofs.Common.{ℕ, suc, ◌+◌, ◌≤◌, ◌<◌, arith, add-one, ◌≡◌, refl, sym, ap, ◌∙◌, List, [], ◌∷◌, Bool, true, false, not, length, get_or, take, drop, drop-cons, get_or-take, length-take-le, eq-eqb, ne_eqb, lt-ltb, le-ltb}
+use Rattle.std.proofs.Math.Seq.{drop-length}
 use Rattle.file.specs.Rules.Cluster.{Cluster, logical_name, logical_names}
 use Rattle.file.specs.Inner.Places.{no_slave_lem, slave_of}
 use Rattle.file.proofs.Order.{by_case, both-next, both_false_left, either_left, either-next}

@@ -6,19 +6,17 @@ ghost use Rattle.summary.specs.Inner.SummaryAnswers.{holder_of};
 
 use file::types::{LogicalName, Refusal};
 
-// The place in the slave table of the first slave that holds the name, or none where nobody does.
+// The place in the slave table of the first slave that holds the name, or none where nobody does. The C interface hands in slice and count apart.
 pub fn find_holder(held: &[u8], count: usize, name: LogicalName) -> Result<Option<usize>, Refusal>
     ensures { holder_of result ≡ holder_in (name_in_lem name) count held.now }
 {
     if held.len() < count {
         return Err(Refusal::Summary);
     }
-    let mut place = 0;
-    while place < count {
-        if held[place] == name.0 {
+    for place in 0..count {
+        if LogicalName(held[place]) == name {
             return Ok(Some(place));
         }
-        place = place + 1;
     }
     Ok(None)
 }

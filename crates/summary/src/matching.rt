@@ -6,9 +6,10 @@ ghost use Rattle.file.specs.Inner.Accepted.{Placed};
 ghost use Rattle.cluster.specs.Rules.Summary.{kept, wrong_summary};
 
 use file::readers::{logical_name, slave_count};
-use file::types::SlavePlaces;
+use file::types::{LogicalName, SlavePlaces};
 
-// Whether the count is not that of the file's slaves, or the slice does not begin with their names.
+// Whether the count is not that of the file's slaves, or the slice does not begin with their names. The C interface hands in slice and count
+// apart, here and in the calls, and 24 speaks of a count above the slice's length too. File and places stay two arguments, as `naming::run` says.
 pub fn is_wrong(file: &[u8], places: &SlavePlaces, held: &[u8], count: usize) -> bool
     requires { Placed file.now places.now }
     ensures { result ≡ wrong_summary (kept count held.now) (logical_names (decode file.now)) }
@@ -19,13 +20,11 @@ pub fn is_wrong(file: &[u8], places: &SlavePlaces, held: &[u8], count: usize) ->
     if count != slave_count(file) {
         return true;
     }
-    let mut slave = 0;
-    while slave < count {
+    for slave in 0..count {
         let name = logical_name(file, places, slave);
-        if held[slave] != name.0 {
+        if LogicalName(held[slave]) != name {
             return true;
         }
-        slave = slave + 1;
     }
     false
 }

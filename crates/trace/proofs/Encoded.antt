@@ -1,13 +1,7 @@
 -- A trace is accepted exactly where it is the encoding of its frames: inductions along the rows, whose frames lie in the data one after
 -- the other.
 -- Assumes nothing.
-use Prim.Native.Nat.{ℕ, zero, suc, ◌+◌, ◌*◌, ◌^◌, ◌≤◌, ◌<◌}
-use native.Mathlib.Omega.{arith}
-use mathlib.Core.Path.{◌≡◌, refl, sym, ap, ap₂, ◌∙◌, subst}
-use mathlib.Core.List.{List, [], ◌∷◌, ◌++◌}
-use mathlib.Core.Bool.{true, false}
-use borrow.Author.Tests.{eqb-true, eq-eqb}
-use lib.ListN.{length, length-append}
+use Rattle.std.proofs.Common.{ℕ, zero, suc, ◌+◌, ◌*◌, ◌^◌, ◌≤◌, ◌<◌, arith, ◌≡◌, refl, sym, ap, ap₂, ◌∙◌, subst, List, [], ◌∷◌, ◌++◌, true, false, eqb-true, eq-eqb, length, length-append}
 use Rattle.file.specs.Rules.Bytes.{All, Bytes, number_of, bytes_of, part}
 use Rattle.file.proofs.NumberLaws.{part_length}
 use Rattle.file.proofs.Sizes.{bytes_of-length}

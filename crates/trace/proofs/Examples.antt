@@ -1,9 +1,6 @@
 -- Traces written out: no frames; an MSD, an empty frame and a multipartner frame; and what breaks the layout.
 -- Assumes nothing.
-use Prim.Native.Nat.{ℕ}
-use mathlib.Core.Path.{◌≡◌, refl}
-use mathlib.Core.List.{List, [], ◌∷◌}
-use mathlib.Core.Bool.{true, false}
+use Rattle.std.proofs.Common.{ℕ, ◌≡◌, refl, List, [], ◌∷◌, true, false}
 use Rattle.file.specs.Rules.Bytes.{number_of, bytes_of, part}
 use Rattle.file.specs.Rules.Order.{both, either}
 use Rattle.trace.specs.Rules.Encode.{row_of, rows, data_of, encode_trace}

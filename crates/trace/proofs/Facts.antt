@@ -1,12 +1,7 @@
 -- What ground 19 says of a trace's bytes, both ways, and the walk along the rows a row at a time.
 -- Assumes nothing.
-use Prim.Native.Nat.{ℕ, suc, ◌+◌, ◌≤◌}
-use mathlib.Core.Path.{◌≡◌, refl}
-use mathlib.Core.List.{List}
-use mathlib.Core.Bool.{true, false}
-use borrow.Author.Tests.{ltb-false, le-ltb, eqb-true, eq-eqb, ne_eqb, not-false}
-use lib.ListN.{length}
-use lib.Dec.{eqb}
+use Rattle.std.proofs.Common.{ℕ, suc, ◌+◌, ◌≤◌, ◌≡◌, refl, List, true, false, ltb-false, le-ltb, eqb-true, eq-eqb, ne_eqb, length, eqb}
+use borrow.Author.Tests.{not-false}
 use Rattle.file.proofs.Order.{both_left, both_right, both-next, both_false_left, either_false, either_false_left, either_false_right}
 use Rattle.file.proofs.Facts.{not_yes}
 use Rattle.trace.specs.Rules.Layout.{header_size, row_size, max_trace}

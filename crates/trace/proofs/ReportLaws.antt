@@ -1,8 +1,6 @@
 -- One frame more in a report: one law for each way of the code.
 -- Assumes nothing.
-use Prim.Native.Nat.{ℕ}
-use mathlib.Core.Path.{◌≡◌}
-use mathlib.Core.Bool.{Bool, true, false, not, cond}
+use Rattle.std.proofs.Common.{ℕ, ◌≡◌, Bool, true, false, not, cond}
 use borrow.Author.Tests.{not-true, not-false}
 use Rattle.frame.specs.Rules.Fireworks.{Round}
 use Rattle.frame.specs.Inner.FrameAnswers.{firework_round}

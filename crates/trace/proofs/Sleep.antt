@@ -1,13 +1,7 @@
 -- Who is awake after a trace: frame by frame, from what one frame does.
 -- Assumes nothing.
-use Prim.Native.Nat.{ℕ}
-use native.Mathlib.Omega.{arith}
-use mathlib.Core.Path.{◌≡◌, refl, sym, ap, ◌∙◌, subst}
-use mathlib.Core.Logic.{◌≢◌}
-use mathlib.Core.List.{List}
-use lib.ListN.{replicate}
-use lib.Dec.{eqb}
-use borrow.Author.Tests.{eqb-true, eqb-false}
+use Rattle.std.proofs.Common.{ℕ, arith, ◌≡◌, refl, sym, ap, ◌∙◌, subst, ◌≢◌, List, replicate, eqb, eqb-true}
+use borrow.Author.Tests.{eqb-false}
 use Rattle.file.specs.Rules.Bytes.{All, all_empty, all_next, Bytes}
 use Rattle.file.specs.Rules.Cluster.{Slave}
 use Rattle.file.specs.Rules.Decode.{decode}

@@ -1,10 +1,6 @@
 -- A trace on a file and on its converted form: frame by frame the same answer, and the converted form of the file that is left.
 -- Assumes nothing.
-use Prim.Native.Nat.{ℕ}
-use mathlib.Core.Path.{◌≡◌, refl}
-use mathlib.Core.List.{List}
-use lib.ListN.{replicate}
-use lib.Dec.{eqb}
+use Rattle.std.proofs.Common.{ℕ, ◌≡◌, refl, List, replicate, eqb}
 use Rattle.file.specs.Rules.Bytes.{Bytes, All, all_empty, all_next}
 use Rattle.file.specs.Rules.Editions.{in_edition}
 use Rattle.file.proofs.Order.{by_case}

@@ -26,14 +26,12 @@ fn whole_rows(trace: &[u8], count: usize) -> bool
     ensures { result ≡ whole_rows trace.now header_size 0 count }
 {
     let end = HEADER_SIZE + ROW_SIZE * count;
-    let mut row = HEADER_SIZE;
     let mut place = 0;
-    while row < end {
+    for row in (HEADER_SIZE..end).step_by(ROW_SIZE) {
         if u16_at(trace, row) != place {
             return false;
         }
         place = place + byte_at(trace, row + LENGTH_PLACE);
-        row = row + ROW_SIZE;
     }
     place == u16_at(trace, DATA_LENGTH_PLACE)
 }

@@ -22,15 +22,14 @@ pub const NO_FRAMES: Report = Report {
     refused: 0,
 };
 
+#[tactic(auto, unfolding(crate::specs::Rules::TraceRun::one_refused))]
 fn one_refused(report: Report) -> Report
     requires { FewFrames (report_in report) }
     ensures { report_in result ≡ one_refused (report_in report) }
 {
     Report {
-        msa: report.msa,
-        msd: report.msd,
-        multipartner: report.multipartner,
         refused: report.refused + 1,
+        ..report
     }
 }
 
@@ -43,26 +42,21 @@ fn one_carried(report: Report, firework: Option<Firework>) -> Report
         None => one_refused(report),
         Some(Firework::Address) => Report {
             msa: report.msa + 1,
-            msd: report.msd,
-            multipartner: report.multipartner,
-            refused: report.refused,
+            ..report
         },
         Some(Firework::Data) => Report {
-            msa: report.msa,
             msd: report.msd + 1,
-            multipartner: report.multipartner,
-            refused: report.refused,
+            ..report
         },
         Some(Firework::Multipartner(_)) => Report {
-            msa: report.msa,
-            msd: report.msd,
             multipartner: report.multipartner + 1,
-            refused: report.refused,
+            ..report
         },
     }
 }
 
-// One frame more: "a refused frame counting as refused only".
+// One frame more: "a refused frame counting as refused only". Two arguments and no Option: a refused frame has its firework too, and an Option would
+// be made of the two at the one call.
 pub fn counted(report: Report, carried: bool, firework: Option<Firework>) -> Report
     requires { FewFrames (report_in report) }
     ensures { report_in result ≡ cond carried (one_carried (firework_round firework) (report_in report)) (one_refused (report_in report)) }

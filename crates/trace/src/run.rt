@@ -23,7 +23,8 @@ pub struct Progress {
     pub sleepers: bool,
 }
 
-// One frame sent and counted. Nobody hears its answer: the buffer is one for all frames.
+// One frame sent and counted. Nobody hears its answer: the buffer is one for all frames. File and places stay two arguments, as `naming::run`
+// says.
 fn run_frame(
     file: &mut [u8],
     places: &SlavePlaces,
@@ -55,13 +56,11 @@ fn run_frames(file: &mut [u8], places: &SlavePlaces, trace: &[u8]) -> Report
         report: NO_FRAMES,
         sleepers: true,
     };
-    let mut row = HEADER_SIZE;
     let mut start = data_place;
-    while row < data_place {
+    for row in (HEADER_SIZE..data_place).step_by(ROW_SIZE) {
         let end = start + byte_at(trace, row + LENGTH_PLACE);
         progress = run_frame(file, places, &trace[start..end], &mut buffer, progress);
         start = end;
-        row = row + ROW_SIZE;
     }
     progress.report
 }

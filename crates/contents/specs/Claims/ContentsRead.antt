@@ -2,7 +2,7 @@
 use Rattle.std.specs.Prelude.{ℕ, ◌≤◌, ◌<◌, ◌≡◌, ◌↔◌, ◌≢◌, List, [], length, get_or, take}
 use Rattle.file.specs.Rules.Bytes.{Bytes}
 use Rattle.file.specs.Rules.Results.{refused, done}
-use Rattle.file.specs.Rules.Cluster.{File, Slave, no_slave_lem}
+use Rattle.file.specs.Rules.Cluster.{File, no_slave_lem}
 use Rattle.file.specs.Rules.Decode.{decode}
 use Rattle.file.specs.Rules.FileGrounds.{file_ground}
 use Rattle.file.specs.Claims.Edition.{NoEdition}

@@ -1,5 +1,5 @@
 -- What the checker's inner functions promise to one another.
-use Rattle.std.specs.Prelude.{ℕ, zero, suc, ◌+◌, ◌*◌, ◌≤◌, ◌≡◌, List, [], ◌∷◌, map, Bool, true, false, cond, length, get_or, take, drop, eqb, leb}
+use Rattle.std.specs.Prelude.{ℕ, zero, suc, ◌+◌, ◌*◌, ◌≤◌, ◌≡◌, List, [], ◌∷◌, map, Bool, true, false, cond, length, get_or, take, drop, eqb, leb, Option, Some, None, IfSome, MatchOption}
 use Rattle.file.specs.Rules.Order.{first_of, both}
 use Rattle.file.specs.Rules.Layout.{OffsetWidth, count_place, header_size, entry_size_lem}
 use Rattle.file.specs.Rules.Layout.{fill_length, max_slaves, max_length}
@@ -10,6 +10,8 @@ use Rattle.file.specs.Rules.Decode.{offset_at, file_size}
 use Rattle.file.specs.Inner.Places.{places_each, documentation_index}
 use Rattle.file.specs.Inner.Accepted.{FoundFile, file_found}
 use Rattle.file.specs.Inner.Marked.{remainder}
+use Rattle.file.specs.declared.walk.DirectoryEnd.{DirectoryEnd}
+use Rattle.file.specs.declared.walk.SlaveFound.{SlaveFound}
 use Rattle.file.specs.Rules.FileGrounds.{wrong_size, wrong_mark, wrong_edition, wrong_length, wrong_header, file_ground_at}
 use Rattle.file.specs.Rules.FileGrounds.{Walk, broken, to, walk_directory, walk_slave, walk_slaves, walk_file, broken_layout, lacks_needed, equal_physical_names, is_among}
 
@@ -49,10 +51,10 @@ stated_place w f n least kept d zero = kept
 stated_place w f n least kept d (suc k) =
     stated_place w f n least (cond (states f n least d) (offset_at w f (d + w)) kept) (d + entry_size_lem w) k
 
--- a walk as the code returns it
-unfoldable pub walk_of : Bool → ℕ → Walk
-walk_of true place = to place
-walk_of false place = broken
+-- a walk as the code returns it: where it came to, or none
+unfoldable pub walk_of : Option ℕ → Walk
+walk_of (Some place) = to place
+walk_of None = broken
 
 -- a good entry in two parts. What an entry says of itself: its file number is low or more, it counts records, its zeros are zero
 -- and its offset is the place.
@@ -66,10 +68,14 @@ next_entry w f d low place =
 unfoldable pub fits_so_far : List ℕ → ℕ → ℕ → Bool
 fits_so_far f low place = both (leb low (suc 63)) (leb place (length f))
 
+-- a walk of which that is still to be asked
+unfoldable pub ended : List ℕ → Option DirectoryEnd → Walk
+ended f (Some end) = cond (fits_so_far f end.low end.place) (to end.place) broken
+ended f None = broken
+
 -- the walk of the k entries of the directory at d
-pub record DirectoryWalked (w : ℕ) (f : List ℕ) (d k : ℕ) (good : Bool) (end : ℕ) : Type 0 where
-  pub walk : walk_of good end ≡ walk_directory w f d 0 (d + entry_size_lem w * k) k
-  pub within : good ≡ true → end ≤ length f
+pub record DirectoryWalked (w : ℕ) (f : List ℕ) (d k : ℕ) (end : Option DirectoryEnd) : Type 0 where
+  pub walk : ended f end ≡ walk_directory w f d 0 (d + entry_size_lem w * k) k
 
 -- it comes to an end
 pub record Arrives (w : ℕ) (f : List ℕ) (d k : ℕ) : Type 0 where
@@ -93,21 +99,29 @@ documentation_places (c ∷ []) = []
 documentation_places (c ∷ d ∷ places) = d ∷ documentation_places places
 
 -- the walk of the slave of the table entry at t, its directory at the place
-pub record EntryWalked (w : ℕ) (f : List ℕ) (t place : ℕ) (good : Bool) (end : ℕ) : Type 0 where
-  pub walk : walk_of good end ≡ walk_slave w f t place
-  pub within : good ≡ true → end ≤ length f
+pub record EntryWalked (w : ℕ) (f : List ℕ) (t place : ℕ) (end : Option DirectoryEnd) : Type 0 where
+  pub walk : ended f end ≡ walk_slave w f t place
 
--- the same, with where 0x08 and 0x3D lie in the needed size, 0 where they are not there
-pub record SlaveWalked (w : ℕ) (f : List ℕ) (t place : ℕ) (good : Bool) (end conf doc : ℕ) : Type 0 where
-  pub walk : walk_of good end ≡ walk_slave w f t place
-  pub config : good ≡ true → conf ≡ stated_in w f configuration needed_configuration t
-  pub document : good ≡ true → doc ≡ stated_in w f documentation needed_documentation t
-  pub within : good ≡ true → end ≤ length f
+-- it comes to an end
+pub record EntryEnds (w : ℕ) (f : List ℕ) (t place end : ℕ) : Type 0 where
+  pub walk : to end ≡ walk_slave w f t place
+  pub within : end ≤ length f
 
--- the same of all the slaves, with their places in front of whatever else the list holds
-pub record SlavesWalked (w : ℕ) (f : List ℕ) (count : ℕ) (good : Bool) (end : ℕ) (places : List ℕ) : Type 0 where
-  pub walk : walk_of good end ≡ walk_slaves w f (header_size w) (header_size w + entry_size_lem w * count) count
-  pub stated : good ≡ true → take (places_each * count) places ≡ stated_places w f (header_size w) count
+-- what is found of a good one: where its files end, and where 0x08 and 0x3D lie in the needed size, 0 where they are not there
+pub record SlaveStated (w : ℕ) (f : List ℕ) (t place : ℕ) (found : SlaveFound) : Type 0 where
+  pub walk : to found.end ≡ walk_slave w f t place
+  pub config : found.configuration ≡ stated_in w f configuration needed_configuration t
+  pub document : found.documentation ≡ stated_in w f documentation needed_documentation t
+  pub within : found.end ≤ length f
+
+-- it is broken, or that is found of it
+abbrev pub SlaveWalked : ℕ → List ℕ → ℕ → ℕ → Option SlaveFound → Type 0
+SlaveWalked w f t place found = MatchOption found (broken ≡ walk_slave w f t place) (SlaveStated w f t place)
+
+-- the walk of all the slaves, with their places in front of whatever else the list holds
+pub record SlavesWalked (w : ℕ) (f : List ℕ) (count : ℕ) (end : Option ℕ) (places : List ℕ) : Type 0 where
+  pub walk : walk_of end ≡ walk_slaves w f (header_size w) (header_size w + entry_size_lem w * count) count
+  pub stated : IfSome end (λ _. take (places_each * count) places ≡ stated_places w f (header_size w) count)
 
 -- a list with room for the places of the most slaves of that width
 pub record PlacesFit (w : ℕ) (places : List ℕ) : Type 0 where

@@ -13,6 +13,8 @@ use Rattle.multipartner.specs.Rules.Entries.{Entry, entry_there, Acting, acts, b
 use Rattle.multipartner.specs.Rules.Multipartner.{SlaveByte, nowhere, byte_of, may_store, send_place, store_place, byte_there, cluster_below, sent_during}
 use Rattle.multipartner.specs.Rules.Multipartner.{passed_over_lem}
 use Rattle.multipartner.specs.Inner.EntryForm.{file_numbers}
+use Rattle.multipartner.specs.declared.kept_files.KeptFile.{KeptFile}
+use Rattle.multipartner.specs.declared.round_files.OpenEntries.{OpenEntries}
 use Rattle.multipartner.specs.declared.slot_act.SlotAct.{SlotAct}
 use Rattle.multipartner.specs.declared.slot_act.SlotAct.TheVariants.{Sends, Stores, Rests}
 
@@ -35,6 +37,13 @@ planned_entries round s = cond (is_unnamed s) 0 (last_record (bytes_in s round))
 unfoldable pub entries_in : ℕ → Slave → ℕ
 entries_in round s = cond (is_awake s) (planned_entries round s) 0
 
+-- what an index past the end is given
+abbrev pub no_entries : OpenEntries
+no_entries = record { start = 0; end = 0 }
+
+abbrev pub no_file : KeptFile
+no_file = record { place = 0; size = 0; number = record { 0 = 0 } }
+
 -- where so many entries of the slave at index s begin and where they end: after record 0x00, both 0 where there are none
 pub record EntriesLie (c : Cluster) (round s many start end : ℕ) : Type 0 where
   pub begins : start ≡ cond (eqb many 0) 0 (file_place c s round + record_size)
@@ -46,11 +55,10 @@ PlannedFileIs c round s start end = EntriesLie c round s (planned_entries round 
 abbrev pub RoundFileIs : Cluster → ℕ → ℕ → ℕ → ℕ → Type 0
 RoundFileIs c round s start end = EntriesLie c round s (entries_in round (slave_of c s)) start end
 
--- the same of every slave, in front of whatever else the arrays hold
-pub record RoundFilesAre (c : Cluster) (round : ℕ) (starts ends : List ℕ) : Type 0 where
-  pub starts_room : length starts ≡ slaves_room
-  pub ends_room : length ends ≡ slaves_room
-  pub file : (s : ℕ) → s < length c.slaves → RoundFileIs c round s (get_or starts s 0) (get_or ends s 0)
+-- the same of every slave, in front of whatever else the array holds
+pub record RoundFilesAre (c : Cluster) (round : ℕ) (lists : List OpenEntries) : Type 0 where
+  pub room : length lists ≡ slaves_room
+  pub file : (s : ℕ) → s < length c.slaves → RoundFileIs c round s (get_or lists s no_entries).start (get_or lists s no_entries).end
 
 -- from start to end the file has whole entries
 pub record EntriesWithin (f : List ℕ) (start end : ℕ) : Type 0 where
@@ -76,16 +84,14 @@ pub record FileIs (f : List ℕ) (s n place size : ℕ) : Type 0 where
   pub inside : place + size ≤ length f
 
 -- that of one file of each slave, by its number; there may be slaves of which none is known
-pub record FilesKept (f numbers places sizes : List ℕ) : Type 0 where
-  pub numbers_room : length numbers ≡ slaves_room
-  pub places_room : length places ≡ slaves_room
-  pub sizes_room : length sizes ≡ slaves_room
-  pub file : (s : ℕ) → s < slave_count f → get_or numbers s 0 < file_numbers → FileIs f s (get_or numbers s 0) (get_or places s 0) (get_or sizes s 0)
+pub record FilesKept (f : List ℕ) (known : List KeptFile) : Type 0 where
+  pub room : length known ≡ slaves_room
+  pub file : (s : ℕ) → s < slave_count f → (get_or known s no_file).number.0 < file_numbers → FileIs f s (get_or known s no_file).number.0 (get_or known s no_file).place (get_or known s no_file).size
 
 -- with file n of the slave at index s among them
-pub record KeptFor (f : List ℕ) (s n : ℕ) (numbers places sizes : List ℕ) : Type 0 where
-  pub kept : FilesKept f numbers places sizes
-  pub named : FileIs f s n (get_or places s 0) (get_or sizes s 0)
+pub record KeptFor (f : List ℕ) (s n : ℕ) (known : List KeptFile) : Type 0 where
+  pub kept : FilesKept f known
+  pub named : FileIs f s n (get_or known s no_file).place (get_or known s no_file).size
 
 -- ---- what a slave does in a slot
 
@@ -121,9 +127,9 @@ pub record EntryActIs (f : List ℕ) (e : Entry) (slot place size : ℕ) (act : 
   pub stores : act_stores act ≡ cond (both (receives e.operation) (both (may_store e slot) (ltb (byte_place e slot) size))) ((place + byte_place e slot) ∷ []) []
 
 -- the act of the slave at index s by the entry at a place, with the files kept afterwards
-pub record ActedAt (f : List ℕ) (s at slot : ℕ) (act : SlotAct) (numbers places sizes : List ℕ) : Type 0 where
+pub record ActedAt (f : List ℕ) (s at slot : ℕ) (act : SlotAct) (known : List KeptFile) : Type 0 where
   pub does : SlotActIs (decode f) s slot (acts (entry_there f at)) act
-  pub kept : FilesKept f numbers places sizes
+  pub kept : FilesKept f known
 
 -- where an act stores is no large number
 pub record StoresLow (act : SlotAct) : Type 0 where
@@ -141,7 +147,6 @@ stored_at f places b zero = f
 stored_at f places b (suc n) = set (stored_at f places b n) (get_or places n 0) b
 
 -- every place lies in the file
-pub record StoresWithin (f places : List ℕ) (count : ℕ) : Type 0 where
-  pub few : count ≤ slaves_room
-  pub within : (i : ℕ) → i < count → get_or places i 0 < length f
+pub record StoresWithin (f places : List ℕ) : Type 0 where
+  pub within : (i : ℕ) → i < length places → get_or places i 0 < length f
   pub low : length f < 2 ^ 32

@@ -7,5 +7,5 @@ use Rattle.convert.proofs.convert.is_over.Goals as goal
 pub returns-then-width-count : goal.returns-then-width-count
 returns-then-width-count c = search (rules, over_many)
 
-pub returns : goal.returns
-returns c = search (rules, over_long)
+pub returns-else-width-count : goal.returns-else-width-count
+returns-else-width-count c = search (rules, over_long)

@@ -1,11 +1,8 @@
 -- `convert::put::put_zeros` meets its contract: the zeros so far stand in the buffer.
-use Prim.Native.Nat.{◌-◌, ◌≤◌}
+use Prim.Native.Nat.{◌≤◌}
 use lib.ListN.{replicate}
 use Rattle.convert.specs.Inner.Putting.{Put}
 use Rattle.convert.proofs.put.put_zeros.Given as goal
 
 abbrev pub invariant-loop-done : goal.invariant-loop-done
 invariant-loop-done l = (l.done ≤ l.count) × Put l.initial.out l.at (replicate l.done 0) l.out
-
-abbrev pub decreases-loop-done : goal.decreases-loop-done
-decreases-loop-done l = l.count - l.done

@@ -1,11 +1,8 @@
 -- `convert::slaves::put_slaves` meets its contract: the slaves so far are listed and put.
-use Prim.Native.Nat.{◌-◌}
+use Rattle.convert.specs.Inner.ListedSleep.{is_kept}
 use Rattle.convert.proofs.BodyLaws.{BodyPut}
 use Rattle.convert.proofs.slaves.put_slaves.Given as goal
 
 abbrev pub invariant-loop-slave : goal.invariant-loop-slave
 invariant-loop-slave l =
-    BodyPut l.kept l.width l.at l.place l.file l.initial.out l.out l.entry l.slave l.start l.to
-
-abbrev pub decreases-loop-slave : goal.decreases-loop-slave
-decreases-loop-slave l = l.count - l.slave
+    BodyPut (is_kept l.sleep) l.width l.at l.place l.file l.initial.out l.out l.entry l.slave l.start l.to

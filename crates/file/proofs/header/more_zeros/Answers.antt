@@ -2,14 +2,10 @@
 -- Assumes nothing.
 use Rattle.file.proofs.HeaderLaws.{more_none, more_zeros}
 use Rattle.std.proofs.Common.{rules}
-use Rattle.std.proofs.Common.{arith}
 use Rattle.file.proofs.header.more_zeros.Goals as goal
 
 pub returns-then-width-eq-OFFSET_WIDTH : goal.returns-then-width-eq-OFFSET_WIDTH
 returns-then-width-eq-OFFSET_WIDTH c = search (rules, more_none)
-
-pub offset_at-requires : goal.offset_at-requires
-offset_at-requires c = (search rules, omega arith)
 
 pub returns : goal.returns
 returns c = search (rules, more_zeros)

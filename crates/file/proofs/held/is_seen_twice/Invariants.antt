@@ -6,6 +6,3 @@ use Rattle.file.proofs.held.is_seen_twice.Given as goal
 
 abbrev pub invariant-loop-slave : goal.invariant-loop-slave
 invariant-loop-slave l = NamesSeen (logical_names (decode l.file)) l.seen l.slave
-
-abbrev pub decreases-loop-slave : goal.decreases-loop-slave
-decreases-loop-slave l = l.slave

@@ -4,6 +4,3 @@ use Rattle.file.proofs.names.equal_names.Given as goal
 
 abbrev pub invariant-loop-slave : goal.invariant-loop-slave
 invariant-loop-slave l = Compared l.file l.places l.seen l.slave
-
-abbrev pub decreases-loop-slave : goal.decreases-loop-slave
-decreases-loop-slave l = l.slave

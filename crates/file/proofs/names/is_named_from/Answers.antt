@@ -11,8 +11,7 @@ pub returns-then-name_at-name : goal.returns-then-name_at-name
 returns-then-name_at-name c = search (rules, searched_here)
 
 pub loop-slave-preserved : goal.loop-slave-preserved
-loop-slave-preserved c =
-    searched_next _ _ c.loop-slave.invariant c.loop-slave-test.true c.name_at.ensures c.if-name_at-name.false
+loop-slave-preserved c = search (rules, searched_next)
 
 pub returns : goal.returns
 returns c = search (rules, searched_end)

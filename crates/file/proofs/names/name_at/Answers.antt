@@ -1,15 +1,9 @@
 -- `file::names::name_at` meets its contract: the number at the place is the name.
 -- Assumes nothing.
 use Rattle.file.specs.Inner.Checked.{name_at}
-use Rattle.file.proofs.NamesLaws.{name-within, place-fits, name-fits}
+use Rattle.file.proofs.NamesLaws.{name-within}
 use Rattle.std.proofs.Common.{rules}
 use Rattle.file.proofs.names.name_at.Goals as goal
-
-pub overflow_cast-place : goal.overflow_cast-place
-overflow_cast-place c = search (rules, place-fits)
-
-pub overflow_add-place-2 : goal.overflow_add-place-2
-overflow_add-place-2 c = search (rules, name-fits)
 
 pub u64_at-requires : goal.u64_at-requires
 u64_at-requires c = search (rules, name-within)

@@ -1,7 +1,6 @@
 -- `file::numbers::u16_at` meets its contract: two shorter numbers, joined.
 -- Assumes nothing.
-use mathlib.Core.Path.{refl}
-use Rattle.std.proofs.Common.{arith}
+use Rattle.std.proofs.Common.{refl, arith}
 use Rattle.file.proofs.NumberLaws.{byte-number, number_or}
 use Rattle.file.proofs.numbers.u16_at.Goals as goal
 

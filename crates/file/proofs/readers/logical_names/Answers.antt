@@ -1,11 +1,8 @@
 -- `file::readers::logical_names` meets its contract: the names of the slaves looked at stand in front.
 -- Assumes nothing.
 use Rattle.std.proofs.Common.{rules}
-use Rattle.file.proofs.NameReadLaws.{put-start, put_next, put-end}
+use Rattle.file.proofs.NameReadLaws.{put_next, put-end}
 use Rattle.file.proofs.readers.logical_names.Goals as goal
-
-pub loop-slave-init : goal.loop-slave-init
-loop-slave-init c = put-start _ _
 
 pub loop-slave-preserved : goal.loop-slave-preserved
 loop-slave-preserved c = search (rules, put_next)

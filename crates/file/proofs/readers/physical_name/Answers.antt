@@ -1,15 +1,9 @@
 -- `file::readers::physical_name` meets its contract: the number at the place is the cluster's.
 -- Assumes nothing.
 use Rattle.file.proofs.ReaderLaws.{physical-there}
-use Rattle.file.proofs.PlaceLaws.{documentation-fits, documentation-byte-fits, documentation-long}
+use Rattle.file.proofs.PlaceLaws.{documentation-long}
 use Rattle.std.proofs.Common.{rules}
 use Rattle.file.proofs.readers.physical_name.Goals as goal
-
-pub overflow_cast-place : goal.overflow_cast-place
-overflow_cast-place c = search (rules, documentation-fits)
-
-pub overflow_add-place-2 : goal.overflow_add-place-2
-overflow_add-place-2 c = search (rules, documentation-byte-fits)
 
 pub u64_at-requires : goal.u64_at-requires
 u64_at-requires c = search (rules, documentation-long)

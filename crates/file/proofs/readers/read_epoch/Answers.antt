@@ -1,11 +1,8 @@
 -- `file::readers::read_epoch` meets its contract: the byte is the decoded field.
 -- Assumes nothing.
-use Rattle.file.proofs.StoreLaws.{epoch-byte, epoch-read}
+use Rattle.file.proofs.StoreLaws.{epoch-read}
 use Rattle.std.proofs.Common.{rules}
 use Rattle.file.proofs.readers.read_epoch.Goals as goal
-
-pub bounds-file-epoch_place : goal.bounds-file-epoch_place
-bounds-file-epoch_place c = search (rules, epoch-byte)
 
 pub returns : goal.returns
 returns c = search (rules, epoch-read)

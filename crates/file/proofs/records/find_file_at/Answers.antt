@@ -5,22 +5,22 @@ use Rattle.std.proofs.Common.{rules}
 use Rattle.file.proofs.records.find_file_at.Goals as goal
 
 pub overflow_mul-entry : goal.overflow_mul-entry
-overflow_mul-entry c = search (rules, entry-size-fits)
+overflow_mul-entry g c = search (rules, entry-size-fits)
 
 pub overflow_add-entry : goal.overflow_add-entry
-overflow_add-entry c = search (rules, entry-place-fits)
+overflow_add-entry g c = search (rules, entry-place-fits)
 
 pub offset_at-directory-requires : goal.offset_at-directory-requires
-offset_at-directory-requires c = search (rules, entry-offset)
+offset_at-directory-requires g c = search (rules, entry-offset)
 
 pub overflow_add-entry-2 : goal.overflow_add-entry-2
-overflow_add-entry-2 c = search (rules, entry-count-fits)
+overflow_add-entry-2 g c = search (rules, entry-count-fits)
 
 pub byte_at-count-requires : goal.byte_at-count-requires
-byte_at-count-requires c = search (rules, entry-count)
+byte_at-count-requires g c = search (rules, entry-count)
 
 pub search_directory-requires : goal.search_directory-requires
-search_directory-requires c = search (rules, directory-fits)
+search_directory-requires g c = search (rules, directory-fits)
 
 pub returns : goal.returns
-returns c = search (rules, file-found)
+returns g c = search (rules, file-found)

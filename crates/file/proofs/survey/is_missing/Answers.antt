@@ -3,16 +3,16 @@
 use Rattle.std.proofs.Common.{rules}
 use Rattle.file.proofs.LookingLaws.{gathering_start, gathering_found, gathering_past, gathering_end}
 use Rattle.file.proofs.survey.is_missing.Goals as goal
-use Rattle.file.proofs.survey.is_missing.Goals.{then-places-at-eq0, else-places-at-eq0}
+use Rattle.file.proofs.survey.is_missing.Goals.{then-place-eq0, else-place-eq0}
 
-pub loop-at-init : goal.loop-at-init
-loop-at-init c = gathering_start _ _
+pub loop-place-init : goal.loop-place-init
+loop-place-init c = gathering_start _ _
 
-pub loop-at-preserved : goal.loop-at-preserved
-loop-at-preserved c =
-    elim c.if-places-at-eq0.branch [
-      | then-places-at-eq0 w ↦ gathering_found c.loop-at.invariant c.loop-at-test.true w.if-places-at-eq0.true w.missing-is
-      | else-places-at-eq0 w ↦ gathering_past c.loop-at.invariant c.loop-at-test.true w.if-places-at-eq0.false w.missing-is
+pub loop-place-preserved : goal.loop-place-preserved
+loop-place-preserved c =
+    elim c.if-place-eq0.branch [
+      | then-place-eq0 w ↦ search (rules, gathering_found)
+      | else-place-eq0 w ↦ search (rules, gathering_past)
     ]
 
 pub returns : goal.returns

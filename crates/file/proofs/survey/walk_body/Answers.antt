@@ -1,27 +1,20 @@
 -- `file::survey::walk_body` meets its contract: a law for each way.
 -- Assumes nothing.
-use borrow.Author.Tests.{not-true, not-false}
-use Rattle.file.proofs.SurveyLaws.{count-within, count_fits, table-size-fits, table-end-fits, table_fits, body_short, body_broken, body_walked}
+use Rattle.file.proofs.SurveyLaws.{count-within, count_fits, table_fits, body_short, body_broken, body_walked}
 use Rattle.std.proofs.Common.{rules}
 use Rattle.file.proofs.survey.walk_body.Goals as goal
 
 pub byte_at-count-requires : goal.byte_at-count-requires
 byte_at-count-requires c = search (rules, count-within)
 
-pub overflow_mul-size-2 : goal.overflow_mul-size-2
-overflow_mul-size-2 c = search (rules, table-size-fits)
-
-pub overflow_add-header-2 : goal.overflow_add-header-2
-overflow_add-header-2 c = search (rules, table-end-fits)
-
 pub returns-then-file-header : goal.returns-then-file-header
 returns-then-file-header c = search (rules, body_short)
 
-pub walk_slaves-walk-requires : goal.walk_slaves-walk-requires
-walk_slaves-walk-requires c = (search (rules, table_fits), search (rules, count_fits))
+pub walk_slaves-requires : goal.walk_slaves-requires
+walk_slaves-requires c = (search (rules, table_fits), search (rules, count_fits))
 
-pub returns-then-not-walk : goal.returns-then-not-walk
-returns-then-not-walk c = search (rules, body_broken, not-true)
+pub returns-in_default : goal.returns-in_default
+returns-in_default c = search (rules, body_broken)
 
 pub returns : goal.returns
-returns c = search (rules, body_walked, not-false)
+returns c = search (rules, body_walked)

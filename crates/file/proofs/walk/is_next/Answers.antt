@@ -2,7 +2,7 @@
 -- Assumes nothing.
 use Rattle.file.proofs.WalkLaws.{next_low, next_empty, next_unfilled, next_last}
 use Rattle.std.proofs.Common.{rules}
-use borrow.Author.Tests.{not-true, not-false}
+use borrow.Author.Tests.{not-true}
 use Rattle.file.proofs.walk.is_next.Goals as goal
 
 pub returns-then-number-low : goal.returns-then-number-low
@@ -15,4 +15,4 @@ pub returns-then-not-is_filled : goal.returns-then-not-is_filled
 returns-then-not-is_filled c = search (rules, next_unfilled, not-true)
 
 pub returns : goal.returns
-returns c = search (rules, next_last, not-false)
+returns c = search (rules, next_last)

@@ -1,5 +1,5 @@
 -- `file::walk::stated_from_front` meets its contract: what the walk from here on states is what the whole directory states.
-use Prim.Native.Nat.{◌-◌}
+use Rattle.std.proofs.Common.{◌-◌}
 use Rattle.file.specs.Inner.Typed.{file_in}
 use Rattle.file.proofs.SeekLaws.{Seeking}
 use Rattle.file.proofs.walk.stated_from_front.Given as goal

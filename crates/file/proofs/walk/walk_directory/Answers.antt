@@ -1,41 +1,22 @@
 -- `file::walk::walk_directory` meets its contract. The invariant is `Walking`: the walk from here, where all fits so far, is the walk from the start.
 -- Assumes nothing.
 use Rattle.std.proofs.Common.{rules}
-use borrow.Author.Tests.{not-true, not-false}
-use Rattle.file.proofs.WalkLaws.{walking_none, first_entry, first-number, first_records, first_stop, first_fits, first_next, walking_fits}
-use Rattle.file.proofs.WalkLaws.{walking_entry, walking_stop, walking_next, walking_done}
+use Rattle.file.proofs.WalkLaws.{walking_none, first_stop, first_next}
+use Rattle.file.proofs.WalkLaws.{walking_stop, walking_next, walking_done}
 use Rattle.file.proofs.walk.walk_directory.Goals as goal
 
 pub returns-then-count-eq0 : goal.returns-then-count-eq0
 returns-then-count-eq0 c = search (rules, walking_none)
 
-pub byte_at-first-requires : goal.byte_at-first-requires
-byte_at-first-requires c = search (rules, first-number)
-
-pub byte_at-records-requires : goal.byte_at-records-requires
-byte_at-records-requires c = search (rules, first_records)
-
-pub is_next-requires : goal.is_next-requires
-is_next-requires c = search (rules, first_entry)
-
 pub returns-then-not-is_next : goal.returns-then-not-is_next
-returns-then-not-is_next c = search (rules, first_stop, not-true)
-
-pub overflow_add-place-2 : goal.overflow_add-place-2
-overflow_add-place-2 c = search (rules, first_fits)
+returns-then-not-is_next c = search (rules, first_stop)
 
 pub loop-entry-init : goal.loop-entry-init
 loop-entry-init c =
     first_next c.requires c.if-count-eq0.false c.is_next.ensures c.if-not-is_next.false c.byte_at-first.ensures c.byte_at-records.ensures
 
-pub is_next-requires-in-loop-entry : goal.is_next-requires-in-loop-entry
-is_next-requires-in-loop-entry c = search (rules, walking_entry)
-
 pub returns-then-not-is_next-2 : goal.returns-then-not-is_next-2
-returns-then-not-is_next-2 c = search (rules, walking_stop, not-true)
-
-pub overflow_add-place-in-loop-entry-2 : goal.overflow_add-place-in-loop-entry-2
-overflow_add-place-in-loop-entry-2 c = search (rules, walking_fits)
+returns-then-not-is_next-2 c = search (rules, walking_stop)
 
 pub loop-entry-preserved : goal.loop-entry-preserved
 loop-entry-preserved c =

@@ -1,5 +1,5 @@
 -- `file::walk::walk_directory` meets its contract. The invariant is `Walking`: the walk from here, where all fits so far, is the walk from the start.
-use Prim.Native.Nat.{◌-◌}
+use Rattle.std.proofs.Common.{◌-◌}
 use Rattle.file.proofs.WalkLaws.{Walking}
 use Rattle.file.proofs.walk.walk_directory.Given as goal
 

@@ -1,7 +1,7 @@
 -- `file::walk::walk_entry` meets its contract: a law for each way.
 -- Assumes nothing.
-use borrow.Author.Tests.{not-true, not-false}
-use Rattle.file.proofs.SlaveWalkLaws.{slave-elsewhere, slave_sleep, slave_unfilled, slave_past, slave_walked, directory-fits, directory-size-fits, directory-end-fits}
+use borrow.Author.Tests.{not-true}
+use Rattle.file.proofs.SlaveWalkLaws.{slave-elsewhere, slave_sleep, slave_unfilled, slave_past, slave_walked}
 use Rattle.std.proofs.Common.{rules}
 use Rattle.file.proofs.walk.walk_entry.Goals as goal
 
@@ -14,17 +14,8 @@ returns-then-byte_at-gt-MOST_SLEEP c = search (rules, slave_sleep)
 pub returns-then-not-is_filled : goal.returns-then-not-is_filled
 returns-then-not-is_filled c = search (rules, slave_unfilled, not-true)
 
-pub overflow_mul-size-2 : goal.overflow_mul-size-2
-overflow_mul-size-2 c = search (rules, directory-size-fits)
-
-pub overflow_add-place : goal.overflow_add-place
-overflow_add-place c = search (rules, directory-end-fits)
-
 pub returns-then-file-place : goal.returns-then-file-place
 returns-then-file-place c = search (rules, slave_past)
 
-pub walk_directory-requires : goal.walk_directory-requires
-walk_directory-requires c = search (rules, directory-fits)
-
 pub returns : goal.returns
-returns c = search (rules, slave_walked, not-false)
+returns c = search (rules, slave_walked)

@@ -1,11 +1,8 @@
 -- `file::writers::set_epoch` meets its contract: the store gives the cluster with that epoch.
 -- Assumes nothing.
-use Rattle.file.proofs.StoreLaws.{epoch-byte, becomes-epoch}
+use Rattle.file.proofs.StoreLaws.{becomes-epoch}
 use Rattle.std.proofs.Common.{rules}
 use Rattle.file.proofs.writers.set_epoch.Goals as goal
-
-pub bounds-file-at : goal.bounds-file-at
-bounds-file-at c = search (rules, epoch-byte)
 
 pub returns : goal.returns
 returns c = search (rules, becomes-epoch)

@@ -6,6 +6,3 @@ use Rattle.join.proofs.names.mark_names.Given as goal
 
 abbrev pub invariant-loop-slave : goal.invariant-loop-slave
 invariant-loop-slave l = Marking logical_name (decode l.file) 256 l.held l.slave
-
-abbrev pub decreases-loop-slave : goal.decreases-loop-slave
-decreases-loop-slave l = l.slave

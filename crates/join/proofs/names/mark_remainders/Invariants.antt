@@ -6,6 +6,3 @@ use Rattle.join.proofs.names.mark_remainders.Given as goal
 
 abbrev pub invariant-loop-slave : goal.invariant-loop-slave
 invariant-loop-slave l = Marking remainder_of (decode l.file) 256 l.seen l.slave
-
-abbrev pub decreases-loop-slave : goal.decreases-loop-slave
-decreases-loop-slave l = l.slave

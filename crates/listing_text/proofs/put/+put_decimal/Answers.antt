@@ -6,8 +6,8 @@ use Rattle.listing_text.proofs.put.+put_decimal.Goals as goal
 pub returns-then-value-lt-DECIMAL_BASE : goal.returns-then-value-lt-DECIMAL_BASE
 returns-then-value-lt-DECIMAL_BASE t c = search puts-digit
 
-pub put_byte-requires-2 : goal.put_byte-requires-2
-put_byte-requires-2 t c = search tenth-room
+pub put_bytes-requires-2 : goal.put_bytes-requires-2
+put_bytes-requires-2 t c = search tenth-room
 
 pub returns : goal.returns
 returns t c = search puts-decimal

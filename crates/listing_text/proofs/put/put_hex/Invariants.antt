@@ -4,6 +4,3 @@ use Rattle.listing_text.proofs.put.put_hex.Given as goal
 
 abbrev pub invariant-loop-left : goal.invariant-loop-left
 invariant-loop-left l = Spelling l.initial.text l.at l.digits l.value l.text l.place l.left
-
-abbrev pub decreases-loop-left : goal.decreases-loop-left
-decreases-loop-left l = l.left

@@ -10,9 +10,6 @@ loop-i-init c = naming_start
 pub bounds-names-i : goal.bounds-names-i
 bounds-names-i c = let r = c.loop-i.invariant.room in omega arith
 
-pub overflow_add-name : goal.overflow_add-name
-overflow_add-name c = let n = c.loop-i.invariant.next in omega arith
-
 pub loop-i-preserved : goal.loop-i-preserved
 loop-i-preserved c = naming_next c.loop-i.invariant c.loop-i-test.true
 

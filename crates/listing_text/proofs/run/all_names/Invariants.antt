@@ -1,11 +1,6 @@
 -- `listing_text::run::all_names` meets its contract: the names so far stand in front.
-use Prim.Native.Nat.{◌-◌}
-use Rattle.listing_text.specs.Rules.Listing.{name_count}
 use Rattle.listing_text.proofs.ListLaws.{Naming}
 use Rattle.listing_text.proofs.run.all_names.Given as goal
 
 abbrev pub invariant-loop-i : goal.invariant-loop-i
-invariant-loop-i l = Naming l.names l.name l.i
-
-abbrev pub decreases-loop-i : goal.decreases-loop-i
-decreases-loop-i l = name_count - l.i
+invariant-loop-i l = Naming l.names l.i

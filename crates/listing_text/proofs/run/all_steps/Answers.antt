@@ -1,8 +1,6 @@
 -- `listing_text::run::all_steps` meets its contract: what is left of the run is the whole run.
 -- Assumes nothing.
-use Prim.Native.Nat.{◌-◌, ◌^◌, ◌≤◌, ◌<◌}
-use mathlib.Core.Path.{refl}
-use Rattle.std.proofs.Common.{arith}
+use Rattle.std.proofs.Common.{◌-◌, ◌^◌, ◌≤◌, ◌<◌, refl, arith}
 use Rattle.naming.specs.Rules.Pass.{bits}
 use Rattle.listing_text.proofs.ListLaws.{going_start, going_done, going_next}
 use Rattle.listing_text.proofs.BatchLaws.{all-accepted, batch_few, batch_going, batch-over, some_left, step-placed}

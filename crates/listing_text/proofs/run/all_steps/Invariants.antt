@@ -1,6 +1,5 @@
 -- `listing_text::run::all_steps` meets its contract: what is left of the run is the whole run.
-use mathlib.Core.Path.{◌≡◌}
-use lib.ListN.{length}
+use Rattle.std.proofs.Common.{◌≡◌, length}
 use Rattle.file.specs.Inner.Accepted.{Placed}
 use Rattle.listing_text.specs.Rules.Listing.{list_steps, most_steps}
 use Rattle.listing_text.specs.Inner.ListRuns.{state_of}

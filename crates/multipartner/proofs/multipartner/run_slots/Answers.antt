@@ -10,7 +10,7 @@ use Rattle.master_slave.proofs.Bus.{filled-length}
 use Rattle.multipartner.proofs.SearchLaws.{entry-within, entry-low, begun}
 use Rattle.multipartner.proofs.SlotLaws.{heard-none, ends_low, starts-low, stores-within}
 use Rattle.multipartner.proofs.SlotLaws.{looking_start, looking_done, looking_end, looking_wait, looking_over, looking_stores}
-use Rattle.multipartner.proofs.SlotLaws.{looking_acts, heard-same, next_low, running-start, mask-small, slot_fits, running_silent, running-heard, running-done}
+use Rattle.multipartner.proofs.SlotLaws.{looking_acts, heard-same, next_low, after-low, running-start, mask-small, slot_fits, running_silent, running-heard, running-done}
 use Rattle.multipartner.proofs.multipartner.run_slots.Goals as goal
 use Rattle.multipartner.proofs.multipartner.run_slots.Goals.{then-not-waits_at+else-acts_at, else-not-waits_at, then-heard, else-heard}
 use Rattle.multipartner.proofs.multipartner.run_slots.Goals.{else-entries-test, then-entries-test+then-ends_at, then-entries-test+else-ends_at+then-not-waits_at+then-acts_at}
@@ -87,20 +87,32 @@ slaves-preserved c =
     -- the three ways out of the search meet here
     elim c.entries-test.branch [
       | else-entries-test w ↦
-          heard-same looking w.numbers-is w.froms-is w.sizes-is w.stores-is w.bus-is w.heard-is w.stored-is w.next-is
+          heard-same looking w.kept-is w.stores-is w.bus-is w.heard-is w.stored-is w.next-is
           (looking_done looking w.entries-test.false)
       | then-entries-test+then-ends_at w ↦
-          heard-same looking w.numbers-is w.froms-is w.sizes-is w.stores-is w.bus-is w.heard-is w.stored-is w.next-is
+          heard-same looking w.kept-is w.stores-is w.bus-is w.heard-is w.stored-is w.next-is
           (looking_end looking w.entries-test.true w.ends_at.ensures w.if-ends_at.true)
       | then-entries-test+else-ends_at+then-not-waits_at+then-acts_at w ↦
-          heard-same looking w.numbers-is w.froms-is w.sizes-is w.stores-is w.bus-is w.heard-is w.stored-is w.next-is
+          heard-same looking w.kept-is w.stores-is w.bus-is w.heard-is w.stored-is w.next-is
           (looking_acts looking w.entries-test.true w.ends_at.ensures w.if-ends_at.false (begun w.waits_at.ensures w.if-not-waits_at.true)
           w.acts_at.ensures w.if-acts_at.true w.act_at-act.ensures w.bus_with-bus.ensures w.heard_with-heard.ensures
           w.put_store-stored.ensures w.next_after-next.ensures)
     ]
 
-pub overflow_cast-starts : goal.overflow_cast-starts
-overflow_cast-starts c = omega (arith, next_low c.entries.invariant c.entries-test.next (slaves-preserved c))
+pub overflow_cast-lists : goal.overflow_cast-lists
+overflow_cast-lists c =
+    let looking = c.entries.invariant in
+    elim c.entries-test.branch [
+      | else-entries-test w ↦ omega (arith, w.next-is, next_low looking)
+      | then-entries-test+then-ends_at w ↦ omega (arith, w.next-is, next_low looking)
+      | then-entries-test+else-ends_at+then-not-waits_at+then-acts_at w ↦
+          omega (
+            arith,
+            w.next-is,
+            after-low looking w.entries-test.true w.ends_at.ensures w.if-ends_at.false
+                (begun w.waits_at.ensures w.if-not-waits_at.true) w.acts_at.ensures w.next_after-next.ensures,
+          )
+    ]
 
 pub with_sender-mask-requires : goal.with_sender-mask-requires
 with_sender-mask-requires c = search (rules, mask-small)

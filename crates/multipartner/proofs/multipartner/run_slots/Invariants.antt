@@ -7,7 +7,7 @@ use Rattle.multipartner.proofs.multipartner.run_slots.Given as goal
 
 abbrev pub invariant-entries : goal.invariant-entries
 invariant-entries l =
-    Looking (out_of_turn l.epoch) l.file l.round l.count l.slot l.slave l.bus l.heard l.starts l.ends l.stores l.stored l.numbers l.froms l.sizes l.at l.next l.end
+    Looking (out_of_turn l.epoch) l.file l.round l.count l.slot l.slave l.bus l.heard l.lists l.stores l.stored l.kept l.at l.next l.end
 
 abbrev pub decreases-entries : goal.decreases-entries
 decreases-entries l =
@@ -15,16 +15,8 @@ decreases-entries l =
 
 abbrev pub invariant-slaves : goal.invariant-slaves
 invariant-slaves l =
-    SlotHeard (out_of_turn l.epoch) l.file l.round l.count l.slot l.slave l.bus l.heard l.starts l.ends l.stores l.stored l.numbers l.froms l.sizes
-
-abbrev pub decreases-slaves : goal.decreases-slaves
-decreases-slaves l =
-    l.count - l.slave
+    SlotHeard (out_of_turn l.epoch) l.file l.round l.count l.slot l.slave l.bus l.heard l.lists l.stores l.stored l.kept
 
 abbrev pub invariant-slots : goal.invariant-slots
 invariant-slots l =
-    Running (out_of_turn l.epoch) l.initial.file l.round l.firework l.count l.starts l.ends l.stores l.numbers l.froms l.sizes l.initial.buffer l.slot l.mask l.buffer l.file
-
-abbrev pub decreases-slots : goal.decreases-slots
-decreases-slots l =
-    64 - l.slot
+    Running (out_of_turn l.epoch) l.initial.file l.round l.firework l.count l.lists l.stores l.kept l.initial.buffer l.slot l.mask l.buffer l.file

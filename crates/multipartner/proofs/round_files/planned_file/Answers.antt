@@ -4,8 +4,8 @@ use Rattle.multipartner.proofs.RoundFileLaws.{round-unnamed, round_missing, star
 use Rattle.std.proofs.Common.{rules}
 use Rattle.multipartner.proofs.round_files.planned_file.Goals as goal
 
-pub returns-then-name : goal.returns-then-name
-returns-then-name c = search (rules, round-unnamed)
+pub returns-then-eq : goal.returns-then-eq
+returns-then-eq c = search (rules, round-unnamed)
 
 pub returns-in_default : goal.returns-in_default
 returns-in_default c = search (rules, round_missing)

@@ -8,12 +8,12 @@ use Rattle.multipartner.proofs.round_files.round_files.Goals as goal
 pub loop-slave-init : goal.loop-slave-init
 loop-slave-init c = search (rules, finding_start)
 
-pub overflow_cast-starts : goal.overflow_cast-starts
-overflow_cast-starts c =
+pub overflow_cast-lists : goal.overflow_cast-lists
+overflow_cast-lists c =
     start-low c.loop-slave.invariant.becomes c.round_file-found.ensures
 
-pub overflow_cast-ends : goal.overflow_cast-ends
-overflow_cast-ends c =
+pub overflow_cast-lists-in-loop-slave : goal.overflow_cast-lists-in-loop-slave
+overflow_cast-lists-in-loop-slave c =
     end_low c.loop-slave.invariant.becomes c.round_file-found.ensures
 
 pub loop-slave-preserved : goal.loop-slave-preserved

@@ -1,13 +1,8 @@
 -- `multipartner::round_files::round_files` meets its contract. The invariant is `Finding`: the files of the slaves passed are found.
-use Prim.Native.Nat.{◌-◌}
 use Rattle.file.specs.Inner.Typed.{file_in}
 use Rattle.multipartner.proofs.RoundFileLaws.{Finding}
 use Rattle.multipartner.proofs.round_files.round_files.Given as goal
 
 abbrev pub invariant-loop-slave : goal.invariant-loop-slave
 invariant-loop-slave l =
-    Finding l.file (file_in l.round) l.starts l.ends l.slave
-
-abbrev pub decreases-loop-slave : goal.decreases-loop-slave
-decreases-loop-slave l =
-    l.count - l.slave
+    Finding l.file (file_in l.round) l.lists l.slave

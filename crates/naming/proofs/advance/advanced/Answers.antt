@@ -8,7 +8,7 @@ pub returns-then-at-lt-REPLY : goal.returns-then-at-lt-REPLY
 returns-then-at-lt-REPLY c = search advanced-written
 
 pub standing_at-next-requires : goal.standing_at-next-requires
-standing_at-next-requires c = moved-within _ _ _ c.requires.0.counts.place c.moved.ensures
+standing_at-next-requires c = moved-within _ _ _ c.requires.counts.place c.moved.ensures
 
 pub returns : goal.returns
 returns c = search advanced-moved

@@ -4,8 +4,8 @@ use Rattle.std.proofs.Common.{rules}
 use Rattle.naming.proofs.NameLaws.{unfit_first, unfit_second}
 use Rattle.naming.proofs.names.is_unfit_name.Goals as goal
 
-pub returns-then-name : goal.returns-then-name
-returns-then-name c = search (rules, unfit_first)
+pub returns-then-eq : goal.returns-then-eq
+returns-then-eq c = search (rules, unfit_first)
 
-pub returns : goal.returns
-returns c = search (rules, unfit_second)
+pub returns-else-eq : goal.returns-else-eq
+returns-else-eq c = search (rules, unfit_second)

@@ -1,8 +1,6 @@
 -- `naming::names::marked_ground` meets its contract: the marks are those of the names from the place on.
 -- Assumes nothing.
-use Prim.Native.Nat.{◌-◌}
-use Rattle.std.proofs.Common.{arith}
-use Rattle.std.proofs.Common.{rules}
+use Rattle.std.proofs.Common.{◌-◌, arith, rules}
 use Rattle.naming.proofs.NameLaws.{listed_start, listed_again, listed-new, listed-broadcast, listed-unnamed, listed-twice, listed-fit}
 use Rattle.naming.proofs.names.marked_ground.Goals as goal
 use Rattle.naming.proofs.names.marked_ground.Goals.{then-seen-mark, else-seen-mark}
@@ -14,21 +12,21 @@ pub bounds-names-i : goal.bounds-names-i
 bounds-names-i c = let h = c.loop-i.invariant.within in omega arith
 
 pub overflow_cast-mark : goal.overflow_cast-mark
-overflow_cast-mark c = omega (arith, c.shared_slice_known-1.given (c.loop-i.i - 1))
+overflow_cast-mark c = omega (arith, c.type_inv.names (c.loop-i.i - 1))
 
 pub bounds-seen-mark : goal.bounds-seen-mark
-bounds-seen-mark c = omega (arith, c.shared_slice_known-1.given (c.loop-i.i - 1), c.loop-i.invariant.room)
+bounds-seen-mark c = omega (arith, c.type_inv.names (c.loop-i.i - 1), c.loop-i.invariant.room)
 
 pub bounds-seen-mark-in-loop-i : goal.bounds-seen-mark-in-loop-i
-bounds-seen-mark-in-loop-i c = omega (arith, c.shared_slice_known-1.given (c.loop-i.i - 1), c.loop-i.invariant.room)
+bounds-seen-mark-in-loop-i c = omega (arith, c.type_inv.names (c.loop-i.i - 1), c.loop-i.invariant.room)
 
 pub loop-i-preserved : goal.loop-i-preserved
 loop-i-preserved c =
     let loop = c.loop-i in
     let more = c.loop-i-test.true in
     elim c.if-seen-mark.branch [
-      | then-seen-mark w ↦ listed_again loop.invariant more (omega (arith, c.shared_slice_known-1.given (loop.i - 1))) w.if-seen-mark.true w.twice-is
-      | else-seen-mark w ↦ listed-new loop.invariant more (omega (arith, c.shared_slice_known-1.given (loop.i - 1))) w.if-seen-mark.false w.twice-is
+      | then-seen-mark w ↦ listed_again loop.invariant more (omega (arith, c.type_inv.names (loop.i - 1))) w.if-seen-mark.true w.twice-is
+      | else-seen-mark w ↦ listed-new loop.invariant more (omega (arith, c.type_inv.names (loop.i - 1))) w.if-seen-mark.false w.twice-is
     ]
 
 pub returns-then-seen : goal.returns-then-seen

@@ -4,6 +4,3 @@ use Rattle.naming.proofs.names.marked_ground.Given as goal
 
 abbrev pub invariant-loop-i : goal.invariant-loop-i
 invariant-loop-i l = Listed l.names l.seen l.twice l.i
-
-abbrev pub decreases-loop-i : goal.decreases-loop-i
-decreases-loop-i l = l.i

@@ -14,7 +14,7 @@ bounds-names-0 c =
 
 pub send-senders-requires : goal.send-senders-requires
 send-senders-requires c =
-    let byte : get_or c.args.names.now 0 0 < 256 = omega (arith, c.shared_slice_known-2-1.given 0) in
+    let byte : get_or c.args.names.now 0 0 < 256 = omega (arith, c.type_inv.names 0) in
     search extra-may
 
 pub count_raised-run-requires : goal.count_raised-run-requires

@@ -1,10 +1,7 @@
 -- `naming::steps::make_steps` meets its contract. The invariant is `Stepping`: those that are left, of the steps so far, are all of them from
 -- the start.
 -- Assumes nothing.
-use Prim.Native.Nat.{◌^◌, ◌<◌}
-use mathlib.Core.Path.{◌∙◌}
-use Rattle.std.proofs.Common.{arith}
-use Rattle.std.proofs.Common.{rules}
+use Rattle.std.proofs.Common.{◌^◌, ◌<◌, ◌≡◌, ◌∙◌, arith, rules}
 use Rattle.file.proofs.SurveyLaws.{bytes-known}
 use Rattle.naming.specs.Rules.Pass.{bits}
 use Rattle.naming.specs.Rules.Steps.{begun}
@@ -29,7 +26,7 @@ make_step-made-requires c =
 
 pub loop-steps-preserved : goal.loop-steps-preserved
 loop-steps-preserved c =
-    let bytes = bytes-known c.args.names.now (λ k. omega (arith, c.shared_slice_known-1.given k)) in
+    let bytes = bytes-known c.args.names.now (λ k. omega (arith, c.type_inv.names k)) in
     let inv = c.loop-steps.invariant in (
       stepping-next inv.0 c.is_over.ensures c.if-is_over.false c.loop-steps-test.true c.make_step-made.ensures bytes inv.3
           (omega (arith, c.make_step-made.auto.answer, inv.2, inv.0.long)),
@@ -40,4 +37,6 @@ loop-steps-preserved c =
 
 pub returns : goal.returns
 returns c =
-    record { is = stepping-done c.loop-steps.invariant.0 c.loop-steps-test.false; placed = c.loop-steps.invariant.0.placed }
+    let inv = c.loop-steps.invariant.0 in
+    let all : c.loop-steps.steps ≡ c.args.most = omega (arith, inv.few, c.loop-steps-test.false) in
+    record { is = rw all at (stepping-done inv c.loop-steps-test.false); placed = inv.placed }

@@ -1,7 +1,5 @@
 -- `naming::steps::make_steps` meets its contract. The invariant is `Stepping`: those that are left, of the steps so far, are all of them from
-use Prim.Native.Nat.{◌-◌, ◌^◌, ◌<◌}
-use mathlib.Core.Path.{◌≡◌}
-use lib.ListN.{length}
+use Rattle.std.proofs.Common.{◌^◌, ◌<◌, ◌≡◌, length}
 use Rattle.naming.specs.Rules.Pass.{bits}
 use Rattle.naming.specs.Rules.Steps.{begun}
 use Rattle.naming.specs.Inner.StepAnswers.{position_of}
@@ -12,6 +10,3 @@ abbrev pub invariant-loop-steps : goal.invariant-loop-steps
 invariant-loop-steps l =
     Stepping l.names l.until l.most l.places (begun l.initial.file (position_of l.initial.run) l.initial.answer) (record { made = l.steps; senders = l.senders; run = position_of l.run; buffer = l.answer; file = l.file }) ×
     (length l.file ≡ length l.initial.file) × (length l.answer ≡ length l.initial.answer) × (l.run.place.value < 2 ^ bits)
-
-abbrev pub decreases-loop-steps : goal.decreases-loop-steps
-decreases-loop-steps l = l.most - l.steps

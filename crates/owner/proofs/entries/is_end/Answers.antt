@@ -7,5 +7,5 @@ use Rattle.owner.proofs.entries.is_end.Goals as goal
 pub returns-then-operation-eq-END_OF_ROUND : goal.returns-then-operation-eq-END_OF_ROUND
 returns-then-operation-eq-END_OF_ROUND c = search (rules, end-first)
 
-pub returns : goal.returns
-returns c = search (rules, end-other)
+pub returns-else-operation-eq-END_OF_ROUND : goal.returns-else-operation-eq-END_OF_ROUND
+returns-else-operation-eq-END_OF_ROUND c = search (rules, end-other)

@@ -7,5 +7,5 @@ use Rattle.owner.proofs.entries.is_plain_send.Goals as goal
 pub returns-then-operation-eq-SEND : goal.returns-then-operation-eq-SEND
 returns-then-operation-eq-SEND c = search (rules, send-first)
 
-pub returns : goal.returns
-returns c = search (rules, send-other)
+pub returns-else-operation-eq-SEND : goal.returns-else-operation-eq-SEND
+returns-else-operation-eq-SEND c = search (rules, send-other)

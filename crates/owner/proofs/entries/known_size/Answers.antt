@@ -4,5 +4,5 @@ use Rattle.std.proofs.Common.{rules}
 use Rattle.owner.proofs.EntryMasks.{kept-size}
 use Rattle.owner.proofs.entries.known_size.Goals as goal
 
-pub returns-then-plan-number : goal.returns-then-plan-number
-returns-then-plan-number c = search (rules, kept-size)
+pub returns-then-eq : goal.returns-then-eq
+returns-then-eq c = search (rules, kept-size)

@@ -1,6 +1,6 @@
 -- `owner::entries::with_slot` meets its contract: a law for each way.
 -- Assumes nothing.
-use Rattle.std.proofs.Common.{rules}
+use Rattle.std.proofs.Common.{arith, rules}
 use Rattle.owner.proofs.EntryMasks.{single_plain, slot_hidden, slot_silent, slot_outside, slot_sends}
 use Rattle.owner.proofs.entries.with_slot.Goals as goal
 
@@ -14,7 +14,7 @@ pub returns-then-not-is_plain_send : goal.returns-then-not-is_plain_send
 returns-then-not-is_plain_send c = search (rules, slot_silent)
 
 pub known_size-size-requires : goal.known_size-size-requires
-known_size-size-requires c = search (rules, c.shared_slice_known-4-1.given c.args.at)
+known_size-size-requires c = (search rules, search rules, omega arith, search rules)
 
 pub returns-then-size-first_byte : goal.returns-then-size-first_byte
 returns-then-size-first_byte c = search (rules, slot_outside)

@@ -13,7 +13,7 @@ loop-slave-init c = (holding_start _ _, refl)
 pub loop-slave-preserved : goal.loop-slave-preserved
 loop-slave-preserved c =
     let loop = c.loop-slave in
-    let room : loop.slave < length loop.held = omega (arith, c.requires.1, c.slave_count-count.ensures, loop.invariant.1) in
+    let room : loop.slave < length loop.held = omega (arith, c.requires.1, c.slave_count-slave-end.ensures, loop.invariant.1) in
     (holding_next loop.invariant.0 room c.rounds_held.ensures, length-set loop.held loop.slave c.rounds_held.result ∙ loop.invariant.1)
 
 pub shape_of-held : goal.shape_of-held
@@ -21,4 +21,4 @@ shape_of-held c = c.loop-slave.invariant.1
 
 pub returns : goal.returns
 returns c =
-    holding_done c.loop-slave.invariant.0 (omega (arith, c.slave_count-count.ensures)) (omega (arith, c.requires.1, c.loop-slave.invariant.1))
+    holding_done c.loop-slave.invariant.0 (omega (arith, c.slave_count-slave-end.ensures)) (omega (arith, c.requires.1, c.loop-slave.invariant.1))

@@ -1,5 +1,4 @@
 -- `owner::held::all_held` meets its contract. The invariant is `Holding`: the slaves passed are marked.
-use Prim.Native.Nat.{◌-◌}
 use mathlib.Core.Path.{◌≡◌}
 use lib.ListN.{length}
 use Rattle.file.specs.Rules.Decode.{decode}
@@ -8,6 +7,3 @@ use Rattle.owner.proofs.held.all_held.Given as goal
 
 abbrev pub invariant-loop-slave : goal.invariant-loop-slave
 invariant-loop-slave l = Holding (decode l.file) l.held l.slave × (length l.held ≡ length l.initial.held)
-
-abbrev pub decreases-loop-slave : goal.decreases-loop-slave
-decreases-loop-slave l = l.count - l.slave

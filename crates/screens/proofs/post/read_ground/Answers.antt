@@ -4,11 +4,11 @@ use Rattle.std.proofs.Common.{rules}
 use Rattle.screens.proofs.PostLaws.{read-file, read-broadcast, read_fits}
 use Rattle.screens.proofs.post.read_ground.Goals as goal
 
-pub returns-then-read : goal.returns-then-read
-returns-then-read c = search (rules, read-file)
+pub returns-then-lt : goal.returns-then-lt
+returns-then-lt c = search (rules, read-file)
 
-pub returns-then-read-2 : goal.returns-then-read-2
-returns-then-read-2 c = search (rules, read-broadcast)
+pub returns-then-eq : goal.returns-then-eq
+returns-then-eq c = search (rules, read-broadcast)
 
 pub returns : goal.returns
 returns c = search (rules, read_fits)

@@ -2,7 +2,7 @@
 -- Assumes nothing.
 use Rattle.std.proofs.Common.{rules}
 use Rattle.screens.specs.Inner.ScreenAnswers.{due_of}
-use Rattle.screens.proofs.StateLaws.{asking_start, asking_few, next-few, asking_found, asking_none, asking_less, asking_on}
+use Rattle.screens.proofs.StateLaws.{asking_start, asking_few, next-few, asking_found, asking_none, asking_on}
 use Rattle.screens.proofs.state.due_screen.Goals as goal
 
 pub screens-init : goal.screens-init
@@ -18,12 +18,9 @@ pub returns-then-is_waiting : goal.returns-then-is_waiting
 unfolding due_of
 returns-then-is_waiting c = search (rules, asking_found)
 
-pub returns-then-screen-last : goal.returns-then-screen-last
+pub returns : goal.returns
 unfolding due_of
-returns-then-screen-last c = search (rules, asking_none)
-
-pub screens-smaller : goal.screens-smaller
-screens-smaller c = search (rules, asking_less)
+returns c = search (rules, asking_none)
 
 pub screens-preserved : goal.screens-preserved
 screens-preserved c = search (rules, asking_on)

@@ -1,10 +1,6 @@
 -- `screens::state::due_screen` meets its contract.
-use Rattle.screens.specs.Claims.Turns.{away}
 use Rattle.screens.proofs.StateLaws.{Asking}
 use Rattle.screens.proofs.state.due_screen.Given as goal
 
 abbrev pub invariant-screens : goal.invariant-screens
-invariant-screens l = Asking l.state l.last l.screen
-
-abbrev pub decreases-screens : goal.decreases-screens
-decreases-screens l = away l.screen l.last
+invariant-screens l = Asking l.state l.asked l.screen

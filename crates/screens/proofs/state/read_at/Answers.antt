@@ -6,4 +6,4 @@ use Rattle.screens.proofs.state.read_at.Goals as goal
 
 pub returns : goal.returns
 returns c =
-    read-there _ _ c.new-name.ensures (λ k. omega (arith, c.shared_slice_known-1.given k))
+    read-there _ _ c.new-name.ensures (λ k. omega (arith, c.type_inv.state k))

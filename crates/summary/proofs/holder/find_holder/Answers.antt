@@ -13,9 +13,9 @@ returns-then-held-count c = search (rules, holder-refused)
 pub loop-place-init : goal.loop-place-init
 loop-place-init c = search (rules, asking_start)
 
-pub returns-then-held-place : goal.returns-then-held-place
-unfolding holder_of refusal_number
-returns-then-held-place c = search (rules, asking_here)
+pub returns-then-eq : goal.returns-then-eq
+unfolding holder_of
+returns-then-eq c = search (rules, asking_here)
 
 pub loop-place-preserved : goal.loop-place-preserved
 loop-place-preserved c = search (rules, asking_next)

@@ -1,7 +1,7 @@
 -- `summary::matching::is_wrong` meets its contract: along the slaves to the first whose name is another.
 -- Assumes nothing.
-use Rattle.std.proofs.Common.{arith}
-use Rattle.std.proofs.Common.{rules}
+use Rattle.std.proofs.Common.{sym, ◌∙◌, arith, rules, eqb-true}
+use borrow.Author.Tests.{eqb-false, not-true, not-false}
 use Rattle.summary.proofs.MatchLaws.{short_wrong, count_wrong, agreeing_start, agreeing_stop, agreeing_next, agreeing_done}
 use Rattle.summary.proofs.matching.is_wrong.Goals as goal
 
@@ -19,12 +19,15 @@ pub logical_name-name-requires : goal.logical_name-name-requires
 logical_name-name-requires c =
     (c.requires, omega (arith, c.loop-slave.invariant.all, c.loop-slave-test.true))
 
-pub returns-then-held-slave : goal.returns-then-held-slave
-returns-then-held-slave c = search (rules, agreeing_stop)
+pub returns-then-ne : goal.returns-then-ne
+returns-then-ne c =
+    agreeing_stop c.loop-slave.invariant c.loop-slave-test.true c.logical_name-name.ensures
+    (eqb-false _ _ (not-true _ (sym c.ne.ensures ∙ c.if-ne.true)))
 
 pub loop-slave-preserved : goal.loop-slave-preserved
 loop-slave-preserved c =
-    agreeing_next c.loop-slave.invariant c.loop-slave-test.true c.logical_name-name.ensures c.if-held-slave.false
+    agreeing_next c.loop-slave.invariant c.loop-slave-test.true c.logical_name-name.ensures
+    (eqb-true _ _ (not-false _ (sym c.ne.ensures ∙ c.if-ne.false)))
 
 pub returns : goal.returns
 returns c = search (rules, agreeing_done)

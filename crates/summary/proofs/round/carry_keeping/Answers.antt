@@ -9,7 +9,7 @@ use Rattle.summary.proofs.round.carry_keeping.Goals as goal
 
 pub logical_names-requires : goal.logical_names-requires
 logical_names-requires c =
-    let bytes = bytes-known c.args.frame.now (λ k. omega (arith, c.shared_slice_known-1.given k)) in
+    let bytes = bytes-known c.args.frame.now (λ k. omega (arith, c.type_inv.frame k)) in
     let moved = frame-moved c.requires.0 c.requires.1 c.one_frame-answer.ensures bytes in
     (moved.placed, omega (arith, moved.count, c.requires.2))
 

@@ -12,7 +12,7 @@ returns-in_err-stepped c = search slice-turned
 
 pub logical_names-requires : goal.logical_names-requires
 logical_names-requires c =
-    let bytes = bytes-known c.args.names.now (λ k. omega (arith, c.shared_slice_known-1.given k)) in
+    let bytes = bytes-known c.args.names.now (λ k. omega (arith, c.type_inv.names k)) in
     let moved = step-moved _ _ c.requires.0 bytes (omega arith) c.step_on-stepped.ensures in
     (moved.placed, omega (arith, moved.count, c.requires.1))
 

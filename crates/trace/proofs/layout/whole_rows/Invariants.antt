@@ -1,5 +1,5 @@
 -- `trace::layout::whole_rows` meets its contract. The invariant is `Checking`: the walk from this row is the walk from the first.
-use Prim.Native.Nat.{◌-◌}
+use Rattle.std.proofs.Common.{◌-◌}
 use Rattle.trace.proofs.RowLaws.{Checking}
 use Rattle.trace.proofs.layout.whole_rows.Given as goal
 

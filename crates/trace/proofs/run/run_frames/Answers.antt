@@ -1,13 +1,12 @@
 -- `trace::run::run_frames` meets its contract. The invariant is `Running`: the frames that are left, counted into this report on this
 -- file, give the report and the file of all frames on the first file.
 -- Assumes nothing.
-use mathlib.Core.Path.{◌∙◌}
-use Rattle.std.proofs.Common.{arith}
-use Rattle.std.proofs.Common.{rules}
+use Rattle.std.proofs.Common.{◌∙◌, arith, rules}
 use Rattle.file.specs.Rules.Bytes.{part}
 use Rattle.trace.proofs.Facts.{trace_facts}
 use Rattle.trace.proofs.RunLaws.{running-start, row_within, frame-within, few-frames, running-next, running-done, anyone-may}
 use Rattle.trace.proofs.run.run_frames.Goals as goal
+use Rattle.trace.proofs.run.run_frames.Goals.{else-loop-row-test, then-loop-row-test+else-data_place-row-gt3}
 
 pub u16_at-requires : goal.u16_at-requires
 u16_at-requires c = omega (arith, (trace_facts _ c.requires.1).low)
@@ -43,4 +42,12 @@ loop-row-preserved c =
     )
 
 pub returns : goal.returns
-returns c = search (rules, running-done)
+unfolding part
+returns c =
+    let inv = c.loop-row.invariant.0 in
+    elim c.loop-row-test.branch [
+      | else-loop-row-test w ↦ rw (w.progress-is, w.file-is) (running-done inv w.loop-row-test.false)
+      | then-loop-row-test+else-data_place-row-gt3 w ↦
+          let last = running-next inv w.loop-row-test.true w.byte_at.ensures w.run_frame-progress.ensures.0 in
+          rw (w.progress-is, w.file-is) (running-done last (omega arith))
+    ]

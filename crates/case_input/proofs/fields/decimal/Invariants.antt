@@ -1,9 +1,0 @@
--- Each turn goes one digit on.
-use Rattle.std.proofs.Common.{length, ◌-◌, ◌≤◌}
-use Rattle.case_input.proofs.fields.decimal.Given as goal
-
-abbrev pub invariant-loop-i : goal.invariant-loop-i
-invariant-loop-i l = l.i ≤ length l.digits
-
-abbrev pub decreases-loop-i : goal.decreases-loop-i
-decreases-loop-i l = length l.digits - l.i

@@ -1,9 +1,0 @@
--- Each turn goes one byte on.
-use Rattle.std.proofs.Common.{length, ◌-◌, ◌≤◌}
-use Rattle.case_input.proofs.show.digits.Given as goal
-
-abbrev pub invariant-loop-i : goal.invariant-loop-i
-invariant-loop-i g l = l.i ≤ length l.s
-
-abbrev pub decreases-loop-i : goal.decreases-loop-i
-decreases-loop-i g l = length l.s - l.i

@@ -1,0 +1,2 @@
+-- The code's terms of the programs' input.
+pub mod Lines

@@ -1,0 +1,2 @@
+-- Inner: what the test programs' input is cut into.
+pub mod Inner

@@ -1,6 +1,0 @@
--- Each turn goes at least one byte on.
-use Rattle.std.proofs.Common.{length, ◌-◌}
-use Rattle.cluster_cases.proofs.cases.Given as goal
-
-abbrev pub decreases-loop-at : goal.decreases-loop-at
-decreases-loop-at g l = length l.input - l.at

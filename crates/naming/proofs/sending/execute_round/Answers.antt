@@ -1,9 +1,0 @@
--- `naming::sending::execute_round` meets its contract.
--- Assumes nothing.
-use mathlib.Core.Path.{refl}
-use Rattle.naming.specs.Rules.RunRounds.{sent, at_unnamed}
-use Rattle.naming.proofs.sending.execute_round.Goals as goal
-
-pub returns : goal.returns
-unfolding sent at_unnamed
-returns c = record { parts = refl }
