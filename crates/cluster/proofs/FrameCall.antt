@@ -109,7 +109,7 @@ module _ (frame buffer : List ℕ) {file places : List ℕ} {a : Answered (Unit 
   pub call-refused : {why : Refusal} → a ≡ Err why → (refused (refusal_number why), buffer, file) ≡ round_on file frame buffer
   call-refused e = let reason = survey-refused s e in file-refused file frame buffer reason.0 reason.1
 
-  module _ (yes : a ≡ Ok tt) where
+  module _ {u : Unit {0}} (yes : a ≡ Ok u) where
     pub call-short : length buffer < slots → (refused 9, buffer, file) ≡ round_on file frame buffer
     call-short short = buffer-refused file frame buffer (survey-accepted s yes) short
 

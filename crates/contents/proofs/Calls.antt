@@ -118,7 +118,7 @@ module _ {f places : List ℕ} {a : Answered (Unit {0})} (s : Surveyed f (outcom
   pub call-refused : {why : Refusal} → a ≡ Err why → (refused (refusal_number why), buffer) ≡ contents_on f slave number buffer
   call-refused e = let (is, some) = survey-refused s e in sym (contents-refused f slave number buffer is some)
 
-  module _ (e : a ≡ Ok tt) where
+  module _ {u : Unit {0}} (e : a ≡ Ok u) where
     pub call_past : {n : ℕ} → n ≡ slave_count f → n ≤ slave → (done 0, buffer) ≡ contents_on f slave number buffer
     unfolding contents_in
     call_past is past = sym (none_read f slave number buffer (survey-accepted s e) (past_none number (decode f).slaves slave (omega (arith, is, past))))

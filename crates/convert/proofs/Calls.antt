@@ -110,7 +110,7 @@ module _ {f places : List ℕ} {a : Answered (Unit {0})} (s : Surveyed f (outcom
       let here : convert_ground f (edition_in e) out ≡ file_ground f = file_decides f (edition_in e) out (λ z. reason.1 (reason.0 ∙ z)) in
       sym (convert-refused f (edition_in e) out (here ∙ sym reason.0) reason.1)
 
-  module _ (accepted : a ≡ Ok tt) {v size : ℕ} (width : v ≡ width_in (edition_in e)) (long : size ≡ file_length v (decode f).slaves) where
+  module _ {u : Unit {0}} (accepted : a ≡ Ok u) {v size : ℕ} (width : v ≡ width_in (edition_in e)) (long : size ≡ file_length v (decode f).slaves) where
     length-is : size ≡ file_length (width_in (edition_in e)) (decode f).slaves
     length-is = long ∙ ap (λ (w : ℕ). file_length w (decode f).slaves) width
 

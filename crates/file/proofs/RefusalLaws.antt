@@ -1,7 +1,8 @@
--- Every refusal has a number.
+-- Every refusal has a number; the number of an answer, by its case.
 -- Assumes nothing.
-use Rattle.std.proofs.Common.{◌≡◌, ◌≤◌, arith}
-use Rattle.file.specs.Inner.Refusals.{refusal_number}
+use Rattle.std.proofs.Common.{◌≡◌, ◌≤◌, arith, Ok, Err}
+use Rattle.file.specs.Rules.Results.{number_in}
+use Rattle.file.specs.Inner.Refusals.{refusal_number, Answered, outcome_of}
 use Rattle.file.specs.declared.types.Refusal.{Refusal}
 use Rattle.file.specs.declared.types.Refusal.TheVariants as grounds
 
@@ -41,3 +42,15 @@ refusal_least grounds.Pattern = omega arith
 
 pub refusal_some : (why : Refusal) → refusal_number why ≡ 0 → ⊥
 refusal_some why none = omega (arith, refusal_least why)
+
+module _ {a : Answered (Unit {0})} where
+  pub ground_refuses : {why : Refusal} → a ≡ Err why → number_in (outcome_of a) ≡ refusal_number why
+  unfolding number_in outcome_of
+  ground_refuses e = rw e
+
+  pub ground_some : {why : Refusal} → a ≡ Err why → number_in (outcome_of a) ≡ 0 → ⊥
+  ground_some {why} e none = omega (arith, ground_refuses e, refusal_least why, none)
+
+  pub ground_none : {u : Unit {0}} → a ≡ Ok u → number_in (outcome_of a) ≡ 0
+  unfolding number_in outcome_of
+  ground_none e = rw e

@@ -232,7 +232,7 @@ step-placed state file answer text {places = places} placed small s =
     (step-moved {names = all_names} (position_of state.run) answer placed all-bytes small refl).placed
 
 -- what loading accepts the survey accepts, with the places
-pub load_accepted : (f : List ℕ) {a : Answered (Unit {0})} → outcome_of a ≡ load_verdict f → a ≡ Ok tt → load_ground f ≡ 0
+pub load_accepted : (f : List ℕ) {a : Answered (Unit {0})} → outcome_of a ≡ load_verdict f → {u : Unit {0}} → a ≡ Ok u → load_ground f ≡ 0
 unfolding outcome_of load_verdict
 load_accepted f is e = no_ground tt (load_ground f) (rw e at is)
 

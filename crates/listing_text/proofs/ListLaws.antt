@@ -289,7 +289,7 @@ module _
   pub one-step-refused : {w : Refusal} → r ≡ Err w → Room state (length text) →
       StateIs (list_step (state_of state f answer text)) text state.at state file new text
   unfolding stepped_of run_after
-  one-step-refused {w} is room = one-step-idle f answer text (idle-refused w.0) (rw (is, all) at e) room
+  one-step-refused {w} is room = one-step-idle f answer text (idle-refused (refusal_number w)) (rw (is, all) at e) room
 
   pub one-step-ended : r ≡ Ok None → Room state (length text) →
       StateIs (list_step (state_of state f answer text)) text state.at state file new text
@@ -452,11 +452,11 @@ in_front front old f e h = rw (e, h)
 
 pub listed-refused :
     (f : List ℕ) {old new : List ℕ} {a : Answered (Unit {0})} {w : Refusal} {r : ℕ} → outcome_of a ≡ load_verdict f → a ≡ Err w →
-    Puts (refused_line w.0) old 0 new r → (r, new, f) ≡ listed f old
+    Puts (refused_line (refusal_number w)) old 0 new r → (r, new, f) ≡ listed f old
 unfolding outcome_of load_verdict listed listing file_listed
 listed-refused f {old = old} {w = w} is e h =
-    let by = that_ground tt w.0 (load_ground f) (rw e at is) in
-    rw (← by.0, ne_eqb w.0 0 by.1) (in_front (refused_line w.0) old f (front_length h) (apart h))
+    let by = that_ground tt (refusal_number w) (load_ground f) (rw e at is) in
+    rw (← by.0, ne_eqb (refusal_number w) 0 by.1) (in_front (refused_line (refusal_number w)) old f (front_length h) (apart h))
 
 module _ (f : List ℕ) {old mid new answer file : List ℕ} {run : RunPosition} {done : ListProgress} {r : ℕ} (accepted : load_ground f ≡ 0)
     {names : List ℕ} (all : names ≡ all_names) (fresh-run : position_of run ≡ fresh names)

@@ -26,7 +26,7 @@ pub step_ready : {names buffer : List ℕ} {p : Position} {g : ℕ} → slots �
 step_ready long is fits runs = record { long = long; accepted = sym is ∙ fits; runs = runs }
 
 module _ (f : List ℕ) (p : Position) (names buffer : List ℕ) {a : Answered (Unit {0})} {places : List ℕ} (s : Surveyed f (outcome_of a) places) where
-  pub step-turned : {w : Refusal} → a ≡ Err w → (refused w.0, p, buffer, f) ≡ step_on f p names buffer
+  pub step-turned : {w : Refusal} → a ≡ Err w → (refused (refusal_number w), p, buffer, f) ≡ step_on f p names buffer
   unfolding step_ground
   step-turned {w} e =
       let by = survey-refused s e in

@@ -217,13 +217,13 @@ told : Progress → Result StepsDone × Position × List ℕ × List ℕ
 told t = (done (steps t.made t.senders), t.run, t.buffer, t.file)
 
 module _ (k : ℕ) (f : List ℕ) (p : Position) (names buffer : List ℕ) {a : Answered (Unit {0})} {places : List ℕ} (s : Surveyed f (outcome_of a) places) where
-  pub steps-turned : {w : Refusal} → a ≡ Err w → (refused w.0, p, buffer, f) ≡ steps_on k f p names buffer
+  pub steps-turned : {w : Refusal} → a ≡ Err w → (refused (refusal_number w), p, buffer, f) ≡ steps_on k f p names buffer
   unfolding step_ground
   steps-turned e =
       let by = survey-refused s e in
       steps-refused k f p names buffer (file_decides f buffer (run_grounds names p) (λ z. by.1 (by.0 ∙ z)) ∙ sym by.0) by.1
 
-  module _ (accepted : a ≡ Ok tt) where
+  module _ {u : Unit {0}} (accepted : a ≡ Ok u) where
     pub steps-short : length buffer < slots → (refused 9, p, buffer, f) ≡ steps_on k f p names buffer
     unfolding step_ground
     steps-short h = steps-refused k f p names buffer (buffer_decides f buffer (run_grounds names p) (survey-accepted s accepted) h) (λ z. omega arith)

@@ -109,7 +109,7 @@ module _ (master : ℕ) (buffer : List ℕ) {file places : List ℕ} {a : Answer
       let here : owner_ground file master buffer ≡ file_ground file = file_decides file master buffer (λ z. reason.1 (reason.0 ∙ z)) in
       sym (owner-refused file master buffer (λ z. reason.1 (reason.0 ∙ sym here ∙ z)) ∙ rw (here, reason.0))
 
-  module _ (accepted : a ≡ Ok tt) {head rows : List ℕ} {size : ℕ} {clash multiplexed : Bool} (h : RoundsWritten (decode file).slaves master rounds head rows size clash multiplexed) where
+  module _ {u : Unit {0}} (accepted : a ≡ Ok u) {head rows : List ℕ} {size : ℕ} {clash multiplexed : Bool} (h : RoundsWritten (decode file).slaves master rounds head rows size clash multiplexed) where
     pub call_multiplexed : multiplexed ≡ true → (refused 23, buffer) ≡ owner_on file master buffer
     call_multiplexed e =
         let here : owner_ground file master buffer ≡ 23 = multiplexed_decides file master buffer (survey-accepted s accepted) (sym (written_multiplexed h) ∙ e) in

@@ -111,7 +111,7 @@ module _ (state f buffer : List ℕ) where
         let by = survey-refused s e in
         refused_by (turn-file state f buffer (state_free state reason fits) (λ z. by.1 (by.0 ∙ z)) ∙ sym by.0) by.1
 
-    module _ (accepted : a ≡ Ok tt) where
+    module _ {u : Unit {0}} (accepted : a ≡ Ok u) where
       pub turn-short : length buffer < slots → (refused 9, state, buffer, f) ≡ turn_on state f buffer
       turn-short h = refused_by (turn-buffer state f buffer (state_free state reason fits) (survey-accepted s accepted) h) (λ z. omega arith)
 

@@ -22,7 +22,7 @@ module _ (file slice : List ℕ) {a : Answered (Unit {0})} {places : List ℕ} (
   pub fill-refused : {why : Refusal} → a ≡ Err why → (refused (refusal_number why), slice) ≡ fill_on file slice
   fill-refused e = let (is, some) = survey-refused s e in rw ((fillings_refused file slice).of_file (λ z. some (is ∙ z)), is)
 
-  module _ (e : a ≡ Ok tt) {count : ℕ} (is : count ≡ slave_count file) where
+  module _ {u : Unit {0}} (e : a ≡ Ok u) {count : ℕ} (is : count ≡ slave_count file) where
     pub fill-short : length slice < count → (refused 24, slice) ≡ fill_on file slice
     fill-short h =
         let short : length slice < length (decode file).slaves = omega arith in

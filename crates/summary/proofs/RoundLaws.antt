@@ -86,7 +86,7 @@ module _ (file frame buffer slice : List ℕ) (count : ℕ) where
         let (is, some) = survey-refused s e in
         turned ((rounds_in_order file (kept count slice) frame buffer).of_file (λ z. some (is ∙ z)) ∙ sym is) some
 
-    module _ (accepted : a ≡ Ok tt) {t : Bool} (test : t ≡ wrong_summary (kept count slice) (logical_names (decode file))) where
+    module _ {u : Unit {0}} (accepted : a ≡ Ok u) {t : Bool} (test : t ≡ wrong_summary (kept count slice) (logical_names (decode file))) where
       pub keeping_wrong : t ≡ true → (refused 24, buffer, file, kept count slice) ≡ round_keeping file (kept count slice) frame buffer
       unfolding round_keeping_ground
       keeping_wrong e = turned (given_wrong file _ _ (survey-accepted s accepted) (sym test ∙ e)) (λ z. omega arith)

@@ -28,8 +28,8 @@ use Rattle.summary.proofs.RoundLaws.{slice_carried, slice-refused}
 use Rattle.file.specs.Inner.Refusals.{Answered, refusal_number, outcome_of}
 use Rattle.std.specs.Prelude.{Ok, Err}
 
-abbrev Answered : Type 0
-Answered = Result StepDone × Position × List ℕ × List ℕ
+abbrev StepTold : Type 0
+StepTold = Result StepDone × Position × List ℕ × List ℕ
 
 -- the slice behind a step, by its answer
 slice-same : {A : Type 0} (answer : Result A) (file slice : List ℕ) → is_refused answer ≡ true → slice ≡ slice_after answer file slice
@@ -61,8 +61,8 @@ module _ (file : List ℕ) (p : Position) (names buffer slice : List ℕ) (count
       kept count (slice_after answer file' slice) ≡ kept_for (kept count slice) (names_of file')
   slice-stepped file' is none =
       by_case (eqb p.end running)
-      (λ t. slice_carried count file' slice (is ∙ ap (λ (r : Answered). r.0) (step-made file p names buffer none (eqb-true _ _ t))))
-      (λ f. slice_carried count file' slice (is ∙ ap (λ (r : Answered). r.0) (step-ended file p names buffer none (eqb-false _ _ f))))
+      (λ t. slice_carried count file' slice (is ∙ ap (λ (r : StepTold). r.0) (step-made file p names buffer none (eqb-true _ _ t))))
+      (λ f. slice_carried count file' slice (is ∙ ap (λ (r : StepTold). r.0) (step-ended file p names buffer none (eqb-false _ _ f))))
 
   module _ {a : Answered (Unit {0})} {places : List ℕ} (s : Surveyed file (outcome_of a) places) where
     pub stepping_refused : {why : Refusal} → a ≡ Err why → (refused (refusal_number why), p, buffer, file, kept count slice) ≡ step_keeping file p names (kept count slice) buffer
@@ -70,7 +70,7 @@ module _ (file : List ℕ) (p : Position) (names buffer slice : List ℕ) (count
         let (is, some) = survey-refused s e in
         turned (file-step file p names (kept count slice) buffer (λ z. some (is ∙ z)) ∙ sym is) some
 
-    module _ (accepted : a ≡ Ok tt) {t : Bool} (test : t ≡ wrong_summary (kept count slice) (logical_names (decode file))) where
+    module _ {u : Unit {0}} (accepted : a ≡ Ok u) {t : Bool} (test : t ≡ wrong_summary (kept count slice) (logical_names (decode file))) where
       pub stepping_wrong : t ≡ true → (refused 24, p, buffer, file, kept count slice) ≡ step_keeping file p names (kept count slice) buffer
       unfolding step_keeping_ground
       stepping_wrong e = turned (given_wrong file _ _ (survey-accepted s accepted) (sym test ∙ e)) (λ z. omega arith)
@@ -89,12 +89,12 @@ module _ (file : List ℕ) (p : Position) (names buffer slice : List ℕ) (count
             by_case (eqb (step_ground file p names buffer) 0)
             (λ e.
             let none : step_ground file p names buffer ≡ 0 = eqb-true _ _ e in
-            rw (slice-stepped file' (ap (λ (r : Answered). r.0) is) none, step-keeping-accepted file p names (kept count slice) buffer (ground_same ∙ none), ← is))
+            rw (slice-stepped file' (ap (λ (r : StepTold). r.0) is) none, step-keeping-accepted file p names (kept count slice) buffer (ground_same ∙ none), ← is))
             (λ e.
             let some : step_ground file p names buffer ≢ 0 = eqb-false _ _ e in
-            let told : ◌≡◌ {A = Answered} (answer, p', buffer', file') (refused (step_ground file p names buffer), p, buffer, file) = is ∙ step-refused file p names buffer some in
-            rw (slice-refused file' slice (ap (λ (r : Answered). r.0) told))
-            (ap (λ (r : Answered). (r.0, r.1, r.2, r.3, kept count slice)) told ∙ turned ground_same some))
+            let told : ◌≡◌ {A = StepTold} (answer, p', buffer', file') (refused (step_ground file p names buffer), p, buffer, file) = is ∙ step-refused file p names buffer some in
+            rw (slice-refused file' slice (ap (λ (r : StepTold). r.0) told))
+            (ap (λ (r : StepTold). (r.0, r.1, r.2, r.3, kept count slice)) told ∙ turned ground_same some))
 
         pub stepping-kept :
             {answer : Result StepDone} {p' : Position} {buffer' file' slice' : List ℕ} → StepKept file p names buffer slice answer p' buffer' file' slice' →

@@ -78,7 +78,7 @@ module _ (t : List ℕ) {file places : List ℕ} {a : Answered (Unit {0})} (s : 
       let here : trace_ground file t ≡ file_ground file = file_decides file t (λ z. reason.1 (reason.0 ∙ z)) in
       sym (trace-refused file t (λ z. reason.1 (reason.0 ∙ sym here ∙ z)) ∙ rw (here, reason.0))
 
-  module _ (accepted : a ≡ Ok tt) {broken : Bool} (is : broken ≡ broken_trace t) where
+  module _ {u : Unit {0}} (accepted : a ≡ Ok u) {broken : Bool} (is : broken ≡ broken_trace t) where
     pub call-broken : broken ≡ true → (refused 19, file) ≡ trace_on file t
     call-broken e =
         let here : trace_ground file t ≡ 19 = layout_decides file t (survey-accepted s accepted) (sym is ∙ e) in
