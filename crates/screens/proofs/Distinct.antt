@@ -1,20 +1,14 @@
 -- Answers are told apart: no two of one type are taken to the same, since the maps of `specs/Inner/ScreenAnswers.antt` can be undone.
 -- Assumes nothing.
-use Prim.Native.Nat.{ℕ}
-use mathlib.Core.Path.{◌≡◌, refl, sym, ◌∙◌, ap}
-use mathlib.Core.Bool.{Bool, true, false}
-use Rattle.std.proofs.Common.{Option, None, Some}
+use Rattle.std.proofs.Common.{ℕ, ◌≡◌, refl, sym, ◌∙◌, ap, Bool, true, false, Ok, Err, Option, Some, None}
 use Rattle.file.specs.Rules.Results.{Result, refused, done}
+use Rattle.file.specs.Inner.Refusals.{Answered}
 use Rattle.file.proofs.Order.{clash}
+use Rattle.file.proofs.Distinct.{refusal_in, refusal_back}
 use Rattle.cluster.specs.Rules.Round.{Answer}
 use Rattle.screens.specs.Rules.Screens.{Due, nobody, screen}
 use Rattle.screens.specs.Rules.Turn.{Turn, idle, served, served_by}
 use Rattle.screens.specs.Inner.ScreenAnswers.{due_of, turned_of}
-use Rattle.file.specs.Inner.Refusals.{Answered, refusal_number, outcome_of}
-use Rattle.std.specs.Prelude.{Ok, Err, Option, Some, None}
-use Rattle.file.proofs.Distinct.{refusal_in, refusal_back}
-use Rattle.file.specs.Inner.Refusals.{Answered, refusal_number}
-use Rattle.std.specs.Prelude.{Ok, Err, Option, Some, None}
 use Rattle.screens.specs.declared.turn.Served.{Served}
 
 looking : Due → Option ℕ
@@ -26,9 +20,9 @@ unfolding looking due_of
 looking_back None = refl
 looking_back (Some i) = refl
 
-turning : Result Turn → (Answered (Option Served))
+turning : Result Turn → Answered (Option Served)
 turning (refused n) = Err (refusal_in n)
-turning (done idle) = (Ok None)
+turning (done idle) = Ok None
 turning (done (served i mask)) = Ok (Some (record { screen = i; senders = mask }))
 
 turning_back : (a : Answered (Option Served)) → turning (turned_of a) ≡ a

@@ -1,11 +1,8 @@
 -- The code's answers in the terms of the rules. No two of one type are taken to the same.
 use Rattle.std.specs.Prelude.{ℕ, Ok, Err, Option, Some, None}
 use Rattle.file.specs.Rules.Results.{Result, refused, done}
-use Rattle.std.specs.Prelude.{ℕ, Option, None, Some}
-use Rattle.screens.specs.declared.post.Posted.{Posted}
-use Rattle.screens.specs.declared.post.Posted.TheVariants as posts
-use Rattle.screens.specs.declared.turn.Turned.{Turned}
-use Rattle.screens.specs.declared.turn.Turned.TheVariants as turns
+use Rattle.file.specs.Inner.Refusals.{Answered, refusal_number}
+use Rattle.screens.specs.declared.turn.Served.{Served}
 use Rattle.screens.specs.Rules.Screens.{Due, nobody, screen}
 use Rattle.screens.specs.Rules.Turn.{Turn, idle, served}
 

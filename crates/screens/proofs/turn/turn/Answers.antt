@@ -27,7 +27,7 @@ returns-in_err-due_ground c =
 pub returns-in_err-survey : goal.returns-in_err-survey
 unfolding turned_of
 returns-in_err-survey c =
-    let e : c.from_residual-2.result ≡ Err c.in_err-survey.field-0.0 = search rules in
+    let e : c.from_residual-in_err-survey.result ≡ Err c.in_err-survey.field-0.0 = search rules in
     rw e (turn_unaccepted _ _ _ c.due_ground.ensures (ground_none c.in_ok-due_ground.was) c.survey.ensures c.in_err-survey.was)
 
 pub returns-then-buffer-lt-SLOTS : goal.returns-then-buffer-lt-SLOTS
