@@ -38,6 +38,7 @@ use Rattle.cluster.proofs.RoundNumbers.{multipartner-low}
 use Rattle.cluster.proofs.RoundCall.{file-refused, buffer-refused, exchanged-round}
 use Rattle.file.specs.Inner.Refusals.{Answered, refusal_number, outcome_of}
 use Rattle.std.specs.Prelude.{Ok, Err}
+use Rattle.std.specs.Prelude.{Option, Some, None}
 
 -- ---- the firework of a frame
 
@@ -51,33 +52,33 @@ unfolding round_by_lem
 empty_opens [] z = refl
 empty_opens (b ∷ bs) z = absurd (omega arith)
 
-pub byte-opens : (frame : List ℕ) (w : Firework) → (length frame ≡ 0 → ⊥) → firework_round w ≡ round_of (get_or frame 0 0) → firework_round w ≡ round_by_lem frame
+pub byte-opens : (frame : List ℕ) (w : Option Firework) → (length frame ≡ 0 → ⊥) → firework_round w ≡ round_of (get_or frame 0 0) → firework_round w ≡ round_by_lem frame
 byte-opens frame w some e = e ∙ sym (round_by frame some)
 
 no_round_ground : (c : Cluster) (frame : List ℕ) → round_by_lem frame ≡ Round.no_round → 10 ≡ frame_ground c frame
 unfolding frame_ground grounds_on first_of no_firework
 no_round_ground c frame e = rw e
 
-module _ (frame : List ℕ) (w : Firework) (is : firework_round w ≡ round_by_lem frame) where
-  pub no_ground_ten : (c : Cluster) → w ≡ fireworks.None → 10 ≡ frame_ground c frame
+module _ (frame : List ℕ) (w : Option Firework) (is : firework_round w ≡ round_by_lem frame) where
+  pub no_ground_ten : (c : Cluster) → w ≡ None → 10 ≡ frame_ground c frame
   unfolding firework_round
   no_ground_ten c e = no_round_ground c frame (sym (rw e at is))
 
-  pub frame-none : (c : Cluster) (buffer : List ℕ) {f : List ℕ} → w ≡ fireworks.None → Becomes f c → Exchanged c frame buffer buffer (refused 10) f
+  pub frame-none : (c : Cluster) (buffer : List ℕ) {f : List ℕ} → w ≡ None → Becomes f c → Exchanged c frame buffer buffer (refused 10) f
   frame-none c buffer e h = exchange-refused c frame buffer h (no_ground_ten c e) (λ z. omega arith)
 
-  pub frame-address : w ≡ fireworks.Address → round_by_lem frame ≡ msa
+  pub frame-address : {opened : Firework} → w ≡ Some opened → opened ≡ fireworks.Address → round_by_lem frame ≡ msa
   unfolding firework_round
-  frame-address e = sym (rw e at is)
+  frame-address e k = sym (rw (e, k) at is)
 
-  pub frame-data : w ≡ fireworks.Data → round_by_lem frame ≡ msd
+  pub frame-data : {opened : Firework} → w ≡ Some opened → opened ≡ fireworks.Data → round_by_lem frame ≡ msd
   unfolding firework_round
-  frame-data e = sym (rw e at is)
+  frame-data e k = sym (rw (e, k) at is)
 
-  module _ {r : ℕ} (e : w ≡ fireworks.Multipartner r) where
+  module _ {opened : Firework} (e : w ≡ Some opened) {r : ℕ} (k : opened ≡ fireworks.Multipartner r) where
     pub round_is : round_by_lem frame ≡ multipartner r
     unfolding firework_round
-    round_is = sym (rw e at is)
+    round_is = sym (rw (e, k) at is)
 
     pub round-low : r < 0x10
     round-low = multipartner-low (get_or frame 0 0) (first-of frame (multipartner r) never_multipartner round_is)
@@ -100,8 +101,8 @@ module _ (frame : List ℕ) (w : Firework) (is : firework_round w ≡ round_by_l
     pub frame-carried :
         (c : Cluster) (old : List ℕ) {new : List ℕ} {mask : ℕ} {f : List ℕ} → length frame ≡ firework_size →
         Carried (multipartner_effect c r) (get_or frame 0 0) old new mask f → Exchanged c frame old new (done mask) f
-    frame-carried c old {new} {mask} {f} one k =
-        exchange-carried c frame old (ground_none c one) (subst (λ (x : Effect). Carried x (get_or frame 0 0) old new mask f) (sym (frame_effect c)) k)
+    frame-carried c old {new} {mask} {f} one carried =
+        exchange-carried c frame old (ground_none c one) (subst (λ (x : Effect). Carried x (get_or frame 0 0) old new mask f) (sym (frame_effect c)) carried)
 
 -- ---- the call from outside, by the answer of the survey
 

@@ -43,6 +43,7 @@ use Rattle.cluster.proofs.Sleep.{rested-awake, address_same, multipartner-awake}
 use Rattle.cluster.proofs.FrameCall.{no_ground_ten, round_is, ground_eleven, ground_none, frame_effect}
 use Rattle.file.specs.Inner.Refusals.{Answered, refusal_number}
 use Rattle.std.specs.Prelude.{Ok, Err}
+use Rattle.std.specs.Prelude.{Option, Some, None}
 
 -- ---- the data part
 
@@ -154,15 +155,15 @@ unheard-address c frame is k test may =
       };
     }
 
-module _ (c : Cluster) (frame : List ℕ) (w : Firework) (is : firework_round w ≡ round_by_lem frame) {f : List ℕ} where
-  pub unheard_none : {sleepers : Bool} → Becomes f c → w ≡ fireworks.None → MaySleep sleepers c → LeftUnheard c frame false sleepers f
+module _ (c : Cluster) (frame : List ℕ) (w : Option Firework) (is : firework_round w ≡ round_by_lem frame) {f : List ℕ} where
+  pub unheard_none : {sleepers : Bool} → Becomes f c → w ≡ None → MaySleep sleepers c → LeftUnheard c frame false sleepers f
   unheard_none h e may = left-refused c frame h (no_ground_ten frame w is c e) (λ z. omega arith) may
 
-  module _ {r : ℕ} (e : w ≡ fireworks.Multipartner r) where
+  module _ {opened : Firework} (e : w ≡ Some opened) {r : ℕ} (k : opened ≡ fireworks.Multipartner r) where
     pub unheard_long : {sleepers : Bool} → Becomes f c → (length frame ≡ firework_size → ⊥) → MaySleep sleepers c → LeftUnheard c frame false sleepers f
-    unheard_long h other may = left-refused c frame h (ground_eleven frame w is e c other) (λ z. omega arith) may
+    unheard_long h other may = left-refused c frame h (ground_eleven frame w is e k c other) (λ z. omega arith) may
 
     pub unheard_multipartner : {firework : ℕ} {old new : List ℕ} {mask : ℕ} → length frame ≡ firework_size → Carried (multipartner_effect c r) firework old new mask f → LeftUnheard c frame true false f
-    unheard_multipartner one k =
-        left-done c frame (ground_none frame w is e c one)
-        (record { becomes = subst (λ (y : Effect). Becomes f y.after) (sym (frame_effect frame w is e c)) k.becomes; awake = λ _. multipartner-awake c frame (round_is frame w is e) })
+    unheard_multipartner one carried =
+        left-done c frame (ground_none frame w is e k c one)
+        (record { becomes = subst (λ (y : Effect). Becomes f y.after) (sym (frame_effect frame w is e k c)) carried.becomes; awake = λ _. multipartner-awake c frame (round_is frame w is e k) })

@@ -40,12 +40,13 @@ pub fn one_frame(
     requires { Placed file.old places.now × (slots ≤ length buffer.old) }
     ensures { Exchanged (decode file.old) frame.now buffer.old buffer.new (outcome_of result) file.new }
 {
-    let firework = firework_in(frame);
+    let Some(firework) = firework_in(frame) else {
+        return Err(Refusal::Firework);
+    };
     match firework {
-        None => Err(Refusal::Firework),
-        Some(Firework::Address) => take_address(file, frame, buffer),
-        Some(Firework::Data) => take_data(file, places, frame, buffer),
-        Some(Firework::Multipartner(round)) => {
+        Firework::Address => take_address(file, frame, buffer),
+        Firework::Data => take_data(file, places, frame, buffer),
+        Firework::Multipartner(round) => {
             if frame.len() != FIREWORK_SIZE {
                 return Err(Refusal::FrameLength);
             }
@@ -73,20 +74,22 @@ pub fn one_unheard(
     requires { Placed file.old places.now × (firework_round firework ≡ round_by_lem frame.now) × (slots ≤ length buffer.old) × MaySleep sleepers (decode file.old) }
     ensures { LeftUnheard (decode file.old) frame.now result.carried result.sleepers file.new }
 {
-    match firework {
-        None => Unheard {
+    let Some(opened) = firework else {
+        return Unheard {
             carried: false,
             sleepers,
-        },
-        Some(Firework::Address) => {
+        };
+    };
+    match opened {
+        Firework::Address => {
             let answer = pend_address(file, frame);
             Unheard {
                 carried: is_carried(answer),
                 sleepers,
             }
         }
-        Some(Firework::Data) => take_unheard(file, places, frame, buffer, sleepers),
-        Some(Firework::Multipartner(round)) => {
+        Firework::Data => take_unheard(file, places, frame, buffer, sleepers),
+        Firework::Multipartner(round) => {
             if frame.len() != FIREWORK_SIZE {
                 return Unheard {
                     carried: false,

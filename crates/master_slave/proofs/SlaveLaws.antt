@@ -1,5 +1,6 @@
 -- One slave's part in the data part of a master-slave round: one law for each way out of a function.
 -- Assumes nothing.
+use Rattle.std.specs.Option.{is_some}
 use Prim.Native.Nat.{ℕ, suc, ◌+◌, ◌*◌, ◌≤◌, ◌<◌}
 use native.Mathlib.Omega.{arith}
 use mathlib.Core.Path.{◌≡◌, refl, sym, ap, ◌∙◌, subst}
@@ -356,11 +357,15 @@ module _ (c : Cluster) (s name : ℕ) {own : ℕ} {t up : Bool} (wakes : up ≡ 
   sleep_unaddressed no' = sym (falls ∙ both_false_left (has_record (slave_of c s) configuration sleep_record) (sym test ∙ not-true t no'))
 
   module _ {x : Option ℕ} (e : found_record x ≡ find_record c s configuration sleep_record) where
-    pub sleep_missing : x ≡ None → false ≡ falls_asleep (sleeping name) (slave_of c s)
+    sleep_missing : x ≡ None → false ≡ falls_asleep (sleeping name) (slave_of c s)
     sleep_missing is = sym (falls ∙ both_false_right (addresses name own) (missing_facts c s configuration sleep_record e is))
 
-    pub sleep_falls : not t ≡ false → {place : ℕ} → x ≡ Some place → true ≡ falls_asleep (sleeping name) (slave_of c s)
+    sleep_falls : not t ≡ false → {place : ℕ} → x ≡ Some place → true ≡ falls_asleep (sleeping name) (slave_of c s)
     sleep_falls yes' is = sym (falls ∙ both_true (sym test ∙ not-false t yes') (found_facts c s configuration sleep_record e is).has)
+
+  pub sleep_found : (x : Option ℕ) → found_record x ≡ find_record c s configuration sleep_record → not t ≡ false → is_some x ≡ falls_asleep (sleeping name) (slave_of c s)
+  sleep_found (Some place) e yes' = sleep_falls e yes' refl
+  sleep_found None e yes' = sleep_missing e refl
 
 -- the sleep byte set by it
 put-rested : (c : Cluster) (s b : ℕ) (o : Duty) → cond (falls_asleep o (slave_of c s)) 1 0 ≡ b → put_sleep c s b ≡ with_slave c s (rests_after o (slave_of c s))

@@ -106,7 +106,7 @@ module _ (state f buffer : List ℕ) where
 
   module _ {g : ℕ} (reason : g ≡ first_of (state_grounds state)) (fits : g ≡ 0) {a : Answered (Unit {0})} {places : List ℕ}
       (s : Surveyed f (outcome_of a) places) where
-    pub turn_unaccepted : {w : Refusal} → a ≡ Err w → (refused w.0, state, buffer, f) ≡ turn_on state f buffer
+    pub turn_unaccepted : {w : Refusal} → a ≡ Err w → (refused (refusal_number w), state, buffer, f) ≡ turn_on state f buffer
     turn_unaccepted e =
         let by = survey-refused s e in
         refused_by (turn-file state f buffer (state_free state reason fits) (λ z. by.1 (by.0 ∙ z)) ∙ sym by.0) by.1

@@ -27,6 +27,7 @@ use Rattle.trace.specs.Rules.TraceRun.{sent, after_frames, Report, no_frames, su
 use Rattle.trace.specs.Inner.Sent.{FewFrames, FrameSent, TraceSent}
 use Rattle.trace.proofs.Facts.{row_here, row_rest, rows_end, TraceFacts, trace_facts}
 use Rattle.trace.proofs.Runs.{counted-sum}
+use Rattle.std.specs.Prelude.{Option}
 
 -- ---- one frame
 
@@ -37,7 +38,7 @@ counted-answer c frame round r = by_case (eqb (frame_ground c frame) 0) (λ e. r
 
 -- what it leaves is what it leaves where a buffer of 64 bytes is lent
 pub frame-sent :
-    {file places frame file' : List ℕ} (w : Firework) {carried sleepers : Bool} {r r' : Report}
+    {file places frame file' : List ℕ} (w : Option Firework) {carried sleepers : Bool} {r r' : Report}
     → Placed file places
     → ((k : ℕ) → Fits w8 (get_or frame k 0))
     → firework_round w ≡ round_by_lem frame

@@ -38,17 +38,19 @@ fn one_carried(report: Report, firework: Option<Firework>) -> Report
     requires { FewFrames (report_in report) }
     ensures { report_in result ≡ one_carried (firework_round firework) (report_in report) }
 {
-    match firework {
-        None => one_refused(report),
-        Some(Firework::Address) => Report {
+    let Some(opened) = firework else {
+        return one_refused(report);
+    };
+    match opened {
+        Firework::Address => Report {
             msa: report.msa + 1,
             ..report
         },
-        Some(Firework::Data) => Report {
+        Firework::Data => Report {
             msd: report.msd + 1,
             ..report
         },
-        Some(Firework::Multipartner(_)) => Report {
+        Firework::Multipartner(_) => Report {
             multipartner: report.multipartner + 1,
             ..report
         },

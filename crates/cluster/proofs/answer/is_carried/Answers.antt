@@ -1,14 +1,15 @@
 -- `cluster::answer::is_carried` meets its contract: by cases.
 -- Assumes nothing.
 use Rattle.cluster.specs.Inner.Unheard.{is_done}
-use Rattle.std.proofs.Common.{rules}
+use Rattle.std.proofs.Common.{ℕ, ◌≡◌, refl, Ok, Err, rules}
+use Rattle.std.specs.Result.{is_ok}
+use Rattle.file.specs.Inner.Refusals.{Answered, outcome_of}
 use Rattle.cluster.proofs.answer.is_carried.Goals as goal
-use Rattle.file.specs.Inner.Refusals.{refusal_number, outcome_of}
 
-pub returns-in-Refused : goal.returns-in-Refused
-unfolding is_done outcome_of refusal_number
-returns-in-Refused c = search rules
+by_case : (a : Answered ℕ) → is_ok a ≡ is_done (outcome_of a)
+unfolding is_done outcome_of
+by_case (Ok mask) = refl
+by_case (Err why) = refl
 
-pub returns-in-Carried : goal.returns-in-Carried
-unfolding is_done outcome_of refusal_number
-returns-in-Carried c = search rules
+pub returns : goal.returns
+returns c = search (rules, by_case)

@@ -13,15 +13,17 @@ take_data-requires c = search (rules, frame-data)
 
 pub returns-then-frame-ne-FIREWORK_SIZE : goal.returns-then-frame-ne-FIREWORK_SIZE
 unfolding outcome_of refusal_number
-returns-then-frame-ne-FIREWORK_SIZE c = search (rules, frame-long)
+returns-then-frame-ne-FIREWORK_SIZE c =
+    frame-long _ _ c.firework_in.ensures c.in-Some.is c.in-Multipartner.is _ _ c.requires.0.file c.if-frame-ne-FIREWORK_SIZE.true
 
 pub carry_multipartner-requires : goal.carry_multipartner-requires
 carry_multipartner-requires c = search (rules, round-low)
 
-pub returns-in-None : goal.returns-in-None
+pub returns-in_default : goal.returns-in_default
 unfolding outcome_of refusal_number
-returns-in-None c = search (rules, frame-none)
+returns-in_default c = search (rules, frame-none)
 
 pub returns-else-frame-ne-FIREWORK_SIZE : goal.returns-else-frame-ne-FIREWORK_SIZE
 unfolding outcome_of refusal_number
-returns-else-frame-ne-FIREWORK_SIZE c = search (rules, frame-carried)
+returns-else-frame-ne-FIREWORK_SIZE c =
+    frame-carried _ _ c.firework_in.ensures c.in-Some.is c.in-Multipartner.is _ _ c.if-frame-ne-FIREWORK_SIZE.false c.carry_multipartner.ensures

@@ -8,7 +8,7 @@ use Rattle.file.proofs.SurveyLaws.{header_good, refused_by_header, refused_by_la
 use Rattle.file.proofs.survey.survey.Goals as goal
 
 pub returns-in_err-header_ground : goal.returns-in_err-header_ground
-unfolding outcome_of
+unfolding outcome_of refusal_number
 returns-in_err-header_ground c =
     let e : c.from_residual.result ≡ Err c.in_err-header_ground.field-0.0 = search rules in
     rw e (refused_by_header c.width_of-width.ensures _ c.header_ground.ensures c.in_err-header_ground.was)

@@ -19,12 +19,12 @@ unfolding outcome_of refusal_number
 returns-then-is_broadcast_read c = search (address_14, long)
 
 pub returns-then-lt : goal.returns-then-lt
-unfolding outcome_of
+unfolding outcome_of refusal_number
 returns-then-lt c = search (address_18, long, file-high, past-last)
 
 pub pb2_of-pb2-requires : goal.pb2_of-pb2-requires
 pb2_of-pb2-requires c = search (rules, joined-byte, upto-last)
 
 pub returns : goal.returns
-unfolding outcome_of
+unfolding outcome_of refusal_number
 returns c = search (address-written, long, file-fits, upto-last)

@@ -1,6 +1,6 @@
 -- `master_slave::slaves::falls_asleep` meets its contract: a law for each way.
 -- Assumes nothing.
-use Rattle.master_slave.proofs.SlaveLaws.{sleep_asleep, sleep_unaddressed, sleep_missing, sleep_falls}
+use Rattle.master_slave.proofs.SlaveLaws.{sleep_asleep, sleep_unaddressed, sleep_found}
 use Rattle.std.proofs.Common.{rules}
 use Rattle.master_slave.proofs.slaves.falls_asleep.Goals as goal
 
@@ -10,8 +10,5 @@ returns-then-not-is_awake c = search (rules, sleep_asleep)
 pub returns-then-not-is_addressed : goal.returns-then-not-is_addressed
 returns-then-not-is_addressed c = search (rules, sleep_unaddressed)
 
-pub returns-in-At : goal.returns-in-At
-returns-in-At c = search (rules, sleep_falls)
-
-pub returns-in-NoRecord : goal.returns-in-NoRecord
-returns-in-NoRecord c = search (rules, sleep_missing)
+pub returns : goal.returns
+returns c = search (rules, sleep_found)

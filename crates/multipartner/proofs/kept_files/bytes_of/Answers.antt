@@ -7,5 +7,5 @@ use Rattle.multipartner.proofs.kept_files.bytes_of.Goals as goal
 pub returns-in-None : goal.returns-in-None
 returns-in-None c = search (rules, file-none)
 
-pub returns : goal.returns
-returns c = search (rules, file-there)
+pub returns-in-Some : goal.returns-in-Some
+returns-in-Some c = search (rules, file-there)

@@ -15,9 +15,9 @@ pub mark_served-requires : goal.mark_served-requires
 mark_served-requires c = search serve-few
 
 pub returns-in-None : goal.returns-in-None
-unfolding turned_of
+unfolding turned_of refusal_number
 returns-in-None c = search serve-idle
 
 pub returns-in-Some : goal.returns-in-Some
-unfolding turned_of
+unfolding turned_of refusal_number
 returns-in-Some c = search serve-done

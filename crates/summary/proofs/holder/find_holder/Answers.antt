@@ -14,7 +14,7 @@ pub loop-place-init : goal.loop-place-init
 loop-place-init c = search (rules, asking_start)
 
 pub returns-then-eq : goal.returns-then-eq
-unfolding holder_of
+unfolding holder_of refusal_number
 returns-then-eq c = search (rules, asking_here)
 
 pub loop-place-preserved : goal.loop-place-preserved

@@ -5,17 +5,17 @@ use Rattle.trace.proofs.ReportLaws.{carried_none, carried_address, carried_data,
 use Rattle.std.proofs.Common.{rules}
 use Rattle.trace.proofs.report.one_carried.Goals as goal
 
-pub returns-in-None : goal.returns-in-None
-returns-in-None c = search (rules, carried_none)
+pub returns-in_default : goal.returns-in_default
+returns-in_default c = search (rules, carried_none)
 
-pub returns-in-Some-Address : goal.returns-in-Some-Address
+pub returns-in-Address : goal.returns-in-Address
 unfolding one_carried
-returns-in-Some-Address c = search (rules, carried_address)
+returns-in-Address c = search (rules, carried_address)
 
-pub returns-in-Some-Data : goal.returns-in-Some-Data
+pub returns-in-Data : goal.returns-in-Data
 unfolding one_carried
-returns-in-Some-Data c = search (rules, carried_data)
+returns-in-Data c = search (rules, carried_data)
 
-pub returns-in-Some-Multipartner : goal.returns-in-Some-Multipartner
+pub returns-in-Multipartner : goal.returns-in-Multipartner
 unfolding one_carried
-returns-in-Some-Multipartner c = search (rules, carried_multipartner)
+returns-in-Multipartner c = search (rules, carried_multipartner)
