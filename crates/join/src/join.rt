@@ -59,7 +59,12 @@ fn join_both(
 }
 
 // The first file is accepted: the grounds of the second, or the answer to two accepted files.
-fn join_second(first: &[u8], first_places: &SlavePlaces, second: &[u8], out: &mut [u8]) -> Result<usize, Refusal>
+fn join_second(
+    first: &[u8],
+    first_places: &SlavePlaces,
+    second: &[u8],
+    out: &mut [u8],
+) -> Result<usize, Refusal>
     requires { Placed first.now first_places.now }
     ensures { (outcome_of result, out.new) ≡ join_on first.now second.now out.old }
 {

@@ -6,7 +6,7 @@ use Rattle.line.specs.declared.pattern.PatternClass.{PatternClass}
 use Rattle.line.specs.declared.pattern.PatternClass.TheVariants as classes
 use Rattle.line.specs.Rules.Patterns.{PatternClass as Class, data_byte, firework, broken}
 use Rattle.line.specs.Inner.LineAnswers.{class_in, read_of}
-use Rattle.file.specs.Inner.Refusals.{Answered, refusal_number}
+use Rattle.file.specs.Inner.Refusals.{Answered}
 use Rattle.std.specs.Prelude.{Ok, Err}
 use Rattle.file.proofs.Distinct.{refusal_in, refusal_back}
 
@@ -15,7 +15,7 @@ class data_byte = classes.DataByte
 class firework = classes.Firework
 class broken = classes.Broken
 
-answer : Result Class → (Answered PatternClass)
+answer : Result Class → Answered PatternClass
 answer (refused n) = Err (refusal_in n)
 answer (done c) = Ok (class c)
 

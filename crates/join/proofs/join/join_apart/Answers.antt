@@ -1,9 +1,9 @@
 -- `join::join::join_apart` meets its contract: a law for each way.
 -- Assumes nothing.
+use Rattle.file.specs.Inner.Refusals.{refusal_number, outcome_of}
 use Rattle.join.proofs.JoinLaws.{sum_fits, header-below, call_over, call-short, call_fits, call-written}
 use Rattle.std.proofs.Common.{rules}
 use Rattle.join.proofs.join.join_apart.Goals as goal
-use Rattle.file.specs.Inner.Refusals.{refusal_number, outcome_of}
 
 pub overflow_add-size : goal.overflow_add-size
 overflow_add-size c = search (rules, sum_fits)
@@ -28,5 +28,5 @@ write_joined-requires c = (
 )
 
 pub returns : goal.returns
-unfolding outcome_of refusal_number
+unfolding outcome_of
 returns c = search (rules, call-written)
