@@ -9,7 +9,7 @@ use Rattle.naming.specs.Rules.Steps.{StepsDone, StepsDone.steps as several}
 use Rattle.naming.specs.Inner.StepAnswers.{started_of, stepped_of, run_after}
 use Rattle.naming.specs.Inner.Steps.{steps_of, run_then}
 use Rattle.naming.specs.declared.position.RunPosition.{RunPosition}
-use Rattle.file.specs.Inner.Refusals.{Answered, refusal_number}
+use Rattle.file.specs.Inner.Refusals.{Answered}
 use Rattle.std.specs.Prelude.{Ok, Err, Option, None}
 use Rattle.file.proofs.Distinct.{refusal_in, refusal_back}
 use Rattle.naming.specs.declared.run.MadeStep.{MadeStep}
@@ -46,7 +46,7 @@ stepped-back : (p : Position) (a : Answered (Option MadeStep)) → stepped (step
 unfolding stepped stepped_of run_after run
 stepped-back p (Err why) = ap Err (refusal_back why)
 stepped-back p (Ok None) = refl
-stepped-back p (Ok (Some made)) = refl
+stepped-back p (Ok (Some step)) = refl
 
 pub steps_distinct : (p : Position) (a b : Answered (Option MadeStep)) → stepped_of a ≡ stepped_of b → run_after p a ≡ run_after p b → a ≡ b
 steps_distinct p a b h g = sym (stepped-back p a) ∙ (alike ∙ stepped-back p b)

@@ -125,7 +125,12 @@ pub fn step_on(
 }
 
 // One step: the file is checked once, and its round is carried out on it.
-pub fn step(file: &mut [u8], run: RunPosition, names: &[u8], answer: &mut [u8]) -> Result<Option<MadeStep>, Refusal>
+pub fn step(
+    file: &mut [u8],
+    run: RunPosition,
+    names: &[u8],
+    answer: &mut [u8],
+) -> Result<Option<MadeStep>, Refusal>
     ensures { (stepped_of result, run_after (position_of run) result, answer.new, file.new) ≡ step_on file.old (position_of run) names.now answer.old }
 {
     let mut places = [0u16; PLACES];

@@ -86,7 +86,5 @@ pub fn steps(
         return Err(Refusal::Buffer);
     }
     run_ground(names, run)?;
-    Ok(make_steps(
-        file, &places, run, names, answer, most, NO_STEP,
-    ))
+    Ok(make_steps(file, &places, run, names, answer, most, NO_STEP))
 }

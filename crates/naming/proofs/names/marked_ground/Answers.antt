@@ -1,6 +1,8 @@
 -- `naming::names::marked_ground` meets its contract: the marks are those of the names from the place on.
 -- Assumes nothing.
 use Rattle.std.proofs.Common.{◌-◌, arith, rules}
+use Rattle.file.specs.Rules.Results.{number_in}
+use Rattle.file.specs.Inner.Refusals.{outcome_of, refusal_number}
 use Rattle.naming.proofs.NameLaws.{listed_start, listed_again, listed-new, listed-broadcast, listed-unnamed, listed-twice, listed-fit}
 use Rattle.naming.proofs.names.marked_ground.Goals as goal
 use Rattle.naming.proofs.names.marked_ground.Goals.{then-seen-mark, else-seen-mark}
@@ -30,13 +32,17 @@ loop-i-preserved c =
     ]
 
 pub returns-then-seen : goal.returns-then-seen
+unfolding number_in outcome_of refusal_number
 returns-then-seen c = search (rules, listed-broadcast)
 
 pub returns-then-seen-2 : goal.returns-then-seen-2
+unfolding number_in outcome_of refusal_number
 returns-then-seen-2 c = search (rules, listed-unnamed)
 
 pub returns-then-twice : goal.returns-then-twice
+unfolding number_in outcome_of refusal_number
 returns-then-twice c = search (rules, listed-twice)
 
 pub returns : goal.returns
+unfolding number_in outcome_of refusal_number
 returns c = search (rules, listed-fit)
