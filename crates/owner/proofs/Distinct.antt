@@ -1,7 +1,6 @@
 -- No two answers of the owner writer are taken to the same: the map of `specs/Inner/OwnerAnswers.antt` can be undone.
 -- Assumes nothing.
-use Prim.Native.Nat.{ℕ}
-use mathlib.Core.Path.{◌≡◌, refl, sym, ◌∙◌, ap}
+use Rattle.std.proofs.Common.{ℕ, ◌≡◌, refl, sym, ◌∙◌, ap}
 use Rattle.file.specs.Rules.Results.{Result, refused, done}
 use Rattle.owner.specs.declared.write.OwnerAnswer.{OwnerAnswer}
 use Rattle.owner.specs.declared.write.OwnerAnswer.TheVariants as answers
