@@ -6,7 +6,6 @@
 //! - what reads memory, or calls, does not go into the place that a call's value is put into: C may find the place before the call or behind it;
 //! - nothing goes into a loop, nor into the test of one.
 
-use crate::check::size_of;
 use crate::live::{before_each, inside, Around};
 use crate::tree::{leaves, Base, Binary, Effects, Expr, Function, Local, Place, Statement, Step, Ty, Unary};
 use crate::types::Types;
@@ -18,14 +17,14 @@ use std::collections::BTreeSet;
 pub fn fold(function: &Function, kept: &BTreeSet<usize>, types: &Types) -> Result<Function, Refused> {
     let mut made = function.clone();
     let folder = Folder { locals: &function.locals, kept, types };
-    constant_elements(&mut made.body, &Effects::of_body(&function.body, &function.locals));
-    if function.locals[0].ty != Ty::Unit {
+    constant_elements(&mut made.body, &Effects::of_body(&function.body, &function.locals), types);
+    if !types.is_valueless(&function.locals[0].ty) {
         return_values(&mut made.body, &function.locals);
         folder.sink_returns(&mut made.body);
     }
     folder.body(&mut made.body, &Around::default())?;
     shape(&mut made.body);
-    declare_all(&mut made);
+    declare_all(&mut made, types);
     Ok(made)
 }
 
@@ -36,18 +35,18 @@ struct Folder<'a> {
 }
 
 /// An element of an array of constants, at a constant place, is that constant: `a = {..}; p = &a; q = p + n; x = *q`.
-fn constant_elements(body: &mut Vec<Statement>, whole: &Effects) {
+fn constant_elements(body: &mut Vec<Statement>, whole: &Effects, types: &Types) {
     let mut at = 0;
     while at < body.len() {
-        if let Some(statement) = constant_element(&body[at..], whole) {
+        if let Some(statement) = constant_element(&body[at..], whole, types) {
             body.splice(at..at + 4, [statement]);
         }
-        body[at].bodies_mut().into_iter().for_each(|inner| constant_elements(inner, whole));
+        body[at].bodies_mut().into_iter().for_each(|inner| constant_elements(inner, whole, types));
         at += 1;
     }
 }
 
-fn constant_element(body: &[Statement], whole: &Effects) -> Option<Statement> {
+fn constant_element(body: &[Statement], whole: &Effects, types: &Types) -> Option<Statement> {
     let [array, begin, element, target, ..] = body else { return None };
     let (array, Expr::Aggregate(Ty::Array(of, count), parts)) = array.assigned()? else { return None };
     let (begin, Expr::Address(of_array)) = begin.assigned()? else { return None };
@@ -55,7 +54,7 @@ fn constant_element(body: &[Statement], whole: &Effects) -> Option<Statement> {
     let (target, Expr::Copy(read)) = target.assigned()? else { return None };
     let (array, begin, element) = (array.whole()?, begin.whole()?, element.whole()?);
     let Expr::Int(_, bytes) = **by else { return None };
-    let place = bytes / size_of(of).ok()?;
+    let place = bytes / types.size_of(of).ok()?;
     let is_read = *of_array == Place::local(array)
         && **base == Expr::local(begin)
         && read.base == Base::Local(element)
@@ -94,7 +93,9 @@ fn is_array_in_memory(ty: &Ty, value: &Expr, locals: &[Local]) -> bool {
 
 impl Folder<'_> {
     fn is_temporary(&self, local: usize) -> bool {
-        !self.kept.contains(&local) && !self.locals[local].in_memory && self.locals[local].ty != Ty::Unit
+        !self.kept.contains(&local)
+            && !self.locals[local].in_memory
+            && !self.types.is_valueless(&self.locals[local].ty)
     }
 
     /// A temporary that every branch sets last, and that is then returned, is returned in each branch.
@@ -368,11 +369,11 @@ fn shape(body: &mut Vec<Statement>) {
 }
 
 /// Puts each local where it comes into being.
-fn declare_all(function: &mut Function) {
+fn declare_all(function: &mut Function, types: &Types) {
     let read = Effects::of_body(&function.body, &function.locals).reads;
     for number in 0..function.locals.len() {
         let is_own = number == 0 || number > function.params;
-        if !is_own || !read.contains_key(&number) || function.locals[number].ty == Ty::Unit {
+        if !is_own || !read.contains_key(&number) || types.is_valueless(&function.locals[number].ty) {
             continue;
         }
         if function.locals[number].in_memory {

@@ -11,6 +11,7 @@ mod check;
 mod declare;
 mod fold;
 mod helpers;
+mod instances;
 mod json;
 mod layout;
 mod live;

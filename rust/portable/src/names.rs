@@ -1,7 +1,7 @@
 //! What everything is called in C: by the sources where they tell, by its number where they do not. Names are held apart from those
 //! of C and from one another.
 
-use crate::declare::c_name;
+use crate::declare::{c_name, type_name};
 use crate::sources::{FunctionNames, Sources, TypeNames};
 use crate::tree::{Function, Program, Shape};
 use crate::{Form, Refused};
@@ -28,7 +28,7 @@ impl<'a> Names<'a> {
         for (name, shape) in &program.types {
             let of_type = type_names(name, shape, sources).map_err(|refused| refused.of(name))?;
             names.types.insert(name.clone(), of_type);
-            names.take(c_name(name), name)?;
+            names.take(type_name(name), name)?;
         }
         for function in &program.functions {
             names.take(names.function(&function.name), &function.name)?;
@@ -49,7 +49,7 @@ impl<'a> Names<'a> {
     }
 
     fn check_params(&self, function: &Function) -> Result<(), Refused> {
-        match self.sources.functions.get(&function.name) {
+        match self.sources.functions.get(path_of(&function.name)) {
             Some(names) if names.params.len() != function.params => Err(Refused::new(format!(
                 "{} parameters in the sources, {} in the term",
                 names.params.len(),
@@ -73,7 +73,7 @@ impl<'a> Names<'a> {
     }
 
     pub fn comment(&self, path: &str) -> &'a [String] {
-        self.sources.functions.get(path).map_or(&[], |names| &names.comment)
+        self.sources.functions.get(path_of(path)).map_or(&[], |names| &names.comment)
     }
 
     pub fn of_type(&self, name: &str) -> (&[String], &TypeNames) {
@@ -85,7 +85,7 @@ impl<'a> Names<'a> {
     pub fn locals(&self, function: &Function, form: Form) -> Vec<String> {
         let numbered = |number: usize| format!("t{number}");
         let count = function.locals.len();
-        match (form, self.sources.functions.get(&function.name)) {
+        match (form, self.sources.functions.get(path_of(&function.name))) {
             (Form::Reading, Some(names)) => {
                 let mut taken: BTreeSet<String> = (0..count).map(numbered).collect();
                 let called = self.called(names, function);
@@ -112,7 +112,7 @@ impl<'a> Names<'a> {
 
     /// The locals that the source has a name for: they stay, whatever is folded.
     pub fn kept(&self, function: &Function) -> BTreeSet<usize> {
-        match self.sources.functions.get(&function.name) {
+        match self.sources.functions.get(path_of(&function.name)) {
             Some(names) => self.called(names, function).into_keys().collect(),
             None => (1..=function.params).collect(),
         }
@@ -129,9 +129,14 @@ impl<'a> Names<'a> {
     }
 }
 
+/// What the sources have of an instance: its name without what stands for its parameters.
+fn path_of(name: &str) -> &str {
+    &name[..name.find('<').unwrap_or(name.len())]
+}
+
 /// The fields' names. A type that the sources do not have gets numbers; one that they have otherwise is refused.
 fn type_names(name: &str, shape: &Shape, sources: &Sources) -> Result<(Vec<String>, TypeNames), Refused> {
-    let Some((comment, names)) = sources.types.get(name) else {
+    let Some((comment, names)) = sources.types.get(path_of(name)) else {
         return Ok((Vec::new(), numbered(shape)));
     };
     let fits = match (shape, names) {
