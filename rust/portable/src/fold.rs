@@ -283,6 +283,9 @@ impl Put<'_> {
                     Expr::Copy(outer) => {
                         Place { base: outer.base.clone(), steps: [&outer.steps[..], &steps[..]].concat() }
                     }
+                    Expr::Address(of) if self.is_followed(of, &steps)? => {
+                        Place { base: of.base.clone(), steps: [&of.steps[..], &steps[1..]].concat() }
+                    }
                     other => Place { base: Base::Value(Box::new(other.clone())), steps },
                 };
             }
@@ -292,15 +295,32 @@ impl Put<'_> {
         Ok(())
     }
 
-    /// A value at no step is itself; a field of a struct that is made on the spot is what it is made of.
+    /// Whether steps begin with one to what an address is of.
+    fn is_followed(&self, of: &Place, steps: &[Step]) -> Result<bool, Refused> {
+        match steps.first() {
+            Some(Step::Deref(to)) => Ok(self.types.place(of, self.locals)? == *to),
+            _ => Ok(false),
+        }
+    }
+
+    /// A value at no step is itself; a field of a struct or a variant that is made on the spot is what it is made of.
     fn simplified(&self, place: &Place) -> Result<Option<Expr>, Refused> {
         let Base::Value(value) = &place.base else { return Ok(None) };
         match (&**value, place.steps.split_first()) {
             (whole, None) => Ok(Some(whole.clone())),
-            (Expr::Aggregate(Ty::Named(_), parts), Some((Step::Field(number), rest)))
+            (Expr::Aggregate(Ty::Named(_), parts), Some((first, rest)))
                 if Effects::of_expr(value, self.locals).calls == 0 =>
             {
-                let part = match (&parts[*number], rest) {
+                let (number, rest) = match (first, rest.split_first(), parts.first()) {
+                    (Step::Field(number), _, _) => (*number, rest),
+                    (Step::Variant(variant), Some((Step::Field(number), rest)), Some(Expr::Int(_, tag)))
+                        if *variant as u64 == *tag =>
+                    {
+                        (*number, rest)
+                    }
+                    _ => return Ok(None),
+                };
+                let part = match (&parts[number], rest) {
                     (part, []) => part.clone(),
                     (part, rest) => {
                         Expr::Copy(Place { base: Base::Value(Box::new(part.clone())), steps: rest.to_vec() })
@@ -333,7 +353,7 @@ fn opposite(test: &Expr) -> Option<Expr> {
     }
 }
 
-fn negated(test: &Expr) -> Expr {
+pub fn negated(test: &Expr) -> Expr {
     opposite(test).unwrap_or_else(|| Expr::Unary(Unary::Not, Box::new(test.clone())))
 }
 

@@ -10,7 +10,9 @@
 mod check;
 mod declare;
 mod fold;
+mod forward;
 mod helpers;
+mod inline;
 mod instances;
 mod json;
 mod layout;

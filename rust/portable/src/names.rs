@@ -15,6 +15,14 @@ const TAKEN: [&str; 40] = [
     "memcpy", "memset", "size_t", "ssize_t", "typeof",
 ];
 
+/// The enums of the kit's that have names of their own here.
+const OF_KIT: [(&str, &[&str]); 4] = [
+    ("core::option::Option", &["None", "Some"]),
+    ("core::result::Result", &["Ok", "Err"]),
+    ("core::ops::ControlFlow", &["Continue", "Break"]),
+    ("core::cmp::Ordering", &["Less", "Equal", "Greater"]),
+];
+
 pub struct Names<'a> {
     sources: &'a Sources,
     types: BTreeMap<String, (Vec<String>, TypeNames)>,
@@ -66,6 +74,10 @@ impl<'a> Names<'a> {
             Some(last) if self.is_exported(path) => last.to_string(),
             _ => c_name(path),
         }
+    }
+
+    pub fn is_in_sources(&self, path: &str) -> bool {
+        self.sources.functions.contains_key(path_of(path))
     }
 
     pub fn is_exported(&self, path: &str) -> bool {
@@ -137,7 +149,8 @@ fn path_of(name: &str) -> &str {
 /// The fields' names. A type that the sources do not have gets numbers; one that they have otherwise is refused.
 fn type_names(name: &str, shape: &Shape, sources: &Sources) -> Result<(Vec<String>, TypeNames), Refused> {
     let Some((comment, names)) = sources.types.get(path_of(name)) else {
-        return Ok((Vec::new(), numbered(shape)));
+        let known = OF_KIT.iter().find(|(of, _)| *of == path_of(name)).map(|(_, variants)| *variants);
+        return Ok((Vec::new(), numbered(shape, known.unwrap_or_default())));
     };
     let fits = match (shape, names) {
         (Shape::Fields(fields), TypeNames::Fields(names)) => fields.len() == names.len(),
@@ -154,12 +167,14 @@ fn type_names(name: &str, shape: &Shape, sources: &Sources) -> Result<(Vec<Strin
     }
 }
 
-fn numbered(shape: &Shape) -> TypeNames {
+/// Numbers for fields, and for variants that have no names.
+fn numbered(shape: &Shape, known: &[&str]) -> TypeNames {
     let fields = |count: usize| (0..count).map(|number| format!("f{number}")).collect::<Vec<_>>();
     match shape {
         Shape::Fields(of) => TypeNames::Fields(fields(of.len())),
         Shape::Variants(of) => {
-            let variant = |(number, of): (usize, &Vec<_>)| (format!("v{number}"), fields(of.len()));
+            let name = |number: usize| known.get(number).map_or(format!("v{number}"), |name| name.to_string());
+            let variant = |(number, of): (usize, &Vec<_>)| (name(number), fields(of.len()));
             TypeNames::Variants(of.iter().enumerate().map(variant).collect())
         }
     }

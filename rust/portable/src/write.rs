@@ -5,6 +5,7 @@ use crate::check::calls;
 use crate::declare::{c_type, declared, definitions, pointer};
 use crate::fold::fold;
 use crate::helpers::Helper;
+use crate::inline::inlined;
 use crate::layout::Lines;
 use crate::names::Names;
 use crate::sources::{Sources, TypeNames};
@@ -19,6 +20,14 @@ use std::collections::BTreeSet;
 
 pub fn file(program: &Program, sources: &Sources, form: Form) -> Result<String, Refused> {
     let names = Names::new(program, sources)?;
+    let inlined = match form {
+        Form::Plain => None,
+        Form::Reading => {
+            let kept = |function: &Function| names.kept(function);
+            Some(inlined(program, &|name| names.is_in_sources(name), &kept)?)
+        }
+    };
+    let program = inlined.as_ref().unwrap_or(program);
     let types = Types::of(program);
     let reached = reached(program, &names)?;
     let mut lines = Lines::default();
