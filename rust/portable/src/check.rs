@@ -89,7 +89,7 @@ fn check_type(ty: &Ty, types: &Types) -> Result<(), Refused> {
 /// What is pointed to has a value in C, and is no pointer.
 fn check_pointed(to: &Ty, types: &Types) -> Result<(), Refused> {
     match (to, types.is_valueless(to)) {
-        (Ty::Int(_) | Ty::Bool | Ty::Named(_), false) => Ok(()),
+        (Ty::Int(_) | Ty::Bool | Ty::Named(_) | Ty::Slice { .. }, false) => Ok(()),
         _ => Err(Refused::new(format!("a pointer to {to:?}"))),
     }
 }
@@ -100,9 +100,6 @@ fn check_function(function: &Function, types: &Types) -> Result<(), Refused> {
         if local.in_memory && (number <= function.params || types.is_valueless(&local.ty)) {
             return Err(Refused::new(format!("local {number} has an address and is no value of its own")));
         }
-    }
-    if function.locals[1..=function.params].iter().any(|local| matches!(local.ty, Ty::Array(..))) {
-        return Err(Refused::new("an array as a parameter"));
     }
     check_body(&function.body, function, types)?;
     check_offsets(&function.body, function, types)
@@ -164,9 +161,9 @@ fn check_step(value: &Expr, function: &Function, types: &Types) -> Result<(), Re
     }
 }
 
-/// An array that lies in memory is no value of C, and so no part of one: C would take its first element, or its address.
+/// An array that lies in memory is no value of C, and so no part of one, and no argument: C would take its first element, or its address.
 fn check_parts(value: &Expr, function: &Function, types: &Types) -> Result<(), Refused> {
-    let Expr::Aggregate(_, parts) = value else { return Ok(()) };
+    let (Expr::Aggregate(_, parts) | Expr::Call(_, parts)) = value else { return Ok(()) };
     for part in parts {
         let is_array = matches!(types.value(part, &function.locals)?, Ty::Array(..));
         if is_array && Effects::of_expr(part, &function.locals).reads_memory {
@@ -186,6 +183,8 @@ fn check_array(place: &Place, value: &Expr, function: &Function) -> Result<(), R
         Expr::Repeat(of, _) => match **of {
             // the size of a bool is the compiler's: only false is the same byte everywhere
             Expr::Bool(false) | Expr::Int(Width::W8, _) | Expr::Int(_, 0) => Ok(()),
+            // one after another
+            Expr::Copy(ref element) if !element.is_behind_pointer() => Ok(()),
             _ => Err(Refused::new("an array of equal elements that memset does not make")),
         },
         Expr::Aggregate(_, parts) if in_memory(place) => {
@@ -203,8 +202,8 @@ fn check_array(place: &Place, value: &Expr, function: &Function) -> Result<(), R
     }
 }
 
-/// MIR may compute a pointer that is out of bounds, C may not. So a pointer that is stepped is followed in the next statement,
-/// which proves it within its array, or becomes a reference to an element, whose index the proofs hold below the length, or begins a slice that is
+/// MIR may compute a pointer that is out of bounds, C may not. So a pointer that is stepped is followed in the next statement, or
+/// behind assignments, which proves it within its array, or becomes a reference to an element, whose index the proofs hold below the length, or begins a slice that is
 /// cut from it, whose start they hold within the length. They speak of the whole that a pointer is in, so what is stepped is a slice or an array, and
 /// no part of a struct.
 fn check_offsets(body: &[Statement], function: &Function, types: &Types) -> Result<(), Refused> {
@@ -240,7 +239,7 @@ fn check_offset(
         return Err(Refused::new("an offset of what is no pointer"));
     };
     let from = counted(by, before, types.size_of(element(&to))?);
-    if rest.first().is_some_and(|next| follows(next, pointer))
+    if is_followed(pointer, rest)
         || is_element(pointer, function, rest)
         || is_cut(pointer, &from, rest)
     {
@@ -249,6 +248,19 @@ fn check_offset(
     Err(Refused::new(format!(
         "local {pointer} is a stepped pointer that is neither followed at once nor begins a slice"
     )))
+}
+
+/// Whether each run of these statements follows a pointer, before anything but assignments.
+fn is_followed(pointer: usize, rest: &[Statement]) -> bool {
+    for statement in rest {
+        match statement {
+            statement if follows(statement, pointer) => return true,
+            Statement::Assign(_, Expr::Call(..)) => return false,
+            Statement::Assign(place, _) if place.whole() != Some(pointer) => {}
+            _ => return false,
+        }
+    }
+    false
 }
 
 /// How many elements a number of bytes is, where that is told: of bytes themselves, or of a product that was just made of it and their size.

@@ -6,6 +6,7 @@
 //! - what reads memory, or calls, does not go into the place that a call's value is put into: C may find the place before the call or behind it;
 //! - nothing goes into a loop, nor into the test of one.
 
+use crate::blocks;
 use crate::live::{before_each, inside, Around};
 use crate::tree::{leaves, Base, Binary, Effects, Expr, Function, Local, Place, Statement, Step, Ty, Unary};
 use crate::types::Types;
@@ -22,7 +23,13 @@ pub fn fold(function: &Function, kept: &BTreeSet<usize>, types: &Types) -> Resul
         return_values(&mut made.body, &function.locals);
         folder.sink_returns(&mut made.body);
     }
+    blocks::left(&mut made.body);
     folder.body(&mut made.body, &Around::default())?;
+    while made.is_expanded && circuits(&mut made.body, &function.locals) {
+        folder.body(&mut made.body, &Around::default())?;
+    }
+    blocks::conditions(&mut made.body);
+    blocks::left(&mut made.body);
     shape(&mut made.body);
     declare_all(&mut made, types);
     Ok(made)
@@ -205,14 +212,14 @@ fn crosses(moved: &Effects, over: &Effects) -> bool {
     changed || moved.reads_memory && (over.writes_memory || over.calls > 0)
 }
 
-/// Whether a call may be made within a statement: it reads nothing that the call may change, and has at most the one call that it is. A
+/// Whether a call may be made within a statement: it reads nothing that the call may change, asks for each part, and has at most the one call that it is. A
 /// switch that a loop is left from is a chain of tests in C, each of which would make the call; a branch without statements is left out by `shape`.
 fn takes_call(user: &Statement, own: &Effects) -> bool {
     let is_call =
         matches!(user, Statement::Assign(_, Expr::Call(..)) | Statement::Return(Some(Expr::Call(..))));
     let is_chain = matches!(user, Statement::Switch(_, arms) if arms.iter().any(|arm| breaks(&arm.body)));
     let is_left_out = matches!(user, Statement::If(_, yes, no) if yes.is_empty() && no.is_empty());
-    !own.reads_memory && own.calls <= usize::from(is_call) && !is_chain && !is_left_out
+    !own.is_circuit && !own.reads_memory && own.calls <= usize::from(is_call) && !is_chain && !is_left_out
 }
 
 /// A value that takes the place of a local.
@@ -331,6 +338,32 @@ impl Put<'_> {
             _ => Ok(None),
         }
     }
+}
+
+/// `if (c) x = e; else x = false;` is `x = c && e`, and so are its three relatives, where `e` is no call.
+fn circuits(body: &mut [Statement], locals: &[Local]) -> bool {
+    let mut changed = false;
+    for statement in body {
+        for inner in statement.bodies_mut() {
+            changed |= circuits(inner, locals);
+        }
+        let Statement::If(test, yes, no) = &*statement else { continue };
+        let ([Statement::Assign(one, yes)], [Statement::Assign(other, no)]) = (&yes[..], &no[..]) else { continue };
+        let is_value = one == other && one.whole().is_some_and(|local| locals[local].ty == Ty::Bool);
+        let (operation, first, second) = match (yes, no) {
+            (second, Expr::Bool(false)) => (Binary::Both, test.clone(), second),
+            (Expr::Bool(true), second) => (Binary::Either, test.clone(), second),
+            (Expr::Bool(false), second) => (Binary::Both, negated(test), second),
+            (second, Expr::Bool(true)) => (Binary::Either, negated(test), second),
+            _ => continue,
+        };
+        if is_value && Effects::of_expr(second, locals).calls == 0 {
+            let value = Expr::Binary(operation, Box::new(first), Box::new(second.clone()));
+            *statement = Statement::Assign(one.clone(), value);
+            changed = true;
+        }
+    }
+    changed
 }
 
 /// The opposite of a comparison or of a negation.

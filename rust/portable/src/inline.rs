@@ -3,8 +3,9 @@
 //! - A function is small where it has no loop and few statements, and each of its ways ends at its end.
 //! - What a pointer to a local, or a copy, stands for is then written in its place (`forward`), so that nothing of the call is left to see.
 
+use crate::blocks::ended;
 use crate::forward::forward;
-use crate::tree::{leaves, Arm, Base, Binary, Expr, Function, Place, Program, Statement, Ty, Width};
+use crate::tree::{Arm, Base, Binary, Expr, Function, Place, Program, Statement, Ty, Width};
 use crate::types::Types;
 use crate::Refused;
 use std::collections::{BTreeMap, BTreeSet};
@@ -56,6 +57,7 @@ impl<'a> Inliner<'a> {
         let mut body = std::mem::take(&mut made.body);
         let is_expanded = self.expand(&mut body, &mut made)?;
         made.body = body;
+        made.is_expanded = is_expanded;
         let is_own = (self.is_own)(&function.name);
         if !is_own {
             tests(&mut made.body);
@@ -64,7 +66,7 @@ impl<'a> Inliner<'a> {
         if is_expanded || !is_own || has_address {
             forward(&mut made, &(self.kept)(function), self.types).map_err(|refused| refused.of(&function.name))?;
         }
-        let small = if is_own { None } else { without_returns(made.body.clone()) };
+        let small = if is_own { None } else { ended(made.body.clone(), &Statement::Return(None)) };
         let small = small.filter(|body| size(body).is_some_and(|size| size <= SMALL));
         self.made.insert(&function.name, Made { function: made, small });
         Ok(())
@@ -136,38 +138,6 @@ fn size(body: &[Statement]) -> Option<usize> {
         }
     }
     Some(sum)
-}
-
-/// The statements of a function whose end each of its ways comes to, without a return. What stands behind a branch that returns goes into the other one,
-/// of which there has to be one alone.
-fn without_returns(mut body: Vec<Statement>) -> Option<Vec<Statement>> {
-    let Some(at) = body.iter().position(returns) else { return Some(body) };
-    let rest = body.split_off(at + 1);
-    let last = body.pop()?;
-    let branches = last.bodies().into_iter().filter(|branch| !leaves(branch)).count();
-    let last = match last {
-        Statement::Return(_) => return Some(body),
-        _ if branches > 1 && !rest.is_empty() => return None,
-        Statement::If(test, yes, no) => Statement::If(test, ended(yes, &rest)?, ended(no, &rest)?),
-        Statement::Switch(on, arms) => {
-            let arms = arms.into_iter().map(|arm| Some(Arm { body: ended(arm.body, &rest)?, ..arm }));
-            Statement::Switch(on, arms.collect::<Option<_>>()?)
-        }
-        _ => return None,
-    };
-    body.push(last);
-    Some(body)
-}
-
-fn ended(mut branch: Vec<Statement>, rest: &[Statement]) -> Option<Vec<Statement>> {
-    if !leaves(&branch) {
-        branch.extend_from_slice(rest);
-    }
-    without_returns(branch)
-}
-
-fn returns(statement: &Statement) -> bool {
-    matches!(statement, Statement::Return(_)) || statement.bodies().into_iter().flatten().any(returns)
 }
 
 /// A switch of two arms, of which the first has one number, is a test of that.

@@ -7,6 +7,7 @@
 //! `fold` makes the reading form, with `live`; `sources` and `names` have the names; `declare`, `write`, `text`, `helpers` and `layout` make
 //! the C text. The same input gives the same bytes.
 
+mod blocks;
 mod check;
 mod declare;
 mod fold;

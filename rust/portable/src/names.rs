@@ -7,12 +7,12 @@ use crate::tree::{Function, Program, Shape};
 use crate::{Form, Refused};
 use std::collections::{BTreeMap, BTreeSet};
 
-/// The words of C that a name of the sources could be, and what the file takes from its headers.
-const TAKEN: [&str; 40] = [
+/// The words of C that a name of the sources could be, what the file takes from its headers, and a name of its own.
+const TAKEN: [&str; 41] = [
     "auto", "break", "case", "char", "const", "continue", "default", "do", "double", "else", "enum", "extern",
     "float", "for", "goto", "if", "inline", "int", "long", "register", "restrict", "return", "short", "signed",
     "sizeof", "static", "struct", "switch", "typedef", "union", "unsigned", "void", "volatile", "while", "asm",
-    "memcpy", "memset", "size_t", "ssize_t", "typeof",
+    "memcpy", "memset", "size_t", "ssize_t", "typeof", "at_each",
 ];
 
 /// The enums of the kit's that have names of their own here.

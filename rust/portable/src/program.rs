@@ -152,7 +152,7 @@ fn function(name: &str, item: &Node, types: &BTreeMap<String, Shape>) -> Result<
     if locals.len() <= params {
         return Err(Refused::new("fewer locals than parameters"));
     }
-    let mut function = Function { name: name.to_string(), params, locals, body: Vec::new() };
+    let mut function = Function { name: name.to_string(), params, locals, body: Vec::new(), is_expanded: false };
     let types = Types::new(types);
     let mut reader = Reader { body: Vec::new(), around: Vec::new(), blocks: 0, types: &types };
     reader.statement(body)?;
@@ -200,6 +200,10 @@ impl Reader<'_> {
         while let ("seq", [first, second]) = rest.applied()? {
             self.statement(first)?;
             rest = second;
+            // no run comes to what stands behind an exit or a return
+            if matches!(first.applied()?, ("exit" | "return", _)) {
+                return Ok(());
+            }
         }
         let made = match rest.applied()? {
             ("skip", []) => return Ok(()),

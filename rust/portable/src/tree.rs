@@ -109,6 +109,9 @@ pub enum Binary {
     /// Of the reading form alone, from a negation.
     Gt,
     Ge,
+    /// Of the reading form alone, from a branch: the second is asked for where the first does not tell.
+    Both,
+    Either,
     /// A pointer, and a count of bytes: followed at once, so within its array.
     Offset,
     /// The same where a slice begins there, which may be at the array's end, or at 0 of none.
@@ -118,6 +121,11 @@ pub enum Binary {
 impl Binary {
     pub fn is_comparison(self) -> bool {
         matches!(self, Binary::Eq | Binary::Ne | Binary::Lt | Binary::Le | Binary::Gt | Binary::Ge)
+    }
+
+    /// Whether C asks for the second operand only where the first does not tell.
+    pub fn is_circuit(self) -> bool {
+        matches!(self, Binary::Both | Binary::Either)
     }
 }
 
@@ -198,6 +206,8 @@ pub struct Function {
     pub params: usize,
     pub locals: Vec<Local>,
     pub body: Vec<Statement>,
+    /// Whether a call was written out here, in the reading form.
+    pub is_expanded: bool,
 }
 
 #[derive(Clone, Debug)]
@@ -296,6 +306,8 @@ pub struct Effects {
     /// How often each local is read.
     pub reads: BTreeMap<usize, usize>,
     pub calls: usize,
+    /// Whether a part is not evaluated on each way.
+    pub is_circuit: bool,
     /// Reads of what a pointer points to or of a local in memory.
     pub reads_memory: bool,
     pub writes_memory: bool,
@@ -375,7 +387,8 @@ impl Effects {
         match value {
             Expr::Copy(place) => self.add_place(place, locals, true),
             Expr::Address(place) => self.add_place(place, locals, false),
-            Expr::Binary(_, left, right) => {
+            Expr::Binary(operation, left, right) => {
+                self.is_circuit |= operation.is_circuit();
                 self.add_expr(left, locals);
                 self.add_expr(right, locals);
             }

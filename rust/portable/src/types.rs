@@ -190,6 +190,12 @@ impl<'a> Types<'a> {
                 _ => Err(Refused::new(format!("an offset of {left:?} by {right:?}"))),
             };
         }
+        if operation.is_circuit() {
+            return match (left, right) {
+                (Ty::Bool, Ty::Bool) => Ok(Ty::Bool),
+                _ => Err(Refused::new(format!("{operation:?} of {left:?} and {right:?}"))),
+            };
+        }
         let takes_bools = matches!(operation, Binary::Eq | Binary::Ne | Binary::And | Binary::Or | Binary::Xor);
         if left != right || !(matches!(left, Ty::Int(_)) || takes_bools && *left == Ty::Bool) {
             return Err(Refused::new(format!("{operation:?} of {left:?} and {right:?}")));

@@ -18,6 +18,9 @@ use crate::types::{element, Types};
 use crate::{Form, Refused};
 use std::collections::BTreeSet;
 
+/// The counter of an array's elements, which no local is called.
+const EACH: &str = "at_each";
+
 pub fn file(program: &Program, sources: &Sources, form: Form) -> Result<String, Refused> {
     let names = Names::new(program, sources)?;
     let inlined = match form {
@@ -398,7 +401,13 @@ impl Writer<'_> {
                 let byte = match **element {
                     Expr::Bool(value) => u64::from(value),
                     Expr::Int(_, value) => value,
-                    _ => return Err(Refused::new("an array of equal elements that memset does not make")),
+                    _ => {
+                        let element = self.value(element, Literal::Bare)?.text;
+                        self.lines.add(&format!("for (size_t {EACH} = 0; {EACH} < {count}; {EACH}++) {{"));
+                        self.lines.add(&format!("{target}[{EACH}] = {element};"));
+                        self.lines.add("}");
+                        return Ok(());
+                    }
                 };
                 self.lines.add(&format!("memset({target}, {byte}, {size});"));
             }
@@ -687,10 +696,14 @@ impl Writer<'_> {
         let first = self.value(left, if is_shift { Literal::Typed } else { beside(right) })?;
         let second = self.value(right, if is_shift { Literal::Bare } else { beside(left) })?;
         let wide = if operation == Binary::Shl && !narrowed(&ty).is_empty() { "(uint32_t)" } else { "" };
-        let first = if wide.is_empty() { first.up_to(within(rank, true)) } else { first.up_to(Rank::Prefix) };
+        let first = match wide.is_empty() {
+            true if operation.is_circuit() && first.rank == rank => first.text,
+            true => first.up_to(within(rank, true)),
+            false => first.up_to(Rank::Prefix),
+        };
         let second = second.up_to(within(rank, false));
         let text = format!("{wide}{first} {sign} {second}");
-        match (operation.is_comparison(), narrowed(&ty)) {
+        match (operation.is_comparison() || operation.is_circuit(), narrowed(&ty)) {
             (true, _) | (_, "") => Ok(Text { text, rank }),
             (_, cast) => Ok(Text { text: format!("{cast}({text})"), rank: Rank::Prefix }),
         }
