@@ -7,11 +7,11 @@
 //! `LendStatic` lends an array of numbers that is never written. In the term it is an array of the function's own with these numbers, of which the
 //! address is taken; so the function may not return a pointer, and nothing else may be done with what was lent.
 
+use crate::instances::instances;
 use crate::json::{self, Json};
 use crate::sources::Sources;
 use crate::term::Node;
 use crate::Refused;
-use std::collections::{BTreeMap, BTreeSet};
 
 /// The term of the functions that the calls for C reach, in the order of the texts and of each text.
 pub fn term(texts: &[String], sources: &Sources) -> Result<Node, Refused> {
@@ -28,53 +28,13 @@ pub fn term(texts: &[String], sources: &Sources) -> Result<Node, Refused> {
             }
         }
     }
-    let reached = reached(&all, sources)?;
+    let mut roots: Vec<&str> = all.iter().map(|(name, _)| name.as_str()).collect();
+    roots.retain(|name| sources.is_exported(name));
     let mut made = Vec::new();
-    for (name, item) in all.iter().filter(|(name, _)| reached.contains(name.as_str())) {
-        made.push(definition(name, item).map_err(|refused| refused.of(name))?);
+    for (name, item) in instances(&all, &roots)? {
+        made.push(definition(&name, &item).map_err(|refused| refused.of(&name))?);
     }
     Ok(list("program", [cons(made, "lcons", "lnil"), list("fnRef", [Node::Text("main".to_string())])]))
-}
-
-/// The names of the functions that calls for C reach; one that is reached has to be there, and once.
-fn reached<'a>(all: &'a [(String, Json)], sources: &Sources) -> Result<BTreeSet<&'a str>, Refused> {
-    let mut items: BTreeMap<&str, &Json> = BTreeMap::new();
-    let mut twice = BTreeSet::new();
-    for (name, item) in all {
-        if items.insert(name, item).is_some() {
-            twice.insert(name.as_str());
-        }
-    }
-    let mut waiting: Vec<&str> = items.keys().copied().filter(|name| sources.is_exported(name)).collect();
-    let mut reached = BTreeSet::new();
-    while let Some(name) = waiting.pop() {
-        if !reached.insert(name) {
-            continue;
-        }
-        if twice.contains(name) {
-            return Err(Refused::new("two functions of one name").of(name));
-        }
-        if let Some(item) = items.get(name) {
-            called(item.of("body").unwrap_or(&Json::Null), &mut waiting);
-        }
-    }
-    Ok(reached)
-}
-
-/// The functions that a body calls by name.
-fn called<'a>(of: &'a Json, names: &mut Vec<&'a str>) {
-    match of {
-        Json::List(items) => items.iter().for_each(|item| called(item, names)),
-        Json::Map(entries) => {
-            for (key, inner) in entries {
-                if let ("Fn", Some([Json::Text(name), ..])) = (&key[..], inner.list()) {
-                    names.push(name);
-                }
-                called(inner, names);
-            }
-        }
-        _ => {}
-    }
 }
 
 fn unknown(what: &str, of: &Json) -> Refused {
@@ -266,6 +226,7 @@ impl<'a> Body<'a> {
         match (kind, inner.list()) {
             ("Skip", _) => Ok(word("skip")),
             ("Return", _) => Ok(word("return")),
+            ("Unreachable", _) => Ok(word("unreachable")),
             ("Block", _) => Ok(list("block", [self.statement()?])),
             ("Loop", _) => Ok(list("loop", [self.statement()?])),
             ("Exit", _) => Ok(list("exit", [number(inner)?])),
@@ -378,6 +339,7 @@ fn operand(of: &Json) -> Result<Node, Refused> {
         ("True", _, _) => Ok(word("true")),
         ("False", _, _) => Ok(word("false")),
         ("Unit", _, _) => Ok(word("unit")),
+        ("SizeOf", _, _) => Ok(list("sizeOf", [ty(inner)?])),
         _ => Err(unknown("operand", of)),
     }
 }
