@@ -60,7 +60,7 @@ bit_zero c frame =
 -- ---- the mask that an accepted round answers
 
 round-answer : (file frame buffer : List ℕ) → (round_on file frame buffer).0 ≡ result_of (round_ground file frame buffer) (sender_mask (frame_on (decode file) frame).senders)
-unfolding round_on result_of carried_by
+unfolding round_on result_of
 round-answer file frame buffer = by_case (eqb (round_ground file frame buffer) 0) (λ e. rw e) (λ e. rw e)
 
 answered-mask : (file frame buffer : List ℕ) (mask : ℕ) → (round_on file frame buffer).0 ≡ done mask → mask ≡ sender_mask (frame_on (decode file) frame).senders
