@@ -18,7 +18,6 @@ use Rattle.master_slave.specs.Rules.Slaves.{Duty, in_slot, sent_to, pending_duty
 use Rattle.multipartner.specs.Rules.Multipartner.{sent_in, sent_during}
 use Rattle.cluster.specs.Rules.RoundGrounds.{round_by_lem}
 use Rattle.cluster.specs.Rules.Round.{effect_of, frame_on, round_ground, round_on}
-use Rattle.cluster.specs.Inner.Effects.{carried_by}
 use Rattle.cluster.specs.Claims.Mask.{BitsAreSenders, BitZeroNeverSet}
 use Rattle.master_slave.proofs.Bus.{mask_below, mask-bit}
 
