@@ -44,7 +44,8 @@ pub fn keep_file(file: &[u8], slave: usize, number: FileNumber, kept: &mut [Kept
     requires { AcceptedFile file.now × (slave < slave_count file.now) × (file_in number < file_numbers) × FilesKept file.now kept.old }
     ensures { KeptFor file.now slave (file_in number) kept.new }
 {
-    if kept[slave].number == number {
+    let last = kept[slave];
+    if last.number == number {
         return;
     }
     let bytes = bytes_of(file, slave, number);
