@@ -50,9 +50,9 @@ pub fn ended(mut body: Vec<Statement>, end: &Statement) -> Option<Vec<Statement>
 fn has(body: &[Statement], end: &Statement) -> bool {
     match end {
         Statement::Leave(number) => is_left(body, *number),
-        end => body.iter().any(|statement| {
-            statement == end || statement.bodies().into_iter().any(|inner| has(inner, end))
-        }),
+        end => body
+            .iter()
+            .any(|statement| statement == end || statement.bodies().into_iter().any(|inner| has(inner, end))),
     }
 }
 
@@ -63,7 +63,9 @@ pub fn conditions(body: &mut Vec<Statement>) {
         let Statement::If(test, yes, no) = &*statement else { continue };
         let (operation, second, leaving) = match (&yes[..], &no[..]) {
             ([], [Statement::If(second, yes, no)]) if yes.is_empty() => (Binary::Either, second, no),
-            ([Statement::If(second, yes, inner)], _) if yes.is_empty() && inner == no => (Binary::Both, second, no),
+            ([Statement::If(second, yes, inner)], _) if yes.is_empty() && inner == no => {
+                (Binary::Both, second, no)
+            }
             _ => continue,
         };
         if matches!(leaving[..], [Statement::Leave(_)]) {

@@ -203,7 +203,7 @@ fn check_array(place: &Place, value: &Expr, function: &Function) -> Result<(), R
 }
 
 /// MIR may compute a pointer that is out of bounds, C may not. So a pointer that is stepped is followed in the next statement, or
-/// behind assignments, which proves it within its array, or becomes a reference to an element, whose index the proofs hold below the length, or begins a slice that is
+/// behind other steps and reads, which proves it within its array, or becomes a reference to an element, whose index the proofs hold below the length, or begins a slice that is
 /// cut from it, whose start they hold within the length. They speak of the whole that a pointer is in, so what is stepped is a slice or an array, and
 /// no part of a struct.
 fn check_offsets(body: &[Statement], function: &Function, types: &Types) -> Result<(), Refused> {
@@ -239,10 +239,7 @@ fn check_offset(
         return Err(Refused::new("an offset of what is no pointer"));
     };
     let from = counted(by, before, types.size_of(element(&to))?);
-    if is_followed(pointer, rest)
-        || is_element(pointer, function, rest)
-        || is_cut(pointer, &from, rest)
-    {
+    if is_followed(pointer, rest) || is_element(pointer, function, rest) || is_cut(pointer, &from, rest) {
         return Ok(());
     }
     Err(Refused::new(format!(
@@ -250,14 +247,20 @@ fn check_offset(
     )))
 }
 
-/// Whether each run of these statements follows a pointer, before anything but assignments.
+/// Whether a pointer is followed at once, or behind other steps and reads.
 fn is_followed(pointer: usize, rest: &[Statement]) -> bool {
     for statement in rest {
-        match statement {
-            statement if follows(statement, pointer) => return true,
-            Statement::Assign(_, Expr::Call(..)) => return false,
-            Statement::Assign(place, _) if place.whole() != Some(pointer) => {}
-            _ => return false,
+        if follows(statement, pointer) {
+            return true;
+        }
+        let Some((place, value)) = statement.assigned() else { return false };
+        let is_between = match value {
+            Expr::Binary(Binary::Mul | Binary::Offset, ..) => true,
+            Expr::Copy(of) => of.is_behind_pointer(),
+            _ => false,
+        };
+        if !is_between || place.is_behind_pointer() || place.base == Base::Local(pointer) {
+            return false;
         }
     }
     false

@@ -8,7 +8,9 @@
 
 use crate::blocks;
 use crate::live::{before_each, inside, Around};
-use crate::tree::{leaves, Base, Binary, Effects, Expr, Function, Local, Place, Statement, Step, Ty, Unary};
+use crate::tree::{
+    leaves, part, Base, Binary, Effects, Expr, Function, Local, Place, Statement, Step, Ty, Unary,
+};
 use crate::types::Types;
 use crate::write::{breaks, whole_slice};
 use crate::Refused;
@@ -313,30 +315,19 @@ impl Put<'_> {
     /// A value at no step is itself; a field of a struct or a variant that is made on the spot is what it is made of.
     fn simplified(&self, place: &Place) -> Result<Option<Expr>, Refused> {
         let Base::Value(value) = &place.base else { return Ok(None) };
-        match (&**value, place.steps.split_first()) {
-            (whole, None) => Ok(Some(whole.clone())),
-            (Expr::Aggregate(Ty::Named(_), parts), Some((first, rest)))
-                if Effects::of_expr(value, self.locals).calls == 0 =>
-            {
-                let (number, rest) = match (first, rest.split_first(), parts.first()) {
-                    (Step::Field(number), _, _) => (*number, rest),
-                    (Step::Variant(variant), Some((Step::Field(number), rest)), Some(Expr::Int(_, tag)))
-                        if *variant as u64 == *tag =>
-                    {
-                        (*number, rest)
-                    }
-                    _ => return Ok(None),
-                };
-                let part = match (&parts[number], rest) {
-                    (part, []) => part.clone(),
-                    (part, rest) => {
-                        Expr::Copy(Place { base: Base::Value(Box::new(part.clone())), steps: rest.to_vec() })
-                    }
-                };
-                Ok(Some(part))
-            }
-            _ => Ok(None),
-        }
+        let is_call = Effects::of_expr(value, self.locals).calls > 0;
+        Ok(match (&**value, &place.steps[..]) {
+            (whole, []) => Some(whole.clone()),
+            (Expr::Aggregate(Ty::Named(_), parts), steps) if !is_call => match part(parts, steps) {
+                Some((part, [])) => Some(part.clone()),
+                Some((part, rest)) => {
+                    let base = Base::Value(Box::new(part.clone()));
+                    Some(Expr::Copy(Place { base, steps: rest.to_vec() }))
+                }
+                None => None,
+            },
+            _ => None,
+        })
     }
 }
 
@@ -348,7 +339,9 @@ fn circuits(body: &mut [Statement], locals: &[Local]) -> bool {
             changed |= circuits(inner, locals);
         }
         let Statement::If(test, yes, no) = &*statement else { continue };
-        let ([Statement::Assign(one, yes)], [Statement::Assign(other, no)]) = (&yes[..], &no[..]) else { continue };
+        let ([Statement::Assign(one, yes)], [Statement::Assign(other, no)]) = (&yes[..], &no[..]) else {
+            continue;
+        };
         let is_value = one == other && one.whole().is_some_and(|local| locals[local].ty == Ty::Bool);
         let (operation, first, second) = match (yes, no) {
             (second, Expr::Bool(false)) => (Binary::Both, test.clone(), second),
@@ -358,12 +351,40 @@ fn circuits(body: &mut [Statement], locals: &[Local]) -> bool {
             _ => continue,
         };
         if is_value && Effects::of_expr(second, locals).calls == 0 {
-            let value = Expr::Binary(operation, Box::new(first), Box::new(second.clone()));
-            *statement = Statement::Assign(one.clone(), value);
+            *statement = Statement::Assign(one.clone(), both_or_either(operation, first, second.clone()));
             changed = true;
         }
     }
     changed
+}
+
+/// Two tests as one: of the same two numbers, that they differ and are in an order, or are equal or in one, is a comparison.
+fn both_or_either(operation: Binary, first: Expr, second: Expr) -> Expr {
+    let Expr::Binary(equal, one, other) = &first else {
+        return Expr::Binary(operation, Box::new(first), Box::new(second));
+    };
+    let is_read = |value: &Expr| matches!(value, Expr::Copy(_) | Expr::Int(..));
+    let order = match (operation, *equal, &second) {
+        (Binary::Both, Binary::Ne, Expr::Binary(order, left, right)) if left == one && right == other => {
+            match order {
+                Binary::Lt | Binary::Le => Some(Binary::Lt),
+                Binary::Gt | Binary::Ge => Some(Binary::Gt),
+                _ => None,
+            }
+        }
+        (Binary::Either, Binary::Eq, Expr::Binary(order, left, right)) if left == one && right == other => {
+            match order {
+                Binary::Lt | Binary::Le => Some(Binary::Le),
+                Binary::Gt | Binary::Ge => Some(Binary::Ge),
+                _ => None,
+            }
+        }
+        _ => None,
+    };
+    match order {
+        Some(order) if is_read(one) && is_read(other) => Expr::Binary(order, one.clone(), other.clone()),
+        _ => Expr::Binary(operation, Box::new(first), Box::new(second)),
+    }
 }
 
 /// The opposite of a comparison or of a negation.

@@ -1,13 +1,16 @@
 //! Of the reading form: what is left of a call that was written out (`inline`). Each rule gives statements that do the same:
-//! - a pointer to a local or to a part of one, a copy of a local, and a constant are written where they are used, where all uses stand behind the
-//!   assignment in its own body, and nothing in between changes the local;
+//! - a pointer to a local or to a part of one, a copy of a local, a constant, and a part of a struct or a variant that is made of these are written
+//!   where they are used, where all uses stand behind the assignment in its own body, and nothing in between changes the local;
 //! - a local whose address is no longer taken has none;
 //! - where each way of a branch ends with a value of an enum, and the next statement is a branch on its tag, each way goes on with its own part;
-//! - a branch that tells true from false is its test;
+//! - what every way of a branch sets, and is then copied, is set in the copy's place;
+//! - a branch that tells true from false is its test, and one whose test is told is one of its ways;
 //! - what is put into a local that nothing reads behind it, and is no call, is left out.
 
 use crate::live::{before_each, inside, Around};
-use crate::tree::{leaves, Base, Binary, Effects, Expr, Function, Local, Place, Statement, Step, Ty, Width};
+use crate::tree::{
+    leaves, part, Base, Binary, Effects, Expr, Function, Local, Place, Statement, Step, Ty, Width,
+};
 use crate::types::{fits, Types};
 use crate::Refused;
 use std::collections::BTreeSet;
@@ -80,7 +83,12 @@ impl Rules<'_> {
     /// Applies one rule at one place, if there is one.
     fn body(&self, body: &mut Vec<Statement>) -> Result<bool, Refused> {
         for at in 0..body.len() {
-            if self.forwarded(body, at)? || told(body, at) || threaded(body, at) {
+            if self.forwarded(body, at)?
+                || self.joined(body, at)
+                || told(body, at)
+                || chosen(body, at)
+                || threaded(body, at)
+            {
                 return Ok(true);
             }
             for inner in body[at].bodies_mut() {
@@ -127,24 +135,16 @@ impl Rules<'_> {
     fn forwarded(&self, body: &mut Vec<Statement>, at: usize) -> Result<bool, Refused> {
         let Some((place, value)) = body[at].assigned() else { return Ok(false) };
         let Some(local) = place.whole().filter(|local| self.is_temporary(*local)) else { return Ok(false) };
-        let stands_still = match value {
-            value if is_constant(value) => None,
-            Expr::Copy(from) => match from.whole() {
-                Some(from) if !self.locals[from].in_memory => Some(from),
-                _ => return Ok(false),
-            },
-            Expr::Address(of) => match self.pointed(of)? {
-                Some(base) => base,
-                None => return Ok(false),
-            },
-            _ => return Ok(false),
-        };
+        let mut stand_still = Vec::new();
+        if !self.may_go(value, &mut stand_still)? {
+            return Ok(false);
+        }
         let of = |statement: &Statement| Effects::of(statement, self.locals);
         let rest: Vec<Effects> = body[at + 1..].iter().map(of).collect();
         let uses: usize = rest.iter().map(|effects| effects.count(local)).sum();
         let Some(last) = rest.iter().rposition(|effects| effects.count(local) > 0) else { return Ok(false) };
         let writes = |local: usize| rest[..=last].iter().any(|effects| effects.writes.contains(&local));
-        if uses + 1 != self.whole.count(local) || writes(local) || stands_still.is_some_and(writes) {
+        if uses + 1 != self.whole.count(local) || writes(local) || stand_still.into_iter().any(writes) {
             return Ok(false);
         }
         let put = Put { local, value: value.clone(), locals: self.locals, types: self.types };
@@ -156,6 +156,53 @@ impl Rules<'_> {
         }
         body.splice(at..=at + 1 + last, changed);
         Ok(true)
+    }
+
+    /// `if (test) x = a; else x = b; y = x;` without `x`, which nothing else reads or sets.
+    fn joined(&self, body: &mut Vec<Statement>, at: usize) -> bool {
+        let Some((to, Expr::Copy(from))) = body.get(at + 1).and_then(Statement::assigned) else { return false };
+        let (Some(to), Some(from)) = (to.whole(), from.whole()) else { return false };
+        let mut sets = 0;
+        let is_it = is_branch(&body[at])
+            && self.is_temporary(from)
+            && to > self.params
+            && !self.locals[to].in_memory
+            && self.locals[to].ty == self.locals[from].ty
+            && Effects::of(&body[at], self.locals).count(to) == 0
+            && sets_last(&body[at], from, &mut sets)
+            && self.whole.count(from) == sets + 1;
+        if is_it {
+            renamed(&mut body[at], from, to);
+            body.remove(at + 1);
+        }
+        is_it
+    }
+
+    /// Whether a value may be written where it is used, and the locals on which it depends.
+    fn may_go(&self, value: &Expr, depends: &mut Vec<usize>) -> Result<bool, Refused> {
+        Ok(match value {
+            value if is_constant(value) => true,
+            Expr::Copy(Place { base: Base::Local(from), steps }) => {
+                depends.push(*from);
+                !self.locals[*from].in_memory && steps.is_empty()
+            }
+            Expr::Address(of) => match self.pointed(of)? {
+                Some(base) => {
+                    depends.extend(base);
+                    true
+                }
+                None => false,
+            },
+            Expr::Aggregate(Ty::Named(_), parts) => {
+                for part in parts {
+                    if !matches!(part, Expr::Unit) && !self.may_go(part, depends)? {
+                        return Ok(false);
+                    }
+                }
+                true
+            }
+            _ => false,
+        })
     }
 
     /// The local on whose value an address depends, of a place that may be followed in its own place: a local or a part of one, or what a reference
@@ -211,8 +258,30 @@ impl Put<'_> {
     fn in_value(&self, value: &mut Expr) -> Result<bool, Refused> {
         match value {
             Expr::Copy(place) if place.whole() == Some(self.local) => {
+                // a struct is taken apart, or stays where it is
+                let is_whole = !matches!(self.value, Expr::Aggregate(..)) || is_constant(&self.value);
                 *value = self.value.clone();
-                Ok(true)
+                Ok(is_whole)
+            }
+            Expr::Copy(Place { base: Base::Local(number), steps }) if *number == self.local => {
+                if let Expr::Aggregate(_, parts) = &self.value {
+                    return Ok(match part(parts, steps) {
+                        Some((part, [])) => {
+                            *value = part.clone();
+                            true
+                        }
+                        Some((Expr::Copy(from), rest)) => {
+                            let steps = [&from.steps[..], rest].concat();
+                            *value = Expr::Copy(Place { base: from.base.clone(), steps });
+                            true
+                        }
+                        _ => false,
+                    });
+                }
+                match value {
+                    Expr::Copy(place) => self.in_place(place),
+                    _ => Ok(false),
+                }
             }
             Expr::Copy(place) | Expr::Address(place) => self.in_place(place),
             Expr::Binary(_, left, right) => Ok(self.in_value(left)? && self.in_value(right)?),
@@ -261,6 +330,47 @@ fn told(body: &mut [Statement], at: usize) -> bool {
     true
 }
 
+/// Whether each way through a branch, those that leave aside, ends by setting a local, and how often it is set.
+fn sets_last(branch: &Statement, local: usize, sets: &mut usize) -> bool {
+    branch.bodies().into_iter().filter(|body| !leaves(body)).all(|body| match body.last() {
+        Some(Statement::Assign(place, _)) if place.whole() == Some(local) => {
+            *sets += 1;
+            true
+        }
+        Some(last) if is_branch(last) => sets_last(last, local, sets),
+        _ => false,
+    })
+}
+
+fn renamed(branch: &mut Statement, from: usize, to: usize) {
+    for statement in branch.bodies_mut().into_iter().flatten() {
+        match statement {
+            Statement::Assign(place, _) if place.whole() == Some(from) => *place = Place::local(to),
+            other => renamed(other, from, to),
+        }
+    }
+}
+
+/// A branch whose test is told goes one way.
+fn chosen(body: &mut Vec<Statement>, at: usize) -> bool {
+    let way = match &body[at] {
+        Statement::If(Expr::Binary(Binary::Eq, left, right), yes, no) => match (&**left, &**right) {
+            (Expr::Int(_, one), Expr::Int(_, other)) => if one == other { yes } else { no }.clone(),
+            _ => return false,
+        },
+        Statement::Switch(Expr::Int(_, number), arms) => {
+            let fits = arms.iter().find(|arm| arm.keys.contains(number));
+            match fits.or_else(|| arms.iter().find(|arm| arm.otherwise)) {
+                Some(arm) => arm.body.clone(),
+                None => return false,
+            }
+        }
+        _ => return false,
+    };
+    body.splice(at..=at, way);
+    true
+}
+
 /// A branch each of whose ways ends with a value of an enum or leaves, and behind it a branch on that value's tag: each way goes on with its own part
 /// of the second one, which no two ways share.
 fn threaded(body: &mut Vec<Statement>, at: usize) -> bool {
@@ -283,7 +393,8 @@ fn threaded(body: &mut Vec<Statement>, at: usize) -> bool {
         to += 1;
     }
     let Some(second) = body.get(to).filter(|statement| is_branch(statement)) else { return false };
-    let Some(parts) = ends.iter().map(|(_, tag)| part_of(second, holds, *tag)).collect::<Option<Vec<_>>>() else {
+    let Some(parts) = ends.iter().map(|(_, tag)| part_of(second, holds, *tag)).collect::<Option<Vec<_>>>()
+    else {
         return false;
     };
     let are_apart = (0..parts.len()).all(|one| !parts[..one].contains(&parts[one]));

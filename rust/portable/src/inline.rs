@@ -64,7 +64,8 @@ impl<'a> Inliner<'a> {
         }
         let has_address = made.locals.iter().any(|local| local.in_memory && !matches!(local.ty, Ty::Array(..)));
         if is_expanded || !is_own || has_address {
-            forward(&mut made, &(self.kept)(function), self.types).map_err(|refused| refused.of(&function.name))?;
+            forward(&mut made, &(self.kept)(function), self.types)
+                .map_err(|refused| refused.of(&function.name))?;
         }
         let small = if is_own { None } else { ended(made.body.clone(), &Statement::Return(None)) };
         let small = small.filter(|body| size(body).is_some_and(|size| size <= SMALL));

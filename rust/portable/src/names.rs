@@ -2,8 +2,8 @@
 //! of C and from one another.
 
 use crate::declare::{c_name, type_name};
-use crate::sources::{FunctionNames, Sources, TypeNames};
-use crate::tree::{Function, Program, Shape};
+use crate::sources::{FunctionNames, Sources, TypeNames, COUNTED, HIDDEN, LOOP};
+use crate::tree::{Function, Local, Program, Shape, Ty, Width};
 use crate::{Form, Refused};
 use std::collections::{BTreeMap, BTreeSet};
 
@@ -22,6 +22,9 @@ const OF_KIT: [(&str, &[&str]); 4] = [
     ("core::ops::ControlFlow", &["Continue", "Break"]),
     ("core::cmp::Ordering", &["Less", "Equal", "Greater"]),
 ];
+
+/// The traits that are derived, whose names stand behind a type's in the path of a method.
+const DERIVED: [&str; 5] = ["PartialEq", "Eq", "PartialOrd", "Ord", "Clone"];
 
 pub struct Names<'a> {
     sources: &'a Sources,
@@ -76,8 +79,13 @@ impl<'a> Names<'a> {
         }
     }
 
-    pub fn is_in_sources(&self, path: &str) -> bool {
-        self.sources.functions.contains_key(path_of(path))
+    /// Whether a function is one of the kit's, a closure's, or one that a derive makes.
+    pub fn is_made(&self, path: &str) -> bool {
+        let path = path_of(path);
+        let of = path.rsplit("::").nth(1).unwrap_or_default();
+        let is_derived = DERIVED.iter().any(|name| of.ends_with(name));
+        !self.sources.functions.contains_key(path)
+            && (path.starts_with("core::") || path.contains('+') || path.contains("::fn::") || is_derived)
     }
 
     pub fn is_exported(&self, path: &str) -> bool {
@@ -114,12 +122,23 @@ impl<'a> Names<'a> {
 
     /// The parameters, and behind them what the source binds, in its order.
     fn called(&self, names: &FunctionNames, function: &Function) -> BTreeMap<usize, String> {
-        let named = names.params.iter().chain(&names.bound).cloned();
-        named
-            .enumerate()
-            .map(|(at, name)| (at + 1, name))
-            .filter(|(at, _)| *at < function.locals.len())
-            .collect()
+        let mut called = BTreeMap::new();
+        let mut at = 1;
+        for name in names.params.iter().chain(&names.bound) {
+            match &name[..] {
+                HIDDEN => at += 1,
+                LOOP | COUNTED => {
+                    let rest = &function.locals[at.min(function.locals.len())..];
+                    at += of_loop(rest, name == COUNTED);
+                }
+                _ if at < function.locals.len() => {
+                    called.insert(at, name.clone());
+                    at += 1;
+                }
+                _ => {}
+            }
+        }
+        called
     }
 
     /// The locals that the source has a name for: they stay, whatever is folded.
@@ -144,6 +163,16 @@ impl<'a> Names<'a> {
 /// What the sources have of an instance: its name without what stands for its parameters.
 fn path_of(name: &str) -> &str {
     &name[..name.find('<').unwrap_or(name.len())]
+}
+
+/// How many locals a `for` has before its pattern's: what it goes over, where that is held, and a counter; or an iterator, twice, and what it gives.
+fn of_loop(locals: &[Local], is_counted: bool) -> usize {
+    let held = match locals.first().map(|local| &local.ty) {
+        Some(Ty::Named(_)) => return 3,
+        Some(Ty::Slice { .. } | Ty::Ref { .. }) => 1,
+        _ => 0,
+    };
+    held + usize::from(!is_counted && locals.get(held).is_some_and(|local| local.ty == Ty::Int(Width::W64)))
 }
 
 /// The fields' names. A type that the sources do not have gets numbers; one that they have otherwise is refused.

@@ -152,7 +152,8 @@ fn function(name: &str, item: &Node, types: &BTreeMap<String, Shape>) -> Result<
     if locals.len() <= params {
         return Err(Refused::new("fewer locals than parameters"));
     }
-    let mut function = Function { name: name.to_string(), params, locals, body: Vec::new(), is_expanded: false };
+    let mut function =
+        Function { name: name.to_string(), params, locals, body: Vec::new(), is_expanded: false };
     let types = Types::new(types);
     let mut reader = Reader { body: Vec::new(), around: Vec::new(), blocks: 0, types: &types };
     reader.statement(body)?;

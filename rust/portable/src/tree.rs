@@ -152,6 +152,19 @@ pub enum Expr {
     Call(String, Vec<Expr>),
 }
 
+/// What a struct, or a variant, made of some parts has at some steps: the part of the first steps, and the steps that are left.
+pub fn part<'a>(parts: &'a [Expr], steps: &'a [Step]) -> Option<(&'a Expr, &'a [Step])> {
+    match (steps, parts.first()) {
+        ([Step::Field(number), rest @ ..], _) => Some((parts.get(*number)?, rest)),
+        ([Step::Variant(variant), Step::Field(number), rest @ ..], Some(Expr::Int(_, tag)))
+            if *variant as u64 == *tag || *number == 0 =>
+        {
+            Some((parts.get(*number)?, rest))
+        }
+        _ => None,
+    }
+}
+
 impl Expr {
     pub fn local(number: usize) -> Expr {
         Expr::Copy(Place::local(number))

@@ -27,7 +27,7 @@ pub fn file(program: &Program, sources: &Sources, form: Form) -> Result<String, 
         Form::Plain => None,
         Form::Reading => {
             let kept = |function: &Function| names.kept(function);
-            Some(inlined(program, &|name| names.is_in_sources(name), &kept)?)
+            Some(inlined(program, &|name| !names.is_made(name), &kept)?)
         }
     };
     let program = inlined.as_ref().unwrap_or(program);
@@ -543,6 +543,9 @@ impl Writer<'_> {
             Expr::Int(width, number) => Ok(Text::primary(number_text(*width, *number, literal))),
             Expr::Bool(value) => Ok(Text::primary(u8::from(*value).to_string())),
             Expr::Binary(Binary::Offset, pointer, by) => {
+                if self.form == Form::Reading && is_nothing(by) {
+                    return self.value(pointer, Literal::Typed);
+                }
                 let base = self.value(pointer, Literal::Typed)?.up_to(Rank::Sum);
                 let index = self.index(pointer, by)?.up_to(Rank::Product);
                 Ok(Text { text: format!("{base} + {index}"), rank: Rank::Sum })
@@ -715,6 +718,15 @@ fn followed(pointer: Text, is_behind: bool) -> Text {
     match is_behind {
         true => Text { text: format!("*{}", pointer.up_to(Rank::Prefix)), rank: Rank::Prefix },
         false => pointer,
+    }
+}
+
+/// Whether a step is one of no elements.
+fn is_nothing(by: &Expr) -> bool {
+    match by {
+        Expr::Int(_, number) => *number == 0,
+        Expr::Binary(Binary::Mul, count, _) => matches!(**count, Expr::Int(_, 0)),
+        _ => false,
     }
 }
 
