@@ -281,6 +281,18 @@ typedef struct {
     } as;
 } line_pattern_PatternAnswer;
 
+/* file::types::RecordNumber. */
+typedef struct {
+    uint8_t f0;
+} file_types_RecordNumber;
+
+/* master_slave::types::RecordAddress. The slaves of a logical name, and a record of theirs. */
+typedef struct {
+    file_types_LogicalName name;
+    file_types_FileNumber number;
+    file_types_RecordNumber record;
+} master_slave_types_RecordAddress;
+
 /* core::cmp::Ordering. */
 typedef struct {
     uint8_t tag; /* 0 Less, 1 Equal, 2 Greater */
@@ -295,18 +307,6 @@ typedef struct {
         } Some;
     } as;
 } Option_Ordering;
-
-/* file::types::RecordNumber. */
-typedef struct {
-    uint8_t f0;
-} file_types_RecordNumber;
-
-/* master_slave::types::RecordAddress. The slaves of a logical name, and a record of theirs. */
-typedef struct {
-    file_types_LogicalName name;
-    file_types_FileNumber number;
-    file_types_RecordNumber record;
-} master_slave_types_RecordAddress;
 
 /* screens::post::Posted. */
 typedef struct {
@@ -1193,18 +1193,18 @@ static inline Option_u64 file_walk_walk_slaves(slice_u8 file, uint64_t width, ui
     uint64_t size = 2 * width;
     uint64_t entry = 8 + 4 * width;
     uint64_t place = entry + size * count;
-    uint64_t found = 0;
-    while (found < count) {
+    uint64_t slave = 0;
+    while (slave < count) {
         Option_file_walk_SlaveFound t15 = file_walk_walk_slave(file, width, entry, place);
         if (t15.tag != 1) {
             return (Option_u64){.tag = 0};
         }
-        file_walk_SlaveFound t10 = t15.as.Some.f0;
-        places.at[2 * found] = t10.configuration;
-        places.at[2 * found + 1] = t10.documentation;
-        place = t10.end;
+        file_walk_SlaveFound found = t15.as.Some.f0;
+        places.at[2 * slave] = found.configuration;
+        places.at[2 * slave + 1] = found.documentation;
+        place = found.end;
         entry = entry + size;
-        found = found + 1;
+        slave = slave + 1;
     }
     return (Option_u64){.tag = 1, .as.Some.f0 = place};
 }
@@ -1240,7 +1240,8 @@ static inline _Bool file_survey_is_missing(slice_u16 places)
     uint64_t t3 = 0;
     uint64_t t5 = places.len;
     while (t3 < t5) {
-        if (places.at[t3] == 0) {
+        const uint16_t *place = places.at + t3;
+        if (*place == 0) {
             missing = 1;
         }
         t3 = t3 + 1;
@@ -1283,13 +1284,13 @@ static inline uint64_t file_names_remainder_at(slice_u8 file, slice_u16 places, 
 /* file::names::is_named_from. Whether one of the slaves from a slave on has the name. */
 static inline _Bool file_names_is_named_from(slice_u8 file, slice_u16 places, uint64_t from, uint64_t name)
 {
-    uint64_t t5 = from;
+    uint64_t slave = from;
     uint64_t t6 = places.len / 2;
-    while (t5 < t6) {
-        if (file_names_name_at(file, places, t5) == name) {
+    while (slave < t6) {
+        if (file_names_name_at(file, places, slave) == name) {
             return 1;
         }
-        t5 = t5 + 1;
+        slave = slave + 1;
     }
     return 0;
 }
@@ -1320,14 +1321,14 @@ static inline _Bool file_names_equal_names(slice_u8 file, slice_u16 places)
     }
     _Bool seen[256];
     memset(seen, 0, sizeof seen);
-    uint64_t remainder = count;
-    while (0 < remainder) {
-        remainder = remainder - 1;
-        uint64_t t6 = file_names_remainder_at(file, places, remainder);
-        if (file_names_is_repeated(file, places, remainder, seen[t6])) {
+    uint64_t slave = count;
+    while (0 < slave) {
+        slave = slave - 1;
+        uint64_t remainder = file_names_remainder_at(file, places, slave);
+        if (file_names_is_repeated(file, places, slave, seen[remainder])) {
             return 1;
         }
-        seen[t6] = 1;
+        seen[remainder] = 1;
     }
     return 0;
 }
@@ -1387,15 +1388,15 @@ static inline _Bool file_held_is_seen_twice(slice_u8 file, const uint16_t *place
 {
     _Bool seen[256];
     memset(seen, 0, sizeof seen);
-    uint64_t name = file_readers_slave_count(file);
-    while (0 < name) {
-        name = name - 1;
-        file_types_LogicalName mark = file_readers_logical_name(file, places, name);
-        uint64_t t6 = (uint64_t)mark.f0;
-        if (seen[t6]) {
+    uint64_t slave = file_readers_slave_count(file);
+    while (0 < slave) {
+        slave = slave - 1;
+        file_types_LogicalName name = file_readers_logical_name(file, places, slave);
+        uint64_t mark = (uint64_t)name.f0;
+        if (seen[mark]) {
             return 1;
         }
-        seen[t6] = mark.f0 != 255;
+        seen[mark] = name.f0 != 255;
     }
     return 0;
 }
@@ -1516,11 +1517,11 @@ static inline file_records_FilePlace file_records_find_file(slice_u8 file, uint6
  * How many bytes it has. The loop is compiled to moves of many bytes. */
 static inline uint64_t file_copying_copy(slice_u8 part, slice_mut_u8 buffer)
 {
-    uint64_t t3 = 0;
+    uint64_t done = 0;
     uint64_t t4 = part.len;
-    while (t3 < t4) {
-        buffer.at[t3] = part.at[t3];
-        t3 = t3 + 1;
+    while (done < t4) {
+        buffer.at[done] = part.at[done];
+        done = done + 1;
     }
     return part.len;
 }
@@ -1530,14 +1531,14 @@ static inline uint64_t file_copying_copy(slice_u8 part, slice_mut_u8 buffer)
 static inline void contents_read_put_front(slice_u8 file, uint64_t place, uint64_t size, slice_mut_u8 buffer)
 {
     uint64_t t7 = buffer.len;
-    uint64_t t17;
+    uint64_t t6;
     if (t7 < size) {
-        t17 = t7;
+        t6 = t7;
     } else {
-        t17 = size;
+        t6 = size;
     }
-    uint64_t end = place + t17;
-    (void)file_copying_copy((slice_u8){cut_u8(file.at, place), end - place}, buffer);
+    uint64_t end = place + t6;
+    t6 = file_copying_copy((slice_u8){cut_u8(file.at, place), end - place}, buffer);
 }
 
 /* contents::read::read_contents. A file of the slave at a place of the table: the cluster file is refused by
@@ -1602,11 +1603,11 @@ uint8_t ttpa_contents(const uint8_t *file_at, size_t file_len, uint64_t slave, u
 static inline void file_readers_logical_names(slice_u8 file, const uint16_t *places, slice_mut_u8 names)
 {
     uint64_t count = file_readers_slave_count(file);
-    uint64_t name = 0;
-    while (name < count) {
-        uint8_t t8 = file_readers_logical_name(file, places, name).f0;
-        names.at[name] = t8;
-        name = name + 1;
+    uint64_t slave = 0;
+    while (slave < count) {
+        file_types_LogicalName name = file_readers_logical_name(file, places, slave);
+        names.at[slave] = name.f0;
+        slave = slave + 1;
     }
 }
 
@@ -1657,12 +1658,13 @@ uint8_t ttpa_fill(const uint8_t *file_at, size_t file_len, uint8_t *held_at, siz
 static inline summary_holder_Holder summary_holder_find_holder(slice_u8 held, uint64_t count,
         file_types_LogicalName name)
 {
+    file_types_LogicalName place = name;
     if (held.len < count) {
         return (summary_holder_Holder){.tag = 0, .as.Refused.f0 = (file_types_Refusal){.f0 = 24}};
     }
     uint64_t t5 = 0;
     while (t5 < count) {
-        if (held.at[t5] == name.f0) {
+        if (held.at[t5] == place.f0) {
             return (summary_holder_Holder){.tag = 1, .as.At.f0 = t5};
         }
         t5 = t5 + 1;
@@ -1703,11 +1705,11 @@ static inline uint64_t file_readers_physical_name(slice_u8 file, const uint16_t 
  * the reader that they call: one for both would take a closure, and be longer than either. */
 static inline void join_names_mark_remainders(slice_u8 file, const uint16_t *places, _Bool *seen)
 {
-    uint64_t name = file_readers_slave_count(file);
-    while (0 < name) {
-        name = name - 1;
-        uint64_t t8 = file_readers_physical_name(file, places, name) % 256;
-        seen[t8] = 1;
+    uint64_t slave = file_readers_slave_count(file);
+    while (0 < slave) {
+        slave = slave - 1;
+        uint64_t name = file_readers_physical_name(file, places, slave);
+        seen[name % 256] = 1;
     }
 }
 
@@ -1727,14 +1729,15 @@ static inline _Bool join_names_is_any_named(slice_u8 first, slice_u16 first_plac
 {
     uint64_t t11 = 2 * file_readers_slave_count(first);
     slice_u16 stated = (slice_u16){first_places.at, t11};
-    uint64_t name = 0;
+    uint64_t slave = 0;
     uint64_t t13 = file_readers_slave_count(second);
-    while (name < t13) {
-        uint64_t remainder = file_readers_physical_name(second, second_places, name);
-        if (file_names_is_named_again(first, stated, remainder, seen[remainder % 256])) {
+    while (slave < t13) {
+        uint64_t name = file_readers_physical_name(second, second_places, slave);
+        uint64_t remainder = name % 256;
+        if (file_names_is_named_again(first, stated, name, seen[remainder])) {
             return 1;
         }
-        name = name + 1;
+        slave = slave + 1;
     }
     return 0;
 }
@@ -1794,11 +1797,11 @@ static inline _Bool convert_convert_is_over(uint64_t width, uint64_t count, uint
 /* join::names::mark_names. Marks the logical names that a file's slaves hold, 0x00 and 0xFF among them. */
 static inline void join_names_mark_names(slice_u8 file, const uint16_t *places, _Bool *held)
 {
-    uint64_t name = file_readers_slave_count(file);
-    while (0 < name) {
-        name = name - 1;
-        uint64_t t7 = (uint64_t)file_readers_logical_name(file, places, name).f0;
-        held[t7] = 1;
+    uint64_t slave = file_readers_slave_count(file);
+    while (0 < slave) {
+        slave = slave - 1;
+        file_types_LogicalName name = file_readers_logical_name(file, places, slave);
+        held[(uint64_t)name.f0] = 1;
     }
 }
 
@@ -1835,10 +1838,10 @@ static inline void convert_header_put_front(slice_mut_u8 out, uint64_t width, ui
 /* convert::put::put_zeros. Zeros. */
 static inline void convert_put_put_zeros(slice_mut_u8 out, uint64_t at, uint64_t count)
 {
-    uint64_t t4 = 0;
-    while (t4 < count) {
-        out.at[at + t4] = 0;
-        t4 = t4 + 1;
+    uint64_t done = 0;
+    while (done < count) {
+        out.at[at + done] = 0;
+        done = done + 1;
     }
 }
 
@@ -1935,15 +1938,15 @@ static inline void convert_slaves_put_moved_at_2(slice_mut_u8 out, uint64_t at, 
     uint64_t entry = at;
     uint64_t start = 8 + UINT64_C(4) * UINT64_C(2) + (UINT64_C(2) * UINT64_C(2)) * count;
     uint64_t to = place;
-    uint64_t files = 0;
-    while (files < count) {
-        uint8_t end = (uint8_t)convert_sizes_file_count(file, 2, files);
-        uint64_t t11 = convert_directory_put_directory(out, 2, to, file, 2, files, start);
-        convert_table_put_table_entry(out, 2, entry, to, end, 0);
+    uint64_t slave = 0;
+    while (slave < count) {
+        uint8_t files = (uint8_t)convert_sizes_file_count(file, 2, slave);
+        uint64_t end = convert_directory_put_directory(out, 2, to, file, 2, slave, start);
+        convert_table_put_table_entry(out, 2, entry, to, files, 0);
         entry = entry + UINT64_C(2) * UINT64_C(2);
-        start = start + (t11 - to);
-        to = t11;
-        files = files + 1;
+        start = start + (end - to);
+        to = end;
+        slave = slave + 1;
     }
 }
 
@@ -1955,15 +1958,15 @@ static inline void convert_slaves_put_moved_at_4(slice_mut_u8 out, uint64_t at, 
     uint64_t entry = at;
     uint64_t start = 8 + UINT64_C(4) * UINT64_C(4) + (UINT64_C(2) * UINT64_C(4)) * count;
     uint64_t to = place;
-    uint64_t files = 0;
-    while (files < count) {
-        uint8_t end = (uint8_t)convert_sizes_file_count(file, 4, files);
-        uint64_t t11 = convert_directory_put_directory(out, 4, to, file, 4, files, start);
-        convert_table_put_table_entry(out, 4, entry, to, end, 0);
+    uint64_t slave = 0;
+    while (slave < count) {
+        uint8_t files = (uint8_t)convert_sizes_file_count(file, 4, slave);
+        uint64_t end = convert_directory_put_directory(out, 4, to, file, 4, slave, start);
+        convert_table_put_table_entry(out, 4, entry, to, files, 0);
         entry = entry + UINT64_C(2) * UINT64_C(4);
-        start = start + (t11 - to);
-        to = t11;
-        files = files + 1;
+        start = start + (end - to);
+        to = end;
+        slave = slave + 1;
     }
 }
 
@@ -2022,16 +2025,16 @@ static inline void convert_slaves_put_slaves(slice_mut_u8 out, uint64_t width, u
     uint64_t entry = at;
     uint64_t start = 8 + 4 * own + (2 * own) * count;
     uint64_t to = place;
-    uint64_t files = 0;
-    while (files < count) {
-        uint8_t asleep = (uint8_t)convert_sizes_file_count(file, own, files);
-        uint8_t ends = convert_table_listed_sleep(file, own, files, sleep);
-        convert_slaves_SlaveEnds t15 = convert_slaves_put_slave(out, width, to, file, own, files, start);
-        convert_table_put_table_entry(out, width, entry, to, asleep, ends);
+    uint64_t slave = 0;
+    while (slave < count) {
+        uint8_t files = (uint8_t)convert_sizes_file_count(file, own, slave);
+        uint8_t asleep = convert_table_listed_sleep(file, own, slave, sleep);
+        convert_slaves_SlaveEnds ends = convert_slaves_put_slave(out, width, to, file, own, slave, start);
+        convert_table_put_table_entry(out, width, entry, to, files, asleep);
         entry = entry + 2 * width;
-        start = t15.file;
-        to = t15.out;
-        files = files + 1;
+        start = ends.file;
+        to = ends.out;
+        slave = slave + 1;
     }
 }
 
@@ -2078,15 +2081,16 @@ static inline void join_slaves_turn_names(slice_mut_u8 out, uint64_t width, uint
     uint64_t count = file_readers_slave_count(file);
     uint64_t lost = 8 + 4 * own + (2 * own) * count;
     uint64_t gained = at;
-    uint64_t files = 0;
-    while (files < count) {
-        uint64_t name = convert_sizes_file_count(file, own, files);
-        lost = lost + (2 * own) * name;
-        gained = gained + (2 * width) * name;
-        file_types_LogicalName place = file_readers_logical_name(file, places, files);
-        uint64_t to = (uint64_t)places[2 * files];
-        join_slaves_turn_name(out, to + 7 - lost + gained, held[(uint64_t)place.f0]);
-        files = files + 1;
+    uint64_t slave = 0;
+    while (slave < count) {
+        uint64_t files = convert_sizes_file_count(file, own, slave);
+        lost = lost + (2 * own) * files;
+        gained = gained + (2 * width) * files;
+        file_types_LogicalName name = file_readers_logical_name(file, places, slave);
+        uint64_t place = (uint64_t)places[2 * slave];
+        uint64_t to = place + 7 - lost + gained;
+        join_slaves_turn_name(out, to, held[(uint64_t)name.f0]);
+        slave = slave + 1;
     }
 }
 
@@ -2237,12 +2241,12 @@ static inline uint8_t owner_held_rounds_held(slice_u8 file, uint64_t width, uint
 static inline void owner_held_all_held(slice_u8 file, slice_mut_u8 held)
 {
     uint64_t width = file_readers_width_of(file);
-    uint64_t t4 = 0;
+    uint64_t slave = 0;
     uint64_t t5 = file_readers_slave_count(file);
-    while (t4 < t5) {
-        uint8_t t7 = owner_held_rounds_held(file, width, t4);
-        held.at[t4] = t7;
-        t4 = t4 + 1;
+    while (slave < t5) {
+        uint8_t t7 = owner_held_rounds_held(file, width, slave);
+        held.at[slave] = t7;
+        slave = slave + 1;
     }
 }
 
@@ -2495,12 +2499,12 @@ static inline owner_plan_RoundPlan owner_plan_Planner_plan_round(const owner_pla
     uint64_t count = file_readers_slave_count(self->file);
     owner_plan_RoundPlan plan = (owner_plan_RoundPlan){.senders = 0, .clashes = 0, .multiplexed = 0};
     row.at[0] = self->master.f0;
-    uint64_t t6 = 0;
-    while (t6 < count) {
-        if ((uint8_t)((uint8_t)(self->held.at[t6] >> round.f0) % 2) == 1) {
-            plan = owner_plan_Planner_add_slave(self, t6, round, plan, row);
+    uint64_t slave = 0;
+    while (slave < count) {
+        if ((uint8_t)((uint8_t)(self->held.at[slave] >> round.f0) % 2) == 1) {
+            plan = owner_plan_Planner_add_slave(self, slave, round, plan, row);
         }
-        t6 = t6 + 1;
+        slave = slave + 1;
     }
     return plan;
 }
@@ -2514,6 +2518,15 @@ static inline uint64_t owner_masks_last_slot(uint64_t mask)
     return (uint64_t)(63 - leading_zeros(mask));
 }
 
+/* owner::plan::Planner::write_row. */
+static inline owner_rounds_Rows owner_plan_Planner_write_row(const owner_plan_Planner *t1,
+        file_types_FileNumber t2, slice_mut_u8 t3)
+{
+    owner_plan_RoundPlan t4 = owner_plan_Planner_plan_round(t1, t2, t3);
+    uint64_t t10 = 4 * (owner_masks_last_slot(t4.senders) / 4 + 1);
+    return (owner_rounds_Rows){.length = t10, .clash = t4.clashes != 0, .multiplexed = t4.multiplexed};
+}
+
 /* owner::plan::Planner::write_round. */
 static inline owner_rounds_Rows owner_plan_Planner_write_round(const owner_plan_Planner *t1, uint64_t t2,
         owner_rounds_Rows t3, slice_mut_u8 t4)
@@ -2522,14 +2535,10 @@ static inline owner_rounds_Rows owner_plan_Planner_write_round(const owner_plan_
         return t3;
     }
     uint64_t t5 = t3.length;
-    slice_mut_u8 t15 = (slice_mut_u8){cut_mut_u8(t4.at, t5), t5 + 64 - t5};
-    owner_plan_RoundPlan t20 = owner_plan_Planner_plan_round(t1, (file_types_FileNumber){.f0 = (uint8_t)t2},
-            t15);
-    uint64_t t26 = 4 * (owner_masks_last_slot(t20.senders) / 4 + 1);
-    owner_rounds_Rows t16 = (owner_rounds_Rows){.length = t26, .clash = t20.clashes != 0,
-            .multiplexed = t20.multiplexed};
-    return (owner_rounds_Rows){.length = t5 + t16.length, .clash = (_Bool)(t3.clash | t16.clash),
-            .multiplexed = (_Bool)(t3.multiplexed | t16.multiplexed)};
+    owner_rounds_Rows t7 = owner_plan_Planner_write_row(t1, (file_types_FileNumber){.f0 = (uint8_t)t2},
+            (slice_mut_u8){cut_mut_u8(t4.at, t5), t5 + 64 - t5});
+    return (owner_rounds_Rows){.length = t5 + t7.length, .clash = (_Bool)(t3.clash | t7.clash),
+            .multiplexed = (_Bool)(t3.multiplexed | t7.multiplexed)};
 }
 
 /* owner::rounds::write_rounds. All rounds: the head and the rows of the owner file. */
@@ -2542,12 +2551,12 @@ static inline owner_rounds_Rows owner_rounds_write_rounds(slice_u8 file, const u
     owner_plan_Planner planner = (owner_plan_Planner){.file = file, .places = places, .master = master,
             .held = (slice_u8){held, 64}};
     owner_rounds_Rows written = (owner_rounds_Rows){.length = 0, .clash = 0, .multiplexed = 0};
-    uint64_t t9 = 0;
-    while (t9 < 8) {
-        uint8_t t16 = owner_rounds_index_byte(t9, written.length);
-        head.at[4 + t9] = t16;
-        written = owner_plan_Planner_write_round(&planner, t9, written, rows);
-        t9 = t9 + 1;
+    uint64_t round = 0;
+    while (round < 8) {
+        uint8_t t16 = owner_rounds_index_byte(round, written.length);
+        head.at[4 + round] = t16;
+        written = owner_plan_Planner_write_round(&planner, round, written, rows);
+        round = round + 1;
     }
     return written;
 }
@@ -2706,53 +2715,13 @@ static inline _Bool screens_state_is_waiting(const uint8_t *state, uint8_t scree
     return state[place] != 0;
 }
 
-/* core::cmp::PartialOrd::lt<file::types::FileNumber>. */
-static inline _Bool core_cmp_PartialOrd_lt_file_types_FileNumber(const file_types_FileNumber *t1,
-        const file_types_FileNumber *t2)
-{
-    uint8_t t22 = t1->f0;
-    uint8_t t23 = t2->f0;
-    Ordering t25;
-    if (t22 == t23) {
-        t25 = (Ordering){.tag = 1};
-    } else {
-        Ordering t27;
-        if (t22 < t23) {
-            t27 = (Ordering){.tag = 0};
-        } else {
-            t27 = (Ordering){.tag = 2};
-        }
-        t25 = t27;
-    }
-    Option_Ordering t13 = (Option_Ordering){.tag = 1, .as.Some.f0 = t25};
-    if (t13.tag == 1) {
-        _Bool t30;
-        switch (t13.as.Some.f0.tag) {
-        case 0:
-            t30 = 1;
-            break;
-        case 1:
-            t30 = 0;
-            break;
-        case 2:
-        default:
-            t30 = 0;
-            break;
-        }
-        return t30;
-    }
-    return 0;
-}
-
 /* screens::post::read_ground. 18 and 14 on a read that is posted or due; 0 where neither holds. */
 static inline uint8_t screens_post_read_ground(master_slave_types_RecordAddress read)
 {
-    master_slave_types_RecordAddress t2 = read;
-    file_types_FileNumber t11 = (file_types_FileNumber){.f0 = 63};
-    if (core_cmp_PartialOrd_lt_file_types_FileNumber(&t11, &t2.number)) {
+    if (63 < read.number.f0) {
         return 18;
     }
-    if (t2.name.f0 == 0) {
+    if (read.name.f0 == 0) {
         return 14;
     }
     return 0;
@@ -3015,10 +2984,10 @@ static inline cluster_answer_RoundAnswer cluster_msa_pend_address(slice_mut_u8 f
 static inline void master_slave_slots_silence(slice_mut_u8 buffer, uint8_t firework)
 {
     buffer.at[0] = firework;
-    uint64_t t3 = 1;
-    while (t3 < 64) {
-        buffer.at[t3] = 255;
-        t3 = t3 + 1;
+    uint64_t slot = 1;
+    while (slot < 64) {
+        buffer.at[slot] = 255;
+        slot = slot + 1;
     }
 }
 
@@ -3315,11 +3284,11 @@ static inline uint64_t master_slave_duty_read_round(slice_u8 file, const uint16_
 {
     master_slave_slots_silence(buffer, 73);
     uint64_t last = 0;
-    uint64_t t6 = 0;
+    uint64_t slave = 0;
     uint64_t t10 = file_readers_slave_count(file);
-    while (t6 < t10) {
-        last = master_slave_slaves_read_slave(file, places, t6, address, buffer, last);
-        t6 = t6 + 1;
+    while (slave < t10) {
+        last = master_slave_slaves_read_slave(file, places, slave, address, buffer, last);
+        slave = slave + 1;
     }
     return last;
 }
@@ -3334,11 +3303,11 @@ static inline uint64_t master_slave_slots_with_sender(uint64_t mask, uint64_t sl
 static inline uint64_t master_slave_slots_mask_to(uint64_t last)
 {
     uint64_t mask = 0;
-    uint64_t t3 = 1;
+    uint64_t slot = 1;
     uint64_t t4 = last + 1;
-    while (t3 < t4) {
-        mask = master_slave_slots_with_sender(mask, t3);
-        t3 = t3 + 1;
+    while (slot < t4) {
+        mask = master_slave_slots_with_sender(mask, slot);
+        slot = slot + 1;
     }
     return mask;
 }
@@ -3436,11 +3405,11 @@ static inline void master_slave_duty_write_round(slice_mut_u8 file, const uint16
     if (!master_slave_duty_may_write(address.number, address.record)) {
         return;
     }
-    uint64_t t5 = 0;
+    uint64_t slave = 0;
     uint64_t t10 = file_readers_slave_count(lend_u8(file));
-    while (t5 < t10) {
-        master_slave_slaves_write_slave(file, places, t5, address, bytes);
-        t5 = t5 + 1;
+    while (slave < t10) {
+        master_slave_slaves_write_slave(file, places, slave, address, bytes);
+        slave = slave + 1;
     }
 }
 
@@ -3493,14 +3462,14 @@ static inline uint64_t master_slave_duty_compare_round(slice_u8 file, const uint
 {
     master_slave_slots_silence(buffer, 73);
     uint64_t last = 0;
-    uint64_t t6 = 0;
+    uint64_t slave = 0;
     uint64_t t10 = file_readers_slave_count(file);
-    while (t6 < t10) {
-        last = master_slave_slaves_compare_slave(file, places, t6, name, buffer, last);
+    while (slave < t10) {
+        last = master_slave_slaves_compare_slave(file, places, slave, name, buffer, last);
         if (last == 1) {
             return 1;
         }
-        t6 = t6 + 1;
+        slave = slave + 1;
     }
     return last;
 }
@@ -3536,11 +3505,11 @@ static inline void master_slave_slaves_baptize_slave(slice_mut_u8 file, const ui
 static inline void master_slave_duty_baptize_round(slice_mut_u8 file, const uint16_t *places,
         file_types_LogicalName name)
 {
-    uint64_t t4 = 0;
+    uint64_t slave = 0;
     uint64_t t5 = file_readers_slave_count(lend_u8(file));
-    while (t4 < t5) {
-        master_slave_slaves_baptize_slave(file, places, t4, name);
-        t4 = t4 + 1;
+    while (slave < t5) {
+        master_slave_slaves_baptize_slave(file, places, slave, name);
+        slave = slave + 1;
     }
 }
 
@@ -3638,11 +3607,11 @@ static inline void master_slave_slaves_sleep_slave(slice_mut_u8 file, const uint
 static inline void master_slave_sleep_sleep_round(slice_mut_u8 file, const uint16_t *places,
         file_types_LogicalName name)
 {
-    uint64_t t4 = 0;
+    uint64_t slave = 0;
     uint64_t t5 = file_readers_slave_count(lend_u8(file));
-    while (t4 < t5) {
-        master_slave_slaves_sleep_slave(file, places, t4, name);
-        t4 = t4 + 1;
+    while (slave < t5) {
+        master_slave_slaves_sleep_slave(file, places, slave, name);
+        slave = slave + 1;
     }
 }
 
@@ -3650,11 +3619,11 @@ static inline void master_slave_sleep_sleep_round(slice_mut_u8 file, const uint1
  * here and in `sleep_round`, as in `duty`'s rounds. */
 static inline void master_slave_sleep_wake_slaves(slice_mut_u8 file)
 {
-    uint64_t t2 = 0;
+    uint64_t slave = 0;
     uint64_t t3 = file_readers_slave_count(lend_u8(file));
-    while (t2 < t3) {
-        file_writers_set_sleep(file, t2, 0);
-        t2 = t2 + 1;
+    while (slave < t3) {
+        file_writers_set_sleep(file, slave, 0);
+        slave = slave + 1;
     }
 }
 
@@ -3719,12 +3688,13 @@ static inline void multipartner_round_files_round_files(slice_u8 file, const uin
         file_types_FileNumber round, multipartner_round_files_OpenEntries *lists)
 {
     uint64_t count = file_readers_slave_count(file);
-    uint64_t found = 0;
-    while (found < count) {
-        multipartner_round_files_RoundFile t7 = multipartner_round_files_round_file(file, places, found, round);
-        lists[found] = (multipartner_round_files_OpenEntries){.start = (uint32_t)t7.start,
-                .end = (uint32_t)t7.end};
-        found = found + 1;
+    uint64_t slave = 0;
+    while (slave < count) {
+        multipartner_round_files_RoundFile found = multipartner_round_files_round_file(file, places, slave,
+                round);
+        lists[slave] = (multipartner_round_files_OpenEntries){.start = (uint32_t)found.start,
+                .end = (uint32_t)found.end};
+        slave = slave + 1;
     }
 }
 
@@ -3922,16 +3892,13 @@ static inline multipartner_entry_EntryAction multipartner_entry_action_of(multip
 /* multipartner::slot_act::may_store. */
 static inline _Bool multipartner_slot_act_may_store(multipartner_entry_Entry entry, uint64_t slot)
 {
-    multipartner_entry_Entry t3 = entry;
-    file_types_FileNumber t12 = (file_types_FileNumber){.f0 = 16};
-    if (core_cmp_PartialOrd_lt_file_types_FileNumber(&t3.address.file, &t12)) {
+    if (entry.address.file.f0 < 16) {
         return 0;
     }
-    file_types_FileNumber t13 = (file_types_FileNumber){.f0 = 60};
-    if (core_cmp_PartialOrd_lt_file_types_FileNumber(&t13, &t3.address.file)) {
+    if (60 < entry.address.file.f0) {
         return 0;
     }
-    return 4 <= multipartner_entry_byte_place(t3, slot);
+    return 4 <= multipartner_entry_byte_place(entry, slot);
 }
 
 /* multipartner::slot_act::slot_act. What an entry that covers a slot makes its slave do, by where its file
@@ -4058,7 +4025,8 @@ static inline void multipartner_stores_store(slice_mut_u8 file, slice_u32 places
     uint64_t t4 = 0;
     uint64_t t6 = places.len;
     while (t4 < t6) {
-        file.at[(uint64_t)places.at[t4]] = byte;
+        const uint32_t *place = places.at + t4;
+        file.at[(uint64_t)*place] = byte;
         t4 = t4 + 1;
     }
 }
@@ -4087,43 +4055,43 @@ static inline uint64_t multipartner_multipartner_run_slots(slice_mut_u8 file, co
     memset(stores, 0, sizeof stores);
     uint64_t mask = 0;
     buffer.at[0] = firework;
-    uint64_t bus = 1;
-    while (bus < 64) {
-        uint8_t heard = 255;
-        _Bool stored = 0;
-        uint64_t end = 0;
-        uint64_t at = 0;
-        while (at < count) {
-            uint64_t next = (uint64_t)lists[at].end;
-            uint64_t act = (uint64_t)lists[at].start;
-            uint64_t t19 = act;
-            while (act < next) {
-                if (multipartner_entry_ends_at(lend_u8(file), act)) {
+    uint64_t slot = 1;
+    while (slot < 64) {
+        uint8_t bus = 255;
+        _Bool heard = 0;
+        uint64_t stored = 0;
+        uint64_t slave = 0;
+        while (slave < count) {
+            uint64_t end = (uint64_t)lists[slave].end;
+            uint64_t at = (uint64_t)lists[slave].start;
+            uint64_t next = at;
+            while (at < end) {
+                if (multipartner_entry_ends_at(lend_u8(file), at)) {
                     break;
                 }
-                if (!multipartner_entry_waits_at(lend_u8(file), act, bus)) {
-                    if (multipartner_entry_acts_at(lend_u8(file), act, bus, epoch)) {
-                        multipartner_slot_act_SlotAct t20 = multipartner_slot_act_act_at(lend_u8(file), at, act,
-                                bus, kept);
-                        heard = multipartner_slot_act_bus_with(heard, t20);
-                        stored = multipartner_slot_act_heard_with(stored, t20);
-                        end = multipartner_stores_put_store(stores, end, t20);
-                        t19 = multipartner_multipartner_next_after(lend_u8(file), t19, act, bus);
+                if (!multipartner_entry_waits_at(lend_u8(file), at, slot)) {
+                    if (multipartner_entry_acts_at(lend_u8(file), at, slot, epoch)) {
+                        multipartner_slot_act_SlotAct act = multipartner_slot_act_act_at(lend_u8(file), slave,
+                                at, slot, kept);
+                        bus = multipartner_slot_act_bus_with(bus, act);
+                        heard = multipartner_slot_act_heard_with(heard, act);
+                        stored = multipartner_stores_put_store(stores, stored, act);
+                        next = multipartner_multipartner_next_after(lend_u8(file), next, at, slot);
                         break;
                     }
-                    t19 = multipartner_multipartner_next_past(t19, act);
+                    next = multipartner_multipartner_next_past(next, at);
                 }
-                act = act + 4;
+                at = at + 4;
             }
-            lists[at].start = (uint32_t)t19;
-            at = at + 1;
+            lists[slave].start = (uint32_t)next;
+            slave = slave + 1;
         }
-        if (stored) {
-            mask = master_slave_slots_with_sender(mask, bus);
-            multipartner_stores_store(file, (slice_u32){stores, end}, heard);
+        if (heard) {
+            mask = master_slave_slots_with_sender(mask, slot);
+            multipartner_stores_store(file, (slice_u32){stores, stored}, bus);
         }
-        buffer.at[bus] = heard;
-        bus = bus + 1;
+        buffer.at[slot] = bus;
+        slot = slot + 1;
     }
     return mask;
 }
@@ -4227,13 +4195,13 @@ static inline _Bool summary_matching_is_wrong(slice_u8 file, const uint16_t *pla
     if (count != file_readers_slave_count(file)) {
         return 1;
     }
-    uint64_t name = 0;
-    while (name < count) {
-        file_types_LogicalName t6 = file_readers_logical_name(file, places, name);
-        if (held.at[name] != t6.f0) {
+    uint64_t slave = 0;
+    while (slave < count) {
+        file_types_LogicalName name = file_readers_logical_name(file, places, slave);
+        if (held.at[slave] != name.f0) {
             return 1;
         }
-        name = name + 1;
+        slave = slave + 1;
     }
     return 0;
 }
@@ -4433,16 +4401,16 @@ static inline _Bool trace_layout_whole_rows(slice_u8 trace, uint64_t count)
 {
     uint64_t end = 4 + 3 * count;
     uint64_t place = 0;
-    uint64_t t5 = 4;
-    while (t5 < end) {
-        if (file_numbers_u16_at(trace, t5) != place) {
+    uint64_t row = 4;
+    while (row < end) {
+        if (file_numbers_u16_at(trace, row) != place) {
             return 0;
         }
-        place = place + file_numbers_byte_at(trace, t5 + 2);
-        if (3 >= end - t5) {
+        place = place + file_numbers_byte_at(trace, row + 2);
+        if (3 >= end - row) {
             break;
         }
-        t5 = t5 + 3;
+        row = row + 3;
     }
     return place == file_numbers_u16_at(trace, 2);
 }
@@ -4615,16 +4583,16 @@ static inline trace_report_Report trace_run_run_frames(slice_mut_u8 file, const 
     trace_run_Progress progress = (trace_run_Progress){.report = (trace_report_Report){.msa = 0, .msd = 0,
             .multipartner = 0, .refused = 0}, .sleepers = 1};
     uint64_t start = data_place;
-    uint64_t end = 4;
-    while (end < data_place) {
-        uint64_t t9 = start + file_numbers_byte_at(trace, end + 2);
-        progress = trace_run_run_frame(file, places, (slice_u8){cut_u8(trace.at, start), t9 - start}, buffer,
+    uint64_t row = 4;
+    while (row < data_place) {
+        uint64_t end = start + file_numbers_byte_at(trace, row + 2);
+        progress = trace_run_run_frame(file, places, (slice_u8){cut_u8(trace.at, start), end - start}, buffer,
                 progress);
-        start = t9;
-        if (3 >= data_place - end) {
+        start = end;
+        if (3 >= data_place - row) {
             break;
         }
-        end = end + 3;
+        row = row + 3;
     }
     return progress.report;
 }
@@ -4692,13 +4660,13 @@ static inline uint8_t screens_state_next_screen(uint8_t screen)
 static inline Option_u8 screens_state_due_screen(const uint8_t *state)
 {
     uint8_t screen = state[0];
-    uint8_t t3 = 0;
-    while (t3 < 8) {
+    uint8_t asked = 0;
+    while (asked < 8) {
         screen = screens_state_next_screen(screen);
         if (screens_state_is_waiting(state, screen)) {
             return (Option_u8){.tag = 1, .as.Some.f0 = screen};
         }
-        t3 = (uint8_t)(t3 + 1);
+        asked = (uint8_t)(asked + 1);
     }
     return (Option_u8){.tag = 0};
 }
@@ -4860,14 +4828,14 @@ static inline uint8_t naming_names_marked_ground(slice_u8 names)
     _Bool seen[256];
     memset(seen, 0, sizeof seen);
     _Bool twice = 0;
-    uint64_t mark = names.len;
-    while (0 < mark) {
-        mark = mark - 1;
-        uint64_t t5 = (uint64_t)names.at[mark];
-        if (seen[t5]) {
+    uint64_t i = names.len;
+    while (0 < i) {
+        i = i - 1;
+        uint64_t mark = (uint64_t)names.at[i];
+        if (seen[mark]) {
             twice = 1;
         }
-        seen[t5] = 1;
+        seen[mark] = 1;
     }
     if (seen[UINT64_C(0)]) {
         return 15;
@@ -5510,8 +5478,7 @@ static inline frame_types_FrameWriting frame_writer_write_address(slice_mut_u8 b
     if (file_operations_is_broadcast_read(operation, name)) {
         return (frame_types_FrameWriting){.tag = 0, .as.Refused.f0 = (file_types_Refusal){.f0 = 14}};
     }
-    file_types_FileNumber t27 = (file_types_FileNumber){.f0 = 63};
-    if (core_cmp_PartialOrd_lt_file_types_FileNumber(&t27, &pb2)) {
+    if (63 < pb2.f0) {
         return (frame_types_FrameWriting){.tag = 0, .as.Refused.f0 = (file_types_Refusal){.f0 = 18}};
     }
     uint8_t check = file_operations_pb2_of(pb2, operation);
