@@ -5,6 +5,7 @@
 # added to target/counts for .ci/least.
 #
 #   portable/test.sh             TTPA_MIR: a folder of crates that are built, default crates, where `rt lib` builds what is not
+#                                TTPA_CORE: the program of the kit's library core, default that of the kit whose `rt` is found
 #   portable/test.sh --write     writes portable/ttpa.c anew and tests nothing
 #   portable/test.sh --short     without the comparison
 #   portable/test.sh --long      the comparison under the address sanitizer too, which takes some minutes for each form
@@ -77,6 +78,9 @@ has_library() {
 
 in_rust() { (cd rust && cargo "$@" --quiet --offline --release -j1); }
 
+# The kit's own library, whose functions the engine calls: `rt doc` prints a path in the kit.
+core_mir() { echo "${TTPA_CORE:-$(dirname "$(rt doc)")/rlibs/core.rlib/toolchain/mir.json}"; }
+
 # Both forms, twice each. The toolchain keeps the program with each library that it has proved.
 make_forms() {
     local form
@@ -94,7 +98,7 @@ make_forms() {
 made() {
     local form=()
     if [ "$1" = plain ]; then form=(--plain); fi
-    "$CARGO_TARGET_DIR/release/portable" crates "${TTPA_MIR:-crates}"/*/out/rlib/*.rlib/toolchain/mir.json "${form[@]}"
+    "$CARGO_TARGET_DIR/release/portable" crates "${TTPA_MIR:-crates}"/*/out/rlib/*.rlib/toolchain/mir.json "$(core_mir)" "${form[@]}"
 }
 
 # Every compiler that there is, without optimization and with it, and no warning.

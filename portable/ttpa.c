@@ -28,30 +28,80 @@ typedef struct {
     uint8_t f0;
 } file_types_Refusal;
 
-/* file::walk::Walk. Whether the walk of a directory, or of all slaves, is good, and where their files end. */
+/* file::walk::DirectoryEnd. Where the files of a directory end that fits so far, and the least number that
+ * may follow its last one. */
 typedef struct {
-    _Bool good;
-    uint64_t end;
-} file_walk_Walk;
+    uint64_t low;
+    uint64_t place;
+} file_walk_DirectoryEnd;
+
+/* core::option::Option<file::walk::DirectoryEnd>. */
+typedef struct {
+    uint8_t tag; /* 0 None, 1 Some */
+    union {
+        struct {
+            file_walk_DirectoryEnd f0;
+        } Some;
+    } as;
+} Option_file_walk_DirectoryEnd;
 
 /* file::types::FileNumber. */
 typedef struct {
     uint8_t f0;
 } file_types_FileNumber;
 
-/* file::walk::SlaveWalk. What the walk of a slave found: whether it is good, where its files end, and where
- * 0x08 and 0x3D lie in the needed size, 0 where they do not. */
+/* file::walk::SlaveFound. What the walk of a good slave found: where its files end, and where 0x08 and 0x3D
+ * lie in the needed size, 0 where they do not. */
 typedef struct {
-    _Bool good;
     uint64_t end;
     uint16_t configuration;
     uint16_t documentation;
-} file_walk_SlaveWalk;
+} file_walk_SlaveFound;
+
+/* core::option::Option<file::walk::SlaveFound>. */
+typedef struct {
+    uint8_t tag; /* 0 None, 1 Some */
+    union {
+        struct {
+            file_walk_SlaveFound f0;
+        } Some;
+    } as;
+} Option_file_walk_SlaveFound;
+
+/* core::ops::ControlFlow<core::option::NoValue, file::walk::DirectoryEnd>. */
+typedef struct {
+    uint8_t tag; /* 0 Continue, 1 Break */
+    union {
+        struct {
+            file_walk_DirectoryEnd f0;
+        } Continue;
+    } as;
+} ControlFlow_NoValue_file_walk_DirectoryEnd;
+
+/* core::option::Option<u64>. */
+typedef struct {
+    uint8_t tag; /* 0 None, 1 Some */
+    union {
+        struct {
+            uint64_t f0;
+        } Some;
+    } as;
+} Option_u64;
 
 typedef struct {
     uint16_t *at;
     uint64_t len;
 } slice_mut_u16;
+
+/* core::ops::ControlFlow<core::option::NoValue, file::walk::SlaveFound>. */
+typedef struct {
+    uint8_t tag; /* 0 Continue, 1 Break */
+    union {
+        struct {
+            file_walk_SlaveFound f0;
+        } Continue;
+    } as;
+} ControlFlow_NoValue_file_walk_SlaveFound;
 
 typedef struct {
     const uint16_t *at;
@@ -117,7 +167,7 @@ typedef struct {
 } summary_fill_Filling;
 
 /* summary::holder::Holder. The place in the slave table of the first slave that holds the name, or that
- * nobody does. */
+ * nobody does. The C interface hands in slice and count apart. */
 typedef struct {
     uint8_t tag; /* 0 Refused, 1 At, 2 Nobody */
     union {
@@ -129,6 +179,12 @@ typedef struct {
         } At;
     } as;
 } summary_holder_Holder;
+
+/* convert::table::SleepBytes. Whether a table keeps the sleep bytes of the file that it lists, or lists all
+ * slaves awake. */
+typedef struct {
+    uint8_t tag; /* 0 Kept, 1 AllAwake */
+} convert_table_SleepBytes;
 
 /* convert::slaves::SlaveEnds. Where a slave ends, in the file and in the buffer. */
 typedef struct {
@@ -149,14 +205,17 @@ typedef struct {
     } as;
 } join_join_Joining;
 
-/* multipartner::round_files::RoundFile. Where a slave's entries of a round begin, and where they end. */
+/* multipartner::round_files::RoundFile. Where a slave's entries of a round begin, and where they end: both 0
+ * where there are none, as `planned_file` promises, so that a loop over them needs no test, as it would of
+ * an Option. A Range is not Copy. */
 typedef struct {
     uint64_t start;
     uint64_t end;
 } multipartner_round_files_RoundFile;
 
 /* owner::entries::SlavePlan. The slots that a slave's entries hide from later ones, those in which it sends,
- * whether it has a multiplexed send, and the file that was looked for last, with its size. */
+ * whether it has a multiplexed send, and the file that was looked for last, with its size. No `Option` of
+ * the two: a number that no file has says that there was none, so that each send compares numbers alone. */
 typedef struct {
     uint64_t hidden;
     uint64_t sends;
@@ -164,6 +223,15 @@ typedef struct {
     file_types_FileNumber number;
     uint64_t size;
 } owner_entries_SlavePlan;
+
+/* owner::plan::Planner. What the rounds of a file are planned by: the file with the places of its slaves,
+ * the name of the master, and which slaves have a file for which round. */
+typedef struct {
+    slice_u8 file;
+    const uint16_t *places;
+    file_types_LogicalName master;
+    slice_u8 held;
+} owner_plan_Planner;
 
 /* owner::plan::RoundPlan. The slots of a round in which someone sends, those in which two slaves do, and
  * whether a slave has a multiplexed send. */
@@ -174,7 +242,8 @@ typedef struct {
 } owner_plan_RoundPlan;
 
 /* owner::rounds::Rows. What is written so far: how many bytes of rows, whether two slaves send in one slot,
- * and whether a slave has a multiplexed send. */
+ * and whether a slave has a multiplexed send. No `Result` of the length: a multiplexed send in a later round
+ * is told before a clash in an earlier one, so all rounds are gone through. */
 typedef struct {
     uint64_t length;
     _Bool clash;
@@ -223,6 +292,21 @@ typedef struct {
     file_types_FileNumber number;
     file_types_RecordNumber record;
 } master_slave_types_RecordAddress;
+
+/* core::cmp::Ordering. */
+typedef struct {
+    uint8_t tag; /* 0 Less, 1 Equal, 2 Greater */
+} Ordering;
+
+/* core::option::Option<core::cmp::Ordering>. */
+typedef struct {
+    uint8_t tag; /* 0 None, 1 Some */
+    union {
+        struct {
+            Ordering f0;
+        } Some;
+    } as;
+} Option_Ordering;
 
 /* screens::post::Posted. */
 typedef struct {
@@ -327,6 +411,13 @@ typedef struct {
     } as;
 } file_records_RecordPlace;
 
+/* multipartner::round_files::OpenEntries. Where the entries begin that a slave still has to look at, and
+ * where they end, in four bytes each, for the stack. */
+typedef struct {
+    uint32_t start;
+    uint32_t end;
+} multipartner_round_files_OpenEntries;
+
 /* multipartner::entry::EntryOperation. What an entry does, one case for each operation code of 002, table 4.
  * Only the multiplexed ones evaluate their multiplex field. */
 typedef struct {
@@ -377,6 +468,14 @@ typedef struct {
     uint64_t slot;
 } multipartner_entry_Entry;
 
+/* multipartner::kept_files::KeptFile. Where a file lies and how many bytes it has, at most 1,024, with its
+ * number: eight bytes in this order, for the stack and for the step from slave to slave. */
+typedef struct {
+    uint32_t place;
+    uint16_t size;
+    file_types_FileNumber number;
+} multipartner_kept_files_KeptFile;
+
 /* multipartner::entry::EntryAction. What a slave does for an entry in a slot that it covers. */
 typedef struct {
     uint8_t tag; /* 0 Receives, 1 Sends, 2 Ends, 3 Rests */
@@ -395,6 +494,11 @@ typedef struct {
         } Stores;
     } as;
 } multipartner_slot_act_SlotAct;
+
+typedef struct {
+    const uint32_t *at;
+    uint64_t len;
+} slice_u32;
 
 typedef struct {
     uint8_t at[33];
@@ -419,7 +523,8 @@ typedef struct {
 } convert_convert_Conversion;
 
 /* cluster::answer::Unheard. What came of a frame that nobody hears: whether it was carried out, and whether
- * someone may be asleep afterwards. */
+ * someone may be asleep afterwards. Neither is a value that the other tells of, as in an Option: of a
+ * refused frame both are told (`take_unheard`, LeftUnheard). */
 typedef struct {
     _Bool carried;
     _Bool sleepers;
@@ -456,15 +561,15 @@ typedef struct {
     uint64_t at[5];
 } array_u64_5;
 
-/* screens::state::DueScreen. */
+/* core::option::Option<u8>. */
 typedef struct {
-    uint8_t tag; /* 0 Nobody, 1 Screen */
+    uint8_t tag; /* 0 None, 1 Some */
     union {
         struct {
             uint8_t f0;
-        } Screen;
+        } Some;
     } as;
-} screens_state_DueScreen;
+} Option_u8;
 
 /* master_slave::types::MasterSlaveRound. A complete master-slave round: what its address frame asks for, and
  * the data of a write. */
@@ -513,7 +618,10 @@ typedef struct {
     uint64_t low;
 } naming_position_RunHalves;
 
-/* naming::position::RunPosition. The caller keeps it between steps, and may hand in any content. */
+/* naming::position::RunPosition. The caller keeps it between steps, and may hand in any content: the C
+ * interface has these words, so that end and step are numbers, of which ground 17 (`unfit_position`) tells
+ * the unfit ones. That its parts fit (FitCounts, GoesOn) is asked function by function: a round more may
+ * bring a count to its limit, and a type of positions that fit would be left by each function that takes it. */
 typedef struct {
     uint64_t end;
     naming_position_RunPlace place;
@@ -551,7 +659,8 @@ typedef struct {
     uint64_t value;
 } naming_pass_Writing;
 
-/* naming::standing::Standing. A position at the next round really made, and what that round writes. */
+/* naming::standing::Standing. A position at the next round really made, at a step of a pass, and what that
+ * round writes. */
 typedef struct {
     naming_position_RunPosition run;
     naming_pass_Writing writing;
@@ -775,7 +884,8 @@ static inline file_types_Operation file_operations_operation_of(uint8_t pb2)
     return (file_types_Operation){.f0 = (uint8_t)(pb2 % 4)};
 }
 
-/* file::operations::is_no_operation. Operation 3, or any above it. */
+/* file::operations::is_no_operation. Operation 3, or any above it: the bytes are compared, since an
+ * operation has no order of its own. */
 static inline _Bool file_operations_is_no_operation(file_types_Operation operation)
 {
     return 2 < operation.f0;
@@ -785,11 +895,11 @@ static inline _Bool file_operations_is_no_operation(file_types_Operation operati
 static inline _Bool file_operations_is_broadcast_read(file_types_Operation operation,
         file_types_LogicalName name)
 {
-    _Bool t3 = operation.f0 == 0;
-    if (t3) {
-        t3 = name.f0 == 0;
+    _Bool t5 = operation.f0 == 0;
+    if (t5) {
+        t5 = name.f0 == 0;
     }
-    return t3;
+    return t5;
 }
 
 /* file::header::wrong_pending. A pending operation is no operation 3 and no broadcast read. */
@@ -893,30 +1003,21 @@ static inline _Bool file_walk_is_next(slice_u8 file, uint64_t width, uint64_t en
     return file_numbers_offset_at(file, width, entry + width) == place;
 }
 
-/* file::walk::fits_so_far. Whether no file number was above the last one and no file ended past the bytes:
- * numbers and places rise, so it is enough to look at those of the last entry. */
-static inline _Bool file_walk_fits_so_far(slice_u8 file, uint64_t low, uint64_t place)
-{
-    if (64 < low) {
-        return 0;
-    }
-    return place <= file.len;
-}
-
-/* file::walk::walk_directory. The directory at a place that the running place has come to, of count entries.
- * The first one follows no file number. */
-static inline file_walk_Walk file_walk_walk_directory(slice_u8 file, uint64_t width, uint64_t directory,
-        uint64_t count)
+/* file::walk::walk_directory. The directory at a place that the running place has come to, of count entries,
+ * but whether it fits; none where it is broken. The first entry follows no file number. */
+static inline Option_file_walk_DirectoryEnd file_walk_walk_directory(slice_u8 file, uint64_t width,
+        uint64_t directory, uint64_t count)
 {
     if (count == 0) {
-        return (file_walk_Walk){.good = 1, .end = directory};
+        return (Option_file_walk_DirectoryEnd){.tag = 1, .as.Some.f0 = (file_walk_DirectoryEnd){.low = 0,
+                .place = directory}};
     }
     uint64_t size = 2 * width;
     uint64_t end = directory + size * count;
     uint64_t first = file_numbers_byte_at(file, directory);
     uint64_t records = file_numbers_byte_at(file, directory + 1);
     if (!file_walk_is_next(file, width, directory, first, records, 0, end)) {
-        return (file_walk_Walk){.good = 0, .end = 0};
+        return (Option_file_walk_DirectoryEnd){.tag = 0};
     }
     uint64_t entry = directory + size;
     uint64_t low = first + 1;
@@ -925,34 +1026,47 @@ static inline file_walk_Walk file_walk_walk_directory(slice_u8 file, uint64_t wi
         uint64_t number = file_numbers_byte_at(file, entry);
         uint64_t last = file_numbers_byte_at(file, entry + 1);
         if (!file_walk_is_next(file, width, entry, number, last, low, place)) {
-            return (file_walk_Walk){.good = 0, .end = 0};
+            return (Option_file_walk_DirectoryEnd){.tag = 0};
         }
         low = number + 1;
         place = place + 4 * (last + 1);
         entry = entry + size;
     }
-    return (file_walk_Walk){.good = file_walk_fits_so_far(file, low, place), .end = place};
+    return (Option_file_walk_DirectoryEnd){.tag = 1, .as.Some.f0 = (file_walk_DirectoryEnd){.low = low,
+            .place = place}};
 }
 
-/* file::walk::walk_entry. The slave of a table entry, its directory at the running place. */
-static inline file_walk_Walk file_walk_walk_entry(slice_u8 file, uint64_t width, uint64_t entry, uint64_t place)
+/* file::walk::walk_entry. The slave of a table entry, its directory at the running place, but whether its
+ * files fit; none where it is broken. */
+static inline Option_file_walk_DirectoryEnd file_walk_walk_entry(slice_u8 file, uint64_t width, uint64_t entry,
+        uint64_t place)
 {
     uint64_t after = entry + width;
     uint64_t count = file_numbers_byte_at(file, after);
     if (file_numbers_offset_at(file, width, entry) != place) {
-        return (file_walk_Walk){.good = 0, .end = 0};
+        return (Option_file_walk_DirectoryEnd){.tag = 0};
     }
     if (1 < file_numbers_byte_at(file, after + 1)) {
-        return (file_walk_Walk){.good = 0, .end = 0};
+        return (Option_file_walk_DirectoryEnd){.tag = 0};
     }
     if (!file_walk_is_filled(file, width, after + 2)) {
-        return (file_walk_Walk){.good = 0, .end = 0};
+        return (Option_file_walk_DirectoryEnd){.tag = 0};
     }
     uint64_t size = 2 * width;
     if (file.len < place + size * count) {
-        return (file_walk_Walk){.good = 0, .end = 0};
+        return (Option_file_walk_DirectoryEnd){.tag = 0};
     }
     return file_walk_walk_directory(file, width, place, count);
+}
+
+/* file::walk::fits_so_far. Whether no file number was above the last one and no file ended past the bytes:
+ * numbers and places rise, so it is enough to look at those of the last entry. */
+static inline _Bool file_walk_fits_so_far(slice_u8 file, uint64_t low, uint64_t place)
+{
+    if (64 < low) {
+        return 0;
+    }
+    return place <= file.len;
 }
 
 /* file::walk::is_stated. Whether a directory entry states the wanted file with enough records. */
@@ -966,7 +1080,8 @@ static inline _Bool file_walk_is_stated(slice_u8 file, uint64_t entry, file_type
 }
 
 /* file::walk::stated_from_front. Where a walked directory states the wanted file to lie, 0 where it does
- * not: found from the front, for a low file number. */
+ * not: found from the front, for a low file number. It and the next stay two functions: they differ in each
+ * line of the loop, so one would choose between both loops. */
 static inline uint16_t file_walk_stated_from_front(slice_u8 file, uint64_t width, uint64_t directory,
         uint64_t count, file_types_FileNumber wanted, uint8_t least)
 {
@@ -1014,50 +1129,65 @@ static inline uint16_t file_walk_stated_from_back(slice_u8 file, uint64_t width,
 }
 
 /* file::walk::with_places. The same with where its directory states 0x08 and 0x3D, of a walked slave. */
-static inline file_walk_SlaveWalk file_walk_with_places(slice_u8 file, uint64_t width, uint64_t entry,
+static inline file_walk_SlaveFound file_walk_with_places(slice_u8 file, uint64_t width, uint64_t entry,
         uint64_t place, uint64_t end)
 {
     uint64_t count = file_numbers_byte_at(file, entry + width);
     uint16_t t8 = file_walk_configuration_place(file, width, place, count);
-    return (file_walk_SlaveWalk){.good = 1, .end = end, .configuration = t8,
+    return (file_walk_SlaveFound){.end = end, .configuration = t8,
             .documentation = file_walk_stated_from_back(file, width, place, count,
             (file_types_FileNumber){.f0 = 61}, 2)};
 }
 
-/* file::walk::walk_narrow. A slave in each edition, with the width as a literal: the compiler then writes
- * the walk once for each, with its numbers. Each has a function of its own, since it inlines only functions
- * below a size, which both in one exceed. */
-static inline file_walk_SlaveWalk file_walk_walk_narrow(slice_u8 file, uint64_t entry, uint64_t place)
+/* file::walk::walk_edition<2>. A slave in an edition. The compiler writes the walk once for each width, with
+ * its numbers; each is a function of its own, since it inlines only functions below a size, which both in
+ * one exceed. */
+static inline Option_file_walk_SlaveFound file_walk_walk_edition_2(slice_u8 file, uint64_t entry,
+        uint64_t place)
 {
-    file_walk_Walk walk = file_walk_walk_entry(file, 2, entry, place);
-    if (!walk.good) {
-        return (file_walk_SlaveWalk){.good = 0, .end = 0, .configuration = 0, .documentation = 0};
+    Option_file_walk_DirectoryEnd t8 = file_walk_walk_entry(file, 2, entry, place);
+    if (t8.tag != 1) {
+        return (Option_file_walk_SlaveFound){.tag = 0};
     }
-    return file_walk_with_places(file, 2, entry, place, walk.end);
+    file_walk_DirectoryEnd end = t8.as.Some.f0;
+    if (!file_walk_fits_so_far(file, end.low, end.place)) {
+        return (Option_file_walk_SlaveFound){.tag = 0};
+    }
+    return (Option_file_walk_SlaveFound){.tag = 1, .as.Some.f0 = file_walk_with_places(file, 2, entry, place,
+            end.place)};
 }
 
-/* file::walk::walk_wide. */
-static inline file_walk_SlaveWalk file_walk_walk_wide(slice_u8 file, uint64_t entry, uint64_t place)
+/* file::walk::walk_edition<4>. A slave in an edition. The compiler writes the walk once for each width, with
+ * its numbers; each is a function of its own, since it inlines only functions below a size, which both in
+ * one exceed. */
+static inline Option_file_walk_SlaveFound file_walk_walk_edition_4(slice_u8 file, uint64_t entry,
+        uint64_t place)
 {
-    file_walk_Walk walk = file_walk_walk_entry(file, 4, entry, place);
-    if (!walk.good) {
-        return (file_walk_SlaveWalk){.good = 0, .end = 0, .configuration = 0, .documentation = 0};
+    Option_file_walk_DirectoryEnd t8 = file_walk_walk_entry(file, 4, entry, place);
+    if (t8.tag != 1) {
+        return (Option_file_walk_SlaveFound){.tag = 0};
     }
-    return file_walk_with_places(file, 4, entry, place, walk.end);
+    file_walk_DirectoryEnd end = t8.as.Some.f0;
+    if (!file_walk_fits_so_far(file, end.low, end.place)) {
+        return (Option_file_walk_SlaveFound){.tag = 0};
+    }
+    return (Option_file_walk_SlaveFound){.tag = 1, .as.Some.f0 = file_walk_with_places(file, 4, entry, place,
+            end.place)};
 }
 
 /* file::walk::walk_slave. */
-static inline file_walk_SlaveWalk file_walk_walk_slave(slice_u8 file, uint64_t width, uint64_t entry,
+static inline Option_file_walk_SlaveFound file_walk_walk_slave(slice_u8 file, uint64_t width, uint64_t entry,
         uint64_t place)
 {
     if (width == 2) {
-        return file_walk_walk_narrow(file, entry, place);
+        return file_walk_walk_edition_2(file, entry, place);
     }
-    return file_walk_walk_wide(file, entry, place);
+    return file_walk_walk_edition_4(file, entry, place);
 }
 
-/* file::walk::walk_slaves. All slaves, their places put in front of the lent ones. */
-static inline file_walk_Walk file_walk_walk_slaves(slice_u8 file, uint64_t width, uint64_t count,
+/* file::walk::walk_slaves. Where the files of all slaves end, their places put in front of the lent ones;
+ * none where a slave is broken. */
+static inline Option_u64 file_walk_walk_slaves(slice_u8 file, uint64_t width, uint64_t count,
         slice_mut_u16 places)
 {
     uint64_t size = 2 * width;
@@ -1065,17 +1195,18 @@ static inline file_walk_Walk file_walk_walk_slaves(slice_u8 file, uint64_t width
     uint64_t place = entry + size * count;
     uint64_t slave = 0;
     while (slave < count) {
-        file_walk_SlaveWalk walk = file_walk_walk_slave(file, width, entry, place);
-        if (!walk.good) {
-            return (file_walk_Walk){.good = 0, .end = 0};
+        Option_file_walk_SlaveFound t15 = file_walk_walk_slave(file, width, entry, place);
+        if (t15.tag != 1) {
+            return (Option_u64){.tag = 0};
         }
-        places.at[2 * slave] = walk.configuration;
-        places.at[2 * slave + 1] = walk.documentation;
-        place = walk.end;
+        file_walk_SlaveFound found = t15.as.Some.f0;
+        places.at[2 * slave] = found.configuration;
+        places.at[2 * slave + 1] = found.documentation;
+        place = found.end;
         entry = entry + size;
         slave = slave + 1;
     }
-    return (file_walk_Walk){.good = 1, .end = place};
+    return (Option_u64){.tag = 1, .as.Some.f0 = place};
 }
 
 /* file::survey::walk_body. Ground 6 after a good header: whether the layout is whole; the places that its
@@ -1088,11 +1219,17 @@ static inline _Bool file_survey_walk_body(slice_u8 file, uint64_t width, slice_m
     if (file.len < header + size * count) {
         return 0;
     }
-    file_walk_Walk walk = file_walk_walk_slaves(file, width, count, places);
-    if (!walk.good) {
+    Option_u64 t12 = file_walk_walk_slaves(file, width, count, places);
+    uint64_t end;
+    switch (t12.tag) {
+    case 1:
+        end = t12.as.Some.f0;
+        break;
+    case 0:
+    default:
         return 0;
     }
-    return walk.end == file.len;
+    return end == file.len;
 }
 
 /* file::survey::is_missing. Whether a slave lacks a file: its place is 0. Without an exit the compiler looks
@@ -1100,18 +1237,21 @@ static inline _Bool file_survey_walk_body(slice_u8 file, uint64_t width, slice_m
 static inline _Bool file_survey_is_missing(slice_u16 places)
 {
     _Bool missing = 0;
-    uint64_t at = 0;
-    while (at < places.len) {
-        if (places.at[at] == 0) {
+    uint64_t t3 = 0;
+    uint64_t t5 = places.len;
+    while (t3 < t5) {
+        const uint16_t *place = places.at + t3;
+        if (*place == 0) {
             missing = 1;
         }
-        at = at + 1;
+        t3 = t3 + 1;
     }
     return missing;
 }
 
 /* file::numbers::u64_at. The eight-byte number at a place. Eight shifted bytes joined in one row are
- * compiled to one load; two halves of four are not. */
+ * compiled to one load; two halves of four are not. Each shift stands here, and in `u16_at`, and is not left
+ * to `from_be_bytes`: the edits u64_second_byte_by_47_bits and u16_high_byte_by_7_bits change one of them. */
 static inline uint64_t file_numbers_u64_at(slice_u8 file, uint64_t at)
 {
     uint64_t b0 = file_numbers_byte_at(file, at);
@@ -1145,7 +1285,8 @@ static inline uint64_t file_names_remainder_at(slice_u8 file, slice_u16 places, 
 static inline _Bool file_names_is_named_from(slice_u8 file, slice_u16 places, uint64_t from, uint64_t name)
 {
     uint64_t slave = from;
-    while (slave < places.len / 2) {
+    uint64_t t6 = places.len / 2;
+    while (slave < t6) {
         if (file_names_name_at(file, places, slave) == name) {
             return 1;
         }
@@ -1170,16 +1311,17 @@ static inline _Bool file_names_is_repeated(slice_u8 file, slice_u16 places, uint
  * compared without the marks. */
 static inline _Bool file_names_equal_names(slice_u8 file, slice_u16 places)
 {
-    uint64_t slave = places.len / 2;
-    if (slave < 2) {
+    uint64_t count = places.len / 2;
+    if (count < 2) {
         return 0;
     }
-    if (slave == 2) {
-        uint64_t t8 = file_names_name_at(file, places, 0);
-        return t8 == file_names_name_at(file, places, 1);
+    if (count == 2) {
+        uint64_t t9 = file_names_name_at(file, places, 0);
+        return t9 == file_names_name_at(file, places, 1);
     }
     _Bool seen[256];
     memset(seen, 0, sizeof seen);
+    uint64_t slave = count;
     while (0 < slave) {
         slave = slave - 1;
         uint64_t remainder = file_names_remainder_at(file, places, slave);
@@ -1335,35 +1477,40 @@ static inline file_records_FilePlace file_records_search_directory(slice_u8 file
     return (file_records_FilePlace){.tag = 1};
 }
 
-/* file::records::find_file_at. Where a slave keeps a file, or that it has none, at the file's width. */
-static inline file_records_FilePlace file_records_find_file_at(slice_u8 file, uint64_t width, uint64_t slave,
+/* file::records::find_file_at<4>. Where a slave keeps a file, or that it has none, in an edition: the
+ * compiler writes the search once for each width, with its numbers, since a round asks it of every slave. */
+static inline file_records_FilePlace file_records_find_file_at_4(slice_u8 file, uint64_t slave,
         file_types_FileNumber number)
 {
-    uint64_t table = 8 + 4 * width;
-    uint64_t size = 2 * width;
+    uint64_t table = 8 + UINT64_C(4) * UINT64_C(4);
+    uint64_t size = UINT64_C(2) * UINT64_C(4);
     uint64_t entry = table + size * slave;
-    uint64_t directory = file_numbers_offset_at(file, width, entry);
-    uint64_t count = file_numbers_byte_at(file, entry + width);
-    return file_records_search_directory(file, width, directory, count, (uint64_t)number.f0);
+    uint64_t directory = file_numbers_offset_at(file, 4, entry);
+    uint64_t count = file_numbers_byte_at(file, entry + 4);
+    return file_records_search_directory(file, 4, directory, count, (uint64_t)number.f0);
 }
 
-/* file::records::find_file. The same, each width as a literal, since a round asks it of every slave. */
+/* file::records::find_file_at<2>. Where a slave keeps a file, or that it has none, in an edition: the
+ * compiler writes the search once for each width, with its numbers, since a round asks it of every slave. */
+static inline file_records_FilePlace file_records_find_file_at_2(slice_u8 file, uint64_t slave,
+        file_types_FileNumber number)
+{
+    uint64_t table = 8 + UINT64_C(4) * UINT64_C(2);
+    uint64_t size = UINT64_C(2) * UINT64_C(2);
+    uint64_t entry = table + size * slave;
+    uint64_t directory = file_numbers_offset_at(file, 2, entry);
+    uint64_t count = file_numbers_byte_at(file, entry + 2);
+    return file_records_search_directory(file, 2, directory, count, (uint64_t)number.f0);
+}
+
+/* file::records::find_file. */
 static inline file_records_FilePlace file_records_find_file(slice_u8 file, uint64_t slave,
         file_types_FileNumber number)
 {
     if (file.at[2] == 2) {
-        return file_records_find_file_at(file, 4, slave, number);
+        return file_records_find_file_at_4(file, slave, number);
     }
-    return file_records_find_file_at(file, 2, slave, number);
-}
-
-/* contents::read::lesser. */
-static inline uint64_t contents_read_lesser(uint64_t a, uint64_t b)
-{
-    if (a < b) {
-        return a;
-    }
-    return b;
+    return file_records_find_file_at_2(file, slave, number);
 }
 
 /* file::copying::copy. A part copied to the front of a buffer that has room for it; what is behind it stays.
@@ -1371,19 +1518,27 @@ static inline uint64_t contents_read_lesser(uint64_t a, uint64_t b)
 static inline uint64_t file_copying_copy(slice_u8 part, slice_mut_u8 buffer)
 {
     uint64_t done = 0;
-    while (done < part.len) {
+    uint64_t t4 = part.len;
+    while (done < t4) {
         buffer.at[done] = part.at[done];
         done = done + 1;
     }
-    return done;
+    return part.len;
 }
 
 /* contents::read::put_front. The first bytes of a part of the file, as many as the buffer has room for, put
  * in front of whatever else it holds. */
 static inline void contents_read_put_front(slice_u8 file, uint64_t place, uint64_t size, slice_mut_u8 buffer)
 {
-    uint64_t end = place + contents_read_lesser(size, buffer.len);
-    (void)file_copying_copy((slice_u8){cut_u8(file.at, place), end - place}, buffer);
+    uint64_t t7 = buffer.len;
+    uint64_t t6;
+    if (t7 < size) {
+        t6 = t7;
+    } else {
+        t6 = size;
+    }
+    uint64_t end = place + t6;
+    t6 = file_copying_copy((slice_u8){cut_u8(file.at, place), end - place}, buffer);
 }
 
 /* contents::read::read_contents. A file of the slave at a place of the table: the cluster file is refused by
@@ -1503,15 +1658,16 @@ uint8_t ttpa_fill(const uint8_t *file_at, size_t file_len, uint8_t *held_at, siz
 static inline summary_holder_Holder summary_holder_find_holder(slice_u8 held, uint64_t count,
         file_types_LogicalName name)
 {
+    file_types_LogicalName place = name;
     if (held.len < count) {
         return (summary_holder_Holder){.tag = 0, .as.Refused.f0 = (file_types_Refusal){.f0 = 24}};
     }
-    uint64_t place = 0;
-    while (place < count) {
-        if (held.at[place] == name.f0) {
-            return (summary_holder_Holder){.tag = 1, .as.At.f0 = place};
+    uint64_t t5 = 0;
+    while (t5 < count) {
+        if (held.at[t5] == place.f0) {
+            return (summary_holder_Holder){.tag = 1, .as.At.f0 = t5};
         }
-        place = place + 1;
+        t5 = t5 + 1;
     }
     return (summary_holder_Holder){.tag = 2};
 }
@@ -1545,7 +1701,8 @@ static inline uint64_t file_readers_physical_name(slice_u8 file, const uint16_t 
     return file_numbers_u64_at(file, place + 4);
 }
 
-/* join::names::mark_remainders. Marks the remainders of their physical names. */
+/* join::names::mark_remainders. Marks the remainders of their physical names. The two functions differ in
+ * the reader that they call: one for both would take a closure, and be longer than either. */
 static inline void join_names_mark_remainders(slice_u8 file, const uint16_t *places, _Bool *seen)
 {
     uint64_t slave = file_readers_slave_count(file);
@@ -1570,11 +1727,11 @@ static inline _Bool file_names_is_named_again(slice_u8 file, slice_u16 places, u
 static inline _Bool join_names_is_any_named(slice_u8 first, slice_u16 first_places, slice_u8 second,
         const uint16_t *second_places, const _Bool *seen)
 {
-    uint64_t t12 = 2 * file_readers_slave_count(first);
-    slice_u16 stated = (slice_u16){first_places.at, t12};
-    uint64_t count = file_readers_slave_count(second);
+    uint64_t t11 = 2 * file_readers_slave_count(first);
+    slice_u16 stated = (slice_u16){first_places.at, t11};
     uint64_t slave = 0;
-    while (slave < count) {
+    uint64_t t13 = file_readers_slave_count(second);
+    while (slave < t13) {
         uint64_t name = file_readers_physical_name(second, second_places, slave);
         uint64_t remainder = name % 256;
         if (file_names_is_named_again(first, stated, name, seen[remainder])) {
@@ -1597,7 +1754,7 @@ static inline _Bool join_names_shares_name(slice_u8 first, const uint16_t *first
 
 /* convert::sizes::files_in. How many files all its slaves have. The loop goes from file count to file count
  * in the table: the compiler unrolls one that counts the slaves, and not this one, whose step is known at
- * run time only. */
+ * run time only. A `while`: `step_by` compares twice for each slave, eight instructions in place of five. */
 static inline uint64_t convert_sizes_files_in(slice_u8 file, uint64_t own)
 {
     uint64_t size = 2 * own;
@@ -1630,10 +1787,11 @@ static inline uint64_t convert_sizes_length_in(slice_u8 file, uint64_t width)
  * width: "the limits are 64 slaves and 65,536 bytes". */
 static inline _Bool convert_convert_is_over(uint64_t width, uint64_t count, uint64_t size)
 {
-    if (16 * width < count) {
-        return 1;
+    _Bool t4 = 16 * width < count;
+    if (!t4) {
+        t4 = 16384 * width < size;
     }
-    return 16384 * width < size;
+    return t4;
 }
 
 /* join::names::mark_names. Marks the logical names that a file's slaves hold, 0x00 and 0xFF among them. */
@@ -1705,7 +1863,9 @@ static inline void convert_put_put_run(slice_mut_u8 out, uint64_t at, slice_u8 f
             at), behind - at});
 }
 
-/* convert::sizes::file_count. How many files a slave of a file has, whose offsets have that width. */
+/* convert::sizes::file_count. How many files a slave of a file has, whose offsets have that width. File,
+ * width and slave stay three parameters: the loops over the slaves have the first two once and the third
+ * anew in each turn. */
 static inline uint64_t convert_sizes_file_count(slice_u8 file, uint64_t own, uint64_t slave)
 {
     uint64_t table = 8 + 4 * own;
@@ -1746,14 +1906,14 @@ static inline uint64_t convert_directory_put_directory(slice_mut_u8 out, uint64_
     uint64_t entry = start;
     uint64_t to = at;
     uint64_t place = at + size * count;
-    uint64_t done = 0;
-    while (done < count) {
-        uint8_t last = file.at[entry + 1];
-        convert_directory_put_directory_entry(out, width, to, place, file.at[entry], last);
-        place = place + 4 * ((uint64_t)last + 1);
+    uint64_t last = 0;
+    while (last < count) {
+        uint8_t t15 = file.at[entry + 1];
+        convert_directory_put_directory_entry(out, width, to, place, file.at[entry], t15);
+        place = place + 4 * ((uint64_t)t15 + 1);
         entry = entry + from;
         to = to + size;
-        done = done + 1;
+        last = last + 1;
     }
     return place;
 }
@@ -1770,21 +1930,40 @@ static inline void convert_table_put_table_entry(slice_mut_u8 out, uint64_t widt
     convert_put_put_fill(out, width, behind + 2);
 }
 
-/* convert::slaves::put_moved_at. The table of a file's slaves at its own width, all awake, and their
+/* convert::slaves::put_moved_at<2>. The table of a file's slaves at its own width, all awake, and their
  * directories, over those of slaves that were copied to a place. */
-static inline void convert_slaves_put_moved_at(slice_mut_u8 out, uint64_t width, uint64_t at, uint64_t place,
-        slice_u8 file)
+static inline void convert_slaves_put_moved_at_2(slice_mut_u8 out, uint64_t at, uint64_t place, slice_u8 file)
 {
     uint64_t count = file_readers_slave_count(file);
     uint64_t entry = at;
-    uint64_t start = 8 + 4 * width + (2 * width) * count;
+    uint64_t start = 8 + UINT64_C(4) * UINT64_C(2) + (UINT64_C(2) * UINT64_C(2)) * count;
     uint64_t to = place;
     uint64_t slave = 0;
     while (slave < count) {
-        uint8_t files = (uint8_t)convert_sizes_file_count(file, width, slave);
-        uint64_t end = convert_directory_put_directory(out, width, to, file, width, slave, start);
-        convert_table_put_table_entry(out, width, entry, to, files, 0);
-        entry = entry + 2 * width;
+        uint8_t files = (uint8_t)convert_sizes_file_count(file, 2, slave);
+        uint64_t end = convert_directory_put_directory(out, 2, to, file, 2, slave, start);
+        convert_table_put_table_entry(out, 2, entry, to, files, 0);
+        entry = entry + UINT64_C(2) * UINT64_C(2);
+        start = start + (end - to);
+        to = end;
+        slave = slave + 1;
+    }
+}
+
+/* convert::slaves::put_moved_at<4>. The table of a file's slaves at its own width, all awake, and their
+ * directories, over those of slaves that were copied to a place. */
+static inline void convert_slaves_put_moved_at_4(slice_mut_u8 out, uint64_t at, uint64_t place, slice_u8 file)
+{
+    uint64_t count = file_readers_slave_count(file);
+    uint64_t entry = at;
+    uint64_t start = 8 + UINT64_C(4) * UINT64_C(4) + (UINT64_C(2) * UINT64_C(4)) * count;
+    uint64_t to = place;
+    uint64_t slave = 0;
+    while (slave < count) {
+        uint8_t files = (uint8_t)convert_sizes_file_count(file, 4, slave);
+        uint64_t end = convert_directory_put_directory(out, 4, to, file, 4, slave, start);
+        convert_table_put_table_entry(out, 4, entry, to, files, 0);
+        entry = entry + UINT64_C(2) * UINT64_C(4);
         start = start + (end - to);
         to = end;
         slave = slave + 1;
@@ -1792,30 +1971,34 @@ static inline void convert_slaves_put_moved_at(slice_mut_u8 out, uint64_t width,
 }
 
 /* convert::slaves::put_moved. The table and the slaves at the file's own width, all awake: the slaves are
- * copied at once, then their directories are put over the copied ones. The width is a literal in each call:
- * the compiler then writes that loop once for each edition, with its numbers; the copy stands before the
- * choice, where it is compiled once. */
+ * copied at once, then their directories are put over the copied ones. That loop is written once for each
+ * edition, with its numbers; the copy stands before the choice, where it is compiled once. */
 static inline void convert_slaves_put_moved(slice_mut_u8 out, uint64_t width, uint64_t at, uint64_t place,
         slice_u8 file)
 {
     uint64_t body = 8 + 4 * width + (2 * width) * file_readers_slave_count(file);
     convert_put_put_run(out, place, file, body, file.len);
     if (width == 2) {
-        convert_slaves_put_moved_at(out, 2, at, place, file);
+        convert_slaves_put_moved_at_2(out, at, place, file);
         return;
     }
-    convert_slaves_put_moved_at(out, 4, at, place, file);
+    convert_slaves_put_moved_at_4(out, at, place, file);
 }
 
 /* convert::table::listed_sleep. The sleep byte that a slave of a file is listed with, whose offsets have
  * that width. */
-static inline uint8_t convert_table_listed_sleep(slice_u8 file, uint64_t own, uint64_t slave, _Bool kept)
+static inline uint8_t convert_table_listed_sleep(slice_u8 file, uint64_t own, uint64_t slave,
+        convert_table_SleepBytes sleep)
 {
-    if (!kept) {
+    switch (sleep.tag) {
+    case 1:
         return 0;
+    case 0:
+    default: {
+        uint64_t table = 8 + 4 * own;
+        return file.at[table + (2 * own) * slave + own + 1];
     }
-    uint64_t table = 8 + 4 * own;
-    return file.at[table + (2 * own) * slave + own + 1];
+    }
 }
 
 /* convert::slaves::put_slave. A slave of a file, put from a place on: its directory and, behind it, its
@@ -1835,7 +2018,7 @@ static inline convert_slaves_SlaveEnds convert_slaves_put_slave(slice_mut_u8 out
 /* convert::slaves::put_slaves. The table of a file's slaves from one place on, and the slaves from another
  * on, one behind the other. */
 static inline void convert_slaves_put_slaves(slice_mut_u8 out, uint64_t width, uint64_t at, uint64_t place,
-        slice_u8 file, _Bool kept)
+        slice_u8 file, convert_table_SleepBytes sleep)
 {
     uint64_t own = file_readers_width_of(file);
     uint64_t count = file_readers_slave_count(file);
@@ -1845,7 +2028,7 @@ static inline void convert_slaves_put_slaves(slice_mut_u8 out, uint64_t width, u
     uint64_t slave = 0;
     while (slave < count) {
         uint8_t files = (uint8_t)convert_sizes_file_count(file, own, slave);
-        uint8_t asleep = convert_table_listed_sleep(file, own, slave, kept);
+        uint8_t asleep = convert_table_listed_sleep(file, own, slave, sleep);
         convert_slaves_SlaveEnds ends = convert_slaves_put_slave(out, width, to, file, own, slave, start);
         convert_table_put_table_entry(out, width, entry, to, files, asleep);
         entry = entry + 2 * width;
@@ -1863,7 +2046,7 @@ static inline void join_form_put_second(slice_mut_u8 out, uint64_t width, uint64
         convert_slaves_put_moved(out, width, at, place, second);
         return;
     }
-    convert_slaves_put_slaves(out, width, at, place, second, 0);
+    convert_slaves_put_slaves(out, width, at, place, second, (convert_table_SleepBytes){.tag = 1});
 }
 
 /* join::form::put_both. The table of both files' slaves, all awake, and the slaves of both as they are. The
@@ -2027,7 +2210,8 @@ uint8_t ttpa_join(const uint8_t *first_at, size_t first_len, const uint8_t *seco
     }
 }
 
-/* owner::held::mark_rounds. The numbers below 8 of a directory's files, a bit each. */
+/* owner::held::mark_rounds. The numbers below 8 of a directory's files, a bit each. A `while`: `step_by`
+ * compares twice for each entry, seven instructions in place of five. */
 static inline uint8_t owner_held_mark_rounds(slice_u8 file, uint64_t width, uint64_t directory, uint64_t count)
 {
     uint64_t entry_size = 2 * width;
@@ -2057,9 +2241,9 @@ static inline uint8_t owner_held_rounds_held(slice_u8 file, uint64_t width, uint
 static inline void owner_held_all_held(slice_u8 file, slice_mut_u8 held)
 {
     uint64_t width = file_readers_width_of(file);
-    uint64_t count = file_readers_slave_count(file);
     uint64_t slave = 0;
-    while (slave < count) {
+    uint64_t t5 = file_readers_slave_count(file);
+    while (slave < t5) {
         uint8_t t7 = owner_held_rounds_held(file, width, slave);
         held.at[slave] = t7;
         slave = slave + 1;
@@ -2069,10 +2253,11 @@ static inline void owner_held_all_held(slice_u8 file, slice_mut_u8 held)
 /* owner::rounds::is_owned. "For each of rounds 0, 2, 3, 4, 6 and 7". */
 static inline _Bool owner_rounds_is_owned(uint64_t round)
 {
-    if (round == 1) {
-        return 0;
+    _Bool t2 = round != 1;
+    if (t2) {
+        t2 = round != 5;
     }
-    return round != 5;
+    return t2;
 }
 
 /* owner::rounds::index_byte. A round's index byte, by how many bytes the rows before it have. That of rounds
@@ -2116,10 +2301,11 @@ static inline _Bool owner_entries_is_single(uint8_t kind)
 /* owner::entries::is_plain_send. Of the operations that are not multiplexed. */
 static inline _Bool owner_entries_is_plain_send(uint8_t operation)
 {
-    if (operation == 1) {
-        return 1;
+    _Bool t2 = operation == 1;
+    if (!t2) {
+        t2 = operation == 5;
     }
-    return operation == 5;
+    return t2;
 }
 
 /* owner::entries::file_size. How many bytes a slave's file has, 0 where there is none. */
@@ -2186,10 +2372,11 @@ static inline owner_entries_SlavePlan owner_entries_with_slot(slice_u8 file, uin
 static inline _Bool owner_entries_is_end(uint8_t kind)
 {
     uint8_t operation = (uint8_t)(kind / 16);
-    if (operation == 6) {
-        return 1;
+    _Bool t3 = operation == 6;
+    if (!t3) {
+        t3 = operation == 7;
     }
-    return operation == 7;
+    return t3;
 }
 
 /* owner::masks::slots_from. So many slots from a start on; those past 63 are cut. */
@@ -2250,13 +2437,15 @@ static inline owner_entries_SlavePlan owner_entries_with_slots(slice_u8 file, ui
     return next;
 }
 
-/* owner::plan::plan_slave. Its entries are read once, first to last: a slot that an earlier one covers is
- * hidden from a later one, so the entry that finds its slot free is the one that acts there. An entry that
- * is passed over hides no slot. */
-static inline owner_entries_SlavePlan owner_plan_plan_slave(slice_u8 file, const uint16_t *places,
+/* owner::plan::Planner::plan_slave. Its entries are read once, first to last: a slot that an earlier one
+ * covers is hidden from a later one, so the entry that finds its slot free is the one that acts there. An
+ * entry that is passed over hides no slot. A `while`: `step_by` compares twice for each entry, with four
+ * instructions more. */
+static inline owner_entries_SlavePlan owner_plan_Planner_plan_slave(const owner_plan_Planner *self,
         uint64_t slave, file_types_FileNumber round)
 {
-    multipartner_round_files_RoundFile found = multipartner_round_files_planned_file(file, places, slave,
+    slice_u8 file = self->file;
+    multipartner_round_files_RoundFile found = multipartner_round_files_planned_file(file, self->places, slave,
             round);
     uint64_t end = found.end;
     owner_entries_SlavePlan plan = (owner_entries_SlavePlan){.hidden = 1, .sends = 0, .multiplexed = 0,
@@ -2277,7 +2466,8 @@ static inline owner_entries_SlavePlan owner_plan_plan_slave(slice_u8 file, const
     return plan;
 }
 
-/* owner::plan::put_name. A name put into a row at every slot of a mask. */
+/* owner::plan::put_name. A name put into a row at every slot of a mask: a turn for each bit that is set,
+ * where a `for` over the slots has 64. */
 static inline void owner_plan_put_name(slice_mut_u8 row, uint64_t mask, file_types_LogicalName name)
 {
     uint64_t rest = mask;
@@ -2288,31 +2478,31 @@ static inline void owner_plan_put_name(slice_mut_u8 row, uint64_t mask, file_typ
     }
 }
 
-/* owner::plan::add_slave. One slave more. Its name is put where it sends and none before it does. */
-static inline owner_plan_RoundPlan owner_plan_add_slave(slice_u8 file, const uint16_t *places, uint64_t slave,
+/* owner::plan::Planner::add_slave. One slave more. Its name is put where it sends and none before it does. */
+static inline owner_plan_RoundPlan owner_plan_Planner_add_slave(const owner_plan_Planner *self, uint64_t slave,
         file_types_FileNumber round, owner_plan_RoundPlan before, slice_mut_u8 row)
 {
-    owner_entries_SlavePlan plan = owner_plan_plan_slave(file, places, slave, round);
+    owner_entries_SlavePlan plan = owner_plan_Planner_plan_slave(self, slave, round);
     uint64_t sends = plan.sends;
-    file_types_LogicalName name = file_readers_logical_name(file, places, slave);
+    file_types_LogicalName name = file_readers_logical_name(self->file, self->places, slave);
     owner_plan_put_name(row, sends & (before.senders ^ UINT64_C(0xFFFFFFFFFFFFFFFF)), name);
     return (owner_plan_RoundPlan){.senders = before.senders | sends,
             .clashes = before.clashes | (before.senders & sends),
             .multiplexed = (_Bool)(before.multiplexed | plan.multiplexed)};
 }
 
-/* owner::plan::plan_round. A round's owners put into a row of zeros. A slave without a file for the round
- * sends nothing. */
-static inline owner_plan_RoundPlan owner_plan_plan_round(slice_u8 file, const uint16_t *places,
-        file_types_LogicalName master, file_types_FileNumber round, slice_u8 held, slice_mut_u8 row)
+/* owner::plan::Planner::plan_round. A round's owners put into a row of zeros. A slave without a file for the
+ * round sends nothing. */
+static inline owner_plan_RoundPlan owner_plan_Planner_plan_round(const owner_plan_Planner *self,
+        file_types_FileNumber round, slice_mut_u8 row)
 {
-    uint64_t count = file_readers_slave_count(file);
+    uint64_t count = file_readers_slave_count(self->file);
     owner_plan_RoundPlan plan = (owner_plan_RoundPlan){.senders = 0, .clashes = 0, .multiplexed = 0};
-    row.at[0] = master.f0;
+    row.at[0] = self->master.f0;
     uint64_t slave = 0;
     while (slave < count) {
-        if ((uint8_t)((uint8_t)(held.at[slave] >> round.f0) % 2) == 1) {
-            plan = owner_plan_add_slave(file, places, slave, round, plan, row);
+        if ((uint8_t)((uint8_t)(self->held.at[slave] >> round.f0) % 2) == 1) {
+            plan = owner_plan_Planner_add_slave(self, slave, round, plan, row);
         }
         slave = slave + 1;
     }
@@ -2328,31 +2518,27 @@ static inline uint64_t owner_masks_last_slot(uint64_t mask)
     return (uint64_t)(63 - leading_zeros(mask));
 }
 
-/* owner::rounds::write_row. A round's row, padded, in front of zeros. */
-static inline owner_rounds_Rows owner_rounds_write_row(slice_u8 file, const uint16_t *places,
-        file_types_LogicalName master, file_types_FileNumber round, slice_u8 held, slice_mut_u8 row)
+/* owner::plan::Planner::write_row. */
+static inline owner_rounds_Rows owner_plan_Planner_write_row(const owner_plan_Planner *t1,
+        file_types_FileNumber t2, slice_mut_u8 t3)
 {
-    owner_plan_RoundPlan plan = owner_plan_plan_round(file, places, master, round, held, row);
-    uint64_t last = owner_masks_last_slot(plan.senders);
-    return (owner_rounds_Rows){.length = 4 * (last / 4 + 1), .clash = plan.clashes != 0,
-            .multiplexed = plan.multiplexed};
+    owner_plan_RoundPlan t4 = owner_plan_Planner_plan_round(t1, t2, t3);
+    uint64_t t10 = 4 * (owner_masks_last_slot(t4.senders) / 4 + 1);
+    return (owner_rounds_Rows){.length = t10, .clash = t4.clashes != 0, .multiplexed = t4.multiplexed};
 }
 
-/* owner::rounds::write_round. One round's row more. Rounds 1 and 5 have none. */
-static inline owner_rounds_Rows owner_rounds_write_round(slice_u8 file, const uint16_t *places,
-        file_types_LogicalName master, uint64_t round, slice_u8 held, owner_rounds_Rows before,
-        slice_mut_u8 rows)
+/* owner::plan::Planner::write_round. */
+static inline owner_rounds_Rows owner_plan_Planner_write_round(const owner_plan_Planner *t1, uint64_t t2,
+        owner_rounds_Rows t3, slice_mut_u8 t4)
 {
-    if (!owner_rounds_is_owned(round)) {
-        return before;
+    if (!owner_rounds_is_owned(t2)) {
+        return t3;
     }
-    uint64_t start = before.length;
-    uint64_t end = start + 64;
-    owner_rounds_Rows row = owner_rounds_write_row(file, places, master,
-            (file_types_FileNumber){.f0 = (uint8_t)round}, held, (slice_mut_u8){cut_mut_u8(rows.at, start),
-            end - start});
-    return (owner_rounds_Rows){.length = start + row.length, .clash = (_Bool)(before.clash | row.clash),
-            .multiplexed = (_Bool)(before.multiplexed | row.multiplexed)};
+    uint64_t t5 = t3.length;
+    owner_rounds_Rows t7 = owner_plan_Planner_write_row(t1, (file_types_FileNumber){.f0 = (uint8_t)t2},
+            (slice_mut_u8){cut_mut_u8(t4.at, t5), t5 + 64 - t5});
+    return (owner_rounds_Rows){.length = t5 + t7.length, .clash = (_Bool)(t3.clash | t7.clash),
+            .multiplexed = (_Bool)(t3.multiplexed | t7.multiplexed)};
 }
 
 /* owner::rounds::write_rounds. All rounds: the head and the rows of the owner file. */
@@ -2362,12 +2548,14 @@ static inline owner_rounds_Rows owner_rounds_write_rounds(slice_u8 file, const u
     uint8_t held[64];
     memset(held, 0, sizeof held);
     owner_held_all_held(file, (slice_mut_u8){held, 64});
+    owner_plan_Planner planner = (owner_plan_Planner){.file = file, .places = places, .master = master,
+            .held = (slice_u8){held, 64}};
     owner_rounds_Rows written = (owner_rounds_Rows){.length = 0, .clash = 0, .multiplexed = 0};
     uint64_t round = 0;
     while (round < 8) {
-        uint8_t t13 = owner_rounds_index_byte(round, written.length);
-        head.at[4 + round] = t13;
-        written = owner_rounds_write_round(file, places, master, round, (slice_u8){held, 64}, written, rows);
+        uint8_t t16 = owner_rounds_index_byte(round, written.length);
+        head.at[4 + round] = t16;
+        written = owner_plan_Planner_write_round(&planner, round, written, rows);
         round = round + 1;
     }
     return written;
@@ -2440,44 +2628,27 @@ uint8_t ttpa_owner(const uint8_t *file_at, size_t file_len, uint8_t master, uint
     }
 }
 
-/* line::pattern::row_at. Each row by a number of its own, and the compiler makes the table read-only data;
- * indexed by a variable it is laid out on the stack in each call. */
+/* line::pattern::row_at. A row by its number. */
 static inline uint64_t line_pattern_row_at(uint16_t row)
 {
-    switch (row) {
-    case 0:
-        return UINT64_C(0x8228288228828228);
-    case 1:
-        return UINT64_C(0x2882822882282882);
-    case 2:
-        return UINT64_C(0x2882822882242882);
-    case 3:
-        return UINT64_C(0x8228288228828128);
-    case 4:
-        return UINT64_C(0x2882422882282882);
-    case 5:
-        return UINT64_C(0x8218288228828228);
-    case 6:
-        return UINT64_C(0x8228288228828228);
-    case 7:
-        return UINT64_C(0x2882822882282882);
-    case 8:
-        return UINT64_C(0x2882822882282882);
-    case 9:
-        return UINT64_C(0x8228288228828228);
-    case 10:
-        return UINT64_C(0x8228248228828228);
-    case 11:
-        return UINT64_C(0x2881822882282882);
-    case 12:
-        return UINT64_C(0x8228288228428228);
-    case 13:
-        return UINT64_C(0x2882822882281882);
-    case 14:
-        return UINT64_C(0x2882822882282882);
-    default:
-        return UINT64_C(0x8228288228828228);
-    }
+    uint64_t t8[16];
+    t8[0] = UINT64_C(0x8228288228828228);
+    t8[1] = UINT64_C(0x2882822882282882);
+    t8[2] = UINT64_C(0x2882822882242882);
+    t8[3] = UINT64_C(0x8228288228828128);
+    t8[4] = UINT64_C(0x2882422882282882);
+    t8[5] = UINT64_C(0x8218288228828228);
+    t8[6] = UINT64_C(0x8228288228828228);
+    t8[7] = UINT64_C(0x2882822882282882);
+    t8[8] = UINT64_C(0x2882822882282882);
+    t8[9] = UINT64_C(0x8228288228828228);
+    t8[10] = UINT64_C(0x8228248228828228);
+    t8[11] = UINT64_C(0x2881822882282882);
+    t8[12] = UINT64_C(0x8228288228428228);
+    t8[13] = UINT64_C(0x2882822882281882);
+    t8[14] = UINT64_C(0x2882822882282882);
+    t8[15] = UINT64_C(0x8228288228828228);
+    return t8[(uint64_t)row];
 }
 
 /* line::pattern::read_pattern. */
@@ -2616,15 +2787,20 @@ static inline _Bool frame_reader_is_no_address(slice_u8 frame)
 }
 
 /* frame::check::check_of. */
-static inline uint8_t frame_check_check_of(uint8_t firework, uint8_t b0, uint8_t b1, uint8_t b2, uint8_t b3)
+static inline uint8_t frame_check_check_of(uint8_t firework, const uint8_t *bytes)
 {
-    return (uint8_t)(firework ^ (uint8_t)(b0 ^ (uint8_t)(b1 ^ (uint8_t)(b2 ^ b3))));
+    return (uint8_t)(firework ^ (uint8_t)(bytes[0] ^ (uint8_t)(bytes[1] ^ (uint8_t)(bytes[2] ^ bytes[3]))));
 }
 
 /* frame::check::address_check. */
 static inline uint8_t frame_check_address_check(uint8_t b0, uint8_t b1, uint8_t b2, uint8_t b3)
 {
-    return frame_check_check_of(85, b0, b1, b2, b3);
+    uint8_t t5[4];
+    t5[0] = b0;
+    t5[1] = b1;
+    t5[2] = b2;
+    t5[3] = b3;
+    return frame_check_check_of(85, t5);
 }
 
 /* frame::reader::is_wrong_check. */
@@ -2860,7 +3036,12 @@ static inline _Bool cluster_msd_is_write_pending(slice_u8 file)
 /* frame::check::data_check. The check of an MSD's data, and of a slave's reply to a read. */
 static inline uint8_t frame_check_data_check(uint8_t b0, uint8_t b1, uint8_t b2, uint8_t b3)
 {
-    return frame_check_check_of(73, b0, b1, b2, b3);
+    uint8_t t5[4];
+    t5[0] = b0;
+    t5[1] = b1;
+    t5[2] = b2;
+    t5[3] = b3;
+    return frame_check_check_of(73, t5);
 }
 
 /* cluster::msd::read_data. */
@@ -3030,13 +3211,14 @@ static inline file_records_RecordPlace file_records_find_record(slice_u8 file, u
 static inline file_records_RecordPlace file_records_place_of_record(slice_u8 file, const uint16_t *places,
         uint64_t slave, file_types_FileNumber number, file_types_RecordNumber record)
 {
-    if (number.f0 == 8) {
+    file_types_FileNumber place = number;
+    if (place.f0 == 8) {
         if (record.f0 <= 3) {
-            uint64_t place = (uint64_t)places[2 * slave];
-            return (file_records_RecordPlace){.tag = 0, .as.At.f0 = place + 4 * (uint64_t)record.f0};
+            return (file_records_RecordPlace){.tag = 0, .as.At.f0 = (uint64_t)places[2 * slave] + 4 *
+                    (uint64_t)record.f0};
         }
     }
-    return file_records_find_record(file, slave, number, record);
+    return file_records_find_record(file, slave, place, record);
 }
 
 /* file::records::read_place. The same for a read alone: the records of 0x3D that every slave has need none
@@ -3094,15 +3276,17 @@ static inline uint64_t master_slave_slaves_read_slave(slice_u8 file, const uint1
     return 5;
 }
 
-/* master_slave::duty::read_round. */
+/* master_slave::duty::read_round. The loop stands in each round: what a slave's step is lent differs (the
+ * file read or written, buffer and last slot or data), and a closure that takes them is no form of the
+ * portable C file. */
 static inline uint64_t master_slave_duty_read_round(slice_u8 file, const uint16_t *places,
         master_slave_types_RecordAddress address, slice_mut_u8 buffer)
 {
     master_slave_slots_silence(buffer, 73);
     uint64_t last = 0;
-    uint64_t count = file_readers_slave_count(file);
     uint64_t slave = 0;
-    while (slave < count) {
+    uint64_t t10 = file_readers_slave_count(file);
+    while (slave < t10) {
         last = master_slave_slaves_read_slave(file, places, slave, address, buffer, last);
         slave = slave + 1;
     }
@@ -3120,7 +3304,8 @@ static inline uint64_t master_slave_slots_mask_to(uint64_t last)
 {
     uint64_t mask = 0;
     uint64_t slot = 1;
-    while (slot <= last) {
+    uint64_t t4 = last + 1;
+    while (slot < t4) {
         mask = master_slave_slots_with_sender(mask, slot);
         slot = slot + 1;
     }
@@ -3220,9 +3405,9 @@ static inline void master_slave_duty_write_round(slice_mut_u8 file, const uint16
     if (!master_slave_duty_may_write(address.number, address.record)) {
         return;
     }
-    uint64_t count = file_readers_slave_count(lend_u8(file));
     uint64_t slave = 0;
-    while (slave < count) {
+    uint64_t t10 = file_readers_slave_count(lend_u8(file));
+    while (slave < t10) {
         master_slave_slaves_write_slave(file, places, slave, address, bytes);
         slave = slave + 1;
     }
@@ -3277,9 +3462,9 @@ static inline uint64_t master_slave_duty_compare_round(slice_u8 file, const uint
 {
     master_slave_slots_silence(buffer, 73);
     uint64_t last = 0;
-    uint64_t count = file_readers_slave_count(file);
     uint64_t slave = 0;
-    while (slave < count) {
+    uint64_t t10 = file_readers_slave_count(file);
+    while (slave < t10) {
         last = master_slave_slaves_compare_slave(file, places, slave, name, buffer, last);
         if (last == 1) {
             return 1;
@@ -3320,9 +3505,9 @@ static inline void master_slave_slaves_baptize_slave(slice_mut_u8 file, const ui
 static inline void master_slave_duty_baptize_round(slice_mut_u8 file, const uint16_t *places,
         file_types_LogicalName name)
 {
-    uint64_t count = file_readers_slave_count(lend_u8(file));
     uint64_t slave = 0;
-    while (slave < count) {
+    uint64_t t5 = file_readers_slave_count(lend_u8(file));
+    while (slave < t5) {
         master_slave_slaves_baptize_slave(file, places, slave, name);
         slave = slave + 1;
     }
@@ -3365,19 +3550,15 @@ static inline uint64_t master_slave_duty_do_duty(slice_mut_u8 file, const uint16
 static inline _Bool master_slave_sleep_puts_to_sleep(master_slave_pending_Duty duty)
 {
     switch (duty.tag) {
-    case 0:
-        return 0;
-    case 1:
-        return 0;
-    case 2:
-        return 0;
-    case 3:
-        return 0;
-    case 4:
-        return 0;
     case 5:
-    default:
         return 1;
+    case 0:
+    case 1:
+    case 2:
+    case 3:
+    case 4:
+    default:
+        return 0;
     }
 }
 
@@ -3426,20 +3607,21 @@ static inline void master_slave_slaves_sleep_slave(slice_mut_u8 file, const uint
 static inline void master_slave_sleep_sleep_round(slice_mut_u8 file, const uint16_t *places,
         file_types_LogicalName name)
 {
-    uint64_t count = file_readers_slave_count(lend_u8(file));
     uint64_t slave = 0;
-    while (slave < count) {
+    uint64_t t5 = file_readers_slave_count(lend_u8(file));
+    while (slave < t5) {
         master_slave_slaves_sleep_slave(file, places, slave, name);
         slave = slave + 1;
     }
 }
 
-/* master_slave::sleep::wake_slaves. After any other round than a sleep everyone is awake. */
+/* master_slave::sleep::wake_slaves. After any other round than a sleep everyone is awake. The loop stands
+ * here and in `sleep_round`, as in `duty`'s rounds. */
 static inline void master_slave_sleep_wake_slaves(slice_mut_u8 file)
 {
-    uint64_t count = file_readers_slave_count(lend_u8(file));
     uint64_t slave = 0;
-    while (slave < count) {
+    uint64_t t3 = file_readers_slave_count(lend_u8(file));
+    while (slave < t3) {
         file_writers_set_sleep(file, slave, 0);
         slave = slave + 1;
     }
@@ -3500,18 +3682,18 @@ static inline multipartner_round_files_RoundFile multipartner_round_files_round_
     return multipartner_round_files_planned_file(file, places, slave, round);
 }
 
-/* multipartner::round_files::round_files. The same of every slave, put in front of whatever else the lent
- * arrays hold. */
+/* multipartner::round_files::round_files. All that it runs, of every slave, put in front of whatever else
+ * the lent array holds. */
 static inline void multipartner_round_files_round_files(slice_u8 file, const uint16_t *places,
-        file_types_FileNumber round, uint32_t *starts, uint32_t *ends)
+        file_types_FileNumber round, multipartner_round_files_OpenEntries *lists)
 {
     uint64_t count = file_readers_slave_count(file);
     uint64_t slave = 0;
     while (slave < count) {
         multipartner_round_files_RoundFile found = multipartner_round_files_round_file(file, places, slave,
                 round);
-        starts[slave] = (uint32_t)found.start;
-        ends[slave] = (uint32_t)found.end;
+        lists[slave] = (multipartner_round_files_OpenEntries){.start = (uint32_t)found.start,
+                .end = (uint32_t)found.end};
         slave = slave + 1;
     }
 }
@@ -3605,7 +3787,8 @@ static inline multipartner_entry_EntryOperation multipartner_entry_entry_operati
     }
 }
 
-/* multipartner::entry::entry_of. The entry of a record's four bytes. */
+/* multipartner::entry::entry_of. The entry of a record's four bytes. Not of an array: a contract would have
+ * to name each byte by its index, as the one caller does. */
 static inline multipartner_entry_Entry multipartner_entry_entry_of(uint8_t b0, uint8_t b1, uint8_t b2,
         uint8_t b3)
 {
@@ -3645,17 +3828,16 @@ static inline file_records_FileBytes multipartner_kept_files_bytes_of(slice_u8 f
  * named last is kept, by its number, place and size. Looked for is another one only. No round moves or
  * resizes a file. */
 static inline void multipartner_kept_files_keep_file(slice_u8 file, uint64_t slave,
-        file_types_FileNumber number, uint8_t *numbers, uint32_t *froms, uint32_t *sizes)
+        file_types_FileNumber number, multipartner_kept_files_KeptFile *kept)
 {
-    if (numbers[slave] == number.f0) {
+    file_types_FileNumber last = number;
+    multipartner_kept_files_KeptFile bytes = kept[slave];
+    if (bytes.number.f0 == last.f0) {
         return;
     }
-    file_records_FileBytes bytes = multipartner_kept_files_bytes_of(file, slave, number);
-    uint32_t place = (uint32_t)bytes.place;
-    uint32_t size = (uint32_t)bytes.size;
-    numbers[slave] = number.f0;
-    froms[slave] = place;
-    sizes[slave] = size;
+    file_records_FileBytes t7 = multipartner_kept_files_bytes_of(file, slave, last);
+    kept[slave] = (multipartner_kept_files_KeptFile){.place = (uint32_t)t7.place, .size = (uint16_t)t7.size,
+            .number = last};
 }
 
 /* multipartner::entry::byte_place. The byte of the entry's file that a slot is about. */
@@ -3665,7 +3847,8 @@ static inline uint64_t multipartner_entry_byte_place(multipartner_entry_Entry en
     return 4 * record + entry.address.align + (slot - entry.slot);
 }
 
-/* multipartner::entry::action_of. */
+/* multipartner::entry::action_of. One arm for each code, as in the table: patterns joined by `|` stand in as
+ * many lines. */
 static inline multipartner_entry_EntryAction multipartner_entry_action_of(multipartner_entry_EntryOperation
         operation)
 {
@@ -3750,11 +3933,12 @@ static inline multipartner_slot_act_SlotAct multipartner_slot_act_slot_act(slice
 
 /* multipartner::slot_act::act_at. What the entry at a place makes its slave do. */
 static inline multipartner_slot_act_SlotAct multipartner_slot_act_act_at(slice_u8 file, uint64_t slave,
-        uint64_t at, uint64_t slot, uint8_t *numbers, uint32_t *froms, uint32_t *sizes)
+        uint64_t at, uint64_t slot, multipartner_kept_files_KeptFile *kept)
 {
     multipartner_entry_Entry entry = multipartner_entry_entry_at(file, at);
-    multipartner_kept_files_keep_file(file, slave, entry.address.file, numbers, froms, sizes);
-    return multipartner_slot_act_slot_act(file, entry, slot, (uint64_t)froms[slave], (uint64_t)sizes[slave]);
+    multipartner_kept_files_keep_file(file, slave, entry.address.file, kept);
+    return multipartner_slot_act_slot_act(file, entry, slot, (uint64_t)kept[slave].place,
+            (uint64_t)kept[slave].size);
 }
 
 /* multipartner::slot_act::bus_with. The bus byte with what a slave sends. */
@@ -3836,38 +4020,37 @@ static inline uint64_t multipartner_multipartner_next_after(slice_u8 file, uint6
 }
 
 /* multipartner::stores::store. The slot's byte stored at each of those places. */
-static inline void multipartner_stores_store(slice_mut_u8 file, const uint32_t *stores, uint64_t count,
-        uint8_t byte)
+static inline void multipartner_stores_store(slice_mut_u8 file, slice_u32 places, uint8_t byte)
 {
-    uint64_t i = 0;
-    while (i < count) {
-        uint64_t place = (uint64_t)stores[i];
-        file.at[place] = byte;
-        i = i + 1;
+    uint64_t t4 = 0;
+    uint64_t t6 = places.len;
+    while (t4 < t6) {
+        const uint32_t *place = places.at + t4;
+        file.at[(uint64_t)*place] = byte;
+        t4 = t4 + 1;
     }
 }
 
 /* multipartner::multipartner::run_slots. Slots 1 to 63 of a multipartner round. Where each slave's entries
  * lie is found once, before the first slot: no receive stores in a round file or in 0x08. From slot to slot
- * `starts` leaves out the entries in front that cannot act again: those that cover no later slot, and
- * multiplexed ones out of turn, which go by the round's epoch. Places and sizes are kept in four bytes each,
- * for the stack. */
+ * `lists` leaves out the entries in front that cannot act again: those that cover no later slot, and
+ * multiplexed ones out of turn, which go by the round's epoch. */
 static inline uint64_t multipartner_multipartner_run_slots(slice_mut_u8 file, const uint16_t *places,
         uint8_t round, uint8_t epoch, uint8_t firework, slice_mut_u8 buffer)
 {
     uint64_t count = file_readers_slave_count(lend_u8(file));
-    uint32_t starts[64];
-    memset(starts, 0, sizeof starts);
-    uint32_t ends[64];
-    memset(ends, 0, sizeof ends);
-    multipartner_round_files_round_files(lend_u8(file), places, (file_types_FileNumber){.f0 = round}, starts,
-            ends);
-    uint8_t numbers[64];
-    memset(numbers, 255, sizeof numbers);
-    uint32_t froms[64];
-    memset(froms, 0, sizeof froms);
-    uint32_t sizes[64];
-    memset(sizes, 0, sizeof sizes);
+    multipartner_round_files_OpenEntries t23 = (multipartner_round_files_OpenEntries){.start = 0, .end = 0};
+    multipartner_round_files_OpenEntries lists[64];
+    for (size_t at_each = 0; at_each < 64; at_each++) {
+        lists[at_each] = t23;
+    }
+    multipartner_round_files_round_files(lend_u8(file), places, (file_types_FileNumber){.f0 = round}, lists);
+    multipartner_kept_files_KeptFile t29 = (multipartner_kept_files_KeptFile){.place = 0, .size = 0,
+            .number = (file_types_FileNumber){.f0 = 255}};
+    multipartner_kept_files_KeptFile kept[64];
+    for (size_t at_each = 0; at_each < 64; at_each++) {
+        kept[at_each] = t29;
+    }
     uint32_t stores[64];
     memset(stores, 0, sizeof stores);
     uint64_t mask = 0;
@@ -3879,8 +4062,8 @@ static inline uint64_t multipartner_multipartner_run_slots(slice_mut_u8 file, co
         uint64_t stored = 0;
         uint64_t slave = 0;
         while (slave < count) {
-            uint64_t end = (uint64_t)ends[slave];
-            uint64_t at = (uint64_t)starts[slave];
+            uint64_t end = (uint64_t)lists[slave].end;
+            uint64_t at = (uint64_t)lists[slave].start;
             uint64_t next = at;
             while (at < end) {
                 if (multipartner_entry_ends_at(lend_u8(file), at)) {
@@ -3889,7 +4072,7 @@ static inline uint64_t multipartner_multipartner_run_slots(slice_mut_u8 file, co
                 if (!multipartner_entry_waits_at(lend_u8(file), at, slot)) {
                     if (multipartner_entry_acts_at(lend_u8(file), at, slot, epoch)) {
                         multipartner_slot_act_SlotAct act = multipartner_slot_act_act_at(lend_u8(file), slave,
-                                at, slot, numbers, froms, sizes);
+                                at, slot, kept);
                         bus = multipartner_slot_act_bus_with(bus, act);
                         heard = multipartner_slot_act_heard_with(heard, act);
                         stored = multipartner_stores_put_store(stores, stored, act);
@@ -3900,12 +4083,12 @@ static inline uint64_t multipartner_multipartner_run_slots(slice_mut_u8 file, co
                 }
                 at = at + 4;
             }
-            starts[slave] = (uint32_t)next;
+            lists[slave].start = (uint32_t)next;
             slave = slave + 1;
         }
         if (heard) {
             mask = master_slave_slots_with_sender(mask, slot);
-            multipartner_stores_store(file, stores, stored, bus);
+            multipartner_stores_store(file, (slice_u32){stores, stored}, bus);
         }
         buffer.at[slot] = bus;
         slot = slot + 1;
@@ -4001,7 +4184,8 @@ uint8_t ttpa_round(uint8_t *file_at, size_t file_len, const uint8_t *frame_at, s
 }
 
 /* summary::matching::is_wrong. Whether the count is not that of the file's slaves, or the slice does not
- * begin with their names. */
+ * begin with their names. The C interface hands in slice and count apart, here and in the calls, and 24
+ * speaks of a count above the slice's length too. File and places stay two arguments, as `naming::run` says. */
 static inline _Bool summary_matching_is_wrong(slice_u8 file, const uint16_t *places, slice_u8 held,
         uint64_t count)
 {
@@ -4100,7 +4284,7 @@ uint8_t ttpa_screens(uint8_t state[33])
 }
 
 /* convert::editions::width_in. The bytes of an offset in an edition: "In edition 2 offsets and length have 4
- * bytes". */
+ * bytes". A number and no enum: each size and place is a product with it. */
 static inline uint64_t convert_editions_width_in(convert_editions_Edition edition)
 {
     switch (edition.tag) {
@@ -4130,7 +4314,7 @@ static inline void convert_convert_put_form(slice_mut_u8 out, uint64_t width, ui
     uint64_t table = 8 + 4 * width;
     uint64_t place = table + (2 * width) * file_readers_slave_count(file);
     convert_header_put_header(out, width, size, file);
-    convert_slaves_put_slaves(out, width, table, place, file, 1);
+    convert_slaves_put_slaves(out, width, table, place, file, (convert_table_SleepBytes){.tag = 0});
 }
 
 /* convert::convert::put_file. A file's form at a width, of that length: "Converting to the edition a file
@@ -4216,13 +4400,16 @@ uint8_t ttpa_to_edition_2(const uint8_t *file_at, size_t file_len, uint8_t *out_
 static inline _Bool trace_layout_whole_rows(slice_u8 trace, uint64_t count)
 {
     uint64_t end = 4 + 3 * count;
-    uint64_t row = 4;
     uint64_t place = 0;
+    uint64_t row = 4;
     while (row < end) {
         if (file_numbers_u16_at(trace, row) != place) {
             return 0;
         }
         place = place + file_numbers_byte_at(trace, row + 2);
+        if (3 >= end - row) {
+            break;
+        }
         row = row + 3;
     }
     return place == file_numbers_u16_at(trace, 2);
@@ -4262,15 +4449,11 @@ static inline _Bool master_slave_sleep_leaves_slaves(master_slave_pending_Duty d
 {
     switch (duty.tag) {
     case 0:
-        return 1;
     case 1:
-        return 1;
-    case 2:
-        return 0;
     case 3:
         return 1;
+    case 2:
     case 4:
-        return 0;
     case 5:
     default:
         return 0;
@@ -4294,7 +4477,8 @@ static inline _Bool cluster_msd_carry_unheard(slice_mut_u8 file, const uint16_t 
     return master_slave_sleep_puts_to_sleep(duty);
 }
 
-/* cluster::msd::take_unheard. A data frame that nobody hears. */
+/* cluster::msd::take_unheard. A data frame that nobody hears. No twin of `take_data`: it carries out less
+ * (`carry_unheard`) and answers who may be asleep, and no mask. */
 static inline cluster_answer_Unheard cluster_msd_take_unheard(slice_mut_u8 file, const uint16_t *places,
         slice_u8 frame, slice_mut_u8 buffer, _Bool sleepers)
 {
@@ -4312,7 +4496,8 @@ static inline cluster_answer_Unheard cluster_msd_take_unheard(slice_mut_u8 file,
 }
 
 /* cluster::round::one_unheard. The same of a frame that nobody hears, by the round that it opens. Whether
- * someone may be asleep before it, and afterwards. */
+ * someone may be asleep before it, and afterwards. Each of its four arms calls another function than that of
+ * `one_frame` or answers otherwise: the two differ in more than a type or a constant. */
 static inline cluster_answer_Unheard cluster_round_one_unheard(slice_mut_u8 file, const uint16_t *places,
         frame_firework_Firework firework, slice_u8 frame, slice_mut_u8 buffer, _Bool sleepers)
 {
@@ -4364,7 +4549,8 @@ static inline trace_report_Report trace_report_one_carried(trace_report_Report r
     }
 }
 
-/* trace::report::counted. One frame more: "a refused frame counting as refused only". */
+/* trace::report::counted. One frame more: "a refused frame counting as refused only". Two arguments and no
+ * Option: a refused frame has its firework too, and an Option would be made of the two at the one call. */
 static inline trace_report_Report trace_report_counted(trace_report_Report report, _Bool carried,
         frame_firework_Firework firework)
 {
@@ -4375,7 +4561,7 @@ static inline trace_report_Report trace_report_counted(trace_report_Report repor
 }
 
 /* trace::run::run_frame. One frame sent and counted. Nobody hears its answer: the buffer is one for all
- * frames. */
+ * frames. File and places stay two arguments, as `naming::run` says. */
 static inline trace_run_Progress trace_run_run_frame(slice_mut_u8 file, const uint16_t *places, slice_u8 frame,
         uint8_t *buffer, trace_run_Progress before)
 {
@@ -4396,13 +4582,16 @@ static inline trace_report_Report trace_run_run_frames(slice_mut_u8 file, const 
     memset(buffer, 0, sizeof buffer);
     trace_run_Progress progress = (trace_run_Progress){.report = (trace_report_Report){.msa = 0, .msd = 0,
             .multipartner = 0, .refused = 0}, .sleepers = 1};
-    uint64_t row = 4;
     uint64_t start = data_place;
+    uint64_t row = 4;
     while (row < data_place) {
         uint64_t end = start + file_numbers_byte_at(trace, row + 2);
         progress = trace_run_run_frame(file, places, (slice_u8){cut_u8(trace.at, start), end - start}, buffer,
                 progress);
         start = end;
+        if (3 >= data_place - row) {
+            break;
+        }
         row = row + 3;
     }
     return progress.report;
@@ -4467,22 +4656,19 @@ static inline uint8_t screens_state_next_screen(uint8_t screen)
 }
 
 /* screens::state::due_screen. "the next waiting screen after the one last served, in cyclic order": that one
- * itself is asked last. */
-static inline screens_state_DueScreen screens_state_due_screen(const uint8_t *state)
+ * itself is asked last. None where nobody waits. */
+static inline Option_u8 screens_state_due_screen(const uint8_t *state)
 {
-    uint8_t last = state[0];
-    uint8_t screen = last;
-    for (;;) {
+    uint8_t screen = state[0];
+    uint8_t asked = 0;
+    while (asked < 8) {
         screen = screens_state_next_screen(screen);
         if (screens_state_is_waiting(state, screen)) {
-            return (screens_state_DueScreen){.tag = 1, .as.Screen.f0 = screen};
+            return (Option_u8){.tag = 1, .as.Some.f0 = screen};
         }
-        if (screen == last) {
-            return (screens_state_DueScreen){.tag = 0};
-        }
+        asked = (uint8_t)(asked + 1);
     }
-    screens_state_DueScreen t0;
-    return t0;
+    return (Option_u8){.tag = 0};
 }
 
 /* screens::state::read_at. The read in a screen's four bytes. Of a slice, since the elements of a lent array
@@ -4504,14 +4690,14 @@ static inline master_slave_types_RecordAddress screens_state_posted_read(const u
 
 /* screens::turn::due_ground. 18 and 14 on the read that is due, of a state that 27 does not refuse; 0 where
  * neither holds, or nobody waits. */
-static inline uint8_t screens_turn_due_ground(const uint8_t *state, screens_state_DueScreen next)
+static inline uint8_t screens_turn_due_ground(const uint8_t *state, Option_u8 next)
 {
     switch (next.tag) {
     case 0:
         return 0;
     case 1:
     default: {
-        uint8_t screen = next.as.Screen.f0;
+        uint8_t screen = next.as.Some.f0;
         master_slave_types_RecordAddress read = screens_state_posted_read(state, screen);
         return screens_post_read_ground(read);
     }
@@ -4521,11 +4707,9 @@ static inline uint8_t screens_turn_due_ground(const uint8_t *state, screens_stat
 /* screens::turn::read_round. A read, as a complete round. */
 static inline master_slave_types_MasterSlaveRound screens_turn_read_round(master_slave_types_RecordAddress read)
 {
-    file_types_LogicalName name = read.name;
-    file_types_FileNumber number = read.number;
-    file_types_RecordNumber record = read.record;
-    return (master_slave_types_MasterSlaveRound){.name = name, .number = number,
-            .operation = (file_types_Operation){.f0 = 0}, .record = record, .b0 = 0, .b1 = 0, .b2 = 0, .b3 = 0};
+    return (master_slave_types_MasterSlaveRound){.name = read.name, .number = read.number,
+            .operation = (file_types_Operation){.f0 = 0}, .record = read.record, .b0 = 0, .b1 = 0, .b2 = 0,
+            .b3 = 0};
 }
 
 /* master_slave::master_slave::master_slave. The operation becomes pending and is carried out. The mask of
@@ -4556,16 +4740,17 @@ static inline void screens_state_mark_served(uint8_t *state, uint8_t screen)
     state[place] = 0;
 }
 
-/* screens::turn::serve. The turn, where no ground refuses it: nothing, or the round of the read that is due. */
+/* screens::turn::serve. The turn, where no ground refuses it: nothing, or the round of the read that is due.
+ * File and places stay two arguments, as `naming::run` says. */
 static inline screens_turn_Turned screens_turn_serve(slice_mut_u8 file, const uint16_t *places, uint8_t *state,
-        screens_state_DueScreen next, slice_mut_u8 buffer)
+        Option_u8 next, slice_mut_u8 buffer)
 {
     switch (next.tag) {
     case 0:
         return (screens_turn_Turned){.tag = 1};
     case 1:
     default: {
-        uint8_t screen = next.as.Screen.f0;
+        uint8_t screen = next.as.Some.f0;
         master_slave_types_RecordAddress read = screens_state_posted_read(state, screen);
         master_slave_types_MasterSlaveRound t13 = screens_turn_read_round(read);
         uint64_t senders = cluster_sending_send(file, places, t13, buffer);
@@ -4581,7 +4766,7 @@ static inline screens_turn_Turned screens_turn_turn(slice_mut_u8 file, uint8_t *
     if (7 < state[0]) {
         return (screens_turn_Turned){.tag = 0, .as.Refused.f0 = (file_types_Refusal){.f0 = 27}};
     }
-    screens_state_DueScreen next = screens_state_due_screen(state);
+    Option_u8 next = screens_state_due_screen(state);
     uint8_t ground = screens_turn_due_ground(state, next);
     if (ground != 0) {
         return (screens_turn_Turned){.tag = 0, .as.Refused.f0 = (file_types_Refusal){.f0 = ground}};
@@ -4665,12 +4850,13 @@ static inline uint8_t naming_names_marked_ground(slice_u8 names)
 }
 
 /* naming::names::is_unfit_name. Ground 15, of one name. */
-static inline _Bool naming_names_is_unfit_name(uint8_t name)
+static inline _Bool naming_names_is_unfit_name(file_types_LogicalName name)
 {
-    if (name == 0) {
-        return 1;
+    _Bool t3 = name.f0 == 0;
+    if (!t3) {
+        t3 = name.f0 == 255;
     }
-    return name == 255;
+    return t3;
 }
 
 /* naming::names::names_ground. The number by which a list of names is refused, 0 where it is accepted. One
@@ -4680,7 +4866,7 @@ static inline uint8_t naming_names_names_ground(slice_u8 names)
     if (names.len != 1) {
         return naming_names_marked_ground(names);
     }
-    if (naming_names_is_unfit_name(names.at[0])) {
+    if (naming_names_is_unfit_name(file_types_LogicalName_new(names.at[0]))) {
         return 15;
     }
     return 0;
@@ -4799,15 +4985,16 @@ static inline master_slave_types_MasterSlaveRound naming_sending_poll_round(file
 /* naming::position::count_raised. The extra read is made. */
 static inline naming_position_RunPosition naming_position_count_raised(naming_position_RunPosition run)
 {
-    naming_position_RunPlace place = run.place;
-    naming_position_RunCounts counts = (naming_position_RunCounts){.rounds = run.counts.rounds + 1,
-            .comparisons = run.counts.comparisons};
-    naming_position_RunHalves halves = run.halves;
-    return (naming_position_RunPosition){.end = run.end, .place = place, .counts = counts, .halves = halves};
+    return (naming_position_RunPosition){.end = run.end, .place = run.place,
+            .counts = (naming_position_RunCounts){.rounds = run.counts.rounds + 1,
+            .comparisons = run.counts.comparisons}, .halves = run.halves};
 }
 
 /* naming::run::extra_step. The extra read that a run begins with, at its first name: its reply is ignored,
- * and only the count of rounds changes. */
+ * and only the count of rounds changes. File and places, here and in what calls this, stay two arguments
+ * with a clause on them (Placed): of a struct that holds the lent file, each function has to promise besides
+ * that it holds the same file still. So do position and names: each step makes another position, and the
+ * list stays. */
 static inline naming_run_MadeStep naming_run_extra_step(slice_mut_u8 file, const uint16_t *places,
         naming_position_RunPosition run, slice_u8 names, slice_mut_u8 answer)
 {
@@ -4883,11 +5070,9 @@ static inline uint64_t naming_standing_needless_writes(naming_position_RunPositi
 static inline naming_position_RunPosition naming_standing_passed_over(naming_position_RunPosition run,
         uint64_t steps)
 {
-    naming_position_RunPlace place = (naming_position_RunPlace){.index = run.place.index,
-            .step = run.place.step + steps, .value = run.place.value};
-    naming_position_RunCounts counts = run.counts;
-    naming_position_RunHalves halves = run.halves;
-    return (naming_position_RunPosition){.end = run.end, .place = place, .counts = counts, .halves = halves};
+    return (naming_position_RunPosition){.end = run.end, .place = (naming_position_RunPlace){.index =
+            run.place.index, .step = run.place.step + steps, .value = run.place.value}, .counts = run.counts,
+            .halves = run.halves};
 }
 
 /* naming::standing::standing_at. */
@@ -4920,19 +5105,9 @@ static inline master_slave_types_MasterSlaveRound naming_sending_half_round(file
     return naming_sending_write_round(record, b0, b1, b2, b3);
 }
 
-/* naming::sending::high_round. */
-static inline master_slave_types_MasterSlaveRound naming_sending_high_round(uint64_t value)
-{
-    return naming_sending_half_round((file_types_RecordNumber){.f0 = 2}, value / UINT64_C(0x100000000));
-}
-
-/* naming::sending::low_round. */
-static inline master_slave_types_MasterSlaveRound naming_sending_low_round(uint64_t value)
-{
-    return naming_sending_half_round((file_types_RecordNumber){.f0 = 3}, value % UINT64_C(0x100000000));
-}
-
-/* naming::sending::execute_round. An execute of a record of 0x08 of the unnamed slaves. */
+/* naming::sending::execute_round. An execute of a record of 0x08 of the unnamed slaves. Not one function
+ * with the write: a write's content is its four bytes, that of an execute is none, and the promise would
+ * have to tell them apart by the operation. */
 static inline master_slave_types_MasterSlaveRound naming_sending_execute_round(file_types_RecordNumber record)
 {
     return (master_slave_types_MasterSlaveRound){.name = (file_types_LogicalName){.f0 = 255},
@@ -4961,10 +5136,12 @@ static inline master_slave_types_MasterSlaveRound naming_sending_round_at(naming
         file_types_LogicalName name)
 {
     if (at.writing.part == 0) {
-        return naming_sending_high_round(at.writing.value);
+        return naming_sending_half_round((file_types_RecordNumber){.f0 = 2},
+                at.writing.value / UINT64_C(0x100000000));
     }
     if (at.writing.part == 1) {
-        return naming_sending_low_round(at.writing.value);
+        return naming_sending_half_round((file_types_RecordNumber){.f0 = 3},
+                at.writing.value % UINT64_C(0x100000000));
     }
     return naming_sending_other_round(at.run.place.step, name);
 }
@@ -4982,18 +5159,16 @@ static inline naming_advance_Reply naming_sending_reply_in(uint64_t senders)
 static inline naming_position_RunPosition naming_advance_wrote(naming_standing_Standing at)
 {
     naming_position_RunPosition run = at.run;
-    naming_position_RunPlace place = run.place;
-    naming_position_RunCounts counts = run.counts;
     if (at.writing.part == 0) {
         naming_position_RunHalves halves = (naming_position_RunHalves){.high = at.writing.value /
                 UINT64_C(0x100000000), .low = run.halves.low};
-        return (naming_position_RunPosition){.end = run.end, .place = place, .counts = counts,
+        return (naming_position_RunPosition){.end = run.end, .place = run.place, .counts = run.counts,
                 .halves = halves};
     }
     if (at.writing.part == 1) {
         naming_position_RunHalves halves_2 = (naming_position_RunHalves){.high = run.halves.high,
                 .low = at.writing.value % UINT64_C(0x100000000)};
-        return (naming_position_RunPosition){.end = run.end, .place = place, .counts = counts,
+        return (naming_position_RunPosition){.end = run.end, .place = run.place, .counts = run.counts,
                 .halves = halves_2};
     }
     return run;
@@ -5003,12 +5178,10 @@ static inline naming_position_RunPosition naming_advance_wrote(naming_standing_S
 static inline naming_position_RunPosition naming_position_go_on(naming_position_RunPosition run, uint64_t value,
         uint64_t more)
 {
-    naming_position_RunPlace place = (naming_position_RunPlace){.index = run.place.index,
-            .step = run.place.step + 1, .value = value};
-    naming_position_RunCounts counts = (naming_position_RunCounts){.rounds = run.counts.rounds + 1,
-            .comparisons = run.counts.comparisons + more};
-    naming_position_RunHalves halves = run.halves;
-    return (naming_position_RunPosition){.end = run.end, .place = place, .counts = counts, .halves = halves};
+    return (naming_position_RunPosition){.end = run.end, .place = (naming_position_RunPlace){.index =
+            run.place.index, .step = run.place.step + 1, .value = value},
+            .counts = (naming_position_RunCounts){.rounds = run.counts.rounds + 1,
+            .comparisons = run.counts.comparisons + more}, .halves = run.halves};
 }
 
 /* naming::advance::written. After a round that writes a half, at the next round really made: the next step
@@ -5026,13 +5199,11 @@ static inline naming_position_RunPosition naming_advance_written(naming_standing
 static inline naming_position_RunPosition naming_position_next_name(naming_position_RunPosition run,
         uint64_t count)
 {
-    uint64_t end = naming_position_end_at(count, run.place.index + 1);
-    naming_position_RunPlace place = (naming_position_RunPlace){.index = run.place.index + 1, .step = 0,
-            .value = run.place.value};
-    naming_position_RunCounts counts = (naming_position_RunCounts){.rounds = run.counts.rounds + 1,
-            .comparisons = run.counts.comparisons};
-    naming_position_RunHalves halves = run.halves;
-    return (naming_position_RunPosition){.end = end, .place = place, .counts = counts, .halves = halves};
+    uint64_t index = run.place.index + 1;
+    uint64_t t4 = naming_position_end_at(count, index);
+    return (naming_position_RunPosition){.end = t4, .place = (naming_position_RunPlace){.index = index,
+            .step = 0, .value = run.place.value}, .counts = (naming_position_RunCounts){.rounds =
+            run.counts.rounds + 1, .comparisons = run.counts.comparisons}, .halves = run.halves};
 }
 
 /* naming::advance::polled. After the poll: a name that is taken ends its pass. */
@@ -5052,11 +5223,9 @@ static inline naming_position_RunPosition naming_advance_polled(naming_position_
 /* naming::position::all_named. */
 static inline naming_position_RunPosition naming_position_all_named(naming_position_RunPosition run)
 {
-    naming_position_RunPlace place = run.place;
-    naming_position_RunCounts counts = (naming_position_RunCounts){.rounds = run.counts.rounds + 1,
-            .comparisons = run.counts.comparisons + 1};
-    naming_position_RunHalves halves = run.halves;
-    return (naming_position_RunPosition){.end = 1, .place = place, .counts = counts, .halves = halves};
+    return (naming_position_RunPosition){.end = 1, .place = run.place,
+            .counts = (naming_position_RunCounts){.rounds = run.counts.rounds + 1,
+            .comparisons = run.counts.comparisons + 1}, .halves = run.halves};
 }
 
 /* naming::advance::compared_with_0. After the first comparison: "Else compare with 0; silence ends the run". */
@@ -5089,7 +5258,9 @@ static inline naming_position_RunPosition naming_advance_compared(naming_positio
     }
 }
 
-/* naming::advance::moved. After a round that writes no half, by the answer. */
+/* naming::advance::moved. After a round that writes no half, by the answer. The step is tested, not looked
+ * up in a table of functions: of 200 steps four kinds are told apart, and what is done at each takes other
+ * arguments. */
 static inline naming_position_RunPosition naming_advance_moved(naming_standing_Standing at, uint64_t count,
         naming_advance_Reply answer)
 {
@@ -5281,14 +5452,14 @@ uint8_t ttpa_step_keeping(uint8_t *file_at, size_t file_len, uint64_t run[8], co
 }
 
 /* frame::writer::put_frame. "MSD is 6 bytes (0x49, four data bytes, check)": at the same places. */
-static inline void frame_writer_put_frame(slice_mut_u8 buf, uint8_t firework, uint8_t b0, uint8_t b1,
-        uint8_t b2, uint8_t b3, uint8_t check)
+static inline void frame_writer_put_frame(slice_mut_u8 buf, uint8_t firework, const uint8_t *bytes,
+        uint8_t check)
 {
     buf.at[0] = firework;
-    buf.at[1] = b0;
-    buf.at[2] = b1;
-    buf.at[3] = b2;
-    buf.at[4] = b3;
+    buf.at[1] = bytes[0];
+    buf.at[2] = bytes[1];
+    buf.at[3] = bytes[2];
+    buf.at[4] = bytes[3];
     buf.at[5] = check;
 }
 
@@ -5297,6 +5468,7 @@ static inline frame_types_FrameWriting frame_writer_write_address(slice_mut_u8 b
         file_types_LogicalName name, file_types_FileNumber file, file_types_Operation operation,
         file_types_RecordNumber record)
 {
+    file_types_FileNumber pb2 = file;
     if (buf.len < 6) {
         return (frame_types_FrameWriting){.tag = 0, .as.Refused.f0 = (file_types_Refusal){.f0 = 9}};
     }
@@ -5306,12 +5478,17 @@ static inline frame_types_FrameWriting frame_writer_write_address(slice_mut_u8 b
     if (file_operations_is_broadcast_read(operation, name)) {
         return (frame_types_FrameWriting){.tag = 0, .as.Refused.f0 = (file_types_Refusal){.f0 = 14}};
     }
-    if (63 < file.f0) {
+    if (63 < pb2.f0) {
         return (frame_types_FrameWriting){.tag = 0, .as.Refused.f0 = (file_types_Refusal){.f0 = 18}};
     }
-    uint8_t pb2 = file_operations_pb2_of(file, operation);
-    uint8_t check = frame_check_address_check(epoch, name.f0, pb2, record.f0);
-    frame_writer_put_frame(buf, 85, epoch, name.f0, pb2, record.f0, check);
+    uint8_t check = file_operations_pb2_of(pb2, operation);
+    uint8_t t9 = frame_check_address_check(epoch, name.f0, check, record.f0);
+    uint8_t t25[4];
+    t25[0] = epoch;
+    t25[1] = name.f0;
+    t25[2] = check;
+    t25[3] = record.f0;
+    frame_writer_put_frame(buf, 85, t25, t9);
     return (frame_types_FrameWriting){.tag = 1};
 }
 
@@ -5349,7 +5526,12 @@ static inline frame_types_FrameWriting frame_writer_write_data(slice_mut_u8 buf,
         return (frame_types_FrameWriting){.tag = 0, .as.Refused.f0 = (file_types_Refusal){.f0 = 9}};
     }
     uint8_t check = frame_check_data_check(b0, b1, b2, b3);
-    frame_writer_put_frame(buf, 73, b0, b1, b2, b3, check);
+    uint8_t t13[4];
+    t13[0] = b0;
+    t13[1] = b1;
+    t13[2] = b2;
+    t13[3] = b3;
+    frame_writer_put_frame(buf, 73, t13, check);
     return (frame_types_FrameWriting){.tag = 1};
 }
 

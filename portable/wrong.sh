@@ -2,7 +2,7 @@
 # Tries the wrong translators kept in rust/portable/wrong/*.edit: the test that an edit names has to find it. On demand, and all of
 # them before a release.
 #
-#   portable/wrong.sh [NAME..]     the named edits, or all       TTPA_MIR: a folder of crates that are built, default crates
+#   portable/wrong.sh [NAME..]     the named edits, or all       TTPA_MIR, TTPA_CORE: as portable/test.sh takes them
 #   portable/wrong.sh --applies    that each still applies and names its test, and nothing built: a part of portable/test.sh
 #
 # An edit begins with three comments, '# PLACE: what is wrong', '# INPUT: demanded / given' and '# found by TEST'; then a line 'file:' and pairs of
@@ -121,7 +121,8 @@ copy_workspace
 if [ -z "$applies" ] && [ -z "${TTPA_MIR:-}" ] && ! (cd crates/ttpa && rt lib >"$copy/built"); then
     fail "crates/ttpa is not built: rt lib"
 else
-    mir=("${TTPA_MIR:-crates}"/*/out/rlib/*.rlib/toolchain/mir.json)
+    mir=("${TTPA_MIR:-crates}"/*/out/rlib/*.rlib/toolchain/mir.json
+        "${TTPA_CORE:-$(dirname "$(rt doc)")/rlibs/core.rlib/toolchain/mir.json}")
     if [ $# -eq 0 ]; then set -- rust/portable/wrong/*.edit; else set -- "${@/#/rust/portable/wrong/}" && set -- "${@/%/.edit}"; fi
     for edit; do try "$edit"; done
 fi

@@ -32,7 +32,8 @@ pub fn counted(n: usize, buffer: &[u8]) -> usize
     n.min(buffer.len())
 }
 
-// Puts a field's bytes at the start of a buffer, and answers how many.
+// Puts a field's bytes at the start of a buffer, and answers how many. No `Vec`: the buffer's length cuts the field, and `filled` shows
+// what stands after it.
 pub fn bytes_at(line: &[u8], field: usize, out: &mut [u8]) -> usize
     ensures { IsPrefixLen result out.new }
 {

@@ -18,7 +18,6 @@ use Rattle.master_slave.specs.Rules.Slaves.{Duty, in_slot, sent_to, pending_duty
 use Rattle.multipartner.specs.Rules.Multipartner.{sent_in, sent_during}
 use Rattle.cluster.specs.Rules.RoundGrounds.{round_by_lem}
 use Rattle.cluster.specs.Rules.Round.{effect_of, frame_on, round_ground, round_on}
-use Rattle.cluster.specs.Inner.Effects.{carried_by}
 use Rattle.cluster.specs.Claims.Mask.{BitsAreSenders, BitZeroNeverSet}
 use Rattle.master_slave.proofs.Bus.{mask_below, mask-bit}
 
@@ -60,7 +59,7 @@ bit_zero c frame =
 -- ---- the mask that an accepted round answers
 
 round-answer : (file frame buffer : List ℕ) → (round_on file frame buffer).0 ≡ result_of (round_ground file frame buffer) (sender_mask (frame_on (decode file) frame).senders)
-unfolding round_on result_of carried_by
+unfolding round_on result_of
 round-answer file frame buffer = by_case (eqb (round_ground file frame buffer) 0) (λ e. rw e) (λ e. rw e)
 
 answered-mask : (file frame buffer : List ℕ) (mask : ℕ) → (round_on file frame buffer).0 ≡ done mask → mask ≡ sender_mask (frame_on (decode file) frame).senders

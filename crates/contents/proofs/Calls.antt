@@ -1,13 +1,7 @@
 -- The bytes that a buffer has room for, what the search for a file tells of its bytes, and the call by its answers.
 -- Assumes nothing.
-use Prim.Native.Nat.{ℕ, zero, suc, ◌+◌, ◌-◌, ◌≤◌, min}
-use native.Mathlib.Omega.{arith}
-use mathlib.Core.Path.{◌≡◌, refl, sym, ap, ◌∙◌}
-use mathlib.Core.List.{List, [], ◌∷◌, ◌++◌}
-use lib.ListN.{length, take, drop, get_or, length-drop}
-use lib.Seq.{take_all, take-length, take-nil, take-take, length-take-le}
-use lib.Dec.{eqb, leb}
-use borrow.Author.Tests.{eq-eqb, ne_eqb, eqb-true, leb-true, leb-false}
+use Rattle.std.proofs.Common.{ℕ, zero, suc, ◌+◌, ◌-◌, ◌≤◌, min, arith, ◌≡◌, refl, sym, ap, ◌∙◌, List, [], ◌∷◌, ◌++◌, length, take, drop, get_or, length-drop, take_all, take-take, length-take-le, eqb, leb, eq-eqb, ne_eqb, eqb-true, leb-true, leb-false}
+use lib.Seq.{take-length, take-nil}
 use Rattle.file.specs.Rules.Bytes.{part}
 use Rattle.file.specs.Rules.Results.{refused, done, written_in}
 use Rattle.file.specs.Rules.Cluster.{Slave, no_slave_lem, Cluster, bytes_among, bytes_in}

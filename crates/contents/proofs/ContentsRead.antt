@@ -1,14 +1,9 @@
 -- What the call tells and leaves.
 -- Assumes nothing.
-use Prim.Native.Nat.{ℕ, zero, suc, ◌+◌, ◌-◌, ◌≤◌, ◌<◌, min}
-use native.Mathlib.Omega.{arith}
-use mathlib.Core.Path.{◌≡◌, refl, sym, ap, ◌∙◌, subst}
-use mathlib.Core.Logic.{◌≢◌}
-use mathlib.Core.List.{List, [], ◌∷◌, ◌++◌}
-use lib.ListN.{length, take, drop, get_or, length-take, get_or-append}
-use lib.Seq.{length-take-le, length_front, get_or-take, get_or-drop, get_or-append-add}
-use lib.Dec.{eqb, leb}
-use borrow.Author.Tests.{eq-eqb, ne_eqb, eqb-true, eqb-false, leb-true, leb-false}
+use Rattle.std.proofs.Common.{ℕ, zero, suc, ◌+◌, ◌-◌, ◌≤◌, ◌<◌, min, arith, ◌≡◌, refl, sym, ap, ◌∙◌, subst, ◌≢◌, List, [], ◌∷◌, ◌++◌, length, take, drop, get_or, length-take, length-take-le, get_or-take, get_or-drop, get_or-append-add, eqb, leb, eq-eqb, ne_eqb, eqb-true, leb-true, leb-false}
+use lib.ListN.{get_or-append}
+use lib.Seq.{length_front}
+use borrow.Author.Tests.{eqb-false}
 use Rattle.file.specs.Rules.Bytes.{Bytes, All, all_empty, all_next}
 use Rattle.file.specs.Rules.Results.{Result, refused, done, written_in}
 use Rattle.file.specs.Rules.Cluster.{File, no_slave_lem, bytes_among, bytes_in}

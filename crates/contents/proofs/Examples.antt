@@ -2,12 +2,7 @@
 -- last has, into buffers of every kind; files and slaves that are not there; cluster files that are refused, one that loading alone refuses;
 -- a file of most bytes. And the claims at them.
 -- Assumes nothing.
-use Prim.Native.Nat.{ℕ, ◌+◌, ◌-◌, ◌^◌, ◌≤◌}
-use native.Mathlib.Omega.{arith}
-use mathlib.Core.Path.{◌≡◌, refl}
-use mathlib.Core.List.{List, [], ◌∷◌, ◌++◌}
-use mathlib.Core.Bool.{true}
-use lib.ListN.{length, take, drop, replicate}
+use Rattle.std.proofs.Common.{ℕ, ◌+◌, ◌-◌, ◌^◌, ◌≤◌, arith, ◌≡◌, refl, List, [], ◌∷◌, ◌++◌, true, length, take, drop, replicate}
 use Rattle.file.specs.Rules.Layout.{width_of}
 use Rattle.file.specs.Rules.Order.{first_of, both, either}
 use Rattle.file.specs.Rules.Bytes.{number_of, part, all_zero}

@@ -1,16 +1,9 @@
 -- The slave table and the slaves, slave by slave: the entries of the slaves so far and, from another place on, these slaves, or their
 -- directories over slaves that were copied.
 -- Assumes nothing.
-use Prim.Native.Nat.{ℕ, zero, suc, ◌+◌, ◌*◌, ◌-◌, ◌≤◌, ◌<◌}
-use native.Mathlib.Omega.{arith}
-use native.Mathlib.Nat.{add-zero}
-use mathlib.Core.Path.{◌≡◌, refl, sym, ap, ◌∙◌, subst}
-use mathlib.Core.List.{List, [], ◌∷◌, ◌++◌, append_assoc}
-use mathlib.Core.Bool.{Bool, false}
-use mir.Syntax.{w64}
-use mir.Val.{Fits}
-use lib.ListN.{length, get_or, take, length-map, length-append}
-use lib.Seq.{sets, length-sets, take_all, length-take-le}
+use Rattle.std.proofs.Common.{ℕ, zero, suc, ◌+◌, ◌*◌, ◌-◌, ◌≤◌, ◌<◌, arith, add-zero, ◌≡◌, refl, sym, ap, ◌∙◌, subst, List, [], ◌∷◌, ◌++◌, append_assoc, Bool, false, w64, Fits, length, get_or, take, length-append, take_all, length-take-le}
+use lib.ListN.{length-map}
+use lib.Seq.{sets, length-sets}
 use Rattle.file.specs.Rules.Bytes.{part}
 use Rattle.file.specs.Rules.Layout.{entry_size_lem}
 use Rattle.file.specs.Rules.Cluster.{Slave}

@@ -1,14 +1,6 @@
 -- The call that converts: its grounds in their order, what it answers, and what it leaves in the buffer.
 -- Assumes nothing.
-use Prim.Native.Nat.{ℕ, ◌*◌, ◌≤◌, ◌<◌}
-use native.Mathlib.Omega.{arith}
-use mathlib.Core.Path.{◌≡◌, refl, sym, ap, ◌∙◌}
-use mathlib.Core.Logic.{◌≢◌}
-use mathlib.Core.List.{List, [], ◌∷◌}
-use mathlib.Core.Bool.{Bool, true, false}
-use lib.ListN.{length}
-use lib.Dec.{ltb}
-use borrow.Author.Tests.{eq-eqb, ne_eqb, lt-ltb, le-ltb, ltb-false}
+use Rattle.std.proofs.Common.{ℕ, ◌*◌, ◌≤◌, ◌<◌, arith, ◌≡◌, refl, sym, ap, ◌∙◌, ◌≢◌, List, [], ◌∷◌, Bool, true, false, length, ltb, eq-eqb, ne_eqb, lt-ltb, le-ltb, ltb-false}
 use Rattle.file.specs.Rules.Order.{first_of, either}
 use Rattle.file.specs.Rules.Layout.{width_in, max_slaves, max_length}
 use Rattle.file.specs.Rules.Results.{refused, done, written_in}

@@ -1,14 +1,7 @@
 -- The grounds of a conversion, each both ways and in their order; 25 only where a file is narrowed.
 -- Assumes nothing.
-use Prim.Native.Nat.{ℕ, ◌≤◌, ◌<◌}
-use native.Mathlib.Omega.{arith}
-use mathlib.Core.Path.{◌≡◌, refl, sym, ap, ◌∙◌, subst}
-use mathlib.Core.Logic.{◌≢◌}
-use mathlib.Core.List.{List}
-use mathlib.Core.Bool.{Bool, true, false}
-use lib.ListN.{length, get_or}
-use lib.Dec.{eqb, ltb}
-use borrow.Author.Tests.{eqb-true, eqb-false, le-ltb, ltb-true, ltb-false}
+use Rattle.std.proofs.Common.{ℕ, ◌≤◌, ◌<◌, arith, ◌≡◌, refl, sym, ap, ◌∙◌, subst, ◌≢◌, List, Bool, true, false, length, get_or, eqb, ltb, eqb-true, le-ltb, ltb-true, ltb-false}
+use borrow.Author.Tests.{eqb-false}
 use Rattle.file.specs.Rules.Order.{either}
 use Rattle.file.specs.Rules.Layout.{OffsetWidth, width_in}
 use Rattle.file.specs.Rules.Cluster.{Slave, Cluster}

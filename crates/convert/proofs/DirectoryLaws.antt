@@ -1,13 +1,6 @@
 -- A slave's directory, entry by entry.
 -- Assumes nothing.
-use Prim.Native.Nat.{ℕ, zero, suc, ◌+◌, ◌*◌, ◌≤◌, ◌<◌}
-use native.Mathlib.Omega.{arith}
-use mathlib.Core.Path.{◌≡◌, sym, ap, ◌∙◌}
-use mathlib.Core.List.{List, [], ◌∷◌, ◌++◌, append-nil}
-use mir.Syntax.{w64}
-use mir.Val.{Fits}
-use lib.ListN.{length, get_or, take, length-append}
-use lib.Seq.{take_all, take-suc, length-take-le}
+use Rattle.std.proofs.Common.{ℕ, zero, suc, ◌+◌, ◌*◌, ◌≤◌, ◌<◌, arith, ◌≡◌, sym, ap, ◌∙◌, List, [], ◌∷◌, ◌++◌, append-nil, w64, Fits, length, get_or, take, length-append, take_all, take-suc, length-take-le}
 use Rattle.file.specs.Rules.Layout.{width_in, entry_size_lem}
 use Rattle.file.specs.Rules.Cluster.{File, last_record}
 use Rattle.file.specs.Rules.Encode.{directory_entry, directory, contents, slave_size}

@@ -1,8 +1,6 @@
 -- The widths of the two editions.
 -- Assumes nothing.
-use Prim.Native.Nat.{ℕ}
-use native.Mathlib.Omega.{arith}
-use mathlib.Core.Path.{◌≡◌, refl}
+use Rattle.std.proofs.Common.{ℕ, arith, ◌≡◌, refl}
 use Rattle.file.specs.Rules.Layout.{OffsetWidth, width_in}
 use Rattle.convert.specs.declared.editions.Edition.{Edition}
 use Rattle.convert.specs.declared.editions.Edition.TheVariants as editions

@@ -1,10 +1,7 @@
 -- One entry of the slave table and one of a directory, put byte by byte.
 -- Assumes nothing.
-use Prim.Native.Nat.{ℕ, suc, ◌+◌, ◌-◌}
-use native.Mathlib.Omega.{arith}
-use mathlib.Core.Path.{◌≡◌, refl, ap, ◌∙◌}
-use mathlib.Core.List.{List, [], ◌∷◌, ◌++◌, append_assoc}
-use lib.ListN.{length, set, replicate, length-append, length-replicate, length-set}
+use Rattle.std.proofs.Common.{ℕ, suc, ◌+◌, ◌-◌, arith, ◌≡◌, refl, ap, ◌∙◌, List, [], ◌∷◌, ◌++◌, append_assoc, length, set, replicate, length-append, length-set}
+use lib.ListN.{length-replicate}
 use Rattle.file.specs.Rules.Bytes.{bytes_of}
 use Rattle.file.specs.Rules.Layout.{fill_length}
 use Rattle.file.proofs.Sizes.{bytes_of-length}

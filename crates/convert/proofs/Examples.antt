@@ -1,10 +1,7 @@
 -- A cluster file in both editions, computed: one slave, asleep, and pending bytes that the flag leaves free. The conversions of it, and the
 -- shortest buffer for them.
 -- Assumes nothing.
-use Prim.Native.Nat.{ℕ}
-use mathlib.Core.Path.{◌≡◌, refl}
-use mathlib.Core.List.{List, [], ◌∷◌, ◌++◌}
-use lib.ListN.{replicate}
+use Rattle.std.proofs.Common.{ℕ, ◌≡◌, refl, List, [], ◌∷◌, ◌++◌, replicate}
 use Rattle.file.specs.Rules.Layout.{width_of}
 use Rattle.file.specs.Rules.Order.{first_of, both, either}
 use Rattle.file.specs.Rules.Bytes.{number_of, bytes_of, part, all_zero}

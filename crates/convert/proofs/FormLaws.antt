@@ -1,11 +1,6 @@
 -- A whole form: the header, the slave table, the slaves.
 -- Assumes nothing.
-use Prim.Native.Nat.{ℕ, ◌+◌, ◌*◌, ◌-◌, ◌≤◌}
-use native.Mathlib.Omega.{arith}
-use mathlib.Core.Path.{◌≡◌, sym, ap, ap₂, ◌∙◌}
-use mathlib.Core.List.{List, ◌++◌}
-use mathlib.Core.Bool.{true}
-use lib.ListN.{length, take}
+use Rattle.std.proofs.Common.{ℕ, ◌+◌, ◌*◌, ◌-◌, ◌≤◌, arith, ◌≡◌, sym, ap, ap₂, ◌∙◌, List, ◌++◌, true, length, take}
 use lib.Seq.{take-length}
 use Rattle.file.specs.Rules.Bytes.{part}
 use Rattle.file.specs.Rules.Encode.{slaves_bytes, table, slaves_place, file_length, header, encode_at}

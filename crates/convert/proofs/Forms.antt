@@ -1,14 +1,7 @@
 -- Where a conversion writes, and what it leaves: the form, an accepted file with the same cluster; back again, the same bytes.
 -- Assumes nothing.
-use Prim.Native.Nat.{ℕ, ◌≤◌}
-use native.Mathlib.Omega.{arith}
-use mathlib.Core.Path.{◌≡◌, refl, sym, ap, ◌∙◌, subst}
-use mathlib.Core.List.{List}
-use mathlib.Core.Bool.{false, cond}
-use lib.ListN.{length, get_or, take, drop}
-use lib.Seq.{take_at}
-use lib.Dec.{eqb}
-use borrow.Author.Tests.{eqb-true, eqb-false}
+use Rattle.std.proofs.Common.{ℕ, ◌≤◌, arith, ◌≡◌, refl, sym, ap, ◌∙◌, subst, List, false, cond, length, get_or, take, drop, take_at, eqb, eqb-true}
+use borrow.Author.Tests.{eqb-false}
 use Rattle.file.specs.Rules.Bytes.{Bytes}
 use Rattle.file.specs.Rules.Layout.{OffsetWidth, width_in}
 use Rattle.file.specs.Rules.Results.{Result, refused, done, written_in}

@@ -1,11 +1,6 @@
 -- The header of a form, part by part.
 -- Assumes nothing.
-use Prim.Native.Nat.{ℕ, suc, ◌+◌, ◌*◌, ◌-◌, ◌/◌, ◌≤◌, ◌<◌}
-use native.Mathlib.Omega.{arith}
-use mathlib.Core.Path.{◌≡◌, refl, ap, ◌∙◌}
-use mathlib.Core.List.{List, [], ◌∷◌, ◌++◌, append_assoc}
-use lib.ListN.{length, get_or, take, drop, set, replicate, length-append, length-set}
-use lib.Seq.{drop-cons}
+use Rattle.std.proofs.Common.{ℕ, suc, ◌+◌, ◌*◌, ◌-◌, ◌/◌, ◌≤◌, ◌<◌, arith, ◌≡◌, refl, ap, ◌∙◌, List, [], ◌∷◌, ◌++◌, append_assoc, length, get_or, take, drop, set, replicate, length-append, length-set, drop-cons}
 use Rattle.file.specs.Rules.Bytes.{bytes_of, part}
 use Rattle.file.specs.Rules.Layout.{edition_of, flag_place, pending_name_place, pending_pb2_place, pending_pb3_place, header_size, zeros_length}
 use Rattle.file.specs.Rules.Cluster.{Cluster}
@@ -36,7 +31,7 @@ unfolding header_front
 front-put {l} v n size table stated =
     let first : Put l 0 (0x54 ∷ 0x41 ∷ edition_of v ∷ n ∷ []) (set (set (set (set l 0 0x54) 1 0x41) 2 (v / 2)) 3 n) = record { is = refl } in
     let second = put_then first refl table in
-    let there : 4 + v ≡ 0 + length ((0x54 ∷ 0x41 ∷ edition_of v ∷ n ∷ []) ++ bytes_of v (header_size v)) = simp (length-append, bytes_of-length) (omega arith) in
+    let there : 4 + v ≡ 0 + length ((0x54 ∷ 0x41 ∷ edition_of v ∷ n ∷ []) ++ bytes_of v (header_size v)) = simp bytes_of-length (omega arith) in
     put_same (append_assoc (0x54 ∷ 0x41 ∷ edition_of v ∷ n ∷ []) (bytes_of v (header_size v)) (bytes_of v size)) (put_then second there stated)
 
 -- the buffer keeps its length

@@ -1,10 +1,7 @@
 -- Files of so many slaves of one series, in either edition: what holds of them by their number, since they are too long to be computed.
 -- Assumes nothing.
-use Prim.Native.Nat.{ℕ, zero, suc, ◌+◌, ◌*◌, ◌^◌, ◌≤◌, ◌<◌}
-use native.Mathlib.Omega.{arith}
-use mathlib.Core.Path.{◌≡◌, refl, sym, ap, ◌∙◌, subst}
-use mathlib.Core.List.{List, [], ◌∷◌, ◌++◌, map}
-use lib.ListN.{length, get_or, replicate, length-append, length-replicate}
+use Rattle.std.proofs.Common.{ℕ, zero, suc, ◌+◌, ◌*◌, ◌^◌, ◌≤◌, ◌<◌, arith, ◌≡◌, refl, sym, ap, ◌∙◌, subst, List, [], ◌∷◌, ◌++◌, map, length, get_or, replicate, length-append}
+use lib.ListN.{length-replicate}
 use Rattle.file.specs.Rules.Bytes.{Bytes, All, all_empty, all_next, number_of, part}
 use Rattle.file.specs.Rules.Layout.{OffsetWidth, width_in, max_slaves, max_length}
 use Rattle.file.specs.Rules.Cluster.{File, Slave, Cluster, bytes_among, bytes_in, last_record, physical_name}

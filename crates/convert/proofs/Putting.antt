@@ -1,12 +1,8 @@
 -- Bytes put one behind the other are put at once: the one law of a form that is written front to back.
 -- Assumes nothing.
-use Prim.Native.Nat.{ℕ, zero, suc, ◌+◌, ◌-◌, ◌/◌, ◌%◌, ◌≤◌, ◌<◌}
-use native.Mathlib.Omega.{arith}
-use native.Mathlib.Nat.{add-zero, zero-add}
-use mathlib.Core.Path.{◌≡◌, refl, sym, ap, ap₂, ◌∙◌, subst}
-use mathlib.Core.List.{List, [], ◌∷◌, ◌++◌, append-nil, append_assoc}
-use lib.ListN.{length, take, drop, set, replicate, length-replicate, length-drop, drop_of_length-le}
-use lib.Seq.{sets, length-sets, sets-eq, set-set, set_comm, take-length, drop-drop, length-take-le}
+use Rattle.std.proofs.Common.{ℕ, zero, suc, ◌+◌, ◌-◌, ◌/◌, ◌%◌, ◌≤◌, ◌<◌, arith, add-zero, zero-add, ◌≡◌, refl, sym, ap, ap₂, ◌∙◌, subst, List, [], ◌∷◌, ◌++◌, append-nil, append_assoc, length, take, drop, set, replicate, length-drop, drop_of_length-le, set-set, drop-drop, length-take-le}
+use lib.ListN.{length-replicate}
+use lib.Seq.{sets, length-sets, sets-eq, set_comm, take-length}
 use borrow.Rule.Slice.PartMut.{put_mid}
 use Rattle.file.specs.Rules.Bytes.{bytes_of}
 use Rattle.file.specs.Rules.Layout.{OffsetWidth}

@@ -1,13 +1,6 @@
 -- The readers of sizes: one law for each return and for each number that must fit the machine's.
 -- Assumes nothing.
-use Prim.Native.Nat.{ℕ, suc, ◌+◌, ◌*◌, ◌-◌, ◌≤◌, ◌<◌}
-use native.Mathlib.Omega.{arith}
-use mathlib.Core.Path.{◌≡◌, refl, sym, ap, ◌∙◌, subst}
-use mathlib.Core.List.{List}
-use mir.Syntax.{w8, w64}
-use mir.Val.{Fits}
-use lib.ListN.{length, get_or, take}
-use lib.Seq.{take_all}
+use Rattle.std.proofs.Common.{ℕ, suc, ◌+◌, ◌*◌, ◌-◌, ◌≤◌, ◌<◌, arith, ◌≡◌, refl, sym, ap, ◌∙◌, subst, List, w8, w64, Fits, length, get_or, take, take_all}
 use Rattle.file.specs.Rules.Layout.{OffsetWidth, header_size}
 use Rattle.file.specs.Rules.Encode.{contents, slave_size, slaves_size, slaves_place, file_length}
 use Rattle.file.specs.Rules.Decode.{decode}

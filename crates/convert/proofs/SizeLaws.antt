@@ -1,10 +1,6 @@
 -- Sizes at either width: what slaves take, and the limits of a form.
 -- Assumes nothing.
-use Prim.Native.Nat.{ℕ, zero, suc, ◌+◌, ◌*◌, ◌≤◌, ◌<◌}
-use native.Mathlib.Omega.{arith}
-use mathlib.Core.List.{List, [], ◌∷◌}
-use mathlib.Core.Path.{◌≡◌}
-use lib.ListN.{length, get_or, take}
+use Rattle.std.proofs.Common.{ℕ, zero, suc, ◌+◌, ◌*◌, ◌≤◌, ◌<◌, arith, List, [], ◌∷◌, ◌≡◌, length, get_or, take}
 use Rattle.file.specs.Rules.Layout.{OffsetWidth}
 use Rattle.file.specs.Rules.Cluster.{Slave, no_slave_lem}
 use Rattle.file.specs.Rules.Encode.{contents, slave_size, slaves_size, slaves_place, file_length}

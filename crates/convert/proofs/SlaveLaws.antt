@@ -1,12 +1,7 @@
 -- What an accepted file says of its slaves, one by one: where their directories and files stand in it, and what their table entries and
 -- directory entries hold.
 -- Assumes nothing.
-use Prim.Native.Nat.{ℕ, zero, suc, ◌+◌, ◌*◌, ◌≤◌, ◌<◌}
-use native.Mathlib.Omega.{arith}
-use native.Mathlib.Nat.{add-zero}
-use mathlib.Core.Path.{◌≡◌, sym, ap, ◌∙◌, subst}
-use mathlib.Core.List.{List, [], ◌∷◌}
-use lib.ListN.{length, get_or, take}
+use Rattle.std.proofs.Common.{ℕ, zero, suc, ◌+◌, ◌*◌, ◌≤◌, ◌<◌, arith, add-zero, ◌≡◌, sym, ap, ◌∙◌, subst, List, [], ◌∷◌, length, get_or, take}
 use Rattle.file.specs.Rules.Bytes.{part}
 use Rattle.file.specs.Rules.Layout.{header_size, entry_size_lem}
 use Rattle.file.specs.Rules.Cluster.{File, Slave, Cluster, last_record, no_slave_lem}

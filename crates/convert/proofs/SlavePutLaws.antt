@@ -1,12 +1,6 @@
 -- A slave's directory and the run of its files behind it.
 -- Assumes nothing.
-use Prim.Native.Nat.{ℕ, ◌+◌, ◌*◌, ◌-◌, ◌≤◌}
-use native.Mathlib.Omega.{arith}
-use mathlib.Core.Path.{◌≡◌, sym, ap, ◌∙◌}
-use mathlib.Core.List.{List}
-use mir.Syntax.{w64}
-use mir.Val.{Fits}
-use lib.ListN.{length}
+use Rattle.std.proofs.Common.{ℕ, ◌+◌, ◌*◌, ◌-◌, ◌≤◌, arith, ◌≡◌, sym, ap, ◌∙◌, List, w64, Fits, length}
 use Rattle.file.specs.Rules.Bytes.{part}
 use Rattle.file.specs.Rules.Layout.{entry_size_lem}
 use Rattle.file.specs.Rules.Encode.{directory, contents, slave_size, slave_bytes}

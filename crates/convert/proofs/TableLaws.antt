@@ -1,11 +1,7 @@
 -- Slaves as a slave table lists them, with their sleep bytes or awake.
 -- Assumes nothing.
-use Prim.Native.Nat.{ℕ, suc, ◌+◌, ◌*◌, ◌<◌}
-use mathlib.Core.Path.{◌≡◌, refl, ap}
-use mathlib.Core.List.{List, [], ◌∷◌, ◌++◌, map-append, append-nil}
-use mathlib.Core.Bool.{Bool, true, false}
-use lib.ListN.{length, get_or, take}
-use lib.Seq.{take-suc}
+use Rattle.std.proofs.Common.{ℕ, suc, ◌+◌, ◌*◌, ◌<◌, ◌≡◌, refl, ap, List, [], ◌∷◌, ◌++◌, append-nil, Bool, true, false, length, get_or, take, take-suc}
+use mathlib.Core.List.{map-append}
 use Rattle.file.specs.Rules.Cluster.{Slave}
 use Rattle.file.specs.Rules.Encode.{slave_size, slaves_size, table_entry, table}
 use Rattle.file.specs.Rules.Decode.{decode}

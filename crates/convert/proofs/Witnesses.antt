@@ -1,12 +1,6 @@
 -- Files of edition 2 that 25 refuses to narrow: one by its 33 slaves, one by its edition-1 form, which is above 32,768 bytes.
 -- Assumes nothing.
-use Prim.Native.Nat.{ℕ}
-use native.Mathlib.Omega.{arith}
-use mathlib.Core.Path.{◌≡◌, ap}
-use mathlib.Core.List.{List, []}
-use mathlib.Core.Bool.{true}
-use lib.ListN.{length}
-use borrow.Author.Tests.{lt-ltb, le-ltb}
+use Rattle.std.proofs.Common.{ℕ, arith, ◌≡◌, ap, List, [], true, length, lt-ltb, le-ltb}
 use Rattle.file.specs.Rules.Order.{either}
 use Rattle.file.specs.Rules.Cluster.{Cluster}
 use Rattle.file.specs.Rules.Encode.{file_length}

@@ -1,13 +1,8 @@
 -- The parts of a joined file: its header, the table and the slaves of both files.
 -- Assumes nothing.
-use Prim.Native.Nat.{ℕ, ◌+◌, ◌*◌, ◌-◌}
-use native.Mathlib.Omega.{arith}
-use mathlib.Core.Path.{◌≡◌, refl, sym, ap, ap₂, ◌∙◌, subst}
-use mathlib.Core.List.{List, [], ◌∷◌, ◌++◌, map-append, append_assoc}
-use mathlib.Core.Bool.{false}
-use mir.Syntax.{w64}
-use mir.Val.{Fits}
-use lib.ListN.{length, replicate, length-append, length-map}
+use Rattle.std.proofs.Common.{ℕ, ◌+◌, ◌*◌, ◌-◌, arith, ◌≡◌, refl, sym, ap, ap₂, ◌∙◌, subst, List, [], ◌∷◌, ◌++◌, append_assoc, false, w64, Fits, length, replicate, length-append}
+use mathlib.Core.List.{map-append}
+use lib.ListN.{length-map}
 use lib.Seq.{sets}
 use Rattle.file.specs.Rules.Layout.{zeros_length}
 use Rattle.file.specs.Rules.Cluster.{Slave}

@@ -1,10 +1,7 @@
 -- Joins of small files, computed: each case of the rule on a name, the sleep byte and the pending bytes, both editions in either order,
 -- empty files, and the grounds in their order.
 -- Assumes nothing.
-use Prim.Native.Nat.{ℕ}
-use mathlib.Core.Path.{◌≡◌, refl}
-use mathlib.Core.List.{List, [], ◌∷◌, ◌++◌}
-use lib.ListN.{replicate, set}
+use Rattle.std.proofs.Common.{ℕ, ◌≡◌, refl, List, [], ◌∷◌, ◌++◌, replicate, set}
 use Rattle.file.specs.Rules.Results.{refused, done}
 use Rattle.file.specs.Rules.Cluster.{logical_name, logical_names, no_operation, broadcast_read}
 use Rattle.file.specs.Rules.Decode.{decode}

@@ -1,15 +1,7 @@
 -- The call that joins: its grounds in their order, what it answers, and what it leaves in the buffer.
 -- Assumes nothing.
-use Prim.Native.Nat.{ℕ, suc, ◌+◌, ◌*◌, ◌-◌, ◌≤◌, ◌<◌}
-use native.Mathlib.Omega.{arith}
-use mathlib.Core.Path.{◌≡◌, refl, sym, ap, ap₂, ◌∙◌, subst}
-use mathlib.Core.List.{List, [], ◌∷◌, ◌++◌, map, append_assoc}
-use mathlib.Core.Bool.{Bool, true, false, cond}
-use mir.Syntax.{w64}
-use mir.Val.{Fits}
-use lib.ListN.{length, replicate, length-append, length-map}
-use lib.Dec.{eqb, ltb}
-use borrow.Author.Tests.{lt-ltb, le-ltb}
+use Rattle.std.proofs.Common.{ℕ, suc, ◌+◌, ◌*◌, ◌-◌, ◌≤◌, ◌<◌, arith, ◌≡◌, refl, sym, ap, ap₂, ◌∙◌, subst, List, [], ◌∷◌, ◌++◌, map, append_assoc, Bool, true, false, cond, w64, Fits, length, replicate, length-append, eqb, ltb, lt-ltb, le-ltb}
+use lib.ListN.{length-map}
 use Rattle.file.specs.Rules.Bytes.{Byte, Bytes, All, bytes_of}
 use Rattle.file.specs.Rules.Layout.{width_in, edition_of, header_size, zeros_length, record_size}
 use Rattle.file.specs.Rules.Results.{refused, done, written_in}

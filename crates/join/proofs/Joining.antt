@@ -1,12 +1,8 @@
 -- The cluster of two that are joined: its slaves one by one, its shape and its names.
 -- Assumes nothing.
-use Prim.Native.Nat.{ℕ, zero, suc, ◌+◌, ◌<◌}
-use native.Mathlib.Omega.{arith}
-use mathlib.Core.Path.{◌≡◌, refl, sym, ap, ap₂, ◌∙◌}
-use mathlib.Core.List.{List, [], ◌∷◌, ◌++◌, map, map-append, map-map}
-use mathlib.Core.Bool.{true, false, cond}
-use lib.ListN.{length, get_or, length-append, length-map, get_or-append}
-use lib.Seq.{get_or-append-add}
+use Rattle.std.proofs.Common.{ℕ, zero, suc, ◌+◌, ◌<◌, arith, ◌≡◌, refl, sym, ap, ap₂, ◌∙◌, List, [], ◌∷◌, ◌++◌, map, true, false, cond, length, get_or, length-append, get_or-append-add}
+use mathlib.Core.List.{map-append, map-map}
+use lib.ListN.{length-map, get_or-append}
 use Rattle.file.specs.Rules.Bytes.{All, all_empty, all_next}
 use Rattle.file.specs.Rules.Layout.{record_size}
 use Rattle.file.specs.Rules.Cluster.{Slave, Cluster, no_slave_lem, bytes_in, configuration, unnamed, physical_name, logical_name, logical_names}

@@ -1,11 +1,7 @@
 -- The joined cluster is legal: where the first is, the second's slaves are and have distinct physical names, none of which the first has,
 -- and the first's edition has room for all of them.
 -- Assumes nothing.
-use Prim.Native.Nat.{ℕ, ◌+◌}
-use native.Mathlib.Omega.{arith}
-use mathlib.Core.Path.{◌≡◌, refl, sym, ◌∙◌, subst}
-use mathlib.Core.List.{List, [], ◌∷◌, ◌++◌, map}
-use mathlib.Core.Bool.{false}
+use Rattle.std.proofs.Common.{ℕ, ◌+◌, arith, ◌≡◌, refl, sym, ◌∙◌, subst, List, [], ◌∷◌, ◌++◌, map, false}
 use borrow.Author.Tests.{eqb-false}
 use Rattle.file.specs.Rules.Bytes.{All, all_empty, all_next}
 use Rattle.file.specs.Rules.Layout.{width_in, record_size}

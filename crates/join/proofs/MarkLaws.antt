@@ -1,12 +1,8 @@
 -- Marks for the slaves of a cluster, set from the last slave to the first.
 -- Assumes nothing.
-use Prim.Native.Nat.{ℕ, suc, ◌-◌, ◌%◌, ◌≤◌, ◌<◌}
-use native.Mathlib.Omega.{arith}
-use mathlib.Core.Path.{◌≡◌, sym, ap, ◌∙◌}
-use mathlib.Core.List.{List, [], ◌∷◌, map}
-use mathlib.Core.Bool.{Bool, true, false}
-use lib.ListN.{length, get_or, drop, set, replicate, length-set, length-replicate}
-use lib.Seq.{drop-cons, drop-length}
+use Rattle.std.proofs.Common.{ℕ, suc, ◌-◌, ◌%◌, ◌≤◌, ◌<◌, arith, ◌≡◌, sym, ap, ◌∙◌, List, [], ◌∷◌, map, Bool, true, false, length, get_or, drop, set, replicate, length-set, drop-cons}
+use lib.ListN.{length-replicate}
+use lib.Seq.{drop-length}
 use Rattle.file.specs.Rules.Cluster.{Slave, Cluster, physical_name, logical_name, logical_names}
 use Rattle.file.specs.Inner.Places.{no_slave_lem, slave_of}
 use Rattle.file.proofs.Marks.{marked_none, marked_add}

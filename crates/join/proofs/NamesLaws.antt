@@ -1,12 +1,7 @@
 -- The physical names of two files, compared.
 -- Assumes nothing.
-use Prim.Native.Nat.{ℕ, zero, suc, ◌+◌, ◌*◌, ◌/◌, ◌%◌, ◌≤◌, ◌<◌}
-use native.Mathlib.Omega.{arith}
-use mathlib.Core.Path.{◌≡◌, refl, sym, ap, ◌∙◌}
-use mathlib.Core.List.{List, [], ◌∷◌, map}
-use mathlib.Core.Bool.{Bool, true, false}
-use lib.ListN.{length, get_or, take, drop, length-map}
-use lib.Seq.{ext_get_or, get_or-take, length-take-le, drop-cons}
+use Rattle.std.proofs.Common.{ℕ, zero, suc, ◌+◌, ◌*◌, ◌/◌, ◌%◌, ◌≤◌, ◌<◌, arith, ◌≡◌, refl, sym, ap, ◌∙◌, List, [], ◌∷◌, map, Bool, true, false, length, get_or, take, drop, ext_get_or, get_or-take, length-take-le, drop-cons}
+use lib.ListN.{length-map}
 use Rattle.file.specs.Rules.Bytes.{All, number_of}
 use Rattle.file.specs.Rules.FileGrounds.{is_among}
 use Rattle.file.specs.Rules.Cluster.{Slave, Cluster, documentation, physical_name}

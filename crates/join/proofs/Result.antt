@@ -1,16 +1,8 @@
 -- Where a join writes, and what it leaves: the joined file, slave by slave; no name but 0xFF on both sides, so that it loads where the two
 -- load.
 -- Assumes nothing.
-use Prim.Native.Nat.{ℕ, ◌+◌, ◌-◌, ◌<◌}
-use native.Mathlib.Omega.{arith}
-use mathlib.Core.Path.{◌≡◌, refl, sym, ap, ◌∙◌, subst}
-use mathlib.Core.Logic.{◌≢◌}
-use mathlib.Core.List.{List, ◌++◌, map}
-use mathlib.Core.Bool.{Bool, true, false, cond}
-use lib.ListN.{length, get_or, set, take, drop, length-set}
-use lib.Seq.{take_at, get_or-set_other}
-use lib.Dec.{eqb, ltb}
-use borrow.Author.Tests.{eqb-true, eqb-false, ltb-true, ltb-false}
+use Rattle.std.proofs.Common.{ℕ, ◌+◌, ◌-◌, ◌<◌, arith, ◌≡◌, refl, sym, ap, ◌∙◌, subst, ◌≢◌, List, ◌++◌, map, Bool, true, false, cond, length, get_or, set, take, drop, length-set, take_at, get_or-set_other, eqb, ltb, eqb-true, ltb-true, ltb-false}
+use borrow.Author.Tests.{eqb-false}
 use Rattle.file.specs.Rules.Bytes.{Bytes, All}
 use Rattle.file.specs.Rules.Layout.{width_in, record_size}
 use Rattle.file.specs.Rules.Cluster.{File, Slave, Cluster, no_slave_lem, bytes_among, bytes_in, configuration, unnamed, logical_name, logical_names}

@@ -1,16 +1,8 @@
 -- The second file's slaves: where their logical names lie in any form, and the slaves that become 0xFF.
 -- Assumes nothing.
-use Prim.Native.Nat.{ℕ, zero, suc, ◌+◌, ◌*◌, ◌-◌, ◌≤◌, ◌<◌}
-use native.Mathlib.Omega.{arith}
-use native.Mathlib.Nat.{add-zero}
-use mathlib.Core.Path.{◌≡◌, refl, sym, ap, ◌∙◌}
-use mathlib.Core.List.{List, [], ◌∷◌, ◌++◌, map, map-append, append_assoc, append-nil}
-use mathlib.Core.Bool.{Bool, true, false}
-use mir.Syntax.{w64}
-use mir.Val.{Fits}
-use lib.ListN.{length, get_or, take, drop, set, length-append, length-set, drop_of_length-le, take-append-drop}
-use lib.Seq.{sets, sets-eq, length-take-le, take_all, take-suc, drop-cons, set-append_left}
-use lib.Dec.{eqb}
+use Rattle.std.proofs.Common.{ℕ, zero, suc, ◌+◌, ◌*◌, ◌-◌, ◌≤◌, ◌<◌, arith, add-zero, ◌≡◌, refl, sym, ap, ◌∙◌, List, [], ◌∷◌, ◌++◌, map, append_assoc, append-nil, Bool, true, false, w64, Fits, length, get_or, take, drop, set, length-append, length-set, drop_of_length-le, take-append-drop, length-take-le, take_all, take-suc, drop-cons, eqb}
+use mathlib.Core.List.{map-append}
+use lib.Seq.{sets, sets-eq, set-append_left}
 use Rattle.file.specs.Rules.Layout.{OffsetWidth, width_in, entry_size_lem, record_size}
 use Rattle.file.specs.Rules.Cluster.{File, Slave, Cluster, bytes_among, bytes_in, configuration, unnamed, logical_name}
 use Rattle.file.specs.Rules.Encode.{contents, slave_size, slaves_size, slaves_place, slave_bytes, slaves_bytes}

@@ -1,12 +1,7 @@
 -- What the claims ask can be met: files that 30 refuses to join, by the slaves and by the bytes of either edition; small files that are
 -- joined, load, hold a name on both sides, and have both forms.
 -- Assumes nothing.
-use Prim.Native.Nat.{ℕ, ◌+◌, ◌*◌}
-use native.Mathlib.Omega.{arith}
-use mathlib.Core.Path.{◌≡◌, refl, sym, ap, ap₂, ◌∙◌, subst}
-use mathlib.Core.List.{List}
-use mathlib.Core.Bool.{true, false}
-use lib.ListN.{length, take}
+use Rattle.std.proofs.Common.{ℕ, ◌+◌, ◌*◌, arith, ◌≡◌, refl, sym, ap, ap₂, ◌∙◌, subst, List, true, false, length, take}
 use Rattle.file.specs.Rules.Layout.{width_in}
 use Rattle.file.specs.Rules.Cluster.{Cluster, no_slave_lem, logical_name}
 use Rattle.file.specs.Rules.Encode.{file_length}

@@ -1,13 +1,8 @@
 -- The class of every pattern by its bits: the count of ones is the sum of the bits, and the list's bytes are those that open a round.
 -- Assumes nothing.
-use Prim.Native.Nat.{ℕ, ◌%◌, ◌<◌}
-use mathlib.Core.Path.{◌≡◌, refl, sym, ap, ◌∙◌, subst}
-use mathlib.Core.Logic.{◌≢◌, ◌⊎◌, inl, inr}
-use mathlib.Core.Bool.{Bool, true, false, cond, not}
-use native.Mathlib.Omega.{arith}
+use Rattle.std.proofs.Common.{ℕ, ◌%◌, ◌<◌, ◌≡◌, refl, sym, ap, ◌∙◌, subst, ◌≢◌, ◌⊎◌, inl, inr, Bool, true, false, cond, not, arith, eqb, ltb, eqb-true, ne_eqb, ltb-true, ltb-false}
 use lib.Count.{ones_in}
-use lib.Dec.{eqb, ltb}
-use borrow.Author.Tests.{eqb-true, eqb-false, ne_eqb, ltb-true, ltb-false}
+use borrow.Author.Tests.{eqb-false}
 use Rattle.file.specs.Rules.Order.{both, either}
 use Rattle.file.specs.Rules.Results.{Result, done, refused}
 use Rattle.file.specs.Rules.FileGrounds.{is_among}

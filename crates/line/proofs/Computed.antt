@@ -1,10 +1,6 @@
 -- One test of every number below a bound, which antt computes, and what it says of each.
 -- Assumes nothing.
-use Prim.Native.Nat.{ℕ, zero, suc, ◌<◌}
-use mathlib.Core.Path.{◌≡◌}
-use mathlib.Core.Bool.{Bool, true}
-use mathlib.Core.Logic.{⊎_elim}
-use native.Mathlib.Nat.{eq-or-lt_of_le, le_of_suc-le-suc, not-suc-le-zero}
+use Rattle.std.proofs.Common.{ℕ, zero, suc, ◌<◌, ◌≡◌, Bool, true, ⊎_elim, eq-or-lt_of_le, le_of_suc-le-suc, not-suc-le-zero}
 use Rattle.file.specs.Rules.Order.{both}
 use Rattle.file.proofs.Order.{both_left, both_right}
 

@@ -1,6 +1,6 @@
 -- No two answers are taken to the same: the maps of `specs/Inner/LineAnswers.antt` can be undone.
 -- Assumes nothing.
-use mathlib.Core.Path.{◌≡◌, refl, sym, ◌∙◌, ap}
+use Rattle.std.proofs.Common.{◌≡◌, refl, sym, ◌∙◌, ap}
 use Rattle.file.specs.Rules.Results.{Result, refused, done}
 use Rattle.line.specs.declared.pattern.PatternClass.{PatternClass}
 use Rattle.line.specs.declared.pattern.PatternClass.TheVariants as classes

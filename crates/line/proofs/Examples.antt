@@ -1,9 +1,7 @@
 -- Patterns computed from the rules: the eight firework patterns; what is around one of them; that the premises of the claims on flipped
 -- bits can be met, and that four flipped bits are too many.
 -- Assumes nothing.
-use Prim.Native.Nat.{ℕ, ◌+◌}
-use mathlib.Core.Path.{◌≡◌, refl}
-use mathlib.Core.List.{List, [], ◌∷◌}
+use Rattle.std.proofs.Common.{ℕ, ◌+◌, ◌≡◌, refl, List, [], ◌∷◌}
 use lib.Bits.{bit_xor}
 use lib.Count.{ones_in}
 use Rattle.file.specs.Rules.Order.{either, first_of}

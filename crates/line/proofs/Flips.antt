@@ -1,12 +1,8 @@
 -- No firework with one to three of its bits flipped is a firework: one test of all patterns and all flips, which antt computes.
 -- Assumes nothing.
-use Prim.Native.Nat.{ℕ}
-use mathlib.Core.Path.{◌≡◌, refl}
-use mathlib.Core.Bool.{Bool, true, false, cond, not}
+use Rattle.std.proofs.Common.{ℕ, ◌≡◌, refl, Bool, true, false, cond, not, eqb, leb, le-leb, leb-true, ne_eqb}
 use lib.Bits.{bit_xor}
 use lib.Count.{ones_in}
-use lib.Dec.{eqb, leb}
-use borrow.Author.Tests.{le-leb, leb-true, ne_eqb}
 use Rattle.file.specs.Rules.Order.{both, either}
 use Rattle.file.specs.Rules.FileGrounds.{is_among}
 use Rattle.file.proofs.Order.{clash, both_true}

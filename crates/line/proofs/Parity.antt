@@ -1,11 +1,6 @@
 -- A byte with its parity bit, by tests of every byte and every pattern that antt computes.
 -- Assumes nothing.
-use Prim.Native.Nat.{ℕ, ◌+◌, ◌%◌, ◌<◌}
-use mathlib.Core.Path.{◌≡◌, refl, sym, ap, ◌∙◌}
-use mathlib.Core.Bool.{Bool, true, cond}
-use native.Mathlib.Omega.{arith}
-use lib.Dec.{eqb}
-use borrow.Author.Tests.{eq-eqb, eqb-true}
+use Rattle.std.proofs.Common.{ℕ, ◌+◌, ◌%◌, ◌<◌, ◌≡◌, refl, sym, ap, ◌∙◌, Bool, true, cond, arith, eqb, eq-eqb, eqb-true}
 use Rattle.file.specs.Rules.Order.{both}
 use Rattle.file.proofs.Order.{both_left, both_right}
 use Rattle.frame.specs.Rules.Fireworks.{round_of}

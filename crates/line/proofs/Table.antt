@@ -1,14 +1,7 @@
 -- The table of the 512 classes, and its rule proved once over the whole table.
 -- Assumes nothing.
-use Prim.Native.Nat.{ℕ, zero, suc, ◌/◌, ◌≤◌, ◌<◌}
-use mathlib.Core.Path.{◌≡◌, refl, sym, ap, ◌∙◌}
-use mathlib.Core.List.{List, [], ◌∷◌}
-use mathlib.Core.Bool.{Bool, true, cond}
-use native.Mathlib.Omega.{arith}
-use lib.Dec.{eqb}
-use lib.ListN.{get_or}
+use Rattle.std.proofs.Common.{ℕ, zero, suc, ◌/◌, ◌≤◌, ◌<◌, ◌≡◌, refl, sym, ap, ◌∙◌, List, [], ◌∷◌, Bool, true, cond, arith, eqb, get_or, eqb-true, ne_eqb, lt-ltb, le-ltb}
 use lib.Count.{ones_in}
-use borrow.Author.Tests.{eqb-true, ne_eqb, lt-ltb, le-ltb}
 use Rattle.file.specs.Rules.Results.{done, refused, result_of}
 use Rattle.file.specs.Rules.Order.{both, either, first_of}
 use Rattle.file.specs.Rules.FileGrounds.{is_among}

@@ -22,7 +22,8 @@ use naming::run::{MadeStep, start, step};
 use naming::steps::{MadeSteps, steps};
 use std::io;
 
-// The most bytes that a file, a list of names, a frame and an answer buffer have here.
+// The most bytes that a file, a list of names, a frame and an answer buffer have here. They cut a longer field, so that no
+// `Vec` stands for them.
 const FILE: usize = 2048;
 
 const NAMES: usize = 512;

@@ -1,14 +1,7 @@
 -- What the call leaves in the buffer, and the rounds as they run.
 -- Assumes nothing.
-use Prim.Native.Nat.{ℕ, ◌+◌, ◌*◌, ◌/◌, ◌%◌, ◌^◌, ◌<◌}
-use native.Mathlib.Omega.{arith}
-use mathlib.Core.Path.{◌≡◌, sym, ap, ◌∙◌}
-use mathlib.Core.Logic.{◌≢◌, ◌↔◌}
-use mathlib.Core.List.{List, []}
-use mathlib.Core.Bool.{true, false}
-use lib.ListN.{length, get_or, drop}
-use lib.Dec.{eqb}
-use borrow.Author.Tests.{eqb-true, eqb-false}
+use Rattle.std.proofs.Common.{ℕ, ◌+◌, ◌*◌, ◌/◌, ◌%◌, ◌^◌, ◌<◌, arith, ◌≡◌, sym, ap, ◌∙◌, ◌≢◌, ◌↔◌, List, [], true, false, length, get_or, drop, eqb, eqb-true}
+use borrow.Author.Tests.{eqb-false}
 use Rattle.file.specs.Rules.Layout.{record_size}
 use Rattle.file.specs.Rules.Results.{Result, refused, done, written_in}
 use Rattle.file.specs.Rules.Decode.{decode}

@@ -1,14 +1,7 @@
 -- The call that writes the owner file: its grounds in their order, what it answers, and what it leaves in the buffer.
 -- Assumes nothing.
-use Prim.Native.Nat.{ℕ, ◌+◌, ◌-◌, ◌≤◌, ◌<◌}
-use native.Mathlib.Omega.{arith}
-use mathlib.Core.Path.{◌≡◌, refl, sym, ap, ◌∙◌}
-use mathlib.Core.Logic.{◌≢◌}
-use mathlib.Core.List.{List, [], ◌∷◌, ◌++◌, append_assoc, append-nil}
-use mathlib.Core.Bool.{Bool, true, false}
-use lib.ListN.{length, take, drop, replicate, length-append, drop_of_length-le}
-use lib.Seq.{take-length, take_at, drop_at, take_all, drop-drop}
-use borrow.Author.Tests.{eq-eqb, ne_eqb, lt-ltb, le-ltb}
+use Rattle.std.proofs.Common.{ℕ, ◌+◌, ◌-◌, ◌≤◌, ◌<◌, arith, ◌≡◌, refl, sym, ap, ◌∙◌, ◌≢◌, List, [], ◌∷◌, ◌++◌, append_assoc, append-nil, Bool, true, false, length, take, drop, replicate, length-append, drop_of_length-le, take_at, drop_at, take_all, drop-drop, eq-eqb, ne_eqb, lt-ltb, le-ltb}
+use lib.Seq.{take-length}
 use borrow.Rule.Slice.PartMut.{put_mid}
 use Rattle.file.specs.Rules.Order.{first_of}
 use Rattle.file.specs.Rules.Results.{refused, done, written_in}

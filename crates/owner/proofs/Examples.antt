@@ -2,11 +2,7 @@
 -- rounds; two slaves that send in one slot, and the same in a file that no round runs. Of multiplexed entries: a receive, which is passed
 -- over; sends that 23 is not about; and one that it is about. Which of them are plain, and which slots a multiplexed receive covers.
 -- Assumes nothing.
-use Prim.Native.Nat.{ℕ}
-use mathlib.Core.Path.{◌≡◌, refl}
-use mathlib.Core.List.{List, [], ◌∷◌, ◌++◌, map}
-use mathlib.Core.Bool.{true, false}
-use lib.ListN.{set}
+use Rattle.std.proofs.Common.{ℕ, ◌≡◌, refl, List, [], ◌∷◌, ◌++◌, map, true, false, set}
 use Rattle.file.specs.Rules.Layout.{width_of}
 use Rattle.file.specs.Rules.Order.{both, either}
 use Rattle.file.specs.Rules.Bytes.{number_of, part}

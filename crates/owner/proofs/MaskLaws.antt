@@ -1,15 +1,10 @@
 -- Masks of slots, bit by bit.
 -- Assumes nothing.
-use Prim.Native.Nat.{ℕ, zero, suc, ◌+◌, ◌-◌, ◌*◌, ◌/◌, ◌%◌, ◌^◌, ◌≤◌, ◌<◌, min, max}
-use native.Mathlib.Omega.{arith}
-use native.Mathlib.Nat.{pow-suc, mod-lt, mod-eq_of_lt}
-use mathlib.Core.Path.{◌≡◌, refl, sym, ap, ◌∙◌}
-use mathlib.Core.Bool.{Bool, true, false, not, ◌||◌}
+use Rattle.std.proofs.Common.{ℕ, zero, suc, ◌+◌, ◌-◌, ◌*◌, ◌/◌, ◌%◌, ◌^◌, ◌≤◌, ◌<◌, min, max, arith, pow-suc, mod-lt, mod-eq_of_lt, ◌≡◌, refl, sym, ap, ◌∙◌, Bool, true, false, not, ◌||◌, pow_pos, pow_mono, shl_exact, shr-shr, shr_lt, eqb, leb, ltb, eq-eqb, ne_eqb, eqb-true, leb-true, leb-false, ltb-true, ltb-false}
 use lib.Bits.{bit_and, bit_or, bit_xor, differ, and_step, or_step, xor_step, and_shr, or_shr, xor_shr, and_self}
 use lib.Count.{count_leading_zeros, leading_top, count_trailing_zeros}
-use lib.Pow.{pow_pos, pow_mono, shl_exact, shr-shr, shr_lt, high, split, field, mod-mod-pow, high_ones}
-use lib.Dec.{eqb, leb, ltb}
-use borrow.Author.Tests.{eq-eqb, ne_eqb, eqb-true, eqb-false, leb-true, leb-false, ltb-true, ltb-false}
+use lib.Pow.{high, split, field, mod-mod-pow, high_ones}
+use borrow.Author.Tests.{eqb-false}
 use Rattle.file.specs.Rules.Order.{both, either}
 use Rattle.file.proofs.Order.{by_case, both_true, both_false_left, both_false_right, both-next}
 use Rattle.master_slave.specs.Rules.Bus.{slots}

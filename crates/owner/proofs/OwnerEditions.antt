@@ -1,8 +1,6 @@
 -- The owner file is made of the slaves alone, which a file and its converted form have in common.
 -- Assumes nothing.
-use Prim.Native.Nat.{ℕ}
-use mathlib.Core.Path.{◌≡◌}
-use mathlib.Core.List.{List}
+use Rattle.std.proofs.Common.{ℕ, ◌≡◌, List}
 use Rattle.file.specs.Rules.Editions.{in_edition}
 use Rattle.cluster.specs.Claims.RoundEditions.{Convertible}
 use Rattle.cluster.proofs.RoundEditions.{slaves-same, grounds_behind}

@@ -1,6 +1,6 @@
 -- The grounds of the call in their order, and the record 0x00 that it writes.
 -- Assumes nothing.
-use mathlib.Core.Path.{refl}
+use Rattle.std.proofs.Common.{refl}
 use Rattle.owner.specs.Rules.OwnerFile.{owner_file}
 use Rattle.owner.specs.Claims.OwnerGrounds.{GroundsInOrder}
 use Rattle.owner.specs.Claims.Header.{HeaderIsZeros}

@@ -1,15 +1,9 @@
 -- A round's row, the index and the rows of all rounds.
 -- Assumes nothing.
-use Prim.Native.Nat.{ℕ, zero, suc, ◌+◌, ◌-◌, ◌*◌, ◌/◌, ◌%◌, ◌^◌, ◌≤◌, ◌<◌}
-use native.Mathlib.Omega.{arith}
-use native.Mathlib.Numerals.{add-one}
-use mathlib.Core.Path.{◌≡◌, refl, sym, ap, ◌∙◌, subst}
-use mathlib.Core.List.{List, [], ◌∷◌, ◌++◌, append_assoc, append-nil}
-use mathlib.Core.Bool.{Bool, true, false, not, cond, ◌||◌}
-use lib.ListN.{length, get_or, set, take, drop, replicate, length-append, length-replicate, get_or-replicate, replicate-append-replicate, get_or-append}
-use lib.Seq.{get_or-append-add, ext_get_or, set_at, take_at, drop_at, get_or_at}
-use lib.Dec.{eqb, leb}
-use borrow.Author.Tests.{ne_eqb, eqb-true, eqb-false, ltb-true, ltb-false, not-true, not-false}
+use Rattle.std.proofs.Common.{ℕ, zero, suc, ◌+◌, ◌-◌, ◌*◌, ◌/◌, ◌%◌, ◌^◌, ◌≤◌, ◌<◌, arith, add-one, ◌≡◌, refl, sym, ap, ◌∙◌, subst, List, [], ◌∷◌, ◌++◌, append_assoc, append-nil, Bool, true, false, not, cond, ◌||◌, length, get_or, set, take, drop, replicate, length-append, get_or-append-add, ext_get_or, take_at, drop_at, eqb, leb, ne_eqb, eqb-true, ltb-true, ltb-false}
+use lib.ListN.{length-replicate, get_or-replicate, replicate-append-replicate, get_or-append}
+use lib.Seq.{set_at, get_or_at}
+use borrow.Author.Tests.{eqb-false, not-true, not-false}
 use borrow.Rule.Slice.PartMut.{put_mid}
 use Rattle.file.specs.Rules.Order.{both, either}
 use Rattle.file.specs.Rules.Layout.{record_size}

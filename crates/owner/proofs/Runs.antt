@@ -2,14 +2,8 @@
 -- and where no slave has a multiplexed send, a round passes over an entry that the plan does not, or does not pass over one that the plan
 -- does, only where that entry is a multiplexed receive.
 -- Assumes nothing.
-use Prim.Native.Nat.{ℕ, zero, suc, ◌-◌, ◌≤◌, ◌<◌}
-use native.Mathlib.Omega.{arith}
-use mathlib.Core.Path.{◌≡◌, refl, sym, ap, ◌∙◌, subst}
-use mathlib.Core.List.{List, [], ◌∷◌, ◌++◌, map}
-use mathlib.Core.Bool.{Bool, true, false, not, cond}
-use lib.ListN.{length, get_or, replicate}
-use lib.Dec.{eqb, leb}
-use borrow.Author.Tests.{leb-false, eqb-true, eqb-false, eq-eqb, ne_eqb}
+use Rattle.std.proofs.Common.{ℕ, zero, suc, ◌-◌, ◌≤◌, ◌<◌, arith, ◌≡◌, refl, sym, ap, ◌∙◌, subst, List, [], ◌∷◌, ◌++◌, map, Bool, true, false, not, cond, length, get_or, replicate, eqb, leb, leb-false, eqb-true, eq-eqb, ne_eqb}
+use borrow.Author.Tests.{eqb-false}
 use Rattle.file.specs.Rules.Order.{both, either}
 use Rattle.file.specs.Rules.Cluster.{Slave, Cluster, is_awake, bytes_in, last_record, logical_name, configuration}
 use Rattle.file.specs.Rules.Changes.{with_epoch}

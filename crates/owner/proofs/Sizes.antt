@@ -1,14 +1,9 @@
 -- The owner file has at most 396 bytes, and its index leads to its rows.
 -- Assumes nothing.
-use Prim.Native.Nat.{ℕ, zero, suc, ◌+◌, ◌-◌, ◌*◌, ◌/◌, ◌%◌, ◌≤◌, ◌<◌}
-use native.Mathlib.Omega.{arith}
-use mathlib.Core.Path.{◌≡◌, refl, sym, ap, ◌∙◌}
-use mathlib.Core.List.{List, [], ◌∷◌, ◌++◌}
-use mathlib.Core.Bool.{true, false}
-use lib.ListN.{length, get_or, replicate, length-append, length-replicate, get_or-append}
-use lib.Seq.{get_or-append-add, get_or_at}
-use lib.Dec.{eqb, leb}
-use borrow.Author.Tests.{eqb-true, eqb-false, leb-true, leb-false, le-ltb}
+use Rattle.std.proofs.Common.{ℕ, zero, suc, ◌+◌, ◌-◌, ◌*◌, ◌/◌, ◌%◌, ◌≤◌, ◌<◌, arith, ◌≡◌, refl, sym, ap, ◌∙◌, List, [], ◌∷◌, ◌++◌, true, false, length, get_or, replicate, length-append, get_or-append-add, eqb, leb, eqb-true, leb-true, leb-false, le-ltb}
+use lib.ListN.{length-replicate, get_or-append}
+use lib.Seq.{get_or_at}
+use borrow.Author.Tests.{eqb-false}
 use Rattle.file.specs.Rules.Order.{either}
 use Rattle.file.specs.Rules.Layout.{record_size}
 use Rattle.file.specs.Rules.Cluster.{Slave}

@@ -1,14 +1,7 @@
 -- The call on two of the files of Examples: one that 23, 20 and 21 are all about is refused by 23 and its buffer stays as it was; one is
 -- written whole, and past what is written the buffer keeps its content; and the same with its slave asleep.
 -- Assumes nothing.
-use Prim.Native.Nat.{ℕ, ◌<◌}
-use mathlib.Core.Path.{◌≡◌, refl, sym, ap, ◌∙◌}
-use mathlib.Core.List.{List, [], ◌∷◌, map}
-use mathlib.Core.Bool.{true, false}
-use lib.ListN.{length, replicate, set}
-use lib.Dec.{ltb}
-use native.Mathlib.Omega.{arith}
-use borrow.Author.Tests.{lt-ltb}
+use Rattle.std.proofs.Common.{ℕ, ◌<◌, ◌≡◌, refl, sym, ap, ◌∙◌, List, [], ◌∷◌, map, true, false, length, replicate, set, ltb, arith, lt-ltb}
 use Rattle.file.specs.Rules.Layout.{width_of}
 use Rattle.file.specs.Rules.Order.{first_of, both, either}
 use Rattle.file.specs.Rules.Results.{Result, refused, done, written_in}

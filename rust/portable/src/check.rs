@@ -1,6 +1,8 @@
 //! The rules that make the file defined C, as far as the proofs do not: each refuses a term that breaks it.
 
-use crate::tree::{Base, Binary, Effects, Expr, Function, Place, Program, Shape, Statement, Step, Ty, Width};
+use crate::tree::{
+    Base, Binary, Effects, Expr, Function, Local, Place, Program, Shape, Statement, Step, Ty, Width,
+};
 use crate::types::{element, fits, Types};
 use crate::Refused;
 use std::collections::BTreeSet;
@@ -8,14 +10,52 @@ use std::collections::BTreeSet;
 /// Checks the whole program, and tells its cuts from its other offsets.
 pub fn check(program: &mut Program) -> Result<(), Refused> {
     check_all(program)?;
-    program.functions.iter_mut().for_each(|function| mark_cuts(&mut function.body));
+    let mut functions = std::mem::take(&mut program.functions);
+    let types = Types::of(program);
+    for Function { locals, body, .. } in &mut functions {
+        mark_cuts(body, locals, &types)?;
+        leave_out_valueless(body, locals, &types)?;
+    }
+    program.functions = functions;
+    Ok(())
+}
+
+/// What has no value in C is put nowhere, and a call that gives none is a statement.
+fn leave_out_valueless(body: &mut Vec<Statement>, locals: &[Local], types: &Types) -> Result<(), Refused> {
+    let mut failed = None;
+    body.retain(|statement| match statement {
+        Statement::Assign(_, Expr::Call(..)) => true,
+        Statement::Assign(place, _) => match types.place(place, locals) {
+            Ok(ty) => !types.is_valueless(&ty),
+            Err(refused) => {
+                failed = Some(refused);
+                true
+            }
+        },
+        _ => true,
+    });
+    if let Some(refused) = failed {
+        return Err(refused);
+    }
+    for statement in body {
+        if let Statement::Assign(_, Expr::Aggregate(_, parts) | Expr::Call(_, parts)) = statement {
+            for part in parts {
+                if types.is_valueless(&types.value(part, locals)?) {
+                    *part = Expr::Unit;
+                }
+            }
+        }
+        for inner in statement.bodies_mut() {
+            leave_out_valueless(inner, locals, types)?;
+        }
+    }
     Ok(())
 }
 
 fn check_all(program: &Program) -> Result<(), Refused> {
     let types = Types::of(program);
     for (name, shape) in &program.types {
-        check_shape(shape).map_err(|refused| refused.of(name))?;
+        check_shape(shape, &types).map_err(|refused| refused.of(name))?;
     }
     for function in &program.functions {
         check_function(function, &types).map_err(|refused| refused.of(&function.name))?;
@@ -23,56 +63,46 @@ fn check_all(program: &Program) -> Result<(), Refused> {
     check_calls(program)
 }
 
-/// A type without a value in C, or of another size on another processor, is in no struct.
-fn check_shape(shape: &Shape) -> Result<(), Refused> {
-    let fields: Vec<&Ty> = match shape {
-        Shape::Fields(fields) => fields.iter().collect(),
-        Shape::Variants(variants) if variants.len() <= 256 => variants.iter().flatten().collect(),
+/// A type of another size on another processor is in no struct. A field whose type has no value is none in C.
+fn check_shape(shape: &Shape, types: &Types) -> Result<(), Refused> {
+    let mut fields: Box<dyn Iterator<Item = &Ty>> = match shape {
+        Shape::Fields(fields) => Box::new(fields.iter()),
+        Shape::Variants(variants) if variants.len() <= 256 => Box::new(variants.iter().flatten()),
         Shape::Variants(_) => return Err(Refused::new("more than 256 variants")),
     };
-    match (shape, fields.is_empty()) {
-        (Shape::Fields(_), true) => Err(Refused::new("a struct without fields")),
-        _ => fields.into_iter().try_for_each(check_type),
-    }
+    fields.try_for_each(|field| check_type(field, types))
 }
 
-fn check_type(ty: &Ty) -> Result<(), Refused> {
+fn check_type(ty: &Ty, types: &Types) -> Result<(), Refused> {
     match ty {
-        Ty::Int(_) | Ty::Bool | Ty::Named(_) => Ok(()),
+        Ty::Unit | Ty::Int(_) | Ty::Bool | Ty::Named(_) => Ok(()),
         // to follow it would prove nothing of where it points
         Ty::Ref { to, .. } if matches!(**to, Ty::Array(_, 0)) => Err(Refused::new("an array without elements")),
-        Ty::Ref { to, .. } => size_of(element(to)).map(|_| ()),
-        Ty::Slice { of, .. } => size_of(of).map(|_| ()),
-        Ty::Array(of, count) if *count > 0 => size_of(of).map(|_| ()),
+        Ty::Ref { to, .. } => check_pointed(element(to), types),
+        Ty::Slice { of, .. } => types.size_of(of).map(|_| ()),
+        Ty::Array(of, count) if *count > 0 => types.size_of(of).map(|_| ()),
         Ty::Array(..) => Err(Refused::new("an array without elements")),
-        Ty::Unit => Err(Refused::new("a field without a value")),
         Ty::Ptr => Err(Refused::new("a raw pointer where its elements are not told")),
     }
 }
 
-/// The bytes of what a pointer may step over: the term has sizes for 64-bit processors, and those of structs and pointers differ on others.
-pub fn size_of(ty: &Ty) -> Result<u64, Refused> {
-    match ty {
-        Ty::Int(width) => Ok(width.bits() / 8),
-        Ty::Bool => Ok(1),
-        other => Err(Refused::new(format!("a pointer that steps over {other:?}"))),
+/// What is pointed to has a value in C, and is no pointer.
+fn check_pointed(to: &Ty, types: &Types) -> Result<(), Refused> {
+    match (to, types.is_valueless(to)) {
+        (Ty::Int(_) | Ty::Bool | Ty::Named(_) | Ty::Slice { .. }, false) => Ok(()),
+        _ => Err(Refused::new(format!("a pointer to {to:?}"))),
     }
 }
 
 fn check_function(function: &Function, types: &Types) -> Result<(), Refused> {
     for (number, local) in function.locals.iter().enumerate() {
-        if local.ty != Ty::Unit {
-            check_type(&local.ty)?;
+        check_type(&local.ty, types)?;
+        if local.in_memory && (number <= function.params || types.is_valueless(&local.ty)) {
+            return Err(Refused::new(format!("local {number} has an address and is no value of its own")));
         }
-        if local.in_memory && !(matches!(local.ty, Ty::Array(..)) && number > function.params) {
-            return Err(Refused::new(format!("local {number} has an address and is no array of its own")));
-        }
-    }
-    if function.locals[1..=function.params].iter().any(|local| matches!(local.ty, Ty::Unit | Ty::Array(..))) {
-        return Err(Refused::new("a parameter without a value, or an array as one"));
     }
     check_body(&function.body, function, types)?;
-    check_offsets(&function.body)
+    check_offsets(&function.body, function, types)
 }
 
 fn check_body(body: &[Statement], function: &Function, types: &Types) -> Result<(), Refused> {
@@ -107,12 +137,12 @@ fn check_body(body: &[Statement], function: &Function, types: &Types) -> Result<
     Ok(())
 }
 
-/// What is lent for reading is not written to. The compiler sees the same; here it has the function's name.
+/// What is lent for reading is not written to. The compiler sees the same; here it has the function's name. Of a struct, a part may be written.
 fn check_target(place: &Place, function: &Function, types: &Types) -> Result<(), Refused> {
     let Some(at) = place.steps.iter().position(|step| matches!(step, Step::Deref(_))) else { return Ok(()) };
     let pointer = Place { base: place.base.clone(), steps: place.steps[..at].to_vec() };
     match types.place(&pointer, &function.locals)? {
-        Ty::Ref { mutable: true, .. } if at + 1 == place.steps.len() => Ok(()),
+        Ty::Ref { mutable: true, to } if at + 1 == place.steps.len() || matches!(*to, Ty::Named(_)) => Ok(()),
         Ty::Ref { mutable: true, .. } => Err(Refused::new("a write of a part of what is pointed to")),
         _ => Err(Refused::new("a write through a pointer that is for reading")),
     }
@@ -122,7 +152,7 @@ fn check_target(place: &Place, function: &Function, types: &Types) -> Result<(),
 fn check_step(value: &Expr, function: &Function, types: &Types) -> Result<(), Refused> {
     let Expr::Binary(Binary::Offset, pointer, by) = value else { return Ok(()) };
     let Ty::Ref { to, .. } = types.value(pointer, &function.locals)? else { return Ok(()) };
-    let size = size_of(element(&to))?;
+    let size = types.size_of(element(&to))?;
     match **by {
         Expr::Int(_, bytes) if bytes % size != 0 => {
             Err(Refused::new(format!("a step of {bytes} bytes over elements of {size}")))
@@ -131,9 +161,9 @@ fn check_step(value: &Expr, function: &Function, types: &Types) -> Result<(), Re
     }
 }
 
-/// An array that lies in memory is no value of C, and so no part of one: C would take its first element, or its address.
+/// An array that lies in memory is no value of C, and so no part of one, and no argument: C would take its first element, or its address.
 fn check_parts(value: &Expr, function: &Function, types: &Types) -> Result<(), Refused> {
-    let Expr::Aggregate(_, parts) = value else { return Ok(()) };
+    let (Expr::Aggregate(_, parts) | Expr::Call(_, parts)) = value else { return Ok(()) };
     for part in parts {
         let is_array = matches!(types.value(part, &function.locals)?, Ty::Array(..));
         if is_array && Effects::of_expr(part, &function.locals).reads_memory {
@@ -153,6 +183,8 @@ fn check_array(place: &Place, value: &Expr, function: &Function) -> Result<(), R
         Expr::Repeat(of, _) => match **of {
             // the size of a bool is the compiler's: only false is the same byte everywhere
             Expr::Bool(false) | Expr::Int(Width::W8, _) | Expr::Int(_, 0) => Ok(()),
+            // one after another
+            Expr::Copy(ref element) if !element.is_behind_pointer() => Ok(()),
             _ => Err(Refused::new("an array of equal elements that memset does not make")),
         },
         Expr::Aggregate(_, parts) if in_memory(place) => {
@@ -170,33 +202,138 @@ fn check_array(place: &Place, value: &Expr, function: &Function) -> Result<(), R
     }
 }
 
-/// MIR may compute a pointer that is out of bounds, C may not. So a pointer that is stepped is followed in the next statement,
-/// which proves it within its array, or begins a slice that is cut from it, whose start the proofs hold within the length.
-fn check_offsets(body: &[Statement]) -> Result<(), Refused> {
+/// MIR may compute a pointer that is out of bounds, C may not. So a pointer that is stepped is followed in the next statement, or
+/// behind other steps and reads, which proves it within its array, or becomes a reference to an element, whose index the proofs hold below the length, or begins a slice that is
+/// cut from it, whose start they hold within the length. They speak of the whole that a pointer is in, so what is stepped is a slice or an array, and
+/// no part of a struct.
+fn check_offsets(body: &[Statement], function: &Function, types: &Types) -> Result<(), Refused> {
     for (at, statement) in body.iter().enumerate() {
         if let Statement::Assign(place, Expr::Binary(Binary::Offset, base, by)) = statement {
-            check_offset(place, base, by, &body[at + 1..])?;
+            check_offset(place, base, by, (&body[..at], &body[at + 1..]), function, types)?;
+            if !matches!(&**base, Expr::Copy(pointer) if is_of_array(pointer, function, types)?) {
+                return Err(Refused::new("a step from what is no slice and no array"));
+            }
         }
         for inner in statement.bodies() {
-            check_offsets(inner)?;
+            check_offsets(inner, function, types)?;
         }
     }
     Ok(())
 }
 
-fn check_offset(place: &Place, base: &Expr, by: &Expr, rest: &[Statement]) -> Result<(), Refused> {
+fn check_offset(
+    place: &Place,
+    base: &Expr,
+    by: &Expr,
+    (before, rest): (&[Statement], &[Statement]),
+    function: &Function,
+    types: &Types,
+) -> Result<(), Refused> {
     let Some(pointer) = place.whole() else {
         return Err(Refused::new("a stepped pointer that is kept in a struct"));
     };
     if !matches!(base, Expr::Copy(_)) || !matches!(by, Expr::Copy(_) | Expr::Int(..)) {
         return Err(Refused::new("an offset of what is no pointer"));
     }
-    if rest.first().is_some_and(|next| follows(next, pointer)) || is_cut(pointer, by, rest) {
+    let Ty::Ref { to, .. } = types.value(base, &function.locals)? else {
+        return Err(Refused::new("an offset of what is no pointer"));
+    };
+    let from = counted(by, before, types.size_of(element(&to))?);
+    if is_followed(pointer, rest) || is_element(pointer, function, rest) || is_cut(pointer, &from, rest) {
         return Ok(());
     }
     Err(Refused::new(format!(
         "local {pointer} is a stepped pointer that is neither followed at once nor begins a slice"
     )))
+}
+
+/// Whether a pointer is followed at once, or behind other steps and reads.
+fn is_followed(pointer: usize, rest: &[Statement]) -> bool {
+    for statement in rest {
+        if follows(statement, pointer) {
+            return true;
+        }
+        let Some((place, value)) = statement.assigned() else { return false };
+        let is_between = match value {
+            Expr::Binary(Binary::Mul | Binary::Offset, ..) => true,
+            Expr::Copy(of) => of.is_behind_pointer(),
+            _ => false,
+        };
+        if !is_between || place.is_behind_pointer() || place.base == Base::Local(pointer) {
+            return false;
+        }
+    }
+    false
+}
+
+/// How many elements a number of bytes is, where that is told: of bytes themselves, or of a product that was just made of it and their size.
+fn counted(by: &Expr, before: &[Statement], size: u64) -> Expr {
+    match (by, before.last().and_then(Statement::assigned)) {
+        (Expr::Copy(bytes), Some((product, Expr::Binary(Binary::Mul, count, of))))
+            if product == bytes && **of == Expr::Int(Width::W64, size) =>
+        {
+            (**count).clone()
+        }
+        _ => by.clone(),
+    }
+}
+
+/// A reference to an element, in its two statements: `p = offset(a, i); r = &*p`. That the index is below the length is the proofs': the language has
+/// no other way to refer to an element.
+fn is_element(pointer: usize, function: &Function, rest: &[Statement]) -> bool {
+    let Some((place, Expr::Address(of))) = rest.first().and_then(Statement::assigned) else { return false };
+    let is_reference = place.whole().is_some_and(|local| !function.locals[local].is_raw);
+    is_reference && of.base == Base::Local(pointer) && matches!(of.steps[..], [Step::Deref(_)])
+}
+
+/// Whether a pointer is a slice's, or one to an array, or a local that holds nothing else.
+fn is_of_array(pointer: &Place, function: &Function, types: &Types) -> Result<bool, Refused> {
+    if let Some((Step::Field(0), before)) = pointer.steps.split_last() {
+        let whole = Place { base: pointer.base.clone(), steps: before.to_vec() };
+        if matches!(types.place(&whole, &function.locals)?, Ty::Slice { .. }) {
+            return Ok(true);
+        }
+    }
+    if matches!(types.place(pointer, &function.locals)?, Ty::Ref { to, .. } if matches!(*to, Ty::Array(..))) {
+        return Ok(true);
+    }
+    match pointer.whole() {
+        Some(local) if local > function.params => holds_of_array(&function.body, local, function, types),
+        _ => Ok(false),
+    }
+}
+
+/// Whether all that is put into a local is the address of an array, or of what a slice's pointer points to.
+fn holds_of_array(
+    body: &[Statement],
+    local: usize,
+    function: &Function,
+    types: &Types,
+) -> Result<bool, Refused> {
+    for statement in body {
+        let holds = match statement {
+            Statement::Assign(place, value) if place.whole() == Some(local) => match value {
+                Expr::Address(of) => match of.steps.split_last() {
+                    Some((Step::Deref(_), before)) => {
+                        let pointer = Place { base: of.base.clone(), steps: before.to_vec() };
+                        pointer.whole() != Some(local) && is_of_array(&pointer, function, types)?
+                    }
+                    _ => matches!(types.place(of, &function.locals)?, Ty::Array(..)),
+                },
+                _ => false,
+            },
+            _ => true,
+        };
+        if !holds {
+            return Ok(false);
+        }
+        for inner in statement.bodies() {
+            if !holds_of_array(inner, local, function, types)? {
+                return Ok(false);
+            }
+        }
+    }
+    Ok(true)
 }
 
 /// Whether an assignment reads or writes what a pointer points to.
@@ -229,18 +366,23 @@ fn is_cut(pointer: usize, from: &Expr, rest: &[Statement]) -> bool {
         && parts[..] == [Expr::local(begin), Expr::local(length)]
 }
 
-fn mark_cuts(body: &mut [Statement]) {
+fn mark_cuts(body: &mut [Statement], locals: &[Local], types: &Types) -> Result<(), Refused> {
     for at in 0..body.len() {
         let (before, rest) = body.split_at_mut(at + 1);
-        if let Some(Statement::Assign(place, Expr::Binary(operation @ Binary::Offset, _, by))) =
-            before.last_mut()
-        {
-            if place.whole().is_some_and(|pointer| is_cut(pointer, by, rest)) {
-                *operation = Binary::Cut;
+        let Some((this, before)) = before.split_last_mut() else { continue };
+        if let Statement::Assign(place, Expr::Binary(operation @ Binary::Offset, base, by)) = this {
+            if let Ty::Ref { to, .. } = types.value(base, locals)? {
+                let from = counted(by, before, types.size_of(element(&to))?);
+                if place.whole().is_some_and(|pointer| is_cut(pointer, &from, rest)) {
+                    *operation = Binary::Cut;
+                }
             }
         }
-        body[at].bodies_mut().into_iter().for_each(|inner| mark_cuts(inner));
+        for inner in body[at].bodies_mut() {
+            mark_cuts(inner, locals, types)?;
+        }
     }
+    Ok(())
 }
 
 /// No function calls itself, in however many steps: the stack that the header states has an end.

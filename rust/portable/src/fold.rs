@@ -6,9 +6,11 @@
 //! - what reads memory, or calls, does not go into the place that a call's value is put into: C may find the place before the call or behind it;
 //! - nothing goes into a loop, nor into the test of one.
 
-use crate::check::size_of;
+use crate::blocks;
 use crate::live::{before_each, inside, Around};
-use crate::tree::{leaves, Base, Binary, Effects, Expr, Function, Local, Place, Statement, Step, Ty, Unary};
+use crate::tree::{
+    leaves, part, Base, Binary, Effects, Expr, Function, Local, Place, Statement, Step, Ty, Unary,
+};
 use crate::types::Types;
 use crate::write::{breaks, whole_slice};
 use crate::Refused;
@@ -18,14 +20,20 @@ use std::collections::BTreeSet;
 pub fn fold(function: &Function, kept: &BTreeSet<usize>, types: &Types) -> Result<Function, Refused> {
     let mut made = function.clone();
     let folder = Folder { locals: &function.locals, kept, types };
-    constant_elements(&mut made.body, &Effects::of_body(&function.body, &function.locals));
-    if function.locals[0].ty != Ty::Unit {
+    constant_elements(&mut made.body, &Effects::of_body(&function.body, &function.locals), types);
+    if !types.is_valueless(&function.locals[0].ty) {
         return_values(&mut made.body, &function.locals);
         folder.sink_returns(&mut made.body);
     }
+    blocks::left(&mut made.body);
     folder.body(&mut made.body, &Around::default())?;
+    while made.is_expanded && circuits(&mut made.body, &function.locals) {
+        folder.body(&mut made.body, &Around::default())?;
+    }
+    blocks::conditions(&mut made.body);
+    blocks::left(&mut made.body);
     shape(&mut made.body);
-    declare_all(&mut made);
+    declare_all(&mut made, types);
     Ok(made)
 }
 
@@ -36,18 +44,18 @@ struct Folder<'a> {
 }
 
 /// An element of an array of constants, at a constant place, is that constant: `a = {..}; p = &a; q = p + n; x = *q`.
-fn constant_elements(body: &mut Vec<Statement>, whole: &Effects) {
+fn constant_elements(body: &mut Vec<Statement>, whole: &Effects, types: &Types) {
     let mut at = 0;
     while at < body.len() {
-        if let Some(statement) = constant_element(&body[at..], whole) {
+        if let Some(statement) = constant_element(&body[at..], whole, types) {
             body.splice(at..at + 4, [statement]);
         }
-        body[at].bodies_mut().into_iter().for_each(|inner| constant_elements(inner, whole));
+        body[at].bodies_mut().into_iter().for_each(|inner| constant_elements(inner, whole, types));
         at += 1;
     }
 }
 
-fn constant_element(body: &[Statement], whole: &Effects) -> Option<Statement> {
+fn constant_element(body: &[Statement], whole: &Effects, types: &Types) -> Option<Statement> {
     let [array, begin, element, target, ..] = body else { return None };
     let (array, Expr::Aggregate(Ty::Array(of, count), parts)) = array.assigned()? else { return None };
     let (begin, Expr::Address(of_array)) = begin.assigned()? else { return None };
@@ -55,7 +63,7 @@ fn constant_element(body: &[Statement], whole: &Effects) -> Option<Statement> {
     let (target, Expr::Copy(read)) = target.assigned()? else { return None };
     let (array, begin, element) = (array.whole()?, begin.whole()?, element.whole()?);
     let Expr::Int(_, bytes) = **by else { return None };
-    let place = bytes / size_of(of).ok()?;
+    let place = bytes / types.size_of(of).ok()?;
     let is_read = *of_array == Place::local(array)
         && **base == Expr::local(begin)
         && read.base == Base::Local(element)
@@ -94,7 +102,9 @@ fn is_array_in_memory(ty: &Ty, value: &Expr, locals: &[Local]) -> bool {
 
 impl Folder<'_> {
     fn is_temporary(&self, local: usize) -> bool {
-        !self.kept.contains(&local) && !self.locals[local].in_memory && self.locals[local].ty != Ty::Unit
+        !self.kept.contains(&local)
+            && !self.locals[local].in_memory
+            && !self.types.is_valueless(&self.locals[local].ty)
     }
 
     /// A temporary that every branch sets last, and that is then returned, is returned in each branch.
@@ -204,14 +214,14 @@ fn crosses(moved: &Effects, over: &Effects) -> bool {
     changed || moved.reads_memory && (over.writes_memory || over.calls > 0)
 }
 
-/// Whether a call may be made within a statement: it reads nothing that the call may change, and has at most the one call that it is. A
+/// Whether a call may be made within a statement: it reads nothing that the call may change, asks for each part, and has at most the one call that it is. A
 /// switch that a loop is left from is a chain of tests in C, each of which would make the call; a branch without statements is left out by `shape`.
 fn takes_call(user: &Statement, own: &Effects) -> bool {
     let is_call =
         matches!(user, Statement::Assign(_, Expr::Call(..)) | Statement::Return(Some(Expr::Call(..))));
     let is_chain = matches!(user, Statement::Switch(_, arms) if arms.iter().any(|arm| breaks(&arm.body)));
     let is_left_out = matches!(user, Statement::If(_, yes, no) if yes.is_empty() && no.is_empty());
-    !own.reads_memory && own.calls <= usize::from(is_call) && !is_chain && !is_left_out
+    !own.is_circuit && !own.reads_memory && own.calls <= usize::from(is_call) && !is_chain && !is_left_out
 }
 
 /// A value that takes the place of a local.
@@ -282,6 +292,9 @@ impl Put<'_> {
                     Expr::Copy(outer) => {
                         Place { base: outer.base.clone(), steps: [&outer.steps[..], &steps[..]].concat() }
                     }
+                    Expr::Address(of) if self.is_followed(of, &steps)? => {
+                        Place { base: of.base.clone(), steps: [&of.steps[..], &steps[1..]].concat() }
+                    }
                     other => Place { base: Base::Value(Box::new(other.clone())), steps },
                 };
             }
@@ -291,24 +304,86 @@ impl Put<'_> {
         Ok(())
     }
 
-    /// A value at no step is itself; a field of a struct that is made on the spot is what it is made of.
+    /// Whether steps begin with one to what an address is of.
+    fn is_followed(&self, of: &Place, steps: &[Step]) -> Result<bool, Refused> {
+        match steps.first() {
+            Some(Step::Deref(to)) => Ok(self.types.place(of, self.locals)? == *to),
+            _ => Ok(false),
+        }
+    }
+
+    /// A value at no step is itself; a field of a struct or a variant that is made on the spot is what it is made of.
     fn simplified(&self, place: &Place) -> Result<Option<Expr>, Refused> {
         let Base::Value(value) = &place.base else { return Ok(None) };
-        match (&**value, place.steps.split_first()) {
-            (whole, None) => Ok(Some(whole.clone())),
-            (Expr::Aggregate(Ty::Named(_), parts), Some((Step::Field(number), rest)))
-                if Effects::of_expr(value, self.locals).calls == 0 =>
-            {
-                let part = match (&parts[*number], rest) {
-                    (part, []) => part.clone(),
-                    (part, rest) => {
-                        Expr::Copy(Place { base: Base::Value(Box::new(part.clone())), steps: rest.to_vec() })
-                    }
-                };
-                Ok(Some(part))
-            }
-            _ => Ok(None),
+        let is_call = Effects::of_expr(value, self.locals).calls > 0;
+        Ok(match (&**value, &place.steps[..]) {
+            (whole, []) => Some(whole.clone()),
+            (Expr::Aggregate(Ty::Named(_), parts), steps) if !is_call => match part(parts, steps) {
+                Some((part, [])) => Some(part.clone()),
+                Some((part, rest)) => {
+                    let base = Base::Value(Box::new(part.clone()));
+                    Some(Expr::Copy(Place { base, steps: rest.to_vec() }))
+                }
+                None => None,
+            },
+            _ => None,
+        })
+    }
+}
+
+/// `if (c) x = e; else x = false;` is `x = c && e`, and so are its three relatives, where `e` is no call.
+fn circuits(body: &mut [Statement], locals: &[Local]) -> bool {
+    let mut changed = false;
+    for statement in body {
+        for inner in statement.bodies_mut() {
+            changed |= circuits(inner, locals);
         }
+        let Statement::If(test, yes, no) = &*statement else { continue };
+        let ([Statement::Assign(one, yes)], [Statement::Assign(other, no)]) = (&yes[..], &no[..]) else {
+            continue;
+        };
+        let is_value = one == other && one.whole().is_some_and(|local| locals[local].ty == Ty::Bool);
+        let (operation, first, second) = match (yes, no) {
+            (second, Expr::Bool(false)) => (Binary::Both, test.clone(), second),
+            (Expr::Bool(true), second) => (Binary::Either, test.clone(), second),
+            (Expr::Bool(false), second) => (Binary::Both, negated(test), second),
+            (second, Expr::Bool(true)) => (Binary::Either, negated(test), second),
+            _ => continue,
+        };
+        if is_value && Effects::of_expr(second, locals).calls == 0 {
+            *statement = Statement::Assign(one.clone(), both_or_either(operation, first, second.clone()));
+            changed = true;
+        }
+    }
+    changed
+}
+
+/// Two tests as one: of the same two numbers, that they differ and are in an order, or are equal or in one, is a comparison.
+fn both_or_either(operation: Binary, first: Expr, second: Expr) -> Expr {
+    let Expr::Binary(equal, one, other) = &first else {
+        return Expr::Binary(operation, Box::new(first), Box::new(second));
+    };
+    let is_read = |value: &Expr| matches!(value, Expr::Copy(_) | Expr::Int(..));
+    let order = match (operation, *equal, &second) {
+        (Binary::Both, Binary::Ne, Expr::Binary(order, left, right)) if left == one && right == other => {
+            match order {
+                Binary::Lt | Binary::Le => Some(Binary::Lt),
+                Binary::Gt | Binary::Ge => Some(Binary::Gt),
+                _ => None,
+            }
+        }
+        (Binary::Either, Binary::Eq, Expr::Binary(order, left, right)) if left == one && right == other => {
+            match order {
+                Binary::Lt | Binary::Le => Some(Binary::Le),
+                Binary::Gt | Binary::Ge => Some(Binary::Ge),
+                _ => None,
+            }
+        }
+        _ => None,
+    };
+    match order {
+        Some(order) if is_read(one) && is_read(other) => Expr::Binary(order, one.clone(), other.clone()),
+        _ => Expr::Binary(operation, Box::new(first), Box::new(second)),
     }
 }
 
@@ -332,7 +407,7 @@ fn opposite(test: &Expr) -> Option<Expr> {
     }
 }
 
-fn negated(test: &Expr) -> Expr {
+pub fn negated(test: &Expr) -> Expr {
     opposite(test).unwrap_or_else(|| Expr::Unary(Unary::Not, Box::new(test.clone())))
 }
 
@@ -368,11 +443,11 @@ fn shape(body: &mut Vec<Statement>) {
 }
 
 /// Puts each local where it comes into being.
-fn declare_all(function: &mut Function) {
+fn declare_all(function: &mut Function, types: &Types) {
     let read = Effects::of_body(&function.body, &function.locals).reads;
     for number in 0..function.locals.len() {
         let is_own = number == 0 || number > function.params;
-        if !is_own || !read.contains_key(&number) || function.locals[number].ty == Ty::Unit {
+        if !is_own || !read.contains_key(&number) || types.is_valueless(&function.locals[number].ty) {
             continue;
         }
         if function.locals[number].in_memory {

@@ -2,7 +2,7 @@
 
 use crate::Refused;
 
-#[derive(Clone, Debug, PartialEq, Eq)]
+#[derive(Clone, Debug, PartialEq, Eq, PartialOrd, Ord)]
 pub enum Json {
     Null,
     Bool(bool),

@@ -7,10 +7,14 @@
 //! `fold` makes the reading form, with `live`; `sources` and `names` have the names; `declare`, `write`, `text`, `helpers` and `layout` make
 //! the C text. The same input gives the same bytes.
 
+mod blocks;
 mod check;
 mod declare;
 mod fold;
+mod forward;
 mod helpers;
+mod inline;
+mod instances;
 mod json;
 mod layout;
 mod live;

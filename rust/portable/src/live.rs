@@ -1,16 +1,17 @@
 //! Which locals' values are still needed at a place of a body: what decides whether a temporary may be folded away.
 
 use crate::tree::{Effects, Local, Statement};
-use std::collections::BTreeSet;
+use std::collections::{BTreeMap, BTreeSet};
 
 pub type Live = BTreeSet<usize>;
 
-/// What is needed where a body is left: at its end, and by `break` and `continue`.
+/// What is needed where a body is left: at its end, by `break` and `continue`, and at the ends of the blocks around it.
 #[derive(Clone, Default)]
 pub struct Around {
     pub after: Live,
     pub on_break: Live,
     pub on_continue: Live,
+    pub on_leave: BTreeMap<usize, Live>,
 }
 
 impl Around {
@@ -39,6 +40,7 @@ fn before(statement: &Statement, around: &Around, locals: &[Local]) -> Live {
     match statement {
         Statement::Continue => around.on_continue.clone(),
         Statement::Break => around.on_break.clone(),
+        Statement::Leave(number) => around.on_leave.get(number).cloned().unwrap_or_default(),
         _ => own.chain(behind_own(statement, around, locals)).collect(),
     }
 }
@@ -56,7 +58,7 @@ fn behind_own(statement: &Statement, around: &Around, locals: &[Local]) -> Live 
         Statement::If(..) | Statement::Switch(..) => {
             statement.bodies().into_iter().flat_map(|body| before_body(body, around, locals)).collect()
         }
-        Statement::Loop(body) | Statement::While(_, body) => {
+        Statement::Loop(body) | Statement::While(_, body) | Statement::Block(_, body) => {
             before_body(body, &inside(statement, around, locals), locals)
         }
         Statement::Return(_) => Live::new(),
@@ -69,6 +71,11 @@ pub fn inside(statement: &Statement, around: &Around, locals: &[Local]) -> Aroun
     let (test, body) = match statement {
         Statement::Loop(body) => (None, body),
         Statement::While(test, body) => (Some(test), body),
+        Statement::Block(number, _) => {
+            let mut within = around.clone();
+            within.on_leave.insert(*number, around.after.clone());
+            return within;
+        }
         _ => return around.clone(),
     };
     // a loop without a test ends by its breaks alone
@@ -78,7 +85,12 @@ pub fn inside(statement: &Statement, around: &Around, locals: &[Local]) -> Aroun
         head.extend(&around.after);
     }
     loop {
-        let turn = Around { after: head.clone(), on_break: around.after.clone(), on_continue: head.clone() };
+        let turn = Around {
+            after: head.clone(),
+            on_break: around.after.clone(),
+            on_continue: head.clone(),
+            on_leave: around.on_leave.clone(),
+        };
         let needed = before_body(body, &turn, locals);
         let grown: Live = head.union(&needed).copied().collect();
         if grown == head {

@@ -7,11 +7,11 @@
 //! `LendStatic` lends an array of numbers that is never written. In the term it is an array of the function's own with these numbers, of which the
 //! address is taken; so the function may not return a pointer, and nothing else may be done with what was lent.
 
+use crate::instances::instances;
 use crate::json::{self, Json};
 use crate::sources::Sources;
 use crate::term::Node;
 use crate::Refused;
-use std::collections::{BTreeMap, BTreeSet};
 
 /// The term of the functions that the calls for C reach, in the order of the texts and of each text.
 pub fn term(texts: &[String], sources: &Sources) -> Result<Node, Refused> {
@@ -28,53 +28,13 @@ pub fn term(texts: &[String], sources: &Sources) -> Result<Node, Refused> {
             }
         }
     }
-    let reached = reached(&all, sources)?;
+    let mut roots: Vec<&str> = all.iter().map(|(name, _)| name.as_str()).collect();
+    roots.retain(|name| sources.is_exported(name));
     let mut made = Vec::new();
-    for (name, item) in all.iter().filter(|(name, _)| reached.contains(name.as_str())) {
-        made.push(definition(name, item).map_err(|refused| refused.of(name))?);
+    for (name, item) in instances(&all, &roots)? {
+        made.push(definition(&name, &item).map_err(|refused| refused.of(&name))?);
     }
     Ok(list("program", [cons(made, "lcons", "lnil"), list("fnRef", [Node::Text("main".to_string())])]))
-}
-
-/// The names of the functions that calls for C reach; one that is reached has to be there, and once.
-fn reached<'a>(all: &'a [(String, Json)], sources: &Sources) -> Result<BTreeSet<&'a str>, Refused> {
-    let mut items: BTreeMap<&str, &Json> = BTreeMap::new();
-    let mut twice = BTreeSet::new();
-    for (name, item) in all {
-        if items.insert(name, item).is_some() {
-            twice.insert(name.as_str());
-        }
-    }
-    let mut waiting: Vec<&str> = items.keys().copied().filter(|name| sources.is_exported(name)).collect();
-    let mut reached = BTreeSet::new();
-    while let Some(name) = waiting.pop() {
-        if !reached.insert(name) {
-            continue;
-        }
-        if twice.contains(name) {
-            return Err(Refused::new("two functions of one name").of(name));
-        }
-        if let Some(item) = items.get(name) {
-            called(item.of("body").unwrap_or(&Json::Null), &mut waiting);
-        }
-    }
-    Ok(reached)
-}
-
-/// The functions that a body calls by name.
-fn called<'a>(of: &'a Json, names: &mut Vec<&'a str>) {
-    match of {
-        Json::List(items) => items.iter().for_each(|item| called(item, names)),
-        Json::Map(entries) => {
-            for (key, inner) in entries {
-                if let ("Fn", Some([Json::Text(name), ..])) = (&key[..], inner.list()) {
-                    names.push(name);
-                }
-                called(inner, names);
-            }
-        }
-        _ => {}
-    }
 }
 
 fn unknown(what: &str, of: &Json) -> Refused {
@@ -114,7 +74,7 @@ fn definition(name: &str, item: &Json) -> Result<Node, Refused> {
     if let Some(more) = body.rest.first() {
         return Err(Refused::new(format!("a statement behind the end: {}", more.short())));
     }
-    check_lent(&body.lent, part("locals")?, part("body")?)?;
+    check_lent(&body.lent, part("locals")?, part("body")?, part("types")?)?;
     locals.extend(body.lent.iter().map(|lent| list("local", [lent.of.clone(), word("memorySlot")])));
     let fn_item = list(
         "fnItem",
@@ -196,9 +156,9 @@ fn local(of: &Json) -> Result<Node, Refused> {
     Ok(list("local", [ty(of.of("ty").ok_or_else(|| unknown("local", of))?)?, word(home)]))
 }
 
-/// An array of numbers that was lent: the digits of the local that points to it, and its type.
+/// A constant that was lent, with its type: an array of numbers with the digits of the local that points to it, or a struct of numbers.
 struct Lent {
-    pointer: String,
+    pointer: Option<String>,
     of: Node,
 }
 
@@ -211,15 +171,41 @@ struct Body<'a> {
 
 /// The result is no pointer, and each local that points to something lent is mentioned twice, where it is lent and where its address is taken: what
 /// is pointed to holds no pointers (`check`), so none is left behind.
-fn check_lent(lent: &[Lent], locals: &Json, body: &Json) -> Result<(), Refused> {
+fn check_lent(lent: &[Lent], locals: &Json, body: &Json, types: &Json) -> Result<(), Refused> {
     let result = locals.list().and_then(|locals| locals.first()).and_then(|local| local.of("ty"));
-    let is_plain =
-        result.and_then(Json::variant).is_some_and(|(kind, _)| ["Int", "Bool", "Unit"].contains(&kind));
-    match lent.iter().find(|lent| !is_plain || mentions(body, &lent.pointer) != 2) {
-        Some(lent) => {
-            Err(Refused::new(format!("an array that is lent, and not only read here: local {}", lent.pointer)))
+    let is_plain = result.is_some_and(|result| holds_no_pointer(result, types, 0));
+    if !lent.is_empty() && !is_plain {
+        return Err(Refused::new("a constant that is lent in a function whose result may point to it"));
+    }
+    match lent.iter().filter_map(|lent| lent.pointer.as_ref()).find(|pointer| mentions(body, pointer) != 2) {
+        Some(pointer) => {
+            Err(Refused::new(format!("an array that is lent, and not only read here: local {pointer}")))
         }
         None => Ok(()),
+    }
+}
+
+/// Types within types, at most: one that has more is refused.
+const MOST_TYPES_WITHIN: usize = 16;
+
+/// Whether values of a type hold no pointer, by the types that the function declares.
+fn holds_no_pointer(of: &Json, types: &Json, within: usize) -> bool {
+    let all = |list: &Json| {
+        list.list().is_some_and(|list| list.iter().all(|one| holds_no_pointer(one, types, within + 1)))
+    };
+    match of.variant() {
+        _ if MOST_TYPES_WITHIN < within => false,
+        Some(("Int" | "Bool" | "Unit", _)) => true,
+        Some(("Named", named)) => {
+            let head = named.list().and_then(|named| named.first()).and_then(|head| head.of("name"));
+            let declared = types.list().into_iter().flatten().find(|declared| declared.of("name") == head);
+            match declared.and_then(|declared| declared.of("shape")).and_then(Json::variant) {
+                Some(("Fields", fields)) => all(fields),
+                Some(("Variants", variants)) => variants.list().is_some_and(|each| each.iter().all(all)),
+                _ => false,
+            }
+        }
+        _ => false,
     }
 }
 
@@ -266,6 +252,7 @@ impl<'a> Body<'a> {
         match (kind, inner.list()) {
             ("Skip", _) => Ok(word("skip")),
             ("Return", _) => Ok(word("return")),
+            ("Unreachable", _) => Ok(word("unreachable")),
             ("Block", _) => Ok(list("block", [self.statement()?])),
             ("Loop", _) => Ok(list("loop", [self.statement()?])),
             ("Exit", _) => Ok(list("exit", [number(inner)?])),
@@ -283,6 +270,9 @@ impl<'a> Body<'a> {
 
     /// The array that is lent, made of its numbers.
     fn lend(&mut self, pointer: &Json, of: &Json, numbers: &Json) -> Result<Node, Refused> {
+        if let Some(("Parts", parts)) = numbers.variant() {
+            return self.lend_struct(pointer, of, parts);
+        }
         let wrong = || unknown("constant", numbers);
         let (Some(("Array", array)), Some(("Ints", ints))) = (of.variant(), numbers.variant()) else {
             return Err(wrong());
@@ -305,16 +295,30 @@ impl<'a> Body<'a> {
         }
         let parts = each(values, "numbers", |value| Ok(list("int", [number(width)?, number(value)?])))?;
         let array = word(&(self.first_array + self.lent.len()).to_string());
-        self.lent.push(Lent { pointer: local.to_string(), of: ty(of)? });
+        self.lent.push(Lent { pointer: Some(local.to_string()), of: ty(of)? });
         let whole = list("place", [array, word("lnil")]);
         Ok(list("assign", [whole, list("aggregate", [cons(parts, "lcons", "lnil")])]))
+    }
+
+    /// The struct that is lent, made of its numbers, and its address.
+    fn lend_struct(&mut self, pointer: &Json, of: &Json, parts: &Json) -> Result<Node, Refused> {
+        let parts = each(parts, "constant", |part| match part.variant() {
+            Some(("Int" | "True" | "False", _)) => operand(part),
+            _ => Err(unknown("constant", part)),
+        })?;
+        let own = word(&(self.first_array + self.lent.len()).to_string());
+        self.lent.push(Lent { pointer: None, of: ty(of)? });
+        let whole = list("place", [own, word("lnil")]);
+        let made = list("assign", [whole.clone(), list("aggregate", [cons(parts, "lcons", "lnil")])]);
+        let lent = list("assign", [place(pointer)?, list("addrOf", [whole])]);
+        Ok(list("seq", [made, lent]))
     }
 
     /// The address of an array that was lent, where that is what is taken.
     fn address_of_lent(&self, value: &Json) -> Result<Option<Node>, Refused> {
         let Some(("AddrOf", of)) = value.variant() else { return Ok(None) };
         let pointer = of.of("local").and_then(Json::number);
-        let Some(at) = self.lent.iter().position(|lent| Some(lent.pointer.as_str()) == pointer) else {
+        let Some(at) = self.lent.iter().position(|lent| lent.pointer.is_some() && lent.pointer.as_deref() == pointer) else {
             return Ok(None);
         };
         let to = match of.of("steps").and_then(Json::list) {
@@ -378,6 +382,7 @@ fn operand(of: &Json) -> Result<Node, Refused> {
         ("True", _, _) => Ok(word("true")),
         ("False", _, _) => Ok(word("false")),
         ("Unit", _, _) => Ok(word("unit")),
+        ("SizeOf", _, _) => Ok(list("sizeOf", [ty(inner)?])),
         _ => Err(unknown("operand", of)),
     }
 }

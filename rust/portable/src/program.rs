@@ -3,11 +3,11 @@
 
 use crate::term::Node;
 use crate::tree::{
-    Arm, Base, Binary, Expr, Function, Local, Place, Program, Shape, Statement, Step, Ty, Unary, Width,
+    is_left, Arm, Base, Binary, Expr, Function, Local, Place, Program, Shape, Statement, Step, Ty, Unary, Width,
 };
-use crate::types::{settle, Types};
+use crate::types::{element, settle, Types};
 use crate::Refused;
-use std::collections::BTreeMap;
+use std::collections::{BTreeMap, BTreeSet};
 
 /// Reads `program FUNCTIONS MAIN`; an archive has no main function of its own.
 pub fn program(term: &Node) -> Result<Program, Refused> {
@@ -15,18 +15,27 @@ pub fn program(term: &Node) -> Result<Program, Refused> {
         return Err(Refused::new(format!("no program: {}", term.short())));
     };
     let mut program = Program { functions: Vec::new(), types: BTreeMap::new() };
-    for definition in functions.items("lcons", "lnil")? {
-        let (name, item, table) = match definition.applied()? {
-            ("fn-def", [name, item]) => (name.text()?, item, Vec::new()),
-            ("fn-def", [name, item, table]) => (name.text()?, item, table.items("lcons", "lnil")?),
+    let mut names = BTreeSet::new();
+    let definitions = functions.items("lcons", "lnil")?;
+    for definition in &definitions {
+        if let ("fn-def", [name, _, table]) = definition.applied()? {
+            let name = name.text()?;
+            let table = table.items("lcons", "lnil")?;
+            read_table(&table, &mut program.types).map_err(|refused| refused.of(name))?;
+        }
+    }
+    for name in program.types.keys() {
+        check_finite(name, &program.types, &mut Vec::new()).map_err(|refused| refused.of(name))?;
+    }
+    for definition in definitions {
+        let (name, item) = match definition.applied()? {
+            ("fn-def", [name, item] | [name, item, _]) => (name.text()?, item),
             _ => return Err(unknown("definition", definition)),
         };
-        read_table(&table, &mut program.types).map_err(|refused| refused.of(name))?;
-        let function = function(name, item, &program.types).map_err(|refused| refused.of(name))?;
-        if program.function(name).is_some() {
+        if !names.insert(name) {
             return Err(Refused::new("two functions of one name").of(name));
         }
-        program.functions.push(function);
+        program.functions.extend(function(name, item, &program.types).map_err(|refused| refused.of(name))?);
     }
     Ok(program)
 }
@@ -54,6 +63,30 @@ fn read_table(table: &[&Node], types: &mut BTreeMap<String, Shape>) -> Result<()
             _ => types.insert(name.to_string(), shape),
         };
     }
+    Ok(())
+}
+
+/// No type has a value of its own inside.
+fn check_finite<'a>(
+    name: &'a str,
+    types: &'a BTreeMap<String, Shape>,
+    above: &mut Vec<&'a str>,
+) -> Result<(), Refused> {
+    if above.contains(&name) {
+        return Err(Refused::new("a type that holds a value of itself"));
+    }
+    above.push(name);
+    let fields: Vec<&Ty> = match types.get(name) {
+        Some(Shape::Fields(fields)) => fields.iter().collect(),
+        Some(Shape::Variants(variants)) => variants.iter().flatten().collect(),
+        None => Vec::new(),
+    };
+    for field in fields {
+        if let Ty::Named(inner) = element(field) {
+            check_finite(inner, types, above)?;
+        }
+    }
+    above.pop();
     Ok(())
 }
 
@@ -109,7 +142,8 @@ fn slice(fields: &Node) -> Result<Ty, Refused> {
     }
 }
 
-fn function(name: &str, item: &Node, types: &BTreeMap<String, Shape>) -> Result<Function, Refused> {
+/// A function; none where no run comes to its end, so that none calls it.
+fn function(name: &str, item: &Node, types: &BTreeMap<String, Shape>) -> Result<Option<Function>, Refused> {
     let ("fnItem", [_lifetimes, _outlives, params, locals, body]) = item.applied()? else {
         return Err(unknown("function", item));
     };
@@ -118,12 +152,17 @@ fn function(name: &str, item: &Node, types: &BTreeMap<String, Shape>) -> Result<
     if locals.len() <= params {
         return Err(Refused::new("fewer locals than parameters"));
     }
-    let mut function = Function { name: name.to_string(), params, locals, body: Vec::new() };
-    let mut reader = Reader { body: Vec::new(), loops: 0 };
+    let mut function =
+        Function { name: name.to_string(), params, locals, body: Vec::new(), is_expanded: false };
+    let types = Types::new(types);
+    let mut reader = Reader { body: Vec::new(), around: Vec::new(), blocks: 0, types: &types };
     reader.statement(body)?;
+    if reader.body.last() == Some(&Statement::Unreached) {
+        return Ok(None);
+    }
     function.body = reader.body;
-    settle(&mut function, &Types::new(types))?;
-    Ok(function)
+    settle(&mut function, &types)?;
+    Ok(Some(function))
 }
 
 fn local(node: &Node) -> Result<Local, Refused> {
@@ -133,38 +172,67 @@ fn local(node: &Node) -> Result<Local, Refused> {
         ("memorySlot", []) => true,
         _ => return Err(unknown("home of a local", home)),
     };
-    Ok(Local { ty: ty(of)?, in_memory })
+    let ty = ty(of)?;
+    Ok(Local { is_raw: ty == Ty::Ptr, ty, in_memory })
+}
+
+/// What an exit may leave: a loop, of which it is the next turn or the end, or a block that is none.
+#[derive(Clone, Copy)]
+enum Level {
+    Turn,
+    End,
+    Block(usize),
 }
 
 /// Reads statements into a body. A loop is a `block` around a `loop`, so an `exit` counts two for each; a switch is no level of its own.
-struct Reader {
+struct Reader<'a> {
     body: Vec<Statement>,
-    /// How many loops are around the statement that is read.
-    loops: usize,
+    /// What is around the statement that is read.
+    around: Vec<Level>,
+    /// How many blocks there are so far that are no loops.
+    blocks: usize,
+    types: &'a Types<'a>,
 }
 
-impl Reader {
+impl Reader<'_> {
     fn statement(&mut self, node: &Node) -> Result<(), Refused> {
         let mut rest = node;
         // a sequence is a long list to the right: it is followed, and not descended into
         while let ("seq", [first, second]) = rest.applied()? {
             self.statement(first)?;
             rest = second;
+            // no run comes to what stands behind an exit or a return
+            if matches!(first.applied()?, ("exit" | "return", _)) {
+                return Ok(());
+            }
         }
         let made = match rest.applied()? {
             ("skip", []) => return Ok(()),
-            ("assign", [target, value]) => Statement::Assign(place(target)?, rvalue(value)?),
-            ("call", [called, arguments, target]) => call(called, arguments, target)?,
-            ("block", [inner]) => self.looped(inner)?,
+            ("assign", [target, value]) => Statement::Assign(place(target)?, rvalue(value, self.types)?),
+            ("call", [called, arguments, target]) => call(called, arguments, target, self.types)?,
+            ("block", [inner]) => return self.block(inner),
             ("if", [test, yes, no]) => {
-                Statement::If(operand(test)?, self.nested_body(yes)?, self.nested_body(no)?)
+                let test = operand(test, self.types)?;
+                let (yes, no) = (self.nested_body(yes)?, self.nested_body(no)?);
+                match (is_unreached(&yes), is_unreached(&no)) {
+                    (true, _) => return self.splice(no),
+                    (_, true) => return self.splice(yes),
+                    _ => Statement::If(test, yes, no),
+                }
             }
-            ("switch", [on, arms]) => Statement::Switch(operand(on)?, self.arms(arms)?),
-            ("exit", [level]) => self.exit(level.number()?)?,
+            ("switch", [on, arms]) => return self.switch(on, arms),
+            ("exit", [level]) => self.exit(level.place()?)?,
             ("return", []) => Statement::Return(None),
+            ("unreachable", []) => Statement::Unreached,
             _ => return Err(unknown("statement", rest)),
         };
         self.body.push(made);
+        Ok(())
+    }
+
+    /// The one branch that a run can come to.
+    fn splice(&mut self, body: Vec<Statement>) -> Result<(), Refused> {
+        self.body.extend(body);
         Ok(())
     }
 
@@ -174,24 +242,70 @@ impl Reader {
         Ok(std::mem::replace(&mut self.body, outer))
     }
 
-    fn looped(&mut self, node: &Node) -> Result<Statement, Refused> {
-        let ("loop", [inner]) = node.applied()? else {
-            return Err(Refused::new(format!("a block that is no loop: {}", node.short())));
-        };
-        self.loops += 1;
-        let body = self.nested_body(inner)?;
-        self.loops -= 1;
-        Ok(Statement::Loop(body))
+    fn nested_within(&mut self, node: &Node, levels: &[Level]) -> Result<Vec<Statement>, Refused> {
+        let before = self.around.len();
+        self.around.extend(levels);
+        let body = self.nested_body(node)?;
+        self.around.truncate(before);
+        match is_unreached(&body) {
+            true => Err(Refused::new("a loop or a block whose end no run comes to")),
+            false => Ok(body),
+        }
     }
 
-    /// Level 0 is the innermost loop's next turn, level 1 its end; levels above leave more than one loop.
-    fn exit(&self, level: u64) -> Result<Statement, Refused> {
-        match (level, self.loops == 0) {
-            (0, false) => Ok(Statement::Continue),
-            (1, false) => Ok(Statement::Break),
-            (_, true) => Err(Refused::new("an exit outside of a loop")),
+    /// A loop, or a block that is none: its statements stand in its place unless one of them leaves it.
+    fn block(&mut self, node: &Node) -> Result<(), Refused> {
+        if let ("loop", [inner]) = node.applied()? {
+            let body = self.nested_within(inner, &[Level::End, Level::Turn])?;
+            self.body.push(Statement::Loop(body));
+            return Ok(());
+        }
+        let number = self.blocks;
+        self.blocks += 1;
+        let body = self.nested_within(node, &[Level::Block(number)])?;
+        if is_left(&body, number) {
+            self.body.push(Statement::Block(number, body));
+            return Ok(());
+        }
+        self.splice(body)
+    }
+
+    /// Level 0 is the innermost loop's next turn, level 1 its end, where no other block is between; levels above leave more than one loop.
+    fn exit(&self, level: usize) -> Result<Statement, Refused> {
+        let loops = |levels: &[Level]| levels.iter().filter(|level| matches!(level, Level::Turn)).count();
+        let Some(at) = self.around.len().checked_sub(level + 1) else {
+            return Err(Refused::new(match loops(&self.around) {
+                0 => "an exit outside of a loop".to_string(),
+                _ => format!("an exit out of more than one loop: {level}"),
+            }));
+        };
+        match (self.around[at], loops(&self.around[at..])) {
+            (Level::Turn, 1) => Ok(Statement::Continue),
+            (Level::End, 1) => Ok(Statement::Break),
+            (Level::Block(number), 0) => Ok(Statement::Leave(number)),
             _ => Err(Refused::new(format!("an exit out of more than one loop: {level}"))),
         }
+    }
+
+    /// An arm that no run comes to the end of is left out: the proofs exclude its numbers. Where one is left, it is no switch.
+    fn switch(&mut self, on: &Node, arms: &Node) -> Result<(), Refused> {
+        let on = operand(on, self.types)?;
+        let mut arms = self.arms(arms)?;
+        let all = arms.len();
+        arms.retain(|arm| !is_unreached(&arm.body));
+        if arms.len() < all {
+            match &mut arms[..] {
+                [] => self.body.push(Statement::Unreached),
+                [_] => return self.splice(arms.remove(0).body),
+                [.., last] => {
+                    last.otherwise = true;
+                    self.body.push(Statement::Switch(on, arms));
+                }
+            }
+        } else {
+            self.body.push(Statement::Switch(on, arms));
+        }
+        Ok(())
     }
 
     /// The last arm of a switch without a default is one: the proofs exclude all other numbers, and every path then has a value.
@@ -226,10 +340,14 @@ impl Reader {
     }
 }
 
-fn call(called: &Node, arguments: &Node, target: &Node) -> Result<Statement, Refused> {
+fn is_unreached(body: &[Statement]) -> bool {
+    body.last() == Some(&Statement::Unreached)
+}
+
+fn call(called: &Node, arguments: &Node, target: &Node, types: &Types) -> Result<Statement, Refused> {
     let ("direct", [function]) = called.applied()? else { return Err(unknown("call", called)) };
     let ("fnRef", [name]) = function.applied()? else { return Err(unknown("call", called)) };
-    let arguments = arguments.items("lcons", "lnil")?.into_iter().map(operand).collect::<Result<_, _>>()?;
+    let arguments = operands(arguments, types)?;
     Ok(Statement::Assign(place(target)?, Expr::Call(name.text()?.to_string(), arguments)))
 }
 
@@ -248,7 +366,11 @@ fn step(node: &Node) -> Result<Step, Refused> {
     }
 }
 
-fn operand(node: &Node) -> Result<Expr, Refused> {
+fn operands(node: &Node, types: &Types) -> Result<Vec<Expr>, Refused> {
+    node.items("lcons", "lnil")?.into_iter().map(|node| operand(node, types)).collect()
+}
+
+fn operand(node: &Node, types: &Types) -> Result<Expr, Refused> {
     match node.applied()? {
         ("copy", [of]) => Ok(Expr::Copy(place(of)?)),
         ("int", [bits, value]) => {
@@ -262,11 +384,13 @@ fn operand(node: &Node) -> Result<Expr, Refused> {
         ("true", []) => Ok(Expr::Bool(true)),
         ("false", []) => Ok(Expr::Bool(false)),
         ("unit", []) => Ok(Expr::Unit),
+        ("sizeOf", [of]) => Ok(Expr::Int(Width::W64, types.layout(&ty(of)?)?.size)),
         _ => Err(unknown("operand", node)),
     }
 }
 
-fn rvalue(node: &Node) -> Result<Expr, Refused> {
+fn rvalue(node: &Node, types: &Types) -> Result<Expr, Refused> {
+    let operand = |node: &Node| operand(node, types);
     match node.applied()? {
         ("rvOpd", [of]) => operand(of),
         ("op2", [operation, left, right]) => {
@@ -275,10 +399,7 @@ fn rvalue(node: &Node) -> Result<Expr, Refused> {
         ("op1", [operation, of]) => Ok(Expr::Unary(unary(operation)?, Box::new(operand(of)?))),
         ("addrOf", [of]) => Ok(Expr::Address(place(of)?)),
         // its type is that of the place it is assigned to, which `settle` puts in
-        ("aggregate", [parts]) => Ok(Expr::Aggregate(
-            Ty::Unit,
-            parts.items("lcons", "lnil")?.into_iter().map(operand).collect::<Result<_, _>>()?,
-        )),
+        ("aggregate", [parts]) => Ok(Expr::Aggregate(Ty::Unit, operands(parts, types)?)),
         ("repeat", [of, count]) => Ok(Expr::Repeat(Box::new(operand(of)?), count.number()?)),
         _ => Err(unknown("value", node)),
     }

@@ -11,10 +11,16 @@ use std::path::Path;
 pub struct FunctionNames {
     pub comment: Vec<String>,
     pub params: Vec<String>,
-    /// What `let` and patterns bind, in their order.
+    /// What `let`, `for` and patterns bind, in their order, with a sign where the program has a local that the source does not name: `HIDDEN` for one,
+    /// `LOOP` for those of a `for` over anything but a range, `COUNTED` where the pattern has its counter.
     pub bound: Vec<String>,
     pub is_exported: bool,
 }
+
+/// No names of the sources.
+pub const HIDDEN: &str = "";
+pub const LOOP: &str = "for";
+pub const COUNTED: &str = "in";
 
 #[derive(Clone, Debug, PartialEq, Eq)]
 pub enum TypeNames {
@@ -132,10 +138,14 @@ impl Sources {
         }
     }
 
+    /// What is implemented of a trait has the type's name and the trait's, with what the trait is of.
     fn implemented(&mut self, tokens: &[Token], at: usize, path: &str) -> usize {
         let open = position(tokens, at, |token| *token == Token::Mark('{'));
         let end = after_group(tokens, open);
-        let name = word(tokens, at + 1).unwrap_or_default();
+        let heading = &tokens[after_angles(tokens, at + 1).min(open)..open];
+        let of = heading.iter().position(|token| *token == Token::Word("for".to_string()));
+        let (of_trait, of_type) = heading.split_at(of.map_or(0, |of| of + 1));
+        let name = last_name(of_type) + &words(of_trait).concat();
         self.items(&tokens[(open + 1).min(end)..end.max(1) - 1], &format!("{path}::{name}"));
         end
     }
@@ -148,7 +158,7 @@ impl Sources {
         comment: &[String],
         is_exported: bool,
     ) -> usize {
-        let open = position(tokens, at, |token| *token == Token::Mark('('));
+        let open = position(tokens, after_angles(tokens, at), |token| *token == Token::Mark('('));
         let mut at = after_group(tokens, open);
         let params = parts(inside(tokens, open, at)).iter().filter_map(|part| declared_name(part)).collect();
         // a clause is a word and what it holds in braces; the body has no word
@@ -245,7 +255,7 @@ fn declared_name(part: &[Token]) -> Option<String> {
     }
 }
 
-/// The names that `let` and the patterns of `match` bind.
+/// The names that `let`, `for` and the patterns of `match` bind; `?` has a local for the value and one for what is returned.
 fn bound(body: &[Token]) -> Vec<String> {
     let body: Vec<Token> = body.iter().filter(|token| !matches!(token, Token::Comment(_))).cloned().collect();
     let mut names = Vec::new();
@@ -255,9 +265,36 @@ fn bound(body: &[Token]) -> Vec<String> {
             names.extend(pattern_names(&body[at + 1..end.min(body.len())]));
         } else if body[at] == Token::Mark('=') && body.get(at + 1) == Some(&Token::Mark('>')) {
             names.extend(pattern_names(&body[pattern_start(&body, at)..at]));
+        } else if body[at] == Token::Mark('?') {
+            names.extend([HIDDEN, HIDDEN].map(String::from));
+        } else if body[at] == Token::Word("for".to_string()) {
+            let of = position(&body, at, |token| *token == Token::Word("in".to_string()));
+            let end = position(&body, of, |token| *token == Token::Mark('{'));
+            let over = inside(&body, of, end + 1);
+            if over.contains(&Token::Word("enumerate".to_string())) {
+                names.push(COUNTED.to_string());
+            } else if !is_range(over) {
+                names.push(LOOP.to_string());
+            }
+            names.extend(pattern_names(&body[at + 1..of.min(body.len())]));
         }
     }
     names
+}
+
+/// Whether a `for` goes over a range, or over one within parentheses.
+fn is_range(of: &[Token]) -> bool {
+    if let [Token::Mark('('), ..] = of {
+        return is_range(inside(of, 0, after_group(of, 0)));
+    }
+    let mut at = 0;
+    while at < of.len() {
+        if of[at] == Token::Mark('.') && of.get(at + 1) == Some(&Token::Mark('.')) {
+            return true;
+        }
+        at = after_group(of, at);
+    }
+    false
 }
 
 /// Where the pattern before `=>` begins: behind the comma or brace that ends what is before it.
@@ -292,7 +329,7 @@ fn pattern_names(pattern: &[Token]) -> Vec<String> {
         let colon = |at: usize| pattern.get(at) == Some(&Token::Mark(':'));
         // `field: name` and `path::name`; the type behind `name: T` does not come here in a pattern without braces
         let is_path = colon(at + 1) && colon(at + 2);
-        let is_field = colon(at + 1) && !colon(at + 2) && at > 0;
+        let is_field = colon(at + 1) && !colon(at + 2) && pattern.contains(&Token::Mark('{'));
         let is_type = at > 1 && colon(at - 1) && !pattern.contains(&Token::Mark('{'));
         if is_name && !is_keyword && !is_path && !is_field && !is_type {
             names.push(name.clone());
@@ -347,6 +384,41 @@ fn after_group(tokens: &[Token], at: usize) -> usize {
         }
     }
     tokens.len()
+}
+
+/// The place behind parameters in angle brackets, where there are any.
+fn after_angles(tokens: &[Token], at: usize) -> usize {
+    let mut depth = 0;
+    for place in at..tokens.len() {
+        match tokens[place] {
+            Token::Mark('<') => depth += 1,
+            Token::Mark('>') if tokens[place - 1] != Token::Mark('-') => depth -= 1,
+            _ => {}
+        }
+        if depth == 0 {
+            return place + usize::from(tokens[place] == Token::Mark('>'));
+        }
+    }
+    tokens.len()
+}
+
+/// The last name of a type's path, without its arguments.
+fn last_name(of: &[Token]) -> String {
+    let end = position(of, 0, |token| *token == Token::Mark('<'));
+    words(&of[..end]).pop().unwrap_or_default()
+}
+
+/// The last name of each path, with a capital.
+fn words(of: &[Token]) -> Vec<String> {
+    let is_path = |at: usize| of.get(at + 1) == Some(&Token::Mark(':'));
+    let named = of.iter().enumerate().filter_map(|(at, token)| match token {
+        Token::Word(name) if !is_path(at) && !matches!(name.as_str(), "for" | "where" | "mut") => {
+            let mut characters = name.chars();
+            characters.next().map(|first| first.to_uppercase().chain(characters).collect())
+        }
+        _ => None,
+    });
+    named.collect()
 }
 
 fn after_item(tokens: &[Token], at: usize) -> usize {

@@ -16,6 +16,8 @@ pub enum Rank {
     And,
     Xor,
     Or,
+    Both,
+    Either,
 }
 
 pub struct Text {
@@ -90,17 +92,20 @@ pub fn operator(operation: Binary) -> (&'static str, Rank) {
         Binary::Le => ("<=", Rank::Order),
         Binary::Gt => (">", Rank::Order),
         Binary::Ge => (">=", Rank::Order),
+        Binary::Both => ("&&", Rank::Both),
+        Binary::Either => ("||", Rank::Either),
         Binary::Offset | Binary::Cut => ("+", Rank::Sum),
     }
 }
 
-/// What stands without parentheses beside an operator. Only what every reader knows does: sums of products, comparisons of sums, and
-/// a row of one operator from the left.
+/// What stands without parentheses beside an operator. Only what every reader knows does: sums of products, comparisons of sums, what is asked of
+/// comparisons, and a row of one operator from the left.
 pub fn within(rank: Rank, is_left: bool) -> Rank {
     match (rank, is_left) {
         (Rank::Sum, true) => Rank::Sum,
         (Rank::Sum, false) => Rank::Product,
         (Rank::Order | Rank::Equal, _) => Rank::Sum,
+        (Rank::Both | Rank::Either, _) => Rank::Equal,
         _ => Rank::Prefix,
     }
 }

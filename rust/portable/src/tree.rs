@@ -109,6 +109,9 @@ pub enum Binary {
     /// Of the reading form alone, from a negation.
     Gt,
     Ge,
+    /// Of the reading form alone, from a branch: the second is asked for where the first does not tell.
+    Both,
+    Either,
     /// A pointer, and a count of bytes: followed at once, so within its array.
     Offset,
     /// The same where a slice begins there, which may be at the array's end, or at 0 of none.
@@ -118,6 +121,11 @@ pub enum Binary {
 impl Binary {
     pub fn is_comparison(self) -> bool {
         matches!(self, Binary::Eq | Binary::Ne | Binary::Lt | Binary::Le | Binary::Gt | Binary::Ge)
+    }
+
+    /// Whether C asks for the second operand only where the first does not tell.
+    pub fn is_circuit(self) -> bool {
+        matches!(self, Binary::Both | Binary::Either)
     }
 }
 
@@ -142,6 +150,19 @@ pub enum Expr {
     Aggregate(Ty, Vec<Expr>),
     Repeat(Box<Expr>, u64),
     Call(String, Vec<Expr>),
+}
+
+/// What a struct, or a variant, made of some parts has at some steps: the part of the first steps, and the steps that are left.
+pub fn part<'a>(parts: &'a [Expr], steps: &'a [Step]) -> Option<(&'a Expr, &'a [Step])> {
+    match (steps, parts.first()) {
+        ([Step::Field(number), rest @ ..], _) => Some((parts.get(*number)?, rest)),
+        ([Step::Variant(variant), Step::Field(number), rest @ ..], Some(Expr::Int(_, tag)))
+            if *variant as u64 == *tag || *number == 0 =>
+        {
+            Some((parts.get(*number)?, rest))
+        }
+        _ => None,
+    }
 }
 
 impl Expr {
@@ -170,12 +191,17 @@ pub enum Statement {
     /// Of the reading form alone: a loop that begins with its test.
     While(Expr, Vec<Statement>),
     Switch(Expr, Vec<Arm>),
+    /// What may be left from within, by its number.
+    Block(usize, Vec<Statement>),
+    Leave(usize),
     /// Where a local comes into being; the term's are there from the start.
     Declare(usize),
     Continue,
     Break,
     /// Of what local 0 holds; in the reading form, of an expression.
     Return(Option<Expr>),
+    /// Where no run comes to, by the proofs. Only while a body is read: a branch that ends here is left out.
+    Unreached,
 }
 
 #[derive(Clone, Debug)]
@@ -183,6 +209,8 @@ pub struct Local {
     pub ty: Ty,
     /// Whether it has an address.
     pub in_memory: bool,
+    /// Whether it is a raw pointer, whatever it points to.
+    pub is_raw: bool,
 }
 
 #[derive(Clone, Debug)]
@@ -191,6 +219,8 @@ pub struct Function {
     pub params: usize,
     pub locals: Vec<Local>,
     pub body: Vec<Statement>,
+    /// Whether a call was written out here, in the reading form.
+    pub is_expanded: bool,
 }
 
 #[derive(Clone, Debug)]
@@ -214,7 +244,13 @@ impl Statement {
                 (None, Some(test))
             }
             Statement::Return(value) => (None, value.as_ref()),
-            Statement::Loop(_) | Statement::Declare(_) | Statement::Continue | Statement::Break => (None, None),
+            Statement::Loop(_)
+            | Statement::Block(..)
+            | Statement::Leave(_)
+            | Statement::Declare(_)
+            | Statement::Continue
+            | Statement::Break
+            | Statement::Unreached => (None, None),
         }
     }
 
@@ -229,7 +265,7 @@ impl Statement {
     pub fn bodies(&self) -> Vec<&Vec<Statement>> {
         match self {
             Statement::If(_, yes, no) => vec![yes, no],
-            Statement::Loop(body) | Statement::While(_, body) => vec![body],
+            Statement::Loop(body) | Statement::While(_, body) | Statement::Block(_, body) => vec![body],
             Statement::Switch(_, arms) => arms.iter().map(|arm| &arm.body).collect(),
             _ => Vec::new(),
         }
@@ -238,7 +274,7 @@ impl Statement {
     pub fn bodies_mut(&mut self) -> Vec<&mut Vec<Statement>> {
         match self {
             Statement::If(_, yes, no) => vec![yes, no],
-            Statement::Loop(body) | Statement::While(_, body) => vec![body],
+            Statement::Loop(body) | Statement::While(_, body) | Statement::Block(_, body) => vec![body],
             Statement::Switch(_, arms) => arms.iter_mut().map(|arm| &mut arm.body).collect(),
             _ => Vec::new(),
         }
@@ -247,7 +283,12 @@ impl Statement {
     /// Whether what follows it is not reached.
     pub fn leaves(&self) -> bool {
         match self {
-            Statement::Continue | Statement::Break | Statement::Return(_) => true,
+            Statement::Continue
+            | Statement::Break
+            | Statement::Leave(_)
+            | Statement::Return(_)
+            | Statement::Unreached => true,
+            Statement::Block(number, body) => leaves(body) && !is_left(body, *number),
             Statement::If(_, yes, no) => leaves(yes) && leaves(no),
             Statement::Switch(_, arms) => arms.iter().all(|arm| leaves(&arm.body)),
             _ => false,
@@ -260,6 +301,14 @@ pub fn leaves(body: &[Statement]) -> bool {
     body.last().is_some_and(Statement::leaves)
 }
 
+/// Whether statements leave a block around them.
+pub fn is_left(body: &[Statement], number: usize) -> bool {
+    body.iter().any(|statement| match statement {
+        Statement::Leave(left) => *left == number,
+        other => other.bodies().into_iter().any(|inner| is_left(inner, number)),
+    })
+}
+
 /// What an expression, a statement or a body does, for the rules that move or place things.
 #[derive(Default)]
 pub struct Effects {
@@ -270,6 +319,8 @@ pub struct Effects {
     /// How often each local is read.
     pub reads: BTreeMap<usize, usize>,
     pub calls: usize,
+    /// Whether a part is not evaluated on each way.
+    pub is_circuit: bool,
     /// Reads of what a pointer points to or of a local in memory.
     pub reads_memory: bool,
     pub writes_memory: bool,
@@ -349,7 +400,8 @@ impl Effects {
         match value {
             Expr::Copy(place) => self.add_place(place, locals, true),
             Expr::Address(place) => self.add_place(place, locals, false),
-            Expr::Binary(_, left, right) => {
+            Expr::Binary(operation, left, right) => {
+                self.is_circuit |= operation.is_circuit();
                 self.add_expr(left, locals);
                 self.add_expr(right, locals);
             }

@@ -17,6 +17,11 @@ pub struct Types<'a> {
     signatures: BTreeMap<&'a str, Signature>,
 }
 
+pub struct Layout {
+    pub size: u64,
+    align: u64,
+}
+
 impl<'a> Types<'a> {
     pub fn new(shapes: &'a BTreeMap<String, Shape>) -> Types<'a> {
         Types { shapes, signatures: BTreeMap::new() }
@@ -39,6 +44,70 @@ impl<'a> Types<'a> {
         self.signatures
             .get(name)
             .ok_or_else(|| Refused::new(format!("a call of a function that is not there: {name}")))
+    }
+
+    /// Whether a type's values say nothing: it has none in C. A type that has a value of itself inside is none.
+    pub fn is_valueless(&self, ty: &Ty) -> bool {
+        match ty {
+            Ty::Unit => true,
+            Ty::Named(name) => match self.shapes.get(name) {
+                Some(Shape::Fields(fields)) => {
+                    fields.iter().all(|field| *field != *ty && self.is_valueless(field))
+                }
+                _ => false,
+            },
+            _ => false,
+        }
+    }
+
+    /// How a value lies in the machine's memory (`Prog/Memory`): a struct's fields one after another, each at a multiple of its alignment; an
+    /// enum's tag in one byte, and behind it the fields of a variant.
+    pub fn layout(&self, ty: &Ty) -> Result<Layout, Refused> {
+        let plain = |size: u64| Ok(Layout { size, align: size });
+        match ty {
+            Ty::Unit => Ok(Layout { size: 0, align: 1 }),
+            Ty::Bool => plain(1),
+            Ty::Int(width) => plain(width.bits() / 8),
+            Ty::Array(of, count) => {
+                let element = self.layout(of)?;
+                let size = element
+                    .size
+                    .checked_mul(*count)
+                    .ok_or_else(|| Refused::new("an array that is too long"))?;
+                Ok(Layout { size, ..element })
+            }
+            Ty::Named(name) => match self.shape(name)? {
+                Shape::Fields(fields) => self.fields_behind(0, fields),
+                Shape::Variants(variants) => {
+                    let mut whole = Layout { size: 1, align: 1 };
+                    for fields in variants {
+                        let one = self.fields_behind(1, fields)?;
+                        whole = Layout { size: whole.size.max(one.size), align: whole.align.max(one.align) };
+                    }
+                    Ok(Layout { size: whole.size.next_multiple_of(whole.align), ..whole })
+                }
+            },
+            // pointers have another size on other processors
+            Ty::Ptr | Ty::Ref { .. } | Ty::Slice { .. } => Err(Refused::new(format!("the size of {ty:?}"))),
+        }
+    }
+
+    fn fields_behind(&self, start: u64, fields: &[Ty]) -> Result<Layout, Refused> {
+        let mut whole = Layout { size: start, align: 1 };
+        for field in fields {
+            let field = self.layout(field)?;
+            whole.size = whole.size.next_multiple_of(field.align) + field.size;
+            whole.align = whole.align.max(field.align);
+        }
+        Ok(Layout { size: whole.size.next_multiple_of(whole.align), ..whole })
+    }
+
+    /// The bytes that the machine has for what a pointer may step over. What holds pointers, whose sizes differ, is none.
+    pub fn size_of(&self, ty: &Ty) -> Result<u64, Refused> {
+        match (ty, self.is_valueless(ty)) {
+            (Ty::Int(_) | Ty::Bool | Ty::Named(_), false) => Ok(self.layout(ty)?.size),
+            _ => Err(Refused::new(format!("a pointer that steps over {ty:?}"))),
+        }
     }
 
     pub fn place(&self, place: &Place, locals: &[Local]) -> Result<Ty, Refused> {
@@ -121,6 +190,12 @@ impl<'a> Types<'a> {
                 _ => Err(Refused::new(format!("an offset of {left:?} by {right:?}"))),
             };
         }
+        if operation.is_circuit() {
+            return match (left, right) {
+                (Ty::Bool, Ty::Bool) => Ok(Ty::Bool),
+                _ => Err(Refused::new(format!("{operation:?} of {left:?} and {right:?}"))),
+            };
+        }
         let takes_bools = matches!(operation, Binary::Eq | Binary::Ne | Binary::And | Binary::Or | Binary::Xor);
         if left != right || !(matches!(left, Ty::Int(_)) || takes_bools && *left == Ty::Bool) {
             return Err(Refused::new(format!("{operation:?} of {left:?} and {right:?}")));
@@ -131,16 +206,28 @@ impl<'a> Types<'a> {
     /// C has bounds for an array inside a struct, and a value local has no address in MIR: neither may be pointed to.
     fn address(&self, place: &Place, locals: &[Local]) -> Result<Ty, Refused> {
         let to = self.place(place, locals)?;
-        let mutable = match (&place.base, place.steps.split_last()) {
-            (_, Some((Step::Deref(_), before))) => {
-                let pointer = Place { base: place.base.clone(), steps: before.to_vec() };
+        // a part has the address of the whole that has one, and may do what that may
+        let behind = place.steps.iter().rposition(|step| matches!(step, Step::Deref(_)));
+        let is_part = place.steps.len() > behind.map_or(0, |at| at + 1);
+        if is_part && !self.has_own_address(place, &to) {
+            return Err(Refused::new("the address of a part of a struct"));
+        }
+        let mutable = match (&place.base, behind) {
+            (_, Some(at)) => {
+                let pointer = Place { base: place.base.clone(), steps: place.steps[..at].to_vec() };
                 matches!(self.place(&pointer, locals)?, Ty::Ref { mutable: true, .. })
             }
             (Base::Local(number), None) if locals[*number].in_memory => true,
             (Base::Local(_), None) => return Err(Refused::new("the address of a value local")),
-            _ => return Err(Refused::new("the address of a part of a struct")),
+            _ => return Err(Refused::new("the address of a value")),
         };
         Ok(Ty::Ref { mutable, to: Box::new(to) })
+    }
+
+    /// Whether a part of a struct or of a variant may be pointed to: no array, no tag, and nothing of a slice.
+    fn has_own_address(&self, place: &Place, to: &Ty) -> bool {
+        let is_tag = matches!(place.steps[..], [.., Step::Variant(_), Step::Field(0)]);
+        !is_tag && matches!(to, Ty::Int(_) | Ty::Bool | Ty::Named(_))
     }
 
     fn aggregate(&self, ty: &Ty, parts: &[Expr], locals: &[Local]) -> Result<(), Refused> {

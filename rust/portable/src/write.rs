@@ -1,10 +1,11 @@
 //! The C text. A statement of the tree is a statement here; an expression has the parentheses, casts and suffixes that give it the term's
 //! meaning, whether the processor's int has 16 or 32 bits.
 
-use crate::check::{calls, size_of};
+use crate::check::calls;
 use crate::declare::{c_type, declared, definitions, pointer};
 use crate::fold::fold;
 use crate::helpers::Helper;
+use crate::inline::inlined;
 use crate::layout::Lines;
 use crate::names::Names;
 use crate::sources::{Sources, TypeNames};
@@ -17,8 +18,19 @@ use crate::types::{element, Types};
 use crate::{Form, Refused};
 use std::collections::BTreeSet;
 
+/// The counter of an array's elements, which no local is called.
+const EACH: &str = "at_each";
+
 pub fn file(program: &Program, sources: &Sources, form: Form) -> Result<String, Refused> {
     let names = Names::new(program, sources)?;
+    let inlined = match form {
+        Form::Plain => None,
+        Form::Reading => {
+            let kept = |function: &Function| names.kept(function);
+            Some(inlined(program, &|name| !names.is_made(name), &kept)?)
+        }
+    };
+    let program = inlined.as_ref().unwrap_or(program);
     let types = Types::of(program);
     let reached = reached(program, &names)?;
     let mut lines = Lines::default();
@@ -27,13 +39,13 @@ pub fn file(program: &Program, sources: &Sources, form: Form) -> Result<String, 
     lines.blank();
     lines.add("#include <string.h>");
     lines.blank();
-    definitions(&reached, program, &names, &mut lines)?;
+    definitions(&reached, &types, &names, &mut lines)?;
     let mut bodies = Lines::default();
     let mut helpers = BTreeSet::new();
     for function in reached {
         let of = |refused: Refused| refused.of(&function.name);
         let made = match form {
-            Form::Plain => declared_first(function),
+            Form::Plain => declared_first(function, &types),
             Form::Reading => fold(function, &names.kept(function), &types).map_err(of)?,
         };
         let mut writer = Writer {
@@ -86,12 +98,12 @@ fn reached<'a>(program: &'a Program, names: &Names) -> Result<Vec<&'a Function>,
 }
 
 /// The plain form's body: all locals, and then the statements as they are.
-fn declared_first(function: &Function) -> Function {
+fn declared_first(function: &Function, types: &Types) -> Function {
     let used = Effects::of_body(&function.body, &function.locals);
     let numbers = (0..function.locals.len()).filter(|number| {
         (*number == 0 || *number > function.params)
             && used.reads.contains_key(number)
-            && function.locals[*number].ty != Ty::Unit
+            && !types.is_valueless(&function.locals[*number].ty)
     });
     let mut body: Vec<Statement> = numbers.map(Statement::Declare).collect();
     body.extend(function.body.iter().cloned());
@@ -115,17 +127,18 @@ impl Writer<'_> {
         let exported = self.names.is_exported(&function.name);
         let comment = self.names.comment(&function.name);
         self.lines.comment(&[&[format!("{}.", function.name)], comment].concat());
-        let params: Vec<String> = (1..=function.params).map(|number| self.param(number, exported)).collect();
+        let valued: Vec<usize> = (1..=function.params).filter(|number| self.is_valued(*number)).collect();
+        let params: Vec<String> = valued.iter().map(|number| self.param(*number, exported)).collect();
         let params = if params.is_empty() { "void".to_string() } else { params.join(", ") };
         let of = format!("{}({params})", self.names.function(&function.name));
-        let heading = declared(&function.locals[0].ty, &of);
+        let heading = declared(if self.is_valued(0) { &function.locals[0].ty } else { &Ty::Unit }, &of);
         self.lines.add(&if exported { heading } else { format!("static inline {heading}") });
         self.lines.add("{");
-        for number in 1..=function.params {
+        for number in valued {
             self.entered(number, exported, self.read.contains(&number));
         }
         let (last, body) = match function.body.split_last() {
-            Some((Statement::Return(None), body)) if function.locals[0].ty == Ty::Unit => (None, body),
+            Some((Statement::Return(None), body)) if !self.is_valued(0) => (None, body),
             Some((last, body)) => (Some(last), body),
             None => (None, &function.body[..]),
         };
@@ -136,6 +149,10 @@ impl Writer<'_> {
         self.lines.add("}");
         self.lines.blank();
         Ok(())
+    }
+
+    fn is_valued(&self, number: usize) -> bool {
+        !self.types.is_valueless(&self.locals[number].ty)
     }
 
     /// A parameter as it is declared. C's callers lend a slice as a pointer and a length, and an array with its size.
@@ -211,10 +228,16 @@ impl Writer<'_> {
             }
             Statement::Switch(on, arms) if arms.iter().any(|arm| breaks(&arm.body)) => self.chain(on, arms)?,
             Statement::Switch(on, arms) => self.switch(on, arms)?,
+            Statement::Block(number, body) => {
+                self.braced("{", body)?;
+                self.lines.add(&format!("next_{number}:;"));
+            }
+            Statement::Leave(number) => self.lines.add(&format!("goto next_{number};")),
             Statement::Declare(number) => self.declare(*number),
             Statement::Continue => self.lines.add("continue;"),
             Statement::Break => self.lines.add("break;"),
             Statement::Return(value) => self.returned(value.as_ref())?,
+            Statement::Unreached => return Err(Refused::new("a branch that no run comes to")),
         }
         Ok(())
     }
@@ -222,7 +245,9 @@ impl Writer<'_> {
     fn declare(&mut self, number: usize) {
         let name = &self.called[number];
         let line = match &self.locals[number] {
-            Local { ty: Ty::Array(of, count), in_memory: true } => format!("{} {name}[{count}];", c_type(of)),
+            Local { ty: Ty::Array(of, count), in_memory: true, .. } => {
+                format!("{} {name}[{count}];", c_type(of))
+            }
             local => format!("{};", declared(&local.ty, name)),
         };
         self.lines.add(&line);
@@ -231,7 +256,7 @@ impl Writer<'_> {
     fn returned(&mut self, value: Option<&Expr>) -> Result<(), Refused> {
         let line = match value {
             Some(value) => format!("return {};", self.value(value, Literal::Bare)?.text),
-            None if self.locals[0].ty == Ty::Unit => "return;".to_string(),
+            None if !self.is_valued(0) => "return;".to_string(),
             None => format!("return {};", self.called[0]),
         };
         self.lines.add(&line);
@@ -311,11 +336,11 @@ impl Writer<'_> {
     fn assign(&mut self, place: &Place, value: &Expr, declares: bool) -> Result<(), Refused> {
         let ty = self.types.place(place, self.locals)?;
         match (&ty, value) {
-            (Ty::Unit, Expr::Call(..)) => {
+            (ty, Expr::Call(..)) if self.types.is_valueless(ty) => {
                 let call = self.value(value, Literal::Bare)?.text;
                 self.lines.add(&format!("{call};"));
             }
-            (Ty::Unit, _) => {}
+            (ty, _) if self.types.is_valueless(ty) => {}
             _ if self.is_unread(place) => self.dropped(value)?,
             (Ty::Array(of, count), _) if !self.is_array_value(place, value) => {
                 self.fill(place, value, of, *count)?;
@@ -376,7 +401,13 @@ impl Writer<'_> {
                 let byte = match **element {
                     Expr::Bool(value) => u64::from(value),
                     Expr::Int(_, value) => value,
-                    _ => return Err(Refused::new("an array of equal elements that memset does not make")),
+                    _ => {
+                        let element = self.value(element, Literal::Bare)?.text;
+                        self.lines.add(&format!("for (size_t {EACH} = 0; {EACH} < {count}; {EACH}++) {{"));
+                        self.lines.add(&format!("{target}[{EACH}] = {element};"));
+                        self.lines.add("}");
+                        return Ok(());
+                    }
                 };
                 self.lines.add(&format!("memset({target}, {byte}, {size});"));
             }
@@ -424,29 +455,32 @@ impl Writer<'_> {
             }
             (Base::Value(value), _) => self.value(value, Literal::Typed)?,
         };
+        // whether what is made is a pointer, and its place what that points to
+        let mut is_behind = false;
         while let Some((step, rest)) = steps.split_first() {
             let of = self.types.place(&at, self.locals)?;
             let mut used = vec![step.clone()];
             steps = rest;
-            made = match step {
-                Step::Deref(_) => Text { text: format!("*{}", made.up_to(Rank::Prefix)), rank: Rank::Prefix },
-                Step::Field(number) => {
-                    let field = self.field(&of, *number)?;
-                    Text::primary(format!("{}.{field}", made.up_to(Rank::Primary)))
-                }
-                Step::Variant(variant) => {
-                    let Some((Step::Field(number), rest)) = rest.split_first() else {
-                        return Err(Refused::new("a variant taken whole"));
-                    };
-                    steps = rest;
-                    used.push(Step::Field(*number));
-                    let field = self.variant_field(&of, *variant, *number)?;
-                    Text::primary(format!("{}.{field}", made.up_to(Rank::Primary)))
-                }
-            };
+            if let Step::Deref(_) = step {
+                made = followed(made, is_behind);
+                is_behind = true;
+            } else {
+                let name = match (step, rest.split_first()) {
+                    (Step::Variant(variant), Some((Step::Field(number), rest))) => {
+                        steps = rest;
+                        used.push(Step::Field(*number));
+                        self.variant_field(&of, *variant, *number)?
+                    }
+                    (Step::Field(number), _) => self.field(&of, *number)?,
+                    _ => return Err(Refused::new("a variant taken whole")),
+                };
+                let sign = if is_behind { "->" } else { "." };
+                made = Text::primary(format!("{}{sign}{name}", made.up_to(Rank::Primary)));
+                is_behind = false;
+            }
             at.steps.extend(used);
         }
-        Ok(made)
+        Ok(followed(made, is_behind))
     }
 
     fn field(&self, of: &Ty, number: usize) -> Result<String, Refused> {
@@ -488,14 +522,14 @@ impl Writer<'_> {
         let Ty::Ref { to, .. } = self.types.value(pointer, self.locals)? else {
             return Err(Refused::new("an offset of what is no pointer"));
         };
-        let size = size_of(element(&to))?;
+        let size = self.types.size_of(element(&to))?;
         match by {
             Expr::Int(_, bytes) => Ok(Text::primary((bytes / size).to_string())),
-            _ if size == 1 => self.value(by, Literal::Typed),
             // the proofs exclude that the product is more than 64 bits hold
             Expr::Binary(Binary::Mul, index, elements) if **elements == Expr::Int(Width::W64, size) => {
                 self.value(index, Literal::Typed)
             }
+            _ if size == 1 => self.value(by, Literal::Typed),
             _ => {
                 let by = self.value(by, Literal::Typed)?.up_to(Rank::Prefix);
                 Ok(Text { text: format!("{by} / {size}"), rank: Rank::Product })
@@ -509,6 +543,9 @@ impl Writer<'_> {
             Expr::Int(width, number) => Ok(Text::primary(number_text(*width, *number, literal))),
             Expr::Bool(value) => Ok(Text::primary(u8::from(*value).to_string())),
             Expr::Binary(Binary::Offset, pointer, by) => {
+                if self.form == Form::Reading && is_nothing(by) {
+                    return self.value(pointer, Literal::Typed);
+                }
                 let base = self.value(pointer, Literal::Typed)?.up_to(Rank::Sum);
                 let index = self.index(pointer, by)?.up_to(Rank::Product);
                 Ok(Text { text: format!("{base} + {index}"), rank: Rank::Sum })
@@ -520,7 +557,8 @@ impl Writer<'_> {
             Expr::Aggregate(ty, parts) => self.aggregate(ty, parts),
             Expr::Call(name, arguments) => {
                 let called = self.names.function(name);
-                let arguments = self.all(arguments)?.join(", ");
+                let params = &self.types.signature(name)?.params;
+                let arguments = self.valued(arguments, params)?.join(", ");
                 Ok(Text::primary(format!("{called}({arguments})")))
             }
             Expr::Unit | Expr::Repeat(..) => Err(Refused::new(format!("{value:?} as a value of C"))),
@@ -529,6 +567,17 @@ impl Writer<'_> {
 
     fn all(&mut self, values: &[Expr]) -> Result<Vec<String>, Refused> {
         values.iter().map(|value| self.value(value, Literal::Bare).map(|made| made.text)).collect()
+    }
+
+    /// The values of those types that have some in C.
+    fn valued(&mut self, values: &[Expr], of: &[Ty]) -> Result<Vec<String>, Refused> {
+        let mut made = Vec::new();
+        for (value, ty) in values.iter().zip(of) {
+            if !self.types.is_valueless(ty) {
+                made.push(self.value(value, Literal::Bare)?.text);
+            }
+        }
+        Ok(made)
     }
 
     fn helper(&mut self, helper: Helper, arguments: &str) -> Text {
@@ -552,7 +601,11 @@ impl Writer<'_> {
             Some((Step::Deref(_), before)) => {
                 self.place(&Place { base: place.base.clone(), steps: before.to_vec() })
             }
-            _ => self.place(place),
+            _ if matches!(self.types.place(place, self.locals)?, Ty::Array(..)) => self.place(place),
+            _ => {
+                let of = self.place(place)?.up_to(Rank::Prefix);
+                Ok(Text { text: format!("&{of}"), rank: Rank::Prefix })
+            }
         }
     }
 
@@ -560,32 +613,51 @@ impl Writer<'_> {
         if let Some(text) = self.lent(ty, parts)? {
             return Ok(text);
         }
-        let made = self.all(parts)?;
         let inner = match ty {
-            Ty::Array(..) => format!("{{{}}}", made.join(", ")),
+            Ty::Array(..) => format!("{{{}}}", self.all(parts)?.join(", ")),
             Ty::Named(name) => match (self.names.of_type(name).1, self.types.shape(name)?) {
-                (TypeNames::Fields(fields), Shape::Fields(_)) => designated("", fields, &made),
-                (TypeNames::Variants(variants), Shape::Variants(_)) => self.variant(variants, parts, &made)?,
+                (TypeNames::Fields(called), Shape::Fields(fields)) => {
+                    self.designated("", called, parts, fields)?
+                }
+                (TypeNames::Variants(called), Shape::Variants(variants)) => {
+                    self.variant(called, parts, variants)?
+                }
                 _ => return Err(Refused::new(format!("other names than the fields of {name}"))),
             },
-            _ => made.join(", "),
+            _ => self.all(parts)?.join(", "),
         };
         Ok(Text::primary(format!("({}){{{inner}}}", c_type(ty))))
     }
 
     fn variant(
-        &self,
-        variants: &[(String, Vec<String>)],
+        &mut self,
+        called: &[(String, Vec<String>)],
         parts: &[Expr],
-        made: &[String],
+        variants: &[Vec<Ty>],
     ) -> Result<String, Refused> {
         let Some(Expr::Int(_, tag)) = parts.first() else {
             return Err(Refused::new("an enum without its tag"));
         };
-        let (name, fields) = &variants[usize::try_from(*tag).unwrap_or(usize::MAX)];
-        let fields = designated(&format!("as.{name}."), fields, &made[1..]);
+        let at = usize::try_from(*tag).unwrap_or(usize::MAX);
+        let (name, fields) = &called[at];
+        let fields = self.designated(&format!("as.{name}."), fields, &parts[1..], &variants[at])?;
         let comma = if fields.is_empty() { "" } else { ", " };
         Ok(format!(".tag = {tag}{comma}{fields}"))
+    }
+
+    /// Values for the fields that have some in C, each with its field's name.
+    fn designated(
+        &mut self,
+        before: &str,
+        called: &[String],
+        parts: &[Expr],
+        fields: &[Ty],
+    ) -> Result<String, Refused> {
+        let has_value: Vec<bool> = fields.iter().map(|ty| !self.types.is_valueless(ty)).collect();
+        let called = called.iter().zip(has_value).filter(|(_, has_value)| *has_value).map(|(name, _)| name);
+        let values = self.valued(parts, fields)?;
+        let named = |(field, value): (&String, String)| format!(".{before}{field} = {value}");
+        Ok(called.zip(values).map(named).collect::<Vec<_>>().join(", "))
     }
 
     /// A slice that may be written to, lent whole for reading.
@@ -627,19 +699,35 @@ impl Writer<'_> {
         let first = self.value(left, if is_shift { Literal::Typed } else { beside(right) })?;
         let second = self.value(right, if is_shift { Literal::Bare } else { beside(left) })?;
         let wide = if operation == Binary::Shl && !narrowed(&ty).is_empty() { "(uint32_t)" } else { "" };
-        let first = if wide.is_empty() { first.up_to(within(rank, true)) } else { first.up_to(Rank::Prefix) };
+        let first = match wide.is_empty() {
+            true if operation.is_circuit() && first.rank == rank => first.text,
+            true => first.up_to(within(rank, true)),
+            false => first.up_to(Rank::Prefix),
+        };
         let second = second.up_to(within(rank, false));
         let text = format!("{wide}{first} {sign} {second}");
-        match (operation.is_comparison(), narrowed(&ty)) {
+        match (operation.is_comparison() || operation.is_circuit(), narrowed(&ty)) {
             (true, _) | (_, "") => Ok(Text { text, rank }),
             (_, cast) => Ok(Text { text: format!("{cast}({text})"), rank: Rank::Prefix }),
         }
     }
 }
 
-fn designated(before: &str, fields: &[String], values: &[String]) -> String {
-    let named = |(field, value): (&String, &String)| format!(".{before}{field} = {value}");
-    fields.iter().zip(values).map(named).collect::<Vec<_>>().join(", ")
+/// A pointer, or what it points to.
+fn followed(pointer: Text, is_behind: bool) -> Text {
+    match is_behind {
+        true => Text { text: format!("*{}", pointer.up_to(Rank::Prefix)), rank: Rank::Prefix },
+        false => pointer,
+    }
+}
+
+/// Whether a step is one of no elements.
+fn is_nothing(by: &Expr) -> bool {
+    match by {
+        Expr::Int(_, number) => *number == 0,
+        Expr::Binary(Binary::Mul, count, _) => matches!(**count, Expr::Int(_, 0)),
+        _ => false,
+    }
 }
 
 fn is_step(value: &Expr) -> bool {

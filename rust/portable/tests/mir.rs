@@ -338,7 +338,7 @@ fn bodies_that_are_not_known() {
     assert!(refused_f(&unit, &[r#""Return""#, r#""Skip""#]).contains("a statement behind the end: Skip"));
     assert!(refused_f(&unit, &[r#""Seq""#, r#""Skip""#]).contains("a body that ends too early"));
     let method = format!(r#"{{"Call": [{{"Method": [{{"Given": 0}}, 0, {NO_TYPES}]}}, [], {}]}}"#, json_at(0));
-    assert!(refused_f(&unit, &[&method]).contains("unknown call"));
+    assert!(refused_f(&unit, &[&method]).contains("m::f: unknown dictionary: (Given 0)"));
     let signed =
         json_assign(0, &format!(r#"{{"Op2": [{{"Add": "Signed"}}, {}, {}]}}"#, json_copy(0), json_copy(0)));
     assert!(refused_f(&unit, &[&signed]).contains("unknown operation: (add signed)"));
@@ -388,7 +388,7 @@ fn texts_that_are_no_json() {
 }
 
 #[test]
-fn a_call_of_a_function_for_several_types_is_refused() {
+fn a_call_by_an_impl_that_is_not_there_is_refused() {
     let slice = |mutability: &str| {
         json_value(&format!(
             r#"{{"Struct": ["&[]", [{{"Ref": [{{"Named": 0}}, "{mutability}", {{"Int": 8}}]}}, {{"Int": 64}}]]}}"#
@@ -405,6 +405,6 @@ fn a_call_of_a_function_for_several_types_is_refused() {
     let function = json_function("m::f", 2, &locals, "", &[r#""Seq""#, &call, r#""Return""#]);
     let why =
         c_of(&[&[function]], &sources("pub extern \"C\" fn f(to: &mut [u8], from: &[u8]) { }"), Form::Reading)
-            .expect_err("a function for several types");
-    assert!(why.contains("m::f: a call of a function for several types"), "{why}");
+            .expect_err("an impl that is not there");
+    assert!(why.contains("m::f: unknown dictionary: (Impl [core::clone::U8Clone"), "{why}");
 }

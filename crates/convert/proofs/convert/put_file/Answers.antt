@@ -1,8 +1,7 @@
 -- `convert::convert::put_file` meets its contract: the file copied, or its form at the other width.
 -- Assumes nothing.
 use Rattle.convert.proofs.FormLaws.{copy_inside, copy_fits, copy_put}
-use Rattle.std.proofs.Common.{arith}
-use Rattle.std.proofs.Common.{rules}
+use Rattle.std.proofs.Common.{arith, rules}
 use Rattle.convert.proofs.convert.put_file.Goals as goal
 
 pub put_run-requires : goal.put_run-requires

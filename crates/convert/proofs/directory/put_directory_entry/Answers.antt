@@ -1,9 +1,7 @@
 -- `convert::directory::put_directory_entry` meets its contract: an offset, then before it two stores and zeros.
 -- Assumes nothing.
-use lib.ListN.{length-set}
+use Rattle.std.proofs.Common.{length-set, arith, rules}
 use Rattle.convert.proofs.EntryLaws.{directory-entry-kept, directory-entry-put}
-use Rattle.std.proofs.Common.{arith}
-use Rattle.std.proofs.Common.{rules}
 use Rattle.convert.proofs.directory.put_directory_entry.Goals as goal
 
 pub bounds-out-at-2 : goal.bounds-out-at-2

@@ -1,9 +1,7 @@
 -- `convert::header::put_front` meets its contract: four stores, then two offsets.
 -- Assumes nothing.
-use lib.ListN.{length-set}
+use Rattle.std.proofs.Common.{length-set, arith, rules}
 use Rattle.convert.proofs.HeaderLaws.{table-offset, front-second, front_kept, front-put}
-use Rattle.std.proofs.Common.{arith}
-use Rattle.std.proofs.Common.{rules}
 use Rattle.convert.proofs.header.put_front.Goals as goal
 
 pub bounds-out-1 : goal.bounds-out-1

@@ -1,8 +1,7 @@
 -- `convert::header::put_header` meets its contract: its front, the five fields of the file, zeros.
 -- Assumes nothing.
 use Rattle.convert.proofs.HeaderLaws.{size-offset, count-byte, header-room, fields_room, zeros-room, header-put}
-use Rattle.std.proofs.Common.{arith}
-use Rattle.std.proofs.Common.{rules}
+use Rattle.std.proofs.Common.{arith, rules}
 use Rattle.convert.proofs.header.put_header.Goals as goal
 
 pub put_front-requires : goal.put_front-requires

@@ -1,8 +1,7 @@
 -- `convert::put::put_u16` meets its contract: two stores.
 -- Assumes nothing.
-use lib.ListN.{length-set}
+use Rattle.std.proofs.Common.{length-set, arith}
 use Rattle.convert.proofs.Putting.{put-short}
-use Rattle.std.proofs.Common.{arith}
 use Rattle.convert.proofs.put.put_u16.Goals as goal
 
 pub bounds-out-at-2 : goal.bounds-out-at-2

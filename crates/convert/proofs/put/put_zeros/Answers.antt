@@ -1,8 +1,7 @@
 -- `convert::put::put_zeros` meets its contract: the zeros so far stand in the buffer.
 -- Assumes nothing.
 use Rattle.convert.proofs.Putting.{put-none, put-room, zero_next, zeros-done}
-use Rattle.std.proofs.Common.{arith}
-use Rattle.std.proofs.Common.{rules}
+use Rattle.std.proofs.Common.{arith, rules}
 use Rattle.convert.proofs.put.put_zeros.Goals as goal
 
 pub loop-done-init : goal.loop-done-init

@@ -1,6 +1,5 @@
 -- `convert::put::put_zeros` meets its contract: the zeros so far stand in the buffer.
-use Prim.Native.Nat.{◌≤◌}
-use lib.ListN.{replicate}
+use Rattle.std.proofs.Common.{◌≤◌, replicate}
 use Rattle.convert.specs.Inner.Putting.{Put}
 use Rattle.convert.proofs.put.put_zeros.Given as goal
 

@@ -1,5 +1,5 @@
 -- `convert::sizes::files_in` meets its contract: the sum over the slaves, by the places of their file counts.
-use Prim.Native.Nat.{◌-◌}
+use Rattle.std.proofs.Common.{◌-◌}
 use Rattle.convert.proofs.ReadLaws.{Counting}
 use Rattle.convert.proofs.sizes.files_in.Given as goal
 

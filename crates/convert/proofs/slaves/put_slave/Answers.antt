@@ -3,8 +3,7 @@
 use Rattle.convert.proofs.ReadLaws.{files-fit, files-start-fits}
 use Rattle.convert.proofs.DirectoryLaws.{files-place-fits}
 use Rattle.convert.proofs.SlavePutLaws.{files_order, behind-fits, run_inside, run_room, slave-done}
-use Rattle.std.proofs.Common.{arith}
-use Rattle.std.proofs.Common.{rules}
+use Rattle.std.proofs.Common.{arith, rules}
 use Rattle.convert.proofs.slaves.put_slave.Goals as goal
 
 pub overflow_mul-from-2 : goal.overflow_mul-from-2

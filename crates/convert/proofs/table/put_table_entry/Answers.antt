@@ -1,9 +1,7 @@
 -- `convert::table::put_table_entry` meets its contract: an offset, two stores and zeros.
 -- Assumes nothing.
-use lib.ListN.{length-set}
+use Rattle.std.proofs.Common.{length-set, arith, rules}
 use Rattle.convert.proofs.EntryLaws.{table-entry-kept, table-entry-put}
-use Rattle.std.proofs.Common.{arith}
-use Rattle.std.proofs.Common.{rules}
 use Rattle.convert.proofs.table.put_table_entry.Goals as goal
 
 pub bounds-out-behind-2 : goal.bounds-out-behind-2

@@ -1,10 +1,8 @@
 -- `join::names::is_any_named` meets its contract: what is left of the search is what the whole search gives.
 -- Assumes nothing.
-use lib.ListN.{length-take}
+use Rattle.std.proofs.Common.{length-take, arith, rules}
 use Rattle.convert.proofs.ReadLaws.{below-count}
 use Rattle.join.proofs.NamesLaws.{names_stand, new-name, asking_start, asking_here, asking_next, asking_end}
-use Rattle.std.proofs.Common.{arith}
-use Rattle.std.proofs.Common.{rules}
 use Rattle.join.proofs.names.is_any_named.Goals as goal
 
 pub slice_bounds-stated-end : goal.slice_bounds-stated-end

@@ -1,11 +1,9 @@
 -- `join::slaves::turn_names` meets its contract: the slaves so far are turned.
 -- Assumes nothing.
-use mathlib.Core.Path.{refl}
+use Rattle.std.proofs.Common.{refl, arith, rules}
 use Rattle.file.proofs.PlaceLaws.{configuration-fits, configuration-byte-fits}
 use Rattle.convert.proofs.ReadLaws.{table_fits, front_fits, below-count, files-fit}
 use Rattle.join.proofs.TurnLaws.{turning_start, lost_fits, gained_fits, lost_order, name-fits, name-room, turning_next, turning_kept, turning_done}
-use Rattle.std.proofs.Common.{arith}
-use Rattle.std.proofs.Common.{rules}
 use Rattle.join.proofs.slaves.turn_names.Goals as goal
 
 pub overflow_mul-lost-3 : goal.overflow_mul-lost-3

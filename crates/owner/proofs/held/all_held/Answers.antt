@@ -1,9 +1,6 @@
 -- `owner::held::all_held` meets its contract. The invariant is `Holding`: the slaves passed are marked.
 -- Assumes nothing.
-use Prim.Native.Nat.{◌<◌}
-use mathlib.Core.Path.{refl, ◌∙◌}
-use Rattle.std.proofs.Common.{arith}
-use lib.ListN.{length, length-set}
+use Rattle.std.proofs.Common.{◌<◌, refl, ◌∙◌, arith, length, length-set}
 use Rattle.owner.proofs.HeldLaws.{holding_start, holding_next, holding_done}
 use Rattle.owner.proofs.held.all_held.Goals as goal
 

@@ -1,6 +1,5 @@
 -- `owner::held::all_held` meets its contract. The invariant is `Holding`: the slaves passed are marked.
-use mathlib.Core.Path.{◌≡◌}
-use lib.ListN.{length}
+use Rattle.std.proofs.Common.{◌≡◌, length}
 use Rattle.file.specs.Rules.Decode.{decode}
 use Rattle.owner.proofs.HeldLaws.{Holding}
 use Rattle.owner.proofs.held.all_held.Given as goal

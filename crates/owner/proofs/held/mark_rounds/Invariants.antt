@@ -1,5 +1,5 @@
 -- `owner::held::mark_rounds` meets its contract. The invariant is `Marking`.
-use Prim.Native.Nat.{◌-◌}
+use Rattle.std.proofs.Common.{◌-◌}
 use Rattle.owner.proofs.HeldLaws.{Marking}
 use Rattle.owner.proofs.held.mark_rounds.Given as goal
 

@@ -1,7 +1,6 @@
 -- `owner::masks::slots_from` meets its contract.
 -- Assumes nothing.
-use Rattle.std.proofs.Common.{arith}
-use lib.Pow.{pow_pos}
+use Rattle.std.proofs.Common.{arith, pow_pos}
 use Rattle.owner.proofs.MaskLaws.{one_shifted, run-from}
 use Rattle.owner.proofs.masks.slots_from.Goals as goal
 

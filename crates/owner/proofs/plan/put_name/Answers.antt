@@ -1,7 +1,6 @@
 -- `owner::plan::put_name` meets its contract: what is left of the mask has the slots that are still to be named.
 -- Assumes nothing.
-use Prim.Native.Nat.{◌-◌}
-use Rattle.std.proofs.Common.{arith}
+use Rattle.std.proofs.Common.{◌-◌, arith}
 use lib.Bits.{and_le_r}
 use Rattle.owner.proofs.MaskLaws.{first-of}
 use Rattle.owner.proofs.SlavePlan.{putting_start, putting_next, putting_done}

@@ -1,9 +1,6 @@
 -- `owner::rounds::write_rounds` meets its contract. The invariant is `RoundsWritten`: the rounds passed are written.
 -- Assumes nothing.
-use mathlib.Core.Path.{sym, ap, ◌∙◌}
-use Rattle.std.proofs.Common.{arith}
-use Rattle.std.proofs.Common.{rules}
-use lib.ListN.{length}
+use Rattle.std.proofs.Common.{sym, ap, ◌∙◌, arith, rules, length}
 use Rattle.file.specs.Rules.Decode.{decode}
 use Rattle.file.proofs.Width.{few-slaves}
 use Rattle.owner.proofs.RowLaws.{rounds-start, head-room, rows-room, rounds-next, rounds-done}

@@ -1,10 +1,9 @@
 -- `owner::write::write_owner` meets its contract: a law for each way.
 -- Assumes nothing.
-use mathlib.Core.Path.{refl}
+use Rattle.std.proofs.Common.{◌≡◌, refl, Err, rules}
 use Rattle.file.proofs.Surveyed.{survey-placed}
 use Rattle.file.specs.Inner.Refusals.{refusal_number, outcome_of}
 use Rattle.owner.proofs.Calls.{written-size, written-fits, call-refused, call_multiplexed, call_clash, call-short, call-written}
-use Rattle.std.proofs.Common.{◌≡◌, Err, rules}
 use Rattle.owner.proofs.write.write_owner.Goals as goal
 
 pub write_rounds-written-requires : goal.write_rounds-written-requires

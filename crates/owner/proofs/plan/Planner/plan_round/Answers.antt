@@ -1,10 +1,7 @@
 -- `owner::plan::Planner::plan_round` meets its contract. The invariant is `RoundPlanning`: what is planned of the slaves passed.
 -- Assumes nothing.
-use Prim.Native.Nat.{ℕ, ◌<◌}
-use mathlib.Core.Path.{◌≡◌, sym, ap, ◌∙◌}
-use Rattle.std.proofs.Common.{arith}
-use lib.ListN.{length, length-replicate}
-use lib.Seq.{get_or-set_same}
+use Rattle.std.proofs.Common.{ℕ, ◌<◌, ◌≡◌, sym, ap, ◌∙◌, arith, length, get_or-set_same}
+use lib.ListN.{length-replicate}
 use Rattle.file.specs.Rules.Decode.{decode}
 use Rattle.owner.proofs.PlannerLaws.{planned-file}
 use Rattle.owner.proofs.RoundLaws.{round-start, turn_added, turn_skipped, round-done}

@@ -1,5 +1,5 @@
 -- `owner::plan::Planner::plan_round` meets its contract. The invariant is `RoundPlanning`: what is planned of the slaves passed.
-use lib.ListN.{get_or}
+use Rattle.std.proofs.Common.{get_or}
 use Rattle.file.specs.Rules.Decode.{decode}
 use Rattle.owner.specs.Inner.Planned.{RoundPlanning}
 use Rattle.owner.proofs.plan.Planner.plan_round.Given as goal

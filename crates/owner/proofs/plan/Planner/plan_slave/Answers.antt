@@ -1,7 +1,6 @@
 -- `owner::plan::Planner::plan_slave` meets its contract. The invariant is `Working`.
 -- Assumes nothing.
-use Rattle.std.proofs.Common.{arith}
-use Rattle.std.proofs.Common.{rules}
+use Rattle.std.proofs.Common.{arith, rules}
 use Rattle.owner.proofs.EntryMasks.{single_there}
 use Rattle.owner.proofs.PlannerLaws.{planned-file, planned-placed}
 use Rattle.owner.proofs.SlavePlan.{working_start, working_done, working_within, working_low, working_entry, working_end, working_single, working_other}

@@ -1,5 +1,5 @@
 -- `owner::plan::Planner::plan_slave` meets its contract. The invariant is `Working`.
-use Prim.Native.Nat.{◌-◌}
+use Rattle.std.proofs.Common.{◌-◌}
 use Rattle.owner.proofs.SlavePlan.{Working}
 use Rattle.owner.proofs.plan.Planner.plan_slave.Given as goal
 

@@ -1,7 +1,6 @@
 -- `owner::plan::Planner::write_round` meets its contract: a law for each way.
 -- Assumes nothing.
-use Rattle.std.proofs.Common.{arith}
-use Rattle.std.proofs.Common.{rules}
+use Rattle.std.proofs.Common.{arith, rules}
 use Rattle.owner.proofs.RowLaws.{rows-room, row_zeros, rows_skip, rows_row}
 use Rattle.owner.proofs.plan.Planner.write_round.Goals as goal
 
