@@ -5,7 +5,7 @@ use mathlib.Core.Path.{◌≡◌, refl, sym, ◌∙◌, ap}
 use Rattle.file.specs.Rules.Results.{Result, refused, done}
 use Rattle.cluster.specs.Rules.Summary.{Held, nobody, at}
 use Rattle.summary.specs.Inner.SummaryAnswers.{holder_of}
-use Rattle.file.specs.Inner.Refusals.{Answered, refusal_number, outcome_of}
+use Rattle.file.specs.Inner.Refusals.{Answered}
 use Rattle.std.specs.Prelude.{Ok, Err, Option, Some, None}
 use Rattle.file.proofs.Distinct.{refusal_in, refusal_back}
 

@@ -26,7 +26,9 @@ use Rattle.naming.proofs.StepKeeping.{file-step, matched_step, step-keeping-refu
 use Rattle.summary.specs.Inner.Kept.{names_put, slice_after, is_refused, StepKept}
 use Rattle.summary.proofs.RoundLaws.{slice_carried, slice-refused}
 use Rattle.file.specs.Inner.Refusals.{Answered, refusal_number, outcome_of}
-use Rattle.std.specs.Prelude.{Ok, Err}
+use Rattle.std.specs.Prelude.{Ok, Err, Option, Some, None}
+use Rattle.naming.specs.Inner.StepAnswers.{stepped_of}
+use Rattle.naming.specs.declared.run.MadeStep.{MadeStep}
 
 abbrev StepTold : Type 0
 StepTold = Result StepDone × Position × List ℕ × List ℕ
@@ -41,6 +43,17 @@ slice-new : {A : Type 0} (answer : Result A) (file slice : List ℕ) → is_refu
 unfolding is_refused slice_after
 slice-new (refused n) file slice e = cc
 slice-new (done a) file slice e = refl
+
+-- which of the code's answers are refused: its errors, and none of its steps
+module _ {a : Answered (Option MadeStep)} where
+  pub answer_refused : {why : Refusal} → a ≡ Err why → is_refused (stepped_of a) ≡ true
+  unfolding stepped_of is_refused
+  answer_refused e = rw e
+
+  pub answer_done : {step : Option MadeStep} → a ≡ Ok step → is_refused (stepped_of a) ≡ false
+  unfolding stepped_of is_refused
+  answer_done {step = None} e = rw e
+  answer_done {step = Some made} e = rw e
 
 module _
     (file : List ℕ) (p : Position) (names buffer slice : List ℕ) {answer : Result StepDone} {p' : Position} {buffer' file' : List ℕ}

@@ -1,11 +1,11 @@
 // A summary filled from a cluster file.
 ghost use Rattle.std.specs.Prelude.{◌≡◌};
 ghost use Rattle.cluster.specs.Rules.Summary.{fill_on};
+ghost use Rattle.file.specs.Inner.Refusals.{outcome_of};
 
 use file::readers::{logical_names, slave_count};
 use file::survey::survey;
 use file::types::{PLACES, Refusal};
-ghost use Rattle.file.specs.Inner.Refusals.{outcome_of};
 
 // A file is refused, or its slaves' names are filled in, with how many there are.
 pub fn fill(file: &[u8], held: &mut [u8]) -> Result<usize, Refusal>

@@ -4,7 +4,7 @@ ghost use Rattle.file.specs.Inner.Accepted.{Placed, slave_count};
 ghost use Rattle.cluster.specs.Rules.Summary.{kept};
 ghost use Rattle.naming.specs.Rules.Step.{step_keeping};
 ghost use Rattle.naming.specs.Inner.StepAnswers.{position_of, stepped_of, run_after};
-ghost use Rattle.summary.specs.Inner.Kept.{is_refused, StepKept};
+ghost use Rattle.summary.specs.Inner.Kept.{StepKept};
 
 use crate::matching::is_wrong;
 use file::readers::logical_names;

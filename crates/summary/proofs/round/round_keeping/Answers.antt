@@ -1,6 +1,6 @@
 -- `summary::round::round_keeping` meets its contract: a law for each way.
 -- Assumes nothing.
-use Rattle.std.proofs.Common.{rules}
+use Rattle.std.proofs.Common.{◌≡◌, Err, rules}
 use Rattle.file.proofs.Surveyed.{survey-placed}
 use Rattle.file.specs.Inner.Refusals.{refusal_number, outcome_of}
 use Rattle.summary.proofs.RoundLaws.{keeping_refused, keeping_wrong, keeping_short, keeping_made, names-fit}
@@ -26,7 +26,9 @@ carry_keeping-requires c =
 
 pub returns-in_err-survey : goal.returns-in_err-survey
 unfolding outcome_of refusal_number
-returns-in_err-survey c = search (rules, keeping_refused)
+returns-in_err-survey c =
+    let e : c.from_residual.result ≡ Err c.in_err-survey.field-0.0 = search rules in
+    rw e (keeping_refused _ _ _ _ _ c.survey.ensures c.in_err-survey.was)
 
 pub returns : goal.returns
 returns c =
