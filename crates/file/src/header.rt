@@ -111,36 +111,35 @@ fn wrong_header(file: &[u8], width: usize) -> bool
     )
 }
 
-// Refused by the first of grounds 1 to 5 that holds.
-fn header_ground_at(file: &[u8], width: usize) -> Result<(), Refusal>
-    requires { OffsetWidth width }
-    ensures { HeaderChecked width file.now (number_in (outcome_of result)) }
+// Refused by the first of grounds 1 to 5 that holds, in an edition: the compiler writes the tests once for each width, with its numbers.
+fn header_ground_at<const WIDTH: usize>(file: &[u8]) -> Result<(), Refusal>
+    requires { OffsetWidth WIDTH }
+    ensures { HeaderChecked WIDTH file.now (number_in (outcome_of result)) }
 {
-    if wrong_size(file, width) {
+    if wrong_size(file, WIDTH) {
         return Err(Refusal::Size);
     }
     if wrong_mark(file) {
         return Err(Refusal::Mark);
     }
-    if wrong_edition(file, width) {
+    if wrong_edition(file, WIDTH) {
         return Err(Refusal::Edition);
     }
-    if wrong_length(file, width) {
+    if wrong_length(file, WIDTH) {
         return Err(Refusal::Length);
     }
-    if wrong_header(file, width) {
+    if wrong_header(file, WIDTH) {
         return Err(Refusal::Header);
     }
     Ok(())
 }
 
-// The same with the width as a literal in each call: the compiler then writes the tests once for each edition, with its numbers.
 pub fn header_ground(file: &[u8], width: usize) -> Result<(), Refusal>
     requires { OffsetWidth width }
     ensures { HeaderChecked width file.now (number_in (outcome_of result)) }
 {
     if width == OFFSET_WIDTH {
-        return header_ground_at(file, OFFSET_WIDTH);
+        return header_ground_at::<OFFSET_WIDTH>(file);
     }
-    header_ground_at(file, WIDE_OFFSET_WIDTH)
+    header_ground_at::<WIDE_OFFSET_WIDTH>(file)
 }

@@ -8,36 +8,36 @@ use Rattle.file.proofs.header.header_ground_at.Goals as goal
 
 pub returns-then-wrong_size : goal.returns-then-wrong_size
 unfolding number_in outcome_of refusal_number
-returns-then-wrong_size c = search (rules, ground_1)
+returns-then-wrong_size g c = search (rules, ground_1)
 
 pub wrong_mark-requires : goal.wrong_mark-requires
-wrong_mark-requires c = search (rules, long-mark)
+wrong_mark-requires g c = search (rules, long-mark)
 
 pub returns-then-wrong_mark : goal.returns-then-wrong_mark
 unfolding number_in outcome_of refusal_number
-returns-then-wrong_mark c = search (rules, ground_2)
+returns-then-wrong_mark g c = search (rules, ground_2)
 
 pub wrong_edition-requires : goal.wrong_edition-requires
-wrong_edition-requires c = search (rules, long_enough)
+wrong_edition-requires g c = search (rules, long_enough)
 
 pub returns-then-wrong_edition : goal.returns-then-wrong_edition
 unfolding number_in outcome_of refusal_number
-returns-then-wrong_edition c = search (rules, ground_3)
+returns-then-wrong_edition g c = search (rules, ground_3)
 
 pub wrong_length-requires : goal.wrong_length-requires
-wrong_length-requires c = search (rules, long_enough)
+wrong_length-requires g c = search (rules, long_enough)
 
 pub returns-then-wrong_length : goal.returns-then-wrong_length
 unfolding number_in outcome_of refusal_number
-returns-then-wrong_length c = search (rules, ground_4)
+returns-then-wrong_length g c = search (rules, ground_4)
 
 pub wrong_header-requires : goal.wrong_header-requires
-wrong_header-requires c = search (rules, long_enough)
+wrong_header-requires g c = search (rules, long_enough)
 
 pub returns-then-wrong_header : goal.returns-then-wrong_header
 unfolding number_in outcome_of refusal_number
-returns-then-wrong_header c = search (rules, ground_5)
+returns-then-wrong_header g c = search (rules, ground_5)
 
 pub returns : goal.returns
 unfolding number_in outcome_of refusal_number
-returns c = search (rules, header-passed)
+returns g c = search (rules, header-passed)
