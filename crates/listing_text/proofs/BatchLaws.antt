@@ -30,8 +30,9 @@ use Rattle.listing_text.specs.Rules.Listing.{all_names, names_from, ListState, i
 use Rattle.listing_text.specs.Inner.ListRuns.{state_of, StateIs, Moves, moved_to, none_given}
 use Rattle.listing_text.specs.declared.run.ListProgress.{ListProgress}
 use Rattle.listing_text.proofs.ListLaws.{moves, list-next, Going, going_done, going_stuck}
-use Rattle.file.specs.Inner.Refusals.{Answered, refusal_number, outcome_of}
-use Rattle.std.specs.Prelude.{Ok}
+use Rattle.file.specs.Inner.Refusals.{Answered, outcome_of}
+use Rattle.file.proofs.Surveyed.{survey-refused}
+use Rattle.std.specs.Prelude.{Ok, Err, IsOk}
 
 made-mask : (r : Result StepDone) → is_step_made r ≡ true → r ≡ done (made (mask_in r))
 unfolding is_step_made mask_in
@@ -235,6 +236,10 @@ step-placed state file answer text {places = places} placed small s =
 pub load_accepted : (f : List ℕ) {a : Answered (Unit {0})} → outcome_of a ≡ load_verdict f → {u : Unit {0}} → a ≡ Ok u → load_ground f ≡ 0
 unfolding outcome_of load_verdict
 load_accepted f is e = no_ground tt (load_ground f) (rw e at is)
+
+pub load_answered : (f : List ℕ) (a : Answered (Unit {0})) {places : List ℕ} → load_ground f ≡ 0 → Surveyed f (outcome_of a) places → IsOk a
+load_answered f (Ok u) none s = refl
+load_answered f (Err why) none s = let by = survey-refused s refl in absurd (by.1 (by.0 ∙ load_file f none))
 
 pub load_placed : (f : List ℕ) {r : Result (Unit {0})} {places : List ℕ} → load_ground f ≡ 0 → Surveyed f r places → Placed f places
 unfolding result_of

@@ -101,7 +101,8 @@ fn one_step(
     let run = state.run;
     match step_on(file, places, run, names, answer) {
         Ok(Some(made)) => after_step(names, state, made.run, text),
-        _ => state,
+        Ok(None) => state,
+        Err(_) => state,
     }
 }
 
