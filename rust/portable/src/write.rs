@@ -39,17 +39,21 @@ pub fn file(program: &Program, sources: &Sources, form: Form) -> Result<String, 
     lines.blank();
     lines.add("#include <string.h>");
     lines.blank();
-    definitions(&reached, &types, &names, &mut lines)?;
+    let mut made = Vec::new();
+    for function in reached {
+        made.push(match form {
+            Form::Plain => declared_first(function, &types),
+            Form::Reading => {
+                fold(function, &names.kept(function), &types).map_err(|refused| refused.of(&function.name))?
+            }
+        });
+    }
+    definitions(&made, &types, &names, &mut lines)?;
     let mut bodies = Lines::default();
     let mut helpers = BTreeSet::new();
-    for function in reached {
-        let of = |refused: Refused| refused.of(&function.name);
-        let made = match form {
-            Form::Plain => declared_first(function, &types),
-            Form::Reading => fold(function, &names.kept(function), &types).map_err(of)?,
-        };
+    for made in &made {
         let mut writer = Writer {
-            called: names.locals(&made, form),
+            called: names.locals(made, form),
             read: Effects::of_body(&made.body, &made.locals).reads.into_keys().collect(),
             form,
             locals: &made.locals,
@@ -58,7 +62,7 @@ pub fn file(program: &Program, sources: &Sources, form: Form) -> Result<String, 
             lines: &mut bodies,
             helpers: &mut helpers,
         };
-        writer.function(&made).map_err(of)?;
+        writer.function(made).map_err(|refused| refused.of(&made.name))?;
     }
     helpers.iter().for_each(|helper: &Helper| helper.write(&mut lines));
     Ok(lines.finish() + &bodies.finish())
