@@ -531,7 +531,10 @@ impl Writer<'_> {
             Expr::Int(_, bytes) => Ok(Text::primary((bytes / size).to_string())),
             // the proofs exclude that the product is more than 64 bits hold
             Expr::Binary(Binary::Mul, index, elements) if **elements == Expr::Int(Width::W64, size) => {
-                self.value(index, Literal::Typed)
+                match **index {
+                    Expr::Int(_, index) => Ok(Text::primary(index.to_string())),
+                    _ => self.value(index, Literal::Typed),
+                }
             }
             _ if size == 1 => self.value(by, Literal::Typed),
             _ => {

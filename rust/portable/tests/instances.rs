@@ -177,6 +177,26 @@ fn an_impl_has_arguments_of_its_own() {
     has(&c, "    return m_Outer_width_u8(a);\n");
 }
 
+#[test]
+fn a_method_has_the_impls_arguments_before_its_own() {
+    // `at<T, N>` of an impl for a type, and a method for a number
+    let outer = json_impl("m::Outer", 1, 0, &["m::Outer::at"]);
+    let number = json_assign(0, &json_opd(&format!(r#"{{"NumOf": [64, {}]}}"#, json_param(1))));
+    let locals = values(&[U64_JSON, &json_param(0)]);
+    let method = json_generic(
+        json_returning("m::Outer::at", 1, &locals, &[], &plain(&[number])),
+        &[TYPE, NUMBER],
+        0,
+        &[],
+    );
+    let dict = json_dict("m::Outer", &[U8_JSON], &[]);
+    let call = json_method(&dict, 0, &[1], 0).replace(r#""types": []"#, r#""types": [{"Const": 3}]"#);
+    let f = json_returning("m::f", 1, &values(&[U64_JSON, U8_JSON]), &[], &plain(&[call]));
+    let [c, _] = both("a: u8", &[json_generic(f, &[], 0, &[outer]), method]);
+    has(&c, "/* m::Outer::at<u8, 3>. */\nstatic inline uint64_t m_Outer_at_u8_3(uint8_t t1)\n");
+    has(&c, "    return 3;\n");
+}
+
 const RESULT: &str = "core::result::Result";
 const OPTION: &str = "core::option::Option";
 const FLOW: &str = "core::ops::ControlFlow";
