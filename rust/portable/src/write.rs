@@ -403,8 +403,8 @@ impl Writer<'_> {
         match value {
             Expr::Repeat(element, _) => {
                 let byte = match **element {
-                    Expr::Bool(value) => u64::from(value),
-                    Expr::Int(_, value) => value,
+                    Expr::Bool(false) => 0,
+                    Expr::Int(width, value) if width == Width::W8 || value == 0 => value,
                     _ => {
                         let element = self.value(element, Literal::Bare)?.text;
                         self.lines.add(&format!("for (size_t {EACH} = 0; {EACH} < {count}; {EACH}++) {{"));

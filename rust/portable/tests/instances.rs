@@ -465,6 +465,9 @@ fn arguments_that_are_not_as_many_as_parameters_are_refused() {
         let told = format!("a function for several types, 1 and 1 dictionaries, at {} and 0", types.len());
         assert!(why.contains(&told), "{why}");
     }
+    let g = json_generic(json_returning("m::g", 1, &locals, &[], &[]), &[TYPE], 0, &[]);
+    let why = refused_call(&json_call("m::g", &[U8_JSON, U8_JSON], &[], &[1], 0), &[g]);
+    assert!(why.contains("1 and 0 dictionaries, at 2 and 0"), "{why}");
     // a type, an impl, and a method that it does not have
     let ty = json_named("m::Pair", &[U8_JSON]);
     let f = json_returning("m::f", 1, &values(&[U8_JSON, &ty]), &[pair()], &[]);

@@ -640,6 +640,21 @@ fn a_step_from_a_part_of_a_struct() {
 }
 
 #[test]
+fn a_step_from_pointers_that_hold_one_another() {
+    let locals = [value(U8), value(&slice("imm", U8)), value(PTR), value(PTR), value(PTR)];
+    let body = [
+        assign(&at(2), &format!("addrOf (place 1 (lcons (field 0) (lcons (deref {U8}) lnil)))")),
+        assign(&at(3), &format!("addrOf {}", behind(2, U8))),
+        assign(&at(2), &format!("addrOf {}", behind(3, U8))),
+        assign(&at(4), &format!("op2 offset {} (int 64 1)", copy(3))),
+        assign(&at(0), &format!("rvOpd (copy {})", behind(4, U8))),
+    ];
+    let body: Vec<&str> = body.iter().map(String::as_str).chain(["return"]).collect();
+    let told = why(&program(&[function("f", 1, &locals, &body, "")]), "s: &[u8]");
+    assert!(told.contains("a step from what is no slice and no array"), "{told}");
+}
+
+#[test]
 fn an_array_in_memory_is_given_to_no_call() {
     let call = |local: usize| format!("call (direct (fnRef \"m::f\")) (lcons {} lnil) {}", copy(local), at(0));
     let locals = [value(U8), value(&array(U8, 2)), memory(&array(U8, 2))];

@@ -1067,6 +1067,34 @@ fn an_array_of_equal_structs_is_made_one_after_another() {
 }
 
 #[test]
+fn an_element_of_an_array_of_equal_ones_stays_where_it_is() {
+    // a value that a call gives is no part of the loop; a word of 5 is no byte of 5
+    let call = format!("call (direct (fnRef \"m::g\")) (lcons {} lnil) {}", copy(1), at(2));
+    let made = assign(&at(0), &format!("repeat {} 3", copy(2)));
+    let f = function("f", 1, &[value(&array(U64, 3)), value(U64), value(U64)], &[&call, &made, "return"], "");
+    let g = function(
+        "g",
+        1,
+        &[value(U64), value(U64)],
+        &[&assign(&at(0), &format!("rvOpd {}", copy(1))), "return"],
+        "",
+    );
+    let c = reading(&program(&[f, g]), "a: u64");
+    let wanted = "    uint64_t t2 = m_g(a);\n    array_u64_3 t0;\n    for (size_t at_each = 0; at_each < 3; at_each++) {\n        t0.at[at_each] = t2;\n";
+    assert!(c.contains(wanted), "{c}");
+    let set = assign(&at(1), "rvOpd (int 64 5)");
+    let f = function(
+        "f",
+        0,
+        &[value(&array(U64, 3)), value(U64)],
+        &[&set, &assign(&at(0), &format!("repeat {} 3", copy(1))), "return"],
+        "",
+    );
+    let c = reading(&program(&[f]), "");
+    assert!(c.contains("        t0.at[at_each] = t1;\n"), "{c}");
+}
+
+#[test]
 fn an_array_is_given_to_a_call_as_a_value() {
     let made = assign(&at(2), &format!("aggregate (lcons {} (lcons {} lnil))", copy(1), copy(1)));
     let call = format!("call (direct (fnRef \"m::g\")) (lcons {} lnil) {}", copy(2), at(0));
