@@ -56,20 +56,14 @@ fn has(body: &[Statement], end: &Statement) -> bool {
     }
 }
 
-/// Two tests of which each leaves the same block are one.
+/// Two tests of which the second leaves a block where neither holds are one.
 pub fn conditions(body: &mut Vec<Statement>) {
     for statement in body {
         statement.bodies_mut().into_iter().for_each(conditions);
         let Statement::If(test, yes, no) = &*statement else { continue };
-        let (operation, second, leaving) = match (&yes[..], &no[..]) {
-            ([], [Statement::If(second, yes, no)]) if yes.is_empty() => (Binary::Either, second, no),
-            ([Statement::If(second, yes, inner)], _) if yes.is_empty() && inner == no => {
-                (Binary::Both, second, no)
-            }
-            _ => continue,
-        };
-        if matches!(leaving[..], [Statement::Leave(_)]) {
-            let test = Expr::Binary(operation, Box::new(test.clone()), Box::new(second.clone()));
+        let ([], [Statement::If(second, other, leaving)]) = (&yes[..], &no[..]) else { continue };
+        if other.is_empty() && matches!(leaving[..], [Statement::Leave(_)]) {
+            let test = Expr::Binary(Binary::Either, Box::new(test.clone()), Box::new(second.clone()));
             *statement = Statement::If(test, Vec::new(), leaving.clone());
         }
     }

@@ -210,7 +210,8 @@ fn check_offsets(body: &[Statement], function: &Function, types: &Types) -> Resu
     for (at, statement) in body.iter().enumerate() {
         if let Statement::Assign(place, Expr::Binary(Binary::Offset, base, by)) = statement {
             check_offset(place, base, by, (&body[..at], &body[at + 1..]), function, types)?;
-            if !matches!(&**base, Expr::Copy(pointer) if is_of_array(pointer, function, types)?) {
+            let mut asked = Vec::new();
+            if !matches!(&**base, Expr::Copy(pointer) if is_of_array(pointer, function, types, &mut asked)?) {
                 return Err(Refused::new("a step from what is no slice and no array"));
             }
         }
@@ -286,8 +287,13 @@ fn is_element(pointer: usize, function: &Function, rest: &[Statement]) -> bool {
     is_reference && of.base == Base::Local(pointer) && matches!(of.steps[..], [Step::Deref(_)])
 }
 
-/// Whether a pointer is a slice's, or one to an array, or a local that holds nothing else.
-fn is_of_array(pointer: &Place, function: &Function, types: &Types) -> Result<bool, Refused> {
+/// Whether a pointer is a slice's, or one to an array, or a local that holds nothing else. Of those that were asked for already it is not known.
+fn is_of_array(
+    pointer: &Place,
+    function: &Function,
+    types: &Types,
+    asked: &mut Vec<usize>,
+) -> Result<bool, Refused> {
     if let Some((Step::Field(0), before)) = pointer.steps.split_last() {
         let whole = Place { base: pointer.base.clone(), steps: before.to_vec() };
         if matches!(types.place(&whole, &function.locals)?, Ty::Slice { .. }) {
@@ -298,7 +304,10 @@ fn is_of_array(pointer: &Place, function: &Function, types: &Types) -> Result<bo
         return Ok(true);
     }
     match pointer.whole() {
-        Some(local) if local > function.params => holds_of_array(&function.body, local, function, types),
+        Some(local) if local > function.params && !asked.contains(&local) => {
+            asked.push(local);
+            holds_of_array(&function.body, local, function, types, asked)
+        }
         _ => Ok(false),
     }
 }
@@ -309,6 +318,7 @@ fn holds_of_array(
     local: usize,
     function: &Function,
     types: &Types,
+    asked: &mut Vec<usize>,
 ) -> Result<bool, Refused> {
     for statement in body {
         let holds = match statement {
@@ -316,7 +326,7 @@ fn holds_of_array(
                 Expr::Address(of) => match of.steps.split_last() {
                     Some((Step::Deref(_), before)) => {
                         let pointer = Place { base: of.base.clone(), steps: before.to_vec() };
-                        pointer.whole() != Some(local) && is_of_array(&pointer, function, types)?
+                        is_of_array(&pointer, function, types, asked)?
                     }
                     _ => matches!(types.place(of, &function.locals)?, Ty::Array(..)),
                 },
@@ -328,7 +338,7 @@ fn holds_of_array(
             return Ok(false);
         }
         for inner in statement.bodies() {
-            if !holds_of_array(inner, local, function, types)? {
+            if !holds_of_array(inner, local, function, types, asked)? {
                 return Ok(false);
             }
         }

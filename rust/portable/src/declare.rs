@@ -3,7 +3,7 @@
 use crate::layout::Lines;
 use crate::names::Names;
 use crate::sources::TypeNames;
-use crate::tree::{Function, Shape, Ty};
+use crate::tree::{Effects, Function, Shape, Ty};
 use crate::types::{element, Types};
 use crate::Refused;
 use std::collections::BTreeSet;
@@ -72,18 +72,24 @@ pub fn short(of: &Ty) -> String {
 
 /// The definitions of all types that the functions have, whatever their depth.
 pub fn definitions(
-    functions: &[&Function],
+    functions: &[Function],
     types: &Types,
     names: &Names,
     lines: &mut Lines,
 ) -> Result<(), Refused> {
     let mut done = BTreeSet::new();
     for function in functions {
-        for local in &function.locals {
-            // an array with an address is an array of C, and no value
-            if !(local.in_memory && matches!(local.ty, Ty::Array(..))) {
+        let used = Effects::of_body(&function.body, &function.locals);
+        for (number, local) in function.locals.iter().enumerate() {
+            // an array with an address is an array of C, and no value; of a call that was written out, not all locals are left
+            let is_array = local.in_memory && matches!(local.ty, Ty::Array(..));
+            let is_left = !function.is_expanded || number <= function.params || used.count(number) > 0;
+            if is_left && !is_array {
                 define(&local.ty, types, names, lines, &mut done)?;
             }
+        }
+        for ty in used.made.into_iter().filter(|_| function.is_expanded) {
+            define(&ty, types, names, lines, &mut done)?;
         }
     }
     Ok(())

@@ -193,10 +193,11 @@ impl Folder<'_> {
         calls && of_place.reads.contains_key(&local) && (moved.reads_memory || moved.calls > 0)
     }
 
-    /// An array goes whole into a return or another value; and one that is made where it lies takes nothing.
+    /// An array goes whole into a return or another value; and one that is made where it lies, or of equal elements, takes nothing.
     fn takes(&self, user: &Statement, local: usize) -> bool {
         let is_array = matches!(self.locals[local].ty, Ty::Array(..));
         match user {
+            Statement::Assign(_, Expr::Repeat(..)) => false,
             Statement::Assign(place, value) => {
                 let into_array = matches!(self.types.place(place, self.locals), Ok(Ty::Array(..)));
                 let is_value = place.whole().is_some_and(|number| !self.locals[number].in_memory);

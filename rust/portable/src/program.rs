@@ -297,8 +297,8 @@ impl Reader<'_> {
             match &mut arms[..] {
                 [] => self.body.push(Statement::Unreached),
                 [_] => return self.splice(arms.remove(0).body),
-                [.., last] => {
-                    last.otherwise = true;
+                [.., Arm { otherwise, .. }] => {
+                    *otherwise = true;
                     self.body.push(Statement::Switch(on, arms));
                 }
             }

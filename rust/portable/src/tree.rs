@@ -321,6 +321,8 @@ pub struct Effects {
     pub calls: usize,
     /// Whether a part is not evaluated on each way.
     pub is_circuit: bool,
+    /// The types of which values are made.
+    pub made: BTreeSet<Ty>,
     /// Reads of what a pointer points to or of a local in memory.
     pub reads_memory: bool,
     pub writes_memory: bool,
@@ -406,7 +408,10 @@ impl Effects {
                 self.add_expr(right, locals);
             }
             Expr::Unary(_, inner) | Expr::Repeat(inner, _) => self.add_expr(inner, locals),
-            Expr::Aggregate(_, parts) => parts.iter().for_each(|part| self.add_expr(part, locals)),
+            Expr::Aggregate(ty, parts) => {
+                self.made.insert(ty.clone());
+                parts.iter().for_each(|part| self.add_expr(part, locals));
+            }
             Expr::Call(_, arguments) => {
                 self.calls += 1;
                 arguments.iter().for_each(|argument| self.add_expr(argument, locals));

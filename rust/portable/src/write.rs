@@ -39,17 +39,21 @@ pub fn file(program: &Program, sources: &Sources, form: Form) -> Result<String, 
     lines.blank();
     lines.add("#include <string.h>");
     lines.blank();
-    definitions(&reached, &types, &names, &mut lines)?;
+    let mut made = Vec::new();
+    for function in reached {
+        made.push(match form {
+            Form::Plain => declared_first(function, &types),
+            Form::Reading => {
+                fold(function, &names.kept(function), &types).map_err(|refused| refused.of(&function.name))?
+            }
+        });
+    }
+    definitions(&made, &types, &names, &mut lines)?;
     let mut bodies = Lines::default();
     let mut helpers = BTreeSet::new();
-    for function in reached {
-        let of = |refused: Refused| refused.of(&function.name);
-        let made = match form {
-            Form::Plain => declared_first(function, &types),
-            Form::Reading => fold(function, &names.kept(function), &types).map_err(of)?,
-        };
+    for made in &made {
         let mut writer = Writer {
-            called: names.locals(&made, form),
+            called: names.locals(made, form),
             read: Effects::of_body(&made.body, &made.locals).reads.into_keys().collect(),
             form,
             locals: &made.locals,
@@ -58,7 +62,7 @@ pub fn file(program: &Program, sources: &Sources, form: Form) -> Result<String, 
             lines: &mut bodies,
             helpers: &mut helpers,
         };
-        writer.function(&made).map_err(of)?;
+        writer.function(made).map_err(|refused| refused.of(&made.name))?;
     }
     helpers.iter().for_each(|helper: &Helper| helper.write(&mut lines));
     Ok(lines.finish() + &bodies.finish())
@@ -399,8 +403,8 @@ impl Writer<'_> {
         match value {
             Expr::Repeat(element, _) => {
                 let byte = match **element {
-                    Expr::Bool(value) => u64::from(value),
-                    Expr::Int(_, value) => value,
+                    Expr::Bool(false) => 0,
+                    Expr::Int(width, value) if width == Width::W8 || value == 0 => value,
                     _ => {
                         let element = self.value(element, Literal::Bare)?.text;
                         self.lines.add(&format!("for (size_t {EACH} = 0; {EACH} < {count}; {EACH}++) {{"));
@@ -527,7 +531,10 @@ impl Writer<'_> {
             Expr::Int(_, bytes) => Ok(Text::primary((bytes / size).to_string())),
             // the proofs exclude that the product is more than 64 bits hold
             Expr::Binary(Binary::Mul, index, elements) if **elements == Expr::Int(Width::W64, size) => {
-                self.value(index, Literal::Typed)
+                match **index {
+                    Expr::Int(_, index) => Ok(Text::primary(index.to_string())),
+                    _ => self.value(index, Literal::Typed),
+                }
             }
             _ if size == 1 => self.value(by, Literal::Typed),
             _ => {

@@ -4,61 +4,12 @@ mod small;
 
 use portable::sources::Sources;
 use portable::{translate_mir, Form};
+use small::json::*;
 use small::*;
-
-const GENERICS: &str =
-    r#"{"types": [], "outlives": [], "bounds": [], "method_of": null, "trait_lifetimes": 0, "impls": []}"#;
-
-const NO_TYPES: &str = r#"{"types": [], "dicts": []}"#;
-
-fn json_value(ty: &str) -> String {
-    format!(r#"{{"ty": {ty}, "home": "ValueLocal"}}"#)
-}
-
-fn json_memory(ty: &str) -> String {
-    format!(r#"{{"ty": {ty}, "home": "MemorySlot"}}"#)
-}
-
-fn json_at(local: usize) -> String {
-    format!(r#"{{"local": {local}, "steps": []}}"#)
-}
-
-fn json_copy(local: usize) -> String {
-    format!(r#"{{"Copy": {}}}"#, json_at(local))
-}
-
-fn json_int(width: u64, value: u64) -> String {
-    format!(r#"{{"Int": {{"width": {width}, "value": {value}}}}}"#)
-}
-
-fn json_assign(local: usize, value: &str) -> String {
-    format!(r#"{{"Assign": [{}, {value}]}}"#, json_at(local))
-}
-
-/// A function of the library `m`: its locals, what it declares, and its body, each statement before its parts.
-fn json_function(name: &str, params: usize, locals: &[String], types: &str, body: &[&str]) -> String {
-    let (locals, body) = (locals.join(", "), body.join(", "));
-    format!(
-        r#"["{name}", {{"lifetimes": 0, "outlives": [], "params": {params}, "generics": {GENERICS}, "types": [{types}],
-        "locals": [{locals}], "body": [{body}]}}]"#
-    )
-}
-
-fn texts(libraries: &[&[String]]) -> Vec<String> {
-    libraries.iter().map(|functions| format!("[{}]", functions.join(", "))).collect()
-}
-
-fn c_of(libraries: &[&[String]], sources: &Sources, form: Form) -> Result<String, String> {
-    translate_mir(&texts(libraries), sources, form).map_err(|refused| refused.to_string())
-}
 
 /// Why there is no C file of a function `m::f` without parameters.
 fn refused_f(locals: &[String], body: &[&str]) -> String {
     refused_functions(&[json_function("m::f", 0, locals, "", body)])
-}
-
-fn refused_functions(functions: &[String]) -> String {
-    c_of(&[functions], &sources("pub extern \"C\" fn f() { }"), Form::Reading).expect_err("a refusal")
 }
 
 /// That a function `m::f` of a term and one of `mir.json` are the same in both forms.

@@ -611,3 +611,66 @@ fn a_cut_within_a_branch_is_one() {
     let c = translated(&term, "s: &[u8]", portable::Form::Plain).expect("a cut");
     assert!(c.contains("t2 = cut_u8(t1.at, t4);"), "{c}");
 }
+
+#[test]
+fn a_step_from_a_part_of_a_struct() {
+    // a step from what points to a field, to a local, or to a parameter's one value could leave it
+    let table = format!("(lcons (pair \"m::S\" (fields (tcons {U8} (tcons {U8} tnil)))) lnil)");
+    let told = |of: &str, base: usize| {
+        let locals = [
+            value(U8),
+            value(&reference("imm", U8)),
+            memory(&named("m::S")),
+            value(PTR),
+            value(PTR),
+            memory(U8),
+        ];
+        let body = [
+            assign(&at(2), "aggregate (lcons (int 8 1) (lcons (int 8 2) lnil))"),
+            assign(&at(3), &format!("addrOf {of}")),
+            assign(&at(4), &format!("op2 offset {} (int 64 1)", copy(base))),
+            assign(&at(0), &format!("rvOpd (copy {})", behind(4, U8))),
+        ];
+        let body: Vec<&str> = body.iter().map(String::as_str).chain(["return"]).collect();
+        why(&program(&[function("f", 1, &locals, &body, &table)]), "p: &u8")
+    };
+    for (of, base) in [(field(2, 0), 3), (at(5), 3), (behind(1, U8), 3), (at(5), 1)] {
+        assert!(told(&of, base).contains("a step from what is no slice and no array"), "{of}");
+    }
+}
+
+#[test]
+fn a_step_from_pointers_that_hold_one_another() {
+    let locals = [value(U8), value(&slice("imm", U8)), value(PTR), value(PTR), value(PTR)];
+    let body = [
+        assign(&at(2), &format!("addrOf (place 1 (lcons (field 0) (lcons (deref {U8}) lnil)))")),
+        assign(&at(3), &format!("addrOf {}", behind(2, U8))),
+        assign(&at(2), &format!("addrOf {}", behind(3, U8))),
+        assign(&at(4), &format!("op2 offset {} (int 64 1)", copy(3))),
+        assign(&at(0), &format!("rvOpd (copy {})", behind(4, U8))),
+    ];
+    let body: Vec<&str> = body.iter().map(String::as_str).chain(["return"]).collect();
+    let told = why(&program(&[function("f", 1, &locals, &body, "")]), "s: &[u8]");
+    assert!(told.contains("a step from what is no slice and no array"), "{told}");
+}
+
+#[test]
+fn an_array_in_memory_is_given_to_no_call() {
+    let call = |local: usize| format!("call (direct (fnRef \"m::f\")) (lcons {} lnil) {}", copy(local), at(0));
+    let locals = [value(U8), value(&array(U8, 2)), memory(&array(U8, 2))];
+    let copied = assign(&at(2), &format!("rvOpd {}", copy(1)));
+    let term = program(&[function("f", 1, &locals, &[&copied, &call(2), "return"], "")]);
+    assert!(why(&term, "a: T").contains("an array in memory as a part of a value"));
+}
+
+#[test]
+fn a_type_that_holds_a_value_of_itself() {
+    let table = |of: &str| format!("(lcons (pair \"m::T\" (fields (tcons {of} tnil))) lnil)");
+    for of in [named("m::T"), array(&named("m::T"), 2)] {
+        let term = program(&[function("f", 0, &[value(UNIT)], &["return"], &table(&of))]);
+        assert!(why(&term, "").contains("m::T: a type that holds a value of itself"), "{of}");
+    }
+    let of = reference("imm", &named("m::T"));
+    let term = program(&[function("f", 0, &[value(UNIT)], &["return"], &table(&of))]);
+    assert!(translated(&term, "", portable::Form::Plain).is_ok());
+}

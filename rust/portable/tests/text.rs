@@ -905,3 +905,258 @@ fn an_arm_that_does_not_leave_on_every_path_ends_with_a_break() {
     let c = numbered(&[&format!("switch {} {arms}", copy(2)), &sum(0, 2, 2), "return"]);
     assert!(c.contains("case 0: if (p) { return a; } break; default: break; } return a + a;"), "{c}");
 }
+
+/// A struct `m::S` of a byte and a word, and an enum `m::E` of nothing or of a byte and a word.
+fn byte_and_word() -> String {
+    let fields = format!("(tcons {U8} (tcons {U32} tnil))");
+    format!(
+        "(lcons (pair \"m::S\" (fields {fields})) (lcons (pair \"m::E\" (variants (ttcons tnil (ttcons {fields} ttnil)))) lnil))"
+    )
+}
+
+#[test]
+fn a_pointer_may_be_to_a_struct_and_to_a_part_of_one() {
+    let part = |steps: &str| format!("(place 1 (lcons (deref {}) {steps}))", named("m::S"));
+    let field = part("(lcons (field 1) lnil)");
+    let locals = [value(U32), value(&reference("mut", &named("m::S"))), value(&reference("mut", U32))];
+    let body = [
+        assign(&at(2), &format!("addrOf {field}")),
+        assign(&behind(2, U32), "rvOpd (int 32 5)"),
+        assign(&field, "rvOpd (int 32 6)"),
+        assign(&at(0), &format!("rvOpd (copy {field})")),
+    ];
+    let body: Vec<&str> = body.iter().map(String::as_str).chain(["return"]).collect();
+    let c = plain(&program(&[function("f", 1, &locals, &body, &byte_and_word())]), "p: &mut S");
+    assert!(c.contains("uint32_t f(m_S *t1)\n"), "{c}");
+    assert!(c.contains("    t2 = &t1->f1;\n    *t2 = 5;\n    t1->f1 = 6;\n    t0 = t1->f1;\n"), "{c}");
+    // of a variant, and of a local
+    let place = "(place 2 (lcons (variant 1) (lcons (field 2) lnil)))";
+    let locals = [value(U32), value(&named("m::E")), memory(&named("m::E")), value(&reference("imm", U32))];
+    let body = [
+        assign(&at(2), &format!("rvOpd {}", copy(1))),
+        assign(&at(3), &format!("addrOf {place}")),
+        assign(&at(0), &format!("rvOpd (copy {})", behind(3, U32))),
+    ];
+    let body: Vec<&str> = body.iter().map(String::as_str).chain(["return"]).collect();
+    let c = plain(&program(&[function("f", 1, &locals, &body, &byte_and_word())]), "e: E");
+    assert!(c.contains("    t3 = &t2.as.v1.f1;\n    t0 = *t3;\n"), "{c}");
+}
+
+#[test]
+fn a_slice_of_structs_is_stepped_by_the_machines_size() {
+    // 8 bytes each: a byte, three that are padding, and a word of 32 bits
+    let pointer = value(&reference("imm", &named("m::S")));
+    let locals =
+        [value(U32), value(&slice("imm", &named("m::S"))), value(U64), value(U64), value(PTR), pointer];
+    let size = format!("(sizeOf {})", named("m::S"));
+    let read = format!("(copy (place 5 (lcons (deref {}) (lcons (field 1) lnil))))", named("m::S"));
+    let body = [
+        assign(&at(3), &format!("op2 (mul unsigned) {} {size}", copy(2))),
+        assign(&at(4), &format!("op2 offset (copy {}) {}", field(1, 0), copy(3))),
+        assign(&at(5), &format!("addrOf {}", behind(4, &named("m::S")))),
+        assign(&at(0), &format!("rvOpd {read}")),
+    ];
+    let body: Vec<&str> = body.iter().map(String::as_str).chain(["return"]).collect();
+    let term = program(&[function("f", 2, &locals, &body, &byte_and_word())]);
+    let c = plain(&term, "s: &[S], i: u64");
+    assert!(c.contains("    t3 = t2 * 8;\n    t4 = t1.at + t3 / 8;\n    t5 = t4;\n    t0 = t5->f1;\n"), "{c}");
+    assert!(reading(&term, "s: &[S], i: u64").contains("    return s.at[i].f1;\n"));
+}
+
+#[test]
+fn sizes_are_the_machines() {
+    let arrays = format!("(tcons {} (tcons {U16} (tcons {U8} tnil)))", array(&named("m::E"), 3));
+    let table = format!("(lcons (pair \"m::A\" (fields {arrays})) {})", byte_and_word());
+    let size = |of: &str| {
+        let body = assign(&at(0), &format!("rvOpd (sizeOf {of})"));
+        let c = plain(&program(&[function("f", 0, &[value(U64)], &[&body, "return"], &table)]), "");
+        let line = c.lines().find(|line| line.trim_start().starts_with("t0 = ")).expect("an assignment");
+        line.trim().to_string()
+    };
+    for (of, wanted) in [
+        (U8.to_string(), 1),
+        (BOOL.to_string(), 1),
+        (U64.to_string(), 8),
+        (array(U16, 5), 10),
+        (UNIT.to_string(), 0),
+        (named("m::S"), 8),
+        // the tag, a byte, and a word at a multiple of its size
+        (named("m::E"), 8),
+        (named("m::A"), 28),
+    ] {
+        assert_eq!(size(&of), format!("t0 = {wanted};"), "{of}");
+    }
+}
+
+#[test]
+fn what_has_no_value_is_nowhere_in_c() {
+    let table = format!(
+        "(lcons (pair \"m::N\" (fields tnil)) (lcons (pair \"m::W\" (fields (tcons {n} (tcons {U8} (tcons tyUnit tnil))))) \
+         (lcons (pair \"m::R\" (variants (ttcons (tcons tyUnit tnil) (ttcons (tcons {n} (tcons {U8} tnil)) ttnil)))) lnil)))",
+        n = named("m::N")
+    );
+    let call = format!(
+        "call (direct (fnRef \"m::g\")) (lcons {} (lcons {} (lcons unit lnil))) {}",
+        copy(2),
+        copy(1),
+        at(3)
+    );
+    let locals = [
+        value(U8),
+        value(U8),
+        value(&named("m::N")),
+        value(&named("m::W")),
+        value(&named("m::R")),
+        value(UNIT),
+        value(&named("m::N")),
+    ];
+    let body = [
+        assign(&at(2), "aggregate lnil"),
+        call,
+        assign(&at(6), &format!("rvOpd (copy {})", field(3, 0))),
+        assign(&at(5), "rvOpd unit"),
+        assign(&at(4), &format!("aggregate (lcons (int 8 1) (lcons {} (lcons {} lnil)))", copy(6), copy(1))),
+        "call (direct (fnRef \"m::h\")) lnil (place 6 lnil)".to_string(),
+        assign(&at(0), "rvOpd (copy (place 4 (lcons (variant 1) (lcons (field 2) lnil))))"),
+    ];
+    let body: Vec<&str> = body.iter().map(String::as_str).chain(["return"]).collect();
+    let f = function("f", 1, &locals, &body, &table);
+    let g = [value(&named("m::W")), value(&named("m::N")), value(U8), value(UNIT)];
+    let made =
+        assign(&at(0), &format!("aggregate (lcons {} (lcons {} (lcons {} lnil)))", copy(1), copy(2), copy(3)));
+    let g = function("g", 3, &g, &[&made, "return"], &table);
+    let h = function("h", 0, &[value(&named("m::N"))], &[&assign(&at(0), "aggregate lnil"), "return"], &table);
+    let c = plain(&program(&[f, g, h]), "a: u8");
+    assert!(c.contains("typedef struct {\n    uint8_t f1;\n} m_W;\n") && !c.contains("m_N"), "{c}");
+    assert!(
+        c.contains(
+            "    union {\n        struct {\n            uint8_t f1;\n        } v1;\n    } as;\n} m_R;\n"
+        ),
+        "{c}"
+    );
+    assert!(
+        c.contains("static inline m_W m_g(uint8_t t2)\n") && c.contains("static inline void m_h(void)\n"),
+        "{c}"
+    );
+    assert!(c.contains("    t0 = (m_W){.f1 = t2};\n"), "{c}");
+    assert!(c.contains("    (void)m_g(t1);\n"), "{c}");
+    assert!(
+        c.contains("    t4 = (m_R){.tag = 1, .as.v1.f1 = t1};\n    m_h();\n    t0 = t4.as.v1.f1;\n"),
+        "{c}"
+    );
+}
+
+#[test]
+fn an_array_of_equal_structs_is_made_one_after_another() {
+    let locals = [
+        value(UNIT),
+        value(&named("m::S")),
+        memory(&array(&named("m::S"), 4)),
+        value(PTR),
+        value(&named("m::S")),
+    ];
+    let body = [
+        assign(&at(2), &format!("repeat {} 4", copy(1))),
+        assign(&at(3), &format!("addrOf {}", at(2))),
+        assign(&at(4), &format!("rvOpd (copy {})", behind(3, &named("m::S")))),
+    ];
+    let body: Vec<&str> = body.iter().map(String::as_str).chain(["return"]).collect();
+    let c = plain(&program(&[function("f", 1, &locals, &body, &byte_and_word())]), "s: S");
+    let wanted = "    for (size_t at_each = 0; at_each < 4; at_each++) {\n        t2[at_each] = t1;\n    }\n";
+    assert!(c.contains(wanted), "{c}");
+}
+
+#[test]
+fn an_element_of_an_array_of_equal_ones_stays_where_it_is() {
+    // a value that a call gives is no part of the loop; a word of 5 is no byte of 5
+    let call = format!("call (direct (fnRef \"m::g\")) (lcons {} lnil) {}", copy(1), at(2));
+    let made = assign(&at(0), &format!("repeat {} 3", copy(2)));
+    let f = function("f", 1, &[value(&array(U64, 3)), value(U64), value(U64)], &[&call, &made, "return"], "");
+    let g = function(
+        "g",
+        1,
+        &[value(U64), value(U64)],
+        &[&assign(&at(0), &format!("rvOpd {}", copy(1))), "return"],
+        "",
+    );
+    let c = reading(&program(&[f, g]), "a: u64");
+    let wanted = "    uint64_t t2 = m_g(a);\n    array_u64_3 t0;\n    for (size_t at_each = 0; at_each < 3; at_each++) {\n        t0.at[at_each] = t2;\n";
+    assert!(c.contains(wanted), "{c}");
+    let set = assign(&at(1), "rvOpd (int 64 5)");
+    let f = function(
+        "f",
+        0,
+        &[value(&array(U64, 3)), value(U64)],
+        &[&set, &assign(&at(0), &format!("repeat {} 3", copy(1))), "return"],
+        "",
+    );
+    let c = reading(&program(&[f]), "");
+    assert!(c.contains("        t0.at[at_each] = t1;\n"), "{c}");
+}
+
+#[test]
+fn an_array_is_given_to_a_call_as_a_value() {
+    let made = assign(&at(2), &format!("aggregate (lcons {} (lcons {} lnil))", copy(1), copy(1)));
+    let call = format!("call (direct (fnRef \"m::g\")) (lcons {} lnil) {}", copy(2), at(0));
+    let f = function("f", 1, &[value(U8), value(U8), value(&array(U8, 2))], &[&made, &call, "return"], "");
+    let read = [
+        assign(&at(2), &format!("rvOpd {}", copy(1))),
+        assign(&at(3), &format!("addrOf {}", at(2))),
+        assign(&at(0), &format!("rvOpd (copy {})", behind(3, U8))),
+    ];
+    let locals = [value(U8), value(&array(U8, 2)), memory(&array(U8, 2)), value(PTR)];
+    let g = function("g", 1, &locals, &[&read[0], &read[1], &read[2], "return"], "");
+    let c = reading(&program(&[f, g]), "a: u8");
+    assert!(c.contains("    array_u8_2 t2 = (array_u8_2){{a, a}};\n    return m_g(t2);\n"), "{c}");
+    assert!(c.contains("static inline uint8_t m_g(array_u8_2 t1)\n{\n    uint8_t t2[2];\n    memcpy(t2, t1.at, sizeof t2);\n"), "{c}");
+}
+
+#[test]
+fn a_reference_to_an_element_is_the_pointer_to_it() {
+    let locals = [
+        value(U64),
+        value(&slice("imm", U64)),
+        value(U64),
+        value(U64),
+        value(PTR),
+        value(&reference("imm", U64)),
+    ];
+    let body = [
+        assign(&at(3), &format!("op2 (mul unsigned) {} (int 64 8)", copy(2))),
+        assign(&at(4), &format!("op2 offset (copy {}) {}", field(1, 0), copy(3))),
+        assign(&at(5), &format!("addrOf {}", behind(4, U64))),
+        assign(&at(0), &format!("op2 xor (copy {}) (copy {})", behind(5, U64), behind(5, U64))),
+    ];
+    let body: Vec<&str> = body.iter().map(String::as_str).chain(["return"]).collect();
+    let c = reading(&program(&[function("f", 2, &locals, &body, "")]), "s: &[u64], i: u64");
+    assert!(c.contains("    const uint64_t *t5 = s.at + i;\n    return *t5 ^ *t5;\n"), "{c}");
+}
+
+#[test]
+fn a_slice_of_words_is_cut_at_a_product() {
+    let locals = [
+        value(&slice("imm", U64)),
+        value(&slice("imm", U64)),
+        value(U64),
+        value(U64),
+        value(PTR),
+        value(U64),
+        value(&reference("imm", U64)),
+    ];
+    let cut = |less: usize| {
+        let body = [
+            assign(&at(3), &format!("op2 (mul unsigned) {} (int 64 8)", copy(2))),
+            assign(&at(4), &format!("op2 offset (copy {}) {}", field(1, 0), copy(3))),
+            assign(&at(5), &format!("op2 (sub unsigned) (copy {}) {}", field(1, 1), copy(less))),
+            assign(&at(6), &format!("addrOf {}", behind(4, U64))),
+            assign(&at(0), &format!("aggregate (lcons {} (lcons {} lnil))", copy(6), copy(5))),
+        ];
+        let body: Vec<&str> = body.iter().map(String::as_str).chain(["return"]).collect();
+        program(&[function("f", 2, &locals, &body, "")])
+    };
+    let c = reading(&cut(2), "s: &[u64], i: u64");
+    assert!(c.contains("    return (slice_u64){cut_u64(s.at, i), s.len - i};\n"), "{c}");
+    // another number than the one that is stepped is no cut
+    let why = translated(&cut(3), "s: &[u64], i: u64", Form::Plain).expect_err("refused");
+    assert!(why.contains("neither followed at once nor begins a slice"), "{why}");
+}

@@ -3,6 +3,8 @@
 // each test file uses a part of this
 #![allow(dead_code)]
 
+pub mod json;
+
 use portable::sources::Sources;
 use portable::{translate, Form};
 
