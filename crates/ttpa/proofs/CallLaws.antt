@@ -146,7 +146,7 @@ module _ (file t report : List ℕ) {file' : List ℕ} (a : Answered Report) (is
 
 -- ---- a file that is written, with its length: the owner file, a file in an edition, two files joined, a slave's file
 
-module _ {r : Result ℕ} {n length length' : ℕ} (told : (n, length') ≡ number_told r length) {out out' : List ℕ} where
+module _ (length : ℕ) (r : Result ℕ) {n length' : ℕ} (told : (n, length') ≡ number_told r length) where
   number_is : n ≡ number_in r
   unfolding number_told
   number_is = ap (λ (t : ℕ × ℕ). t.0) told
@@ -155,25 +155,26 @@ module _ {r : Result ℕ} {n length length' : ℕ} (told : (n, length') ≡ numb
   unfolding number_told
   length-is = ap (λ (t : ℕ × ℕ). t.1) told
 
-  pub owner-told : (file : List ℕ) (master : ℕ) {name : ℕ} → name ≡ master → (r, out') ≡ owner_on file name out → (n, length', out') ≡ owner_call file master out length
-  unfolding owner_call
-  owner-told file master same is = rw (← same, ← is, number_is, length-is)
+  module _ (out : List ℕ) {out' : List ℕ} where
+    pub owner-told : (file : List ℕ) (master : ℕ) {name : ℕ} → name ≡ master → (r, out') ≡ owner_on file name out → (n, length', out') ≡ owner_call file master out length
+    unfolding owner_call
+    owner-told file master same is = rw (← same, ← is, number_is, length-is)
 
-  pub convert-told : (edition : ℕ) (file : List ℕ) → (r, out') ≡ convert_on file edition out → (n, length', out') ≡ convert_call edition file out length
-  unfolding convert_call
-  convert-told edition file is = rw (← is, number_is, length-is)
+    pub convert-told : (edition : ℕ) (file : List ℕ) → (r, out') ≡ convert_on file edition out → (n, length', out') ≡ convert_call edition file out length
+    unfolding convert_call
+    convert-told edition file is = rw (← is, number_is, length-is)
 
-  pub join-told : (first second : List ℕ) → (r, out') ≡ join_on first second out → (n, length', out') ≡ join_call first second out length
-  unfolding join_call
-  join-told first second is = rw (← is, number_is, length-is)
+    pub join-told : (first second : List ℕ) → (r, out') ≡ join_on first second out → (n, length', out') ≡ join_call first second out length
+    unfolding join_call
+    join-told first second is = rw (← is, number_is, length-is)
 
-  pub contents-told : (file : List ℕ) (slave number : ℕ) → (r, out') ≡ contents_on file slave number out → (n, length', out') ≡ contents_call file slave number out length
-  unfolding contents_call
-  contents-told file slave number is = rw (← is, number_is, length-is)
+    pub contents-told : (file : List ℕ) (slave number : ℕ) → (r, out') ≡ contents_on file slave number out → (n, length', out') ≡ contents_call file slave number out length
+    unfolding contents_call
+    contents-told file slave number is = rw (← is, number_is, length-is)
 
-  pub fill-told : (file : List ℕ) → (r, out') ≡ fill_on file out → (n, length', out') ≡ fill_call file out length
-  unfolding fill_call
-  fill-told file is = rw (← is, number_is, length-is)
+    pub fill-told : (file : List ℕ) → (r, out') ≡ fill_on file out → (n, length', out') ≡ fill_call file out length
+    unfolding fill_call
+    fill-told file is = rw (← is, number_is, length-is)
 
 -- the editions of the two calls
 module _ (file out : List ℕ) (length : ℕ) {x : ℕ × ℕ × List ℕ} where
@@ -207,13 +208,13 @@ module _ (p : Position) (senders : ℕ) (run : List ℕ) {a : Answered (Option M
   unfolding step_told number_in step_senders step_words_lem stepped_of run_after
   told-turned e = rw e
 
-  pub told-ended : a ≡ Ok None → (0, senders, run) ≡ step_told (stepped_of a) (run_after p a) senders run
+  pub told-ended : {o : Option MadeStep} → a ≡ Ok o → o ≡ None → (0, senders, run) ≡ step_told (stepped_of a) (run_after p a) senders run
   unfolding step_told number_in step_senders step_words_lem stepped_of run_after
-  told-ended e = rw e
+  told-ended e k = rw (e, k)
 
-  pub told-made : {made : MadeStep} {words : List ℕ} → a ≡ Ok (Some made) → words ≡ words_of (position_of made.run) → (0, made.senders, words) ≡ step_told (stepped_of a) (run_after p a) senders run
+  pub told-made : {made : MadeStep} {words : List ℕ} → {o : Option MadeStep} → a ≡ Ok o → o ≡ Some made → words ≡ words_of (position_of made.run) → (0, made.senders, words) ≡ step_told (stepped_of a) (run_after p a) senders run
   unfolding step_told number_in step_senders step_words_lem stepped_of run_after
-  told-made e same = rw (e, same)
+  told-made e k same = rw (e, k, same)
 
 abbrev Told : Type 0
 Told = ℕ × ℕ × List ℕ
@@ -251,16 +252,16 @@ module _ (held : List ℕ) (count name place : ℕ) {c n : ℕ} (counted : c ≡
       let r : refused (refusal_number why) ≡ holder_in name count held = rw e at is in
       rw (← r)
 
-  pub holder_found : {at' : ℕ} → a ≡ Ok (Some at') → (0, at') ≡ holder_call held count name place
+  pub holder_found : {at' : ℕ} → {o : Option ℕ} → a ≡ Ok o → o ≡ Some at' → (0, at') ≡ holder_call held count name place
   unfolding holder_call number_in lent_after holder_of place_of
-  holder_found {at'} e =
-      let r : done (at at') ≡ holder_in name count held = rw e at is in
+  holder_found {at'} e k =
+      let r : done (at at') ≡ holder_in name count held = rw (e, k) at is in
       rw (← r)
 
-  pub holder-nobody : a ≡ Ok None → (0, 2 ^ 64 - 1) ≡ holder_call held count name place
+  pub holder-nobody : {o : Option ℕ} → a ≡ Ok o → o ≡ None → (0, 2 ^ 64 - 1) ≡ holder_call held count name place
   unfolding holder_call number_in lent_after holder_of place_of nobody_place
-  holder-nobody e =
-      let r : done nobody ≡ holder_in name count held = rw e at is in
+  holder-nobody e k =
+      let r : done nobody ≡ holder_in name count held = rw (e, k) at is in
       rw (← r)
 
 -- ---- screens
@@ -284,17 +285,17 @@ module _ (file state answer : List ℕ) (senders screen : ℕ) {state' answer' f
       let r : (refused (refusal_number why), state', answer', file') ≡ turn_on state file answer = rw e at is in
       rw (← r)
 
-  pub turn_idles : a ≡ Ok None → (0, senders, 8, state', answer', file') ≡ turn_call file state answer senders screen
+  pub turn_idles : {o : Option Served} → a ≡ Ok o → o ≡ None → (0, senders, 8, state', answer', file') ≡ turn_call file state answer senders screen
   unfolding turn_call turn_screen turn_senders none_waited number_in turned_of
-  turn_idles e =
-      let r : (done idle, state', answer', file') ≡ turn_on state file answer = rw e at is in
+  turn_idles e k =
+      let r : (done idle, state', answer', file') ≡ turn_on state file answer = rw (e, k) at is in
       rw (← r)
 
   pub turn-serves :
-      {s : Served} → a ≡ Ok (Some s) → (0, s.senders, s.screen, state', answer', file') ≡ turn_call file state answer senders screen
+      {s : Served} {o : Option Served} → a ≡ Ok o → o ≡ Some s → (0, s.senders, s.screen, state', answer', file') ≡ turn_call file state answer senders screen
   unfolding turn_call turn_screen turn_senders number_in turned_of
-  turn-serves {s} e =
-      let r : (done (served s.screen s.senders), state', answer', file') ≡ turn_on state file answer = rw e at is in
+  turn-serves {s} e k =
+      let r : (done (served s.screen s.senders), state', answer', file') ≡ turn_on state file answer = rw (e, k) at is in
       rw (← r)
 
 -- ---- a pattern of the line

@@ -284,12 +284,14 @@ fn step_number(
 {
     match stepped {
         Err(why) => why.number(),
-        Ok(None) => 0,
-        Ok(Some(made)) => {
-            *senders = made.senders;
-            *run = words_of(made.run);
-            0
-        }
+        Ok(done) => match done {
+            None => 0,
+            Some(made) => {
+                *senders = made.senders;
+                *run = words_of(made.run);
+                0
+            }
+        },
     }
 }
 
@@ -318,14 +320,16 @@ pub fn ttpa_holder(held: &[u8], count: u64, name: u8, place: &mut u64) -> u8
 {
     match find_holder(held, count as usize, LogicalName::new(name)) {
         Err(why) => why.number(),
-        Ok(Some(at)) => {
-            *place = at as u64;
-            0
-        }
-        Ok(None) => {
-            *place = NOBODY;
-            0
-        }
+        Ok(found) => match found {
+            Some(at) => {
+                *place = at as u64;
+                0
+            }
+            None => {
+                *place = NOBODY;
+                0
+            }
+        },
     }
 }
 
@@ -392,15 +396,17 @@ pub fn ttpa_turn(
 {
     match turn(file, state, answer) {
         Err(why) => why.number(),
-        Ok(None) => {
-            *screen = NO_SCREEN;
-            0
-        }
-        Ok(Some(served)) => {
-            *senders = served.senders;
-            *screen = served.screen;
-            0
-        }
+        Ok(done) => match done {
+            None => {
+                *screen = NO_SCREEN;
+                0
+            }
+            Some(served) => {
+                *senders = served.senders;
+                *screen = served.screen;
+                0
+            }
+        },
     }
 }
 

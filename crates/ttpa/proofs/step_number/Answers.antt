@@ -7,8 +7,8 @@ use Rattle.ttpa.proofs.step_number.Goals as goal
 pub returns-in-Err : goal.returns-in-Err
 returns-in-Err c = search (rules, told-turned)
 
-pub returns-in-Ok-None : goal.returns-in-Ok-None
-returns-in-Ok-None c = search (rules, told-ended)
+pub returns-in-None : goal.returns-in-None
+returns-in-None c = search (rules, told-ended)
 
-pub returns-in-Ok-Some : goal.returns-in-Ok-Some
-returns-in-Ok-Some c = search (rules, told-made)
+pub returns-in-Some : goal.returns-in-Some
+returns-in-Some c = search (rules, told-made)

@@ -7,8 +7,8 @@ use Rattle.ttpa.proofs.ttpa_holder.Goals as goal
 pub returns-in-Err : goal.returns-in-Err
 returns-in-Err c = search (rules, holder_refuses)
 
-pub returns-in-Ok-Some : goal.returns-in-Ok-Some
-returns-in-Ok-Some c = search (rules, holder_found)
+pub returns-in-Some : goal.returns-in-Some
+returns-in-Some c = search (rules, holder_found)
 
-pub returns-in-Ok-None : goal.returns-in-Ok-None
-returns-in-Ok-None c = search (rules, holder-nobody)
+pub returns-in-None : goal.returns-in-None
+returns-in-None c = search (rules, holder-nobody)

@@ -7,5 +7,5 @@ use Rattle.ttpa.proofs.ttpa_read_address.Goals as goal
 pub returns-in-Err : goal.returns-in-Err
 returns-in-Err c = search (rules, read_refuses)
 
-pub returns-in-Ok : goal.returns-in-Address
+pub returns-in-Ok : goal.returns-in-Ok
 returns-in-Ok c = search (rules, read-parts)
