@@ -5,7 +5,7 @@ use Rattle.ttpa.proofs.CallLaws.{turn-refuses, turn_idles, turn-serves}
 use Rattle.ttpa.proofs.ttpa_turn.Goals as goal
 
 pub returns-in-Err : goal.returns-in-Err
-returns-in-Err c = search (rules, turn-refuses)
+returns-in-Err c = rw c.number.ensures (turn-refuses _ _ _ _ _ c.turn.ensures c.in-Err.is)
 
 pub returns-in-None : goal.returns-in-None
 returns-in-None c = search (rules, turn_idles)
