@@ -1,9 +1,9 @@
 // The answer to a frame.
 ghost use Rattle.std.specs.Prelude.{◌≡◌};
 ghost use Rattle.cluster.specs.Inner.Unheard.{is_done};
+ghost use Rattle.file.specs.Inner.Refusals.{outcome_of};
 
 use file::types::Refusal;
-ghost use Rattle.file.specs.Inner.Refusals.{outcome_of};
 
 // Whether a frame was carried out.
 pub fn is_carried(answer: Result<u64, Refusal>) -> bool

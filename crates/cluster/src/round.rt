@@ -50,13 +50,7 @@ pub fn one_frame(
             if frame.len() != FIREWORK_SIZE {
                 return Err(Refusal::FrameLength);
             }
-            Ok(carry_multipartner(
-                file,
-                places,
-                round,
-                frame[FIREWORK_PLACE],
-                buffer,
-            ))
+            Ok(carry_multipartner(file, places, round, frame[FIREWORK_PLACE], buffer))
         }
     }
 }

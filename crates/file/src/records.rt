@@ -50,7 +50,11 @@ fn search_directory(
 
 // Where a slave keeps a file, or that it has none, in an edition: the compiler writes the search once for each width, with its numbers, since
 // a round asks it of every slave.
-fn find_file_at<const WIDTH: usize>(file: &[u8], slave: usize, number: FileNumber) -> Option<FileBytes>
+fn find_file_at<const WIDTH: usize>(
+    file: &[u8],
+    slave: usize,
+    number: FileNumber,
+) -> Option<FileBytes>
     requires { AcceptedFile file.now × WidthOf file.now WIDTH × (slave < slave_count file.now) }
     ensures { found_file result ≡ find_file (decode file.now) slave (file_in number) }
 {

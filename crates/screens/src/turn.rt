@@ -79,7 +79,11 @@ fn serve(
 }
 
 // "A turn serves the next waiting screen after the one last served"
-pub fn turn(file: &mut [u8], state: &mut ScreenState, buffer: &mut [u8]) -> Result<Option<Served>, Refusal>
+pub fn turn(
+    file: &mut [u8],
+    state: &mut ScreenState,
+    buffer: &mut [u8],
+) -> Result<Option<Served>, Refusal>
     ensures { (turned_of result, state.new, buffer.new, file.new) ≡ turn_on state.old file.old buffer.old }
 {
     if LAST_SCREEN < state[LAST_SERVED] {

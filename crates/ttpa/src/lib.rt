@@ -443,12 +443,7 @@ pub fn ttpa_contents(file: &[u8], slave: u64, number: u8, buffer: &mut [u8], len
     ensures { (result, length.new, buffer.new) ≡ contents_call file.now slave number buffer.old length.old }
 {
     number_telling(
-        in_word(read_contents(
-            file,
-            slave as usize,
-            FileNumber(number),
-            buffer,
-        )),
+        in_word(read_contents(file, slave as usize, FileNumber(number), buffer)),
         length,
     )
 }

@@ -4,8 +4,8 @@
 //! A body is a list in which each statement stands before those that it is made of: `Seq` before two, `Block` and `Loop` before one, `If` before
 //! two, and `Switch` before one for each of its lists of keys and, where it has one, its default.
 //!
-//! `LendStatic` lends an array of numbers that is never written. In the term it is an array of the function's own with these numbers, of which the
-//! address is taken; so the function may not return a pointer, and nothing else may be done with what was lent.
+//! `LendStatic` lends a constant that is never written. In the term it is a local of the function's own, of which the address is taken; so the function
+//! may keep no pointer anywhere. Of an array of numbers nothing but its address may be taken where it was lent.
 
 use crate::instances::instances;
 use crate::json::{self, Json};
@@ -69,13 +69,18 @@ fn definition(name: &str, item: &Json) -> Result<Node, Refused> {
     }
     let mut locals = each(part("locals")?, "locals", local)?;
     let rest = part("body")?.list().ok_or_else(|| Refused::new("a body that is no list"))?;
-    let mut body = Body { rest, first_array: locals.len(), lent: Vec::new() };
+    let types = part("types")?.list().ok_or_else(|| unknown("types", item))?;
+    let mut body =
+        Body { rest, types, first_own: locals.len(), own: Vec::new(), lent: Vec::new(), lends: false };
     let statement = body.statement()?;
     if let Some(more) = body.rest.first() {
         return Err(Refused::new(format!("a statement behind the end: {}", more.short())));
     }
-    check_lent(&body.lent, part("locals")?, part("body")?, part("types")?)?;
-    locals.extend(body.lent.iter().map(|lent| list("local", [lent.of.clone(), word("memorySlot")])));
+    check_lent(&body.lent, part("locals")?, part("body")?)?;
+    if body.lends {
+        check_kept(part("locals")?, part("params")?, types)?;
+    }
+    locals.extend(body.own);
     let fn_item = list(
         "fnItem",
         [word("0"), word("lnil"), number(part("params")?)?, cons(locals, "lcons", "lnil"), statement],
@@ -156,56 +161,98 @@ fn local(of: &Json) -> Result<Node, Refused> {
     Ok(list("local", [ty(of.of("ty").ok_or_else(|| unknown("local", of))?)?, word(home)]))
 }
 
-/// A constant that was lent, with its type: an array of numbers with the digits of the local that points to it, or a struct of numbers.
+/// An array of numbers that was lent: the digits of the local that points to it, its type, and its local.
 struct Lent {
-    pointer: Option<String>,
+    pointer: String,
     of: Node,
+    array: usize,
 }
 
 /// What is left of a body, and what it lent so far, each with a local of its own behind the function's.
 struct Body<'a> {
     rest: &'a [Json],
-    first_array: usize,
+    /// What the function declares.
+    types: &'a [Json],
+    first_own: usize,
+    own: Vec<Node>,
     lent: Vec<Lent>,
+    /// Whether a constant that is no array of numbers was lent.
+    lends: bool,
+}
+
+/// A constant that was lent is the function's own, and gone behind it: neither its result nor what it may write to holds a pointer.
+fn check_kept(locals: &Json, params: &Json, types: &[Json]) -> Result<(), Refused> {
+    let types_of = |local: &Json| local.of("ty").cloned().unwrap_or(Json::Null);
+    let all: Vec<Json> = locals.list().unwrap_or_default().iter().map(types_of).collect();
+    let count = params.number().and_then(|count| count.parse::<usize>().ok()).unwrap_or(usize::MAX);
+    let [result, rest @ ..] = &all[..] else { return Err(unknown("locals", locals)) };
+    let keeps = holds_pointer(result, types, &mut Vec::new())
+        || rest.iter().take(count).any(|of| may_keep(of, types, &mut Vec::new()));
+    match keeps {
+        true => Err(Refused::new("a constant that is lent, by a function that may keep a pointer")),
+        false => Ok(()),
+    }
+}
+
+/// The types of which a declared one is made, if it is declared.
+fn made_of<'a>(name: &Json, types: &'a [Json]) -> Option<Vec<&'a Json>> {
+    let declared = types.iter().find(|declared| declared.of("name") == name.of("name"))?;
+    match declared.of("shape")?.variant()? {
+        ("Fields", fields) => Some(fields.list()?.iter().collect()),
+        ("Variants", variants) => {
+            Some(variants.list()?.iter().flat_map(|fields| fields.list()).flatten().collect())
+        }
+        _ => None,
+    }
+}
+
+fn holds_pointer(of: &Json, types: &[Json], above: &mut Vec<Json>) -> bool {
+    match of.variant() {
+        Some(("Int" | "Bool" | "Unit", _)) => false,
+        Some(("Array", inner)) => inner.list().is_none_or(|array| holds_pointer(&array[0], types, above)),
+        Some(("Named", inner)) if !above.contains(of) => {
+            above.push(of.clone());
+            let fields = inner.list().and_then(|named| made_of(&named[0], types));
+            fields.is_none_or(|fields| fields.into_iter().any(|field| holds_pointer(field, types, above)))
+        }
+        Some(("Named", _)) => false,
+        _ => true,
+    }
+}
+
+/// Whether something may be written to, through a value of a type, that holds a pointer.
+fn may_keep(of: &Json, types: &[Json], above: &mut Vec<Json>) -> bool {
+    match (of.variant(), of.variant().and_then(|(_, inner)| inner.list())) {
+        (Some(("Int" | "Bool" | "Unit", _)), _) => false,
+        (Some(("Ref", _)), Some([_, mutability, to])) => {
+            mutability.text() != Some("Imm")
+                && (holds_pointer(to, types, &mut Vec::new()) || may_keep(to, types, above))
+        }
+        (Some(("Array", _)), Some([of, _])) => may_keep(of, types, above),
+        (Some(("Struct", _)), Some([_, Json::List(fields)])) => {
+            fields.iter().any(|of| may_keep(of, types, above))
+        }
+        (Some(("Named", _)), Some([name, _])) if !above.contains(of) => {
+            above.push(of.clone());
+            let fields = made_of(name, types);
+            fields.is_none_or(|fields| fields.into_iter().any(|field| may_keep(field, types, above)))
+        }
+        (Some(("Named", _)), _) => false,
+        _ => true,
+    }
 }
 
 /// The result is no pointer, and each local that points to something lent is mentioned twice, where it is lent and where its address is taken: what
 /// is pointed to holds no pointers (`check`), so none is left behind.
-fn check_lent(lent: &[Lent], locals: &Json, body: &Json, types: &Json) -> Result<(), Refused> {
+fn check_lent(lent: &[Lent], locals: &Json, body: &Json) -> Result<(), Refused> {
     let result = locals.list().and_then(|locals| locals.first()).and_then(|local| local.of("ty"));
-    let is_plain = result.is_some_and(|result| holds_no_pointer(result, types, 0));
-    if !lent.is_empty() && !is_plain {
-        return Err(Refused::new("a constant that is lent in a function whose result may point to it"));
-    }
-    match lent.iter().filter_map(|lent| lent.pointer.as_ref()).find(|pointer| mentions(body, pointer) != 2) {
-        Some(pointer) => {
-            Err(Refused::new(format!("an array that is lent, and not only read here: local {pointer}")))
+    let is_plain =
+        result.and_then(Json::variant).is_some_and(|(kind, _)| ["Int", "Bool", "Unit"].contains(&kind));
+    match lent.iter().find(|lent| !is_plain || mentions(body, &lent.pointer) != 2) {
+        Some(lent) => {
+            Err(Refused::new(format!("an array that is lent, and not only read here: local {}", lent.pointer)))
         }
         None => Ok(()),
-    }
-}
-
-/// Types within types, at most: one that has more is refused.
-const MOST_TYPES_WITHIN: usize = 16;
-
-/// Whether values of a type hold no pointer, by the types that the function declares.
-fn holds_no_pointer(of: &Json, types: &Json, within: usize) -> bool {
-    let all = |list: &Json| {
-        list.list().is_some_and(|list| list.iter().all(|one| holds_no_pointer(one, types, within + 1)))
-    };
-    match of.variant() {
-        _ if MOST_TYPES_WITHIN < within => false,
-        Some(("Int" | "Bool" | "Unit", _)) => true,
-        Some(("Named", named)) => {
-            let head = named.list().and_then(|named| named.first()).and_then(|head| head.of("name"));
-            let declared = types.list().into_iter().flatten().find(|declared| declared.of("name") == head);
-            match declared.and_then(|declared| declared.of("shape")).and_then(Json::variant) {
-                Some(("Fields", fields)) => all(fields),
-                Some(("Variants", variants)) => variants.list().is_some_and(|each| each.iter().all(all)),
-                _ => false,
-            }
-        }
-        _ => false,
     }
 }
 
@@ -268,57 +315,103 @@ impl<'a> Body<'a> {
         }
     }
 
-    /// The array that is lent, made of its numbers.
-    fn lend(&mut self, pointer: &Json, of: &Json, numbers: &Json) -> Result<Node, Refused> {
-        if let Some(("Parts", parts)) = numbers.variant() {
-            return self.lend_struct(pointer, of, parts);
+    /// What is lent, in a local of its own. The pointer to an array of numbers is followed at once, and any other one is put where it is wanted.
+    fn lend(&mut self, pointer: &Json, of: &Json, constant: &Json) -> Result<Node, Refused> {
+        let mut before = Vec::new();
+        let value = self.constant(of, constant, &mut before)?;
+        let own = self.own_local(ty(of)?, "memorySlot");
+        let place_of_own = list("place", [word(&own.to_string()), word("lnil")]);
+        let made = list("assign", [place_of_own.clone(), value]);
+        if constant.variant().is_some_and(|(kind, _)| kind == "Ints") {
+            let (Some(local), Some(true)) =
+                (pointer.of("local").and_then(Json::number), pointer.of("steps").map(Json::is_empty_list))
+            else {
+                return Err(unknown("place", pointer));
+            };
+            self.lent.push(Lent { pointer: local.to_string(), of: ty(of)?, array: own });
+            return Ok(made);
         }
-        let wrong = || unknown("constant", numbers);
-        let (Some(("Array", array)), Some(("Ints", ints))) = (of.variant(), numbers.variant()) else {
-            return Err(wrong());
-        };
-        let (Some([element, count]), Some(width), Some(values)) =
-            (array.list(), ints.of("width"), ints.of("values"))
-        else {
-            return Err(wrong());
-        };
-        let is_of_width = element.variant() == Some(("Int", width));
-        let number_of = values.list().map(|values| values.len().to_string());
-        let is_whole = count.variant().and_then(|(_, count)| count.number()) == number_of.as_deref();
-        let (Some(local), Some(true)) =
-            (pointer.of("local").and_then(Json::number), pointer.of("steps").map(Json::is_empty_list))
-        else {
-            return Err(unknown("place", pointer));
-        };
-        if !is_of_width || !is_whole {
-            return Err(wrong());
-        }
-        let parts = each(values, "numbers", |value| Ok(list("int", [number(width)?, number(value)?])))?;
-        let array = word(&(self.first_array + self.lent.len()).to_string());
-        self.lent.push(Lent { pointer: Some(local.to_string()), of: ty(of)? });
-        let whole = list("place", [array, word("lnil")]);
-        Ok(list("assign", [whole, list("aggregate", [cons(parts, "lcons", "lnil")])]))
+        self.lends = true;
+        let lent = list("assign", [place(pointer)?, list("addrOf", [place_of_own])]);
+        let all = before.into_iter().chain([made]);
+        Ok(all.rev().fold(lent, |rest, first| list("seq", [first, rest])))
     }
 
-    /// The struct that is lent, made of its numbers, and its address.
-    fn lend_struct(&mut self, pointer: &Json, of: &Json, parts: &Json) -> Result<Node, Refused> {
-        let parts = each(parts, "constant", |part| match part.variant() {
-            Some(("Int" | "True" | "False", _)) => operand(part),
-            _ => Err(unknown("constant", part)),
-        })?;
-        let own = word(&(self.first_array + self.lent.len()).to_string());
-        self.lent.push(Lent { pointer: None, of: ty(of)? });
-        let whole = list("place", [own, word("lnil")]);
-        let made = list("assign", [whole.clone(), list("aggregate", [cons(parts, "lcons", "lnil")])]);
-        let lent = list("assign", [place(pointer)?, list("addrOf", [whole])]);
-        Ok(list("seq", [made, lent]))
+    fn own_local(&mut self, of: Node, home: &str) -> usize {
+        self.own.push(list("local", [of, word(home)]));
+        self.first_own + self.own.len() - 1
+    }
+
+    /// A constant of a type, where its parts that have parts of their own are put into locals before.
+    fn constant(&mut self, of: &Json, constant: &Json, before: &mut Vec<Node>) -> Result<Node, Refused> {
+        let wrong = || unknown("constant", constant);
+        let (kind, inner) = constant.variant().ok_or_else(wrong)?;
+        let (of_kind, of_inner) = of.variant().ok_or_else(|| unknown("type", of))?;
+        let operand = |of: Node| Ok(list("rvOpd", [of]));
+        match (kind, of_kind) {
+            ("Int", "Int") if inner.of("width") == Some(of_inner) => {
+                operand(list("int", [number(of_inner)?, number(inner.of("value").ok_or_else(wrong)?)?]))
+            }
+            ("Bool", "Bool") => operand(word(if *inner == Json::Bool(true) { "true" } else { "false" })),
+            ("Unit", "Unit") => operand(word("unit")),
+            ("Ints", "Array") => {
+                let (Some(width), Some(values)) = (inner.of("width"), inner.of("values")) else {
+                    return Err(wrong());
+                };
+                let made = each(values, "numbers", |value| Ok(list("int", [number(width)?, number(value)?])))?;
+                let is_of_width = element_of(of, made.len()).and_then(Json::variant) == Some(("Int", width));
+                match is_of_width {
+                    true => Ok(list("aggregate", [cons(made, "lcons", "lnil")])),
+                    false => Err(wrong()),
+                }
+            }
+            ("Parts", _) => {
+                let parts = inner.list().ok_or_else(wrong)?;
+                let types = self.part_types(of, parts).ok_or_else(wrong)?;
+                let mut made = Vec::new();
+                for (part, of) in parts.iter().zip(types) {
+                    made.push(match self.constant(&of, part, before)? {
+                        Node::List(value) if value.first() == Some(&word("rvOpd")) => value[1].clone(),
+                        value => {
+                            let own = self.own_local(ty(&of)?, "valueLocal");
+                            let held = list("place", [word(&own.to_string()), word("lnil")]);
+                            before.push(list("assign", [held.clone(), value]));
+                            list("copy", [held])
+                        }
+                    });
+                }
+                Ok(list("aggregate", [cons(made, "lcons", "lnil")]))
+            }
+            _ => Err(wrong()),
+        }
+    }
+
+    /// The types of a constant's parts, as many as there are: an array's elements, a struct's fields, or an enum's tag and its variant's fields.
+    fn part_types(&self, of: &Json, parts: &[Json]) -> Option<Vec<Json>> {
+        if let Some(element) = element_of(of, parts.len()) {
+            return Some(vec![element.clone(); parts.len()]);
+        }
+        let ("Named", inner) = of.variant()? else { return None };
+        let name = inner.list()?.first()?.of("name");
+        let declared = self.types.iter().find(|declared| declared.of("name") == name)?;
+        let types = match declared.of("shape")?.variant()? {
+            ("Fields", fields) => fields.list()?.to_vec(),
+            ("Variants", variants) => {
+                let ("Int", tag) = parts.first()?.variant()? else { return None };
+                let fields = variants.list()?.get(tag.of("value")?.number()?.parse::<usize>().ok()?)?.list()?;
+                let tag = Json::Map(vec![("Int".to_string(), Json::Number("8".to_string()))]);
+                [&[tag], fields].concat()
+            }
+            _ => return None,
+        };
+        (types.len() == parts.len()).then_some(types)
     }
 
     /// The address of an array that was lent, where that is what is taken.
     fn address_of_lent(&self, value: &Json) -> Result<Option<Node>, Refused> {
         let Some(("AddrOf", of)) = value.variant() else { return Ok(None) };
         let pointer = of.of("local").and_then(Json::number);
-        let Some(at) = self.lent.iter().position(|lent| lent.pointer.is_some() && lent.pointer.as_deref() == pointer) else {
+        let Some(at) = self.lent.iter().position(|lent| Some(lent.pointer.as_str()) == pointer) else {
             return Ok(None);
         };
         let to = match of.of("steps").and_then(Json::list) {
@@ -330,7 +423,7 @@ impl<'a> Body<'a> {
         if to.as_ref() != Some(&self.lent[at].of) {
             return Err(unknown("use of what is lent", of));
         }
-        let array = list("place", [word(&(self.first_array + at).to_string()), word("lnil")]);
+        let array = list("place", [word(&self.lent[at].array.to_string()), word("lnil")]);
         Ok(Some(list("addrOf", [array])))
     }
 
@@ -354,6 +447,14 @@ fn call(function: &Json, arguments: &Json, target: &Json) -> Result<Node, Refuse
     }
     let called = list("direct", [list("fnRef", [Node::Text(name.to_string())])]);
     Ok(list("call", [called, operands(arguments)?, place(target)?]))
+}
+
+/// What an array of so many elements is of.
+fn element_of(of: &Json, count: usize) -> Option<&Json> {
+    let ("Array", inner) = of.variant()? else { return None };
+    let [element, length] = inner.list()? else { return None };
+    let ("Lit", length) = length.variant()? else { return None };
+    (length.number()? == count.to_string()).then_some(element)
 }
 
 fn place(of: &Json) -> Result<Node, Refused> {

@@ -282,6 +282,70 @@ fn what_is_lent_is_only_read() {
     }
 }
 
+/// A function `m::f(a, b)` that lends a constant of some type and reads a byte of it at some steps; its result and parameters have these types.
+fn lent_of(of: &str, constant: &str, types: &[String], steps: &str, [result, param]: [&str; 2]) -> String {
+    let lend = format!(r#"{{"LendStatic": [{}, {of}, {constant}]}}"#, json_at(2));
+    let read = json_assign(3, &json_opd(&json_part(2, &format!(r#"{{"Deref": {of}}}, {steps}"#))));
+    let locals = [result, param, &json_reference("Imm", of), U8_JSON].map(json_value);
+    json_returning("m::f", 1, &locals, types, &[vec![lend], vec![read]])
+}
+
+#[test]
+fn a_constant_that_is_lent_is_a_local_of_its_own() {
+    let inner = json_declared("m::I", 0, r#"{"Fields": [{"Int": 8}, "Bool"]}"#);
+    let shape = format!(
+        r#"{{"Variants": [[], [{U64_JSON}, {}, {{"Array": [{U8_JSON}, {{"Lit": 2}}]}}]]}}"#,
+        json_named("m::I", &[])
+    );
+    let types = [inner, json_declared("m::E", 0, &shape)];
+    let constant = r#"{"Parts": [{"Int": {"width": 8, "value": 1}}, {"Int": {"width": 64, "value": 7}},
+        {"Parts": [{"Int": {"width": 8, "value": 9}}, {"Bool": true}]}, {"Ints": {"width": 8, "values": [5, 6]}}]}"#;
+    let steps = r#"{"Variant": 1}, {"Field": 2}, {"Field": 0}"#;
+    let f = lent_of(&json_named("m::E", &[]), constant, &types, steps, [U8_JSON, U8_JSON]);
+    let f =
+        f.replace(r#""Return""#, &format!(r#""Seq", {}, "Return""#, json_assign(0, &json_opd(&json_copy(3)))));
+    let sources = sources("pub extern \"C\" fn f(a: u8) { }");
+    let c = c_of(&[&[f]], &sources, Form::Plain).expect("a C file");
+    let wanted = "    t4 = (m_I){.f0 = 9, .f1 = 1};\n    t5 = (array_u8_2){{5, 6}};\n    \
+        t6 = (m_E){.tag = 1, .as.v1.f0 = 7, .as.v1.f1 = t4, .as.v1.f2 = t5};\n    t2 = &t6;\n    t3 = t2->as.v1.f1.f0;\n    t0 = t3;\n";
+    assert!(c.contains(wanted), "{c}");
+}
+
+#[test]
+fn a_constant_that_is_lent_is_kept_nowhere() {
+    let types = [
+        json_declared("m::S", 0, r#"{"Fields": [{"Int": 8}]}"#),
+        json_declared("m::P", 0, &format!(r#"{{"Fields": [{}]}}"#, json_reference("Imm", U8_JSON))),
+        json_declared(
+            "m::M",
+            0,
+            &format!(r#"{{"Fields": [{}]}}"#, json_reference("Mut", &json_named("m::P", &[]))),
+        ),
+    ];
+    let constant = r#"{"Parts": [{"Int": {"width": 8, "value": 1}}]}"#;
+    let why = |constant: &str, ends: [&str; 2]| {
+        let f = lent_of(&json_named("m::S", &[]), constant, &types, r#"{"Field": 0}"#, ends);
+        c_of(&[&[f]], &sources("pub extern \"C\" fn f(a: T) { }"), Form::Plain).err().unwrap_or_default()
+    };
+    let kept = "a constant that is lent, by a function that may keep a pointer";
+    let [named, pointing, holding] = ["m::S", "m::P", "m::M"].map(|name| json_named(name, &[]));
+    assert_eq!(why(constant, [&named, &json_reference("Mut", &named)]), "");
+    assert_eq!(why(constant, [UNIT_JSON, &pointing]), "");
+    assert!(why(constant, [&pointing, U8_JSON]).contains(kept));
+    assert!(why(constant, [&json_reference("Imm", U8_JSON), U8_JSON]).contains(kept));
+    assert!(why(constant, [U8_JSON, &json_reference("Mut", &pointing)]).contains(kept));
+    assert!(why(constant, [U8_JSON, &holding]).contains(kept));
+    for wrong in [
+        r#"{"Parts": []}"#,
+        r#"{"Parts": [{"Int": {"width": 16, "value": 1}}]}"#,
+        r#"{"Parts": [{"Bool": true}]}"#,
+        r#"{"Repeat": [{"Int": 5}, 2]}"#,
+        r#"{"Int": {"width": 8, "value": 1}}"#,
+    ] {
+        assert!(why(wrong, [U8_JSON, U8_JSON]).contains("unknown constant"), "{wrong}");
+    }
+}
+
 #[test]
 fn bodies_that_are_not_known() {
     let unit = [json_value(r#""Unit""#)];

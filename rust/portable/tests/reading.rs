@@ -411,11 +411,12 @@ fn a_call_is_not_in_a_test_that_is_not_always_asked_for() {
         ],
     );
     let called = "call (direct (fnRef \"m::g\")) (lcons (copy (place 1 lnil)) lnil) (place 2 lnil)";
-    let call = "call (direct (fnRef \"core::tests\")) (lcons (copy (place 1 lnil)) (lcons (copy (place 2 lnil)) lnil)) (place 0 lnil)";
-    let f = f(1, &[value(BOOL), value(U64), value(BOOL)], &[called, call, "return"]);
+    let call = "call (direct (fnRef \"core::tests\")) (lcons (copy (place 1 lnil)) (lcons (copy (place 2 lnil)) lnil)) (place 3 lnil)";
+    let branch = format!("if {} {} skip", copy(3), seq(&[&put(0, "(int 8 1)"), "return"]));
+    let locals = [value(U8), value(U64), value(BOOL), value(BOOL)];
+    let f = f(1, &locals, &[called, call, &branch, &put(0, "(int 8 0)"), "return"]);
     let c = reading(&[f, tests, g], "a: u64");
-    has(&c, "m_g(a)");
-    assert!(!c.contains("&& m_g"), "{c}");
+    has(&c, "    _Bool t2 = m_g(a);\n    if (a == 4 && t2) {\n");
 }
 
 #[test]

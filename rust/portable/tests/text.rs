@@ -966,7 +966,11 @@ fn a_slice_of_structs_is_stepped_by_the_machines_size() {
 #[test]
 fn sizes_are_the_machines() {
     let arrays = format!("(tcons {} (tcons {U16} (tcons {U8} tnil)))", array(&named("m::E"), 3));
-    let table = format!("(lcons (pair \"m::A\" (fields {arrays})) {})", byte_and_word());
+    let between = format!("(tcons {U8} (tcons {U16} (tcons {U8} tnil)))");
+    let table = format!(
+        "(lcons (pair \"m::A\" (fields {arrays})) (lcons (pair \"m::B\" (fields {between})) {}))",
+        byte_and_word()
+    );
     let size = |of: &str| {
         let body = assign(&at(0), &format!("rvOpd (sizeOf {of})"));
         let c = plain(&program(&[function("f", 0, &[value(U64)], &[&body, "return"], &table)]), "");
@@ -983,6 +987,7 @@ fn sizes_are_the_machines() {
         // the tag, a byte, and a word at a multiple of its size
         (named("m::E"), 8),
         (named("m::A"), 28),
+        (named("m::B"), 6),
     ] {
         assert_eq!(size(&of), format!("t0 = {wanted};"), "{of}");
     }

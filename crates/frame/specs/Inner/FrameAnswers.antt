@@ -20,4 +20,3 @@ unfoldable pub reading_of : Answered AddressFrame → Result Parts
 reading_of (Err why) = refused (refusal_number why)
 reading_of (Ok read) =
     done (parts read.epoch (name_in_lem read.name) (file_in read.file) (operation_in read.operation) (record_in read.«record»))
-
