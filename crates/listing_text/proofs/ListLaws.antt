@@ -46,8 +46,9 @@ use Rattle.listing_text.specs.Inner.ListRuns.{state_of, Room, StateIs, Moves, St
 use Rattle.listing_text.specs.Rules.Listing.{text_size}
 use Rattle.listing_text.specs.declared.run.ListProgress.{ListProgress}
 use Rattle.file.specs.Inner.Refusals.{Answered, refusal_number, outcome_of}
-use Rattle.std.specs.Prelude.{Ok, Err, Option, Some, None}
+use Rattle.std.specs.Prelude.{Ok, Err, Option, None}
 use Rattle.naming.specs.declared.run.MadeStep.{MadeStep}
+use Rattle.std.specs.Prelude.{Some}
 
 -- ---- what a step that made its round leaves of a position
 

@@ -10,10 +10,11 @@ use Rattle.naming.specs.Inner.StepAnswers.{started_of, stepped_of, run_after}
 use Rattle.naming.specs.Inner.Steps.{steps_of, run_then}
 use Rattle.naming.specs.declared.position.RunPosition.{RunPosition}
 use Rattle.file.specs.Inner.Refusals.{Answered}
-use Rattle.std.specs.Prelude.{Ok, Err, Option, Some, None}
+use Rattle.std.specs.Prelude.{Ok, Err, Option, None}
 use Rattle.file.proofs.Distinct.{refusal_in, refusal_back}
 use Rattle.naming.specs.declared.run.MadeStep.{MadeStep}
 use Rattle.naming.specs.declared.steps.MadeSteps.{MadeSteps}
+use Rattle.std.specs.Prelude.{Some}
 
 run : Position → RunPosition
 run p =
