@@ -11,8 +11,8 @@ use std::path::Path;
 pub struct FunctionNames {
     pub comment: Vec<String>,
     pub params: Vec<String>,
-    /// What `let`, `for` and patterns bind, in their order, with a sign where the program has a local that the source does not name: `HIDDEN` for one,
-    /// `LOOP` for those of a `for` over anything but a range, `COUNTED` where the pattern has its counter.
+    /// What `let`, `for` and patterns bind, in their order, with a sign where the program has a local that the source does not name: `HIDDEN` for
+    /// one, `LOOP` for those of a `for` over anything but a range, `COUNTED` where the pattern has its counter.
     pub bound: Vec<String>,
     pub is_exported: bool,
 }
