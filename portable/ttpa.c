@@ -25,8 +25,22 @@ typedef struct {
 /* file::types::Refusal. Why something is turned away: document 01's number ("Grounds for turning something
  * away"), or document 02's. */
 typedef struct {
-    uint8_t f0;
+    uint8_t tag; /* 0 Size, 1 Mark, 2 Edition, 3 Length, 4 Header, 5 Layout, 6 NeededFile, 7 PhysicalNames,
+            8 Buffer, 9 Firework, 10 FrameLength, 11 Check, 12 Operation, 13 BroadcastRead, 14 ListedName,
+            15 NameTwice, 16 RunPosition, 17 FileNumber, 18 Trace, 19 TwoSenders, 20 OwnerBuffer,
+            21 LogicalNames, 22 MultiplexedSend, 23 Summary, 24 EditionLimits, 25 ConversionBuffer, 26 Screen,
+            27 ScreenWaiting, 28 SharedName, 29 JoinedLimits, 30 Pattern */
 } file_types_Refusal;
+
+/* core::result::Result<unit, file::types::Refusal>. */
+typedef struct {
+    uint8_t tag; /* 0 Ok, 1 Err */
+    union {
+        struct {
+            file_types_Refusal f0;
+        } Err;
+    } as;
+} Result_unit_file_types_Refusal;
 
 /* file::walk::DirectoryEnd. Where the files of a directory end that fits so far, and the least number that
  * may follow its last one. */
@@ -68,16 +82,6 @@ typedef struct {
     } as;
 } Option_file_walk_SlaveFound;
 
-/* core::ops::ControlFlow<core::option::NoValue, file::walk::DirectoryEnd>. */
-typedef struct {
-    uint8_t tag; /* 0 Continue, 1 Break */
-    union {
-        struct {
-            file_walk_DirectoryEnd f0;
-        } Continue;
-    } as;
-} ControlFlow_NoValue_file_walk_DirectoryEnd;
-
 /* core::option::Option<u64>. */
 typedef struct {
     uint8_t tag; /* 0 None, 1 Some */
@@ -93,30 +97,10 @@ typedef struct {
     uint64_t len;
 } slice_mut_u16;
 
-/* core::ops::ControlFlow<core::option::NoValue, file::walk::SlaveFound>. */
-typedef struct {
-    uint8_t tag; /* 0 Continue, 1 Break */
-    union {
-        struct {
-            file_walk_SlaveFound f0;
-        } Continue;
-    } as;
-} ControlFlow_NoValue_file_walk_SlaveFound;
-
 typedef struct {
     const uint16_t *at;
     uint64_t len;
 } slice_u16;
-
-/* file::survey::FileAnswer. */
-typedef struct {
-    uint8_t tag; /* 0 Accepted, 1 Refused */
-    union {
-        struct {
-            file_types_Refusal f0;
-        } Refused;
-    } as;
-} file_survey_FileAnswer;
 
 /* file::records::FileBytes. Where a slave keeps a file, and how many bytes it has. */
 typedef struct {
@@ -124,61 +108,46 @@ typedef struct {
     uint64_t size;
 } file_records_FileBytes;
 
-/* file::records::FilePlace. */
+/* core::option::Option<file::records::FileBytes>. */
 typedef struct {
-    uint8_t tag; /* 0 Bytes, 1 NoFile */
+    uint8_t tag; /* 0 None, 1 Some */
     union {
         struct {
             file_records_FileBytes f0;
-        } Bytes;
+        } Some;
     } as;
-} file_records_FilePlace;
+} Option_file_records_FileBytes;
 
 typedef struct {
     uint8_t *at;
     uint64_t len;
 } slice_mut_u8;
 
-/* contents::read::ContentsAnswer. A cluster file is refused, or the slave's file has so many bytes: none
- * where there is no such slave or file. */
+/* core::result::Result<u64, file::types::Refusal>. */
 typedef struct {
-    uint8_t tag; /* 0 Refused, 1 Size */
+    uint8_t tag; /* 0 Ok, 1 Err */
     union {
         struct {
-            file_types_Refusal f0;
-        } Refused;
-        struct {
             uint64_t f0;
-        } Size;
+        } Ok;
+        struct {
+            file_types_Refusal f0;
+        } Err;
     } as;
-} contents_read_ContentsAnswer;
+} Result_u64_file_types_Refusal;
 
-/* summary::fill::Filling. A file is refused, or its slaves' names are filled in, with how many there are. */
+/* core::result::Result<core::option::Option<u64>, file::types::Refusal>. */
 typedef struct {
-    uint8_t tag; /* 0 Refused, 1 Filled */
+    uint8_t tag; /* 0 Ok, 1 Err */
     union {
         struct {
-            file_types_Refusal f0;
-        } Refused;
-        struct {
-            uint64_t f0;
-        } Filled;
-    } as;
-} summary_fill_Filling;
-
-/* summary::holder::Holder. The place in the slave table of the first slave that holds the name, or that
- * nobody does. The C interface hands in slice and count apart. */
-typedef struct {
-    uint8_t tag; /* 0 Refused, 1 At, 2 Nobody */
-    union {
+            Option_u64 f0;
+        } Ok;
         struct {
             file_types_Refusal f0;
-        } Refused;
-        struct {
-            uint64_t f0;
-        } At;
+        } Err;
     } as;
-} summary_holder_Holder;
+} Result_Option_u64_file_types_Refusal;
 
 /* convert::table::SleepBytes. Whether a table keeps the sleep bytes of the file that it lists, or lists all
  * slaves awake. */
@@ -191,19 +160,6 @@ typedef struct {
     uint64_t file;
     uint64_t out;
 } convert_slaves_SlaveEnds;
-
-/* join::join::Joining. Two files are refused, or their join is written, with its length. */
-typedef struct {
-    uint8_t tag; /* 0 Refused, 1 Written */
-    union {
-        struct {
-            file_types_Refusal f0;
-        } Refused;
-        struct {
-            uint64_t f0;
-        } Written;
-    } as;
-} join_join_Joining;
 
 /* multipartner::round_files::RoundFile. Where a slave's entries of a round begin, and where they end: both 0
  * where there are none, as `planned_file` promises, so that a loop over them needs no test, as it would of
@@ -250,36 +206,23 @@ typedef struct {
     _Bool multiplexed;
 } owner_rounds_Rows;
 
-/* owner::write::OwnerAnswer. A file is refused, or its owner file is written, with its length. */
-typedef struct {
-    uint8_t tag; /* 0 Refused, 1 Written */
-    union {
-        struct {
-            file_types_Refusal f0;
-        } Refused;
-        struct {
-            uint64_t f0;
-        } Written;
-    } as;
-} owner_write_OwnerAnswer;
-
 /* line::pattern::PatternClass. */
 typedef struct {
     uint8_t tag; /* 0 DataByte, 1 Firework, 2 Broken */
 } line_pattern_PatternClass;
 
-/* line::pattern::PatternAnswer. */
+/* core::result::Result<line::pattern::PatternClass, file::types::Refusal>. */
 typedef struct {
-    uint8_t tag; /* 0 Refused, 1 Read */
+    uint8_t tag; /* 0 Ok, 1 Err */
     union {
         struct {
-            file_types_Refusal f0;
-        } Refused;
-        struct {
             line_pattern_PatternClass f0;
-        } Read;
+        } Ok;
+        struct {
+            file_types_Refusal f0;
+        } Err;
     } as;
-} line_pattern_PatternAnswer;
+} Result_line_pattern_PatternClass_file_types_Refusal;
 
 /* file::types::RecordNumber. */
 typedef struct {
@@ -293,51 +236,31 @@ typedef struct {
     file_types_RecordNumber record;
 } master_slave_types_RecordAddress;
 
-/* core::cmp::Ordering. */
+/* frame::types::AddressFrame. */
 typedef struct {
-    uint8_t tag; /* 0 Less, 1 Equal, 2 Greater */
-} Ordering;
+    uint8_t epoch;
+    file_types_LogicalName name;
+    file_types_FileNumber file;
+    file_types_Operation operation;
+    file_types_RecordNumber record;
+} frame_types_AddressFrame;
 
-/* core::option::Option<core::cmp::Ordering>. */
+/* core::result::Result<frame::types::AddressFrame, file::types::Refusal>. */
 typedef struct {
-    uint8_t tag; /* 0 None, 1 Some */
+    uint8_t tag; /* 0 Ok, 1 Err */
     union {
         struct {
-            Ordering f0;
-        } Some;
-    } as;
-} Option_Ordering;
-
-/* screens::post::Posted. */
-typedef struct {
-    uint8_t tag; /* 0 Refused, 1 Posted */
-    union {
+            frame_types_AddressFrame f0;
+        } Ok;
         struct {
             file_types_Refusal f0;
-        } Refused;
+        } Err;
     } as;
-} screens_post_Posted;
-
-/* frame::types::AddressReading. */
-typedef struct {
-    uint8_t tag; /* 0 Refused, 1 Address */
-    union {
-        struct {
-            file_types_Refusal f0;
-        } Refused;
-        struct {
-            uint8_t epoch;
-            file_types_LogicalName name;
-            file_types_FileNumber file;
-            file_types_Operation operation;
-            file_types_RecordNumber record;
-        } Address;
-    } as;
-} frame_types_AddressReading;
+} Result_frame_types_AddressFrame_file_types_Refusal;
 
 /* frame::firework::Firework. */
 typedef struct {
-    uint8_t tag; /* 0 Multipartner, 1 Data, 2 Address, 3 None */
+    uint8_t tag; /* 0 Multipartner, 1 Data, 2 Address */
     union {
         struct {
             uint8_t f0;
@@ -345,19 +268,15 @@ typedef struct {
     } as;
 } frame_firework_Firework;
 
-/* cluster::answer::RoundAnswer. A frame is refused, or carried out, with the mask of the slots in which
- * someone sent. */
+/* core::option::Option<frame::firework::Firework>. */
 typedef struct {
-    uint8_t tag; /* 0 Refused, 1 Carried */
+    uint8_t tag; /* 0 None, 1 Some */
     union {
         struct {
-            file_types_Refusal f0;
-        } Refused;
-        struct {
-            uint64_t f0;
-        } Carried;
+            frame_firework_Firework f0;
+        } Some;
     } as;
-} cluster_answer_RoundAnswer;
+} Option_frame_firework_Firework;
 
 /* file::readers::Pending. The pending flag and the pending operation, PB2 split into file number and
  * operation. */
@@ -377,18 +296,18 @@ typedef struct {
     uint8_t b3;
 } master_slave_types_DataBytes;
 
-/* cluster::msd::DataReading. A data frame is refused, or has these bytes. */
+/* core::result::Result<master_slave::types::DataBytes, file::types::Refusal>. */
 typedef struct {
-    uint8_t tag; /* 0 Refused, 1 Data */
+    uint8_t tag; /* 0 Ok, 1 Err */
     union {
         struct {
-            file_types_Refusal f0;
-        } Refused;
-        struct {
             master_slave_types_DataBytes f0;
-        } Data;
+        } Ok;
+        struct {
+            file_types_Refusal f0;
+        } Err;
     } as;
-} cluster_msd_DataReading;
+} Result_master_slave_types_DataBytes_file_types_Refusal;
 
 /* master_slave::pending::Duty. */
 typedef struct {
@@ -400,16 +319,6 @@ typedef struct {
     master_slave_pending_Duty duty;
     master_slave_types_RecordAddress address;
 } master_slave_pending_PendingDuty;
-
-/* file::records::RecordPlace. Where a slave keeps a record. */
-typedef struct {
-    uint8_t tag; /* 0 At, 1 NoRecord */
-    union {
-        struct {
-            uint64_t f0;
-        } At;
-    } as;
-} file_records_RecordPlace;
 
 /* multipartner::round_files::OpenEntries. Where the entries begin that a slave still has to look at, and
  * where they end, in four bytes each, for the stack. */
@@ -509,19 +418,6 @@ typedef struct {
     uint8_t tag; /* 0 One, 1 Two */
 } convert_editions_Edition;
 
-/* convert::convert::Conversion. A file is refused, or its form is written, with its length. */
-typedef struct {
-    uint8_t tag; /* 0 Refused, 1 Written */
-    union {
-        struct {
-            file_types_Refusal f0;
-        } Refused;
-        struct {
-            uint64_t f0;
-        } Written;
-    } as;
-} convert_convert_Conversion;
-
 /* cluster::answer::Unheard. What came of a frame that nobody hears: whether it was carried out, and whether
  * someone may be asleep afterwards. Neither is a value that the other tells of, as in an Option: of a
  * refused frame both are told (`take_unheard`, LeftUnheard). */
@@ -544,18 +440,18 @@ typedef struct {
     _Bool sleepers;
 } trace_run_Progress;
 
-/* trace::run::TraceAnswer. */
+/* core::result::Result<trace::report::Report, file::types::Refusal>. */
 typedef struct {
-    uint8_t tag; /* 0 Refused, 1 Ran */
+    uint8_t tag; /* 0 Ok, 1 Err */
     union {
         struct {
-            file_types_Refusal f0;
-        } Refused;
-        struct {
             trace_report_Report f0;
-        } Ran;
+        } Ok;
+        struct {
+            file_types_Refusal f0;
+        } Err;
     } as;
-} trace_run_TraceAnswer;
+} Result_trace_report_Report_file_types_Refusal;
 
 typedef struct {
     uint64_t at[5];
@@ -584,20 +480,38 @@ typedef struct {
     uint8_t b3;
 } master_slave_types_MasterSlaveRound;
 
-/* screens::turn::Turned. A turn is refused, has nobody to serve, or served a screen, with the mask of the
- * read's data frame. */
+/* screens::turn::Served. A screen that was served, and the mask of its read's data frame. */
 typedef struct {
-    uint8_t tag; /* 0 Refused, 1 Idle, 2 Served */
+    uint8_t screen;
+    uint64_t senders;
+} screens_turn_Served;
+
+/* core::option::Option<screens::turn::Served>. */
+typedef struct {
+    uint8_t tag; /* 0 None, 1 Some */
     union {
         struct {
-            file_types_Refusal f0;
-        } Refused;
-        struct {
-            uint8_t screen;
-            uint64_t senders;
-        } Served;
+            screens_turn_Served f0;
+        } Some;
     } as;
-} screens_turn_Turned;
+} Option_screens_turn_Served;
+
+/* core::result::Result<core::option::Option<screens::turn::Served>, file::types::Refusal>. */
+typedef struct {
+    uint8_t tag; /* 0 Ok, 1 Err */
+    union {
+        struct {
+            Option_screens_turn_Served f0;
+        } Ok;
+        struct {
+            file_types_Refusal f0;
+        } Err;
+    } as;
+} Result_Option_screens_turn_Served_file_types_Refusal;
+
+typedef struct {
+    uint8_t at[4];
+} array_u8_4;
 
 /* naming::position::RunPlace. The name by its index, the step of its pass, and the value so far. */
 typedef struct {
@@ -629,18 +543,18 @@ typedef struct {
     naming_position_RunHalves halves;
 } naming_position_RunPosition;
 
-/* naming::run::Started. */
+/* core::result::Result<naming::position::RunPosition, file::types::Refusal>. */
 typedef struct {
-    uint8_t tag; /* 0 Refused, 1 Fresh */
+    uint8_t tag; /* 0 Ok, 1 Err */
     union {
         struct {
-            file_types_Refusal f0;
-        } Refused;
-        struct {
             naming_position_RunPosition f0;
-        } Fresh;
+        } Ok;
+        struct {
+            file_types_Refusal f0;
+        } Err;
     } as;
-} naming_run_Started;
+} Result_naming_position_RunPosition_file_types_Refusal;
 
 typedef struct {
     uint64_t at[8];
@@ -671,30 +585,28 @@ typedef struct {
     uint8_t tag; /* 0 Heard, 1 Silence */
 } naming_advance_Reply;
 
-/* naming::run::Stepped. A step that is refused, that of an ended run, or one that made its round: the mask
- * of its data frame, and the run. */
+/* core::option::Option<naming::run::MadeStep>. */
 typedef struct {
-    uint8_t tag; /* 0 Refused, 1 Ended, 2 Made */
+    uint8_t tag; /* 0 None, 1 Some */
     union {
         struct {
-            file_types_Refusal f0;
-        } Refused;
-        struct {
-            uint64_t senders;
-            naming_position_RunPosition run;
-        } Made;
+            naming_run_MadeStep f0;
+        } Some;
     } as;
-} naming_run_Stepped;
+} Option_naming_run_MadeStep;
 
-/* frame::types::FrameWriting. */
+/* core::result::Result<core::option::Option<naming::run::MadeStep>, file::types::Refusal>. */
 typedef struct {
-    uint8_t tag; /* 0 Refused, 1 Written */
+    uint8_t tag; /* 0 Ok, 1 Err */
     union {
         struct {
+            Option_naming_run_MadeStep f0;
+        } Ok;
+        struct {
             file_types_Refusal f0;
-        } Refused;
+        } Err;
     } as;
-} frame_types_FrameWriting;
+} Result_Option_naming_run_MadeStep_file_types_Refusal;
 
 /* How many zero bits stand above the highest that is one; 64 where none is. */
 static inline uint32_t leading_zeros(uint64_t bits)
@@ -945,35 +857,57 @@ static inline _Bool file_header_wrong_header(slice_u8 file, uint64_t width)
     return file_header_wrong_pending(file.at[epoch + 1], name, file.at[epoch + 3]);
 }
 
-/* file::header::header_ground_at. The first of grounds 1 to 5 that holds, or 0. */
-static inline uint8_t file_header_header_ground_at(slice_u8 file, uint64_t width)
+/* file::header::header_ground_at<2>. Refused by the first of grounds 1 to 5 that holds, in an edition: the
+ * compiler writes the tests once for each width, with its numbers. */
+static inline Result_unit_file_types_Refusal file_header_header_ground_at_2(slice_u8 file)
 {
-    if (file_header_wrong_size(file, width)) {
-        return 1;
+    if (file_header_wrong_size(file, 2)) {
+        return (Result_unit_file_types_Refusal){.tag = 1, .as.Err.f0 = (file_types_Refusal){.tag = 0}};
     }
     if (file_header_wrong_mark(file)) {
-        return 2;
+        return (Result_unit_file_types_Refusal){.tag = 1, .as.Err.f0 = (file_types_Refusal){.tag = 1}};
     }
-    if (file_header_wrong_edition(file, width)) {
-        return 3;
+    if (file_header_wrong_edition(file, 2)) {
+        return (Result_unit_file_types_Refusal){.tag = 1, .as.Err.f0 = (file_types_Refusal){.tag = 2}};
     }
-    if (file_header_wrong_length(file, width)) {
-        return 4;
+    if (file_header_wrong_length(file, 2)) {
+        return (Result_unit_file_types_Refusal){.tag = 1, .as.Err.f0 = (file_types_Refusal){.tag = 3}};
     }
-    if (file_header_wrong_header(file, width)) {
-        return 5;
+    if (file_header_wrong_header(file, 2)) {
+        return (Result_unit_file_types_Refusal){.tag = 1, .as.Err.f0 = (file_types_Refusal){.tag = 4}};
     }
-    return 0;
+    return (Result_unit_file_types_Refusal){.tag = 0};
 }
 
-/* file::header::header_ground. The same with the width as a literal in each call: the compiler then writes
- * the tests once for each edition, with its numbers. */
-static inline uint8_t file_header_header_ground(slice_u8 file, uint64_t width)
+/* file::header::header_ground_at<4>. Refused by the first of grounds 1 to 5 that holds, in an edition: the
+ * compiler writes the tests once for each width, with its numbers. */
+static inline Result_unit_file_types_Refusal file_header_header_ground_at_4(slice_u8 file)
+{
+    if (file_header_wrong_size(file, 4)) {
+        return (Result_unit_file_types_Refusal){.tag = 1, .as.Err.f0 = (file_types_Refusal){.tag = 0}};
+    }
+    if (file_header_wrong_mark(file)) {
+        return (Result_unit_file_types_Refusal){.tag = 1, .as.Err.f0 = (file_types_Refusal){.tag = 1}};
+    }
+    if (file_header_wrong_edition(file, 4)) {
+        return (Result_unit_file_types_Refusal){.tag = 1, .as.Err.f0 = (file_types_Refusal){.tag = 2}};
+    }
+    if (file_header_wrong_length(file, 4)) {
+        return (Result_unit_file_types_Refusal){.tag = 1, .as.Err.f0 = (file_types_Refusal){.tag = 3}};
+    }
+    if (file_header_wrong_header(file, 4)) {
+        return (Result_unit_file_types_Refusal){.tag = 1, .as.Err.f0 = (file_types_Refusal){.tag = 4}};
+    }
+    return (Result_unit_file_types_Refusal){.tag = 0};
+}
+
+/* file::header::header_ground. */
+static inline Result_unit_file_types_Refusal file_header_header_ground(slice_u8 file, uint64_t width)
 {
     if (width == 2) {
-        return file_header_header_ground_at(file, 2);
+        return file_header_header_ground_at_2(file);
     }
-    return file_header_header_ground_at(file, 4);
+    return file_header_header_ground_at_4(file);
 }
 
 /* file::walk::is_filled. Whether the zeros that fill an entry up are zero: none in edition 1, two in edition
@@ -1334,37 +1268,34 @@ static inline _Bool file_names_equal_names(slice_u8 file, slice_u16 places)
 }
 
 /* file::survey::slaves_ground. Grounds 7 and 8, by the places that the directories of all slaves state. */
-static inline uint8_t file_survey_slaves_ground(slice_u8 file, uint64_t width, slice_u16 places)
+static inline Result_unit_file_types_Refusal file_survey_slaves_ground(slice_u8 file, uint64_t width,
+        slice_u16 places)
 {
     (void)width;
     uint64_t count = file_numbers_byte_at(file, 3);
     slice_u16 stated = (slice_u16){places.at, 2 * count};
     if (file_survey_is_missing(stated)) {
-        return 7;
+        return (Result_unit_file_types_Refusal){.tag = 1, .as.Err.f0 = (file_types_Refusal){.tag = 6}};
     }
     if (file_names_equal_names(file, stated)) {
-        return 8;
+        return (Result_unit_file_types_Refusal){.tag = 1, .as.Err.f0 = (file_types_Refusal){.tag = 7}};
     }
-    return 0;
+    return (Result_unit_file_types_Refusal){.tag = 0};
 }
 
 /* file::survey::survey. The answer to a file; where it is accepted, the lent array holds its places. */
-static inline file_survey_FileAnswer file_survey_survey(slice_u8 file, uint16_t *places)
+static inline Result_unit_file_types_Refusal file_survey_survey(slice_u8 file, uint16_t *places)
 {
     slice_u8 bytes = file;
     uint64_t width = file_readers_width_of(bytes);
-    uint8_t ground = file_header_header_ground(bytes, width);
-    if (ground != 0) {
-        return (file_survey_FileAnswer){.tag = 1, .as.Refused.f0 = (file_types_Refusal){.f0 = ground}};
+    Result_unit_file_types_Refusal t9 = file_header_header_ground(bytes, width);
+    if (t9.tag != 0) {
+        return (Result_unit_file_types_Refusal){.tag = 1, .as.Err.f0 = t9.as.Err.f0};
     }
     if (!file_survey_walk_body(bytes, width, (slice_mut_u16){places, 130})) {
-        return (file_survey_FileAnswer){.tag = 1, .as.Refused.f0 = (file_types_Refusal){.f0 = 6}};
+        return (Result_unit_file_types_Refusal){.tag = 1, .as.Err.f0 = (file_types_Refusal){.tag = 5}};
     }
-    uint8_t last = file_survey_slaves_ground(bytes, width, (slice_u16){places, 130});
-    if (last != 0) {
-        return (file_survey_FileAnswer){.tag = 1, .as.Refused.f0 = (file_types_Refusal){.f0 = last}};
-    }
-    return (file_survey_FileAnswer){.tag = 0};
+    return file_survey_slaves_ground(bytes, width, (slice_u16){places, 130});
 }
 
 /* file::readers::slave_count. The number of slaves. */
@@ -1422,22 +1353,37 @@ static inline _Bool file_held_is_held_twice(slice_u8 file, const uint16_t *place
 
 /* file::survey::check. The checker's call: a file from outside is accepted, or refused by the first of its
  * grounds that holds. */
-static inline file_survey_FileAnswer file_survey_check(slice_u8 file)
+static inline Result_unit_file_types_Refusal file_survey_check(slice_u8 file)
 {
     uint16_t places[130];
     memset(places, 0, sizeof places);
-    file_survey_FileAnswer surveyed = file_survey_survey(file, places);
-    switch (surveyed.tag) {
-    case 1: {
-        file_types_Refusal why = surveyed.as.Refused.f0;
-        return (file_survey_FileAnswer){.tag = 1, .as.Refused.f0 = why};
+    Result_unit_file_types_Refusal t6 = file_survey_survey(file, places);
+    if (t6.tag != 0) {
+        return (Result_unit_file_types_Refusal){.tag = 1, .as.Err.f0 = t6.as.Err.f0};
     }
+    if (file_held_is_held_twice(file, places)) {
+        return (Result_unit_file_types_Refusal){.tag = 1, .as.Err.f0 = (file_types_Refusal){.tag = 21}};
+    }
+    return (Result_unit_file_types_Refusal){.tag = 0};
+}
+
+/* file::types::Refusal::number. "A refusal returns its number". */
+static inline uint8_t file_types_Refusal_number(file_types_Refusal self)
+{
+    return (uint8_t)(self.tag + 1);
+}
+
+/* ttpa::number_in. The number that a call returns: 0 where it is done. */
+static inline uint8_t ttpa_number_in(Result_unit_file_types_Refusal done)
+{
+    switch (done.tag) {
     case 0:
-    default:
-        if (file_held_is_held_twice(file, places)) {
-            return (file_survey_FileAnswer){.tag = 1, .as.Refused.f0 = (file_types_Refusal){.f0 = 22}};
-        }
-        return (file_survey_FileAnswer){.tag = 0};
+        return 0;
+    case 1:
+    default: {
+        file_types_Refusal why = done.as.Err.f0;
+        return file_types_Refusal_number(why);
+    }
     }
 }
 
@@ -1445,20 +1391,11 @@ static inline file_survey_FileAnswer file_survey_check(slice_u8 file)
 uint8_t ttpa_check(const uint8_t *file_at, size_t file_len)
 {
     slice_u8 file = {file_at, file_len};
-    file_survey_FileAnswer answer = file_survey_check(file);
-    switch (answer.tag) {
-    case 0:
-        return 0;
-    case 1:
-    default: {
-        file_types_Refusal why = answer.as.Refused.f0;
-        return why.f0;
-    }
-    }
+    return ttpa_number_in(file_survey_check(file));
 }
 
 /* file::records::search_directory. What a directory states for a file number. */
-static inline file_records_FilePlace file_records_search_directory(slice_u8 file, uint64_t width,
+static inline Option_file_records_FileBytes file_records_search_directory(slice_u8 file, uint64_t width,
         uint64_t directory, uint64_t count, uint64_t number)
 {
     uint64_t entry_size = 2 * width;
@@ -1469,17 +1406,17 @@ static inline file_records_FilePlace file_records_search_directory(slice_u8 file
             uint64_t last = file_numbers_byte_at(file, entry + 1);
             uint64_t place = file_numbers_offset_at(file, width, entry + width);
             uint64_t size = 4 * (last + 1);
-            return (file_records_FilePlace){.tag = 0, .as.Bytes.f0 = (file_records_FileBytes){.place = place,
-                    .size = size}};
+            return (Option_file_records_FileBytes){.tag = 1, .as.Some.f0 = (file_records_FileBytes){.place =
+                    place, .size = size}};
         }
         entry = entry + entry_size;
     }
-    return (file_records_FilePlace){.tag = 1};
+    return (Option_file_records_FileBytes){.tag = 0};
 }
 
 /* file::records::find_file_at<4>. Where a slave keeps a file, or that it has none, in an edition: the
  * compiler writes the search once for each width, with its numbers, since a round asks it of every slave. */
-static inline file_records_FilePlace file_records_find_file_at_4(slice_u8 file, uint64_t slave,
+static inline Option_file_records_FileBytes file_records_find_file_at_4(slice_u8 file, uint64_t slave,
         file_types_FileNumber number)
 {
     uint64_t table = 8 + UINT64_C(4) * UINT64_C(4);
@@ -1492,7 +1429,7 @@ static inline file_records_FilePlace file_records_find_file_at_4(slice_u8 file, 
 
 /* file::records::find_file_at<2>. Where a slave keeps a file, or that it has none, in an edition: the
  * compiler writes the search once for each width, with its numbers, since a round asks it of every slave. */
-static inline file_records_FilePlace file_records_find_file_at_2(slice_u8 file, uint64_t slave,
+static inline Option_file_records_FileBytes file_records_find_file_at_2(slice_u8 file, uint64_t slave,
         file_types_FileNumber number)
 {
     uint64_t table = 8 + UINT64_C(4) * UINT64_C(2);
@@ -1504,7 +1441,7 @@ static inline file_records_FilePlace file_records_find_file_at_2(slice_u8 file, 
 }
 
 /* file::records::find_file. */
-static inline file_records_FilePlace file_records_find_file(slice_u8 file, uint64_t slave,
+static inline Option_file_records_FileBytes file_records_find_file(slice_u8 file, uint64_t slave,
         file_types_FileNumber number)
 {
     if (file.at[2] == 2) {
@@ -1543,35 +1480,57 @@ static inline void contents_read_put_front(slice_u8 file, uint64_t place, uint64
 
 /* contents::read::read_contents. A file of the slave at a place of the table: the cluster file is refused by
  * its number, with the buffer as it was, or the buffer has in front as many of the file's bytes as it has
- * room for. The cluster file is checked once and not altered. */
-static inline contents_read_ContentsAnswer contents_read_read_contents(slice_u8 file, uint64_t slave,
+ * room for, and the answer is how many bytes the file has, none where there is no such slave or file. The
+ * cluster file is checked once and not altered. */
+static inline Result_u64_file_types_Refusal contents_read_read_contents(slice_u8 file, uint64_t slave,
         file_types_FileNumber number, slice_mut_u8 buffer)
 {
     uint16_t places[130];
     memset(places, 0, sizeof places);
-    file_survey_FileAnswer surveyed = file_survey_survey(file, places);
-    switch (surveyed.tag) {
+    Result_unit_file_types_Refusal t10 = file_survey_survey(file, places);
+    if (t10.tag != 0) {
+        return (Result_u64_file_types_Refusal){.tag = 1, .as.Err.f0 = t10.as.Err.f0};
+    }
+    if (file_readers_slave_count(file) <= slave) {
+        return (Result_u64_file_types_Refusal){.tag = 0, .as.Ok.f0 = 0};
+    }
+    Option_file_records_FileBytes t14 = file_records_find_file(file, slave, number);
+    file_records_FileBytes bytes;
+    switch (t14.tag) {
+    case 1:
+        bytes = t14.as.Some.f0;
+        break;
+    case 0:
+    default:
+        return (Result_u64_file_types_Refusal){.tag = 0, .as.Ok.f0 = 0};
+    }
+    contents_read_put_front(file, bytes.place, bytes.size, buffer);
+    return (Result_u64_file_types_Refusal){.tag = 0, .as.Ok.f0 = bytes.size};
+}
+
+/* ttpa::in_word. How many bytes or names there are, as a word of the C interface. */
+static inline Result_u64_file_types_Refusal ttpa_in_word(Result_u64_file_types_Refusal count)
+{
+    if (count.tag != 0) {
+        return (Result_u64_file_types_Refusal){.tag = 1, .as.Err.f0 = count.as.Err.f0};
+    }
+    return (Result_u64_file_types_Refusal){.tag = 0, .as.Ok.f0 = count.as.Ok.f0};
+}
+
+/* ttpa::number_telling. The same of a call that has a number of its own to tell, which is put into the lent
+ * word where it is done. */
+static inline uint8_t ttpa_number_telling(Result_u64_file_types_Refusal done, uint64_t *told)
+{
+    switch (done.tag) {
     case 1: {
-        file_types_Refusal why = surveyed.as.Refused.f0;
-        return (contents_read_ContentsAnswer){.tag = 0, .as.Refused.f0 = why};
+        file_types_Refusal why = done.as.Err.f0;
+        return file_types_Refusal_number(why);
     }
     case 0:
     default: {
-        if (file_readers_slave_count(file) <= slave) {
-            return (contents_read_ContentsAnswer){.tag = 1, .as.Size.f0 = 0};
-        }
-        file_records_FilePlace found = file_records_find_file(file, slave, number);
-        file_records_FileBytes bytes;
-        switch (found.tag) {
-        case 0:
-            bytes = found.as.Bytes.f0;
-            break;
-        case 1:
-        default:
-            return (contents_read_ContentsAnswer){.tag = 1, .as.Size.f0 = 0};
-        }
-        contents_read_put_front(file, bytes.place, bytes.size, buffer);
-        return (contents_read_ContentsAnswer){.tag = 1, .as.Size.f0 = bytes.size};
+        uint64_t number = done.as.Ok.f0;
+        *told = number;
+        return 0;
     }
     }
 }
@@ -1582,20 +1541,9 @@ uint8_t ttpa_contents(const uint8_t *file_at, size_t file_len, uint64_t slave, u
 {
     slice_u8 file = {file_at, file_len};
     slice_mut_u8 buffer = {buffer_at, buffer_len};
-    contents_read_ContentsAnswer read = contents_read_read_contents(file, slave,
-            (file_types_FileNumber){.f0 = number}, buffer);
-    switch (read.tag) {
-    case 0: {
-        file_types_Refusal why = read.as.Refused.f0;
-        return why.f0;
-    }
-    case 1:
-    default: {
-        uint64_t told = read.as.Size.f0;
-        *length = told;
-        return 0;
-    }
-    }
+    Result_u64_file_types_Refusal t6 = ttpa_in_word(contents_read_read_contents(file, slave,
+            (file_types_FileNumber){.f0 = number}, buffer));
+    return ttpa_number_telling(t6, length);
 }
 
 /* file::readers::logical_names. Each slave's logical name, in the order of the slave table, put in front of
@@ -1611,27 +1559,21 @@ static inline void file_readers_logical_names(slice_u8 file, const uint16_t *pla
     }
 }
 
-/* summary::fill::fill. */
-static inline summary_fill_Filling summary_fill_fill(slice_u8 file, slice_mut_u8 held)
+/* summary::fill::fill. A file is refused, or its slaves' names are filled in, with how many there are. */
+static inline Result_u64_file_types_Refusal summary_fill_fill(slice_u8 file, slice_mut_u8 held)
 {
     uint16_t places[130];
     memset(places, 0, sizeof places);
-    file_survey_FileAnswer surveyed = file_survey_survey(file, places);
-    switch (surveyed.tag) {
-    case 1: {
-        file_types_Refusal why = surveyed.as.Refused.f0;
-        return (summary_fill_Filling){.tag = 0, .as.Refused.f0 = why};
+    Result_unit_file_types_Refusal t8 = file_survey_survey(file, places);
+    if (t8.tag != 0) {
+        return (Result_u64_file_types_Refusal){.tag = 1, .as.Err.f0 = t8.as.Err.f0};
     }
-    case 0:
-    default: {
-        uint64_t count = file_readers_slave_count(file);
-        if (held.len < count) {
-            return (summary_fill_Filling){.tag = 0, .as.Refused.f0 = (file_types_Refusal){.f0 = 24}};
-        }
-        file_readers_logical_names(file, places, held);
-        return (summary_fill_Filling){.tag = 1, .as.Filled.f0 = count};
+    uint64_t count = file_readers_slave_count(file);
+    if (held.len < count) {
+        return (Result_u64_file_types_Refusal){.tag = 1, .as.Err.f0 = (file_types_Refusal){.tag = 23}};
     }
-    }
+    file_readers_logical_names(file, places, held);
+    return (Result_u64_file_types_Refusal){.tag = 0, .as.Ok.f0 = count};
 }
 
 /* ttpa::ttpa_fill. */
@@ -1639,58 +1581,60 @@ uint8_t ttpa_fill(const uint8_t *file_at, size_t file_len, uint8_t *held_at, siz
 {
     slice_u8 file = {file_at, file_len};
     slice_mut_u8 held = {held_at, held_len};
-    summary_fill_Filling done = summary_fill_fill(file, held);
-    switch (done.tag) {
-    case 0: {
-        file_types_Refusal why = done.as.Refused.f0;
-        return why.f0;
-    }
-    case 1:
-    default: {
-        uint64_t names = done.as.Filled.f0;
-        *count = names;
-        return 0;
-    }
-    }
+    Result_u64_file_types_Refusal t4 = ttpa_in_word(summary_fill_fill(file, held));
+    return ttpa_number_telling(t4, count);
 }
 
-/* summary::holder::find_holder. */
-static inline summary_holder_Holder summary_holder_find_holder(slice_u8 held, uint64_t count,
+/* summary::holder::find_holder. The place in the slave table of the first slave that holds the name, or none
+ * where nobody does. The C interface hands in slice and count apart. */
+static inline Result_Option_u64_file_types_Refusal summary_holder_find_holder(slice_u8 held, uint64_t count,
         file_types_LogicalName name)
 {
     file_types_LogicalName place = name;
     if (held.len < count) {
-        return (summary_holder_Holder){.tag = 0, .as.Refused.f0 = (file_types_Refusal){.f0 = 24}};
+        return (Result_Option_u64_file_types_Refusal){.tag = 1, .as.Err.f0 = (file_types_Refusal){.tag = 23}};
     }
     uint64_t t5 = 0;
     while (t5 < count) {
         if (held.at[t5] == place.f0) {
-            return (summary_holder_Holder){.tag = 1, .as.At.f0 = t5};
+            return (Result_Option_u64_file_types_Refusal){.tag = 0, .as.Ok.f0 = (Option_u64){.tag = 1,
+                    .as.Some.f0 = t5}};
         }
         t5 = t5 + 1;
     }
-    return (summary_holder_Holder){.tag = 2};
+    return (Result_Option_u64_file_types_Refusal){.tag = 0, .as.Ok.f0 = (Option_u64){.tag = 0}};
 }
 
 /* ttpa::ttpa_holder. */
 uint8_t ttpa_holder(const uint8_t *held_at, size_t held_len, uint64_t count, uint8_t name, uint64_t *place)
 {
     slice_u8 held = {held_at, held_len};
-    summary_holder_Holder found = summary_holder_find_holder(held, count, file_types_LogicalName_new(name));
-    switch (found.tag) {
-    case 0: {
-        file_types_Refusal why = found.as.Refused.f0;
-        return why.f0;
-    }
+    Result_Option_u64_file_types_Refusal t8 = summary_holder_find_holder(held, count,
+            file_types_LogicalName_new(name));
+    switch (t8.tag) {
     case 1: {
-        uint64_t at = found.as.At.f0;
-        *place = at;
-        return 0;
+        file_types_Refusal why = t8.as.Err.f0;
+        return file_types_Refusal_number(why);
     }
-    case 2:
-    default:
-        *place = UINT64_C(0xFFFFFFFFFFFFFFFF);
-        return 0;
+    case 0:
+    default: {
+        Option_u64 found = t8.as.Ok.f0;
+        uint8_t t12;
+        switch (found.tag) {
+        case 1: {
+            uint64_t at = found.as.Some.f0;
+            *place = at;
+            t12 = 0;
+            break;
+        }
+        case 0:
+        default:
+            *place = UINT64_C(0xFFFFFFFFFFFFFFFF);
+            t12 = 0;
+            break;
+        }
+        return t12;
+    }
     }
 }
 
@@ -2121,7 +2065,7 @@ static inline void join_form_write_joined(slice_u8 first, const uint16_t *first_
 
 /* join::join::join_apart. Two accepted files that share no physical name: 30, or their join in the first's
  * edition. */
-static inline join_join_Joining join_join_join_apart(slice_u8 first, const uint16_t *first_places,
+static inline Result_u64_file_types_Refusal join_join_join_apart(slice_u8 first, const uint16_t *first_places,
         slice_u8 second, const uint16_t *second_places, slice_mut_u8 out)
 {
     uint64_t width = file_readers_width_of(first);
@@ -2131,61 +2075,51 @@ static inline join_join_Joining join_join_join_apart(slice_u8 first, const uint1
     uint64_t t11 = file_readers_slave_count(first);
     uint64_t count = t11 + file_readers_slave_count(second);
     if (convert_convert_is_over(width, count, size)) {
-        return (join_join_Joining){.tag = 0, .as.Refused.f0 = (file_types_Refusal){.f0 = 30}};
+        return (Result_u64_file_types_Refusal){.tag = 1, .as.Err.f0 = (file_types_Refusal){.tag = 29}};
     }
     if (out.len < size) {
-        return (join_join_Joining){.tag = 0, .as.Refused.f0 = (file_types_Refusal){.f0 = 30}};
+        return (Result_u64_file_types_Refusal){.tag = 1, .as.Err.f0 = (file_types_Refusal){.tag = 29}};
     }
     join_form_write_joined(first, first_places, second, second_places, out, alone, size);
-    return (join_join_Joining){.tag = 1, .as.Written.f0 = size};
+    return (Result_u64_file_types_Refusal){.tag = 0, .as.Ok.f0 = size};
 }
 
 /* join::join::join_both. Two accepted files: 29, or the answer to files that share no physical name. */
-static inline join_join_Joining join_join_join_both(slice_u8 first, const uint16_t *first_places,
+static inline Result_u64_file_types_Refusal join_join_join_both(slice_u8 first, const uint16_t *first_places,
         slice_u8 second, const uint16_t *second_places, slice_mut_u8 out)
 {
     if (join_names_shares_name(first, first_places, second, second_places)) {
-        return (join_join_Joining){.tag = 0, .as.Refused.f0 = (file_types_Refusal){.f0 = 29}};
+        return (Result_u64_file_types_Refusal){.tag = 1, .as.Err.f0 = (file_types_Refusal){.tag = 28}};
     }
     return join_join_join_apart(first, first_places, second, second_places, out);
 }
 
 /* join::join::join_second. The first file is accepted: the grounds of the second, or the answer to two
  * accepted files. */
-static inline join_join_Joining join_join_join_second(slice_u8 first, const uint16_t *first_places,
+static inline Result_u64_file_types_Refusal join_join_join_second(slice_u8 first, const uint16_t *first_places,
         slice_u8 second, slice_mut_u8 out)
 {
     uint16_t places[130];
     memset(places, 0, sizeof places);
-    file_survey_FileAnswer surveyed = file_survey_survey(second, places);
-    switch (surveyed.tag) {
-    case 1: {
-        file_types_Refusal why = surveyed.as.Refused.f0;
-        return (join_join_Joining){.tag = 0, .as.Refused.f0 = why};
+    Result_unit_file_types_Refusal t9 = file_survey_survey(second, places);
+    if (t9.tag != 0) {
+        return (Result_u64_file_types_Refusal){.tag = 1, .as.Err.f0 = t9.as.Err.f0};
     }
-    case 0:
-    default:
-        return join_join_join_both(first, first_places, second, places, out);
-    }
+    return join_join_join_both(first, first_places, second, places, out);
 }
 
 /* join::join::join. The two files joined, written into the buffer: refused by its number, with the buffer as
  * it was, or written, with how many bytes it has. Each file is checked once, and the files of its slaves are
  * copied once. */
-static inline join_join_Joining join_join_join(slice_u8 first, slice_u8 second, slice_mut_u8 out)
+static inline Result_u64_file_types_Refusal join_join_join(slice_u8 first, slice_u8 second, slice_mut_u8 out)
 {
     uint16_t places[130];
     memset(places, 0, sizeof places);
-    file_survey_FileAnswer surveyed = file_survey_survey(first, places);
-    switch (surveyed.tag) {
-    case 1: {
-        file_types_Refusal why = surveyed.as.Refused.f0;
-        return (join_join_Joining){.tag = 0, .as.Refused.f0 = why};
+    Result_unit_file_types_Refusal t8 = file_survey_survey(first, places);
+    if (t8.tag != 0) {
+        return (Result_u64_file_types_Refusal){.tag = 1, .as.Err.f0 = t8.as.Err.f0};
     }
-    case 0:
-    default:
-        return join_join_join_second(first, places, second, out);
-    }
+    return join_join_join_second(first, places, second, out);
 }
 
 /* ttpa::ttpa_join. Two files joined: the number, and the joined file's length in the lent word. */
@@ -2195,19 +2129,8 @@ uint8_t ttpa_join(const uint8_t *first_at, size_t first_len, const uint8_t *seco
     slice_u8 first = {first_at, first_len};
     slice_u8 second = {second_at, second_len};
     slice_mut_u8 out = {out_at, out_len};
-    join_join_Joining done = join_join_join(first, second, out);
-    switch (done.tag) {
-    case 0: {
-        file_types_Refusal why = done.as.Refused.f0;
-        return why.f0;
-    }
-    case 1:
-    default: {
-        uint64_t bytes = done.as.Written.f0;
-        *length = bytes;
-        return 0;
-    }
-    }
+    Result_u64_file_types_Refusal t5 = ttpa_in_word(join_join_join(first, second, out));
+    return ttpa_number_telling(t5, length);
 }
 
 /* owner::held::mark_rounds. The numbers below 8 of a directory's files, a bit each. A `while`: `step_by`
@@ -2278,13 +2201,13 @@ static inline multipartner_round_files_RoundFile multipartner_round_files_planne
     if (name.f0 == 255) {
         return (multipartner_round_files_RoundFile){.start = 0, .end = 0};
     }
-    file_records_FilePlace found = file_records_find_file(file, slave, round);
+    Option_file_records_FileBytes found = file_records_find_file(file, slave, round);
     file_records_FileBytes bytes;
     switch (found.tag) {
-    case 0:
-        bytes = found.as.Bytes.f0;
-        break;
     case 1:
+        bytes = found.as.Some.f0;
+        break;
+    case 0:
     default:
         return (multipartner_round_files_RoundFile){.start = 0, .end = 0};
     }
@@ -2311,13 +2234,13 @@ static inline _Bool owner_entries_is_plain_send(uint8_t operation)
 /* owner::entries::file_size. How many bytes a slave's file has, 0 where there is none. */
 static inline uint64_t owner_entries_file_size(slice_u8 file, uint64_t slave, file_types_FileNumber number)
 {
-    file_records_FilePlace found = file_records_find_file(file, slave, number);
+    Option_file_records_FileBytes found = file_records_find_file(file, slave, number);
     switch (found.tag) {
-    case 0: {
-        file_records_FileBytes bytes = found.as.Bytes.f0;
+    case 1: {
+        file_records_FileBytes bytes = found.as.Some.f0;
         return bytes.size;
     }
-    case 1:
+    case 0:
     default:
         return 0;
     }
@@ -2571,39 +2494,33 @@ static inline void owner_write_put_file(slice_mut_u8 buffer, slice_u8 head, slic
 /* owner::write::write_owner. The owner file 0x0B of a cluster file, written into the buffer: refused by its
  * number, with the buffer as it was, or written, with how many bytes it has. The file is checked once and
  * not copied. */
-static inline owner_write_OwnerAnswer owner_write_write_owner(slice_u8 file, file_types_LogicalName master,
-        slice_mut_u8 buffer)
+static inline Result_u64_file_types_Refusal owner_write_write_owner(slice_u8 file,
+        file_types_LogicalName master, slice_mut_u8 buffer)
 {
     uint16_t places[130];
     memset(places, 0, sizeof places);
-    file_survey_FileAnswer surveyed = file_survey_survey(file, places);
+    Result_unit_file_types_Refusal t12 = file_survey_survey(file, places);
+    if (t12.tag != 0) {
+        return (Result_u64_file_types_Refusal){.tag = 1, .as.Err.f0 = t12.as.Err.f0};
+    }
     uint8_t head[12];
+    memset(head, 0, sizeof head);
     uint8_t rows[512];
-    switch (surveyed.tag) {
-    case 1: {
-        file_types_Refusal why = surveyed.as.Refused.f0;
-        return (owner_write_OwnerAnswer){.tag = 0, .as.Refused.f0 = why};
+    memset(rows, 0, sizeof rows);
+    owner_rounds_Rows written = owner_rounds_write_rounds(file, places, master, (slice_mut_u8){head, 12},
+            (slice_mut_u8){rows, 512});
+    if (written.multiplexed) {
+        return (Result_u64_file_types_Refusal){.tag = 1, .as.Err.f0 = (file_types_Refusal){.tag = 22}};
     }
-    case 0:
-    default: {
-        memset(head, 0, sizeof head);
-        memset(rows, 0, sizeof rows);
-        owner_rounds_Rows written = owner_rounds_write_rounds(file, places, master, (slice_mut_u8){head, 12},
-                (slice_mut_u8){rows, 512});
-        if (written.multiplexed) {
-            return (owner_write_OwnerAnswer){.tag = 0, .as.Refused.f0 = (file_types_Refusal){.f0 = 23}};
-        }
-        if (written.clash) {
-            return (owner_write_OwnerAnswer){.tag = 0, .as.Refused.f0 = (file_types_Refusal){.f0 = 20}};
-        }
-        uint64_t end = written.length;
-        if (buffer.len < 12 + end) {
-            return (owner_write_OwnerAnswer){.tag = 0, .as.Refused.f0 = (file_types_Refusal){.f0 = 21}};
-        }
-        owner_write_put_file(buffer, (slice_u8){head, 12}, (slice_u8){rows, end});
-        return (owner_write_OwnerAnswer){.tag = 1, .as.Written.f0 = 12 + end};
+    if (written.clash) {
+        return (Result_u64_file_types_Refusal){.tag = 1, .as.Err.f0 = (file_types_Refusal){.tag = 19}};
     }
+    uint64_t end = written.length;
+    if (buffer.len < 12 + end) {
+        return (Result_u64_file_types_Refusal){.tag = 1, .as.Err.f0 = (file_types_Refusal){.tag = 20}};
     }
+    owner_write_put_file(buffer, (slice_u8){head, 12}, (slice_u8){rows, end});
+    return (Result_u64_file_types_Refusal){.tag = 0, .as.Ok.f0 = 12 + end};
 }
 
 /* ttpa::ttpa_owner. */
@@ -2612,20 +2529,9 @@ uint8_t ttpa_owner(const uint8_t *file_at, size_t file_len, uint8_t master, uint
 {
     slice_u8 file = {file_at, file_len};
     slice_mut_u8 buffer = {buffer_at, buffer_len};
-    file_types_LogicalName t8 = file_types_LogicalName_new(master);
-    owner_write_OwnerAnswer done = owner_write_write_owner(file, t8, buffer);
-    switch (done.tag) {
-    case 0: {
-        file_types_Refusal why = done.as.Refused.f0;
-        return why.f0;
-    }
-    case 1:
-    default: {
-        uint64_t written = done.as.Written.f0;
-        *length = written;
-        return 0;
-    }
-    }
+    file_types_LogicalName t7 = file_types_LogicalName_new(master);
+    Result_u64_file_types_Refusal t5 = ttpa_in_word(owner_write_write_owner(file, t7, buffer));
+    return ttpa_number_telling(t5, length);
 }
 
 /* line::pattern::row_at. A row by its number. */
@@ -2652,21 +2558,26 @@ static inline uint64_t line_pattern_row_at(uint16_t row)
 }
 
 /* line::pattern::read_pattern. */
-static inline line_pattern_PatternAnswer line_pattern_read_pattern(uint16_t pattern)
+static inline Result_line_pattern_PatternClass_file_types_Refusal line_pattern_read_pattern(uint16_t pattern)
 {
     if (511 < pattern) {
-        return (line_pattern_PatternAnswer){.tag = 0, .as.Refused.f0 = (file_types_Refusal){.f0 = 31}};
+        return (Result_line_pattern_PatternClass_file_types_Refusal){.tag = 1,
+                .as.Err.f0 = (file_types_Refusal){.tag = 30}};
     }
     uint64_t row = line_pattern_row_at((uint16_t)(pattern / 32));
     switch ((row >> (uint64_t)(uint16_t)(2 * (uint16_t)(pattern % 32))) % 4) {
     case 0:
-        return (line_pattern_PatternAnswer){.tag = 1, .as.Read.f0 = (line_pattern_PatternClass){.tag = 0}};
+        return (Result_line_pattern_PatternClass_file_types_Refusal){.tag = 0,
+                .as.Ok.f0 = (line_pattern_PatternClass){.tag = 0}};
     case 1:
-        return (line_pattern_PatternAnswer){.tag = 1, .as.Read.f0 = (line_pattern_PatternClass){.tag = 1}};
+        return (Result_line_pattern_PatternClass_file_types_Refusal){.tag = 0,
+                .as.Ok.f0 = (line_pattern_PatternClass){.tag = 1}};
     case 2:
-        return (line_pattern_PatternAnswer){.tag = 1, .as.Read.f0 = (line_pattern_PatternClass){.tag = 2}};
+        return (Result_line_pattern_PatternClass_file_types_Refusal){.tag = 0,
+                .as.Ok.f0 = (line_pattern_PatternClass){.tag = 2}};
     default:
-        return (line_pattern_PatternAnswer){.tag = 1, .as.Read.f0 = (line_pattern_PatternClass){.tag = 2}};
+        return (Result_line_pattern_PatternClass_file_types_Refusal){.tag = 0,
+                .as.Ok.f0 = (line_pattern_PatternClass){.tag = 2}};
     }
 }
 
@@ -2687,15 +2598,15 @@ static inline uint8_t ttpa_class_number(line_pattern_PatternClass class)
 /* ttpa::ttpa_pattern. */
 uint8_t ttpa_pattern(uint16_t pattern, uint8_t *kind)
 {
-    line_pattern_PatternAnswer read = line_pattern_read_pattern(pattern);
-    switch (read.tag) {
-    case 0: {
-        file_types_Refusal why = read.as.Refused.f0;
-        return why.f0;
+    Result_line_pattern_PatternClass_file_types_Refusal t5 = line_pattern_read_pattern(pattern);
+    switch (t5.tag) {
+    case 1: {
+        file_types_Refusal why = t5.as.Err.f0;
+        return file_types_Refusal_number(why);
     }
-    case 1:
+    case 0:
     default: {
-        line_pattern_PatternClass class = read.as.Read.f0;
+        line_pattern_PatternClass class = t5.as.Ok.f0;
         *kind = ttpa_class_number(class);
         return 0;
     }
@@ -2715,66 +2626,57 @@ static inline _Bool screens_state_is_waiting(const uint8_t *state, uint8_t scree
     return state[place] != 0;
 }
 
-/* screens::post::read_ground. 18 and 14 on a read that is posted or due; 0 where neither holds. */
-static inline uint8_t screens_post_read_ground(master_slave_types_RecordAddress read)
+/* screens::post::read_ground. 18 and 14 on a read that is posted or due. */
+static inline Result_unit_file_types_Refusal screens_post_read_ground(master_slave_types_RecordAddress read)
 {
     if (63 < read.number.f0) {
-        return 18;
+        return (Result_unit_file_types_Refusal){.tag = 1, .as.Err.f0 = (file_types_Refusal){.tag = 17}};
     }
     if (read.name.f0 == 0) {
-        return 14;
+        return (Result_unit_file_types_Refusal){.tag = 1, .as.Err.f0 = (file_types_Refusal){.tag = 13}};
     }
-    return 0;
+    return (Result_unit_file_types_Refusal){.tag = 0};
 }
 
 /* screens::post::post_ground. */
-static inline uint8_t screens_post_post_ground(const uint8_t *state, uint8_t screen,
+static inline Result_unit_file_types_Refusal screens_post_post_ground(const uint8_t *state, uint8_t screen,
         master_slave_types_RecordAddress read)
 {
     if (7 < screen) {
-        return 27;
+        return (Result_unit_file_types_Refusal){.tag = 1, .as.Err.f0 = (file_types_Refusal){.tag = 26}};
     }
     if (7 < state[0]) {
-        return 27;
+        return (Result_unit_file_types_Refusal){.tag = 1, .as.Err.f0 = (file_types_Refusal){.tag = 26}};
     }
     if (screens_state_is_waiting(state, screen)) {
-        return 28;
+        return (Result_unit_file_types_Refusal){.tag = 1, .as.Err.f0 = (file_types_Refusal){.tag = 27}};
     }
     return screens_post_read_ground(read);
 }
 
 /* screens::post::post. "Each may post one read: name, file, record." */
-static inline screens_post_Posted screens_post_post(uint8_t *state, uint8_t screen,
+static inline Result_unit_file_types_Refusal screens_post_post(uint8_t *state, uint8_t screen,
         master_slave_types_RecordAddress read)
 {
-    uint8_t ground = screens_post_post_ground(state, screen, read);
-    if (ground != 0) {
-        return (screens_post_Posted){.tag = 0, .as.Refused.f0 = (file_types_Refusal){.f0 = ground}};
+    Result_unit_file_types_Refusal t8 = screens_post_post_ground(state, screen, read);
+    if (t8.tag != 0) {
+        return (Result_unit_file_types_Refusal){.tag = 1, .as.Err.f0 = t8.as.Err.f0};
     }
     uint64_t place = screens_state_place_of(screen);
     state[place] = 1;
     state[place + 1] = read.name.f0;
     state[place + 2] = read.number.f0;
     state[place + 3] = read.record.f0;
-    return (screens_post_Posted){.tag = 1};
+    return (Result_unit_file_types_Refusal){.tag = 0};
 }
 
 /* ttpa::ttpa_post. */
 uint8_t ttpa_post(uint8_t state[33], uint8_t screen, uint8_t name, uint8_t file, uint8_t record)
 {
-    file_types_LogicalName t9 = file_types_LogicalName_new(name);
-    master_slave_types_RecordAddress read = (master_slave_types_RecordAddress){.name = t9,
+    file_types_LogicalName t7 = file_types_LogicalName_new(name);
+    master_slave_types_RecordAddress read = (master_slave_types_RecordAddress){.name = t7,
             .number = (file_types_FileNumber){.f0 = file}, .record = (file_types_RecordNumber){.f0 = record}};
-    screens_post_Posted posted = screens_post_post(state, screen, read);
-    switch (posted.tag) {
-    case 0: {
-        file_types_Refusal why = posted.as.Refused.f0;
-        return why.f0;
-    }
-    case 1:
-    default:
-        return 0;
-    }
+    return ttpa_number_in(screens_post_post(state, screen, read));
 }
 
 /* frame::reader::is_no_address. */
@@ -2817,55 +2719,56 @@ static inline file_types_FileNumber file_operations_file_number_of(uint8_t pb2)
 }
 
 /* frame::reader::read_address. */
-static inline frame_types_AddressReading frame_reader_read_address(slice_u8 frame)
+static inline Result_frame_types_AddressFrame_file_types_Refusal frame_reader_read_address(slice_u8 frame)
 {
     if (frame_reader_is_no_address(frame)) {
-        return (frame_types_AddressReading){.tag = 0, .as.Refused.f0 = (file_types_Refusal){.f0 = 10}};
+        return (Result_frame_types_AddressFrame_file_types_Refusal){.tag = 1,
+                .as.Err.f0 = (file_types_Refusal){.tag = 9}};
     }
     if (frame.len != 6) {
-        return (frame_types_AddressReading){.tag = 0, .as.Refused.f0 = (file_types_Refusal){.f0 = 11}};
+        return (Result_frame_types_AddressFrame_file_types_Refusal){.tag = 1,
+                .as.Err.f0 = (file_types_Refusal){.tag = 10}};
     }
     if (frame_reader_is_wrong_check(frame)) {
-        return (frame_types_AddressReading){.tag = 0, .as.Refused.f0 = (file_types_Refusal){.f0 = 12}};
+        return (Result_frame_types_AddressFrame_file_types_Refusal){.tag = 1,
+                .as.Err.f0 = (file_types_Refusal){.tag = 11}};
     }
     uint8_t pb2 = frame.at[3];
     file_types_LogicalName name = file_types_LogicalName_new(frame.at[2]);
     file_types_Operation operation = file_operations_operation_of(pb2);
     if (file_operations_is_no_operation(operation)) {
-        return (frame_types_AddressReading){.tag = 0, .as.Refused.f0 = (file_types_Refusal){.f0 = 13}};
+        return (Result_frame_types_AddressFrame_file_types_Refusal){.tag = 1,
+                .as.Err.f0 = (file_types_Refusal){.tag = 12}};
     }
     if (file_operations_is_broadcast_read(operation, name)) {
-        return (frame_types_AddressReading){.tag = 0, .as.Refused.f0 = (file_types_Refusal){.f0 = 14}};
+        return (Result_frame_types_AddressFrame_file_types_Refusal){.tag = 1,
+                .as.Err.f0 = (file_types_Refusal){.tag = 13}};
     }
     uint8_t t13 = frame.at[1];
     file_types_FileNumber t20 = file_operations_file_number_of(pb2);
-    return (frame_types_AddressReading){.tag = 1, .as.Address.epoch = t13, .as.Address.name = name,
-            .as.Address.file = t20, .as.Address.operation = operation,
-            .as.Address.record = (file_types_RecordNumber){.f0 = frame.at[4]}};
+    return (Result_frame_types_AddressFrame_file_types_Refusal){.tag = 0,
+            .as.Ok.f0 = (frame_types_AddressFrame){.epoch = t13, .name = name, .file = t20,
+            .operation = operation, .record = (file_types_RecordNumber){.f0 = frame.at[4]}}};
 }
 
 /* ttpa::ttpa_read_address. */
 uint8_t ttpa_read_address(const uint8_t *frame_at, size_t frame_len, uint8_t parts[5])
 {
     slice_u8 frame = {frame_at, frame_len};
-    frame_types_AddressReading reading = frame_reader_read_address(frame);
-    switch (reading.tag) {
-    case 0: {
-        file_types_Refusal why = reading.as.Refused.f0;
-        return why.f0;
+    Result_frame_types_AddressFrame_file_types_Refusal t5 = frame_reader_read_address(frame);
+    switch (t5.tag) {
+    case 1: {
+        file_types_Refusal why = t5.as.Err.f0;
+        return file_types_Refusal_number(why);
     }
-    case 1:
+    case 0:
     default: {
-        uint8_t epoch = reading.as.Address.epoch;
-        file_types_LogicalName name = reading.as.Address.name;
-        file_types_FileNumber file = reading.as.Address.file;
-        file_types_Operation operation = reading.as.Address.operation;
-        file_types_RecordNumber record = reading.as.Address.record;
-        parts[0] = epoch;
-        parts[1] = name.f0;
-        parts[2] = file.f0;
-        parts[3] = operation.f0;
-        parts[4] = record.f0;
+        frame_types_AddressFrame read = t5.as.Ok.f0;
+        parts[0] = read.epoch;
+        parts[1] = read.name.f0;
+        parts[2] = read.file.f0;
+        parts[3] = read.operation.f0;
+        parts[4] = read.record.f0;
         return 0;
     }
     }
@@ -2883,29 +2786,30 @@ static inline uint8_t frame_firework_high_bits(uint8_t round)
 }
 
 /* frame::firework::firework_of. */
-static inline frame_firework_Firework frame_firework_firework_of(uint8_t byte)
+static inline Option_frame_firework_Firework frame_firework_firework_of(uint8_t byte)
 {
     uint8_t round = (uint8_t)(byte % 8);
     if ((uint8_t)(byte / 8) != frame_firework_high_bits(round)) {
-        return (frame_firework_Firework){.tag = 3};
+        return (Option_frame_firework_Firework){.tag = 0};
     }
     switch (round) {
     case 1:
-        return (frame_firework_Firework){.tag = 1};
+        return (Option_frame_firework_Firework){.tag = 1, .as.Some.f0 = (frame_firework_Firework){.tag = 1}};
     case 5:
-        return (frame_firework_Firework){.tag = 2};
+        return (Option_frame_firework_Firework){.tag = 1, .as.Some.f0 = (frame_firework_Firework){.tag = 2}};
     default: {
         uint8_t round_2 = round;
-        return (frame_firework_Firework){.tag = 0, .as.Multipartner.f0 = round_2};
+        return (Option_frame_firework_Firework){.tag = 1, .as.Some.f0 = (frame_firework_Firework){.tag = 0,
+                .as.Multipartner.f0 = round_2}};
     }
     }
 }
 
 /* cluster::round::firework_in. The round that a frame opens, by its first byte. */
-static inline frame_firework_Firework cluster_round_firework_in(slice_u8 frame)
+static inline Option_frame_firework_Firework cluster_round_firework_in(slice_u8 frame)
 {
     if (frame.len == 0) {
-        return (frame_firework_Firework){.tag = 3};
+        return (Option_frame_firework_Firework){.tag = 0};
     }
     return frame_firework_firework_of(frame.at[0]);
 }
@@ -2959,25 +2863,15 @@ static inline void master_slave_pending_become_pending(slice_mut_u8 file, uint8_
 }
 
 /* cluster::msa::pend_address. An address frame, whoever hears. */
-static inline cluster_answer_RoundAnswer cluster_msa_pend_address(slice_mut_u8 file, slice_u8 frame)
+static inline Result_u64_file_types_Refusal cluster_msa_pend_address(slice_mut_u8 file, slice_u8 frame)
 {
-    frame_types_AddressReading reading = frame_reader_read_address(frame);
-    switch (reading.tag) {
-    case 0: {
-        file_types_Refusal why = reading.as.Refused.f0;
-        return (cluster_answer_RoundAnswer){.tag = 0, .as.Refused.f0 = why};
+    Result_frame_types_AddressFrame_file_types_Refusal t7 = frame_reader_read_address(frame);
+    if (t7.tag != 0) {
+        return (Result_u64_file_types_Refusal){.tag = 1, .as.Err.f0 = t7.as.Err.f0};
     }
-    case 1:
-    default: {
-        uint8_t epoch = reading.as.Address.epoch;
-        file_types_LogicalName name = reading.as.Address.name;
-        file_types_FileNumber number = reading.as.Address.file;
-        file_types_Operation operation = reading.as.Address.operation;
-        file_types_RecordNumber record = reading.as.Address.record;
-        master_slave_pending_become_pending(file, epoch, name, number, operation, record);
-        return (cluster_answer_RoundAnswer){.tag = 1, .as.Carried.f0 = 0};
-    }
-    }
+    frame_types_AddressFrame read = t7.as.Ok.f0;
+    master_slave_pending_become_pending(file, read.epoch, read.name, read.file, read.operation, read.record);
+    return (Result_u64_file_types_Refusal){.tag = 0, .as.Ok.f0 = 0};
 }
 
 /* master_slave::slots::silence. The buffer of a round in which nobody sends. */
@@ -2992,22 +2886,16 @@ static inline void master_slave_slots_silence(slice_mut_u8 buffer, uint8_t firew
 }
 
 /* cluster::msa::take_address. The same with its buffer. */
-static inline cluster_answer_RoundAnswer cluster_msa_take_address(slice_mut_u8 file, slice_u8 frame,
+static inline Result_u64_file_types_Refusal cluster_msa_take_address(slice_mut_u8 file, slice_u8 frame,
         slice_mut_u8 buffer)
 {
-    cluster_answer_RoundAnswer answer = cluster_msa_pend_address(file, frame);
-    switch (answer.tag) {
-    case 0: {
-        file_types_Refusal why = answer.as.Refused.f0;
-        return (cluster_answer_RoundAnswer){.tag = 0, .as.Refused.f0 = why};
+    Result_u64_file_types_Refusal t8 = cluster_msa_pend_address(file, frame);
+    if (t8.tag != 0) {
+        return (Result_u64_file_types_Refusal){.tag = 1, .as.Err.f0 = t8.as.Err.f0};
     }
-    case 1:
-    default: {
-        uint64_t mask = answer.as.Carried.f0;
-        master_slave_slots_silence(buffer, 85);
-        return (cluster_answer_RoundAnswer){.tag = 1, .as.Carried.f0 = mask};
-    }
-    }
+    uint64_t mask = t8.as.Ok.f0;
+    master_slave_slots_silence(buffer, 85);
+    return (Result_u64_file_types_Refusal){.tag = 0, .as.Ok.f0 = mask};
 }
 
 /* file::readers::read_pending. */
@@ -3044,18 +2932,21 @@ static inline uint8_t frame_check_data_check(uint8_t b0, uint8_t b1, uint8_t b2,
     return frame_check_check_of(73, t5);
 }
 
-/* cluster::msd::read_data. */
-static inline cluster_msd_DataReading cluster_msd_read_data(slice_u8 file, slice_u8 frame)
+/* cluster::msd::read_data. A data frame is refused, or has these bytes. */
+static inline Result_master_slave_types_DataBytes_file_types_Refusal cluster_msd_read_data(slice_u8 file,
+        slice_u8 frame)
 {
     if (!cluster_msd_is_write_pending(file)) {
         if (frame.len != 1) {
-            return (cluster_msd_DataReading){.tag = 0, .as.Refused.f0 = (file_types_Refusal){.f0 = 11}};
+            return (Result_master_slave_types_DataBytes_file_types_Refusal){.tag = 1,
+                    .as.Err.f0 = (file_types_Refusal){.tag = 10}};
         }
-        return (cluster_msd_DataReading){.tag = 1, .as.Data.f0 = (master_slave_types_DataBytes){.b0 = 0,
-                .b1 = 0, .b2 = 0, .b3 = 0}};
+        return (Result_master_slave_types_DataBytes_file_types_Refusal){.tag = 0,
+                .as.Ok.f0 = (master_slave_types_DataBytes){.b0 = 0, .b1 = 0, .b2 = 0, .b3 = 0}};
     }
     if (frame.len != 6) {
-        return (cluster_msd_DataReading){.tag = 0, .as.Refused.f0 = (file_types_Refusal){.f0 = 11}};
+        return (Result_master_slave_types_DataBytes_file_types_Refusal){.tag = 1,
+                .as.Err.f0 = (file_types_Refusal){.tag = 10}};
     }
     uint8_t b0 = frame.at[1];
     uint8_t b1 = frame.at[2];
@@ -3063,10 +2954,11 @@ static inline cluster_msd_DataReading cluster_msd_read_data(slice_u8 file, slice
     uint8_t b3 = frame.at[4];
     uint8_t t16 = frame.at[5];
     if (t16 != frame_check_data_check(b0, b1, b2, b3)) {
-        return (cluster_msd_DataReading){.tag = 0, .as.Refused.f0 = (file_types_Refusal){.f0 = 12}};
+        return (Result_master_slave_types_DataBytes_file_types_Refusal){.tag = 1,
+                .as.Err.f0 = (file_types_Refusal){.tag = 11}};
     }
-    return (cluster_msd_DataReading){.tag = 1, .as.Data.f0 = (master_slave_types_DataBytes){.b0 = b0, .b1 = b1,
-            .b2 = b2, .b3 = b3}};
+    return (Result_master_slave_types_DataBytes_file_types_Refusal){.tag = 0,
+            .as.Ok.f0 = (master_slave_types_DataBytes){.b0 = b0, .b1 = b1, .b2 = b2, .b3 = b3}};
 }
 
 /* master_slave::pending::execution_of. "Execute 0x08 record 2", "Record 1", "an execute of record 4 of
@@ -3184,38 +3076,30 @@ static inline _Bool file_records_is_documented(file_types_FileNumber number, fil
 }
 
 /* file::records::find_record. Where a slave keeps a record of a file, or that it has none. */
-static inline file_records_RecordPlace file_records_find_record(slice_u8 file, uint64_t slave,
-        file_types_FileNumber number, file_types_RecordNumber record)
+static inline Option_u64 file_records_find_record(slice_u8 file, uint64_t slave, file_types_FileNumber number,
+        file_types_RecordNumber record)
 {
-    file_records_FilePlace found = file_records_find_file(file, slave, number);
-    file_records_FileBytes bytes;
-    switch (found.tag) {
-    case 0:
-        bytes = found.as.Bytes.f0;
-        break;
-    case 1:
-    default:
-        return (file_records_RecordPlace){.tag = 1};
+    Option_file_records_FileBytes t10 = file_records_find_file(file, slave, number);
+    if (t10.tag != 1) {
+        return (Option_u64){.tag = 0};
     }
-    uint64_t place = bytes.place;
-    uint64_t size = bytes.size;
+    file_records_FileBytes bytes = t10.as.Some.f0;
     uint64_t start = 4 * (uint64_t)record.f0;
-    if (size < start + 4) {
-        return (file_records_RecordPlace){.tag = 1};
+    if (bytes.size < start + 4) {
+        return (Option_u64){.tag = 0};
     }
-    return (file_records_RecordPlace){.tag = 0, .as.At.f0 = place + start};
+    return (Option_u64){.tag = 1, .as.Some.f0 = bytes.place + start};
 }
 
 /* file::records::place_of_record. The same, for a write or a read in a round: the records of 0x08 that every
  * slave has need no search. */
-static inline file_records_RecordPlace file_records_place_of_record(slice_u8 file, const uint16_t *places,
-        uint64_t slave, file_types_FileNumber number, file_types_RecordNumber record)
+static inline Option_u64 file_records_place_of_record(slice_u8 file, const uint16_t *places, uint64_t slave,
+        file_types_FileNumber number, file_types_RecordNumber record)
 {
     file_types_FileNumber place = number;
     if (place.f0 == 8) {
         if (record.f0 <= 3) {
-            return (file_records_RecordPlace){.tag = 0, .as.At.f0 = (uint64_t)places[2 * slave] + 4 *
-                    (uint64_t)record.f0};
+            return (Option_u64){.tag = 1, .as.Some.f0 = (uint64_t)places[2 * slave] + 4 * (uint64_t)record.f0};
         }
     }
     return file_records_find_record(file, slave, place, record);
@@ -3223,12 +3107,12 @@ static inline file_records_RecordPlace file_records_place_of_record(slice_u8 fil
 
 /* file::records::read_place. The same for a read alone: the records of 0x3D that every slave has need none
  * either. */
-static inline file_records_RecordPlace file_records_read_place(slice_u8 file, const uint16_t *places,
-        uint64_t slave, file_types_FileNumber number, file_types_RecordNumber record)
+static inline Option_u64 file_records_read_place(slice_u8 file, const uint16_t *places, uint64_t slave,
+        file_types_FileNumber number, file_types_RecordNumber record)
 {
     if (file_records_is_documented(number, record)) {
         uint64_t place = (uint64_t)places[2 * slave + 1];
-        return (file_records_RecordPlace){.tag = 0, .as.At.f0 = place + 4 * (uint64_t)record.f0};
+        return (Option_u64){.tag = 1, .as.Some.f0 = place + 4 * (uint64_t)record.f0};
     }
     return file_records_place_of_record(file, places, slave, number, record);
 }
@@ -3261,14 +3145,13 @@ static inline uint64_t master_slave_slaves_read_slave(slice_u8 file, const uint1
     if (!master_slave_slaves_is_read(address.name, own)) {
         return last;
     }
-    file_records_RecordPlace found = file_records_read_place(file, places, slave, address.number,
-            address.record);
+    Option_u64 found = file_records_read_place(file, places, slave, address.number, address.record);
     uint64_t place;
     switch (found.tag) {
-    case 0:
-        place = found.as.At.f0;
-        break;
     case 1:
+        place = found.as.Some.f0;
+        break;
+    case 0:
     default:
         return last;
     }
@@ -3384,14 +3267,14 @@ static inline void master_slave_slaves_write_slave(slice_mut_u8 file, const uint
     if (!master_slave_slaves_is_addressed(address.name, own)) {
         return;
     }
-    file_records_RecordPlace found = file_records_place_of_record(lend_u8(file), places, slave, address.number,
+    Option_u64 found = file_records_place_of_record(lend_u8(file), places, slave, address.number,
             address.record);
     uint64_t place;
     switch (found.tag) {
-    case 0:
-        place = found.as.At.f0;
-        break;
     case 1:
+        place = found.as.Some.f0;
+        break;
+    case 0:
     default:
         return;
     }
@@ -3574,15 +3457,9 @@ static inline _Bool master_slave_slaves_falls_asleep(slice_u8 file, const uint16
     if (!master_slave_slaves_is_addressed(name, own)) {
         return 0;
     }
-    file_records_RecordPlace found = file_records_find_record(file, slave, (file_types_FileNumber){.f0 = 8},
+    Option_u64 found = file_records_find_record(file, slave, (file_types_FileNumber){.f0 = 8},
             (file_types_RecordNumber){.f0 = 4});
-    switch (found.tag) {
-    case 0:
-        return 1;
-    case 1:
-    default:
-        return 0;
-    }
+    return found.tag == 1;
 }
 
 /* file::writers::set_sleep. A slave's sleep byte: 0 awake, 1 asleep. */
@@ -3654,22 +3531,16 @@ static inline uint64_t master_slave_master_slave_carry_data(slice_mut_u8 file, c
 }
 
 /* cluster::msd::take_data. A data frame: the pending operation is carried out. */
-static inline cluster_answer_RoundAnswer cluster_msd_take_data(slice_mut_u8 file, const uint16_t *places,
+static inline Result_u64_file_types_Refusal cluster_msd_take_data(slice_mut_u8 file, const uint16_t *places,
         slice_u8 frame, slice_mut_u8 buffer)
 {
-    cluster_msd_DataReading reading = cluster_msd_read_data(lend_u8(file), frame);
-    switch (reading.tag) {
-    case 0: {
-        file_types_Refusal why = reading.as.Refused.f0;
-        return (cluster_answer_RoundAnswer){.tag = 0, .as.Refused.f0 = why};
+    Result_master_slave_types_DataBytes_file_types_Refusal t9 = cluster_msd_read_data(lend_u8(file), frame);
+    if (t9.tag != 0) {
+        return (Result_u64_file_types_Refusal){.tag = 1, .as.Err.f0 = t9.as.Err.f0};
     }
-    case 1:
-    default: {
-        master_slave_types_DataBytes bytes = reading.as.Data.f0;
-        uint64_t mask = master_slave_master_slave_carry_data(file, places, bytes, buffer);
-        return (cluster_answer_RoundAnswer){.tag = 1, .as.Carried.f0 = mask};
-    }
-    }
+    master_slave_types_DataBytes bytes = t9.as.Ok.f0;
+    return (Result_u64_file_types_Refusal){.tag = 0, .as.Ok.f0 = master_slave_master_slave_carry_data(file,
+            places, bytes, buffer)};
 }
 
 /* multipartner::round_files::round_file. Those that it runs. */
@@ -3811,17 +3682,16 @@ static inline multipartner_entry_Entry multipartner_entry_entry_at(slice_u8 file
 static inline file_records_FileBytes multipartner_kept_files_bytes_of(slice_u8 file, uint64_t slave,
         file_types_FileNumber number)
 {
-    file_records_FilePlace found = file_records_find_file(file, slave, number);
-    file_records_FileBytes bytes;
-    switch (found.tag) {
+    Option_file_records_FileBytes t5 = file_records_find_file(file, slave, number);
+    switch (t5.tag) {
+    case 1: {
+        file_records_FileBytes bytes = t5.as.Some.f0;
+        return bytes;
+    }
     case 0:
-        bytes = found.as.Bytes.f0;
-        break;
-    case 1:
     default:
         return (file_records_FileBytes){.place = 0, .size = 0};
     }
-    return bytes;
 }
 
 /* multipartner::kept_files::keep_file. Neighbouring entries often name one file: of each slave the file
@@ -4110,13 +3980,20 @@ static inline uint64_t multipartner_multipartner_carry_multipartner(slice_mut_u8
 
 /* cluster::round::one_frame. One frame of any bytes on a file that is known to be accepted, with the places
  * that its survey handed back. */
-static inline cluster_answer_RoundAnswer cluster_round_one_frame(slice_mut_u8 file, const uint16_t *places,
+static inline Result_u64_file_types_Refusal cluster_round_one_frame(slice_mut_u8 file, const uint16_t *places,
         slice_u8 frame, slice_mut_u8 buffer)
 {
-    frame_firework_Firework firework = cluster_round_firework_in(frame);
+    Option_frame_firework_Firework t7 = cluster_round_firework_in(frame);
+    frame_firework_Firework firework;
+    switch (t7.tag) {
+    case 1:
+        firework = t7.as.Some.f0;
+        break;
+    case 0:
+    default:
+        return (Result_u64_file_types_Refusal){.tag = 1, .as.Err.f0 = (file_types_Refusal){.tag = 9}};
+    }
     switch (firework.tag) {
-    case 3:
-        return (cluster_answer_RoundAnswer){.tag = 0, .as.Refused.f0 = (file_types_Refusal){.f0 = 10}};
     case 2:
         return cluster_msa_take_address(file, frame, buffer);
     case 1:
@@ -4125,51 +4002,29 @@ static inline cluster_answer_RoundAnswer cluster_round_one_frame(slice_mut_u8 fi
     default: {
         uint8_t round = firework.as.Multipartner.f0;
         if (frame.len != 1) {
-            return (cluster_answer_RoundAnswer){.tag = 0, .as.Refused.f0 = (file_types_Refusal){.f0 = 11}};
+            return (Result_u64_file_types_Refusal){.tag = 1, .as.Err.f0 = (file_types_Refusal){.tag = 10}};
         }
-        uint64_t mask = multipartner_multipartner_carry_multipartner(file, places, round, frame.at[0], buffer);
-        return (cluster_answer_RoundAnswer){.tag = 1, .as.Carried.f0 = mask};
+        return (Result_u64_file_types_Refusal){.tag = 0, .as.Ok.f0 =
+                multipartner_multipartner_carry_multipartner(file, places, round, frame.at[0], buffer)};
     }
     }
 }
 
 /* cluster::round::round. One frame on a file: refused by its number, with nothing altered, or carried out,
  * with the mask of the slots in which someone sent. */
-static inline cluster_answer_RoundAnswer cluster_round_round(slice_mut_u8 file, slice_u8 frame,
+static inline Result_u64_file_types_Refusal cluster_round_round(slice_mut_u8 file, slice_u8 frame,
         slice_mut_u8 buffer)
 {
     uint16_t places[130];
     memset(places, 0, sizeof places);
-    file_survey_FileAnswer surveyed = file_survey_survey(lend_u8(file), places);
-    switch (surveyed.tag) {
-    case 1: {
-        file_types_Refusal why = surveyed.as.Refused.f0;
-        return (cluster_answer_RoundAnswer){.tag = 0, .as.Refused.f0 = why};
+    Result_unit_file_types_Refusal t8 = file_survey_survey(lend_u8(file), places);
+    if (t8.tag != 0) {
+        return (Result_u64_file_types_Refusal){.tag = 1, .as.Err.f0 = t8.as.Err.f0};
     }
-    case 0:
-    default:
-        if (buffer.len < 64) {
-            return (cluster_answer_RoundAnswer){.tag = 0, .as.Refused.f0 = (file_types_Refusal){.f0 = 9}};
-        }
-        return cluster_round_one_frame(file, places, frame, buffer);
+    if (buffer.len < 64) {
+        return (Result_u64_file_types_Refusal){.tag = 1, .as.Err.f0 = (file_types_Refusal){.tag = 8}};
     }
-}
-
-/* ttpa::round_number. A round's number; its senders are put into the lent word where it is carried out. */
-static inline uint8_t ttpa_round_number(cluster_answer_RoundAnswer done, uint64_t *senders)
-{
-    switch (done.tag) {
-    case 0: {
-        file_types_Refusal why = done.as.Refused.f0;
-        return why.f0;
-    }
-    case 1:
-    default: {
-        uint64_t mask = done.as.Carried.f0;
-        *senders = mask;
-        return 0;
-    }
-    }
+    return cluster_round_one_frame(file, places, frame, buffer);
 }
 
 /* ttpa::ttpa_round. */
@@ -4179,8 +4034,8 @@ uint8_t ttpa_round(uint8_t *file_at, size_t file_len, const uint8_t *frame_at, s
     slice_mut_u8 file = {file_at, file_len};
     slice_u8 frame = {frame_at, frame_len};
     slice_mut_u8 answer = {answer_at, answer_len};
-    cluster_answer_RoundAnswer done = cluster_round_round(file, frame, answer);
-    return ttpa_round_number(done, senders);
+    Result_u64_file_types_Refusal t5 = cluster_round_round(file, frame, answer);
+    return ttpa_number_telling(t5, senders);
 }
 
 /* summary::matching::is_wrong. Whether the count is not that of the file's slaves, or the slice does not
@@ -4208,47 +4063,36 @@ static inline _Bool summary_matching_is_wrong(slice_u8 file, const uint16_t *pla
 
 /* summary::round::carry_keeping. One frame on a file that is known to be accepted; where it is carried out,
  * the names that the file then holds are put into the slice. */
-static inline cluster_answer_RoundAnswer summary_round_carry_keeping(slice_mut_u8 file, const uint16_t *places,
-        slice_u8 frame, slice_mut_u8 buffer, slice_mut_u8 held)
+static inline Result_u64_file_types_Refusal summary_round_carry_keeping(slice_mut_u8 file,
+        const uint16_t *places, slice_u8 frame, slice_mut_u8 buffer, slice_mut_u8 held)
 {
-    cluster_answer_RoundAnswer answer = cluster_round_one_frame(file, places, frame, buffer);
-    switch (answer.tag) {
-    case 0: {
-        file_types_Refusal why = answer.as.Refused.f0;
-        return (cluster_answer_RoundAnswer){.tag = 0, .as.Refused.f0 = why};
+    Result_u64_file_types_Refusal t10 = cluster_round_one_frame(file, places, frame, buffer);
+    if (t10.tag != 0) {
+        return (Result_u64_file_types_Refusal){.tag = 1, .as.Err.f0 = t10.as.Err.f0};
     }
-    case 1:
-    default: {
-        uint64_t mask = answer.as.Carried.f0;
-        file_readers_logical_names(lend_u8(file), places, held);
-        return (cluster_answer_RoundAnswer){.tag = 1, .as.Carried.f0 = mask};
-    }
-    }
+    uint64_t mask = t10.as.Ok.f0;
+    file_readers_logical_names(lend_u8(file), places, held);
+    return (Result_u64_file_types_Refusal){.tag = 0, .as.Ok.f0 = mask};
 }
 
 /* summary::round::round_keeping. One frame on a file with its summary: refused by its number, with nothing
  * altered, or carried out, with the mask of the slots in which someone sent. The file is checked once. */
-static inline cluster_answer_RoundAnswer summary_round_round_keeping(slice_mut_u8 file, slice_u8 frame,
+static inline Result_u64_file_types_Refusal summary_round_round_keeping(slice_mut_u8 file, slice_u8 frame,
         slice_mut_u8 buffer, slice_mut_u8 held, uint64_t count)
 {
     uint16_t places[130];
     memset(places, 0, sizeof places);
-    file_survey_FileAnswer surveyed = file_survey_survey(lend_u8(file), places);
-    switch (surveyed.tag) {
-    case 1: {
-        file_types_Refusal why = surveyed.as.Refused.f0;
-        return (cluster_answer_RoundAnswer){.tag = 0, .as.Refused.f0 = why};
+    Result_unit_file_types_Refusal t10 = file_survey_survey(lend_u8(file), places);
+    if (t10.tag != 0) {
+        return (Result_u64_file_types_Refusal){.tag = 1, .as.Err.f0 = t10.as.Err.f0};
     }
-    case 0:
-    default:
-        if (summary_matching_is_wrong(lend_u8(file), places, lend_u8(held), count)) {
-            return (cluster_answer_RoundAnswer){.tag = 0, .as.Refused.f0 = (file_types_Refusal){.f0 = 24}};
-        }
-        if (buffer.len < 64) {
-            return (cluster_answer_RoundAnswer){.tag = 0, .as.Refused.f0 = (file_types_Refusal){.f0 = 9}};
-        }
-        return summary_round_carry_keeping(file, places, frame, buffer, held);
+    if (summary_matching_is_wrong(lend_u8(file), places, lend_u8(held), count)) {
+        return (Result_u64_file_types_Refusal){.tag = 1, .as.Err.f0 = (file_types_Refusal){.tag = 23}};
     }
+    if (buffer.len < 64) {
+        return (Result_u64_file_types_Refusal){.tag = 1, .as.Err.f0 = (file_types_Refusal){.tag = 8}};
+    }
+    return summary_round_carry_keeping(file, places, frame, buffer, held);
 }
 
 /* ttpa::ttpa_round_keeping. */
@@ -4260,8 +4104,8 @@ uint8_t ttpa_round_keeping(uint8_t *file_at, size_t file_len, const uint8_t *fra
     slice_u8 frame = {frame_at, frame_len};
     slice_mut_u8 answer = {answer_at, answer_len};
     slice_mut_u8 held = {held_at, held_len};
-    cluster_answer_RoundAnswer done = summary_round_round_keeping(file, frame, answer, held, count);
-    return ttpa_round_number(done, senders);
+    Result_u64_file_types_Refusal t7 = summary_round_round_keeping(file, frame, answer, held, count);
+    return ttpa_number_telling(t7, senders);
 }
 
 /* screens::state::fresh_state. "from screen 0 at the start": the one last served is the last. */
@@ -4331,50 +4175,33 @@ static inline void convert_convert_put_file(slice_mut_u8 out, uint64_t width, ui
 /* convert::convert::convert. The file's form in an edition, written into the buffer: refused by its number,
  * with the buffer as it was, or written, with how many bytes it has. The file is checked once, and each byte
  * is written once. */
-static inline convert_convert_Conversion convert_convert_convert(slice_u8 file,
+static inline Result_u64_file_types_Refusal convert_convert_convert(slice_u8 file,
         convert_editions_Edition edition, slice_mut_u8 out)
 {
     uint16_t places[130];
     memset(places, 0, sizeof places);
-    file_survey_FileAnswer surveyed = file_survey_survey(file, places);
-    switch (surveyed.tag) {
-    case 1: {
-        file_types_Refusal why = surveyed.as.Refused.f0;
-        return (convert_convert_Conversion){.tag = 0, .as.Refused.f0 = why};
+    Result_unit_file_types_Refusal t10 = file_survey_survey(file, places);
+    if (t10.tag != 0) {
+        return (Result_u64_file_types_Refusal){.tag = 1, .as.Err.f0 = t10.as.Err.f0};
     }
-    case 0:
-    default: {
-        uint64_t width = convert_editions_width_in(edition);
-        uint64_t size = convert_sizes_length_in(file, width);
-        if (convert_convert_is_over(width, file_readers_slave_count(file), size)) {
-            return (convert_convert_Conversion){.tag = 0, .as.Refused.f0 = (file_types_Refusal){.f0 = 25}};
-        }
-        if (out.len < size) {
-            return (convert_convert_Conversion){.tag = 0, .as.Refused.f0 = (file_types_Refusal){.f0 = 26}};
-        }
-        convert_convert_put_file(out, width, size, file);
-        return (convert_convert_Conversion){.tag = 1, .as.Written.f0 = size};
+    uint64_t width = convert_editions_width_in(edition);
+    uint64_t size = convert_sizes_length_in(file, width);
+    if (convert_convert_is_over(width, file_readers_slave_count(file), size)) {
+        return (Result_u64_file_types_Refusal){.tag = 1, .as.Err.f0 = (file_types_Refusal){.tag = 24}};
     }
+    if (out.len < size) {
+        return (Result_u64_file_types_Refusal){.tag = 1, .as.Err.f0 = (file_types_Refusal){.tag = 25}};
     }
+    convert_convert_put_file(out, width, size, file);
+    return (Result_u64_file_types_Refusal){.tag = 0, .as.Ok.f0 = size};
 }
 
 /* ttpa::to_edition. A file's form in an edition: the number, and the form's length in the lent word. */
 static inline uint8_t ttpa_to_edition(slice_u8 file, convert_editions_Edition edition, slice_mut_u8 out,
         uint64_t *length)
 {
-    convert_convert_Conversion done = convert_convert_convert(file, edition, out);
-    switch (done.tag) {
-    case 0: {
-        file_types_Refusal why = done.as.Refused.f0;
-        return why.f0;
-    }
-    case 1:
-    default: {
-        uint64_t size = done.as.Written.f0;
-        *length = size;
-        return 0;
-    }
-    }
+    Result_u64_file_types_Refusal t5 = ttpa_in_word(convert_convert_convert(file, edition, out));
+    return ttpa_number_telling(t5, length);
 }
 
 /* ttpa::ttpa_to_edition_1. */
@@ -4432,15 +4259,9 @@ static inline _Bool trace_layout_is_broken(slice_u8 trace)
 }
 
 /* cluster::answer::is_carried. Whether a frame was carried out. */
-static inline _Bool cluster_answer_is_carried(cluster_answer_RoundAnswer answer)
+static inline _Bool cluster_answer_is_carried(Result_u64_file_types_Refusal answer)
 {
-    switch (answer.tag) {
-    case 0:
-        return 0;
-    case 1:
-    default:
-        return 1;
-    }
+    return answer.tag == 0;
 }
 
 /* master_slave::sleep::leaves_slaves. Whether a duty leaves slaves that are awake as they are: they send, or
@@ -4482,13 +4303,14 @@ static inline _Bool cluster_msd_carry_unheard(slice_mut_u8 file, const uint16_t 
 static inline cluster_answer_Unheard cluster_msd_take_unheard(slice_mut_u8 file, const uint16_t *places,
         slice_u8 frame, slice_mut_u8 buffer, _Bool sleepers)
 {
-    cluster_msd_DataReading reading = cluster_msd_read_data(lend_u8(file), frame);
+    Result_master_slave_types_DataBytes_file_types_Refusal reading = cluster_msd_read_data(lend_u8(file),
+            frame);
     switch (reading.tag) {
-    case 0:
-        return (cluster_answer_Unheard){.carried = 0, .sleepers = sleepers};
     case 1:
+        return (cluster_answer_Unheard){.carried = 0, .sleepers = sleepers};
+    case 0:
     default: {
-        master_slave_types_DataBytes bytes = reading.as.Data.f0;
+        master_slave_types_DataBytes bytes = reading.as.Ok.f0;
         _Bool asleep = cluster_msd_carry_unheard(file, places, bytes, buffer, sleepers);
         return (cluster_answer_Unheard){.carried = 1, .sleepers = asleep};
     }
@@ -4499,20 +4321,27 @@ static inline cluster_answer_Unheard cluster_msd_take_unheard(slice_mut_u8 file,
  * someone may be asleep before it, and afterwards. Each of its four arms calls another function than that of
  * `one_frame` or answers otherwise: the two differ in more than a type or a constant. */
 static inline cluster_answer_Unheard cluster_round_one_unheard(slice_mut_u8 file, const uint16_t *places,
-        frame_firework_Firework firework, slice_u8 frame, slice_mut_u8 buffer, _Bool sleepers)
+        Option_frame_firework_Firework firework, slice_u8 frame, slice_mut_u8 buffer, _Bool sleepers)
 {
+    frame_firework_Firework opened;
     switch (firework.tag) {
-    case 3:
+    case 1:
+        opened = firework.as.Some.f0;
+        break;
+    case 0:
+    default:
         return (cluster_answer_Unheard){.carried = 0, .sleepers = sleepers};
+    }
+    switch (opened.tag) {
     case 2: {
-        cluster_answer_RoundAnswer answer = cluster_msa_pend_address(file, frame);
+        Result_u64_file_types_Refusal answer = cluster_msa_pend_address(file, frame);
         return (cluster_answer_Unheard){.carried = cluster_answer_is_carried(answer), .sleepers = sleepers};
     }
     case 1:
         return cluster_msd_take_unheard(file, places, frame, buffer, sleepers);
     case 0:
     default: {
-        uint8_t round = firework.as.Multipartner.f0;
+        uint8_t round = opened.as.Multipartner.f0;
         if (frame.len != 1) {
             return (cluster_answer_Unheard){.carried = 0, .sleepers = sleepers};
         }
@@ -4531,11 +4360,18 @@ static inline trace_report_Report trace_report_one_refused(trace_report_Report r
 
 /* trace::report::one_carried. A frame that was carried out, by its firework. None without one is. */
 static inline trace_report_Report trace_report_one_carried(trace_report_Report report,
-        frame_firework_Firework firework)
+        Option_frame_firework_Firework firework)
 {
+    frame_firework_Firework opened;
     switch (firework.tag) {
-    case 3:
+    case 1:
+        opened = firework.as.Some.f0;
+        break;
+    case 0:
+    default:
         return trace_report_one_refused(report);
+    }
+    switch (opened.tag) {
     case 2:
         return (trace_report_Report){.msa = report.msa + 1, .msd = report.msd,
                 .multipartner = report.multipartner, .refused = report.refused};
@@ -4552,7 +4388,7 @@ static inline trace_report_Report trace_report_one_carried(trace_report_Report r
 /* trace::report::counted. One frame more: "a refused frame counting as refused only". Two arguments and no
  * Option: a refused frame has its firework too, and an Option would be made of the two at the one call. */
 static inline trace_report_Report trace_report_counted(trace_report_Report report, _Bool carried,
-        frame_firework_Firework firework)
+        Option_frame_firework_Firework firework)
 {
     if (!carried) {
         return trace_report_one_refused(report);
@@ -4565,7 +4401,7 @@ static inline trace_report_Report trace_report_counted(trace_report_Report repor
 static inline trace_run_Progress trace_run_run_frame(slice_mut_u8 file, const uint16_t *places, slice_u8 frame,
         uint8_t *buffer, trace_run_Progress before)
 {
-    frame_firework_Firework firework = cluster_round_firework_in(frame);
+    Option_frame_firework_Firework firework = cluster_round_firework_in(frame);
     cluster_answer_Unheard sent = cluster_round_one_unheard(file, places, firework, frame,
             (slice_mut_u8){buffer, 64}, before.sleepers);
     trace_report_Report report = trace_report_counted(before.report, sent.carried, firework);
@@ -4599,25 +4435,21 @@ static inline trace_report_Report trace_run_run_frames(slice_mut_u8 file, const 
 
 /* trace::run::run_trace. A trace on a file: refused by its number, with the file as it was, or run, with the
  * report. The file is checked once. */
-static inline trace_run_TraceAnswer trace_run_run_trace(slice_mut_u8 file, slice_u8 trace)
+static inline Result_trace_report_Report_file_types_Refusal trace_run_run_trace(slice_mut_u8 file,
+        slice_u8 trace)
 {
     uint16_t places[130];
     memset(places, 0, sizeof places);
-    file_survey_FileAnswer surveyed = file_survey_survey(lend_u8(file), places);
-    switch (surveyed.tag) {
-    case 1: {
-        file_types_Refusal why = surveyed.as.Refused.f0;
-        return (trace_run_TraceAnswer){.tag = 0, .as.Refused.f0 = why};
+    Result_unit_file_types_Refusal t7 = file_survey_survey(lend_u8(file), places);
+    if (t7.tag != 0) {
+        return (Result_trace_report_Report_file_types_Refusal){.tag = 1, .as.Err.f0 = t7.as.Err.f0};
     }
-    case 0:
-    default: {
-        if (trace_layout_is_broken(trace)) {
-            return (trace_run_TraceAnswer){.tag = 0, .as.Refused.f0 = (file_types_Refusal){.f0 = 19}};
-        }
-        trace_report_Report report = trace_run_run_frames(file, places, trace);
-        return (trace_run_TraceAnswer){.tag = 1, .as.Ran.f0 = report};
+    if (trace_layout_is_broken(trace)) {
+        return (Result_trace_report_Report_file_types_Refusal){.tag = 1,
+                .as.Err.f0 = (file_types_Refusal){.tag = 18}};
     }
-    }
+    return (Result_trace_report_Report_file_types_Refusal){.tag = 0, .as.Ok.f0 = trace_run_run_frames(file,
+            places, trace)};
 }
 
 /* ttpa::report_words. */
@@ -4633,15 +4465,15 @@ uint8_t ttpa_trace(uint8_t *file_at, size_t file_len, const uint8_t *trace_at, s
 {
     slice_mut_u8 file = {file_at, file_len};
     slice_u8 trace = {trace_at, trace_len};
-    trace_run_TraceAnswer done = trace_run_run_trace(file, trace);
-    switch (done.tag) {
-    case 0: {
-        file_types_Refusal why = done.as.Refused.f0;
-        return why.f0;
+    Result_trace_report_Report_file_types_Refusal t6 = trace_run_run_trace(file, trace);
+    switch (t6.tag) {
+    case 1: {
+        file_types_Refusal why = t6.as.Err.f0;
+        return file_types_Refusal_number(why);
     }
-    case 1:
+    case 0:
     default: {
-        trace_report_Report counts = done.as.Ran.f0;
+        trace_report_Report counts = t6.as.Ok.f0;
         array_u64_5 t10 = ttpa_report_words(counts);
         memcpy(report, t10.at, 5 * sizeof(uint64_t));
         return 0;
@@ -4688,18 +4520,17 @@ static inline master_slave_types_RecordAddress screens_state_posted_read(const u
     return screens_state_read_at((slice_u8){state, 33}, place);
 }
 
-/* screens::turn::due_ground. 18 and 14 on the read that is due, of a state that 27 does not refuse; 0 where
- * neither holds, or nobody waits. */
-static inline uint8_t screens_turn_due_ground(const uint8_t *state, Option_u8 next)
+/* screens::turn::due_ground. 18 and 14 on the read that is due, of a state that 27 does not refuse. Neither
+ * holds where nobody waits. */
+static inline Result_unit_file_types_Refusal screens_turn_due_ground(const uint8_t *state, Option_u8 next)
 {
     switch (next.tag) {
     case 0:
-        return 0;
+        return (Result_unit_file_types_Refusal){.tag = 0};
     case 1:
     default: {
         uint8_t screen = next.as.Some.f0;
-        master_slave_types_RecordAddress read = screens_state_posted_read(state, screen);
-        return screens_post_read_ground(read);
+        return screens_post_read_ground(screens_state_posted_read(state, screen));
     }
     }
 }
@@ -4740,14 +4571,14 @@ static inline void screens_state_mark_served(uint8_t *state, uint8_t screen)
     state[place] = 0;
 }
 
-/* screens::turn::serve. The turn, where no ground refuses it: nothing, or the round of the read that is due.
- * File and places stay two arguments, as `naming::run` says. */
-static inline screens_turn_Turned screens_turn_serve(slice_mut_u8 file, const uint16_t *places, uint8_t *state,
-        Option_u8 next, slice_mut_u8 buffer)
+/* screens::turn::serve. The turn, where no ground refuses it: nothing where nobody waits, or the round of
+ * the read that is due. File and places stay two arguments, as `naming::run` says. */
+static inline Option_screens_turn_Served screens_turn_serve(slice_mut_u8 file, const uint16_t *places,
+        uint8_t *state, Option_u8 next, slice_mut_u8 buffer)
 {
     switch (next.tag) {
     case 0:
-        return (screens_turn_Turned){.tag = 1};
+        return (Option_screens_turn_Served){.tag = 0};
     case 1:
     default: {
         uint8_t screen = next.as.Some.f0;
@@ -4755,38 +4586,37 @@ static inline screens_turn_Turned screens_turn_serve(slice_mut_u8 file, const ui
         master_slave_types_MasterSlaveRound t13 = screens_turn_read_round(read);
         uint64_t senders = cluster_sending_send(file, places, t13, buffer);
         screens_state_mark_served(state, screen);
-        return (screens_turn_Turned){.tag = 2, .as.Served.screen = screen, .as.Served.senders = senders};
+        return (Option_screens_turn_Served){.tag = 1, .as.Some.f0 = (screens_turn_Served){.screen = screen,
+                .senders = senders}};
     }
     }
 }
 
 /* screens::turn::turn. "A turn serves the next waiting screen after the one last served" */
-static inline screens_turn_Turned screens_turn_turn(slice_mut_u8 file, uint8_t *state, slice_mut_u8 buffer)
+static inline Result_Option_screens_turn_Served_file_types_Refusal screens_turn_turn(slice_mut_u8 file,
+        uint8_t *state, slice_mut_u8 buffer)
 {
     if (7 < state[0]) {
-        return (screens_turn_Turned){.tag = 0, .as.Refused.f0 = (file_types_Refusal){.f0 = 27}};
+        return (Result_Option_screens_turn_Served_file_types_Refusal){.tag = 1,
+                .as.Err.f0 = (file_types_Refusal){.tag = 26}};
     }
     Option_u8 next = screens_state_due_screen(state);
-    uint8_t ground = screens_turn_due_ground(state, next);
-    if (ground != 0) {
-        return (screens_turn_Turned){.tag = 0, .as.Refused.f0 = (file_types_Refusal){.f0 = ground}};
+    Result_unit_file_types_Refusal t17 = screens_turn_due_ground(state, next);
+    if (t17.tag != 0) {
+        return (Result_Option_screens_turn_Served_file_types_Refusal){.tag = 1, .as.Err.f0 = t17.as.Err.f0};
     }
     uint16_t places[130];
     memset(places, 0, sizeof places);
-    file_survey_FileAnswer verdict = file_survey_survey(lend_u8(file), places);
-    switch (verdict.tag) {
-    case 1: {
-        file_types_Refusal why = verdict.as.Refused.f0;
-        return (screens_turn_Turned){.tag = 0, .as.Refused.f0 = why};
-    }
-    case 0:
-    default:
-        break;
+    t17 = file_survey_survey(lend_u8(file), places);
+    if (t17.tag != 0) {
+        return (Result_Option_screens_turn_Served_file_types_Refusal){.tag = 1, .as.Err.f0 = t17.as.Err.f0};
     }
     if (buffer.len < 64) {
-        return (screens_turn_Turned){.tag = 0, .as.Refused.f0 = (file_types_Refusal){.f0 = 9}};
+        return (Result_Option_screens_turn_Served_file_types_Refusal){.tag = 1,
+                .as.Err.f0 = (file_types_Refusal){.tag = 8}};
     }
-    return screens_turn_serve(file, places, state, next, buffer);
+    return (Result_Option_screens_turn_Served_file_types_Refusal){.tag = 0, .as.Ok.f0 = screens_turn_serve(file,
+            places, state, next, buffer)};
 }
 
 /* ttpa::ttpa_turn. */
@@ -4795,22 +4625,31 @@ uint8_t ttpa_turn(uint8_t *file_at, size_t file_len, uint8_t state[33], uint8_t 
 {
     slice_mut_u8 file = {file_at, file_len};
     slice_mut_u8 answer = {answer_at, answer_len};
-    screens_turn_Turned turned = screens_turn_turn(file, state, answer);
-    switch (turned.tag) {
-    case 0: {
-        file_types_Refusal why = turned.as.Refused.f0;
-        return why.f0;
+    Result_Option_screens_turn_Served_file_types_Refusal t9 = screens_turn_turn(file, state, answer);
+    switch (t9.tag) {
+    case 1: {
+        file_types_Refusal why = t9.as.Err.f0;
+        return file_types_Refusal_number(why);
     }
-    case 1:
-        *screen = 8;
-        return 0;
-    case 2:
+    case 0:
     default: {
-        uint8_t served = turned.as.Served.screen;
-        uint64_t mask = turned.as.Served.senders;
-        *senders = mask;
-        *screen = served;
-        return 0;
+        Option_screens_turn_Served done = t9.as.Ok.f0;
+        uint8_t t16;
+        switch (done.tag) {
+        case 0:
+            *screen = 8;
+            t16 = 0;
+            break;
+        case 1:
+        default: {
+            screens_turn_Served served = done.as.Some.f0;
+            *senders = served.senders;
+            *screen = served.screen;
+            t16 = 0;
+            break;
+        }
+        }
+        return t16;
     }
     }
 }
@@ -4821,9 +4660,84 @@ uint32_t ttpa_version(void)
     return 10100;
 }
 
+/* frame::writer::put_frame. "MSD is 6 bytes (0x49, four data bytes, check)": at the same places. */
+static inline void frame_writer_put_frame(slice_mut_u8 buf, uint8_t firework, const uint8_t *bytes,
+        uint8_t check)
+{
+    buf.at[0] = firework;
+    buf.at[1] = bytes[0];
+    buf.at[2] = bytes[1];
+    buf.at[3] = bytes[2];
+    buf.at[4] = bytes[3];
+    buf.at[5] = check;
+}
+
+/* frame::writer::write_address. */
+static inline Result_unit_file_types_Refusal frame_writer_write_address(slice_mut_u8 buf, uint8_t epoch,
+        file_types_LogicalName name, file_types_FileNumber file, file_types_Operation operation,
+        file_types_RecordNumber record)
+{
+    file_types_FileNumber pb2 = file;
+    if (buf.len < 6) {
+        return (Result_unit_file_types_Refusal){.tag = 1, .as.Err.f0 = (file_types_Refusal){.tag = 8}};
+    }
+    if (file_operations_is_no_operation(operation)) {
+        return (Result_unit_file_types_Refusal){.tag = 1, .as.Err.f0 = (file_types_Refusal){.tag = 12}};
+    }
+    if (file_operations_is_broadcast_read(operation, name)) {
+        return (Result_unit_file_types_Refusal){.tag = 1, .as.Err.f0 = (file_types_Refusal){.tag = 13}};
+    }
+    if (63 < pb2.f0) {
+        return (Result_unit_file_types_Refusal){.tag = 1, .as.Err.f0 = (file_types_Refusal){.tag = 17}};
+    }
+    uint8_t check = file_operations_pb2_of(pb2, operation);
+    uint8_t t9 = frame_check_address_check(epoch, name.f0, check, record.f0);
+    uint8_t t25[4];
+    t25[0] = epoch;
+    t25[1] = name.f0;
+    t25[2] = check;
+    t25[3] = record.f0;
+    frame_writer_put_frame(buf, 85, t25, t9);
+    return (Result_unit_file_types_Refusal){.tag = 0};
+}
+
+/* ttpa::ttpa_write_address. */
+uint8_t ttpa_write_address(uint8_t *frame_at, size_t frame_len, uint8_t epoch, uint8_t name, uint8_t file,
+        uint8_t operation, uint8_t record)
+{
+    slice_mut_u8 frame = {frame_at, frame_len};
+    file_types_LogicalName t10 = file_types_LogicalName_new(name);
+    return ttpa_number_in(frame_writer_write_address(frame, epoch, t10, (file_types_FileNumber){.f0 = file},
+            (file_types_Operation){.f0 = operation}, (file_types_RecordNumber){.f0 = record}));
+}
+
+/* frame::writer::write_data. */
+static inline Result_unit_file_types_Refusal frame_writer_write_data(slice_mut_u8 buf, uint8_t b0, uint8_t b1,
+        uint8_t b2, uint8_t b3)
+{
+    if (buf.len < 6) {
+        return (Result_unit_file_types_Refusal){.tag = 1, .as.Err.f0 = (file_types_Refusal){.tag = 8}};
+    }
+    uint8_t check = frame_check_data_check(b0, b1, b2, b3);
+    uint8_t t13[4];
+    t13[0] = b0;
+    t13[1] = b1;
+    t13[2] = b2;
+    t13[3] = b3;
+    frame_writer_put_frame(buf, 73, t13, check);
+    return (Result_unit_file_types_Refusal){.tag = 0};
+}
+
+/* ttpa::ttpa_write_data. */
+uint8_t ttpa_write_data(uint8_t *frame_at, size_t frame_len, uint8_t b0, uint8_t b1, uint8_t b2, uint8_t b3)
+{
+    slice_mut_u8 frame = {frame_at, frame_len};
+    return ttpa_number_in(frame_writer_write_data(frame, b0, b1, b2, b3));
+}
+
 /* naming::names::marked_ground. Both grounds in one loop without an exit, from the last name to the first:
  * which names there are, and whether one is there twice. */
-static inline uint8_t naming_names_marked_ground(slice_u8 names)
+static inline Result_unit_file_types_Refusal naming_names_marked_ground(slice_u8 names)
 {
     _Bool seen[256];
     memset(seen, 0, sizeof seen);
@@ -4838,15 +4752,15 @@ static inline uint8_t naming_names_marked_ground(slice_u8 names)
         seen[mark] = 1;
     }
     if (seen[UINT64_C(0)]) {
-        return 15;
+        return (Result_unit_file_types_Refusal){.tag = 1, .as.Err.f0 = (file_types_Refusal){.tag = 14}};
     }
     if (seen[UINT64_C(255)]) {
-        return 15;
+        return (Result_unit_file_types_Refusal){.tag = 1, .as.Err.f0 = (file_types_Refusal){.tag = 14}};
     }
     if (twice) {
-        return 16;
+        return (Result_unit_file_types_Refusal){.tag = 1, .as.Err.f0 = (file_types_Refusal){.tag = 15}};
     }
-    return 0;
+    return (Result_unit_file_types_Refusal){.tag = 0};
 }
 
 /* naming::names::is_unfit_name. Ground 15, of one name. */
@@ -4859,17 +4773,17 @@ static inline _Bool naming_names_is_unfit_name(file_types_LogicalName name)
     return t3;
 }
 
-/* naming::names::names_ground. The number by which a list of names is refused, 0 where it is accepted. One
- * name needs no marks. */
-static inline uint8_t naming_names_names_ground(slice_u8 names)
+/* naming::names::names_ground. A list of names is accepted, or refused by its ground. One name needs no
+ * marks. */
+static inline Result_unit_file_types_Refusal naming_names_names_ground(slice_u8 names)
 {
     if (names.len != 1) {
         return naming_names_marked_ground(names);
     }
     if (naming_names_is_unfit_name(file_types_LogicalName_new(names.at[0]))) {
-        return 15;
+        return (Result_unit_file_types_Refusal){.tag = 1, .as.Err.f0 = (file_types_Refusal){.tag = 14}};
     }
-    return 0;
+    return (Result_unit_file_types_Refusal){.tag = 0};
 }
 
 /* naming::position::end_at. */
@@ -4891,13 +4805,14 @@ static inline naming_position_RunPosition naming_position_first_position(slice_u
 }
 
 /* naming::run::start. A fresh run over a list of names. */
-static inline naming_run_Started naming_run_start(slice_u8 names)
+static inline Result_naming_position_RunPosition_file_types_Refusal naming_run_start(slice_u8 names)
 {
-    uint8_t ground = naming_names_names_ground(names);
-    if (ground != 0) {
-        return (naming_run_Started){.tag = 0, .as.Refused.f0 = (file_types_Refusal){.f0 = ground}};
+    Result_unit_file_types_Refusal t5 = naming_names_names_ground(names);
+    if (t5.tag != 0) {
+        return (Result_naming_position_RunPosition_file_types_Refusal){.tag = 1, .as.Err.f0 = t5.as.Err.f0};
     }
-    return (naming_run_Started){.tag = 1, .as.Fresh.f0 = naming_position_first_position(names)};
+    return (Result_naming_position_RunPosition_file_types_Refusal){.tag = 0,
+            .as.Ok.f0 = naming_position_first_position(names)};
 }
 
 /* ttpa::words_of. */
@@ -4911,15 +4826,15 @@ static inline array_u64_8 ttpa_words_of(naming_position_RunPosition position)
 uint8_t ttpa_start(const uint8_t *names_at, size_t names_len, uint64_t run[8])
 {
     slice_u8 names = {names_at, names_len};
-    naming_run_Started started = naming_run_start(names);
-    switch (started.tag) {
-    case 0: {
-        file_types_Refusal why = started.as.Refused.f0;
-        return why.f0;
+    Result_naming_position_RunPosition_file_types_Refusal t5 = naming_run_start(names);
+    switch (t5.tag) {
+    case 1: {
+        file_types_Refusal why = t5.as.Err.f0;
+        return file_types_Refusal_number(why);
     }
-    case 1:
+    case 0:
     default: {
-        naming_position_RunPosition fresh = started.as.Fresh.f0;
+        naming_position_RunPosition fresh = t5.as.Ok.f0;
         array_u64_8 t7 = ttpa_words_of(fresh);
         memcpy(run, t7.at, 8 * sizeof(uint64_t));
         return 0;
@@ -4961,16 +4876,17 @@ static inline _Bool naming_position_is_unfit(slice_u8 names, naming_position_Run
 }
 
 /* naming::run::run_ground. Grounds 15 to 17. */
-static inline uint8_t naming_run_run_ground(slice_u8 names, naming_position_RunPosition run)
+static inline Result_unit_file_types_Refusal naming_run_run_ground(slice_u8 names,
+        naming_position_RunPosition run)
 {
-    uint8_t ground = naming_names_names_ground(names);
-    if (ground != 0) {
-        return ground;
+    Result_unit_file_types_Refusal t6 = naming_names_names_ground(names);
+    if (t6.tag != 0) {
+        return (Result_unit_file_types_Refusal){.tag = 1, .as.Err.f0 = t6.as.Err.f0};
     }
     if (naming_position_is_unfit(names, run)) {
-        return 17;
+        return (Result_unit_file_types_Refusal){.tag = 1, .as.Err.f0 = (file_types_Refusal){.tag = 16}};
     }
-    return 0;
+    return (Result_unit_file_types_Refusal){.tag = 0};
 }
 
 /* naming::sending::poll_round. The read that finds out whether a name is taken; at the first name also the
@@ -5313,64 +5229,69 @@ static inline naming_run_MadeStep naming_run_make_step(slice_mut_u8 file, const 
     return naming_run_pass_step(file, places, run, names, answer);
 }
 
-/* naming::run::step_on. A step on an accepted file, with the places of its slaves. */
-static inline naming_run_Stepped naming_run_step_on(slice_mut_u8 file, const uint16_t *places,
-        naming_position_RunPosition run, slice_u8 names, slice_mut_u8 answer)
+/* naming::run::step_on. A step on an accepted file, with the places of its slaves: none of an ended run. */
+static inline Result_Option_naming_run_MadeStep_file_types_Refusal naming_run_step_on(slice_mut_u8 file,
+        const uint16_t *places, naming_position_RunPosition run, slice_u8 names, slice_mut_u8 answer)
 {
     if (answer.len < 64) {
-        return (naming_run_Stepped){.tag = 0, .as.Refused.f0 = (file_types_Refusal){.f0 = 9}};
+        return (Result_Option_naming_run_MadeStep_file_types_Refusal){.tag = 1,
+                .as.Err.f0 = (file_types_Refusal){.tag = 8}};
     }
-    uint8_t ground = naming_run_run_ground(names, run);
-    if (ground != 0) {
-        return (naming_run_Stepped){.tag = 0, .as.Refused.f0 = (file_types_Refusal){.f0 = ground}};
+    Result_unit_file_types_Refusal t12 = naming_run_run_ground(names, run);
+    if (t12.tag != 0) {
+        return (Result_Option_naming_run_MadeStep_file_types_Refusal){.tag = 1, .as.Err.f0 = t12.as.Err.f0};
     }
     if (run.end != 0) {
-        return (naming_run_Stepped){.tag = 1};
+        return (Result_Option_naming_run_MadeStep_file_types_Refusal){.tag = 0,
+                .as.Ok.f0 = (Option_naming_run_MadeStep){.tag = 0}};
     }
-    naming_run_MadeStep made = naming_run_make_step(file, places, run, names, answer);
-    uint64_t senders = made.senders;
-    naming_position_RunPosition run_2 = made.run;
-    return (naming_run_Stepped){.tag = 2, .as.Made.senders = senders, .as.Made.run = run_2};
+    return (Result_Option_naming_run_MadeStep_file_types_Refusal){.tag = 0,
+            .as.Ok.f0 = (Option_naming_run_MadeStep){.tag = 1, .as.Some.f0 = naming_run_make_step(file, places,
+            run, names, answer)}};
 }
 
 /* naming::run::step. One step: the file is checked once, and its round is carried out on it. */
-static inline naming_run_Stepped naming_run_step(slice_mut_u8 file, naming_position_RunPosition run,
-        slice_u8 names, slice_mut_u8 answer)
+static inline Result_Option_naming_run_MadeStep_file_types_Refusal naming_run_step(slice_mut_u8 file,
+        naming_position_RunPosition run, slice_u8 names, slice_mut_u8 answer)
 {
     uint16_t places[130];
     memset(places, 0, sizeof places);
-    file_survey_FileAnswer verdict = file_survey_survey(lend_u8(file), places);
-    switch (verdict.tag) {
-    case 1: {
-        file_types_Refusal why = verdict.as.Refused.f0;
-        return (naming_run_Stepped){.tag = 0, .as.Refused.f0 = why};
-    }
-    case 0:
-    default:
-        break;
+    Result_unit_file_types_Refusal t9 = file_survey_survey(lend_u8(file), places);
+    if (t9.tag != 0) {
+        return (Result_Option_naming_run_MadeStep_file_types_Refusal){.tag = 1, .as.Err.f0 = t9.as.Err.f0};
     }
     return naming_run_step_on(file, places, run, names, answer);
 }
 
 /* ttpa::step_number. A step's number; its senders and its run are put into lent memory where it made a
  * round. */
-static inline uint8_t ttpa_step_number(naming_run_Stepped stepped, uint64_t *senders, uint64_t *run)
+static inline uint8_t ttpa_step_number(Result_Option_naming_run_MadeStep_file_types_Refusal stepped,
+        uint64_t *senders, uint64_t *run)
 {
     switch (stepped.tag) {
-    case 0: {
-        file_types_Refusal why = stepped.as.Refused.f0;
-        return why.f0;
+    case 1: {
+        file_types_Refusal why = stepped.as.Err.f0;
+        return file_types_Refusal_number(why);
     }
-    case 1:
-        return 0;
-    case 2:
+    case 0:
     default: {
-        uint64_t mask = stepped.as.Made.senders;
-        naming_position_RunPosition position = stepped.as.Made.run;
-        *senders = mask;
-        array_u64_8 t8 = ttpa_words_of(position);
-        memcpy(run, t8.at, 8 * sizeof(uint64_t));
-        return 0;
+        Option_naming_run_MadeStep done = stepped.as.Ok.f0;
+        uint8_t t8;
+        switch (done.tag) {
+        case 0:
+            t8 = 0;
+            break;
+        case 1:
+        default: {
+            naming_run_MadeStep made = done.as.Some.f0;
+            *senders = made.senders;
+            array_u64_8 t10 = ttpa_words_of(made.run);
+            memcpy(run, t10.at, 8 * sizeof(uint64_t));
+            t8 = 0;
+            break;
+        }
+        }
+        return t8;
     }
     }
 }
@@ -5383,56 +5304,40 @@ uint8_t ttpa_step(uint8_t *file_at, size_t file_len, uint64_t run[8], const uint
     slice_u8 names = {names_at, names_len};
     slice_mut_u8 answer = {answer_at, answer_len};
     naming_position_RunPosition t9 = ttpa_position_in(run);
-    naming_run_Stepped stepped = naming_run_step(file, t9, names, answer);
+    Result_Option_naming_run_MadeStep_file_types_Refusal stepped = naming_run_step(file, t9, names, answer);
     return ttpa_step_number(stepped, senders, run);
-}
-
-/* summary::step::is_refused. */
-static inline _Bool summary_step_is_refused(naming_run_Stepped stepped)
-{
-    switch (stepped.tag) {
-    case 0:
-        return 1;
-    case 1:
-        return 0;
-    case 2:
-    default:
-        return 0;
-    }
 }
 
 /* summary::step::keep_step. A step on a file that is known to be accepted; unless it is refused the names
  * that the file then holds are put into the slice. */
-static inline naming_run_Stepped summary_step_keep_step(slice_mut_u8 file, const uint16_t *places,
-        naming_position_RunPosition run, slice_u8 names, slice_mut_u8 answer, slice_mut_u8 held)
+static inline Result_Option_naming_run_MadeStep_file_types_Refusal summary_step_keep_step(slice_mut_u8 file,
+        const uint16_t *places, naming_position_RunPosition run, slice_u8 names, slice_mut_u8 answer,
+        slice_mut_u8 held)
 {
-    naming_run_Stepped stepped = naming_run_step_on(file, places, run, names, answer);
-    if (summary_step_is_refused(stepped)) {
-        return stepped;
+    Result_Option_naming_run_MadeStep_file_types_Refusal t11 = naming_run_step_on(file, places, run, names,
+            answer);
+    if (t11.tag != 0) {
+        return (Result_Option_naming_run_MadeStep_file_types_Refusal){.tag = 1, .as.Err.f0 = t11.as.Err.f0};
     }
+    Option_naming_run_MadeStep stepped = t11.as.Ok.f0;
     file_readers_logical_names(lend_u8(file), places, held);
-    return stepped;
+    return (Result_Option_naming_run_MadeStep_file_types_Refusal){.tag = 0, .as.Ok.f0 = stepped};
 }
 
 /* summary::step::step_keeping. One step with the file's summary: the file is checked once, and its round is
  * carried out on it. */
-static inline naming_run_Stepped summary_step_step_keeping(slice_mut_u8 file, naming_position_RunPosition run,
-        slice_u8 names, slice_mut_u8 answer, slice_mut_u8 held, uint64_t count)
+static inline Result_Option_naming_run_MadeStep_file_types_Refusal summary_step_step_keeping(slice_mut_u8 file,
+        naming_position_RunPosition run, slice_u8 names, slice_mut_u8 answer, slice_mut_u8 held, uint64_t count)
 {
     uint16_t places[130];
     memset(places, 0, sizeof places);
-    file_survey_FileAnswer verdict = file_survey_survey(lend_u8(file), places);
-    switch (verdict.tag) {
-    case 1: {
-        file_types_Refusal why = verdict.as.Refused.f0;
-        return (naming_run_Stepped){.tag = 0, .as.Refused.f0 = why};
-    }
-    case 0:
-    default:
-        break;
+    Result_unit_file_types_Refusal t11 = file_survey_survey(lend_u8(file), places);
+    if (t11.tag != 0) {
+        return (Result_Option_naming_run_MadeStep_file_types_Refusal){.tag = 1, .as.Err.f0 = t11.as.Err.f0};
     }
     if (summary_matching_is_wrong(lend_u8(file), places, lend_u8(held), count)) {
-        return (naming_run_Stepped){.tag = 0, .as.Refused.f0 = (file_types_Refusal){.f0 = 24}};
+        return (Result_Option_naming_run_MadeStep_file_types_Refusal){.tag = 1,
+                .as.Err.f0 = (file_types_Refusal){.tag = 23}};
     }
     return summary_step_keep_step(file, places, run, names, answer, held);
 }
@@ -5447,99 +5352,8 @@ uint8_t ttpa_step_keeping(uint8_t *file_at, size_t file_len, uint64_t run[8], co
     slice_mut_u8 answer = {answer_at, answer_len};
     slice_mut_u8 held = {held_at, held_len};
     naming_position_RunPosition t11 = ttpa_position_in(run);
-    naming_run_Stepped stepped = summary_step_step_keeping(file, t11, names, answer, held, count);
+    Result_Option_naming_run_MadeStep_file_types_Refusal stepped = summary_step_step_keeping(file, t11, names,
+            answer, held, count);
     return ttpa_step_number(stepped, senders, run);
-}
-
-/* frame::writer::put_frame. "MSD is 6 bytes (0x49, four data bytes, check)": at the same places. */
-static inline void frame_writer_put_frame(slice_mut_u8 buf, uint8_t firework, const uint8_t *bytes,
-        uint8_t check)
-{
-    buf.at[0] = firework;
-    buf.at[1] = bytes[0];
-    buf.at[2] = bytes[1];
-    buf.at[3] = bytes[2];
-    buf.at[4] = bytes[3];
-    buf.at[5] = check;
-}
-
-/* frame::writer::write_address. */
-static inline frame_types_FrameWriting frame_writer_write_address(slice_mut_u8 buf, uint8_t epoch,
-        file_types_LogicalName name, file_types_FileNumber file, file_types_Operation operation,
-        file_types_RecordNumber record)
-{
-    file_types_FileNumber pb2 = file;
-    if (buf.len < 6) {
-        return (frame_types_FrameWriting){.tag = 0, .as.Refused.f0 = (file_types_Refusal){.f0 = 9}};
-    }
-    if (file_operations_is_no_operation(operation)) {
-        return (frame_types_FrameWriting){.tag = 0, .as.Refused.f0 = (file_types_Refusal){.f0 = 13}};
-    }
-    if (file_operations_is_broadcast_read(operation, name)) {
-        return (frame_types_FrameWriting){.tag = 0, .as.Refused.f0 = (file_types_Refusal){.f0 = 14}};
-    }
-    if (63 < pb2.f0) {
-        return (frame_types_FrameWriting){.tag = 0, .as.Refused.f0 = (file_types_Refusal){.f0 = 18}};
-    }
-    uint8_t check = file_operations_pb2_of(pb2, operation);
-    uint8_t t9 = frame_check_address_check(epoch, name.f0, check, record.f0);
-    uint8_t t25[4];
-    t25[0] = epoch;
-    t25[1] = name.f0;
-    t25[2] = check;
-    t25[3] = record.f0;
-    frame_writer_put_frame(buf, 85, t25, t9);
-    return (frame_types_FrameWriting){.tag = 1};
-}
-
-/* ttpa::writing_number. */
-static inline uint8_t ttpa_writing_number(frame_types_FrameWriting writing)
-{
-    switch (writing.tag) {
-    case 0: {
-        file_types_Refusal why = writing.as.Refused.f0;
-        return why.f0;
-    }
-    case 1:
-    default:
-        return 0;
-    }
-}
-
-/* ttpa::ttpa_write_address. */
-uint8_t ttpa_write_address(uint8_t *frame_at, size_t frame_len, uint8_t epoch, uint8_t name, uint8_t file,
-        uint8_t operation, uint8_t record)
-{
-    slice_mut_u8 frame = {frame_at, frame_len};
-    file_types_LogicalName t10 = file_types_LogicalName_new(name);
-    frame_types_FrameWriting written = frame_writer_write_address(frame, epoch, t10,
-            (file_types_FileNumber){.f0 = file}, (file_types_Operation){.f0 = operation},
-            (file_types_RecordNumber){.f0 = record});
-    return ttpa_writing_number(written);
-}
-
-/* frame::writer::write_data. */
-static inline frame_types_FrameWriting frame_writer_write_data(slice_mut_u8 buf, uint8_t b0, uint8_t b1,
-        uint8_t b2, uint8_t b3)
-{
-    if (buf.len < 6) {
-        return (frame_types_FrameWriting){.tag = 0, .as.Refused.f0 = (file_types_Refusal){.f0 = 9}};
-    }
-    uint8_t check = frame_check_data_check(b0, b1, b2, b3);
-    uint8_t t13[4];
-    t13[0] = b0;
-    t13[1] = b1;
-    t13[2] = b2;
-    t13[3] = b3;
-    frame_writer_put_frame(buf, 73, t13, check);
-    return (frame_types_FrameWriting){.tag = 1};
-}
-
-/* ttpa::ttpa_write_data. */
-uint8_t ttpa_write_data(uint8_t *frame_at, size_t frame_len, uint8_t b0, uint8_t b1, uint8_t b2, uint8_t b3)
-{
-    slice_mut_u8 frame = {frame_at, frame_len};
-    frame_types_FrameWriting written = frame_writer_write_data(frame, b0, b1, b2, b3);
-    return ttpa_writing_number(written);
 }
 

@@ -202,10 +202,10 @@ fn check_array(place: &Place, value: &Expr, function: &Function) -> Result<(), R
     }
 }
 
-/// MIR may compute a pointer that is out of bounds, C may not. So a pointer that is stepped is followed in the next statement, or
-/// behind other steps and reads, which proves it within its array, or becomes a reference to an element, whose index the proofs hold below the length, or begins a slice that is
-/// cut from it, whose start they hold within the length. They speak of the whole that a pointer is in, so what is stepped is a slice or an array, and
-/// no part of a struct.
+/// MIR may compute a pointer that is out of bounds, C may not. So a pointer that is stepped is followed in the next statement, or behind other
+/// steps and reads, which proves it within its array; or it becomes a reference to an element, whose index the proofs hold below the length; or it
+/// begins a slice that is cut from it, whose start they hold within the length. They speak of the whole that a pointer is in, so what is stepped is a
+/// slice or an array, and no part of a struct.
 fn check_offsets(body: &[Statement], function: &Function, types: &Types) -> Result<(), Refused> {
     for (at, statement) in body.iter().enumerate() {
         if let Statement::Assign(place, Expr::Binary(Binary::Offset, base, by)) = statement {

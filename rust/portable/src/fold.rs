@@ -215,8 +215,9 @@ fn crosses(moved: &Effects, over: &Effects) -> bool {
     changed || moved.reads_memory && (over.writes_memory || over.calls > 0)
 }
 
-/// Whether a call may be made within a statement: it reads nothing that the call may change, asks for each part, and has at most the one call that it is. A
-/// switch that a loop is left from is a chain of tests in C, each of which would make the call; a branch without statements is left out by `shape`.
+/// Whether a call may be made within a statement: it reads nothing that the call may change, asks for each part, and has at most the one call that
+/// it is. A switch that a loop is left from is a chain of tests in C, each of which would make the call; a branch without statements is left out by
+/// `shape`.
 fn takes_call(user: &Statement, own: &Effects) -> bool {
     let is_call =
         matches!(user, Statement::Assign(_, Expr::Call(..)) | Statement::Return(Some(Expr::Call(..))));

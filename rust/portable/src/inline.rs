@@ -1,4 +1,5 @@
-//! Of the reading form: small functions that the sources do not have, such as those of the kit behind `?` and `==`, are written where they are called.
+//! Of the reading form: small functions that the sources do not have, such as those of the kit behind `?` and `==`, are written where they are
+//! called.
 //! - A call is the function's own statements, with locals of its own: its parameters are assigned, and its result is put where the call's was.
 //! - A function is small where it has no loop and few statements, and each of its ways ends at its end.
 //! - What a pointer to a local, or a copy, stands for is then written in its place (`forward`), so that nothing of the call is left to see.

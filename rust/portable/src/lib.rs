@@ -2,10 +2,11 @@
 //! in the library's folder below `out/rlib`); this makes C99 of it, in two forms: the plain one has a statement for each of the program, the reading
 //! one is folded into expressions.
 //!
-//! `json` reads the files, `mir` makes a term of the functions that the calls for C reach; `term` reads a term that is written as text, `program`
-//! what a term says; `types` and `check` refuse what would not be the same program in C, or not defined there;
-//! `fold` makes the reading form, with `live`; `sources` and `names` have the names; `declare`, `write`, `text`, `helpers` and `layout` make
-//! the C text. The same input gives the same bytes.
+//! `json` reads the files, `mir` makes a term of the functions that the calls for C reach, of which `instances` makes one for each list of arguments;
+//! `term` reads a term that is written as text, `program` what a term says; `types` and `check` refuse what would not be the same program in C, or
+//! not defined there; `inline` writes small functions of the kit's where they are called, with `forward` and `blocks`, and `fold` makes the reading
+//! form, with `live`; `sources` and `names` have the names; `declare`, `write`, `text`, `helpers` and `layout` make the C text. The same input
+//! gives the same bytes.
 
 mod blocks;
 mod check;

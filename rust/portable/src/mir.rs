@@ -4,8 +4,8 @@
 //! A body is a list in which each statement stands before those that it is made of: `Seq` before two, `Block` and `Loop` before one, `If` before
 //! two, and `Switch` before one for each of its lists of keys and, where it has one, its default.
 //!
-//! `LendStatic` lends a constant that is never written. In the term it is a local of the function's own, of which the address is taken; so the function
-//! may keep no pointer anywhere. Of an array of numbers nothing but its address may be taken where it was lent.
+//! `LendStatic` lends a constant that is never written. In the term it is a local of the function's own, of which the address is taken; so the
+//! function may keep no pointer anywhere. Of an array of numbers nothing but its address may be taken where it was lent.
 
 use crate::instances::instances;
 use crate::json::{self, Json};

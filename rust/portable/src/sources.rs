@@ -11,8 +11,8 @@ use std::path::Path;
 pub struct FunctionNames {
     pub comment: Vec<String>,
     pub params: Vec<String>,
-    /// What `let`, `for` and patterns bind, in their order, with a sign where the program has a local that the source does not name: `HIDDEN` for one,
-    /// `LOOP` for those of a `for` over anything but a range, `COUNTED` where the pattern has its counter.
+    /// What `let`, `for` and patterns bind, in their order, with a sign where the program has a local that the source does not name: `HIDDEN` for
+    /// one, `LOOP` for those of a `for` over anything but a range, `COUNTED` where the pattern has its counter.
     pub bound: Vec<String>,
     pub is_exported: bool,
 }
@@ -438,13 +438,19 @@ fn inside(tokens: &[Token], open: usize, end: usize) -> &[Token] {
     }
 }
 
-/// The parts between commas, comments aside; none for what is empty.
+/// The parts between commas, comments aside; none for what is empty. A comma between the arguments of a type parts nothing.
 fn parts(tokens: &[Token]) -> Vec<Vec<Token>> {
     let mut parts = vec![Vec::new()];
+    let mut within = 0usize;
     let mut at = 0;
     while at < tokens.len() {
         let end = after_group(tokens, at);
-        if tokens[at] == Token::Mark(',') {
+        match tokens[at] {
+            Token::Mark('<') => within += 1,
+            Token::Mark('>') if at == 0 || tokens[at - 1] != Token::Mark('-') => within = within.saturating_sub(1),
+            _ => {}
+        }
+        if tokens[at] == Token::Mark(',') && within == 0 {
             parts.push(Vec::new());
         } else if let Some(part) = parts.last_mut() {
             part.extend(tokens[at..end].iter().filter(|token| !matches!(token, Token::Comment(_))).cloned());

@@ -39,15 +39,7 @@ pub fn file(program: &Program, sources: &Sources, form: Form) -> Result<String, 
     lines.blank();
     lines.add("#include <string.h>");
     lines.blank();
-    let mut made = Vec::new();
-    for function in reached {
-        made.push(match form {
-            Form::Plain => declared_first(function, &types),
-            Form::Reading => {
-                fold(function, &names.kept(function), &types).map_err(|refused| refused.of(&function.name))?
-            }
-        });
-    }
+    let made = formed(&reached, form, &names, &types)?;
     definitions(&made, &types, &names, &mut lines)?;
     let mut bodies = Lines::default();
     let mut helpers = BTreeSet::new();
@@ -66,6 +58,17 @@ pub fn file(program: &Program, sources: &Sources, form: Form) -> Result<String, 
     }
     helpers.iter().for_each(|helper: &Helper| helper.write(&mut lines));
     Ok(lines.finish() + &bodies.finish())
+}
+
+/// The functions in one of the forms.
+fn formed(reached: &[&Function], form: Form, names: &Names, types: &Types) -> Result<Vec<Function>, Refused> {
+    let formed = |function: &&Function| match form {
+        Form::Plain => Ok(declared_first(function, types)),
+        Form::Reading => {
+            fold(function, &names.kept(function), types).map_err(|refused| refused.of(&function.name))
+        }
+    };
+    reached.iter().map(formed).collect()
 }
 
 fn opening(form: Form) -> String {
