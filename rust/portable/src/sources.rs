@@ -447,7 +447,9 @@ fn parts(tokens: &[Token]) -> Vec<Vec<Token>> {
         let end = after_group(tokens, at);
         match tokens[at] {
             Token::Mark('<') => within += 1,
-            Token::Mark('>') if at == 0 || tokens[at - 1] != Token::Mark('-') => within = within.saturating_sub(1),
+            Token::Mark('>') if at == 0 || tokens[at - 1] != Token::Mark('-') => {
+                within = within.saturating_sub(1)
+            }
             _ => {}
         }
         if tokens[at] == Token::Mark(',') && within == 0 {
