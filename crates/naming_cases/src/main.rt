@@ -207,7 +207,7 @@ fn exchange(case: &[u8], field: usize, file: &mut [u8], run: RunPosition, names:
     let mut buffer = [0xEEu8; TAKEN];
     let mut short = [0xEEu8; SHORT];
     let size = bytes_at(case, field, &mut frame);
-    round(file, &frame[..size], &mut buffer);
+    let _ = round(file, &frame[..size], &mut buffer);
     let _ = step(file, run, names, &mut short);
 }
 

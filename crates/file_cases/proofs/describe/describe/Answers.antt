@@ -3,4 +3,4 @@ use Rattle.file.proofs.Surveyed.{survey-placed}
 use Rattle.file_cases.proofs.describe.describe.Goals as goal
 
 pub slaves-requires : goal.slaves-requires
-slaves-requires g c = survey-placed c.survey-answer.ensures c.in-Accepted.is
+slaves-requires g c = survey-placed c.survey-answer.ensures c.in-Ok.is
