@@ -1,16 +1,22 @@
 //! Both forms do the same: programs of random statements, with reads, writes, calls, branches and loops in any order, are translated in both,
 //! compiled and run on the same input. The engine itself would not show a rule of folding that is missing; these do.
 
+mod compiled;
 mod small;
 
+use compiled::{driver, run, seed};
 use portable::{translate, Form};
 use small::*;
 use std::env;
 use std::fs;
-use std::path::{Path, PathBuf};
-use std::process::{self, Command};
+use std::path::PathBuf;
+use std::process;
 
 const FUNCTIONS: usize = 300;
+/// Where the random programs begin.
+const SEED: u64 = 0x9E37_79B9_7F4A_7C15;
+/// By what the second word rises from one input to the next.
+const STEP: u64 = 77;
 
 /// The locals of a random function: the result, a slice, two numbers, then what is written and read at random.
 const SLICE: usize = 1;
@@ -214,48 +220,9 @@ fn called(name: &str) -> String {
     function(name, 2, &locals, &all, "")
 }
 
-/// A program that calls every function on some inputs and prints what came of it.
-fn driver() -> String {
-    let prototypes: String =
-        (0..FUNCTIONS).map(|at| format!("uint64_t f{at}(uint8_t *, size_t, uint64_t, uint64_t);\n")).collect();
-    let names: Vec<String> = (0..FUNCTIONS).map(|at| format!("f{at}")).collect();
-    format!(
-        "#include <stdio.h>\n#include <stdint.h>\n#include <stddef.h>\n{prototypes}\
-         static uint64_t (*const all[])(uint8_t *, size_t, uint64_t, uint64_t) = {{{}}};\n\
-         int main(void) {{ int f, i, k; for (f = 0; f < {FUNCTIONS}; f++) for (i = 0; i < 8; i++) {{\n\
-         uint8_t s[8]; for (k = 0; k < 8; k++) s[k] = (uint8_t)(37 * k + 11 * i);\n\
-         printf(\"%d %d %llx\", f, i, (unsigned long long)all[f](s, 8, (uint64_t)i * 77, (uint64_t)(i & 3)));\n\
-         for (k = 0; k < 8; k++) printf(\" %02x\", s[k]); printf(\"\\n\"); }} return 0; }}\n",
-        names.join(", ")
-    )
-}
-
-/// Where the random programs begin; PORTABLE_SEED for others.
-fn seed() -> u64 {
-    env::var("PORTABLE_SEED").ok().and_then(|seed| seed.parse().ok()).unwrap_or(0x9E37_79B9_7F4A_7C15)
-}
-
-fn run(folder: &Path, name: &str, c: &str) -> String {
-    let source = folder.join(format!("{name}.c"));
-    let binary = folder.join(name);
-    fs::write(&source, c).expect("a file");
-    let compiler = env::var("CC").unwrap_or_else(|_| "cc".to_string());
-    let built = Command::new(compiler)
-        .args(["-std=c99", "-O1", "-w", "-I"])
-        .arg(folder)
-        .args([&source, &folder.join("driver.c")])
-        .arg("-o")
-        .arg(&binary)
-        .status();
-    assert!(built.expect("a C compiler").success(), "{name} does not build");
-    let output = Command::new(&binary).output().expect("a program that runs");
-    assert!(output.status.success(), "{name} ends with {}", output.status);
-    String::from_utf8(output.stdout).expect("text")
-}
-
 #[test]
 fn random_programs_do_the_same_in_both_forms() {
-    let mut random = Random(seed());
+    let mut random = Random(seed(SEED));
     let mut functions = vec![called("g"), called("h")];
     functions.extend((0..FUNCTIONS).map(|at| random_function(&mut random, &format!("f{at}"))));
     let term = program(&functions);
@@ -266,7 +233,7 @@ fn random_programs_do_the_same_in_both_forms() {
     let folder: PathBuf = env::temp_dir().join(format!("portable-forms-{}", process::id()));
     fs::create_dir_all(&folder).expect("a folder");
     fs::write(folder.join("ttpa.h"), "#include <stddef.h>\n#include <stdint.h>\n").expect("a file");
-    fs::write(folder.join("driver.c"), driver()).expect("a file");
+    fs::write(folder.join("driver.c"), driver(FUNCTIONS, STEP)).expect("a file");
     let [plain, reading] = [("plain", Form::Plain), ("reading", Form::Reading)]
         .map(|(name, form)| run(&folder, name, &translate(&term, &sources, form).expect("a C file")));
     let different = plain.lines().zip(reading.lines()).find(|(plain, reading)| plain != reading);

@@ -1,16 +1,22 @@
 //! Calls of small functions that are written out, with all that follows from it, do the same in both forms: programs of random statements with enums,
 //! structs, pointers to locals, blocks and such calls are translated in both forms, compiled and run on the same input.
 
+mod compiled;
 mod small;
 
+use compiled::{driver, run, seed};
 use portable::{translate, Form};
 use small::*;
 use std::env;
 use std::fs;
-use std::path::{Path, PathBuf};
-use std::process::{self, Command};
+use std::path::PathBuf;
+use std::process;
 
 const FUNCTIONS: usize = 240;
+/// Where the random programs begin.
+const SEED: u64 = 0x2545_F491_4F6C_DD1D;
+/// By what the second word rises from one input to the next.
+const STEP: u64 = 3;
 /// The random functions that are small, and so written out.
 const SMALL: usize = 12;
 
@@ -519,48 +525,9 @@ fn by_hand() -> Vec<String> {
     ]
 }
 
-/// A program that calls every function on some inputs and prints what came of it.
-fn driver() -> String {
-    let names: Vec<String> = (0..FUNCTIONS).map(|at| format!("f{at}")).collect();
-    let prototypes: String =
-        names.iter().map(|name| format!("uint64_t {name}(uint8_t *, size_t, uint64_t, uint64_t);\n")).collect();
-    format!(
-        "#include <stdio.h>\n#include <stdint.h>\n#include <stddef.h>\n{prototypes}\
-         static uint64_t (*const all[])(uint8_t *, size_t, uint64_t, uint64_t) = {{{}}};\n\
-         int main(void) {{ int f, i, k; for (f = 0; f < {FUNCTIONS}; f++) for (i = 0; i < 8; i++) {{\n\
-         uint8_t s[8]; for (k = 0; k < 8; k++) s[k] = (uint8_t)(37 * k + 11 * i);\n\
-         printf(\"%d %d %llx\", f, i, (unsigned long long)all[f](s, 8, (uint64_t)i * 3, (uint64_t)(i & 3)));\n\
-         for (k = 0; k < 8; k++) printf(\" %02x\", s[k]); printf(\"\\n\"); }} return 0; }}\n",
-        names.join(", ")
-    )
-}
-
-/// Where the random programs begin; PORTABLE_SEED for others.
-fn seed() -> u64 {
-    env::var("PORTABLE_SEED").ok().and_then(|seed| seed.parse().ok()).unwrap_or(0x2545_F491_4F6C_DD1D)
-}
-
-fn run(folder: &Path, name: &str, c: &str) -> String {
-    let source = folder.join(format!("{name}.c"));
-    let binary = folder.join(name);
-    fs::write(&source, c).expect("a file");
-    let compiler = env::var("CC").unwrap_or_else(|_| "cc".to_string());
-    let built = Command::new(compiler)
-        .args(["-std=c99", "-O1", "-w", "-I"])
-        .arg(folder)
-        .args([&source, &folder.join("driver.c")])
-        .arg("-o")
-        .arg(&binary)
-        .status();
-    assert!(built.expect("a C compiler").success(), "{name} does not build");
-    let output = Command::new(&binary).output().expect("a program that runs");
-    assert!(output.status.success(), "{name} ends with {}", output.status);
-    String::from_utf8(output.stdout).expect("text")
-}
-
 #[test]
 fn calls_that_are_written_out_do_the_same() {
-    let mut random = Random(seed());
+    let mut random = Random(seed(SEED));
     let mut functions = by_hand();
     functions.extend((0..SMALL).map(|at| small_one(&mut random, &format!("r{at}"))));
     let mut functions: Vec<String> =
@@ -577,7 +544,7 @@ fn calls_that_are_written_out_do_the_same() {
     let folder: PathBuf = env::temp_dir().join(format!("portable-written-out-{}", process::id()));
     fs::create_dir_all(&folder).expect("a folder");
     fs::write(folder.join("ttpa.h"), "#include <stddef.h>\n#include <stdint.h>\n").expect("a file");
-    fs::write(folder.join("driver.c"), driver()).expect("a file");
+    fs::write(folder.join("driver.c"), driver(FUNCTIONS, STEP)).expect("a file");
     let made = [Form::Plain, Form::Reading].map(|form| translate(&term, &sources, form).expect("a C file"));
     // in the reading form, none of those by hand is called
     for name in ["less", "swap", "same", "make", "flow"] {
