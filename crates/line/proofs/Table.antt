@@ -64,6 +64,10 @@ least x (suc n) none =
     let other : x ≡ n → ⊥ = none.1 in
     omega (arith, other)
 
+-- the last row, which has no number in the code
+pub last_by_rule : {row : ℕ} → row < 16 → NoneBelow row 15 → RowByRule row (get_or rows 15 0)
+last_by_rule {row} few none = row_by_rule few (omega (arith, least row 15 none))
+
 -- the call above 511, and below 512 by the entry found there
 pub above : (p : ℕ) → 511 < p → refused 31 ≡ pattern_on p
 unfolding pattern_on pattern_ground first_of result_of

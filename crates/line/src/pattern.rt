@@ -28,7 +28,7 @@ pub enum PatternClass {
 // "Each of the 512 patterns has an entry": two bits, 0 a data byte, 1 a firework, 2 broken. A row is the entries of 32 patterns, the first in the
 // lowest bits. It is read from the right, and a digit is two patterns: 8 a data byte and then broken, 2 broken and then a data byte, 4 a data
 // byte and then a firework, 1 a firework and then a data byte.
-static CLASSES: [u64; ROWS] = [
+const CLASSES: [u64; ROWS] = [
     0x8228288228828228,
     0x2882822882282882,
     0x2882822882242882,
@@ -47,12 +47,29 @@ static CLASSES: [u64; ROWS] = [
     0x8228288228828228,
 ];
 
-// A row by its number.
+// Each row by a number of its own, and the compiler makes the table read-only data; indexed by a variable it is laid out on the stack in each call.
 fn row_at(row: u16) -> u64
     requires { row < 16 }
     ensures { RowByRule row result }
 {
-    CLASSES[row as usize]
+    match row {
+        0 => CLASSES[0],
+        1 => CLASSES[1],
+        2 => CLASSES[2],
+        3 => CLASSES[3],
+        4 => CLASSES[4],
+        5 => CLASSES[5],
+        6 => CLASSES[6],
+        7 => CLASSES[7],
+        8 => CLASSES[8],
+        9 => CLASSES[9],
+        10 => CLASSES[10],
+        11 => CLASSES[11],
+        12 => CLASSES[12],
+        13 => CLASSES[13],
+        14 => CLASSES[14],
+        _ => CLASSES[15],
+    }
 }
 
 pub fn read_pattern(pattern: u16) -> Result<PatternClass, Refusal>
