@@ -25,9 +25,9 @@ fn whole_rows(trace: &[u8], count: usize) -> bool
     requires { (header_size + row_size * count ≤ length trace.now) × (length trace.now ≤ max_trace) }
     ensures { result ≡ whole_rows trace.now header_size 0 count }
 {
-    let end = HEADER_SIZE + ROW_SIZE * count;
     let mut place = 0;
-    for row in (HEADER_SIZE..end).step_by(ROW_SIZE) {
+    for index in 0..count {
+        let row = HEADER_SIZE + ROW_SIZE * index;
         if u16_at(trace, row) != place {
             return false;
         }

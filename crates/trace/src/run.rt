@@ -50,14 +50,15 @@ fn run_frames(file: &mut [u8], places: &SlavePlaces, trace: &[u8]) -> Report
     requires { Placed file.old places.now × (broken_trace trace.now ≡ false) }
     ensures { TraceSent file.old trace.now (report_in result) file.new }
 {
-    let data_place = HEADER_SIZE + ROW_SIZE * u16_at(trace, COUNT_PLACE);
+    let count = u16_at(trace, COUNT_PLACE);
     let mut buffer = [0u8; SLOTS];
     let mut progress = Progress {
         report: NO_FRAMES,
         sleepers: true,
     };
-    let mut start = data_place;
-    for row in (HEADER_SIZE..data_place).step_by(ROW_SIZE) {
+    let mut start = HEADER_SIZE + ROW_SIZE * count;
+    for index in 0..count {
+        let row = HEADER_SIZE + ROW_SIZE * index;
         let end = start + byte_at(trace, row + LENGTH_PLACE);
         progress = run_frame(file, places, &trace[start..end], &mut buffer, progress);
         start = end;
