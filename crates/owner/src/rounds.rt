@@ -95,6 +95,9 @@ impl Planner<'_> {
 }
 
 // All rounds: the head and the rows of the owner file.
+// Not written into its call: there the loop along a slave's entries, which is written into this function, keeps the file's place in memory, with
+// four instructions more for each entry.
+#[inline(never)]
 pub fn write_rounds(
     file: &[u8],
     places: &SlavePlaces,
