@@ -1,10 +1,9 @@
 // The lines of the input.
-ghost use Rattle.std.specs.Prelude.{◌==◌, ◌≡◌, All, IfOk, IfSome, Ok, OnOk, map, take};
+ghost use Rattle.std.specs.Prelude.{◌≡◌, All, IfOk, IfSome, Ok, OnOk, take};
 ghost use Rattle.std.specs.Fn.{FnReturnsAt};
-ghost use Rattle.std.specs.List.{slice_split};
 ghost use Rattle.case_input.specs.Inner.Lines.{lines, without_end};
 
-use std::alloc::{AllocError, Global};
+use std::alloc::Global;
 use std::io;
 use std::io::Read;
 
@@ -29,29 +28,15 @@ fn without_end(bytes: &[u8]) -> &[u8]
     bytes
 }
 
-fn cut(alloc: Global, bytes: &[u8]) -> Result<Vec<&[u8]>, AllocError>
-    ensures { IfOk result (λ v. map (λ x. x.now) v.items ≡ slice_split (λ b. b == 10) bytes.now) }
-{
-    bytes.split(|b| *b == b'\n').collect(alloc)
-}
-
-fn lines(alloc: Global, bytes: &[u8]) -> Result<Vec<&[u8]>, AllocError>
-    ensures { IfOk result (λ v. map (λ x. x.now) v.items ≡ lines bytes.now) }
+// One line after the other, so that no memory is taken for them.
+fn each<F: Fn(&[u8]) -> io::Result<()>>(bytes: &[u8], case: F) -> io::Result<()>
+    requires { F.IsAlwaysCallable case }
+    ensures { OnOk result (All (λ line. FnReturnsAt F.Fn case line (Ok tt)) (lines bytes.now)) }
 {
     if bytes.is_empty() {
-        return Ok(Vec::new(alloc));
+        return Ok(());
     }
-    cut(alloc, without_end(bytes))
-}
-
-fn each<F: Fn(&[u8]) -> io::Result<()>>(lines: &[&[u8]], case: F) -> io::Result<()>
-    requires { F.IsAlwaysCallable case }
-    ensures { OnOk result (All (λ line. FnReturnsAt F.Fn case line.now (Ok tt)) lines.now) }
-{
-    for line in lines {
-        case(*line)?;
-    }
-    Ok(())
+    without_end(bytes).split(|b| *b == b'\n').try_for_each(case)
 }
 
 // Hands each line of the input to a function, in order, and stops at the function's first error. The whole input is read before its
@@ -65,7 +50,7 @@ pub fn each_line<R: Read + Drop, F: Fn(&[u8]) -> io::Result<()>>(
     ensures { IfSome (R.remaining input) (λ xs. OnOk result (All (λ line. FnReturnsAt F.Fn case line (Ok tt)) (lines (take 262144 xs)))) }
 {
     let bytes = read_input(alloc, input)?;
-    each(&lines(alloc, &bytes)?, case)
+    each(&bytes, case)
 }
 
 #[cfg(test)]
