@@ -17,7 +17,8 @@ impl<'a> fmt::Display for Hex<'a> {
     }
 }
 
-// Bytes as they are, such as a line of the input, which need not be text.
+// Bytes as they are, such as a line of the input, which need not be text. What each line has is written so too: `print!` clears and copies 1,024
+// bytes, which is most of the work where lines are short.
 pub fn text(out: &impl Print, s: &[u8]) -> io::Result<()> {
     out.write_all(s)
 }

@@ -50,7 +50,7 @@ fn run(out: &impl Print, case: &[u8]) -> io::Result<()> {
     if is(case, b"round") {
         round_case(out, case)?;
     }
-    println!(out)
+    text(out, b"\n")
 }
 
 fn main(rt: HostRuntime) -> io::Result<()> {

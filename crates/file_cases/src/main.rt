@@ -24,7 +24,7 @@ fn checked(out: &impl Print, file: &[u8]) -> io::Result<()> {
 }
 
 fn answer(out: &impl Print, case: &[u8], file: &[u8]) -> io::Result<()> {
-    print!(out; " =")?;
+    text(out, b" =")?;
     if is(case, b"check") {
         checked(out, file)
     } else if is(case, b"readers") {
@@ -41,7 +41,7 @@ fn run(out: &impl Print, case: &[u8]) -> io::Result<()> {
     if !is(case, b"#") {
         answer(out, case, &file[..size])?;
     }
-    println!(out)
+    text(out, b"\n")
 }
 
 fn main(rt: HostRuntime) -> io::Result<()> {

@@ -103,10 +103,10 @@ fn run(out: &impl Print, case: &[u8]) -> io::Result<()> {
     let size = bytes_at(case, 1, &mut bytes);
     text(out, case)?;
     if !is(case, b"#") {
-        print!(out; " =")?;
+        text(out, b" =")?;
         answer(out, case, &mut bytes[..size])?;
     }
-    println!(out)
+    text(out, b"\n")
 }
 
 fn main(rt: HostRuntime) -> io::Result<()> {

@@ -19,7 +19,7 @@ fn listing(out: &impl Print, case: &[u8]) -> io::Result<()> {
 
 fn run(out: &impl Print, case: &[u8]) -> io::Result<()> {
     text(out, case)?;
-    println!(out)?;
+    text(out, b"\n")?;
     if is(case, b"list") {
         listing(out, case)?;
     }

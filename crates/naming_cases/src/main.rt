@@ -267,10 +267,10 @@ fn call(out: &impl Print, case: &[u8]) -> io::Result<()> {
 fn run(out: &impl Print, case: &[u8]) -> io::Result<()> {
     text(out, case)?;
     if !is(case, b"#") {
-        print!(out; " =")?;
+        text(out, b" =")?;
         call(out, case)?;
     }
-    println!(out)
+    text(out, b"\n")
 }
 
 fn main(rt: HostRuntime) -> io::Result<()> {
