@@ -1,11 +1,12 @@
 //! Of the reading form: small functions that the sources do not have, such as those of the kit behind `?` and `==`, are written where they are
-//! called.
+//! called, and of the sources' own those that `handed` names.
 //! - A call is the function's own statements, with locals of its own: its parameters are assigned, and its result is put where the call's was.
 //! - A function is small where it has no loop and few statements, and each of its ways ends at its end.
 //! - What a pointer to a local, or a copy, stands for is then written in its place (`forward`), so that nothing of the call is left to see.
 
 use crate::blocks::ended;
 use crate::forward::forward;
+use crate::handed::handed;
 use crate::tree::{Arm, Base, Binary, Expr, Function, Place, Program, Statement, Ty, Width};
 use crate::types::Types;
 use crate::Refused;
@@ -14,14 +15,16 @@ use std::collections::{BTreeMap, BTreeSet};
 /// The most statements of a function that is written where it is called.
 const SMALL: usize = 16;
 
-/// The program without the calls of small functions that are not the sources' own. `kept` are the locals that have names there.
+/// The program without the calls of small functions that are not the sources' own, or are handed what C would lay into memory. `kept` are the
+/// locals that have names there.
 pub fn inlined(
     program: &Program,
     is_own: &dyn Fn(&str) -> bool,
     kept: &dyn Fn(&Function) -> BTreeSet<usize>,
 ) -> Result<Program, Refused> {
     let types = Types::of(program);
-    let mut inliner = Inliner { program, types: &types, is_own, kept, made: BTreeMap::new() };
+    let handed = handed(program, &types, kept);
+    let mut inliner = Inliner { program, types: &types, is_own, kept, handed, made: BTreeMap::new() };
     for function in &program.functions {
         inliner.function(function)?;
     }
@@ -40,6 +43,8 @@ struct Inliner<'a> {
     types: &'a Types<'a>,
     is_own: &'a dyn Fn(&str) -> bool,
     kept: &'a dyn Fn(&Function) -> BTreeSet<usize>,
+    /// Functions of the sources that are written out too.
+    handed: BTreeSet<&'a str>,
     made: BTreeMap<&'a str, Made>,
 }
 
@@ -68,7 +73,8 @@ impl<'a> Inliner<'a> {
             forward(&mut made, &(self.kept)(function), self.types)
                 .map_err(|refused| refused.of(&function.name))?;
         }
-        let small = if is_own { None } else { ended(made.body.clone(), &Statement::Return(None)) };
+        let is_written_out = !is_own || self.handed.contains(function.name.as_str());
+        let small = is_written_out.then(|| ended(made.body.clone(), &Statement::Return(None))).flatten();
         let small = small.filter(|body| size(body).is_some_and(|size| size <= SMALL));
         self.made.insert(&function.name, Made { function: made, small });
         Ok(())

@@ -4,8 +4,8 @@
 //!
 //! `json` reads the files, `mir` makes a term of the functions that the calls for C reach, of which `instances` makes one for each list of arguments;
 //! `term` reads a term that is written as text, `program` what a term says; `types` and `check` refuse what would not be the same program in C, or
-//! not defined there; `inline` writes small functions of the kit's where they are called, with `forward` and `blocks`, and `fold` makes the reading
-//! form, with `live`; `sources` and `names` have the names; `declare`, `write`, `text`, `helpers` and `layout` make the C text. The same input
+//! not defined there; `inline` writes small functions where they are called, those of the kit's and those that `handed` names, with `forward` and
+//! `blocks`, and `fold` makes the reading form, with `live`; `sources` and `names` have the names; `declare`, `write`, `text`, `helpers` and `layout` make the C text. The same input
 //! gives the same bytes.
 
 mod blocks;
@@ -13,6 +13,7 @@ mod check;
 mod declare;
 mod fold;
 mod forward;
+mod handed;
 mod helpers;
 mod inline;
 mod instances;

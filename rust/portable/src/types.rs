@@ -60,6 +60,19 @@ impl<'a> Types<'a> {
         }
     }
 
+    /// Whether a type is an enum that has a value in one of its variants.
+    pub fn is_enum_of_values(&self, ty: &Ty) -> bool {
+        match ty {
+            Ty::Named(name) => match self.shapes.get(name) {
+                Some(Shape::Variants(variants)) => {
+                    variants.iter().flatten().any(|field| !self.is_valueless(field))
+                }
+                _ => false,
+            },
+            _ => false,
+        }
+    }
+
     /// How a value lies in the machine's memory (`Prog/Memory`): a struct's fields one after another, each at a multiple of its alignment; an
     /// enum's tag in one byte, and behind it the fields of a variant.
     pub fn layout(&self, ty: &Ty) -> Result<Layout, Refused> {

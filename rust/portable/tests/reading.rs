@@ -235,14 +235,85 @@ fn a_way_goes_on_with_the_part_of_its_own_tag() {
     assert!(!c.contains("m_E"), "{c}");
 }
 
-#[test]
-fn a_function_of_the_sources_is_called() {
+/// `m::f(a: u8)`, which sets a local by `m::way` and by what stands behind that, and hands it to `m::test`; and another function that calls it.
+fn of_sources(behind: &[String], other: String) -> String {
+    let locals = [value(U8), value(U8), value(&e())];
+    let (way_of, test_of) = (call("way", &[1], 2), call("test", &[2], 0));
+    let body = [&[way_of][..], behind, &[test_of, "return".to_string()]].concat();
+    let f = f(1, &locals, &body.iter().map(String::as_str).collect::<Vec<_>>());
+    program(&[&[f][..], &way(), &[other]].concat()).replace("core::", "m::")
+}
+
+/// `m::g`, which hands on its parameter, or the answer to it.
+fn of_parameter() -> String {
+    function("g", 1, &[value(U8), value(&e())], &[&call("test", &[1], 0), "return"], &table())
+}
+
+fn of_answer() -> String {
     let locals = [value(U8), value(U8), value(&e())];
     let body = [call("way", &[1], 2), call("test", &[2], 0)];
-    let f = f(1, &locals, &[&body[0], &body[1], "return"]);
-    let term = program(&[&[f][..], &way()].concat()).replace("core::", "m::");
-    let c = translated(&term, "a: u8", Form::Reading).expect("a reading form");
+    function("g", 1, &locals, &[&body[0], &body[1], "return"], &table())
+}
+
+#[test]
+fn a_function_of_the_sources_is_called() {
+    let c = translated(&of_sources(&[], of_parameter()), "a: u8", Form::Reading).expect("a reading form");
     has(&c, "    return m_test(m_way(a));\n");
+}
+
+#[test]
+fn a_function_to_which_every_call_hands_an_answer_is_written_out() {
+    let c = translated(&of_sources(&[], of_answer()), "a: u8", Form::Reading).expect("a reading form");
+    has(&c, "    m_E t2 = m_way(a);\n    switch (t2.tag) {\n    case 1:\n        return t2.as.v1.f0;\n");
+    has(&c, "    case 0:\n    default:\n        return 5;\n    }\n}\n");
+    assert!(!c.contains("m_test"), "{c}");
+}
+
+#[test]
+fn an_answer_that_has_a_name_is_handed_to_a_call() {
+    let named = sources("pub extern \"C\" fn f(a: u8) -> u8 { let e = way(a); test(e) }");
+    let c = portable::translate(&of_sources(&[], of_answer()), &named, Form::Reading).expect("a reading form");
+    has(&c, "    m_E e = m_way(a);\n    return m_test(e);\n");
+}
+
+#[test]
+fn a_value_that_is_set_behind_the_answer_is_handed_to_a_call() {
+    let made = assign(&at(2), "aggregate (lcons (int 8 0) lnil)");
+    let c = translated(&of_sources(&[made], of_answer()), "a: u8", Form::Reading).expect("a reading form");
+    has(&c, "m_test((m_E){.tag = 0})");
+}
+
+/// `m::more(s)`: the word of a struct is one more, or what `m::raised` makes of it.
+fn more(calls: bool) -> String {
+    let raised = match calls {
+        true => call("raised", &[2], 2).replace("core::", "m::"),
+        false => assign(&at(2), &format!("op2 (add unsigned) {} (int 64 1)", copy(2))),
+    };
+    let fields = format!("(lcons (copy {}) (lcons {} lnil))", field(1, 0), copy(2));
+    let body = [
+        put(2, &format!("(copy {})", field(1, 1))),
+        raised,
+        assign(&at(0), &format!("aggregate {fields}")),
+        "return".to_string(),
+    ];
+    let body: Vec<&str> = body.iter().map(String::as_str).collect();
+    function("more", 1, &[value(&s()), value(&s()), value(U64)], &body, &table())
+}
+
+fn raised() -> String {
+    let sum = assign(&at(0), &format!("op2 (add unsigned) {} (int 64 1)", copy(1)));
+    function("raised", 1, &[value(U64), value(U64)], &[&sum, "return"], &table())
+}
+
+#[test]
+fn a_function_that_changes_a_struct_is_written_out() {
+    let call = call("more", &[1], 0).replace("core::", "m::");
+    let f = f(1, &[value(&s()), value(&s())], &[&call, "return"]);
+    let c = reading(&[f.clone(), more(false)], "a: S");
+    has(&c, "    return (m_S){.f0 = a.f0, .f1 = a.f1 + 1};\n");
+    assert!(!c.contains("m_more"), "{c}");
+    let c = reading(&[f, more(true), raised()], "a: S");
+    has(&c, "    return m_more(a);\n");
 }
 
 #[test]
