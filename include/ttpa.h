@@ -28,9 +28,9 @@
  *   needs for 64-bit arithmetic, has no data but constants, and does not recurse. Code and constants of all calls, and the most stack that a
  *   call uses, without what memcpy, memset and the compiler's own functions take, with gcc 12.2 at -Os:
  *
- *       Cortex-M4   16,168 bytes of code, 2,140 of stack
- *       Cortex-M0   18,616 bytes of code, 2,228 of stack
- *       RV32IMAC    20,534 bytes of code, 2,112 of stack
+ *       Cortex-M4   15,796 bytes of code, 2,028 of stack
+ *       Cortex-M0   18,548 bytes of code, 2,108 of stack
+ *       RV32IMAC    19,754 bytes of code, 2,000 of stack
  *
  *   With -ffunction-sections and -Wl,--gc-sections a program has only what the calls that it makes need. */
 #ifndef TTPA_H

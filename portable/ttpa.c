@@ -1373,25 +1373,18 @@ static inline uint8_t file_types_Refusal_number(file_types_Refusal self)
     return (uint8_t)(self.tag + 1);
 }
 
-/* ttpa::number_in. The number that a call returns: 0 where it is done. */
-static inline uint8_t ttpa_number_in(Result_unit_file_types_Refusal done)
-{
-    switch (done.tag) {
-    case 0:
-        return 0;
-    case 1:
-    default: {
-        file_types_Refusal why = done.as.Err.f0;
-        return file_types_Refusal_number(why);
-    }
-    }
-}
-
 /* ttpa::ttpa_check. */
 uint8_t ttpa_check(const uint8_t *file_at, size_t file_len)
 {
     slice_u8 file = {file_at, file_len};
-    return ttpa_number_in(file_survey_check(file));
+    Result_unit_file_types_Refusal t2 = file_survey_check(file);
+    switch (t2.tag) {
+    case 0:
+        return 0;
+    case 1:
+    default:
+        return file_types_Refusal_number(t2.as.Err.f0);
+    }
 }
 
 /* file::records::search_directory. What a directory states for a file number. */
@@ -1508,42 +1501,28 @@ static inline Result_u64_file_types_Refusal contents_read_read_contents(slice_u8
     return (Result_u64_file_types_Refusal){.tag = 0, .as.Ok.f0 = bytes.size};
 }
 
-/* ttpa::in_word. How many bytes or names there are, as a word of the C interface. */
-static inline Result_u64_file_types_Refusal ttpa_in_word(Result_u64_file_types_Refusal count)
-{
-    if (count.tag != 0) {
-        return (Result_u64_file_types_Refusal){.tag = 1, .as.Err.f0 = count.as.Err.f0};
-    }
-    return (Result_u64_file_types_Refusal){.tag = 0, .as.Ok.f0 = count.as.Ok.f0};
-}
-
-/* ttpa::number_telling. The same of a call that has a number of its own to tell, which is put into the lent
- * word where it is done. */
-static inline uint8_t ttpa_number_telling(Result_u64_file_types_Refusal done, uint64_t *told)
-{
-    switch (done.tag) {
-    case 1: {
-        file_types_Refusal why = done.as.Err.f0;
-        return file_types_Refusal_number(why);
-    }
-    case 0:
-    default: {
-        uint64_t number = done.as.Ok.f0;
-        *told = number;
-        return 0;
-    }
-    }
-}
-
 /* ttpa::ttpa_contents. */
 uint8_t ttpa_contents(const uint8_t *file_at, size_t file_len, uint64_t slave, uint8_t number,
         uint8_t *buffer_at, size_t buffer_len, uint64_t *length)
 {
     slice_u8 file = {file_at, file_len};
     slice_mut_u8 buffer = {buffer_at, buffer_len};
-    Result_u64_file_types_Refusal t6 = ttpa_in_word(contents_read_read_contents(file, slave,
-            (file_types_FileNumber){.f0 = number}, buffer));
-    return ttpa_number_telling(t6, length);
+    Result_u64_file_types_Refusal t7 = contents_read_read_contents(file, slave,
+            (file_types_FileNumber){.f0 = number}, buffer);
+    Result_u64_file_types_Refusal t38;
+    if (t7.tag != 0) {
+        t38 = (Result_u64_file_types_Refusal){.tag = 1, .as.Err.f0 = t7.as.Err.f0};
+    } else {
+        t38 = (Result_u64_file_types_Refusal){.tag = 0, .as.Ok.f0 = t7.as.Ok.f0};
+    }
+    switch (t38.tag) {
+    case 1:
+        return file_types_Refusal_number(t38.as.Err.f0);
+    case 0:
+    default:
+        *length = t38.as.Ok.f0;
+        return 0;
+    }
 }
 
 /* file::readers::logical_names. Each slave's logical name, in the order of the slave table, put in front of
@@ -1581,8 +1560,21 @@ uint8_t ttpa_fill(const uint8_t *file_at, size_t file_len, uint8_t *held_at, siz
 {
     slice_u8 file = {file_at, file_len};
     slice_mut_u8 held = {held_at, held_len};
-    Result_u64_file_types_Refusal t4 = ttpa_in_word(summary_fill_fill(file, held));
-    return ttpa_number_telling(t4, count);
+    Result_u64_file_types_Refusal t5 = summary_fill_fill(file, held);
+    Result_u64_file_types_Refusal t34;
+    if (t5.tag != 0) {
+        t34 = (Result_u64_file_types_Refusal){.tag = 1, .as.Err.f0 = t5.as.Err.f0};
+    } else {
+        t34 = (Result_u64_file_types_Refusal){.tag = 0, .as.Ok.f0 = t5.as.Ok.f0};
+    }
+    switch (t34.tag) {
+    case 1:
+        return file_types_Refusal_number(t34.as.Err.f0);
+    case 0:
+    default:
+        *count = t34.as.Ok.f0;
+        return 0;
+    }
 }
 
 /* summary::holder::find_holder. The place in the slave table of the first slave that holds the name, or none
@@ -2129,8 +2121,21 @@ uint8_t ttpa_join(const uint8_t *first_at, size_t first_len, const uint8_t *seco
     slice_u8 first = {first_at, first_len};
     slice_u8 second = {second_at, second_len};
     slice_mut_u8 out = {out_at, out_len};
-    Result_u64_file_types_Refusal t5 = ttpa_in_word(join_join_join(first, second, out));
-    return ttpa_number_telling(t5, length);
+    Result_u64_file_types_Refusal t6 = join_join_join(first, second, out);
+    Result_u64_file_types_Refusal t35;
+    if (t6.tag != 0) {
+        t35 = (Result_u64_file_types_Refusal){.tag = 1, .as.Err.f0 = t6.as.Err.f0};
+    } else {
+        t35 = (Result_u64_file_types_Refusal){.tag = 0, .as.Ok.f0 = t6.as.Ok.f0};
+    }
+    switch (t35.tag) {
+    case 1:
+        return file_types_Refusal_number(t35.as.Err.f0);
+    case 0:
+    default:
+        *length = t35.as.Ok.f0;
+        return 0;
+    }
 }
 
 /* owner::held::mark_rounds. The numbers below 8 of a directory's files, a bit each. A `while`: `step_by`
@@ -2464,7 +2469,9 @@ static inline owner_rounds_Rows owner_plan_Planner_write_round(const owner_plan_
             .multiplexed = (_Bool)(t3.multiplexed | t7.multiplexed)};
 }
 
-/* owner::rounds::write_rounds. All rounds: the head and the rows of the owner file. */
+/* owner::rounds::write_rounds. All rounds: the head and the rows of the owner file. Not written into its
+ * call: there the loop along a slave's entries, which is written into this function, keeps the file's place
+ * in memory, with four instructions more for each entry. */
 static inline owner_rounds_Rows owner_rounds_write_rounds(slice_u8 file, const uint16_t *places,
         file_types_LogicalName master, slice_mut_u8 head, slice_mut_u8 rows)
 {
@@ -2530,31 +2537,61 @@ uint8_t ttpa_owner(const uint8_t *file_at, size_t file_len, uint8_t master, uint
     slice_u8 file = {file_at, file_len};
     slice_mut_u8 buffer = {buffer_at, buffer_len};
     file_types_LogicalName t7 = file_types_LogicalName_new(master);
-    Result_u64_file_types_Refusal t5 = ttpa_in_word(owner_write_write_owner(file, t7, buffer));
-    return ttpa_number_telling(t5, length);
+    Result_u64_file_types_Refusal t6 = owner_write_write_owner(file, t7, buffer);
+    Result_u64_file_types_Refusal t36;
+    if (t6.tag != 0) {
+        t36 = (Result_u64_file_types_Refusal){.tag = 1, .as.Err.f0 = t6.as.Err.f0};
+    } else {
+        t36 = (Result_u64_file_types_Refusal){.tag = 0, .as.Ok.f0 = t6.as.Ok.f0};
+    }
+    switch (t36.tag) {
+    case 1:
+        return file_types_Refusal_number(t36.as.Err.f0);
+    case 0:
+    default:
+        *length = t36.as.Ok.f0;
+        return 0;
+    }
 }
 
-/* line::pattern::row_at. A row by its number. */
+/* line::pattern::row_at. Each row by a number of its own, and the compiler makes the table read-only data;
+ * indexed by a variable it is laid out on the stack in each call. */
 static inline uint64_t line_pattern_row_at(uint16_t row)
 {
-    uint64_t t8[16];
-    t8[0] = UINT64_C(0x8228288228828228);
-    t8[1] = UINT64_C(0x2882822882282882);
-    t8[2] = UINT64_C(0x2882822882242882);
-    t8[3] = UINT64_C(0x8228288228828128);
-    t8[4] = UINT64_C(0x2882422882282882);
-    t8[5] = UINT64_C(0x8218288228828228);
-    t8[6] = UINT64_C(0x8228288228828228);
-    t8[7] = UINT64_C(0x2882822882282882);
-    t8[8] = UINT64_C(0x2882822882282882);
-    t8[9] = UINT64_C(0x8228288228828228);
-    t8[10] = UINT64_C(0x8228248228828228);
-    t8[11] = UINT64_C(0x2881822882282882);
-    t8[12] = UINT64_C(0x8228288228428228);
-    t8[13] = UINT64_C(0x2882822882281882);
-    t8[14] = UINT64_C(0x2882822882282882);
-    t8[15] = UINT64_C(0x8228288228828228);
-    return t8[(uint64_t)row];
+    switch (row) {
+    case 0:
+        return UINT64_C(0x8228288228828228);
+    case 1:
+        return UINT64_C(0x2882822882282882);
+    case 2:
+        return UINT64_C(0x2882822882242882);
+    case 3:
+        return UINT64_C(0x8228288228828128);
+    case 4:
+        return UINT64_C(0x2882422882282882);
+    case 5:
+        return UINT64_C(0x8218288228828228);
+    case 6:
+        return UINT64_C(0x8228288228828228);
+    case 7:
+        return UINT64_C(0x2882822882282882);
+    case 8:
+        return UINT64_C(0x2882822882282882);
+    case 9:
+        return UINT64_C(0x8228288228828228);
+    case 10:
+        return UINT64_C(0x8228248228828228);
+    case 11:
+        return UINT64_C(0x2881822882282882);
+    case 12:
+        return UINT64_C(0x8228288228428228);
+    case 13:
+        return UINT64_C(0x2882822882281882);
+    case 14:
+        return UINT64_C(0x2882822882282882);
+    default:
+        return UINT64_C(0x8228288228828228);
+    }
 }
 
 /* line::pattern::read_pattern. */
@@ -2676,7 +2713,14 @@ uint8_t ttpa_post(uint8_t state[33], uint8_t screen, uint8_t name, uint8_t file,
     file_types_LogicalName t7 = file_types_LogicalName_new(name);
     master_slave_types_RecordAddress read = (master_slave_types_RecordAddress){.name = t7,
             .number = (file_types_FileNumber){.f0 = file}, .record = (file_types_RecordNumber){.f0 = record}};
-    return ttpa_number_in(screens_post_post(state, screen, read));
+    Result_unit_file_types_Refusal t10 = screens_post_post(state, screen, read);
+    switch (t10.tag) {
+    case 0:
+        return 0;
+    case 1:
+    default:
+        return file_types_Refusal_number(t10.as.Err.f0);
+    }
 }
 
 /* frame::reader::is_no_address. */
@@ -4035,7 +4079,14 @@ uint8_t ttpa_round(uint8_t *file_at, size_t file_len, const uint8_t *frame_at, s
     slice_u8 frame = {frame_at, frame_len};
     slice_mut_u8 answer = {answer_at, answer_len};
     Result_u64_file_types_Refusal t5 = cluster_round_round(file, frame, answer);
-    return ttpa_number_telling(t5, senders);
+    switch (t5.tag) {
+    case 1:
+        return file_types_Refusal_number(t5.as.Err.f0);
+    case 0:
+    default:
+        *senders = t5.as.Ok.f0;
+        return 0;
+    }
 }
 
 /* summary::matching::is_wrong. Whether the count is not that of the file's slaves, or the slice does not
@@ -4105,7 +4156,14 @@ uint8_t ttpa_round_keeping(uint8_t *file_at, size_t file_len, const uint8_t *fra
     slice_mut_u8 answer = {answer_at, answer_len};
     slice_mut_u8 held = {held_at, held_len};
     Result_u64_file_types_Refusal t7 = summary_round_round_keeping(file, frame, answer, held, count);
-    return ttpa_number_telling(t7, senders);
+    switch (t7.tag) {
+    case 1:
+        return file_types_Refusal_number(t7.as.Err.f0);
+    case 0:
+    default:
+        *senders = t7.as.Ok.f0;
+        return 0;
+    }
 }
 
 /* screens::state::fresh_state. "from screen 0 at the start": the one last served is the last. */
@@ -4200,8 +4258,21 @@ static inline Result_u64_file_types_Refusal convert_convert_convert(slice_u8 fil
 static inline uint8_t ttpa_to_edition(slice_u8 file, convert_editions_Edition edition, slice_mut_u8 out,
         uint64_t *length)
 {
-    Result_u64_file_types_Refusal t5 = ttpa_in_word(convert_convert_convert(file, edition, out));
-    return ttpa_number_telling(t5, length);
+    Result_u64_file_types_Refusal t6 = convert_convert_convert(file, edition, out);
+    Result_u64_file_types_Refusal t35;
+    if (t6.tag != 0) {
+        t35 = (Result_u64_file_types_Refusal){.tag = 1, .as.Err.f0 = t6.as.Err.f0};
+    } else {
+        t35 = (Result_u64_file_types_Refusal){.tag = 0, .as.Ok.f0 = t6.as.Ok.f0};
+    }
+    switch (t35.tag) {
+    case 1:
+        return file_types_Refusal_number(t35.as.Err.f0);
+    case 0:
+    default:
+        *length = t35.as.Ok.f0;
+        return 0;
+    }
 }
 
 /* ttpa::ttpa_to_edition_1. */
@@ -4226,18 +4297,15 @@ uint8_t ttpa_to_edition_2(const uint8_t *file_at, size_t file_len, uint8_t *out_
  * without gap. */
 static inline _Bool trace_layout_whole_rows(slice_u8 trace, uint64_t count)
 {
-    uint64_t end = 4 + 3 * count;
     uint64_t place = 0;
-    uint64_t row = 4;
-    while (row < end) {
+    uint64_t index = 0;
+    while (index < count) {
+        uint64_t row = 4 + 3 * index;
         if (file_numbers_u16_at(trace, row) != place) {
             return 0;
         }
         place = place + file_numbers_byte_at(trace, row + 2);
-        if (3 >= end - row) {
-            break;
-        }
-        row = row + 3;
+        index = index + 1;
     }
     return place == file_numbers_u16_at(trace, 2);
 }
@@ -4351,13 +4419,6 @@ static inline cluster_answer_Unheard cluster_round_one_unheard(slice_mut_u8 file
     }
 }
 
-/* trace::report::one_refused. */
-static inline trace_report_Report trace_report_one_refused(trace_report_Report report)
-{
-    return (trace_report_Report){.msa = report.msa, .msd = report.msd, .multipartner = report.multipartner,
-            .refused = report.refused + 1};
-}
-
 /* trace::report::one_carried. A frame that was carried out, by its firework. None without one is. */
 static inline trace_report_Report trace_report_one_carried(trace_report_Report report,
         Option_frame_firework_Firework firework)
@@ -4369,7 +4430,8 @@ static inline trace_report_Report trace_report_one_carried(trace_report_Report r
         break;
     case 0:
     default:
-        return trace_report_one_refused(report);
+        return (trace_report_Report){.msa = report.msa, .msd = report.msd, .multipartner = report.multipartner,
+                .refused = report.refused + 1};
     }
     switch (opened.tag) {
     case 2:
@@ -4391,7 +4453,8 @@ static inline trace_report_Report trace_report_counted(trace_report_Report repor
         Option_frame_firework_Firework firework)
 {
     if (!carried) {
-        return trace_report_one_refused(report);
+        return (trace_report_Report){.msa = report.msa, .msd = report.msd, .multipartner = report.multipartner,
+                .refused = report.refused + 1};
     }
     return trace_report_one_carried(report, firework);
 }
@@ -4413,22 +4476,20 @@ static inline trace_run_Progress trace_run_run_frame(slice_mut_u8 file, const ui
 static inline trace_report_Report trace_run_run_frames(slice_mut_u8 file, const uint16_t *places,
         slice_u8 trace)
 {
-    uint64_t data_place = 4 + 3 * file_numbers_u16_at(trace, 0);
+    uint64_t count = file_numbers_u16_at(trace, 0);
     uint8_t buffer[64];
     memset(buffer, 0, sizeof buffer);
     trace_run_Progress progress = (trace_run_Progress){.report = (trace_report_Report){.msa = 0, .msd = 0,
             .multipartner = 0, .refused = 0}, .sleepers = 1};
-    uint64_t start = data_place;
-    uint64_t row = 4;
-    while (row < data_place) {
+    uint64_t start = 4 + 3 * count;
+    uint64_t index = 0;
+    while (index < count) {
+        uint64_t row = 4 + 3 * index;
         uint64_t end = start + file_numbers_byte_at(trace, row + 2);
         progress = trace_run_run_frame(file, places, (slice_u8){cut_u8(trace.at, start), end - start}, buffer,
                 progress);
         start = end;
-        if (3 >= data_place - row) {
-            break;
-        }
-        row = row + 3;
+        index = index + 1;
     }
     return progress.report;
 }
@@ -4707,8 +4768,16 @@ uint8_t ttpa_write_address(uint8_t *frame_at, size_t frame_len, uint8_t epoch, u
 {
     slice_mut_u8 frame = {frame_at, frame_len};
     file_types_LogicalName t10 = file_types_LogicalName_new(name);
-    return ttpa_number_in(frame_writer_write_address(frame, epoch, t10, (file_types_FileNumber){.f0 = file},
-            (file_types_Operation){.f0 = operation}, (file_types_RecordNumber){.f0 = record}));
+    Result_unit_file_types_Refusal t7 = frame_writer_write_address(frame, epoch, t10,
+            (file_types_FileNumber){.f0 = file}, (file_types_Operation){.f0 = operation},
+            (file_types_RecordNumber){.f0 = record});
+    switch (t7.tag) {
+    case 0:
+        return 0;
+    case 1:
+    default:
+        return file_types_Refusal_number(t7.as.Err.f0);
+    }
 }
 
 /* frame::writer::write_data. */
@@ -4732,7 +4801,14 @@ static inline Result_unit_file_types_Refusal frame_writer_write_data(slice_mut_u
 uint8_t ttpa_write_data(uint8_t *frame_at, size_t frame_len, uint8_t b0, uint8_t b1, uint8_t b2, uint8_t b3)
 {
     slice_mut_u8 frame = {frame_at, frame_len};
-    return ttpa_number_in(frame_writer_write_data(frame, b0, b1, b2, b3));
+    Result_unit_file_types_Refusal t6 = frame_writer_write_data(frame, b0, b1, b2, b3);
+    switch (t6.tag) {
+    case 0:
+        return 0;
+    case 1:
+    default:
+        return file_types_Refusal_number(t6.as.Err.f0);
+    }
 }
 
 /* naming::names::marked_ground. Both grounds in one loop without an exit, from the last name to the first:
@@ -4898,14 +4974,6 @@ static inline master_slave_types_MasterSlaveRound naming_sending_poll_round(file
             .b1 = 0, .b2 = 0, .b3 = 0};
 }
 
-/* naming::position::count_raised. The extra read is made. */
-static inline naming_position_RunPosition naming_position_count_raised(naming_position_RunPosition run)
-{
-    return (naming_position_RunPosition){.end = run.end, .place = run.place,
-            .counts = (naming_position_RunCounts){.rounds = run.counts.rounds + 1,
-            .comparisons = run.counts.comparisons}, .halves = run.halves};
-}
-
 /* naming::run::extra_step. The extra read that a run begins with, at its first name: its reply is ignored,
  * and only the count of rounds changes. File and places, here and in what calls this, stay two arguments
  * with a clause on them (Placed): of a struct that holds the lent file, each function has to promise besides
@@ -4917,7 +4985,9 @@ static inline naming_run_MadeStep naming_run_extra_step(slice_mut_u8 file, const
     file_types_LogicalName first = file_types_LogicalName_new(names.at[0]);
     master_slave_types_MasterSlaveRound next = naming_sending_poll_round(first);
     uint64_t senders = cluster_sending_send(file, places, next, answer);
-    naming_position_RunPosition run_2 = naming_position_count_raised(run);
+    naming_position_RunPosition run_2 = (naming_position_RunPosition){.end = run.end, .place = run.place,
+            .counts = (naming_position_RunCounts){.rounds = run.counts.rounds + 1,
+            .comparisons = run.counts.comparisons}, .halves = run.halves};
     return (naming_run_MadeStep){.senders = senders, .run = run_2};
 }
 
@@ -4982,23 +5052,15 @@ static inline uint64_t naming_standing_needless_writes(naming_position_RunPositi
     return 1;
 }
 
-/* naming::standing::passed_over. So many steps on. */
-static inline naming_position_RunPosition naming_standing_passed_over(naming_position_RunPosition run,
-        uint64_t steps)
-{
-    return (naming_position_RunPosition){.end = run.end, .place = (naming_position_RunPlace){.index =
-            run.place.index, .step = run.place.step + steps, .value = run.place.value}, .counts = run.counts,
-            .halves = run.halves};
-}
-
 /* naming::standing::standing_at. */
 static inline naming_standing_Standing naming_standing_standing_at(naming_position_RunPosition run)
 {
     naming_pass_Writing writing = naming_pass_writing_at(run.place.step, run.place.value);
     uint64_t needless = naming_standing_needless_writes(run, writing);
-    naming_position_RunPosition t4 = naming_standing_passed_over(run, needless);
-    return (naming_standing_Standing){.run = t4, .writing = (naming_pass_Writing){.part = writing.part +
-            needless, .value = writing.value}};
+    return (naming_standing_Standing){.run = (naming_position_RunPosition){.end = run.end,
+            .place = (naming_position_RunPlace){.index = run.place.index, .step = run.place.step + needless,
+            .value = run.place.value}, .counts = run.counts, .halves = run.halves},
+            .writing = (naming_pass_Writing){.part = writing.part + needless, .value = writing.value}};
 }
 
 /* naming::sending::write_round. A write to a record of 0x08 of the unnamed slaves. */
@@ -5090,25 +5152,20 @@ static inline naming_position_RunPosition naming_advance_wrote(naming_standing_S
     return run;
 }
 
-/* naming::position::go_on. To the pass's next round, with a value and so many more comparisons made. */
-static inline naming_position_RunPosition naming_position_go_on(naming_position_RunPosition run, uint64_t value,
-        uint64_t more)
-{
-    return (naming_position_RunPosition){.end = run.end, .place = (naming_position_RunPlace){.index =
-            run.place.index, .step = run.place.step + 1, .value = value},
-            .counts = (naming_position_RunCounts){.rounds = run.counts.rounds + 1,
-            .comparisons = run.counts.comparisons + more}, .halves = run.halves};
-}
-
 /* naming::advance::written. After a round that writes a half, at the next round really made: the next step
  * is about the same value. */
 static inline naming_position_RunPosition naming_advance_written(naming_standing_Standing at)
 {
     naming_position_RunPosition run = naming_advance_wrote(at);
-    naming_position_RunPosition next = naming_position_go_on(run, run.place.value, 0);
+    naming_position_RunPosition next = (naming_position_RunPosition){.end = run.end,
+            .place = (naming_position_RunPlace){.index = run.place.index, .step = run.place.step + 1,
+            .value = run.place.value}, .counts = (naming_position_RunCounts){.rounds = run.counts.rounds + 1,
+            .comparisons = run.counts.comparisons + 0}, .halves = run.halves};
     naming_pass_Writing writing = (naming_pass_Writing){.part = at.writing.part + 1, .value = at.writing.value};
     uint64_t needless = naming_standing_needless_writes(next, writing);
-    return naming_standing_passed_over(next, needless);
+    return (naming_position_RunPosition){.end = next.end, .place = (naming_position_RunPlace){.index =
+            next.place.index, .step = next.place.step + needless, .value = next.place.value},
+            .counts = next.counts, .halves = next.halves};
 }
 
 /* naming::position::next_name. The name is done. */
@@ -5133,15 +5190,10 @@ static inline naming_position_RunPosition naming_advance_polled(naming_position_
     default:
         return naming_position_next_name(run, count);
     }
-    return naming_position_go_on(run, run.place.value, 0);
-}
-
-/* naming::position::all_named. */
-static inline naming_position_RunPosition naming_position_all_named(naming_position_RunPosition run)
-{
-    return (naming_position_RunPosition){.end = 1, .place = run.place,
+    return (naming_position_RunPosition){.end = run.end, .place = (naming_position_RunPlace){.index =
+            run.place.index, .step = run.place.step + 1, .value = run.place.value},
             .counts = (naming_position_RunCounts){.rounds = run.counts.rounds + 1,
-            .comparisons = run.counts.comparisons + 1}, .halves = run.halves};
+            .comparisons = run.counts.comparisons + 0}, .halves = run.halves};
 }
 
 /* naming::advance::compared_with_0. After the first comparison: "Else compare with 0; silence ends the run". */
@@ -5153,9 +5205,14 @@ static inline naming_position_RunPosition naming_advance_compared_with_0(naming_
         break;
     case 1:
     default:
-        return naming_position_all_named(run);
+        return (naming_position_RunPosition){.end = 1, .place = run.place,
+                .counts = (naming_position_RunCounts){.rounds = run.counts.rounds + 1,
+                .comparisons = run.counts.comparisons + 1}, .halves = run.halves};
     }
-    return naming_position_go_on(run, value, 1);
+    return (naming_position_RunPosition){.end = run.end, .place = (naming_position_RunPlace){.index =
+            run.place.index, .step = run.place.step + 1, .value = value},
+            .counts = (naming_position_RunCounts){.rounds = run.counts.rounds + 1,
+            .comparisons = run.counts.comparisons + 1}, .halves = run.halves};
 }
 
 /* naming::advance::compared. After the execute of a comparison with a value: a reply keeps the value. */
@@ -5167,10 +5224,16 @@ static inline naming_position_RunPosition naming_advance_compared(naming_positio
     }
     switch (answer.tag) {
     case 0:
-        return naming_position_go_on(run, value, 1);
+        return (naming_position_RunPosition){.end = run.end, .place = (naming_position_RunPlace){.index =
+                run.place.index, .step = run.place.step + 1, .value = value},
+                .counts = (naming_position_RunCounts){.rounds = run.counts.rounds + 1,
+                .comparisons = run.counts.comparisons + 1}, .halves = run.halves};
     case 1:
     default:
-        return naming_position_go_on(run, run.place.value, 1);
+        return (naming_position_RunPosition){.end = run.end, .place = (naming_position_RunPlace){.index =
+                run.place.index, .step = run.place.step + 1, .value = run.place.value},
+                .counts = (naming_position_RunCounts){.rounds = run.counts.rounds + 1,
+                .comparisons = run.counts.comparisons + 1}, .halves = run.halves};
     }
 }
 
@@ -5190,7 +5253,10 @@ static inline naming_position_RunPosition naming_advance_moved(naming_standing_S
     if (run.place.step == 199) {
         return naming_position_next_name(run, count);
     }
-    return naming_position_go_on(run, run.place.value, 0);
+    return (naming_position_RunPosition){.end = run.end, .place = (naming_position_RunPlace){.index =
+            run.place.index, .step = run.place.step + 1, .value = run.place.value},
+            .counts = (naming_position_RunCounts){.rounds = run.counts.rounds + 1,
+            .comparisons = run.counts.comparisons + 0}, .halves = run.halves};
 }
 
 /* naming::advance::advanced. From its round really made to the next one, by the answer. */
